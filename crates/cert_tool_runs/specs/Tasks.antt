@@ -1,6 +1,6 @@
 -- What the words of `cert_tool` ask for.
 use Rattle.std.specs.Prelude.{◌≡◌, ◌≢◌, ℕ, ◌≤◌, ◌<◌, ◌^◌, ◌⊎◌, List, [], Bool, true, false, ◌&&◌, ◌||◌}
-use Rattle.std.specs.Prelude.{codes, bytes_eq, is_ok, unwrap_or, if◌then◌else◌, IsSome, IsTrue}
+use Rattle.std.specs.Prelude.{codes, bytes_eq, is_ok, is_some, unwrap_or, if◌then◌else◌, IsSome, IsTrue}
 use Rattle.std.specs.Prelude.{Option, Some, None, option_map, Ok, Err}
 use Rattle.std.specs.Borrow.{Bor}
 use Rattle.const_oid.specs.Bound.{Bound, max_size}
@@ -90,6 +90,12 @@ abbrev pub splits : Command → Bool
 splits commands.Split = true
 splits _ = false
 
+-- what writes texts of its own, and not octets or lines that are read again
+abbrev pub tells : Command → Bool
+tells commands.Questions = false
+tells commands.Reverse = false
+tells _ = true
+
 abbrev pub need_of : Command → Key → Need
 need_of command keys.Anchors = if asks command then needs.Needed else needs.Barred
 need_of command keys.Answers = if judges command then needs.Needed else needs.Barred
@@ -97,6 +103,7 @@ need_of command keys.At = if judges command then needs.Allowed else needs.Barred
 need_of command keys.Purpose = if judges command then needs.Allowed else needs.Barred
 need_of command keys.Limit = if reads_stream command then needs.Allowed else needs.Barred
 need_of command keys.Place = if splits command then needs.Allowed else needs.Barred
+need_of command keys.Json = if tells command then needs.Allowed else needs.Barred
 
 abbrev pub IsMet : Need → Option (List ℕ) → Type 0
 IsMet needs.Needed value = IsSome value
@@ -110,6 +117,7 @@ abbrev pub KeepsAll : Command → PlainGiven → Type 0
 KeepsAll command g =
     Keeps command g keys.Anchors × Keeps command g keys.Answers × Keeps command g keys.At
     × Keeps command g keys.Purpose × Keeps command g keys.Limit × Keeps command g keys.Place
+    × Keeps command g keys.Json
 
 -- what stands for options that are left out
 abbrev pub moment_text : PlainGiven → List ℕ
@@ -158,6 +166,10 @@ IsPlace None None = Unit {0}
 IsPlace (Some n) (Some text) = IsNumber n text
 IsPlace _ _ = ⊥
 
+-- the octets of one certificate have no form of JSON
+abbrev pub is_octets_in_json : PlainGiven → Bool
+is_octets_in_json g = is_some g.place && is_some g.json
+
 -- standard input, which is no two files
 abbrev pub is_standard : List ℕ → Bool
 is_standard name = bytes_eq name (codes "-")
@@ -177,6 +189,7 @@ IsTask command file g task =
     × (task.anchors.now ≡ unwrap_or g.anchors []) × (task.answers.now ≡ unwrap_or g.answers [])
     × IsMoment task.moment (moment_text g) × IsPurpose task.purpose (purpose_text g)
     × IsLimit task.limit (limit_text g) × IsPlace task.place g.place
+    × (task.json ≡ is_some g.json) × (is_octets_in_json g ≡ false)
     × (shares_input task.anchors.now task.answers.now file ≡ false)
 
 abbrev pub AsksFor : List (List ℕ) → Task → Type 0
@@ -202,6 +215,7 @@ IsAmiss command file g (faults.Missing key) = (need_of command key ≡ needs.Nee
 IsAmiss command file g (faults.Excess key) = (need_of command key ≡ needs.Barred)
     × IsSome (value_of key g)
 IsAmiss command file g (faults.Wrong key text) = IsNoValue key text.now g
+IsAmiss command file g faults.OctetsInJson = IsTrue (is_octets_in_json g)
 IsAmiss command file g faults.SharedInput =
     IsTrue (shares_input (unwrap_or g.anchors []) (unwrap_or g.answers []) file)
 IsAmiss command file g _ = ⊥

@@ -1,5 +1,5 @@
 -- The words behind the program's name: options, the value behind each, and the words between them.
-use Rattle.std.specs.Prelude.{ℕ, List, [], ◌∷◌, Bool, codes, bytes_eq, take, is_some}
+use Rattle.std.specs.Prelude.{ℕ, List, [], ◌∷◌, Bool, true, false, codes, bytes_eq, take, is_some}
 use Rattle.std.specs.Prelude.{Option, Some, None, option_map, Result, Ok, Err, if◌then◌else◌}
 use Rattle.cert_tool_runs.specs.declared.given.Key.{Key}
 use Rattle.cert_tool_runs.specs.declared.given.Key.TheVariants as keys
@@ -16,7 +16,13 @@ key_of word =
     else if bytes_eq word (codes "--purpose") then Some keys.Purpose
     else if bytes_eq word (codes "--limit") then Some keys.Limit
     else if bytes_eq word (codes "--place") then Some keys.Place
+    else if bytes_eq word (codes "--json") then Some keys.Json
     else None
+
+-- the option that has no value: it is its own
+abbrev pub stands_alone : Key → Bool
+stands_alone keys.Json = true
+stands_alone _ = false
 
 -- What words give: the first three that are neither options nor values, the value of each option,
 -- and the option whose value comes next.
@@ -30,6 +36,7 @@ pub record PlainGiven : Type 0 where
   pub purpose : Option (List ℕ)
   pub limit : Option (List ℕ)
   pub place : Option (List ℕ)
+  pub json : Option (List ℕ)
   pub awaited : Option Key
 
 abbrev pub nothing_given : PlainGiven
@@ -43,6 +50,7 @@ nothing_given = record {
   purpose = None;
   limit = None;
   place = None;
+  json = None;
   awaited = None;
 }
 
@@ -53,6 +61,7 @@ value_of keys.At g = g.at
 value_of keys.Purpose g = g.purpose
 value_of keys.Limit g = g.limit
 value_of keys.Place g = g.place
+value_of keys.Json g = g.json
 
 -- with this value of an option, and none awaited
 abbrev pub with_value : Key → List ℕ → PlainGiven → PlainGiven
@@ -62,6 +71,7 @@ with_value keys.At text g = record g { at = Some text; awaited = None }
 with_value keys.Purpose text g = record g { purpose = Some text; awaited = None }
 with_value keys.Limit text g = record g { limit = Some text; awaited = None }
 with_value keys.Place text g = record g { place = Some text; awaited = None }
+with_value keys.Json text g = record g { json = Some text; awaited = None }
 
 -- how words are wrong: no such option, an option twice, an option without a value, a word too many
 pub data PlainFault : Type 0 where
@@ -84,7 +94,9 @@ is_option word = bytes_eq (take 2 word) (codes "--")
 
 abbrev pub with_key : Option Key → List ℕ → PlainGiven → Result PlainGiven PlainFault
 with_key (Some key) word g =
-    if is_some (value_of key g) then Err (twice key) else Ok (record g { awaited = Some key })
+    if is_some (value_of key g) then Err (twice key)
+    else if stands_alone key then Ok (with_value key word g)
+    else Ok (record g { awaited = Some key })
 with_key None word g =
     if is_option word then Err (unknown word) else with_word g.first g.second g.third word g
 
@@ -121,6 +133,7 @@ given_plain g = record {
   purpose = option_map (λ text. text.now) g.purpose;
   limit = option_map (λ text. text.now) g.limit;
   place = option_map (λ text. text.now) g.place;
+  json = option_map (λ text. text.now) g.json;
   awaited = g.awaited;
 }
 

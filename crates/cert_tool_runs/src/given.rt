@@ -1,6 +1,7 @@
 //! The words behind the program's name.
 ghost use Rattle.std.specs.Prelude.{◌≡◌, map, option_map, Ok};
 ghost use Rattle.cert_tool_runs.specs.Words.{key_of, value_of, with_value, with_word, is_option};
+ghost use Rattle.cert_tool_runs.specs.Words.{stands_alone};
 ghost use Rattle.cert_tool_runs.specs.Words.{step, given_in, given_plain, given_read, ended_by};
 ghost use Rattle.cert_tool_runs.specs.Words.{nothing_given, read_on};
 
@@ -19,6 +20,8 @@ pub enum Key {
     Limit,
     /// `--place`, of one certificate.
     Place,
+    /// `--json`, the form of what is written; it has no value.
+    Json,
 }
 
 /// What is wrong with a word.
@@ -35,7 +38,7 @@ pub enum WordFault<'a> {
 }
 
 // What words give: the first three that are neither options nor values, the value of each option,
-// and the option whose value comes next.
+// and the option whose value comes next. An option that has none is its own value.
 #[derive(Clone, Copy)]
 pub(crate) struct Given<'a> {
     pub(crate) first: Option<&'a str>,
@@ -47,6 +50,7 @@ pub(crate) struct Given<'a> {
     pub(crate) purpose: Option<&'a str>,
     pub(crate) limit: Option<&'a str>,
     pub(crate) place: Option<&'a str>,
+    pub(crate) json: Option<&'a str>,
     awaited: Option<Key>,
 }
 
@@ -61,8 +65,16 @@ fn key_of(word: &str) -> Option<Key>
         "--purpose" => Some(Key::Purpose),
         "--limit" => Some(Key::Limit),
         "--place" => Some(Key::Place),
+        "--json" => Some(Key::Json),
         _ => None,
     }
+}
+
+// Whether an option has no value.
+fn stands_alone(key: Key) -> bool
+    ensures { result ≡ stands_alone key }
+{
+    matches!(key, Key::Json)
 }
 
 // Whether a word begins as options do.
@@ -86,6 +98,7 @@ fn nothing_given<'a>() -> Given<'a>
         purpose: None,
         limit: None,
         place: None,
+        json: None,
         awaited: None,
     }
 }
@@ -102,6 +115,7 @@ impl<'a> Given<'a> {
             Key::Purpose => self.purpose,
             Key::Limit => self.limit,
             Key::Place => self.place,
+            Key::Json => self.json,
         }
     }
 
@@ -139,6 +153,11 @@ impl<'a> Given<'a> {
             },
             Key::Place => Given {
                 place: text,
+                awaited,
+                ..*self
+            },
+            Key::Json => Given {
+                json: text,
                 awaited,
                 ..*self
             },
@@ -182,6 +201,9 @@ impl<'a> Given<'a> {
         if let Some(key) = key_of(word) {
             if self.value_of(key).is_some() {
                 return Err(WordFault::Twice(key));
+            }
+            if stands_alone(key) {
+                return Ok(self.with_value(key, word));
             }
             return Ok(Given {
                 awaited: Some(key),

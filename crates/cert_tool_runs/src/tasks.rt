@@ -6,7 +6,7 @@ ghost use Rattle.cert_tool_runs.specs.Tasks.{kind_of, of_word, of_explained, of_
 ghost use Rattle.cert_tool_runs.specs.Tasks.{judges, asks, reads_stream, need_of, Keeps};
 ghost use Rattle.cert_tool_runs.specs.Tasks.{KeepsAll, IsTask, IsAmiss, AsksFor, IsMisuse};
 ghost use Rattle.cert_tool_runs.specs.Tasks.{is_standard, shares_input, IsPlace, IsNoValue};
-ghost use Rattle.cert_tool_runs.specs.Tasks.{command_in, plain_command};
+ghost use Rattle.cert_tool_runs.specs.Tasks.{command_in, plain_command, tells, is_octets_in_json};
 
 use crate::arguments::{Moment, limit_in, moment_in, number_in, purpose_in};
 use crate::given::{Given, Key, WordFault, given_in};
@@ -60,6 +60,8 @@ pub enum Misuse<'a> {
     Excess(Key),
     /// The option may not have this value.
     Wrong(Key, &'a str),
+    /// One certificate is wanted, and JSON.
+    OctetsInJson,
     /// Two files are standard input.
     SharedInput,
 }
@@ -83,6 +85,8 @@ pub struct Task<'a> {
     pub limit: u32,
     /// The place of the certificate that is written.
     pub place: Option<u64>,
+    /// Whether what is written is JSON (RFC 8259).
+    pub json: bool,
 }
 
 // The kind that a word names.
@@ -186,6 +190,13 @@ impl Command {
         ) || self.asks()
     }
 
+    // Whether it writes texts of its own.
+    fn tells(self) -> bool
+        ensures { result ≡ tells self }
+    {
+        !matches!(self, Command::Questions | Command::Reverse)
+    }
+
     // Whether it has this option.
     fn need_of(self, key: Key) -> Need
         ensures { result ≡ need_of self key }
@@ -197,6 +208,7 @@ impl Command {
             Key::Purpose => (self.judges(), Need::Allowed),
             Key::Limit => (self.reads_stream(), Need::Allowed),
             Key::Place => (matches!(self, Command::Split), Need::Allowed),
+            Key::Json => (self.tells(), Need::Allowed),
         };
         if has { need } else { Need::Barred }
     }
@@ -236,6 +248,7 @@ impl Command {
         self.keeps(file, given, Key::Purpose)?;
         self.keeps(file, given, Key::Limit)?;
         self.keeps(file, given, Key::Place)?;
+        self.keeps(file, given, Key::Json)?;
         Ok(())
     }
 }
@@ -273,6 +286,13 @@ fn place_in<'a>(given: &Given<'a>) -> Result<Option<u64>, &'a str>
     Ok(Some(place))
 }
 
+// Whether one certificate is wanted, and JSON.
+fn is_octets_in_json(given: &Given<'_>) -> bool
+    ensures { result ≡ is_octets_in_json (given_plain given.now) }
+{
+    given.place.is_some() && given.json.is_some()
+}
+
 // What a command asks for of a file, under options that it may have.
 fn task_of<'a>(command: Command, file: &'a str, given: &Given<'a>) -> Result<Task<'a>, Misuse<'a>>
     requires kept { KeepsAll command (given_plain given.now) }
@@ -286,6 +306,9 @@ fn task_of<'a>(command: Command, file: &'a str, given: &Given<'a>) -> Result<Tas
     let answers = given.answers.unwrap_or("");
     if shares_input(anchors, answers, file) {
         return Err(Misuse::SharedInput);
+    }
+    if is_octets_in_json(given) {
+        return Err(Misuse::OctetsInJson);
     }
     let at = given.at.unwrap_or("now");
     let Some(moment) = moment_in(at) else {
@@ -312,6 +335,7 @@ fn task_of<'a>(command: Command, file: &'a str, given: &Given<'a>) -> Result<Tas
         purpose,
         limit,
         place,
+        json: given.json.is_some(),
     })
 }
 

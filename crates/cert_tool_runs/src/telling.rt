@@ -28,6 +28,7 @@ fn word_of(key: Key) -> &'static str {
         Key::Purpose => "--purpose",
         Key::Limit => "--limit",
         Key::Place => "--place",
+        Key::Json => "--json",
     }
 }
 
@@ -42,6 +43,7 @@ fn values_of(key: Key) -> &'static str {
         }
         Key::Limit => "a number of octets from 6 to 4294967295",
         Key::Place => "the number of a certificate, counted from 0",
+        Key::Json => "without a value",
     }
 }
 
@@ -64,6 +66,9 @@ fn misuse_line(alloc: Global, misuse: Misuse<'_>) -> Result<String, AllocError> 
         Misuse::Excess(key) => format!(in alloc; "this command has no {}\n", word_of(key)),
         Misuse::Wrong(key, text) => {
             format!(in alloc; "{}: {text:?} isn't {}\n", word_of(key), values_of(key))
+        }
+        Misuse::OctetsInJson => {
+            format!(in alloc; "--place writes octets, which --json has no form for\n")
         }
         Misuse::SharedInput => format!(in alloc; "two files are standard input\n"),
     }
