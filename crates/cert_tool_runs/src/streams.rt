@@ -7,6 +7,7 @@ ghost use Rattle.cert_desk_checking.specs.Streams.{Kept};
 ghost use Rattle.cert_tool_runs.specs.Stops.{FedWithin};
 ghost use Rattle.cert_tool_runs.specs.TaskRuns.{IsSplitAt, IsSplit, IsTurned, IsStopped};
 
+use crate::each_certificate::run_describe;
 use crate::files::{open, tell_failure};
 use crate::splitting::{run_list, run_reverse, run_take};
 use crate::tasks::Task;
@@ -93,6 +94,25 @@ pub(crate) fn reverse<I: Input + Drop, F: NamedInputs<I>, O: Output, E: Output>(
         Err(status) => return status,
     };
     let status = run_reverse(alloc, &mut stream, out, err, task.limit);
+    tell_behind(alloc, files, &stream, task, status, err);
+    status
+}
+
+// `describe stream`.
+pub(crate) fn describe_each<I: Input + Drop, F: NamedInputs<I>, O: Output, E: Output>(
+    alloc: Global,
+    files: &F,
+    task: &Task<'_>,
+    out: &mut O,
+    err: &mut E,
+) -> ExitStatus
+    requires { 6 ≤ task.now.limit }
+{
+    let mut stream = match open(alloc, files, task.file, err) {
+        Ok(stream) => stream,
+        Err(status) => return status,
+    };
+    let status = run_describe(alloc, &mut stream, out, err, task.limit);
     tell_behind(alloc, files, &stream, task, status, err);
     status
 }

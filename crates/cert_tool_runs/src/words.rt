@@ -9,7 +9,7 @@ ghost use Rattle.cert_tool_runs.specs.TaskRuns.{asks_of_program, IsDone, IsObeye
 use crate::chains::{ask, explain, verify};
 use crate::help::{ARGUMENTS, VERSION, help_of};
 use crate::reading::read;
-use crate::streams::{reverse, split};
+use crate::streams::{describe_each, reverse, split};
 use crate::tasks::{Command, Task};
 use crate::telling::tell_misuse;
 use cert_desk_io::{ExitStatus, Input, NamedInputs, Output, tell_device, write_all};
@@ -76,6 +76,7 @@ fn done<C: Clock, I: Input + Drop, F: NamedInputs<I>, O: Output, E: Output>(
         Command::Reverse => reverse(alloc, files, task, out, err),
         Command::ExplainChain => explain(alloc, clock, files, task, out, err),
         Command::Describe(_) => read(alloc, files, task, out, err),
+        Command::DescribeStream => describe_each(alloc, files, task, out, err),
         Command::Explain(_) => read(alloc, files, task, out, err),
         Command::ExplainAnchors => read(alloc, files, task, out, err),
         Command::ExplainStream => read(alloc, files, task, out, err),
