@@ -430,3 +430,8 @@ crl("remarked_delta.der", following=b"", entries=[], extensions=[
     extension(27, tlv(2, b"\1")), extension(28, seq()), extension(46, seq(seq(tlv(0xA0, tlv(
     0xA0, tlv(0x86, b"http://example/"))))), True), extension(1, seq(), True, PE)])
 PY
+
+# streams of certificates that are described one by one: of more octets than one read takes, and of
+# which the third is malformed
+cat root.der server.der full.der rest.der dsa.der below_zero.der old.der > stream.der
+cat root.der server.der month.der > third.der
