@@ -1,6 +1,6 @@
 -- Certificates of a stream that are described one by one, and those behind them.
 use Rattle.std.proofs.Common.{◌≡◌, Bool, true, false, ⊥, Result, Ok, Err, Option, Some, None, ℕ, zero, suc, ◌+◌, ◌<◌, ◌≤◌, List, [], ◌∷◌, ◌++◌, length, take, drop, refl, sym, ap, subst, ◌∙◌, arith, inl, inr, append_assoc, append-nil, length-append}
-use Rattle.std.proofs.lemmas.List.{take-append-le}
+use Rattle.std.proofs.lemmas.List.{take-append-drop, take-append-le}
 use Rattle.std.specs.List.{AllByRecursion}
 use Rattle.const_oid.specs.Bound.{Bound}
 use Rattle.cert_desk_io.specs.Devices.{Device, source, sink, Moved, Sound, IsWritten, IsCut}
@@ -166,13 +166,20 @@ front-more limit octets behind piece cs f = record { each = f.each; whole = ap (
 
 take_behind : {A : Type 0} (xs ys : List A) (n : ℕ) → take (length xs + n) (xs ++ ys) ≡ xs ++ take n ys
 take_behind [] ys n = refl
-take_behind (x ∷ xs) ys n = ap (λ zs. x ∷ zs) (take_behind xs ys n)
+take_behind (x ∷ xs) ys n = ap (λ (zs : List A). x ∷ zs) (take_behind xs ys n)
 
 offset_behind : (cs ds : List PlainCertificate) (n : ℕ) → offset_at Bound (cs ++ ds) (length cs + n) ≡ length (joined Bound cs) + offset_at Bound ds n
 offset_behind cs ds n =
     ap (λ (x : List PlainCertificate). length (joined Bound x)) (take_behind cs ds n)
     ∙ ap length (joined-append cs (take n ds))
     ∙ length-append (joined Bound cs) (joined Bound (take n ds))
+
+-- a certificate begins where others end, or before
+pub offset_within : (cs : List PlainCertificate) (n : ℕ) → offset_at Bound cs n ≤ length (joined Bound cs)
+offset_within cs n =
+    let whole : length (joined Bound cs) ≡ length (joined Bound (take n cs) ++ joined Bound (drop n cs)) =
+    ap (λ (x : List PlainCertificate). length (joined Bound x)) (sym (take-append-drop n cs)) ∙ ap length (joined-append (take n cs) (drop n cs)) in
+    omega (arith, whole, length-append (joined Bound (take n cs)) (joined Bound (drop n cs)))
 
 block-at : (json : Bool) (place place2 octet octet2 : ℕ) (text : List ℕ) → place ≡ place2 → octet ≡ octet2 → IsBlock json place octet text → IsBlock json place2 octet2 text
 block-at json place place2 octet octet2 text e f b = subst (λ (p : ℕ). IsBlock json p octet2 text) e (subst (λ (o : ℕ). IsBlock json place o text) f b)
@@ -348,7 +355,7 @@ module _ (json : Bool) {S O : Type 0} (takes : S → List ℕ → S → Type 0) 
       going_refused reads.Device f = ended (Some outcomes.Device) (inl written)
       going_refused (reads.Bundle (errors.Fault place octet kind)) f =
           let how : IsHow (source takes is_ended fails mid to) new n.more (before ++ n.piece) after (Err (reads.Bundle (errors.Fault place octet kind))) =
-          subst (λ r. IsHow (source takes is_ended fails mid to) new n.more (before ++ n.piece) after r) f n.how in
+          subst (λ (r : Result Bool ReadError). IsHow (source takes is_ended fails mid to) new n.more (before ++ n.piece) after r) f n.how in
           let refused : IsRefused (source takes is_ended fails from to) limit n.more kind =
           subst (λ (k : ℕ). IsRefused (source takes is_ended fails from to) k n.more kind) same_limit how.0 in
           ended (Some (unasked (verdicts.StreamFault count2 offset2 kind))) ((count_is, offset_is, refused), refl, how.1 ∙ g.sound, written)
@@ -368,7 +375,7 @@ module _ (json : Bool) {S O : Type 0} (takes : S → List ℕ → S → Type 0) 
           → IsEachWritten json (source takes is_ended fails from to) (sink gives failures first last) limit end
       going_ended f end some none =
           let how : IsHow (source takes is_ended fails mid to) new n.more (before ++ n.piece) after (Ok false) =
-          subst (λ r. IsHow (source takes is_ended fails mid to) new n.more (before ++ n.piece) after r) f n.how in
+          subst (λ (r : Result Bool ReadError). IsHow (source takes is_ended fails mid to) new n.more (before ++ n.piece) after r) f n.how in
           end_of count2 refl end some none how.0 how.1 (how.2 ∙ g.sound)
 
       -- it goes on
@@ -376,7 +383,7 @@ module _ (json : Bool) {S O : Type 0} (takes : S → List ℕ → S → Type 0) 
           → Going json (source takes is_ended fails from to) (sink gives failures first last) limit count2 offset2 next behind
       going_on f next behind is_ahead e rest =
           let how : IsHow (source takes is_ended fails mid to) new n.more (before ++ n.piece) after (Ok true) =
-          subst (λ r. IsHow (source takes is_ended fails mid to) new n.more (before ++ n.piece) after r) f n.how in
+          subst (λ (r : Result Bool ReadError). IsHow (source takes is_ended fails mid to) new n.more (before ++ n.piece) after r) f n.how in
           let left : Front limit (before ++ n.piece) new.certificates behind = record {
             each = (front-limit old.limit limit (before ++ n.piece) n.more new.certificates g.limit_is n.front).each;
             whole = sym how.0 ∙ rest;
@@ -398,5 +405,5 @@ module _ (json : Bool) {S O : Type 0} (takes : S → List ℕ → S → Type 0) 
       pub going_further : fed ≡ Ok true → (behind : List ℕ) → after ≡ joined Bound new.certificates ++ behind → offset + length before < offset2 + length behind
       going_further f behind rest =
           let how : IsHow (source takes is_ended fails mid to) new n.more (before ++ n.piece) after (Ok true) =
-          subst (λ r. IsHow (source takes is_ended fails mid to) new n.more (before ++ n.piece) after r) f n.how in
+          subst (λ (r : Result Bool ReadError). IsHow (source takes is_ended fails mid to) new n.more (before ++ n.piece) after r) f n.how in
           omega (arith, at, n.some f, length-append before n.piece, ap length (sym how.0 ∙ rest), length-append (joined Bound new.certificates) behind)

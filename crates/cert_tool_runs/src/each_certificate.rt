@@ -108,6 +108,7 @@ impl Form<'_> {
     }
 
     // What is written of the certificates of a bundle, in front of which these stand.
+    #[tactic(auto, using(crate::proofs::StreamPieces::offset_within))]
     fn blocks(&self, bundle: &Bundle, passed: Passed) -> Result<String, AllocError>
         requires count { passed.count + length bundle.now.certificates < 2 ^ 64 }
         requires octets { passed.octets + length (joined Bound bundle.now.certificates) < 2 ^ 64 }
