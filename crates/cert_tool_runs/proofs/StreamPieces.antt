@@ -313,7 +313,7 @@ module _ (json : Bool) {S O : Type 0} (takes : S → List ℕ → S → Type 0) 
     whole : Front limit octets all n.more
     whole = front-append limit octets (before ++ n.piece) n.more g.cs new.certificates ahead (front-limit old.limit limit (before ++ n.piece) n.more new.certificates g.limit_is n.front)
 
-    -- they weren't written
+    -- the new certificates weren't written
     pub going_unwritten : (outcome : Outcome) → IsUnwritten json count offset (sink gives failures now last) new.certificates outcome
         → IsEachWritten json (source takes is_ended fails from to) (sink gives failures first last) limit (Some outcome)
     going_unwritten outcomes.Device unwritten =
@@ -326,7 +326,7 @@ module _ (json : Bool) {S O : Type 0} (takes : S → List ℕ → S → Type 0) 
     going_unwritten (outcomes.Checked checked) unwritten = absurd unwritten
     going_unwritten (outcomes.BadAnchors place fault) unwritten = absurd unwritten
 
-    -- they were
+    -- the new certificates were written
     module _ (count2 offset2 : ℕ) (counted : count2 ≡ count + length new.certificates) (at : offset2 ≡ offset + length (joined Bound new.certificates))
         (on : AreBlocksOn json count offset (sink gives failures now last) new.certificates) where
       count_is : count2 ≡ length all
@@ -370,7 +370,7 @@ module _ (json : Bool) {S O : Type 0} (takes : S → List ℕ → S → Type 0) 
       end_of (suc k) e end some none rest met sound =
           rw (some (omega (arith, e))) (ended None (rest, omega (arith, e, count_is), met, sound, written))
 
-      -- it ended
+      -- the stream ended
       pub going_ended : fed ≡ Ok false → (end : Option Outcome) → (0 < count2 → end ≡ None) → (count2 ≡ 0 → end ≡ Some (unasked verdicts.Empty))
           → IsEachWritten json (source takes is_ended fails from to) (sink gives failures first last) limit end
       going_ended f end some none =
@@ -378,7 +378,7 @@ module _ (json : Bool) {S O : Type 0} (takes : S → List ℕ → S → Type 0) 
           subst (λ (r : Result Bool ReadError). IsHow (source takes is_ended fails mid to) new n.more (before ++ n.piece) after r) f n.how in
           end_of count2 refl end some none how.0 how.1 (how.2 ∙ g.sound)
 
-      -- it goes on
+      -- the stream goes on
       pub going_on : fed ≡ Ok true → (next : Kept) (behind : List ℕ) → IsAhead next behind → next.limit ≡ limit → after ≡ joined Bound new.certificates ++ behind
           → Going json (source takes is_ended fails from to) (sink gives failures first last) limit count2 offset2 next behind
       going_on f next behind is_ahead e rest =
@@ -401,7 +401,7 @@ module _ (json : Bool) {S O : Type 0} (takes : S → List ℕ → S → Type 0) 
             limit_is = e;
           }
 
-      -- and each round takes octets
+      -- each round takes octets
       pub going_further : fed ≡ Ok true → (behind : List ℕ) → after ≡ joined Bound new.certificates ++ behind → offset + length before < offset2 + length behind
       going_further f behind rest =
           let how : IsHow (source takes is_ended fails mid to) new n.more (before ++ n.piece) after (Ok true) =

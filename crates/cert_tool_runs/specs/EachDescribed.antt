@@ -32,20 +32,20 @@ head_line place octet =
     (if place == 0 then [] else codes "\n")
     ++ codes "certificate " ++ decimal place ++ codes " (octet " ++ decimal octet ++ codes "):\n"
 
--- the same as members of an object of JSON
+-- members of an object of JSON that say so
 abbrev pub head_members : ℕ → ℕ → List ℕ
 head_members place octet =
     codes "{\"place\":" ++ decimal place ++ codes ",\"offset\":" ++ decimal octet
     ++ codes ",\"certificate\":"
 
--- What is written of a certificate at a place that begins at an octet of the stream: where it stands
+-- What is written of a certificate at a place that begins at an octet of the stream: where it is,
 -- and what describes it, as lines or as a line of JSON.
 abbrev pub IsBlock : Bool → ℕ → ℕ → List ℕ → Type 0
 IsBlock false place octet text = (described : List ℕ) × (text ≡ head_line place octet ++ described)
 IsBlock true place octet text =
     (described : List ℕ) × (text ≡ head_members place octet ++ described ++ codes "}\n")
 
--- This is written of the first so many of these certificates, in turn, of which the first stands at a
+-- This is written of the first so many certificates, in turn, of which the first one stands at a
 -- place and begins at an octet of the stream.
 abbrev pub AreBlocks : Bool → ℕ → ℕ → List PlainCertificate → ℕ → List ℕ → Type 0
 AreBlocks json place octet cs zero text = text ≡ []
@@ -53,7 +53,7 @@ AreBlocks json place octet cs (suc n) text =
     (before : List ℕ) × (block : List ℕ) × AreBlocks json place octet cs n before
     × IsBlock json (place + n) (octet + offset_at Bound cs n) block × (text ≡ before ++ block)
 
--- It went out for all of them.
+-- All of that went out.
 abbrev pub AreBlocksOn : Bool → ℕ → ℕ → Device → List PlainCertificate → Type 0
 AreBlocksOn json place octet out cs =
     (text : List ℕ) × AreBlocks json place octet cs (length cs) text × IsWritten out text
@@ -117,7 +117,7 @@ IsEachWritten json stream out limit ended =
     (octets : List ℕ) × (cs : List PlainCertificate) × (more : List ℕ) × Moved stream octets
     × Front limit octets cs more × IsEndedBy json stream out limit cs more ended
 
--- And what ended that early is told, behind counts of certificates; or there was no memory to begin.
+-- Behind counts of certificates, what ended that early is told; or there was no memory to begin.
 abbrev pub IsEachDescribed : Bool → Device → Device → Device → ℕ → ExitStatus → Type 0
 IsEachDescribed json stream out err limit answer =
     ((ended : Option Outcome) × IsEachWritten json stream out limit ended
