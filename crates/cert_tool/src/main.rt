@@ -5,6 +5,7 @@
 use cert_desk_io::{ExitStatus, ToWrite, tell_memory};
 use cert_tool_runs::{HostFiles, obey};
 use std::alloc::{AllocError, Global};
+use std::io::IsTerminal;
 use std::process::ExitCode;
 use std::{env, io};
 
@@ -50,5 +51,6 @@ fn run(rt: &HostRuntime) -> ExitStatus {
         texts.as_slice(),
         &mut ToWrite::new(io::writer(rt)),
         &mut err,
+        rt.stderr().is_terminal() && !rt.stdout().is_terminal(),
     )
 }

@@ -40,6 +40,11 @@ of_word word =
     else if bytes_eq word (codes "reverse") then Some commands.Reverse
     else None
 
+abbrev pub of_described : List ℕ → Option Command
+of_described kind =
+    if bytes_eq kind (codes "stream") then Some commands.DescribeStream
+    else option_map commands.Describe (kind_of kind)
+
 abbrev pub of_explained : List ℕ → Option Command
 of_explained kind =
     if bytes_eq kind (codes "chain") then Some commands.ExplainChain
@@ -49,7 +54,7 @@ of_explained kind =
 
 abbrev pub of_words : List ℕ → List ℕ → Option Command
 of_words word kind =
-    if bytes_eq word (codes "describe") then option_map commands.Describe (kind_of kind)
+    if bytes_eq word (codes "describe") then of_described kind
     else if bytes_eq word (codes "explain") then of_explained kind
     else None
 
@@ -83,6 +88,7 @@ asks command = judges command
 abbrev pub reads_stream : Command → Bool
 reads_stream commands.Split = true
 reads_stream commands.Reverse = true
+reads_stream commands.DescribeStream = true
 reads_stream commands.ExplainStream = true
 reads_stream command = asks command
 

@@ -20,6 +20,7 @@ mod contents;
 mod describe;
 mod describing;
 mod description;
+mod each_certificate;
 mod explaining;
 mod extension_remarks;
 mod fault_words;

@@ -5,8 +5,10 @@ ghost use Rattle.cert_desk_io.specs.Devices.{sink, source};
 ghost use Rattle.cert_desk_io.specs.NamedInputs.{inputs};
 ghost use Rattle.cert_desk_checking.specs.Streams.{Kept};
 ghost use Rattle.cert_tool_runs.specs.Stops.{FedWithin};
-ghost use Rattle.cert_tool_runs.specs.TaskRuns.{IsSplitAt, IsSplit, IsTurned, IsStopped};
+ghost use Rattle.cert_tool_runs.specs.TaskRuns.{IsSplitAt, IsSplit, IsTurned, IsToldOfEach};
+ghost use Rattle.cert_tool_runs.specs.TaskRuns.{IsStopped};
 
+use crate::each_certificate::run_describe;
 use crate::files::{open, tell_failure};
 use crate::splitting::{run_list, run_reverse, run_take};
 use crate::tasks::Task;
@@ -93,6 +95,30 @@ pub(crate) fn reverse<I: Input + Drop, F: NamedInputs<I>, O: Output, E: Output>(
         Err(status) => return status,
     };
     let status = run_reverse(alloc, &mut stream, out, err, task.limit);
+    tell_behind(alloc, files, &stream, task, status, err);
+    status
+}
+
+// `describe stream`. A fault or a failed read is told where it ended the descriptions.
+pub(crate) fn describe_each<I: Input + Drop, F: NamedInputs<I>, O: Output, E: Output>(
+    alloc: Global,
+    files: &F,
+    task: &Task<'_>,
+    out: &mut O,
+    err: &mut E,
+    is_watched: bool,
+) -> ExitStatus
+    requires { 6 ≤ task.now.limit }
+    ensures told { IsToldOfEach (inputs I.takes I.is_ended I.failures (F.is_opened files.now))
+        (sink O.gives O.failures out.old out.new) (sink E.gives E.failures err.old err.new)
+        task.now result
+        ⊎ IsStopped (sink O.gives O.failures out.old out.new) result }
+{
+    let mut stream = match open(alloc, files, task.file, err) {
+        Ok(stream) => stream,
+        Err(status) => return status,
+    };
+    let status = run_describe(alloc, &mut stream, out, err, task.limit, is_watched);
     tell_behind(alloc, files, &stream, task, status, err);
     status
 }

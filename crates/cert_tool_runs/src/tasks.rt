@@ -2,7 +2,8 @@
 
 ghost use Rattle.std.specs.Prelude.{◌≡◌, ◌≤◌, IfOk, IfErr, OnOk, map};
 ghost use Rattle.cert_tool_runs.specs.Words.{given_plain};
-ghost use Rattle.cert_tool_runs.specs.Tasks.{kind_of, of_word, of_explained, of_words};
+ghost use Rattle.cert_tool_runs.specs.Tasks.{kind_of, of_word, of_described, of_explained};
+ghost use Rattle.cert_tool_runs.specs.Tasks.{of_words};
 ghost use Rattle.cert_tool_runs.specs.Tasks.{judges, asks, reads_stream, need_of, Keeps};
 ghost use Rattle.cert_tool_runs.specs.Tasks.{KeepsAll, IsTask, IsAmiss, AsksFor, IsMisuse};
 ghost use Rattle.cert_tool_runs.specs.Tasks.{is_standard, shares_input, IsPlace, IsNoValue};
@@ -26,6 +27,8 @@ pub enum Command {
     Reverse,
     /// What a file says is written.
     Describe(Kind),
+    /// What each certificate of a stream says is written.
+    DescribeStream,
     /// Why octets are refused is written.
     Explain(Kind),
     /// Why anchors are refused is written.
@@ -114,6 +117,19 @@ pub(crate) fn of_word(word: &str) -> Option<Command>
     }
 }
 
+// The command that describes what a word names.
+fn of_described(kind: &str) -> Option<Command>
+    ensures { result ≡ of_described kind.now }
+{
+    match kind {
+        "stream" => Some(Command::DescribeStream),
+        _ => match kind_of(kind) {
+            Some(kind) => Some(Command::Describe(kind)),
+            None => None,
+        },
+    }
+}
+
 // The command that explains what a word names.
 fn of_explained(kind: &str) -> Option<Command>
     ensures { result ≡ of_explained kind.now }
@@ -134,10 +150,7 @@ pub(crate) fn of_words(word: &str, kind: &str) -> Option<Command>
     ensures { result ≡ of_words word.now kind.now }
 {
     match word {
-        "describe" => match kind_of(kind) {
-            Some(kind) => Some(Command::Describe(kind)),
-            None => None,
-        },
+        "describe" => of_described(kind),
         "explain" => of_explained(kind),
         _ => None,
     }
@@ -186,7 +199,7 @@ impl Command {
     {
         matches!(
             self,
-            Command::Split | Command::Reverse | Command::ExplainStream
+            Command::Split | Command::Reverse | Command::DescribeStream | Command::ExplainStream
         ) || self.asks()
     }
 

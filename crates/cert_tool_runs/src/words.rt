@@ -9,7 +9,7 @@ ghost use Rattle.cert_tool_runs.specs.TaskRuns.{asks_of_program, IsDone, IsObeye
 use crate::chains::{ask, explain, verify};
 use crate::help::{ARGUMENTS, VERSION, help_of};
 use crate::reading::read;
-use crate::streams::{reverse, split};
+use crate::streams::{describe_each, reverse, split};
 use crate::tasks::{Command, Task};
 use crate::telling::tell_misuse;
 use cert_desk_io::{ExitStatus, Input, NamedInputs, Output, tell_device, write_all};
@@ -63,6 +63,7 @@ fn done<C: Clock, I: Input + Drop, F: NamedInputs<I>, O: Output, E: Output>(
     task: &Task<'_>,
     out: &mut O,
     err: &mut E,
+    is_watched: bool,
 ) -> ExitStatus
     requires { 6 ≤ task.now.limit }
     ensures { IsDone (inputs I.takes I.is_ended I.failures (F.is_opened files.now))
@@ -76,6 +77,7 @@ fn done<C: Clock, I: Input + Drop, F: NamedInputs<I>, O: Output, E: Output>(
         Command::Reverse => reverse(alloc, files, task, out, err),
         Command::ExplainChain => explain(alloc, clock, files, task, out, err),
         Command::Describe(_) => read(alloc, files, task, out, err),
+        Command::DescribeStream => describe_each(alloc, files, task, out, err, is_watched),
         Command::Explain(_) => read(alloc, files, task, out, err),
         Command::ExplainAnchors => read(alloc, files, task, out, err),
         Command::ExplainStream => read(alloc, files, task, out, err),
@@ -86,7 +88,8 @@ fn done<C: Clock, I: Input + Drop, F: NamedInputs<I>, O: Output, E: Output>(
 /// reads them, and the task is done on the inputs of the names that it has.
 ///
 /// Verdicts, questions, certificates and what else was asked for go to `out`; what is wrong with
-/// words, inputs and their contents goes to `err`, and behind that hints how more is told.
+/// words, inputs and their contents goes to `err`, and behind that hints how more is told. Where
+/// `is_watched`, as on a terminal, `err` also counts what is done of a long stream.
 pub fn obey<C: Clock, I: Input + Drop, F: NamedInputs<I>, O: Output, E: Output>(
     alloc: Global,
     clock: &C,
@@ -94,6 +97,7 @@ pub fn obey<C: Clock, I: Input + Drop, F: NamedInputs<I>, O: Output, E: Output>(
     words: &[&str],
     out: &mut O,
     err: &mut E,
+    is_watched: bool,
 ) -> ExitStatus
     ensures obeyed { IsObeyed (inputs I.takes I.is_ended I.failures (F.is_opened files.now))
         (sink O.gives O.failures out.old out.new) (sink E.gives E.failures err.old err.new)
@@ -104,7 +108,7 @@ pub fn obey<C: Clock, I: Input + Drop, F: NamedInputs<I>, O: Output, E: Output>(
         return tell_of_program(words, out, err);
     }
     match Task::parse(words) {
-        Ok(task) => done(alloc, clock, files, &task, out, err),
+        Ok(task) => done(alloc, clock, files, &task, out, err, is_watched),
         Err(misuse) => {
             tell_misuse(alloc, words, misuse, err);
             ExitStatus::Arguments

@@ -26,7 +26,15 @@ fn answer<W: Write>(rt: &HostRuntime, line: &str, to: &mut W) -> io::Result<()> 
     let mut out = ToWrite::new(Vec::new(rt.alloc()));
     let mut err = ToWrite::new(Vec::new(rt.alloc()));
     let files = HostFiles::new(rt);
-    let status = obey(rt.alloc(), rt, &files, words.as_slice(), &mut out, &mut err);
+    let status = obey(
+        rt.alloc(),
+        rt,
+        &files,
+        words.as_slice(),
+        &mut out,
+        &mut err,
+        false,
+    );
     write_shown(rt.alloc(), out.into_inner().as_slice(), to)?;
     to.write_all(err.into_inner().as_slice())?;
     writeln!(to, "= {}", status.code())
