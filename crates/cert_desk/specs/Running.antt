@@ -11,6 +11,9 @@ use Rattle.cert_desk_checking.specs.declared.outcome.Outcome.{Outcome}
 use Rattle.cert_desk_checking.specs.Anchors.{purpose_plain}
 use Rattle.cert_desk_checking.specs.Arguments.{AskNoCheck}
 use Rattle.cert_desk_checking.specs.Runs.{IsOutcome, IsTold, IsUnasked, Judge}
+use Rattle.cert_desk_issuing.specs.Runs as issued
+use Rattle.cert_desk_listing.specs.declared.file_kind.FileKind.{FileKind}
+use Rattle.cert_desk_listing.specs.Shown as shown
 use Rattle.cert_desk.specs.declared.command.Command.{Command}
 use Rattle.cert_desk.specs.declared.command.Command.TheVariants as commands
 use Rattle.cert_desk.specs.Commands.{AsksFor, AskNoChain, AskNoListing}
@@ -28,11 +31,27 @@ IsChecked i judge out err a answer =
     × IsTold out err outcome answer))
     ⊎ (IsUnasked judge × IsUnopened out err answer)
 
--- Of `show` and `issue` it is said here that no judge is asked.
+-- `show`: what is found in the file of this name is told
+abbrev pub IsShown : Inputs → Device → Device → FileKind → List ℕ → ExitStatus → Type 0
+IsShown i out err kind file answer =
+    OfOpened i file (λ input. (finding : _) × shown.IsFinding input kind finding
+    × shown.IsTold out err finding answer)
+    ⊎ IsUnopened out err answer
+
+-- `issue`: what comes of the orders file of this name is told
+abbrev pub IsIssued : Inputs → Device → Device → List ℕ → ExitStatus → Type 0
+IsIssued i out err orders answer =
+    OfOpened i orders (λ input. (outcome : _) × issued.FileBecomes input outcome
+    × issued.IsTold out err outcome answer)
+    ⊎ IsUnopened out err answer
+
+-- The command is run; a judge is asked by `check` alone.
 abbrev pub IsRun : Inputs → Judge → Device → Device → Command → ExitStatus → Type 0
 IsRun i judge out err (commands.Check a) answer = IsChecked i judge out err a answer
-IsRun i judge out err (commands.Show kind file) answer = IsUnasked judge
-IsRun i judge out err (commands.Issue orders) answer = IsUnasked judge
+IsRun i judge out err (commands.Show kind file) answer =
+    IsUnasked judge × IsShown i out err kind file.now answer
+IsRun i judge out err (commands.Issue orders) answer =
+    IsUnasked judge × IsIssued i out err orders.now answer
 
 -- The words ask for a command, and it is run; or for none, which is told.
 abbrev pub IsObeyed : Inputs → Judge → Device → Device → List (List ℕ) → ExitStatus → Type 0

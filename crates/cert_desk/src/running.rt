@@ -4,7 +4,7 @@ ghost use Rattle.cert_desk_io.specs.Devices.{sink};
 ghost use Rattle.cert_desk_io.specs.NamedInputs.{inputs};
 ghost use Rattle.cert_desk_checking.specs.Runs.{judging};
 ghost use Rattle.cert_desk.specs.Commands.{HasLimit};
-ghost use Rattle.cert_desk.specs.Running.{IsChecked, IsRun, IsObeyed};
+ghost use Rattle.cert_desk.specs.Running.{IsChecked, IsShown, IsIssued, IsRun, IsObeyed};
 
 use crate::command::Command;
 use cert_desk_io::{NamedInputs, tell_unopened};
@@ -58,12 +58,16 @@ fn show<I: Input + Drop, F: NamedInputs<I>, O: Output, E: Output>(
     file: &str,
     out: &mut O,
     err: &mut E,
-) -> ExitStatus {
-    let mut file = match files.open(file) {
-        Ok(file) => file,
+) -> ExitStatus
+    ensures told { IsShown (inputs I.takes I.is_ended I.failures (F.is_opened files.now))
+        (sink O.gives O.failures out.old out.new) (sink E.gives E.failures err.old err.new)
+        kind file.now result }
+{
+    let mut input = match files.open(file) {
+        Ok(input) => input,
         Err(error) => return tell_unopened(err, error),
     };
-    run_show(alloc, &mut file, out, err, kind)
+    run_show(alloc, &mut input, out, err, kind)
 }
 
 // Opens orders, and issues the chain that they ask for.
@@ -73,12 +77,16 @@ fn issue<I: Input + Drop, F: NamedInputs<I>, O: Output, E: Output>(
     orders: &str,
     out: &mut O,
     err: &mut E,
-) -> ExitStatus {
-    let mut orders = match files.open(orders) {
-        Ok(orders) => orders,
+) -> ExitStatus
+    ensures told { IsIssued (inputs I.takes I.is_ended I.failures (F.is_opened files.now))
+        (sink O.gives O.failures out.old out.new) (sink E.gives E.failures err.old err.new)
+        orders.now result }
+{
+    let mut input = match files.open(orders) {
+        Ok(input) => input,
         Err(error) => return tell_unopened(err, error),
     };
-    run_orders(alloc, &mut orders, out, err)
+    run_orders(alloc, &mut input, out, err)
 }
 
 // Runs a command.
