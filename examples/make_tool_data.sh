@@ -116,6 +116,23 @@ open("mark.txt", "wb").write(b"\xef\xbb\xbf-----BEGIN CERTIFICATE-----\n")
 lines = open("answers.txt").read().split("\n")
 bad = lines[1].replace(" - ", " x ", 1)
 open("bad_answers.txt", "w").write(f"# two\n\n{lines[0]}\n{bad}\n")
+# a line for each fault, named for it, of which what stands behind the fault is faulty too; the key
+# is one of Ed25519 (RFC 8410)
+good = ["0", "-", "302a300506032b6570032100" + "00" * 32, "300506032b6570", "00"]
+faulty = [
+    ("NotSixWords", 0, "x x x x x"),
+    ("NoPlace", 0, "x x x x x x"),
+    ("NoAnchor", 1, "x x x x x"),
+    ("KeyNotBase16", 2, "x x x x"),
+    ("NoKey", 2, "00 x x x"),
+    ("AlgorithmNotBase16", 3, "x x x"),
+    ("NoAlgorithm", 3, "00 x x"),
+    ("SignedNotBase16", 4, "x x"),
+    ("BitsNotBase16", 5, "x"),
+    ("NoBits", 5, "00"),
+]
+for fault, right, rest in faulty:
+    open(f"{fault}.txt", "w").write(" ".join(good[:right] + [rest]) + "\n")
 open("none.txt", "w").write("")
 # the same answers otherwise written
 open("spelled.txt", "w").write("# place 1, place 0\n\n" + lines[1].upper() + "\n00" + lines[0])

@@ -1,5 +1,5 @@
 -- Lines of questions are read as their questions.
-use Rattle.std.proofs.Common.{◌≡◌, ℕ, ◌+◌, ◌<◌, Bool, true, false, cond, List, [], ◌∷◌, ◌++◌, length, codes, decimal, Some, Result, Ok, Err, refl, ap, sym, subst, ◌∙◌, append_assoc, arith}
+use Rattle.std.proofs.Common.{◌≡◌, ℕ, ◌+◌, ◌<◌, Bool, true, false, cond, List, [], ◌∷◌, ◌++◌, length, codes, decimal, None, Some, Result, Ok, Err, refl, ap, sym, subst, ◌∙◌, append_assoc, arith}
 use Rattle.std.specs.Prelude.{◌==◌, Contains}
 use Rattle.std.specs.List.{AllByRecursion}
 use Rattle.std.proofs.lemmas.Bool.{ne_eqb}
@@ -28,28 +28,35 @@ use Rattle.cert_desk_checking.proofs.AskedValues.{IsWritable, file_keys, lines_w
 use Rattle.cert_desk_checking.proofs.ListedQuestions.{judged_by_lines}
 use Rattle.cert_desk_checking.proofs.OneChain.{one_chain}
 use Rattle.cert_desk_checking.proofs.SameQuestions.{listed_alike}
-use Rattle.cert_tool_runs.specs.AnswerLines.{answers, nothing, answers_from, file_says, is_skipped, line_says, octets_in, octets_read, parts, question_in, value_in, value_of, value_read, with_line, words_say}
+use Rattle.cert_tool_runs.specs.declared.line_fault.LineFault.{LineFault}
+use Rattle.cert_tool_runs.specs.declared.line_fault.LineFault.TheVariants as faults
+use Rattle.cert_tool_runs.specs.AnswerLines.{answers_from, file_says, is_anchor, is_number, is_skipped, line_says, octets_in, octets_or, parts, question_in, said, value_of, value_or, with_line, words_say}
 use Rattle.cert_tool_runs.specs.Laws.{accepted_lines}
 use Rattle.cert_tool_runs.proofs.LineWords.{Above, IsWord, above_lower, anchor_is, anchor_is_word, decimal_number, decimal_some, decimal_word, hex_word, none_is}
-use Rattle.cert_tool_runs.proofs.WordsOfLine.{say}
 
 -- What base 16 writes is read
 
-octets_back : (w : List ℕ) → IsOctets w → octets_in (encode_lower w) ≡ Some w
-octets_back w h = ap octets_read (decode_of-encode_lower w (bytes_are w h))
+octets_back : (fault : LineFault) (w : List ℕ) → IsOctets w → octets_in fault (encode_lower w) ≡ Ok w
+octets_back fault w h = ap (octets_or fault) (decode_of-encode_lower w (bytes_are w h))
 
-value_back : (s : Shape) (v : Value s) → is_apart s ≡ true → are_enough s 64 ≡ true → IsValid s v → value_in s (written s v) ≡ Some v
-value_back s v apart enough h =
-    ap (value_of s) (octets_back (octets_of s v) (octets_below s v h))
-    ∙ ap value_read (whole_again s v (octets_of s v) apart enough (record { valid = h; octets = refl }))
+value_back : (s : Shape) (fault text_fault : LineFault) (v : Value s) → is_apart s ≡ true → are_enough s 64 ≡ true → IsValid s v → value_of s fault (octets_in text_fault (written s v)) ≡ Ok v
+value_back s fault text_fault v apart enough h =
+    ap (value_of s fault) (octets_back text_fault (octets_of s v) (octets_below s v h))
+    ∙ ap (value_or fault) (whole_again s v (octets_of s v) apart enough (record { valid = h; octets = refl }))
 
 question_back : (q : Question) → IsWritable q
-    → question_in (written (public_key_info Bound) q.key) (written (algorithm_identifier Bound) q.algorithm) (encode_lower q.signed) (written bit_string q.bits) ≡ Some q
+    → question_in (written (public_key_info Bound) q.key) (written (algorithm_identifier Bound) q.algorithm) (encode_lower q.signed) (written bit_string q.bits) ≡ Ok q
 question_back q h =
-    let key = value_back (public_key_info Bound) q.key refl refl h.key in
-    let algorithm = value_back (algorithm_identifier Bound) q.algorithm refl refl h.algorithm in
-    let bits = value_back bit_string q.bits refl refl h.bits in
-    rw (key, algorithm, bits, octets_back q.signed h.signed) refl
+    let key = value_back (public_key_info Bound) faults.NoKey faults.KeyNotBase16 q.key refl refl h.key in
+    let algorithm = value_back (algorithm_identifier Bound) faults.NoAlgorithm faults.AlgorithmNotBase16 q.algorithm refl refl h.algorithm in
+    let bits = value_back bit_string faults.NoBits faults.BitsNotBase16 q.bits refl refl h.bits in
+    rw (key, algorithm, octets_back faults.SignedNotBase16 q.signed h.signed, bits) refl
+
+-- six words that are those of an answer
+say : (p a k m s b : List ℕ) (q : Question) → is_number p ≡ true → is_anchor a ≡ true → question_in k m s b ≡ Ok q → words_say (p ∷ a ∷ k ∷ m ∷ s ∷ b ∷ []) ≡ Ok q
+say p a k m s b q hp ha hq =
+    ap (λ x. cond x (cond (is_anchor a) (question_in k m s b) (Err faults.NoAnchor)) (Err faults.NoPlace)) hp
+    ∙ ap (λ x. cond x (question_in k m s b) (Err faults.NoAnchor)) ha ∙ hq
 
 -- The line without its end
 
@@ -95,12 +102,12 @@ module _ (l : QuestionLine) (h : IsWritable l.question) where
   bits_word : IsWord (written bit_string l.question.bits)
   bits_word = hex_word _ (octets_below bit_string l.question.bits h.bits)
 
-  line_said : line_says (body l) ≡ answers l.question
+  line_said : line_says (body l) ≡ Ok (Some l.question)
   unfolding line_says
   line_said =
-      ap (λ b. cond b nothing (words_say (parts 32 (body l)))) (not_skipped (decimal l.place) _ (decimal_word l.place) (decimal_some l.place))
-      ∙ ap words_say (six_parts _ _ _ _ _ _ (decimal_word l.place) (anchor_is_word l.anchor) key_word algorithm_word signed_word bits_word)
-      ∙ sym (say (decimal l.place) (anchor_word l.anchor) _ _ _ _ l.question (sym (decimal_number l.place)) (sym (anchor_is l.anchor)) (sym (question_back l.question h)))
+      ap (λ b. cond b (Ok None) (said (words_say (parts 32 (body l))))) (not_skipped (decimal l.place) _ (decimal_word l.place) (decimal_some l.place))
+      ∙ ap (λ ws. said (words_say ws)) (six_parts _ _ _ _ _ _ (decimal_word l.place) (anchor_is_word l.anchor) key_word algorithm_word signed_word bits_word)
+      ∙ ap said (say (decimal l.place) (anchor_word l.anchor) _ _ _ _ l.question (decimal_number l.place) (anchor_is l.anchor) (question_back l.question h))
 
   body_text : Above 31 (body l)
   body_text =
@@ -121,7 +128,7 @@ lines_read [] before each = refl
 lines_read (l ∷ more) before each =
     ap (answers_from before) (line_parts l each.0 (lines_octets more))
     ∙ ap (λ says. with_line (before + 1) says (answers_from (before + 1) (parts 10 (lines_octets more)))) (line_said l each.0)
-    ∙ ap (with_line (before + 1) (answers l.question)) (lines_read more (before + 1) each.1)
+    ∙ ap (with_line (before + 1) (Ok (Some l.question))) (lines_read more (before + 1) each.1)
 
 -- what is contained in writable lines is writable
 each_contained : (all kept : List QuestionLine) → AllByRecursion (λ l. IsWritable l.question) all → AllByRecursion (Contains all) kept → AllByRecursion (λ l. IsWritable l.question) kept
@@ -144,9 +151,9 @@ accepted_writable f (l ∷ more) each = by (answer_on f l.question) (accepted_wr
     by true others = (each.0, others)
     by false others = others
 
-abbrev or_none : Result (List Question) ℕ → List Question
+abbrev or_none : Result (List Question) (ℕ × LineFault) → List Question
 or_none (Ok qs) = qs
-or_none (Err line) = []
+or_none (Err first) = []
 
 pub accepted_lines_judge_alike : (file : List ℕ) (t : Terms) (limit : ℕ) (cs : List PlainCertificate) (stream : List ℕ) (qs : List Question) (verdict : Verdict) (n : ℕ)
     → t.bound ≡ Bound → IsAnchorFile file t.anchors → Chain Bound limit cs stream → file_says (lines_octets (accepted_lines t.answers (chain_lines t.anchors cs stream))) ≡ Ok qs

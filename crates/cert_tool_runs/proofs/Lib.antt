@@ -1,5 +1,4 @@
 pub mod AnswerFile
-pub mod WordsOfLine
 pub mod SplitLaws
 pub mod LineWords
 pub mod KeptLines

@@ -12,43 +12,54 @@ use Rattle.const_oid.specs.Bound.{Bound}
 use Rattle.cert_desk_checking.specs.Parts.{Algorithm, PublicKey, algorithm_identifier, bit_string}
 use Rattle.cert_desk_checking.specs.Parts.{public_key_info}
 use Rattle.cert_desk_checking.specs.Questions.{Question}
+use Rattle.cert_tool_runs.specs.declared.line_fault.LineFault.{LineFault}
+use Rattle.cert_tool_runs.specs.declared.line_fault.LineFault.TheVariants as faults
 
--- what was read, without why it wasn't
-abbrev pub octets_read : Result (List ℕ) FromHexError → Option (List ℕ)
-octets_read (Ok octets) = Some octets
-octets_read (Err fault) = None
+-- the octets that a text writes in base 16, or this fault
+abbrev pub octets_or : LineFault → Result (List ℕ) FromHexError → Result (List ℕ) LineFault
+octets_or fault (Ok octets) = Ok octets
+octets_or fault (Err error) = Err fault
 
-abbrev pub value_read : {P Q : Type 0} → Result (P × Q) ErrorKind → Option P
-value_read (Ok read) = Some read.0
-value_read (Err fault) = None
+abbrev pub octets_in : LineFault → List ℕ → Result (List ℕ) LineFault
+octets_in fault text = octets_or fault (decode_of text)
 
--- the octets that a text writes in base 16
-abbrev pub octets_in : List ℕ → Option (List ℕ)
-octets_in text = octets_read (decode_of text)
+-- the value that was read of octets, or this fault
+abbrev pub value_or : {P Q : Type 0} → LineFault → Result (P × Q) ErrorKind → Result P LineFault
+value_or fault (Ok read) = Ok read.0
+value_or fault (Err error) = Err fault
 
--- the value of a shape whose encoding it writes
-abbrev pub value_of : (s : Shape) → Option (List ℕ) → Option (Value s)
-value_of s (Some octets) = value_read (read_whole s octets)
-value_of s None = None
+-- the value of a shape whose encoding these are
+abbrev pub value_of : (s : Shape) → LineFault → Result (List ℕ) LineFault
+    → Result (Value s) LineFault
+value_of s fault (Ok octets) = value_or fault (read_whole s octets)
+value_of s fault (Err other) = Err other
 
-abbrev pub value_in : (s : Shape) → List ℕ → Option (Value s)
-value_in s text = value_of s (octets_in text)
+-- what the words of an answer write
+abbrev pub key_in : List ℕ → Result PublicKey LineFault
+key_in text = value_of (public_key_info Bound) faults.NoKey (octets_in faults.KeyNotBase16 text)
 
--- what the words of an answer write, if each writes its value
-abbrev pub question_of : Option PublicKey → Option Algorithm → Option Bits → Option (List ℕ)
-    → Option Question
-question_of key algorithm bits None = None
-question_of key algorithm None (Some signed) = None
-question_of key None (Some bits) (Some signed) = None
-question_of None (Some algorithm) (Some bits) (Some signed) = None
-question_of (Some key) (Some algorithm) (Some bits) (Some signed) =
-    Some (record { key = key; algorithm = algorithm; signed = signed; bits = bits })
+abbrev pub algorithm_in : List ℕ → Result Algorithm LineFault
+algorithm_in text =
+    value_of (algorithm_identifier Bound) faults.NoAlgorithm
+    (octets_in faults.AlgorithmNotBase16 text)
 
-abbrev pub question_in : List ℕ → List ℕ → List ℕ → List ℕ → Option Question
+abbrev pub bits_in : List ℕ → Result Bits LineFault
+bits_in text = value_of bit_string faults.NoBits (octets_in faults.BitsNotBase16 text)
+
+-- the question that they are, or the fault of the first that is faulty
+abbrev pub question_of : Result PublicKey LineFault → Result Algorithm LineFault
+    → Result (List ℕ) LineFault → Result Bits LineFault → Result Question LineFault
+question_of (Err fault) algorithm signed bits = Err fault
+question_of (Ok key) (Err fault) signed bits = Err fault
+question_of (Ok key) (Ok algorithm) (Err fault) bits = Err fault
+question_of (Ok key) (Ok algorithm) (Ok signed) (Err fault) = Err fault
+question_of (Ok key) (Ok algorithm) (Ok signed) (Ok bits) =
+    Ok (record { key = key; algorithm = algorithm; signed = signed; bits = bits })
+
+abbrev pub question_in : List ℕ → List ℕ → List ℕ → List ℕ → Result Question LineFault
 question_in key algorithm signed bits =
-    question_of (value_in (public_key_info Bound) key)
-    (value_in (algorithm_identifier Bound) algorithm) (value_in bit_string bits)
-    (octets_in signed)
+    question_of (key_in key) (algorithm_in algorithm) (octets_in faults.SignedNotBase16 signed)
+    (bits_in bits)
 
 -- one or more decimal digits
 abbrev pub is_digit : ℕ → Bool
@@ -62,22 +73,13 @@ is_number (first ∷ rest) = list_all is_digit (first ∷ rest)
 abbrev pub is_anchor : List ℕ → Bool
 is_anchor text = is_number text || bytes_eq text (codes "-")
 
--- what a line says: nothing, an answer, or something that it may not
-pub data Says : Type 0 where
-  nothing : Says
-  answers : Question → Says
-  wrong : Says
-
-abbrev pub says_question : Option Question → Says
-says_question (Some q) = answers q
-says_question None = wrong
-
-abbrev pub words_say : List (List ℕ) → Says
+-- the question that the words of a line say, or the first fault
+abbrev pub words_say : List (List ℕ) → Result Question LineFault
 words_say (place ∷ anchor ∷ key ∷ algorithm ∷ signed ∷ bits ∷ []) =
     if is_number place
-    then (if is_anchor anchor then says_question (question_in key algorithm signed bits)
-    else wrong) else wrong
-words_say _ = wrong
+    then (if is_anchor anchor then question_in key algorithm signed bits else Err faults.NoAnchor)
+    else Err faults.NoPlace
+words_say _ = Err faults.NotSixWords
 
 -- what stands between separators
 abbrev pub parts : ℕ → List ℕ → List (List ℕ)
@@ -88,21 +90,27 @@ abbrev pub is_skipped : List ℕ → Bool
 is_skipped [] = true
 is_skipped (first ∷ rest) = first == 35
 
-unfoldable pub line_says : List ℕ → Says
-line_says line = if is_skipped line then nothing else words_say (parts 32 line)
+abbrev pub said : Result Question LineFault → Result (Option Question) LineFault
+said (Ok q) = Ok (Some q)
+said (Err fault) = Err fault
 
--- the answers of lines behind so many, or the number of the first one that is wrong
-abbrev pub with_line : ℕ → Says → Result (List Question) ℕ → Result (List Question) ℕ
-with_line number nothing rest = rest
-with_line number (answers q) (Ok qs) = Ok (q ∷ qs)
-with_line number (answers q) (Err line) = Err line
-with_line number wrong rest = Err number
+-- what a line says: an answer, or nothing, or its fault
+unfoldable pub line_says : List ℕ → Result (Option Question) LineFault
+line_says line = if is_skipped line then Ok None else said (words_say (parts 32 line))
 
-abbrev pub answers_from : ℕ → List (List ℕ) → Result (List Question) ℕ
+-- the answers of lines behind so many, or the number of the first one that is wrong, and its fault
+abbrev pub with_line : ℕ → Result (Option Question) LineFault
+    → Result (List Question) (ℕ × LineFault) → Result (List Question) (ℕ × LineFault)
+with_line number (Err fault) rest = Err (number, fault)
+with_line number (Ok None) rest = rest
+with_line number (Ok (Some q)) (Ok qs) = Ok (q ∷ qs)
+with_line number (Ok (Some q)) (Err first) = Err first
+
+abbrev pub answers_from : ℕ → List (List ℕ) → Result (List Question) (ℕ × LineFault)
 answers_from before [] = Ok []
 answers_from before (line ∷ more) =
     with_line (before + 1) (line_says line) (answers_from (before + 1) more)
 
--- the answers of a file, or the number of its first wrong line
-abbrev pub file_says : List ℕ → Result (List Question) ℕ
+-- the answers of a file, or the number of its first wrong line, and its fault
+abbrev pub file_says : List ℕ → Result (List Question) (ℕ × LineFault)
 file_says octets = answers_from 0 (parts 10 octets)

@@ -1,5 +1,6 @@
 pub mod Words
 pub mod Tasks
+pub mod FaultTexts
 pub mod AnswerLines
 pub mod AnswerReading
 pub mod Stops

@@ -15,29 +15,36 @@ use Rattle.cert_desk_checking.specs.declared.outcome.Outcome.TheVariants as outc
 use Rattle.cert_desk_checking.specs.Lines.{kind_name, line_of, rule_name}
 use Rattle.cert_desk_checking.specs.Questions.{Question}
 use Rattle.cert_desk_checking.specs.Runs.{status_of}
+use Rattle.cert_tool_runs.specs.declared.line_fault.LineFault.{LineFault}
 use Rattle.cert_tool_runs.specs.declared.no_answers.NoAnswers.{NoAnswers}
 use Rattle.cert_tool_runs.specs.declared.no_answers.NoAnswers.TheVariants as reasons
 use Rattle.cert_tool_runs.specs.AnswerLines.{file_says}
+use Rattle.cert_tool_runs.specs.FaultTexts.{line_fault_text}
 use Rattle.cert_tool_runs.specs.Stops.{IsStopTold}
 
 -- what is read as answers: these, or why there are none
 abbrev pub AreAnswers : Device → Result (List Question) NoAnswers → Type 0
 AreAnswers d (Ok qs) = (octets : List ℕ) × IsWhole d most_octets octets × (file_says octets ≡ Ok qs)
-AreAnswers d (Err (reasons.Line line)) =
-    ((octets : List ℕ) × IsWhole d most_octets octets × (file_says octets ≡ Err line))
-    ⊎ (IsUnread d most_octets errors.TooMuch × (line ≡ 1))
+AreAnswers d (Err (reasons.Line number fault)) =
+    (octets : List ℕ) × IsWhole d most_octets octets × (file_says octets ≡ Err (number, fault))
+AreAnswers d (Err reasons.TooMuch) = IsUnread d most_octets errors.TooMuch
 AreAnswers d (Err reasons.Device) = IsUnread d most_octets errors.Device
 AreAnswers d (Err reasons.OutOfMemory) = ((octets : List ℕ) × IsWhole d most_octets octets)
     ⊎ IsUnread d most_octets errors.OutOfMemory
 
--- that the line of this number is wrong
-abbrev pub wrong_line : ℕ → List ℕ
-wrong_line line = codes "answers: line " ++ decimal line ++ codes "\n"
+-- how a line of this number is told that has this fault
+abbrev pub wrong_line : ℕ → LineFault → List ℕ
+wrong_line number fault =
+    codes "answers: line " ++ decimal number ++ codes ": " ++ line_fault_text fault ++ codes "\n"
+
+abbrev pub too_much_line : List ℕ
+too_much_line = codes "answers: more than 4294967295 octets\n"
 
 -- What is told where there are no answers, and the status.
 abbrev pub IsNoneTold : Device → NoAnswers → ExitStatus → Type 0
-IsNoneTold err (reasons.Line line) answer =
-    IsComplaint err (wrong_line line) statuses.Arguments answer ⊎ IsMemoryTold err answer
+IsNoneTold err (reasons.Line number fault) answer =
+    IsComplaint err (wrong_line number fault) statuses.Arguments answer ⊎ IsMemoryTold err answer
+IsNoneTold err reasons.TooMuch answer = IsComplaint err too_much_line statuses.Arguments answer
 IsNoneTold err reasons.Device answer = IsDeviceTold err answer
 IsNoneTold err reasons.OutOfMemory answer = IsMemoryTold err answer
 

@@ -2,88 +2,89 @@
 ghost use Rattle.std.specs.Prelude.{◌≡◌, map, IfOk, IfErr, OnOk, Some, Ok};
 ghost use Rattle.std.specs.List.{list_all};
 ghost use Rattle.der_core_head.specs.Grammar.{plain_option, read_whole};
-ghost use Rattle.const_oid.specs.Bound.{Bound};
-ghost use Rattle.cert_desk_checking.specs.Parts.{algorithm_identifier, bit_string, public_key_info};
 ghost use Rattle.cert_desk_checking.specs.Parts.{algorithm_plain, key_plain};
 ghost use Rattle.cert_desk_checking.specs.Answers.{answer_plain};
-ghost use Rattle.cert_tool_runs.specs.AnswerLines.{file_says, is_anchor, is_digit, is_number};
-ghost use Rattle.cert_tool_runs.specs.AnswerLines.{is_skipped, line_says, octets_in, parts};
-ghost use Rattle.cert_tool_runs.specs.AnswerLines.{question_in, value_in, value_read, words_say};
-ghost use Rattle.cert_tool_runs.specs.AnswerReading.{IsNoFile, IsNoLine, added_by, said_plain};
+ghost use Rattle.cert_tool_runs.specs.AnswerLines.{algorithm_in, bits_in, file_says, is_anchor};
+ghost use Rattle.cert_tool_runs.specs.AnswerLines.{is_digit, is_number, is_skipped, key_in};
+ghost use Rattle.cert_tool_runs.specs.AnswerLines.{line_says, octets_in, parts, question_in};
+ghost use Rattle.cert_tool_runs.specs.AnswerLines.{value_or, words_say};
+ghost use Rattle.cert_tool_runs.specs.AnswerReading.{FailsBy, IsNoFile, IsNoLine, added_by};
 
+use crate::line_fault::LineFault;
 use crate::no_answers::NoAnswers;
 use cert_desk_checking::{AlgorithmIdentifier, Answer, BitString, SubjectPublicKeyInfo};
 use der_core::{Decode, ErrorKind, SliceReader, from_der};
 use hex::FromHexError;
 use std::alloc::{AllocError, Global};
 
-// What a line says.
-#[derive(Drop)]
-enum Said {
-    Nothing,
-    Answer(Answer),
-    Wrong,
+// Why what a line says isn't read.
+#[derive(Clone, Copy)]
+enum LineError {
+    Fault(LineFault),
+    OutOfMemory,
 }
 
-// The octets that a text writes in base 16, if it does.
-fn octets_of(alloc: Global, text: &[u8]) -> Result<Option<Vec<u8>>, AllocError>
-    ensures { IfOk result (λ read. plain_option (λ octets. octets.items) read
-        ≡ octets_in text.now) }
+// The octets that a text writes in base 16; where it writes none the fault is this one.
+fn octets_of(alloc: Global, text: &[u8], fault: LineFault) -> Result<Vec<u8>, LineError>
+    ensures read { IfOk result (λ octets. octets_in fault text.now ≡ Ok octets.items) }
+    ensures refused { IfErr result (FailsBy (octets_in fault text.now)) }
 {
     match hex::decode(alloc, text) {
-        Ok(octets) => Ok(Some(octets)),
-        Err(FromHexError::OutOfMemory) => Err(AllocError),
-        Err(_) => Ok(None),
+        Ok(octets) => Ok(octets),
+        Err(FromHexError::OutOfMemory) => Err(LineError::OutOfMemory),
+        Err(_) => Err(LineError::Fault(fault)),
     }
 }
 
-// The value that octets spell, all of them, if they spell one.
+// The value that octets spell, all of them; where they spell none the fault is this one.
 fn value_of<'a, T: Decode<'a, SliceReader<'a>>>(
     alloc: Global,
     octets: &'a [u8],
-) -> Result<Option<T>, AllocError>
-    ensures { IfOk result (λ read. plain_option T.plain read
-        ≡ value_read (read_whole T.shape octets.now)) }
+    fault: LineFault,
+) -> Result<T, LineError>
+    ensures read { IfOk result (λ value. value_or fault (read_whole T.shape octets.now)
+        ≡ Ok (T.plain value)) }
+    ensures refused { IfErr result (FailsBy (value_or fault (read_whole T.shape octets.now))) }
 {
     match from_der::<T>(alloc, octets) {
-        Ok(value) => Ok(Some(value)),
+        Ok(value) => Ok(value),
         Err(error) => match error.kind {
-            ErrorKind::OutOfMemory => Err(AllocError),
-            _ => Ok(None),
+            ErrorKind::OutOfMemory => Err(LineError::OutOfMemory),
+            _ => Err(LineError::Fault(fault)),
         },
     }
 }
 
-// The key whose encoding a text writes in base 16, if it does.
-fn key_of(alloc: Global, text: &[u8]) -> Result<Option<SubjectPublicKeyInfo>, AllocError>
-    ensures { IfOk result (λ read. plain_option key_plain read
-        ≡ value_in (public_key_info Bound) text.now) }
+// The key whose encoding a text writes in base 16.
+fn key_of(alloc: Global, text: &[u8]) -> Result<SubjectPublicKeyInfo, LineError>
+    ensures read { IfOk result (λ key. key_in text.now ≡ Ok (key_plain key)) }
+    ensures refused { IfErr result (FailsBy (key_in text.now)) }
 {
-    match octets_of(alloc, text)? {
-        Some(octets) => value_of::<SubjectPublicKeyInfo>(alloc, octets.as_slice()),
-        None => Ok(None),
-    }
+    let octets = octets_of(alloc, text, LineFault::KeyNotBase16)?;
+    let key = value_of::<SubjectPublicKeyInfo>(alloc, octets.as_slice(), LineFault::NoKey)?;
+    Ok(key)
 }
 
 // The algorithm, in the same way.
-fn algorithm_of(alloc: Global, text: &[u8]) -> Result<Option<AlgorithmIdentifier>, AllocError>
-    ensures { IfOk result (λ read. plain_option algorithm_plain read
-        ≡ value_in (algorithm_identifier Bound) text.now) }
+fn algorithm_of(alloc: Global, text: &[u8]) -> Result<AlgorithmIdentifier, LineError>
+    ensures read { IfOk result (λ algorithm. algorithm_in text.now
+        ≡ Ok (algorithm_plain algorithm)) }
+    ensures refused { IfErr result (FailsBy (algorithm_in text.now)) }
 {
-    match octets_of(alloc, text)? {
-        Some(octets) => value_of::<AlgorithmIdentifier>(alloc, octets.as_slice()),
-        None => Ok(None),
-    }
+    let octets = octets_of(alloc, text, LineFault::AlgorithmNotBase16)?;
+    let fault = LineFault::NoAlgorithm;
+    let algorithm = value_of::<AlgorithmIdentifier>(alloc, octets.as_slice(), fault)?;
+    Ok(algorithm)
 }
 
 // The bits, in the same way.
-fn bits_of(alloc: Global, text: &[u8]) -> Result<Option<BitString>, AllocError>
-    ensures { IfOk result (λ read. read ≡ value_in bit_string text.now) }
+fn bits_of(alloc: Global, text: &[u8]) -> Result<BitString, LineError>
+    ensures read { IfOk result (λ bits. bits_in text.now ≡ Ok bits) }
+    ensures refused { IfErr result (FailsBy (bits_in text.now)) }
 {
-    match octets_of(alloc, text)? {
-        Some(octets) => value_of::<BitString>(alloc, octets.as_slice()),
-        None => Ok(None),
-    }
+    let octets = octets_of(alloc, text, LineFault::BitsNotBase16)?;
+    let bits = value_of::<BitString>(alloc, octets.as_slice(), LineFault::NoBits)?;
+    Ok(bits)
 }
 
 // Whether an octet is a decimal digit.
@@ -124,28 +125,22 @@ fn answer_of(
     algorithm: &[u8],
     signed: &[u8],
     bits: &[u8],
-) -> Result<Option<Answer>, AllocError>
-    ensures { IfOk result (λ read. plain_option answer_plain read
-        ≡ question_in key.now algorithm.now signed.now bits.now) }
+) -> Result<Answer, LineError>
+    ensures read { IfOk result (λ answer.
+        question_in key.now algorithm.now signed.now bits.now ≡ Ok (answer_plain answer)) }
+    ensures refused { IfErr result
+        (FailsBy (question_in key.now algorithm.now signed.now bits.now)) }
 {
-    let Some(signed) = octets_of(alloc, signed)? else {
-        return Ok(None);
-    };
-    let Some(bits) = bits_of(alloc, bits)? else {
-        return Ok(None);
-    };
-    let Some(algorithm) = algorithm_of(alloc, algorithm)? else {
-        return Ok(None);
-    };
-    let Some(key) = key_of(alloc, key)? else {
-        return Ok(None);
-    };
-    Ok(Some(Answer {
+    let key = key_of(alloc, key)?;
+    let algorithm = algorithm_of(alloc, algorithm)?;
+    let signed = octets_of(alloc, signed, LineFault::SignedNotBase16)?;
+    let bits = bits_of(alloc, bits)?;
+    Ok(Answer {
         key,
         algorithm,
         signed,
         bits,
-    }))
+    })
 }
 
 // What stands between separators.
@@ -166,35 +161,40 @@ fn is_skipped(line: &[u8]) -> bool
     }
 }
 
-// What the words of a line say.
-fn said_by_words(alloc: Global, words: &[&[u8]]) -> Result<Said, AllocError>
-    ensures { IfOk result (λ said. said_plain said ≡ words_say (map (λ word. word.now) words.now)) }
+// The answer that the words of a line say.
+fn said_by_words(alloc: Global, words: &[&[u8]]) -> Result<Answer, LineError>
+    ensures read { IfOk result (λ answer. words_say (map (λ word. word.now) words.now)
+        ≡ Ok (answer_plain answer)) }
+    ensures refused { IfErr result (FailsBy (words_say (map (λ word. word.now) words.now))) }
 {
-    if words.len() != 6 {
-        return Ok(Said::Wrong);
+    let [place, anchor, key, algorithm, signed, bits] = words else {
+        return Err(LineError::Fault(LineFault::NotSixWords));
+    };
+    if !is_number(place) {
+        return Err(LineError::Fault(LineFault::NoPlace));
     }
-    if !is_number(words[0]) {
-        return Ok(Said::Wrong);
+    if !is_anchor(anchor) {
+        return Err(LineError::Fault(LineFault::NoAnchor));
     }
-    if !is_anchor(words[1]) {
-        return Ok(Said::Wrong);
-    }
-    match answer_of(alloc, words[2], words[3], words[4], words[5])? {
-        Some(answer) => Ok(Said::Answer(answer)),
-        None => Ok(Said::Wrong),
-    }
+    let answer = answer_of(alloc, key, algorithm, signed, bits)?;
+    Ok(answer)
 }
 
-// What a line says.
+// The answer that a line says, if it says one.
 #[tactic(auto, unfolding(crate::specs::AnswerLines::line_says))]
-fn said_by(alloc: Global, line: &[u8]) -> Result<Said, AllocError>
-    ensures { IfOk result (λ said. said_plain said ≡ line_says line.now) }
+fn said_by(alloc: Global, line: &[u8]) -> Result<Option<Answer>, LineError>
+    ensures read { IfOk result (λ answer. line_says line.now
+        ≡ Ok (plain_option answer_plain answer)) }
+    ensures refused { IfErr result (FailsBy (line_says line.now)) }
 {
     if is_skipped(line) {
-        return Ok(Said::Nothing);
+        return Ok(None);
     }
-    let words = parts_of(alloc, line, b' ')?;
-    said_by_words(alloc, words.as_slice())
+    let Ok(words) = parts_of(alloc, line, b' ') else {
+        return Err(LineError::OutOfMemory);
+    };
+    let answer = said_by_words(alloc, words.as_slice())?;
+    Ok(Some(answer))
 }
 
 // Adds the answer of a line, if it says one, to those of the lines before.
@@ -209,15 +209,15 @@ fn read_line(
     ensures refused { IfErr result (IsNoLine line.now number) }
 {
     match said_by(alloc, line) {
-        Ok(Said::Nothing) => Ok(()),
-        Ok(Said::Answer(answer)) => {
+        Ok(None) => Ok(()),
+        Ok(Some(answer)) => {
             if answers.push(answer).is_err() {
                 return Err(NoAnswers::OutOfMemory);
             }
             Ok(())
         }
-        Ok(Said::Wrong) => Err(NoAnswers::Line(number)),
-        Err(_) => Err(NoAnswers::OutOfMemory),
+        Err(LineError::Fault(fault)) => Err(NoAnswers::Line { number, fault }),
+        Err(LineError::OutOfMemory) => Err(NoAnswers::OutOfMemory),
     }
 }
 
@@ -231,7 +231,7 @@ fn read_line(
 ///
 /// # Errors
 ///
-/// `Line`, the first line that is none of these, counted from 1; `OutOfMemory`.
+/// `Line`, the first line that is none of these, and the first reason why; `OutOfMemory`.
 pub fn answers_in(alloc: Global, octets: &[u8]) -> Result<Vec<Answer>, NoAnswers>
     ensures read { IfOk result (λ answers. file_says octets.now
         ≡ Ok (map answer_plain answers.items)) }

@@ -12,7 +12,7 @@ use crate::explaining::explain_chain;
 use crate::files::{open, tell_failure};
 use crate::tasks::Task;
 use crate::telling::{tell, tell_more};
-use crate::verifying::run_verify;
+use crate::verifying::{run_verify, tell_none};
 use cert_desk_io::{ExitStatus, Input, NamedInputs, Output};
 use std::alloc::Global;
 use std::rt::Clock;
@@ -111,9 +111,9 @@ fn judged<I: Input, O: Output, E: Output>(
     );
     match verified {
         Ok(status) => status,
-        Err(status) => {
+        Err(none) => {
             *are_read = false;
-            status
+            tell_none(alloc, none, err)
         }
     }
 }

@@ -1,13 +1,12 @@
 //! Runs that judge a chain by answers.
 
-ghost use Rattle.std.specs.Prelude.{◌≡◌, ◌≤◌, List, map, IfOk, IfErr, Ok, Err, string_bytes};
+ghost use Rattle.std.specs.Prelude.{◌≡◌, ◌≤◌, List, map, IfOk, IfErr, OnErr, Ok, Err, string_bytes};
 ghost use Rattle.cert_desk_io.specs.Devices.{sink, source};
 ghost use Rattle.cert_desk_checking.specs.declared.outcome.Outcome.{Outcome};
 ghost use Rattle.cert_desk_checking.specs.Anchors.{purpose_plain};
 ghost use Rattle.cert_desk_checking.specs.Questions.{Question};
 ghost use Rattle.cert_desk_checking.specs.Runs.{IsOutcome, judging};
 ghost use Rattle.cert_desk_checking.specs.declared.answers_judge.AnswersJudge.{AnswersJudge};
-ghost use Rattle.cert_tool_runs.specs.declared.no_answers.NoAnswers.{NoAnswers};
 ghost use Rattle.cert_desk_checking.specs.Answers.{answer_plain, listed};
 ghost use Rattle.cert_desk_checking.specs.Judges.{judge_answers, judge_questions};
 ghost use Rattle.cert_tool_runs.specs.Verifying.{AreAnswers, IsNoneTold, IsToldAs, wrong_line};
@@ -15,6 +14,7 @@ ghost use Rattle.cert_tool_runs.specs.Verifying.{verdict_json, verdict_text};
 
 use crate::answer_lines::answers_in;
 use crate::finding::find_outcome;
+use crate::line_fault::LineFault;
 use crate::no_answers::NoAnswers;
 use crate::stopping::tell_stop;
 use cert_desk_checking::{
@@ -30,7 +30,7 @@ use std::alloc::{AllocError, Global};
 ///
 /// # Errors
 ///
-/// `Line(1)` too where there are 2^32 octets or more.
+/// Those of `answers_in`; `TooMuch`, where one octet more than 2^32 - 1 is taken; `Device`.
 pub fn read_answers<N: Input>(alloc: Global, answers: &mut N) -> Result<Vec<Answer>, NoAnswers>
     ensures read { IfOk result (λ read. AreAnswers
         (source N.takes N.is_ended N.failures answers.old answers.new)
@@ -40,7 +40,7 @@ pub fn read_answers<N: Input>(alloc: Global, answers: &mut N) -> Result<Vec<Answ
 {
     let octets = match read_all(alloc, answers, u32::MAX) {
         Ok(octets) => octets,
-        Err(ReadAllError::TooMuch) => return Err(NoAnswers::Line(1)),
+        Err(ReadAllError::TooMuch) => return Err(NoAnswers::TooMuch),
         Err(ReadAllError::Device) => return Err(NoAnswers::Device),
         Err(ReadAllError::OutOfMemory) => return Err(NoAnswers::OutOfMemory),
     };
@@ -50,11 +50,11 @@ pub fn read_answers<N: Input>(alloc: Global, answers: &mut N) -> Result<Vec<Answ
     }
 }
 
-// What is said of a file whose line of this number is no answer.
-fn fault_line(alloc: Global, line: u64) -> Result<String, AllocError>
-    ensures { IfOk result (λ text. string_bytes text ≡ wrong_line line) }
+// What is said of a file whose line of this number has this fault.
+fn fault_line(alloc: Global, number: u64, fault: LineFault) -> Result<String, AllocError>
+    ensures { IfOk result (λ text. string_bytes text ≡ wrong_line number fault) }
 {
-    format!(in alloc; "answers: line {line}\n")
+    format!(in alloc; "answers: line {number}: {fault}\n")
 }
 
 /// Tells why there are no answers, in one line, and answers the status.
@@ -62,10 +62,15 @@ pub fn tell_none<E: Output>(alloc: Global, none: NoAnswers, err: &mut E) -> Exit
     ensures { IsNoneTold (sink E.gives E.failures err.old err.new) none result }
 {
     match none {
-        NoAnswers::Line(line) => match fault_line(alloc, line) {
+        NoAnswers::Line { number, fault } => match fault_line(alloc, number, fault) {
             Ok(text) => complain(err, text.as_bytes(), ExitStatus::Arguments),
             Err(_) => tell_memory(err),
         },
+        NoAnswers::TooMuch => complain(
+            err,
+            b"answers: more than 4294967295 octets\n",
+            ExitStatus::Arguments,
+        ),
         NoAnswers::Device => tell_device(err),
         NoAnswers::OutOfMemory => tell_memory(err),
     }
@@ -132,9 +137,11 @@ fn tell_outcome<O: Output, E: Output>(
 /// JSON: an object with the members `verdict`, `place`, `rule`, `offset`, `kind` and `calls`, of
 /// which it has those that its line has.
 ///
-/// The answers are read first, to their end, as `answers_in` reads them; where a line is faulty
-/// `answers: line N` goes to `err`, and nothing else is read. So does `answers: line 1` where there
-/// are 2^32 octets or more. The status is the error then.
+/// The answers are read first, as `read_answers` reads them.
+///
+/// # Errors
+///
+/// Those of `read_answers`. Nothing else is read then, and nothing told.
 pub fn run_verify<N: Input, A: Input, S: Input, O: Output, E: Output>(
     alloc: Global,
     answers: &mut N,
@@ -146,7 +153,7 @@ pub fn run_verify<N: Input, A: Input, S: Input, O: Output, E: Output>(
     purpose: &ObjectIdentifier<39>,
     limit: u32,
     json: bool,
-) -> Result<ExitStatus, ExitStatus>
+) -> Result<ExitStatus, NoAnswers>
     requires { 6 ≤ limit }
     // These are the answers, and what is found and told is what `run_check` finds under a judge
     // that says yes to these alone.
@@ -161,15 +168,15 @@ pub fn run_verify<N: Input, A: Input, S: Input, O: Output, E: Output>(
         moment (purpose_plain purpose.now) limit outcome
         × IsToldAs json (sink O.gives O.failures out.old out.new)
         (sink E.gives E.failures err.old err.new) outcome status) }
-    // There are none, which is told, and nothing else is touched.
-    ensures none { IfErr result (λ status. (none : NoAnswers)
-        × AreAnswers (source N.takes N.is_ended N.failures answers.old answers.new) (Err none)
-        × (anchors.new ≡ anchors.old) × (stream.new ≡ stream.old) × (out.new ≡ out.old)
-        × IsNoneTold (sink E.gives E.failures err.old err.new) none status) }
+    // There are none, and nothing else is touched.
+    ensures none { IfErr result (λ none. AreAnswers
+        (source N.takes N.is_ended N.failures answers.old answers.new) (Err none)) }
+    ensures untouched { OnErr result ((anchors.new ≡ anchors.old) × (stream.new ≡ stream.old)
+        × (out.new ≡ out.old) × (err.new ≡ err.old)) }
 {
     let answers = match read_answers(alloc, answers) {
         Ok(answers) => answers,
-        Err(none) => return Err(tell_none(alloc, none, err)),
+        Err(none) => return Err(none),
     };
     let mut judge = AnswersJudge::new(answers);
     let outcome = find_outcome(alloc, anchors, stream, moment, purpose, limit, &mut judge);
