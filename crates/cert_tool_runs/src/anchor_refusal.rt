@@ -65,7 +65,7 @@ fn add_anchors(lines: &mut Lines, octets: &[u8]) {
             lines.count(count as u64);
             lines.tail(", each with a name and a key");
             lines.close();
-            add_unjudged(lines, octets);
+            add_unjudged(lines, octets, None);
         }
         Err(Outcome::BadAnchors { offset, fault }) => {
             add_anchor_fault(lines, octets, offset, fault);

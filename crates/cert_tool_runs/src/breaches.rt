@@ -9,6 +9,7 @@ use crate::remark_lines::end_remark;
 use crate::remarks::add_remarks;
 use crate::serial_numbers::SerialNumbers;
 use crate::stream_refusal::{LEAF_FIRST, is_leaf_first};
+use crate::unjudged::add_unjudged;
 use cert_desk_checking::certificates::{Name, Time};
 use cert_desk_checking::{Anchor, Bundle, KeptRules, Rule};
 use const_oid::ObjectIdentifier;
@@ -34,6 +35,8 @@ pub(crate) struct Judged<'a> {
     // Which rules each of its certificates keeps.
     pub(crate) kept: &'a [KeptRules],
     pub(crate) anchors: &'a [Anchor],
+    // Which the anchors were read of.
+    pub(crate) anchor_octets: &'a [u8],
     pub(crate) heard: &'a Heard,
     // What the chain is wanted for.
     pub(crate) purpose: &'a ObjectIdentifier<39>,
@@ -183,11 +186,14 @@ fn begin_place(lines: &mut Lines, place: &ChainPlace<'_>) {
     lines.list("findings");
 }
 
-// Adds what each certificate of a chain breaks, as it was judged, with its first reason, and what
-// is unwise.
+// Adds what the anchors of a chain's name say and isn't judged; what each certificate breaks, as it
+// was judged, with its first reason, and what is unwise.
 pub(crate) fn add_chain(lines: &mut Lines, bundle: &Bundle, judged: &Judged<'_>) {
     if is_leaf_first(bundle) {
         lines.finding(LEAF_FIRST);
+    }
+    if let Some(first) = ChainPlace::at(bundle, 0) {
+        add_unjudged(lines, judged.anchor_octets, Some(first.issuer()));
     }
     let mut lengths = LengthReasons::of(lines, bundle, judged.kept, judged.purpose);
     let mut serial_numbers = SerialNumbers::new(lines.alloc);

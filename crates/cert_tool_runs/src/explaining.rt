@@ -6,12 +6,12 @@ use crate::arguments::Terms;
 use crate::breaches::{Judged, add_chain};
 use crate::heard::Heard;
 use crate::lines::Lines;
-use crate::reading::tell_text;
+use crate::reading::{read_input, tell_text};
 use crate::verifying::{read_answers, tell_none};
 use cert_desk_checking::{
     Anchor, Answer, AnswersJudge, Bundle, Outcome, Standing, judge_each, read_anchors, read_stream,
 };
-use cert_desk_io::{ExitStatus, Input, Output, complain, tell_device, tell_memory};
+use cert_desk_io::{ExitStatus, FromRead, Input, Output, complain, tell_device, tell_memory};
 use std::alloc::{AllocError, Global};
 
 // What each certificate of a chain breaks, as it was judged.
@@ -28,11 +28,13 @@ fn told(
     lines.finish()
 }
 
-// What each certificate of a chain breaks, judged under these anchors by answers.
+// What each certificate of a chain breaks, judged by answers under anchors, which were read of the
+// octets behind them.
 fn explained(
     alloc: Global,
     bundle: &Bundle,
     anchors: &[Anchor],
+    anchor_octets: &[u8],
     terms: &Terms,
     answers: Vec<Answer>,
 ) -> Result<Vec<u8>, AllocError> {
@@ -43,19 +45,20 @@ fn explained(
     let judged = Judged {
         kept: kept.as_slice(),
         anchors,
+        anchor_octets,
         heard: &heard,
         purpose,
     };
     told(alloc, bundle, &judged, terms.is_json)
 }
 
-// The anchors that an input gives. Where there are none, that is told, and the status is the error.
-fn anchors_of<I: Input, E: Output>(
+// The anchors that octets give. Where there are none, that is told, and the status is the error.
+fn anchors_in<E: Output>(
     alloc: Global,
-    input: &mut I,
+    octets: &[u8],
     err: &mut E,
 ) -> Result<Vec<Anchor>, ExitStatus> {
-    match read_anchors(alloc, input) {
+    match read_anchors(alloc, &mut FromRead::new(octets)) {
         Ok(anchors) => Ok(anchors),
         Err(Outcome::Device) => Err(tell_device(err)),
         Err(Outcome::OutOfMemory) => Err(tell_memory(err)),
@@ -100,7 +103,8 @@ fn stream_of<I: Input, E: Output>(
 // writes to `out` what each certificate breaks, with its first reason, and answers the exit status.
 // The rules have the names that a check prints. What no rule forbids and is unwise is told as a
 // remark: dates behind the issuer's, a serial number that an earlier one of the same issuer has,
-// and what must be otherwise by RFC 5280.
+// and what must be otherwise by RFC 5280. First stands what an anchor of the chain's name says that
+// isn't judged.
 //
 // The answers are read first, and told as `run_verify` tells them where there are none.
 pub(crate) fn explain_chain<I: Input, O: Output, E: Output>(
@@ -118,7 +122,12 @@ pub(crate) fn explain_chain<I: Input, O: Output, E: Output>(
         Ok(answers) => answers,
         Err(none) => return tell_none(alloc, none, err),
     };
-    let anchors = match anchors_of(alloc, anchors, err) {
+    let anchor_octets = match read_input(alloc, anchors, err) {
+        Ok(octets) => octets,
+        Err(status) => return status,
+    };
+    let anchor_octets = anchor_octets.as_slice();
+    let anchors = match anchors_in(alloc, anchor_octets, err) {
         Ok(anchors) => anchors,
         Err(status) => return status,
     };
@@ -126,6 +135,13 @@ pub(crate) fn explain_chain<I: Input, O: Output, E: Output>(
         Ok(bundle) => bundle,
         Err(status) => return status,
     };
-    let text = explained(alloc, &bundle, anchors.as_slice(), &terms, answers);
+    let text = explained(
+        alloc,
+        &bundle,
+        anchors.as_slice(),
+        anchor_octets,
+        &terms,
+        answers,
+    );
     tell_text(text, out, err)
 }

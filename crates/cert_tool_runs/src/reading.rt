@@ -16,7 +16,7 @@ use std::alloc::{AllocError, Global};
 
 // What an input holds, to its end. Where it can't be had, that is told, and the status is the
 // error.
-fn read_input<I: Input, E: Output>(
+pub(crate) fn read_input<I: Input, E: Output>(
     alloc: Global,
     input: &mut I,
     err: &mut E,

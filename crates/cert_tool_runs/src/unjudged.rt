@@ -2,7 +2,7 @@
 
 use crate::lines::Lines;
 use cert_desk_checking::TrustAnchorChoice;
-use cert_desk_checking::certificates::{Extension, Raw, TbsCertificateInner, Validity};
+use cert_desk_checking::certificates::{Extension, Name, Raw, TbsCertificateInner, Validity};
 use der_core::from_der_partial;
 
 // Begins what is said of the anchor at an octet.
@@ -48,19 +48,39 @@ fn add_certified(lines: &mut Lines, signed: &TbsCertificateInner<Raw>) {
     lines.end_list();
 }
 
-// Adds what an anchor says that isn't judged.
-fn add_of(lines: &mut Lines, anchor: &TrustAnchorChoice<Raw>) {
+// What is certified of an anchor, unless its name and its key are told alone.
+fn certified_of(anchor: &TrustAnchorChoice<Raw>) -> Option<&TbsCertificateInner<Raw>> {
     match anchor {
-        TrustAnchorChoice::Certificate(certificate) => {
-            add_certified(lines, certificate.tbs_certificate());
-        }
-        TrustAnchorChoice::TbsCertificate(signed) => add_certified(lines, signed),
-        TrustAnchorChoice::TaInfo(_) => {}
+        TrustAnchorChoice::Certificate(certificate) => Some(certificate.tbs_certificate()),
+        TrustAnchorChoice::TbsCertificate(signed) => Some(signed),
+        TrustAnchorChoice::TaInfo(_) => None,
     }
 }
 
-// Adds what anchors say that isn't judged, one behind the other.
-pub(crate) fn add_unjudged(lines: &mut Lines, octets: &[u8]) {
+// Whether what is certified has the name of an issuer, if one is asked for.
+fn is_of(certified: Option<&TbsCertificateInner<Raw>>, issuer: Option<&Name>) -> bool {
+    match (certified, issuer) {
+        (_, None) => true,
+        (Some(signed), Some(issuer)) => signed.subject().has_octets_of(issuer),
+        (None, Some(_)) => false,
+    }
+}
+
+// Adds what the anchor at an octet says and isn't judged, if it is of an issuer that is asked for.
+fn add_of(lines: &mut Lines, anchor: &TrustAnchorChoice<Raw>, offset: u64, issuer: Option<&Name>) {
+    let certified = certified_of(anchor);
+    if is_of(certified, issuer) {
+        begin_anchor(lines, offset);
+        if let Some(signed) = certified {
+            add_certified(lines, signed);
+        }
+        lines.close();
+    }
+}
+
+// Adds what anchors say that isn't judged, one behind the other; where an issuer is asked for, of
+// those that have its name.
+pub(crate) fn add_unjudged(lines: &mut Lines, octets: &[u8], issuer: Option<&Name>) {
     let mut rest = octets;
     for _ in 0..octets.len() {
         if rest.is_empty() {
@@ -69,9 +89,7 @@ pub(crate) fn add_unjudged(lines: &mut Lines, octets: &[u8]) {
         let offset = octets.len().saturating_sub(rest.len());
         match from_der_partial::<TrustAnchorChoice<Raw>>(lines.alloc, rest) {
             Ok((anchor, behind)) => {
-                begin_anchor(lines, offset as u64);
-                add_of(lines, &anchor);
-                lines.close();
+                add_of(lines, &anchor, offset as u64, issuer);
                 rest = behind;
             }
             Err(error) => {
