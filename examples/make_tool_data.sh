@@ -514,7 +514,8 @@ signed_by("no_values.der", tlv(2, b"\0"), named(b"wanted"), KEY, tlv(0xA0, seq(o
 open("no_key.der", "wb").write(tlv(0xA2, seq(KEY, tlv(0x0C, b"title"), tlv(4, b"key"))))
 PY
 
-# streams of certificates that are described one by one: of more octets than one read takes, and of
-# which the third is malformed
+# streams of certificates that are described one by one: of more octets than one read takes, of one
+# certificate twice, and of which the third is malformed
 cat root.der server.der full.der rest.der dsa.der below_zero.der old.der > stream.der
+cat server.der server.der > server_twice.der
 cat root.der server.der month.der > third.der

@@ -6,7 +6,6 @@ use Rattle.std.specs.List.{AllByRecursion}
 use Rattle.const_oid.specs.Bound.{Bound}
 use Rattle.cert_desk_io.specs.declared.exit_status.ExitStatus.{ExitStatus}
 use Rattle.cert_desk_io.specs.Devices.{Device, Moved, MetEnd, Sound, Untouched, IsWritten, IsCut}
-use Rattle.cert_desk_io.specs.Telling.{IsMemoryTold}
 use Rattle.cert_desk_checking.specs.declared.bundle_error.BundleError.TheVariants as errors
 use Rattle.cert_desk_checking.specs.declared.bundle_error.ReadError.{ReadError}
 use Rattle.cert_desk_checking.specs.declared.bundle_error.ReadError.TheVariants as reads
@@ -26,24 +25,24 @@ use Rattle.cert_tool_runs.specs.Stops.{unasked}
 
 -- Blocks
 
--- where a certificate stands, behind an empty line if it isn't the first
-abbrev pub head_line : ℕ → ℕ → List ℕ
-head_line place octet =
+-- What stands in front of the description of a certificate: its place, and the octet of the stream
+-- where it begins; as lines, behind an empty line where it isn't the first; as members of JSON.
+abbrev pub block_head : Bool → ℕ → ℕ → List ℕ
+block_head false place octet =
     (if place == 0 then [] else codes "\n")
     ++ codes "certificate " ++ decimal place ++ codes " (octet " ++ decimal octet ++ codes "):\n"
-
--- members of an object of JSON that say so
-abbrev pub head_members : ℕ → ℕ → List ℕ
-head_members place octet =
+block_head true place octet =
     codes "{\"place\":" ++ decimal place ++ codes ",\"offset\":" ++ decimal octet
     ++ codes ",\"certificate\":"
 
--- What is written of a certificate at a place that begins at an octet of the stream: where it is,
--- and what describes it, as lines or as a line of JSON.
+abbrev pub block_end : Bool → List ℕ
+block_end false = []
+block_end true = codes "}\n"
+
+-- what is written of a certificate
 abbrev pub IsBlock : Bool → ℕ → ℕ → List ℕ → Type 0
-IsBlock false place octet text = (described : List ℕ) × (text ≡ head_line place octet ++ described)
-IsBlock true place octet text =
-    (described : List ℕ) × (text ≡ head_members place octet ++ described ++ codes "}\n")
+IsBlock json place octet text =
+    (described : List ℕ) × (text ≡ block_head json place octet ++ described ++ block_end json)
 
 -- This is written of the first so many certificates, in turn, of which the first one stands at a
 -- place and begins at an octet of the stream.
@@ -117,12 +116,11 @@ IsEachWritten json stream out limit ended =
     (octets : List ℕ) × (cs : List PlainCertificate) × (more : List ℕ) × Moved stream octets
     × Front limit octets cs more × IsEndedBy json stream out limit cs more ended
 
--- Behind counts of certificates, what ended that early is told; or there was no memory to begin.
+-- Behind counts of certificates, what ended that early is told.
 abbrev pub IsEachDescribed : Bool → Device → Device → Device → ℕ → ExitStatus → Type 0
 IsEachDescribed json stream out err limit answer =
-    ((ended : Option Outcome) × IsEachWritten json stream out limit ended
-    × ((counted : err.State) × IsEndTold (record err { old = counted }) ended answer))
-    ⊎ (Untouched out × IsMemoryTold err answer)
+    (ended : Option Outcome) × IsEachWritten json stream out limit ended × (counted : err.State)
+    × IsEndTold (record err { old = counted }) ended answer
 
 -- Steps
 

@@ -1,6 +1,6 @@
 -- What becomes of a task.
 use Rattle.std.specs.Prelude.{◌≡◌, ℕ, ◌⊎◌, List, Option, Some, None, Result, Ok, Err, IsTrue, Bool}
-use Rattle.std.specs.Prelude.{bytes_eq, codes, ◌||◌, false}
+use Rattle.std.specs.Prelude.{bytes_eq, codes, ◌||◌}
 use Rattle.cert_desk_io.specs.declared.exit_status.ExitStatus.{ExitStatus}
 use Rattle.cert_desk_io.specs.declared.exit_status.ExitStatus.TheVariants as statuses
 use Rattle.cert_desk_io.specs.Devices.{Device, Untouched}
@@ -83,7 +83,7 @@ IsTurned i out err task answer =
 abbrev pub IsToldOfEach : Inputs → Device → Device → Task → ExitStatus → Type 0
 IsToldOfEach i out err task answer =
     OfOpened i task.file.now (λ stream. Begins err (λ told.
-    IsEachDescribed false stream out told task.limit answer))
+    IsEachDescribed task.json stream out told task.limit answer))
 
 -- a file isn't opened, or the clock not read
 abbrev pub IsStopped : Device → ExitStatus → Type 0

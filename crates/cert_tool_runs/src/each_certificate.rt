@@ -1,23 +1,21 @@
 //! Descriptions of the certificates of a stream, one by one.
 
-ghost use Rattle.std.specs.Prelude.{◌≡◌, ◌+◌, ◌<◌, ◌≤◌, ◌^◌, [], ◌++◌, length, None, Some, false};
+ghost use Rattle.std.specs.Prelude.{◌≡◌, ◌+◌, ◌<◌, ◌≤◌, ◌^◌, [], ◌++◌, length, None, Some};
 ghost use Rattle.std.specs.Prelude.{IfOk, IfErr, IfSome, OnOk, string_bytes};
 ghost use Rattle.const_oid.specs.Bound.{Bound};
 ghost use Rattle.cert_desk_io.specs.Devices.{sink, source};
 ghost use Rattle.cert_desk_checking.specs.Chains.{joined};
-ghost use Rattle.cert_tool_runs.specs.EachDescribed.{IsBlock, AreBlocks, AreBlocksOn, IsUnwritten};
+ghost use Rattle.cert_tool_runs.specs.EachDescribed.{block_head, IsBlock, AreBlocks, AreBlocksOn};
 ghost use Rattle.cert_tool_runs.specs.EachDescribed.{IsAhead, IsNext, IsEachWritten, stop_by};
-ghost use Rattle.cert_tool_runs.specs.EachDescribed.{IsEachDescribed};
+ghost use Rattle.cert_tool_runs.specs.EachDescribed.{IsEachDescribed, IsUnwritten};
 ghost use Rattle.cert_tool_runs.specs.Stops.{unasked};
 
 use crate::description::add_certificate;
-use crate::identifiers::{entries_of, known_identifiers};
 use crate::lines::Lines;
 use crate::stopping::tell_stop;
 use crate::telling::tell;
 use cert_desk_checking::{Bundle, BundleError, Checked, FaultKind, Outcome, ReadError, Verdict};
-use cert_desk_io::{ExitStatus, Input, Output, tell_memory, write_all};
-use const_oid::{Database, ObjectIdentifier};
+use cert_desk_io::{ExitStatus, Input, Output, write_all};
 use std::alloc::{AllocError, Global};
 
 // The certificates of a stream that were described: how many, and how many octets they have.
@@ -74,53 +72,73 @@ fn told(verdict: Verdict) -> Outcome
     Outcome::Checked(Checked { verdict, calls: 0 })
 }
 
-// How certificates are described: identifiers have these names, and a line on the error output
-// counts the certificates, if it is watched.
+// How certificates are described: as lines or as lines of JSON; and whether a line on the error
+// output counts them.
 #[derive(Drop)]
-struct Form<'a> {
+struct Form {
     alloc: Global,
-    names: &'a [(&'a ObjectIdentifier<39>, &'a str)],
+    is_json: bool,
     is_watched: bool,
 }
 
 // After how many certificates that line is told again.
 const STEP: usize = 1000;
 
-impl Form<'_> {
-    // What describes a certificate of these octets.
-    fn described(&self, octets: &[u8]) -> Result<String, AllocError> {
-        let mut lines = Lines::new(self.alloc, Database::new(self.names));
+impl Form {
+    // What describes a certificate of these octets; as JSON, without the end of its line.
+    fn described(&self, octets: &[u8]) -> Result<Vec<u8>, AllocError> {
+        let mut lines = Lines::new(self.alloc, self.is_json);
         if add_certificate(&mut lines, octets).is_some() {
             lines.fail();
         }
-        lines.finish()
+        let mut text = lines.finish()?;
+        if self.is_json {
+            let _ = text.pop();
+        }
+        Ok(text)
+    }
+
+    // What stands in front of that: the place of a certificate, and where in the stream it begins.
+    fn head(&self, place: usize, octet: u64) -> Result<String, AllocError>
+        ensures { IfOk result (λ text. string_bytes text
+            ≡ block_head self.now.is_json place octet) }
+    {
+        if self.is_json {
+            return format!(in self.alloc;
+                "{{\"place\":{place},\"offset\":{octet},\"certificate\":"
+            );
+        }
+        let between = if place == 0 { "" } else { "\n" };
+        format!(in self.alloc; "{between}certificate {place} (octet {octet}):\n")
     }
 
     // What is written of the certificate at a place, which begins at an octet of the stream.
-    fn block(&self, place: usize, octet: u64, octets: &[u8]) -> Result<String, AllocError>
-        ensures { IfOk result (λ text. IsBlock false place octet (string_bytes text)) }
+    fn block(&self, place: usize, octet: u64, octets: &[u8]) -> Result<Vec<u8>, AllocError>
+        ensures { IfOk result (λ text. IsBlock self.now.is_json place octet text.items) }
     {
         let described = self.described(octets)?;
-        let between = if place == 0 { "" } else { "\n" };
-        let mut text = format!(in self.alloc; "{between}certificate {place} (octet {octet}):\n")?;
-        text.push_str(described.as_str())?;
+        let mut text = self.head(place, octet)?.into_bytes();
+        text.extend_from_slice(&described)?;
+        if self.is_json {
+            text.extend_from_slice(b"}\n")?;
+        }
         Ok(text)
     }
 
     // What is written of the certificates of a bundle, in front of which these stand.
     #[tactic(auto, using(crate::proofs::StreamPieces::offset_within))]
-    fn blocks(&self, bundle: &Bundle, passed: Passed) -> Result<String, AllocError>
+    fn blocks(&self, bundle: &Bundle, passed: Passed) -> Result<Vec<u8>, AllocError>
         requires count { passed.count + length bundle.now.certificates < 2 ^ 64 }
         requires octets { passed.octets + length (joined Bound bundle.now.certificates) < 2 ^ 64 }
-        ensures { IfOk result (λ text. AreBlocks false passed.count passed.octets
-            bundle.now.certificates (length bundle.now.certificates) (string_bytes text)) }
+        ensures { IfOk result (λ text. AreBlocks self.now.is_json passed.count passed.octets
+            bundle.now.certificates (length bundle.now.certificates) text.items) }
     {
-        let mut text = String::new(self.alloc);
+        let mut text = Vec::new(self.alloc);
         for number in 0..bundle.len() {
             let entry = bundle.get(number).unwrap();
             let (place, octet) = (passed.count + number, passed.octets + entry.offset);
             let block = self.block(place, octet, entry.octets)?;
-            text.push_str(block.as_str())?;
+            text.extend_from_slice(&block)?;
         }
         Ok(text)
     }
@@ -228,7 +246,7 @@ fn outcome_of(error: ReadError, passed: Passed) -> Outcome
 // Writes what is written of the certificates of a bundle, in front of which these stand, and
 // answers which stand in front of the next.
 fn write_blocks<O: Output>(
-    form: &Form<'_>,
+    form: &Form,
     bundle: &Bundle,
     passed: Passed,
     out: &mut O,
@@ -237,9 +255,9 @@ fn write_blocks<O: Output>(
         next.count ≡ passed.count + length bundle.now.certificates) }
     ensures octets { IfOk result (λ next.
         next.octets ≡ passed.octets + length (joined Bound bundle.now.certificates)) }
-    ensures written { OnOk result (AreBlocksOn false passed.count passed.octets
+    ensures written { OnOk result (AreBlocksOn form.now.is_json passed.count passed.octets
         (sink O.gives O.failures out.old out.new) bundle.now.certificates) }
-    ensures stopped { IfErr result (IsUnwritten false passed.count passed.octets
+    ensures stopped { IfErr result (IsUnwritten form.now.is_json passed.count passed.octets
         (sink O.gives O.failures out.old out.new) bundle.now.certificates) }
 {
     // More than can be counted have no room.
@@ -249,7 +267,7 @@ fn write_blocks<O: Output>(
     let Ok(text) = form.blocks(bundle, passed) else {
         return Err(Outcome::OutOfMemory);
     };
-    if write_all(out, text.as_bytes()).is_err() {
+    if write_all(out, &text).is_err() {
         return Err(Outcome::Device);
     }
     Ok(next)
@@ -258,14 +276,14 @@ fn write_blocks<O: Output>(
 // Writes what each certificate of a stream says, in turn, and forgets it. Answers what ended the
 // stream early, if something did.
 fn write_each<S: Input, O: Output, E: Output>(
-    form: &Form<'_>,
+    form: &Form,
     stream: &mut S,
     out: &mut O,
     err: &mut E,
     limit: u32,
 ) -> Option<Outcome>
     requires { 6 ≤ limit }
-    ensures { IsEachWritten false (source S.takes S.is_ended S.failures stream.old stream.new)
+    ensures { IsEachWritten form.now.is_json (source S.takes S.is_ended S.failures stream.old stream.new)
         (sink O.gives O.failures out.old out.new) limit result }
 {
     let mut passed = Passed {
@@ -301,22 +319,17 @@ pub(crate) fn run_describe<S: Input, O: Output, E: Output>(
     out: &mut O,
     err: &mut E,
     limit: u32,
+    is_json: bool,
     is_watched: bool,
 ) -> ExitStatus
     requires { 6 ≤ limit }
-    ensures { IsEachDescribed false (source S.takes S.is_ended S.failures stream.old stream.new)
+    ensures { IsEachDescribed is_json (source S.takes S.is_ended S.failures stream.old stream.new)
         (sink O.gives O.failures out.old out.new) (sink E.gives E.failures err.old err.new)
         limit result }
 {
-    let Ok(identifiers) = known_identifiers(alloc) else {
-        return tell_memory(err);
-    };
-    let Ok(names) = entries_of(alloc, identifiers.as_slice()) else {
-        return tell_memory(err);
-    };
     let form = Form {
         alloc,
-        names: names.as_slice(),
+        is_json,
         is_watched,
     };
     let ended = write_each(&form, stream, out, err, limit);

@@ -118,7 +118,15 @@ pub(crate) fn describe_each<I: Input + Drop, F: NamedInputs<I>, O: Output, E: Ou
         Ok(stream) => stream,
         Err(status) => return status,
     };
-    let status = run_describe(alloc, &mut stream, out, err, task.limit, is_watched);
+    let status = run_describe(
+        alloc,
+        &mut stream,
+        out,
+        err,
+        task.limit,
+        task.json,
+        is_watched,
+    );
     tell_behind(alloc, files, &stream, task, status, err);
     status
 }

@@ -1,4 +1,4 @@
-use Rattle.std.proofs.Common.{false, inl, subst}
+use Rattle.std.proofs.Common.{inl, subst}
 use Rattle.cert_desk_io.specs.Devices.{sink, source}
 use Rattle.cert_tool_runs.specs.EachDescribed.{IsEachDescribed}
 use Rattle.cert_tool_runs.proofs.streams.describe_each.Goals as goal
@@ -14,7 +14,7 @@ returns g c =
         c.in-Ok.ensures.opened,
         (
           c.run_describe-status.new.err,
-          subst (λ before. IsEachDescribed false stream out (sink g.E.Output.gives g.E.Output.failures before c.run_describe-status.new.err) c.args.task.now.limit c.run_describe-status.result) c.in-Ok.ensures.untold
+          subst (λ before. IsEachDescribed c.args.task.now.json stream out (sink g.E.Output.gives g.E.Output.failures before c.run_describe-status.new.err) c.args.task.now.limit c.run_describe-status.result) c.in-Ok.ensures.untold
               c.run_describe-status.ensures,
         ),
       );
