@@ -7,7 +7,7 @@ use std::alloc::{AllocError, Global};
 // What may stand behind a word that is no command by itself.
 fn kinds_of(word: &str) -> Option<&'static str> {
     match word {
-        "describe" => Some("certificate, list or request"),
+        "describe" => Some("certificate, list, request or stream"),
         "explain" => Some("certificate, list, request, anchors, stream or chain"),
         _ => None,
     }
