@@ -12,7 +12,7 @@ const USAGE: &str = "usage: cert_tool COMMAND OPTIONS FILE, where COMMAND is one
   explain anchors     why anchors are refused, and what isn't judged of them
   explain KIND        why octets are refused, and where, and what RFC 5280 says beyond that
   describe KIND       what a file says
-  describe stream     what each certificate of a stream says
+  describe stream     what each certificate of a stream of any length says
   split               where certificates stand, or one
   reverse             certificates in the other order
 cert_tool COMMAND --help tells more of a command, cert_tool --version which program this is.
@@ -55,8 +55,8 @@ the certificate first that an anchor signed.
 // What is said of `describe`.
 const DESCRIBE: &str = "usage: cert_tool describe KIND [--json] FILE
        cert_tool describe stream [--limit OCTETS] [--json] STREAM
-Writes what FILE says, a line for each part; of STREAM, what each certificate says, behind its place
-and the octet where it begins, in the memory of one, or with --json in a line each.
+Writes what FILE says, a line for each part, or what each certificate of STREAM says, one after the
+other, as it is read; with --json a document a line.
 KIND       certificate, list (of revoked certificates) or request
 ";
 
