@@ -10,7 +10,7 @@ use cert_desk_checking::types::policies::{
     PolicyQualifierInfo,
 };
 use const_oid::ObjectIdentifier;
-use der_core::Tag;
+use der_core::{ErrorKind, Tag};
 
 // Adds the lines of the numbers of notices.
 fn add_numbers(lines: &mut Lines, numbers: &Any) {
@@ -44,38 +44,52 @@ fn add_reference_part(lines: &mut Lines, part: &Any) {
     }
 }
 
+// Adds that the parts of a notice, or of a reference to some, can't be read.
+fn add_no_parts(lines: &mut Lines, kind: ErrorKind) {
+    lines.comma();
+    lines.brace();
+    lines.malformed("malformed", kind);
+    lines.end_brace();
+}
+
+// Adds the lines of the parts of a reference to notices.
+fn add_reference(lines: &mut Lines, whole: &Any) {
+    match values_in(lines.alloc, whole) {
+        Ok(parts) => {
+            for part in &parts {
+                lines.comma();
+                lines.brace();
+                add_reference_part(lines, part);
+                lines.end_brace();
+            }
+        }
+        Err(error) => add_no_parts(lines, error.kind),
+    }
+}
+
 // Adds the lines of a part of a notice: where its text is found, or that text.
 fn add_notice_part(lines: &mut Lines, part: &Any) {
     if part.tag() == Tag::Sequence {
         lines.list("noticeRef");
-        add_parts(lines, part, false);
+        add_reference(lines, part);
         lines.end_list();
     } else {
         add_notice_text(lines, "text", "explicitText", part);
     }
 }
 
-// Adds the lines of the parts of a notice, or of a reference to some.
-fn add_parts(lines: &mut Lines, whole: &Any, is_notice: bool) {
+// Adds the lines of the parts of a notice.
+fn add_notice(lines: &mut Lines, whole: &Any) {
     match values_in(lines.alloc, whole) {
         Ok(parts) => {
             for part in &parts {
                 lines.comma();
                 lines.brace();
-                if is_notice {
-                    add_notice_part(lines, part);
-                } else {
-                    add_reference_part(lines, part);
-                }
+                add_notice_part(lines, part);
                 lines.end_brace();
             }
         }
-        Err(error) => {
-            lines.comma();
-            lines.brace();
-            lines.malformed("malformed", error.kind);
-            lines.end_brace();
-        }
+        Err(error) => add_no_parts(lines, error.kind),
     }
 }
 
@@ -86,7 +100,7 @@ fn add_qualifier(lines: &mut Lines, qualifier: &PolicyQualifierInfo) {
     if let Some(value) = &qualifier.qualifier {
         if value.tag() == Tag::Sequence {
             lines.list("notice");
-            add_parts(lines, value, true);
+            add_notice(lines, value);
             lines.end_list();
         } else {
             add_value(lines, value);
