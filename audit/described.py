@@ -405,6 +405,7 @@ def content_lines(content, encoded):
             yield f"  key {octets(content.digest)}"
         case x509.KeyUsage() if is_padded(encoded):
             yield "  malformed"
+            yield f"  octets {octets(encoded)}"
         case x509.KeyUsage():
             for field, word in USES.items():
                 if getattr(content, f"_{field}"):

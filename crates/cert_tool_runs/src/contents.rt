@@ -1,7 +1,7 @@
 //! The contents of extensions, each by its identifier.
 
 use crate::describe::Describe;
-use crate::general_names::add_names_in;
+use crate::general_names::{add_general_names, names_in};
 use crate::lines::Lines;
 use cert_desk_checking::certificates::{Extension, GeneralizedTime, OctetString, Uint};
 use cert_desk_checking::types::general_names::{
@@ -20,7 +20,19 @@ use cert_desk_checking::types::{
 };
 use const_oid::ObjectIdentifier;
 use der_core::making::leaf_from_der;
-use der_core::{DecodeValue, FixedTag, Leaf, SliceReader, from_der};
+use der_core::{DecodeValue, ErrorKind, FixedTag, Leaf, SliceReader, from_der};
+
+// Adds the line of a content of no kind that is known.
+fn add_octets(lines: &mut Lines, octets: &[u8]) {
+    lines.row("octets", "octets");
+    lines.octets(octets);
+}
+
+// Adds that a content isn't what it should be, and its octets.
+fn add_malformed(lines: &mut Lines, octets: &[u8], kind: ErrorKind) {
+    lines.malformed("malformed", kind);
+    add_octets(lines, octets);
+}
 
 // Adds the lines of a content that is one leaf, or that it isn't one.
 fn add_leaf<'a, T: Leaf<'a> + FixedTag, C: From<T> + Describe + Drop>(
@@ -29,7 +41,7 @@ fn add_leaf<'a, T: Leaf<'a> + FixedTag, C: From<T> + Describe + Drop>(
 ) {
     match leaf_from_der::<T>(lines.alloc, octets) {
         Ok(leaf) => C::from(leaf).describe(lines),
-        Err(error) => lines.malformed("malformed", error.kind),
+        Err(error) => add_malformed(lines, octets, error.kind),
     }
 }
 
@@ -41,7 +53,7 @@ where
 {
     match from_der::<Vec<T>>(lines.alloc, octets) {
         Ok(list) => C::from(list).describe(lines),
-        Err(error) => lines.malformed("malformed", error.kind),
+        Err(error) => add_malformed(lines, octets, error.kind),
     }
 }
 
@@ -52,14 +64,16 @@ fn add_record<'a, T: DecodeValue<'a, SliceReader<'a>> + FixedTag + Describe>(
 ) {
     match from_der::<T>(lines.alloc, octets) {
         Ok(record) => record.describe(lines),
-        Err(error) => lines.malformed("malformed", error.kind),
+        Err(error) => add_malformed(lines, octets, error.kind),
     }
 }
 
-// Adds the line of a content of no kind that is known.
-fn add_octets(lines: &mut Lines, octets: &[u8]) {
-    lines.row("octets", "octets");
-    lines.octets(octets);
+// Adds a line for each name that octets list, or that they don't list any.
+fn add_names_in(lines: &mut Lines, octets: &[u8]) {
+    match names_in(lines.alloc, octets) {
+        Ok(listed) => add_general_names(lines, "", "names", listed.as_slice()),
+        Err(error) => add_malformed(lines, octets, error.kind),
+    }
 }
 
 // Adds the lines of a content, by the last arc of its identifier below 2.5.29 (RFC 5280 4.2.1, 5.2,

@@ -136,11 +136,3 @@ pub(crate) fn add_general_names(lines: &mut Lines, word: &str, key: &str, listed
 pub(crate) fn names_in(alloc: Global, octets: &[u8]) -> Result<Vec<GeneralName>, Error> {
     from_der(alloc, octets)
 }
-
-// Adds a line for each name that octets list, or that they don't list any.
-pub(crate) fn add_names_in(lines: &mut Lines, octets: &[u8]) {
-    match names_in(lines.alloc, octets) {
-        Ok(listed) => add_general_names(lines, "", "names", listed.as_slice()),
-        Err(error) => lines.malformed("malformed", error.kind),
-    }
-}
