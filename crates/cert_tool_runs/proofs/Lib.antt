@@ -1,4 +1,5 @@
 pub mod AnswerFile
+pub mod WordsOfLine
 pub mod SplitLaws
 pub mod LineWords
 pub mod KeptLines

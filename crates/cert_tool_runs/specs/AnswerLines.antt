@@ -73,12 +73,17 @@ is_number (first ∷ rest) = list_all is_digit (first ∷ rest)
 abbrev pub is_anchor : List ℕ → Bool
 is_anchor text = is_number text || bytes_eq text (codes "-")
 
--- the question that the words of a line say, or the first fault
-abbrev pub words_say : List (List ℕ) → Result Question LineFault
-words_say (place ∷ anchor ∷ key ∷ algorithm ∷ signed ∷ bits ∷ []) =
+-- the question that six words say, or the first fault
+abbrev pub six_say : List ℕ → List ℕ → List ℕ → List ℕ → List ℕ → List ℕ
+    → Result Question LineFault
+six_say place anchor key algorithm signed bits =
     if is_number place
     then (if is_anchor anchor then question_in key algorithm signed bits else Err faults.NoAnchor)
     else Err faults.NoPlace
+
+abbrev pub words_say : List (List ℕ) → Result Question LineFault
+words_say (place ∷ anchor ∷ key ∷ algorithm ∷ signed ∷ bits ∷ []) =
+    six_say place anchor key algorithm signed bits
 words_say _ = Err faults.NotSixWords
 
 -- what stands between separators

@@ -38,7 +38,7 @@ wrong_line number fault =
     codes "answers: line " ++ decimal number ++ codes ": " ++ line_fault_text fault ++ codes "\n"
 
 abbrev pub too_much_line : List ℕ
-too_much_line = codes "answers: more than 4294967295 octets\n"
+too_much_line = codes "answers: 2^32 octets or more\n"
 
 -- What is told where there are no answers, and the status.
 abbrev pub IsNoneTold : Device → NoAnswers → ExitStatus → Type 0

@@ -7,7 +7,7 @@ ghost use Rattle.cert_desk_checking.specs.Answers.{answer_plain};
 ghost use Rattle.cert_tool_runs.specs.AnswerLines.{algorithm_in, bits_in, file_says, is_anchor};
 ghost use Rattle.cert_tool_runs.specs.AnswerLines.{is_digit, is_number, is_skipped, key_in};
 ghost use Rattle.cert_tool_runs.specs.AnswerLines.{line_says, octets_in, parts, question_in};
-ghost use Rattle.cert_tool_runs.specs.AnswerLines.{value_or, words_say};
+ghost use Rattle.cert_tool_runs.specs.AnswerLines.{six_say, value_or, words_say};
 ghost use Rattle.cert_tool_runs.specs.AnswerReading.{FailsBy, IsNoFile, IsNoLine, added_by};
 
 use crate::line_fault::LineFault;
@@ -161,6 +161,31 @@ fn is_skipped(line: &[u8]) -> bool
     }
 }
 
+// The answer that six words say.
+fn said_by_six(
+    alloc: Global,
+    place: &[u8],
+    anchor: &[u8],
+    key: &[u8],
+    algorithm: &[u8],
+    signed: &[u8],
+    bits: &[u8],
+) -> Result<Answer, LineError>
+    ensures read { IfOk result (λ answer. six_say place.now anchor.now key.now algorithm.now
+        signed.now bits.now ≡ Ok (answer_plain answer)) }
+    ensures refused { IfErr result (FailsBy (six_say place.now anchor.now key.now algorithm.now
+        signed.now bits.now)) }
+{
+    if !is_number(place) {
+        return Err(LineError::Fault(LineFault::NoPlace));
+    }
+    if !is_anchor(anchor) {
+        return Err(LineError::Fault(LineFault::NoAnchor));
+    }
+    let answer = answer_of(alloc, key, algorithm, signed, bits)?;
+    Ok(answer)
+}
+
 // The answer that the words of a line say.
 fn said_by_words(alloc: Global, words: &[&[u8]]) -> Result<Answer, LineError>
     ensures read { IfOk result (λ answer. words_say (map (λ word. word.now) words.now)
@@ -170,13 +195,7 @@ fn said_by_words(alloc: Global, words: &[&[u8]]) -> Result<Answer, LineError>
     let [place, anchor, key, algorithm, signed, bits] = words else {
         return Err(LineError::Fault(LineFault::NotSixWords));
     };
-    if !is_number(place) {
-        return Err(LineError::Fault(LineFault::NoPlace));
-    }
-    if !is_anchor(anchor) {
-        return Err(LineError::Fault(LineFault::NoAnchor));
-    }
-    let answer = answer_of(alloc, key, algorithm, signed, bits)?;
+    let answer = said_by_six(alloc, place, anchor, key, algorithm, signed, bits)?;
     Ok(answer)
 }
 

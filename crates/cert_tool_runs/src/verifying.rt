@@ -44,10 +44,8 @@ pub fn read_answers<N: Input>(alloc: Global, answers: &mut N) -> Result<Vec<Answ
         Err(ReadAllError::Device) => return Err(NoAnswers::Device),
         Err(ReadAllError::OutOfMemory) => return Err(NoAnswers::OutOfMemory),
     };
-    match answers_in(alloc, octets.as_slice()) {
-        Ok(answers) => Ok(answers),
-        Err(none) => Err(none),
-    }
+    let answers = answers_in(alloc, octets.as_slice())?;
+    Ok(answers)
 }
 
 // What is said of a file whose line of this number has this fault.
@@ -68,7 +66,7 @@ pub fn tell_none<E: Output>(alloc: Global, none: NoAnswers, err: &mut E) -> Exit
         },
         NoAnswers::TooMuch => complain(
             err,
-            b"answers: more than 4294967295 octets\n",
+            b"answers: 2^32 octets or more\n",
             ExitStatus::Arguments,
         ),
         NoAnswers::Device => tell_device(err),
@@ -174,10 +172,7 @@ pub fn run_verify<N: Input, A: Input, S: Input, O: Output, E: Output>(
     ensures untouched { OnErr result ((anchors.new ≡ anchors.old) × (stream.new ≡ stream.old)
         × (out.new ≡ out.old) × (err.new ≡ err.old)) }
 {
-    let answers = match read_answers(alloc, answers) {
-        Ok(answers) => answers,
-        Err(none) => return Err(none),
-    };
+    let answers = read_answers(alloc, answers)?;
     let mut judge = AnswersJudge::new(answers);
     let outcome = find_outcome(alloc, anchors, stream, moment, purpose, limit, &mut judge);
     Ok(tell_outcome(alloc, outcome, json, out, err))

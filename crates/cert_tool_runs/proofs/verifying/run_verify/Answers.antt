@@ -4,11 +4,11 @@ use Rattle.cert_tool_runs.proofs.verifying.run_verify.Goals as goal
 
 pub returns-clause-judged : goal.returns-clause-judged
 returns-clause-judged g c = (
-  map answer_plain c.in-Ok.answers.items,
+  map answer_plain c.in_ok-answers.answers.items,
   c.new-judge.result,
   c.find_outcome-outcome.new.judge,
   c.find_outcome-outcome.result,
-  c.in-Ok.ensures.read,
+  c.in_ok-answers.ensures.read,
   c.new-judge.ensures.answers,
   c.new-judge.ensures.questions,
   c.find_outcome-outcome.ensures.found,

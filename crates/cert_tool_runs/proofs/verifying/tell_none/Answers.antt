@@ -11,3 +11,8 @@ returns-in-Ok g c =
     let text = c.as_bytes.ensures.value ∙ c.in-Ok.ensures in
     let told = subst (λ w. IsComplaint err w statuses.Arguments c.complain.result) text c.complain.ensures.told in
     subst (λ none. IsNoneTold err none c.complain.result) (sym c.in-Line.is) (inl told)
+
+pub returns-in-TooMuch : goal.returns-in-TooMuch
+returns-in-TooMuch g c =
+    let err = sink g.E.Output.gives g.E.Output.failures c.args.err.now c.complain-in-TooMuch.new.err in
+    subst (λ none. IsNoneTold err none c.complain-in-TooMuch.result) (sym c.in-TooMuch.is) c.complain-in-TooMuch.ensures.told
