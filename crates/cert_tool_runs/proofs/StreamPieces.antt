@@ -50,6 +50,32 @@ front_ended b octets e reads =
 front-limit : (limit other : ℕ) (octets more : List ℕ) (cs : List PlainCertificate) → limit ≡ other → Front limit octets cs more → Front other octets cs more
 front-limit limit other octets more cs e f = subst (λ (n : ℕ). Front n octets cs more) e f
 
+-- Octets behind certificates
+
+drop_front : {A : Type 0} (xs ys : List A) (m : ℕ) → m ≡ length xs → drop m (xs ++ ys) ≡ ys
+drop_front [] ys m e =
+    let none : m ≡ 0 = omega (arith, e) in ap (λ (k : ℕ). drop k ys) none
+drop_front (x ∷ xs) ys zero e = absurd (omega (arith, e))
+drop_front (x ∷ xs) ys (suc k) e = drop_front xs ys k (omega (arith, e))
+
+pub rest_within : (b : Kept) (octets : List ℕ) → IsAhead b octets → length b.rest ≤ length octets
+rest_within b octets ahead =
+    let split = open_split Bound b octets ahead.is_open ahead.reads in omega (arith, ap length split.whole, length-append (joined Bound b.certificates) b.rest)
+
+pub behind_all : (b : Kept) (octets : List ℕ) (n : ℕ) → IsAhead b octets → n + length b.rest ≡ length octets → octets ≡ joined Bound b.certificates ++ drop n octets
+behind_all b octets n ahead e =
+    let split = open_split Bound b octets ahead.is_open ahead.reads in
+    let front : n ≡ length (joined Bound b.certificates) = omega (arith, e, ap length split.whole, length-append (joined Bound b.certificates) b.rest) in
+    let left : drop n octets ≡ b.rest = ap (λ (x : List ℕ). drop n x) split.whole ∙ drop_front (joined Bound b.certificates) b.rest n front in
+    split.whole ∙ ap (λ (x : List ℕ). joined Bound b.certificates ++ x) (sym left)
+
+pub behind_none : (cs : List PlainCertificate) (octets : List ℕ) → length cs ≡ 0 → octets ≡ joined Bound cs ++ octets
+behind_none [] octets e = refl
+behind_none (c ∷ cs) octets e = absurd (omega (arith, e))
+
+pub ahead_fed : (fresh new : Kept) (octets : List ℕ) → Reads Bound fresh [] → new.standing ≡ standings.Open → ReadsOn Bound fresh new octets → IsAhead new octets
+ahead_fed fresh new octets r opened on = record { is_open = opened; reads = on [] r }
+
 -- The next piece
 
 module _ {State : Type 0} (takes : State → List ℕ → State → Type 0) (is_ended : State → Type 0) (failures : State → ℕ) (from to : State) (old : Kept) (before after : List ℕ)
@@ -164,13 +190,16 @@ front-more limit octets behind piece cs f = record { each = f.each; whole = ap (
 
 -- Blocks, one behind the other
 
-take_behind : {A : Type 0} (xs ys : List A) (n : ℕ) → take (length xs + n) (xs ++ ys) ≡ xs ++ take n ys
-take_behind [] ys n = refl
-take_behind (x ∷ xs) ys n = ap (λ (zs : List A). x ∷ zs) (take_behind xs ys n)
+module _ {A : Type 0} where
+  take_behind : (xs ys : List A) (n m : ℕ) → m ≡ length xs + n → take m (xs ++ ys) ≡ xs ++ take n ys
+  take_behind [] ys n m e =
+      let same : m ≡ n = omega (arith, e) in ap (λ (k : ℕ). take k ys) same
+  take_behind (x ∷ xs) ys n zero e = absurd (omega (arith, e))
+  take_behind (x ∷ xs) ys n (suc k) e = ap (λ (zs : List A). x ∷ zs) (take_behind xs ys n k (omega (arith, e)))
 
 offset_behind : (cs ds : List PlainCertificate) (n : ℕ) → offset_at Bound (cs ++ ds) (length cs + n) ≡ length (joined Bound cs) + offset_at Bound ds n
 offset_behind cs ds n =
-    ap (λ (x : List PlainCertificate). length (joined Bound x)) (take_behind cs ds n)
+    ap (λ (x : List PlainCertificate). length (joined Bound x)) (take_behind cs ds n (length cs + n) refl)
     ∙ ap length (joined-append cs (take n ds))
     ∙ length-append (joined Bound cs) (joined Bound (take n ds))
 
@@ -236,7 +265,7 @@ module _ (json : Bool) {State : Type 0} (gives : State → List ℕ → State �
       let sent = cut.0 in
       let fails = cut.2 in
       let longer : length (before.0 ++ text) ≡ length before.0 + length text = length-append before.0 text in
-      let front : before.0 ++ take sent text ≡ take (length before.0 + sent) (before.0 ++ text) = sym (take_behind before.0 text sent) in
+      let front : before.0 ++ take sent text ≡ take (length before.0 + sent) (before.0 ++ text) = sym (take_behind before.0 text sent (length before.0 + sent) refl) in
       let joint : gives a (before.0 ++ take sent text) fails.before = in_turn a b fails.before before.0 (take sent text) before.2.0 fails.moved in
       inr (
         before.0 ++ text,
@@ -295,23 +324,17 @@ module _ (json : Bool) {S O : Type 0} (takes : S → List ℕ → S → Type 0) 
   module _ (from mid to : S) (first now last : O) (count offset : ℕ) (old new : Kept) (before after : List ℕ) (fed : Result Bool ReadError)
       (g : Going json (source takes is_ended fails from mid) (sink gives failures first now) limit count offset old before)
       (n : IsNext (source takes is_ended fails mid to) old new before after fed) where
-    abbrev all : List PlainCertificate
-    all = g.cs ++ new.certificates
-
-    abbrev octets : List ℕ
-    octets = g.octets ++ n.piece
-
-    taken : takes from octets to
+    taken : takes from (g.octets ++ n.piece) to
     taken = in_turn from mid to g.octets n.piece g.taken n.taken
 
-    ahead : Front limit octets g.cs (before ++ n.piece)
+    ahead : Front limit (g.octets ++ n.piece) g.cs (before ++ n.piece)
     ahead = front-more limit g.octets before n.piece g.cs g.front
 
     same_limit : new.limit ≡ limit
     same_limit = n.limit ∙ g.limit_is
 
-    whole : Front limit octets all n.more
-    whole = front-append limit octets (before ++ n.piece) n.more g.cs new.certificates ahead (front-limit old.limit limit (before ++ n.piece) n.more new.certificates g.limit_is n.front)
+    whole : Front limit (g.octets ++ n.piece) (g.cs ++ new.certificates) n.more
+    whole = front-append limit (g.octets ++ n.piece) (before ++ n.piece) n.more g.cs new.certificates ahead (front-limit old.limit limit (before ++ n.piece) n.more new.certificates g.limit_is n.front)
 
     -- the new certificates weren't written
     pub going_unwritten : (outcome : Outcome) → IsUnwritten json count offset (sink gives failures now last) new.certificates outcome
@@ -320,31 +343,31 @@ module _ (json : Bool) {S O : Type 0} (takes : S → List ℕ → S → Type 0) 
         let blocks : AreBlocks json (length g.cs) (length (joined Bound g.cs)) new.certificates (length new.certificates) unwritten.0 =
         subst (λ (o : ℕ). AreBlocks json (length g.cs) o new.certificates (length new.certificates) unwritten.0) g.offset_is
         (subst (λ (k : ℕ). AreBlocks json k offset new.certificates (length new.certificates) unwritten.0) g.count_is unwritten.1) in
-        (octets, all, n.more, taken, whole, cut_more json gives failures out_in_turn first now last g.cs new.certificates g.written unwritten.0 blocks unwritten.2)
+        ((g.octets ++ n.piece), (g.cs ++ new.certificates), n.more, taken, whole, cut_more json gives failures out_in_turn first now last g.cs new.certificates g.written unwritten.0 blocks unwritten.2)
     going_unwritten outcomes.OutOfMemory unwritten =
-        (octets, g.cs, before ++ n.piece, taken, ahead, subst (λ (o : O). AreWritten json (sink gives failures first o) g.cs) (sym unwritten) g.written)
+        ((g.octets ++ n.piece), g.cs, before ++ n.piece, taken, ahead, subst (λ (o : O). AreWritten json (sink gives failures first o) g.cs) (sym unwritten) g.written)
     going_unwritten (outcomes.Checked checked) unwritten = absurd unwritten
     going_unwritten (outcomes.BadAnchors place fault) unwritten = absurd unwritten
 
     -- the new certificates were written
     module _ (count2 offset2 : ℕ) (counted : count2 ≡ count + length new.certificates) (at : offset2 ≡ offset + length (joined Bound new.certificates))
         (on : AreBlocksOn json count offset (sink gives failures now last) new.certificates) where
-      count_is : count2 ≡ length all
+      count_is : count2 ≡ length (g.cs ++ new.certificates)
       count_is = omega (arith, counted, g.count_is, length-append g.cs new.certificates)
 
-      offset_is : offset2 ≡ length (joined Bound all)
+      offset_is : offset2 ≡ length (joined Bound (g.cs ++ new.certificates))
       offset_is = omega (arith, at, g.offset_is, ap length (joined-append g.cs new.certificates), length-append (joined Bound g.cs) (joined Bound new.certificates))
 
-      written : AreWritten json (sink gives failures first last) all
+      written : AreWritten json (sink gives failures first last) (g.cs ++ new.certificates)
       written =
           let blocks : AreBlocks json (length g.cs) (length (joined Bound g.cs)) new.certificates (length new.certificates) on.0 =
           subst (λ (o : ℕ). AreBlocks json (length g.cs) o new.certificates (length new.certificates) on.0) g.offset_is
           (subst (λ (k : ℕ). AreBlocks json k offset new.certificates (length new.certificates) on.0) g.count_is on.1) in
           written_more json gives failures out_in_turn first now last g.cs new.certificates g.written on.0 blocks on.2
 
-      ended : (end : Option Outcome) → IsEndedBy json (source takes is_ended fails from to) (sink gives failures first last) limit all n.more end
+      ended : (end : Option Outcome) → IsEndedBy json (source takes is_ended fails from to) (sink gives failures first last) limit (g.cs ++ new.certificates) n.more end
           → IsEachWritten json (source takes is_ended fails from to) (sink gives failures first last) limit end
-      ended end is = (octets, all, n.more, taken, whole, is)
+      ended end is = ((g.octets ++ n.piece), (g.cs ++ new.certificates), n.more, taken, whole, is)
 
       -- there was no memory for what is behind them
       pub going_unkept : IsEachWritten json (source takes is_ended fails from to) (sink gives failures first last) limit (Some outcomes.OutOfMemory)
@@ -366,9 +389,11 @@ module _ (json : Bool) {S O : Type 0} (takes : S → List ℕ → S → Type 0) 
       end_of : (k : ℕ) → count2 ≡ k → (end : Option Outcome) → (0 < count2 → end ≡ None) → (count2 ≡ 0 → end ≡ Some (unasked verdicts.Empty)) → n.more ≡ [] → is_ended to
           → fails to ≡ fails from → IsEachWritten json (source takes is_ended fails from to) (sink gives failures first last) limit end
       end_of zero e end some none rest met sound =
-          rw (none e) (ended (Some (unasked verdicts.Empty)) ((no_certificate all (sym count_is ∙ e), rest, met), refl, sound, written))
+          let none_is = ended (Some (unasked verdicts.Empty)) ((no_certificate (g.cs ++ new.certificates) (sym count_is ∙ e), rest, met), refl, sound, written) in
+          subst (λ (x : Option Outcome). IsEachWritten json (source takes is_ended fails from to) (sink gives failures first last) limit x) (sym (none e)) none_is
       end_of (suc k) e end some none rest met sound =
-          rw (some (omega (arith, e))) (ended None (rest, omega (arith, e, count_is), met, sound, written))
+          let some_are = ended None (rest, omega (arith, e, count_is), met, sound, written) in
+          subst (λ (x : Option Outcome). IsEachWritten json (source takes is_ended fails from to) (sink gives failures first last) limit x) (sym (some (omega (arith, e)))) some_are
 
       -- the stream ended
       pub going_ended : fed ≡ Ok false → (end : Option Outcome) → (0 < count2 → end ≡ None) → (count2 ≡ 0 → end ≡ Some (unasked verdicts.Empty))
@@ -389,11 +414,11 @@ module _ (json : Bool) {S O : Type 0} (takes : S → List ℕ → S → Type 0) 
             whole = sym how.0 ∙ rest;
           } in
           record {
-            octets = octets;
-            cs = all;
+            octets = (g.octets ++ n.piece);
+            cs = (g.cs ++ new.certificates);
             taken = taken;
             sound = how.2 ∙ g.sound;
-            front = front-append limit octets (before ++ n.piece) behind g.cs new.certificates ahead left;
+            front = front-append limit (g.octets ++ n.piece) (before ++ n.piece) behind g.cs new.certificates ahead left;
             count_is = count_is;
             offset_is = offset_is;
             written = written;
