@@ -94,6 +94,9 @@ fn stream_of<I: Input, E: Output>(
 {
     let bundle = read_stream(alloc, limit, input);
     match bundle.standing() {
+        Standing::Ended if bundle.is_empty() => {
+            Err(complain(err, b"the stream is empty\n", ExitStatus::Empty))
+        }
         Standing::Ended => Ok(bundle),
         standing => Err(tell_unread(err, standing)),
     }

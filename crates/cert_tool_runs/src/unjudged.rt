@@ -35,9 +35,6 @@ fn add_dates(lines: &mut Lines, validity: &Validity<Raw>) {
 
 // Adds what a certificate says that is an anchor, beyond its name and its key.
 fn add_certified(lines: &mut Lines, signed: &TbsCertificateInner<Raw>) {
-    lines.tail(", ");
-    lines.key("subject");
-    lines.name_value(signed.subject());
     lines.list("unjudged");
     add_dates(lines, signed.validity());
     if let Some(extensions) = signed.extensions() {
@@ -57,21 +54,40 @@ fn certified_of(anchor: &TrustAnchorChoice<Raw>) -> Option<&TbsCertificateInner<
     }
 }
 
-// Whether what is certified has the name of an issuer, if one is asked for.
-fn is_of(certified: Option<&TbsCertificateInner<Raw>>, issuer: Option<&Name>) -> bool {
-    match (certified, issuer) {
+// The name of an anchor, if it has one.
+fn name_of(anchor: &TrustAnchorChoice<Raw>) -> Option<&Name> {
+    match anchor {
+        TrustAnchorChoice::Certificate(certificate) => {
+            Some(certificate.tbs_certificate().subject())
+        }
+        TrustAnchorChoice::TbsCertificate(signed) => Some(signed.subject()),
+        TrustAnchorChoice::TaInfo(info) => match &info.cert_path {
+            Some(path) => Some(&path.ta_name),
+            None => None,
+        },
+    }
+}
+
+// Whether a name is that of an issuer, if one is asked for.
+fn is_of(name: Option<&Name>, issuer: Option<&Name>) -> bool {
+    match (name, issuer) {
         (_, None) => true,
-        (Some(signed), Some(issuer)) => signed.subject().has_octets_of(issuer),
+        (Some(name), Some(issuer)) => name.has_octets_of(issuer),
         (None, Some(_)) => false,
     }
 }
 
 // Adds what the anchor at an octet says and isn't judged, if it is of an issuer that is asked for.
 fn add_of(lines: &mut Lines, anchor: &TrustAnchorChoice<Raw>, offset: u64, issuer: Option<&Name>) {
-    let certified = certified_of(anchor);
-    if is_of(certified, issuer) {
+    let name = name_of(anchor);
+    if is_of(name, issuer) {
         begin_anchor(lines, offset);
-        if let Some(signed) = certified {
+        if let Some(name) = name {
+            lines.tail(", ");
+            lines.key("subject");
+            lines.name_value(name);
+        }
+        if let Some(signed) = certified_of(anchor) {
             add_certified(lines, signed);
         }
         lines.close();
