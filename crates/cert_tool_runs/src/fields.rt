@@ -71,9 +71,9 @@ impl Fields {
         let Some(rest) = self.parts.get(self.from..) else {
             return &[];
         };
-        let mut count = 0;
+        let mut count = 0usize;
         for part in rest {
-            count += 1;
+            count = count.saturating_add(1);
             let (_, is_optional, _, _) = *part;
             if !is_optional {
                 break;
@@ -88,7 +88,10 @@ impl Fields {
     // Whether one of them must stand here.
     pub(crate) fn is_wanting(&self) -> bool {
         match self.next() {
-            [.., (_, is_optional, _, _)] => !self.is_list && !*is_optional,
+            [.., last] => {
+                let (_, is_optional, _, _) = *last;
+                !self.is_list && !is_optional
+            }
             [] => false,
         }
     }

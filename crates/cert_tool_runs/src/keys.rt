@@ -101,8 +101,13 @@ fn add_coefficients(lines: &mut Lines, curve: &[Any]) {
 // Adds the lines of the values in a field, or of those in coefficients.
 fn add_inner(lines: &mut Lines, value: &Any, is_field: bool) {
     match values_in(lines.alloc, value) {
-        Ok(values) if is_field => add_field(lines, values.as_slice()),
-        Ok(values) => add_coefficients(lines, values.as_slice()),
+        Ok(values) => {
+            if is_field {
+                add_field(lines, values.as_slice());
+            } else {
+                add_coefficients(lines, values.as_slice());
+            }
+        }
         Err(error) => lines.malformed("malformedValue", error.kind),
     }
 }
