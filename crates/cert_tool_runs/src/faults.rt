@@ -111,15 +111,18 @@ fn add_wanted(lines: &mut Lines, wanted: &[Part]) {
 // Adds the names of a value in which a fault is to a text, behind another; answers whether it has
 // one.
 fn add_names(lines: &mut Lines, before: &str, step: &Step) -> bool {
-    let mut between = before;
-    for name in [step.taken.name, step.taken.choice] {
-        if !name.is_empty() {
-            lines.push(between);
-            lines.push(name);
-            between = ", ";
-        }
+    let name = step.taken.name;
+    let choice = step.taken.choice;
+    if name.is_empty() && choice.is_empty() {
+        return false;
     }
-    between != before
+    lines.push(before);
+    lines.push(name);
+    if !name.is_empty() && !choice.is_empty() {
+        lines.push(", ");
+    }
+    lines.push(choice);
+    true
 }
 
 // Adds a value in which a fault is, as a line.
@@ -245,10 +248,11 @@ pub(crate) fn add_fault(lines: &mut Lines, octets: &[u8], offset: u64, kind: Nod
 
 // Adds the names of the values in which a fault of a content is to a text.
 fn add_names_of_all(lines: &mut Lines, steps: &[Step]) {
-    let mut between = ", in ";
+    let mut is_first = true;
     for step in steps {
-        if add_names(lines, between, step) {
-            between = ", ";
+        let before = if is_first { ", in " } else { ", " };
+        if add_names(lines, before, step) {
+            is_first = false;
         }
     }
 }
