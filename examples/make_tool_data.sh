@@ -440,6 +440,8 @@ certificate("remarked_texts.der", extensions=[AKI], issuer=texts(
     ((*X520, 6), 0x13, b"US"), ((*X520, 10), 0x13, b"A z0 '()+,-./:=?"),
     ((*X520, 11), 0x0C, "ä".encode() * 64), ((*X520, 3), 0x0C, b"a" * 65),
     (EMAIL, 0x16, b"a" * 256), ((*X520, 7), 0x1E, b"\0a" * 128), ((*X520, 8), 0x1E, b"\0a" * 129)))
+# an anchor that is a key with a name (RFC 5914)
+open("key_anchor.der", "wb").write(tlv(0xA2, seq(KEY, tlv(4, b"key"), seq(named(b"above")))))
 def revoked(serial, date=tlv(0x17, b"260101000000Z"), extensions=None):
     return seq(tlv(2, serial), date, *([seq(*extensions)] if extensions is not None else []))
 def crl(name, *, version=1, issuer=named(b"above"), this=tlv(0x17, b"260101000000Z"),
