@@ -2,4 +2,3 @@ pub mod AnswerFile
 pub mod SplitLaws
 pub mod LineWords
 pub mod KeptLines
-pub mod StreamPieces
