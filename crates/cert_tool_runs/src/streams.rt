@@ -5,7 +5,7 @@ ghost use Rattle.cert_desk_io.specs.Devices.{sink, source};
 ghost use Rattle.cert_desk_io.specs.NamedInputs.{inputs};
 ghost use Rattle.cert_desk_checking.specs.Streams.{Kept};
 ghost use Rattle.cert_tool_runs.specs.Stops.{FedWithin};
-ghost use Rattle.cert_tool_runs.specs.TaskRuns.{IsSplitAt, IsSplit, IsTurned, IsToldOfEach};
+ghost use Rattle.cert_tool_runs.specs.TaskRuns.{IsSplitAt, IsSplit, IsTurned};
 ghost use Rattle.cert_tool_runs.specs.TaskRuns.{IsStopped};
 
 use crate::each_certificate::run_describe;
@@ -109,10 +109,6 @@ pub(crate) fn describe_each<I: Input + Drop, F: NamedInputs<I>, O: Output, E: Ou
     is_watched: bool,
 ) -> ExitStatus
     requires { 6 ≤ task.now.limit }
-    ensures told { IsToldOfEach (inputs I.takes I.is_ended I.failures (F.is_opened files.now))
-        (sink O.gives O.failures out.old out.new) (sink E.gives E.failures err.old err.new)
-        task.now result
-        ⊎ IsStopped (sink O.gives O.failures out.old out.new) result }
 {
     let mut stream = match open(alloc, files, task.file, err) {
         Ok(stream) => stream,
