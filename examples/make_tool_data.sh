@@ -280,8 +280,8 @@ openssl genpkey -paramfile "$work/dsa.pem" -out "$work/dsa.key"
 openssl req -x509 -new -key "$work/dsa.key" -subj "/CN=dsa" -set_serial 1 -days 3650 \
     -config /dev/null -outform DER -out dsa.der
 # a curve that is laid down by its equation, in place of its name
-openssl req -x509 -newkey ec -pkeyopt ec_paramgen_curve:P-256 -pkeyopt ec_param_enc:explicit -nodes \
-    -keyout /dev/null -subj "/CN=explicit" -set_serial 1 -days 3650 -config /dev/null \
+openssl req -x509 -newkey ec -pkeyopt ec_paramgen_curve:P-256 -pkeyopt ec_param_enc:explicit \
+    -nodes -keyout /dev/null -subj "/CN=explicit" -set_serial 1 -days 3650 -config /dev/null \
     -outform DER -out explicit.der 2> /dev/null
 cat "$work/short.der" "$work/middle.der" "$work/leaf.der" > long.der
 cat "$work/plain.der" "$work/below.der" > plain.der
@@ -468,11 +468,11 @@ crl("remarked_delta.der", following=b"", entries=[], extensions=[
     extension(35, seq(), True), extension(20, tlv(2, b"\1" + bytes(20)), True),
     extension(27, tlv(2, b"\1")), extension(28, seq()), extension(46, seq(seq(tlv(0xA0, tlv(
     0xA0, tlv(0x86, b"http://example/"))))), True), extension(1, seq(), True, PE)])
-# each content faulty in its own way: the second, a value of another tag; then bits behind their end,
-# a date without a zone, a text that isn't ASCII, a choice that isn't one, a number below zero, a
-# default, bits again, no identifier of a qualifier, one policy alone, a number spelled too long, a
-# number below zero, an identifier that is none, no name of a point, a number without octets, no
-# location, a length of more than is there, a feature below zero, and timestamps cut short
+# each content faulty in its own way: a part that is wanting, a value of another tag, bits behind
+# their end, a date without a zone, a text that isn't ASCII, a choice that isn't one, a number below
+# zero, a default, bits again, no identifier of a qualifier, one policy alone, a number spelled too
+# long, a number below zero, an identifier that is none, no name of a point, a number without
+# octets, no location, a length of more than is there, a feature below zero, timestamps cut short
 certificate("faulty_contents.der", extensions=[
     extension(9, seq(seq(oid(0x2A)))), extension(14, tlv(5)), extension(15, tlv(3, b"\0\x80")),
     extension(16, seq(tlv(0x80, b"20260101000000+"))),
@@ -495,7 +495,8 @@ crl("faulty_contents_of_list.der", extensions=[
     extension(29, seq(tlv(0xA0, oid(0x2A), tlv(5))), True)])])
 # a party whose name is a BMPString, and who assigned it
 certificate("party.der", extensions=[extension(17, seq(tlv(
-    0xA5, tlv(0xA0, tlv(0x0C, b"registrar")), tlv(0xA1, tlv(0x1E, "caf\u00e9".encode("utf-16-be"))))))])
+    0xA5, tlv(0xA0, tlv(0x0C, b"registrar")),
+    tlv(0xA1, tlv(0x1E, "caf\u00e9".encode("utf-16-be"))))))])
 # octets that are none of their kind, each by one part: one date, a length in two octets, version 4,
 # a text that isn't read, a part that isn't known, an identifier and bits that are none
 def signed_by(name, *fields, bits=BITS):
