@@ -578,6 +578,17 @@ def number_said(text):
     return natural(int(text.split()[0]) if " " in text else int(text, 16))
 
 
+def equation(said):
+    """A curve over a field of a prime, by OpenSSL's labels: each coefficient has its length."""
+    yield "  curve laid down by its parameters"
+    yield f"    prime {number_said(said['Prime'])}"
+    length = (int(said["Prime"], 16).bit_length() + 7) // 8
+    for label in "AB":
+        yield f"    {label.lower()} {octets(int(said[label], 16).to_bytes(length, 'big'))}"
+    yield f"    generator {octets(bytes.fromhex(said['Generator (uncompressed)']))}"
+    yield f"    order {number_said(said['Order'])}"
+
+
 def key_lines(encoded):
     (_, of), (_, content) = inside(encoded)
     of = list(values(of))
@@ -597,7 +608,10 @@ def key_lines(encoded):
         case {"ASN1 OID": _} | {"Field Type": _}:
             yield f"  {bits} bits"
             curve = IDENTIFIERS.get(said.get("ASN1 OID"))
-            yield f"  curve {curve or value_text(*of[1])}"
+            if "Prime" in said:
+                yield from equation(said)
+            else:
+                yield f"  curve {curve or value_text(*of[1])}"
             yield f"  point {octets(bytes.fromhex(said['pub']))}"
         case _:
             key = bytes.fromhex(said["pub"])
