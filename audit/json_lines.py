@@ -47,7 +47,9 @@ def identifier(of):
     return f"{of['name']} ({of['id']})" if "name" in of else of["id"]
 
 
-STRINGS = "UTF8String NumericString PrintableString TeletexString IA5String VisibleString GeneralString"
+STRINGS = (
+    "UTF8String NumericString PrintableString TeletexString IA5String VisibleString GeneralString"
+)
 
 
 def wide(octets):
@@ -154,7 +156,11 @@ WORDS = {
 } | {
     word: f"{word} "
     for word in "modulus exponent point p q g public key-sha1 key-sha256 key-bits-sha1".split()
-    + [f"{kind}-{digest}" for kind in ("certificate", "list", "request") for digest in ("sha1", "sha256")]
+    + [
+        f"{kind}-{digest}"
+        for kind in ("certificate", "list", "request")
+        for digest in ("sha1", "sha256")
+    ]
 }
 SCOPES = {
     "onlyContainsUserCerts": "certificates of users alone",
@@ -348,7 +354,8 @@ def explained(document):
 
 
 def verdict(of):
-    words = [of["verdict"]] + [str(of[key]) for key in ("place", "offset", "rule", "kind") if key in of]
+    parts = ("place", "offset", "rule", "kind")
+    words = [of["verdict"]] + [str(of[key]) for key in parts if key in of]
     calls = f" calls={of['calls']}" if "calls" in of else ""
     yield " ".join(words) + calls
 

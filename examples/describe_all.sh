@@ -1,8 +1,8 @@
 #!/usr/bin/env bash
-# Describes every certificate of every file of a folder, and of the folders in it: GNU parallel hands
-# the files to `cert_tool describe stream`, one to each processor, and puts what it writes together
-# again in the order of the files' names. A file is certificates in DER, one behind the other, or
-# PEM; a line `FILE name` stands in front of what is written of it.
+# Describes every certificate of every file of a folder, and of the folders in it: GNU parallel
+# hands the files to `cert_tool describe stream`, one to each processor, and puts what it writes
+# together again in the order of the files' names. A file is certificates in DER, one behind the
+# other, or PEM; a line `FILE name` stands in front of what is written of it.
 # usage: describe_all.sh [--jobs N] FOLDER [CERT_TOOL]
 # N is how many files are read at once, 1 one after the other. The status is 0 where each file was
 # described to its end; 2 where one wasn't, whose name and fault the error output has; 4 where the
