@@ -129,6 +129,8 @@ def algorithm(margin, word, of):
     yield from members(margin + "  ", of)
 
 
+DIGESTED = ("certificate", "list", "request", "key")
+
 # Members that are a line, behind a word.
 WORDS = {
     "kind": "",
@@ -155,12 +157,9 @@ WORDS = {
     "authorityCertSerialNumber": "serial ",
 } | {
     word: f"{word} "
-    for word in "modulus exponent point p q g public key-sha1 key-sha256 key-bits-sha1".split()
-    + [
-        f"{kind}-{digest}"
-        for kind in ("certificate", "list", "request")
-        for digest in ("sha1", "sha256")
-    ]
+    for word in "modulus exponent point p q g public prime a b generator order".split()
+    + [f"{of}-{digest}" for of in DIGESTED for digest in ("sha1", "sha256")]
+    + ["key-bits-sha1"]
 }
 SCOPES = {
     "onlyContainsUserCerts": "certificates of users alone",
@@ -169,6 +168,9 @@ SCOPES = {
     "indirectCRL": "certificates of other issuers too",
     "malformed": "malformed",
     "malformedParameters": "malformed",
+    "malformedField": "malformed",
+    "malformedCoefficients": "malformed",
+    "malformedValue": "malformed",
 }
 FEATURES = {5: "status_request (5)", 17: "status_request_v2 (17)"}
 
@@ -191,7 +193,9 @@ def members(margin, of):
         elif key in ("issuer", "subject"):
             yield from name(margin, f"{key} ", each)
         elif key == "curve":
-            yield f"{margin}curve " + (identifier(each) if "id" in each else value(each))
+            yield from curve(margin, each)
+        elif key == "field":
+            yield f"{margin}field {value(each)}"
         elif key in ("extensions", "crlExtensions", "crlEntryExtensions"):
             for extension in each:
                 critical = " critical" if extension["critical"] else ""
@@ -250,6 +254,16 @@ def members(margin, of):
         elif key == "timestamps":
             for timestamp in each:
                 yield from timestamp_lines(margin, timestamp)
+
+
+def curve(margin, of):
+    if "id" in of:
+        yield f"{margin}curve {identifier(of)}"
+    elif "type" in of:
+        yield f"{margin}curve {value(of)}"
+    else:
+        yield f"{margin}curve laid down by its parameters"
+        yield from members(margin + "  ", of)
 
 
 def policies(margin, listed):
@@ -340,7 +354,7 @@ def finding(margin, of):
         yield f"{margin}anchor at octet {of['octet']}: {of['fault']}"
     elif "subject" in of:
         yield f"{margin}anchor at octet {of['octet']}, {shown(of['subject'])}"
-        yield from (f"{margin}  not judged: {each}" for each in of["unjudged"])
+        yield from (f"{margin}  not judged: {each}" for each in of.get("unjudged", []))
     else:
         yield f"{margin}anchor at octet {of['octet']}"
 
@@ -354,8 +368,7 @@ def explained(document):
 
 
 def verdict(of):
-    parts = ("place", "offset", "rule", "kind")
-    words = [of["verdict"]] + [str(of[key]) for key in parts if key in of]
+    words = [str(of[key]) for key in ("verdict", "place", "offset", "rule", "kind") if key in of]
     calls = f" calls={of['calls']}" if "calls" in of else ""
     yield " ".join(words) + calls
 
