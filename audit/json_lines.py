@@ -94,7 +94,6 @@ NAMES = {
     "rfc822Name": "email",
     "dNSName": "DNS",
     "uniformResourceIdentifier": "URI",
-    "ediPartyName": "party",
 }
 
 
@@ -106,6 +105,9 @@ def general_name(margin, words, of):
             yield f"{margin}{words}IP {each}"
         elif key == "directoryName":
             yield from name(margin, f"{words}name ", each)
+        elif key == "ediPartyName":
+            by = f" assigned by {plain(each['nameAssigner'])}" if "nameAssigner" in each else ""
+            yield f"{margin}{words}party {plain(each['partyName'])}{by}"
         elif key == "registeredID":
             yield f"{margin}{words}identifier {identifier(each)}"
         elif key == "otherName":
@@ -340,6 +342,8 @@ def finding(margin, of):
         yield f"{margin}{place(of)}: {of['fault']}{section(of)}"
         for part in of["path"]:
             yield f"{margin}  in {part['part']} ({part['type']}, {place(part)})"
+        if "cut" in of:
+            yield f"{margin}  {of['cut']}"
         if of.get("expected"):
             yield f"{margin}  there may stand " + ", ".join(map(typed, of["expected"]))
         if "hint" in of:
