@@ -23,8 +23,8 @@ SHOWN = 4
 CLAIMS = [
     ("the text of an identifier is read", "const_oid", "ObjectIdentifier::new"),
     ("the octets of an identifier are read", "const_oid", "ObjectIdentifier::from_bytes_sized"),
-    ("a value is read from DER", "der_core_coding", "from_der"),
-    ("a value is written as DER", "der_core_coding", "to_der"),
+    ("a value is read from DER", "der_core_coding", "FromDer::from_der"),
+    ("a value is written as DER", "der_core_coding", "ToDer::to_der"),
     ("two encodings are compared", "der_core", "DerOrd::der_cmp"),
     ("a certificate is read", "x509_cert_certificates", "CertificateInner::from_der"),
     ("the text of a name is read", "x509_cert_names", "Name::from_str"),

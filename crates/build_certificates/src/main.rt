@@ -7,7 +7,7 @@ mod answering;
 mod digest_signer;
 
 use answering::issued;
-use der_core::{Encode, from_der, to_der};
+use der_core::{Encode, FromDer, ToDer};
 use digest_signer::DigestSigner;
 use std::alloc::Global;
 use std::io;
@@ -54,7 +54,7 @@ fn main(rt: HostRuntime) -> io::Result<()> {
 
 /// The key that is the encoding of these octets.
 fn key_of(alloc: Global, octets: &[u8]) -> Result<SubjectPublicKeyInfo, Error> {
-    let key = from_der(alloc, octets)?;
+    let key = SubjectPublicKeyInfo::from_der(alloc, octets)?;
     Ok(key)
 }
 
@@ -199,7 +199,7 @@ fn signer_of(alloc: Global, key: &[u8]) -> Result<DigestSigner, Error> {
 
 /// Adds what was made to a text, as a line of hex.
 fn add_line<T: Encode>(alloc: Global, text: &mut String, made: &T) -> Result<(), Error> {
-    let octets = to_der(alloc, made)?;
+    let octets = made.to_der(alloc)?;
     let line = hex::encode(alloc, octets.as_slice())?;
     text.push_str(line.as_str())?;
     text.push_str("\n")?;

@@ -4,7 +4,7 @@ use crate::builders::{Asked, Change, Manner, part_of, whole_of};
 use crate::refusals::Refusal;
 use crate::words::{Words, extension_of, key_of, octets_of, time_of};
 use const_oid::ObjectIdentifier;
-use der_core::{from_der, to_der};
+use der_core::{FromDer, ToDer};
 use std::alloc::Global;
 use std::str::FromStr;
 use x509_cert_list_builders::certificates::{
@@ -84,7 +84,7 @@ impl<'a> Settled<'a> {
             return part_of(alloc, builder, &self.asked);
         }
         let certificate: Certificate = whole_of(alloc, builder, &self.asked)?;
-        let octets = to_der(alloc, &certificate)?;
+        let octets = certificate.to_der(alloc)?;
         Ok(octets)
     }
 }
@@ -213,7 +213,7 @@ fn names_of(alloc: Global, word: &str) -> Result<Option<GeneralNames>, Refusal> 
         return Ok(None);
     }
     let octets = octets_of(alloc, word)?;
-    let names: GeneralNames = from_der(alloc, octets.as_slice())?;
+    let names = GeneralNames::from_der(alloc, octets.as_slice())?;
     Ok(Some(names))
 }
 

@@ -2,13 +2,13 @@
 
 use crate::refusals::Refusal;
 use crate::words::key_of;
-use der_core::to_der;
+use der_core::ToDer;
 use std::alloc::Global;
 use x509_cert_list_builders::certificates::{
     AlgorithmIdentifierRef, SubjectPublicKeyInfo, SubjectPublicKeyInfoRef,
 };
+use x509_cert_list_builders::types::SubjectKeyIdentifier;
 use x509_cert_list_builders::types::general_names::AuthorityKeyIdentifier;
-use x509_cert_list_builders::types::{SubjectKeyIdentifier, TryFromKey};
 
 /// The identifier of a key, and the encoding of the authority key identifier.
 pub fn answer(alloc: Global, word: &str) -> Result<String, Refusal> {
@@ -54,6 +54,6 @@ fn add_authority(
     key: &SubjectPublicKeyInfoRef<'_>,
 ) -> Result<(), Refusal> {
     let identifier = AuthorityKeyIdentifier::try_from_key(alloc, key)?;
-    let octets = to_der(alloc, &identifier)?;
+    let octets = identifier.to_der(alloc)?;
     add(alloc, text, octets.as_slice())
 }

@@ -3,7 +3,7 @@
 use crate::builders::{Asked, Change, Manner, part_of, whole_of};
 use crate::refusals::Refusal;
 use crate::words::{Words, octets_of, time_of};
-use der_core::{from_der, to_der};
+use der_core::{FromDer, ToDer};
 use std::alloc::Global;
 use std::str::FromStr;
 use x509_cert_list_builders::CrlBuilder;
@@ -14,7 +14,7 @@ use x509_cert_list_builders::types::CrlNumber;
 /// The entry of a list that is the encoding of these octets.
 fn entry_of(alloc: Global, word: &str) -> Result<RevokedCert, Refusal> {
     let octets = octets_of(alloc, word)?;
-    let entry = from_der(alloc, octets.as_slice())?;
+    let entry = FromDer::from_der(alloc, octets.as_slice())?;
     Ok(entry)
 }
 
@@ -102,6 +102,6 @@ fn made(alloc: Global, builder: CrlBuilder, asked: &Asked<'_>) -> Result<Vec<u8>
         return part_of(alloc, builder, asked);
     }
     let list: CertificateList = whole_of(alloc, builder, asked)?;
-    let octets = to_der(alloc, &list)?;
+    let octets = list.to_der(alloc)?;
     Ok(octets)
 }

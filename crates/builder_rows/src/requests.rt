@@ -3,7 +3,7 @@
 use crate::builders::{Asked, Change, Manner, part_of, whole_of};
 use crate::refusals::Refusal;
 use crate::words::{Words, extension_of, octets_of};
-use der_core::{from_der, to_der};
+use der_core::{FromDer, ToDer};
 use std::alloc::Global;
 use x509_cert_list_builders::RequestBuilder;
 use x509_cert_list_builders::certificates::DirectoryString;
@@ -30,7 +30,7 @@ impl Change for RequestBuilder {
 /// The password that is the encoding of these octets.
 fn password_of(alloc: Global, word: &str) -> Result<ChallengePassword, Refusal> {
     let octets = octets_of(alloc, word)?;
-    let text: DirectoryString = from_der(alloc, octets.as_slice())?;
+    let text = DirectoryString::from_der(alloc, octets.as_slice())?;
     Ok(ChallengePassword(text))
 }
 
@@ -84,6 +84,6 @@ fn made(alloc: Global, builder: RequestBuilder, asked: &Asked<'_>) -> Result<Vec
         return part_of(alloc, builder, asked);
     }
     let request: CertReq = whole_of(alloc, builder, asked)?;
-    let octets = to_der(alloc, &request)?;
+    let octets = request.to_der(alloc)?;
     Ok(octets)
 }

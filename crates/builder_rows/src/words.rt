@@ -1,7 +1,7 @@
 //! Words of a line.
 
 use crate::refusals::Refusal;
-use der_core::from_der;
+use der_core::FromDer;
 use std::alloc::Global;
 use std::str::FromStr;
 use x509_cert_list_builders::certificates::{Extension, Name, SubjectPublicKeyInfo, Time};
@@ -44,13 +44,13 @@ pub fn time_of(word: &str) -> Result<Time, Refusal> {
 /// The key that is the encoding of these octets.
 pub fn key_of(alloc: Global, word: &str) -> Result<SubjectPublicKeyInfo, Refusal> {
     let octets = octets_of(alloc, word)?;
-    let key = from_der(alloc, octets.as_slice())?;
+    let key = SubjectPublicKeyInfo::from_der(alloc, octets.as_slice())?;
     Ok(key)
 }
 
 /// The extension that is.
 pub fn extension_of(alloc: Global, word: &str) -> Result<Extension, Refusal> {
     let octets = octets_of(alloc, word)?;
-    let extension = from_der(alloc, octets.as_slice())?;
+    let extension = Extension::from_der(alloc, octets.as_slice())?;
     Ok(extension)
 }

@@ -11,7 +11,7 @@ use crate::anchor::Anchor;
 use crate::anchor_error::AnchorError;
 use crate::anchor_fault::AnchorFault;
 use crate::outcome::Outcome;
-use der_core::from_der_partial;
+use der_core::FromDer;
 use der_core_head::ErrorKind;
 use std::alloc::Global;
 use x509_cert_anchors::TrustAnchorChoice;
@@ -38,7 +38,7 @@ fn choice_at(
     ensures stands { IfOk result (λ p. StandsAt octets.now start p.1 (trust_anchor_plain p.0)) }
     ensures none { IfErr result (GivesNone octets.now start) }
 {
-    match from_der_partial::<TrustAnchorChoice<Raw>>(alloc, &octets[start..]) {
+    match TrustAnchorChoice::<Raw>::from_der_partial(alloc, &octets[start..]) {
         Ok((choice, behind)) => Ok((choice, octets.len() - behind.len())),
         Err(error) => {
             if let ErrorKind::OutOfMemory = error.kind {

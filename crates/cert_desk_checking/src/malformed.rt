@@ -3,7 +3,7 @@ ghost use Rattle.std.specs.Prelude.{◌≡◌, ◌≤◌, ℕ, List, Ok, Err, If
 ghost use Rattle.x509_cert_anchors.specs.Certificates.{PlainCertificate};
 ghost use Rattle.cert_desk_checking.specs.FirstFaults.{first_certificate};
 
-use der_core::{Error, ErrorKind, from_der_partial};
+use der_core::{Error, ErrorKind, FromDer};
 use std::alloc::{AllocError, Global};
 use x509_cert_anchors::certificates::{CertificateInner, Raw};
 
@@ -35,7 +35,7 @@ pub fn first_fault(alloc: Global, octets: &[u8]) -> Result<Option<Error>, AllocE
     ensures none { IfOk result (λ told. IfNone told ((c : PlainCertificate) × (behind : List ℕ)
         × (first_certificate octets.now ≡ Ok (c, behind)))) }
 {
-    let error = match from_der_partial::<CertificateInner<Raw>>(alloc, octets) {
+    let error = match CertificateInner::<Raw>::from_der_partial(alloc, octets) {
         Ok(_) => return Ok(None),
         Err(error) => error,
     };

@@ -17,7 +17,7 @@ use crate::anchor::Anchor;
 use crate::bundle::Bundle;
 use crate::checking::is_issued_by;
 use crate::entry::Entry;
-use der_core::{Encode, to_der};
+use der_core::{Encode, ToDer};
 use std::alloc::{AllocError, Global};
 use x509_cert_anchors::certificates::SubjectPublicKeyInfo;
 
@@ -26,7 +26,7 @@ fn written<T: Encode>(alloc: Global, value: &T) -> Result<String, AllocError>
     ensures { IfOk result (λ text. string_bytes text
         ≡ encode_lower (octets_of T.shape (T.written value.now))) }
 {
-    let Ok(octets) = to_der(alloc, value) else {
+    let Ok(octets) = value.to_der(alloc) else {
         return Err(AllocError);
     };
     hex::encode(alloc, octets.as_slice())

@@ -16,7 +16,7 @@ use crate::findings::Findings;
 use crate::weight::Weight;
 use const_oid::ObjectIdentifier;
 use der_core::making::leaf_from_der;
-use der_core::{Error, ErrorKind, Explicit, Implicit, OneOf8, from_der};
+use der_core::{Error, ErrorKind, Explicit, FromDer, Implicit, OneOf8};
 use der_types_text::Ia5StringRef;
 use der_types_values::OctetStringRef;
 use std::alloc::{AllocError, Global};
@@ -104,7 +104,7 @@ fn weigh_names(alloc: Global, octets: &[u8]) -> Result<Weight, AllocError>
     ensures { IfOk result (λ weight. (purpose : List ℕ)
         → weight ≡ weight_of purpose (meaning_by (subject_alt_name Bound) other_names octets.now)) }
 {
-    match from_der::<Vec<NameLent<'_>>>(alloc, octets) {
+    match Vec::<NameLent<'_>>::from_der(alloc, octets) {
         Ok(_) => Ok(Weight::AlternativeNames),
         Err(error) => malformed(error),
     }
@@ -120,7 +120,7 @@ fn weigh_purposes(
         (λ weight. weight
         ≡ weight_of purpose.now (meaning_by (extended_key_usage Bound) purposes octets.now)) }
 {
-    match from_der::<ExtendedKeyUsage>(alloc, octets) {
+    match ExtendedKeyUsage::from_der(alloc, octets) {
         Ok(usage) => Ok(Weight::Purposes {
             serves: is_listed(purpose, usage.0.as_slice()),
         }),

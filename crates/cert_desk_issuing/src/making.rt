@@ -17,7 +17,7 @@ use crate::naming::add_names;
 use crate::role::Role;
 use crate::stop::Stop;
 use cert_desk_checking::certificates::Certificate;
-use der_core::{InRange, to_der};
+use der_core::{InRange, ToDer};
 use std::alloc::Global;
 use x509_cert_builders::{
     Builder, BuilderProfile, CertificateBuilder, CertificateType, Root, Signer, Subordinate,
@@ -133,7 +133,7 @@ fn made_by<P: BuilderProfile + Drop, S: Signer>(
     let certificate = builder.build(alloc, signer)?;
     certificate.signature_algorithm.in_range();
     certificate.signature.in_range();
-    let octets = to_der(alloc, &certificate)?;
+    let octets = certificate.to_der(alloc)?;
     Ok(Made {
         certificate,
         octets,

@@ -16,7 +16,7 @@ use crate::listing::{of_certificate, of_list, of_request};
 use cert_desk_io::{
     ExitStatus, Input, Output, ReadAllError, answer, complain, read_all, tell_device, tell_memory,
 };
-use der_core::{Error, ErrorKind, from_der};
+use der_core::{Error, ErrorKind, FromDer};
 use std::alloc::Global;
 use x509_cert_certificates::{CertificateInner, Raw};
 use x509_cert_lists::{CertReq, CertificateList};
@@ -46,7 +46,7 @@ fn list_of(alloc: Global, octets: &[u8]) -> Result<CertificateList<Raw>, Error>
     ensures refused { IfErr result (λ e. e.kind ≢ OutOfMemory → (l : PlainList)
         → Spells (raw_certificate_list Bound) l octets.now → ⊥) }
 {
-    from_der(alloc, octets)
+    CertificateList::<Raw>::from_der(alloc, octets)
 }
 
 // The revocation list that these octets spell.

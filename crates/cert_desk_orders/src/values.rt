@@ -4,7 +4,7 @@ ghost use Rattle.der_core_head.specs.Grammar.{plain_option};
 ghost use Rattle.cert_desk_orders.specs.OrderValues.{octets_in, key_in, key_plain, key_read};
 ghost use Rattle.cert_desk_orders.specs.OrderValues.{length_in};
 
-use der_core::{ErrorKind, from_der};
+use der_core::{ErrorKind, FromDer};
 use hex::FromHexError;
 use std::alloc::{AllocError, Global};
 use x509_cert_parts::SubjectPublicKeyInfo;
@@ -25,7 +25,7 @@ pub(crate) fn octets_of(alloc: Global, text: &str) -> Result<Option<Vec<u8>>, Al
 fn key_of_octets(alloc: Global, octets: &[u8]) -> Result<Option<SubjectPublicKeyInfo>, AllocError>
     ensures { IfOk result (λ read. plain_option key_plain read ≡ key_read octets.now) }
 {
-    match from_der::<SubjectPublicKeyInfo>(alloc, octets) {
+    match SubjectPublicKeyInfo::from_der(alloc, octets) {
         Ok(key) => Ok(Some(key)),
         Err(error) => match error.kind {
             ErrorKind::OutOfMemory => Err(AllocError),

@@ -7,7 +7,7 @@ use crate::checks::{Asked, How, judged};
 use crate::refusals::Refusal;
 use crate::words::{Judged, key_of, octets_of, purpose_of};
 use cert_desk::{Anchor, Bundle, BundleError, CheckError, DigestJudge, SignatureJudge, check};
-use der_core::from_der;
+use der_core::FromDer;
 use std::alloc::Global;
 use std::fmt::Write;
 
@@ -166,7 +166,7 @@ pub fn verdict_on<J: SignatureJudge>(
     if !bundle.is_ended() {
         return Err(Refusal::Unread);
     }
-    let anchors = [Anchor::new(from_der(alloc, NAME)?, key_of(alloc, KEY)?)];
+    let anchors = [Anchor::new(FromDer::from_der(alloc, NAME)?, key_of(alloc, KEY)?)];
     let purpose = purpose_of(SERVERS)?;
     match check(alloc, bundle, &anchors, MOMENT, &purpose, judge) {
         Ok(checked) => Ok(format!(in alloc; "{}: {}", bundle.len(), Judged(checked))?),

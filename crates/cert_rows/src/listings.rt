@@ -8,7 +8,7 @@ use cert_desk::{
     show_certificate, show_list, show_request,
 };
 use cert_desk_io::MemoryOutput;
-use der_core::from_der;
+use der_core::FromDer;
 use std::alloc::Global;
 use std::str;
 
@@ -71,7 +71,7 @@ fn call(
             Ok(show_certificate(alloc, &certificate, output))
         }
         FileKind::List => {
-            let list = from_der::<CertificateList<Raw>>(alloc, octets)?;
+            let list = CertificateList::<Raw>::from_der(alloc, octets)?;
             Ok(show_list(alloc, &list, output))
         }
         FileKind::Request => {

@@ -3,7 +3,7 @@
 use crate::refusals::Refusal;
 use cert_desk::{Checked, FileKind, SubjectPublicKeyInfo, Verdict};
 use const_oid::ObjectIdentifier;
-use der_core::from_der;
+use der_core::FromDer;
 use std::alloc::Global;
 use std::{fmt, str};
 
@@ -79,7 +79,7 @@ pub fn number_of(word: &str) -> Result<u32, Refusal> {
 /// The key whose encoding a word spells in base 16.
 pub fn key_of(alloc: Global, word: &str) -> Result<SubjectPublicKeyInfo, Refusal> {
     let octets = octets_of(alloc, word)?;
-    Ok(from_der(alloc, octets.as_slice())?)
+    Ok(SubjectPublicKeyInfo::from_der(alloc, octets.as_slice())?)
 }
 
 /// The purpose that a word spells, as dotted arcs.

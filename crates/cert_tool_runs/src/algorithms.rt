@@ -4,12 +4,12 @@ use crate::lines::Lines;
 use crate::values::values_in;
 use cert_desk_checking::certificates::{AlgorithmIdentifier, Any, BitString};
 use der_core::making::leaf_from_der;
-use der_core::{Error, from_der};
+use der_core::{Error, FromDer};
 use std::alloc::Global;
 
 // The algorithm that octets spell.
 fn algorithm_in(alloc: Global, octets: &[u8]) -> Result<AlgorithmIdentifier, Error> {
-    from_der(alloc, octets)
+    AlgorithmIdentifier::from_der(alloc, octets)
 }
 
 // Adds the name of the algorithm that octets spell, and of the one that is its parameter.

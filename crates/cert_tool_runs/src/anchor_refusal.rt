@@ -8,7 +8,7 @@ use crate::stream_refusal::PEM_STREAM;
 use crate::unjudged::{add_unjudged, begin_anchor};
 use cert_desk_checking::{AnchorFault, Outcome, Raw, TrustAnchorChoice, read_anchors};
 use cert_desk_io::FromRead;
-use der_core::from_der_partial;
+use der_core::FromDer;
 use std::alloc::{AllocError, Global};
 
 // What a fault of an anchor means.
@@ -22,7 +22,7 @@ fn meaning(fault: AnchorFault) -> &'static str {
 
 // Adds why no trust anchor begins these octets, which begin at an offset.
 fn add_malformed(lines: &mut Lines, rest: &[u8], offset: u64) {
-    let fault = from_der_partial::<TrustAnchorChoice<Raw>>(lines.alloc, rest).err();
+    let fault = TrustAnchorChoice::<Raw>::from_der_partial(lines.alloc, rest).err();
     if let Some(error) = fault {
         add_fault(lines, rest, offset, Node::Anchor, &error);
     }

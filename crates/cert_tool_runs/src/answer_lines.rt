@@ -13,7 +13,7 @@ ghost use Rattle.cert_tool_runs.specs.AnswerReading.{FailsBy, IsNoFile, IsNoLine
 use crate::line_fault::LineFault;
 use crate::no_answers::NoAnswers;
 use cert_desk_checking::{AlgorithmIdentifier, Answer, BitString, SubjectPublicKeyInfo};
-use der_core::{Decode, ErrorKind, SliceReader, from_der};
+use der_core::{Decode, ErrorKind, FromDer, SliceReader};
 use hex::FromHexError;
 use std::alloc::{AllocError, Global};
 
@@ -46,7 +46,7 @@ fn value_of<'a, T: Decode<'a, SliceReader<'a>>>(
         ≡ Ok (T.plain value)) }
     ensures refused { IfErr result (FailsBy (value_or fault (read_whole T.shape octets.now))) }
 {
-    match from_der::<T>(alloc, octets) {
+    match T::from_der(alloc, octets) {
         Ok(value) => Ok(value),
         Err(error) => match error.kind {
             ErrorKind::OutOfMemory => Err(LineError::OutOfMemory),

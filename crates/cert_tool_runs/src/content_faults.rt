@@ -19,7 +19,7 @@ use cert_desk_checking::types::timestamps::{
 use cert_desk_checking::types::{CrlReason, KeyUsages};
 use const_oid::ObjectIdentifier;
 use der_core::making::leaf_from_der;
-use der_core::{DecodeValue, Error, ErrorKind, FixedTag, Leaf, SliceReader, Tag, from_der};
+use der_core::{DecodeValue, Error, ErrorKind, FixedTag, FromDer, Leaf, SliceReader, Tag};
 use std::alloc::Global;
 
 // Why octets aren't one leaf, if they aren't.
@@ -32,7 +32,7 @@ fn value_fault<'a, T: DecodeValue<'a, SliceReader<'a>> + FixedTag>(
     alloc: Global,
     octets: &'a [u8],
 ) -> Option<Error> {
-    from_der::<T>(alloc, octets).err()
+    T::from_der(alloc, octets).err()
 }
 
 // Why octets in an OCTET STRING aren't timestamps.

@@ -20,7 +20,7 @@ use cert_desk_checking::types::{
 };
 use const_oid::ObjectIdentifier;
 use der_core::making::leaf_from_der;
-use der_core::{DecodeValue, ErrorKind, FixedTag, Leaf, SliceReader, from_der};
+use der_core::{DecodeValue, ErrorKind, FixedTag, FromDer, Leaf, SliceReader};
 
 // Adds the line of a content of no kind that is known.
 fn add_octets(lines: &mut Lines, octets: &[u8]) {
@@ -51,7 +51,7 @@ where
     T: DecodeValue<'a, SliceReader<'a>> + FixedTag,
     C: From<Vec<T>> + Describe + Drop,
 {
-    match from_der::<Vec<T>>(lines.alloc, octets) {
+    match Vec::<T>::from_der(lines.alloc, octets) {
         Ok(list) => C::from(list).describe(lines),
         Err(error) => add_malformed(lines, octets, error.kind),
     }
@@ -62,7 +62,7 @@ fn add_record<'a, T: DecodeValue<'a, SliceReader<'a>> + FixedTag + Describe>(
     lines: &mut Lines,
     octets: &'a [u8],
 ) {
-    match from_der::<T>(lines.alloc, octets) {
+    match T::from_der(lines.alloc, octets) {
         Ok(record) => record.describe(lines),
         Err(error) => add_malformed(lines, octets, error.kind),
     }

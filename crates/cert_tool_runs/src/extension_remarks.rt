@@ -11,7 +11,7 @@ use cert_desk_checking::types::general_names::{
 };
 use cert_desk_checking::types::policies::{PolicyConstraints, PolicyInformation, PolicyMapping};
 use const_oid::ObjectIdentifier;
-use der_core::{DecodeValue, FixedTag, SliceReader, from_der};
+use der_core::{DecodeValue, FixedTag, FromDer, SliceReader};
 
 // The number of a kind of extension: its last arc, below 2.5.29, or that and 256, below
 // 1.3.6.1.5.5.7.1; zero of any other.
@@ -108,7 +108,7 @@ pub(crate) fn value_in<'a, T: DecodeValue<'a, SliceReader<'a>> + FixedTag>(
     lines: &mut Lines,
     octets: &'a [u8],
 ) -> Option<T> {
-    match from_der::<T>(lines.alloc, octets) {
+    match T::from_der(lines.alloc, octets) {
         Ok(value) => Some(value),
         Err(error) => {
             lines.note(error.kind);

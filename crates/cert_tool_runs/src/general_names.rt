@@ -6,7 +6,7 @@ use crate::lines::Lines;
 use crate::values::{add_name_members, add_value};
 use cert_desk_checking::types::general_names::{EdiPartyName, GeneralName};
 use cert_desk_checking::types::parts::DirectoryString;
-use der_core::{Error, from_der};
+use der_core::{Error, FromDer};
 use std::alloc::Global;
 use std::net::{Ipv4Addr, Ipv6Addr};
 
@@ -134,5 +134,5 @@ pub(crate) fn add_general_names(lines: &mut Lines, word: &str, key: &str, listed
 
 // The names that octets list.
 pub(crate) fn names_in(alloc: Global, octets: &[u8]) -> Result<Vec<GeneralName>, Error> {
-    from_der(alloc, octets)
+    FromDer::from_der(alloc, octets)
 }

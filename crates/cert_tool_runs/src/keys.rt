@@ -8,7 +8,7 @@ use crate::values::{add_value, values_in};
 use cert_desk_checking::certificates::{Any, SubjectPublicKeyInfo, Uint};
 use const_oid::ObjectIdentifier;
 use der_core::making::leaf_from_der;
-use der_core::{ErrorKind, Tag, to_der};
+use der_core::{ErrorKind, Tag, ToDer};
 use sha1::Sha1;
 use sha2::{Digest, Sha256};
 
@@ -225,7 +225,7 @@ pub(crate) fn add_digests(lines: &mut Lines, names: [&str; 2], octets: &[u8]) {
 // Adds the lines of the digests of a key: of its encoding, and of its bits, as most identifiers of
 // keys are made (RFC 5280 4.2.1.2).
 pub(crate) fn add_key_digests(lines: &mut Lines, key: &SubjectPublicKeyInfo) {
-    match to_der(lines.alloc, key) {
+    match key.to_der(lines.alloc) {
         Ok(octets) => add_digests(lines, ["key-sha1", "key-sha256"], octets.as_slice()),
         Err(_) => lines.fail(),
     }

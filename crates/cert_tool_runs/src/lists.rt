@@ -9,7 +9,7 @@ use crate::lines::Lines;
 use crate::values::add_name;
 use cert_desk_checking::certificates::Raw;
 use cert_desk_checking::types::{CrlNumber, CrlReason};
-use der_core::{Error, ErrorKind, from_der};
+use der_core::{Error, ErrorKind, FromDer};
 use std::alloc::Global;
 use x509_cert_lists::{CertificateList, RevokedCert, TbsCertList};
 
@@ -81,7 +81,7 @@ fn add_signed(lines: &mut Lines, signed: &TbsCertList<Raw>) {
 
 // The list that octets spell.
 pub(crate) fn list_of(alloc: Global, octets: &[u8]) -> Result<CertificateList<Raw>, Error> {
-    from_der(alloc, octets)
+    FromDer::from_der(alloc, octets)
 }
 
 // Adds what a list says, and digests of its octets; answers why the octets are none, if they

@@ -2,13 +2,13 @@
 
 use crate::chain_place::ChainPlace;
 use crate::lines::Lines;
-use der_core::to_der;
+use der_core::ToDer;
 use std::alloc::{AllocError, Global};
 use std::collections::BTreeMap;
 
 // Who gave a certificate its serial number, and that number: the octets of both.
 fn identity_of(alloc: Global, place: &ChainPlace<'_>) -> Result<Vec<u8>, AllocError> {
-    let Ok(mut octets) = to_der(alloc, place.issuer()) else {
+    let Ok(mut octets) = place.issuer().to_der(alloc) else {
         return Err(AllocError);
     };
     let serial = place.certificate.tbs_certificate().serial_number();

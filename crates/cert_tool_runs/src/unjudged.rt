@@ -3,7 +3,7 @@
 use crate::lines::Lines;
 use cert_desk_checking::TrustAnchorChoice;
 use cert_desk_checking::certificates::{Extension, Name, Raw, TbsCertificateInner, Validity};
-use der_core::from_der_partial;
+use der_core::FromDer;
 
 // Begins what is said of the anchor at an octet.
 pub(crate) fn begin_anchor(lines: &mut Lines, offset: u64) {
@@ -103,7 +103,7 @@ pub(crate) fn add_unjudged(lines: &mut Lines, octets: &[u8], issuer: Option<&Nam
             break;
         }
         let offset = octets.len().saturating_sub(rest.len());
-        match from_der_partial::<TrustAnchorChoice<Raw>>(lines.alloc, rest) {
+        match TrustAnchorChoice::<Raw>::from_der_partial(lines.alloc, rest) {
             Ok((anchor, behind)) => {
                 add_of(lines, &anchor, offset as u64, issuer);
                 rest = behind;

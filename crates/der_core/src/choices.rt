@@ -12,6 +12,32 @@ use der_core_coding::values::{OneOf2, OneOf3, OneOf4, Shaped};
 use der_core_head::{Error, Tag};
 use std::cmp::Ordering;
 
+/// The alternative `k` of `n`, two to nine, as a pattern or as a value: `case!(5 of 8: value)` is
+/// `OneOf4::Fourth(OneOf4::Second(value))`.
+#[macro_export]
+macro_rules! case {
+    (1 of 2: $($v:tt)+) => { $crate::OneOf2::First($($v)+) };
+    (2 of 2: $($v:tt)+) => { $crate::OneOf2::Second($($v)+) };
+    (1 of 3: $($v:tt)+) => { $crate::OneOf2::First($($v)+) };
+    (2 of 3: $($v:tt)+) => { $crate::OneOf2::Second($crate::case!(1 of 2: $($v)+)) };
+    (3 of 3: $($v:tt)+) => { $crate::OneOf2::Second($crate::case!(2 of 2: $($v)+)) };
+    (1 of $n:tt: $($v:tt)+) => { $crate::OneOf4::First($($v)+) };
+    (2 of $n:tt: $($v:tt)+) => { $crate::OneOf4::Second($($v)+) };
+    (3 of $n:tt: $($v:tt)+) => { $crate::OneOf4::Third($($v)+) };
+    (4 of 4: $($v:tt)+) => { $crate::OneOf4::Fourth($($v)+) };
+    ($k:tt of 5: $($v:tt)+) => { $crate::OneOf4::Fourth($crate::case!(@rest $k of 2: $($v)+)) };
+    ($k:tt of 6: $($v:tt)+) => { $crate::OneOf4::Fourth($crate::case!(@rest $k of 3: $($v)+)) };
+    ($k:tt of 7: $($v:tt)+) => { $crate::OneOf4::Fourth($crate::case!(@rest $k of 4: $($v)+)) };
+    ($k:tt of 8: $($v:tt)+) => { $crate::OneOf4::Fourth($crate::case!(@rest $k of 5: $($v)+)) };
+    ($k:tt of 9: $($v:tt)+) => { $crate::OneOf4::Fourth($crate::case!(@rest $k of 6: $($v)+)) };
+    (@rest 4 of $n:tt: $($v:tt)+) => { $crate::case!(1 of $n: $($v)+) };
+    (@rest 5 of $n:tt: $($v:tt)+) => { $crate::case!(2 of $n: $($v)+) };
+    (@rest 6 of $n:tt: $($v:tt)+) => { $crate::case!(3 of $n: $($v)+) };
+    (@rest 7 of $n:tt: $($v:tt)+) => { $crate::case!(4 of $n: $($v)+) };
+    (@rest 8 of $n:tt: $($v:tt)+) => { $crate::case!(5 of $n: $($v)+) };
+    (@rest 9 of $n:tt: $($v:tt)+) => { $crate::case!(6 of $n: $($v)+) };
+}
+
 /// The order of values of two alternatives, which begin with different tags.
 fn other_cmp<A: FirstTag, B: FirstTag>(value: &A, other: &B) -> Ordering
     ensures { is_apart (either A.shape B.shape) ≡ true

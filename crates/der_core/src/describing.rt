@@ -3,11 +3,12 @@
 //!
 //! - `AsRecord`, a SEQUENCE of fields: `FieldsView`, `DecodeFields` (which reads a row by
 //!   `DecodeRow`) and `Rows` (which lends rows).
-//! - `AsField<F>`, a type of one field: `Wraps<F>`.
+//! - `AsField<F>`, a type of one field: `From<F>` and `Wraps<F>`.
 //! - `AsOctets`, a content whose octets a value holds: `FixedTag`, `Primitive`, `Leaf`, `Octets`.
 //! - `AsLeaf`, another content that is no list of values: `FixedTag`, `Primitive`, `Leaf`,
 //!   `EncodeLeaf`.
-//! - `AsInteger`, a whole number of at most 128 bits: `Integer`.
+//! - `AsInteger`, a whole number of at most 128 bits: `Integer`, or `Numbered` where each value has a
+//!   number of eight bits; `AsEnumerated`, such a number behind the tag ENUMERATED.
 //!
 //! A record is compared field after field; another type says `Ordered`, or has an order of its own.
 //! Where the way doesn't know that values are in range, the type says it (`InRangeValue`).
@@ -15,6 +16,7 @@
 pub use crate::order::{OrderWay, Ordered};
 pub use crate::records::{AsRecord, RowUser, Rows};
 pub use der_core_coding::values::describing::{
-    AsField, AsInteger, AsLeaf, AsOctets, Described, EncodeLeaf, Octets, Primitive, Wraps,
+    AsEnumerated, AsField, AsInteger, AsLeaf, AsOctets, Described, EncodeLeaf, Numbered, Octets,
+    Primitive, Wraps,
 };
 pub use der_core_coding::values::{DecodeRow, FieldRow, FieldsView};

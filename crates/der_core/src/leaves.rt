@@ -41,7 +41,7 @@ fn integer_cmp<T: Integer>(a: &T, b: &T) -> Ordering
     octets[start..].cmp(&other_octets[other_start..])
 }
 
-impl<T: Integer> OrderWay<T> for AsInteger {
+impl<T: Integer, K> OrderWay<T> for AsInteger<K> {
     #[tactic(auto, using(crate::proofs::LeafOrders::leaf_contents))]
     fn cmp_by(value: &T, other: &T) -> Result<Ordering, Error> {
         Ok(integer_cmp(value, other))

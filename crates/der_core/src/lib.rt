@@ -36,10 +36,9 @@ pub use der_core_coding::values::{
     decode_octets,
 };
 pub use der_core_coding::{
-    DefaultContent, DefaultValue, EncodeFields, EncodeRef, EncodeValueRef, Explicit, Implicit,
-    ImplicitRef, IsConstructed, SliceReader, SliceWriter, Tagged, WithDefault, encode_to_slice,
-    encode_to_vec, encode_value_to_slice, from_ber, from_der, from_der_partial, reading, to_der,
-    value_header,
+    DefaultContent, DefaultValue, EncodeFields, EncodeRef, EncodeValueRef, Explicit, FromDer,
+    Implicit, ImplicitRef, IsConstructed, Reading, SliceReader, SliceWriter, Tagged, ToDer,
+    WithDefault, encode_value_to_slice, value_header,
 };
 pub use der_core_head::{
     CLASS_APPLICATION, CLASS_CONTEXT_SPECIFIC, CLASS_PRIVATE, CLASS_UNIVERSAL, Class,

@@ -14,6 +14,7 @@ pub use der_core_coding::values::{
 };
 pub use der_core_coding::{
     decode_sliced, encode_behind, encode_explicit, encode_implicit, explicit_of, explicit_ref,
-    implicit_of, implicit_ref, is_zero, leaf_from_der, len_behind, read_rising,
+    implicit_of, implicit_ref, is_zero, leaf_from_der, len_behind, optional_explicit,
+    optional_implicit, read_explicit, read_rising,
 };
 pub use der_core_head::{header_len, is_constructed, is_same_tag, leading_octet_of, number_of};

@@ -20,30 +20,40 @@ use der_core_head::{Error, Length, Tag};
 use std::alloc::Global;
 use std::cmp::Ordering;
 
-/// Lends the fields of two values to a user of rows: `lend!(self, other, user; first, second)`, or
-/// what is lent of each, as `lend!(self, other, user; |x| EncodeRef(&x.first))`.
+/// Lends the fields of two values to a user of rows: `lend!(self, other, user; first, second)`.
+///
+/// A field of another form says it: `third: default`, `implicit 0`, `implicit 0 default`,
+/// `implicit 0 optional`, `explicit 0` or `explicit 0 optional`.
 #[macro_export]
 macro_rules! lend {
     (@row) => { () };
     (@row $field:expr $(, $more:expr)*) => {
         ($field, $crate::lend!(@row $($more),*))
     };
-    ($value:expr, $other:expr, $user:expr; $($field:ident),+) => {
-        $user.take(
-            &$crate::lend!(@row $($crate::EncodeRef(&$value.$field)),+),
-            &$crate::lend!(@row $($crate::EncodeRef(&$other.$field)),+),
-        )
+    (@field $of:expr, $field:ident) => { $crate::EncodeRef(&$of.$field) };
+    (@field $of:expr, $field:ident default) => { $crate::WithDefault { value: $of.$field } };
+    (@field $of:expr, $field:ident implicit $n:literal default) => {
+        $crate::WithDefault { value: $crate::Implicit::<_, $n> { value: $of.$field } }
     };
-    ($value:expr, $other:expr, $user:expr; |$of:ident| $($field:expr),+) => {
+    (@field $of:expr, $field:ident implicit $n:literal optional) => {
+        $crate::making::implicit_ref::<_, $n>(&$of.$field)
+    };
+    (@field $of:expr, $field:ident explicit $n:literal optional) => {
+        $crate::making::explicit_ref::<_, $n>(&$of.$field)
+    };
+    (@field $of:expr, $field:ident implicit $n:literal) => {
+        $crate::ImplicitRef::<_, $n> { value: &$of.$field }
+    };
+    (@field $of:expr, $field:ident explicit $n:literal) => {
+        $crate::Explicit::<_, $n> { value: $crate::EncodeRef(&$of.$field) }
+    };
+    ($value:expr, $other:expr, $user:expr;
+        $($field:ident $(: $form:ident $($n:literal $($kind:ident)?)?)?),+ $(,)?) => {
         $user.take(
-            &{
-                let $of = $value;
-                $crate::lend!(@row $($field),+)
-            },
-            &{
-                let $of = $other;
-                $crate::lend!(@row $($field),+)
-            },
+            &$crate::lend!(@row
+                $($crate::lend!(@field $value, $field $($form $($n $($kind)?)?)?)),+),
+            &$crate::lend!(@row
+                $($crate::lend!(@field $other, $field $($form $($n $($kind)?)?)?)),+),
         )
     };
 }
@@ -55,6 +65,37 @@ macro_rules! row {
     ($field:pat $(, $more:pat)*) => {
         ($field, $crate::row!($($more),*))
     };
+}
+
+/// Reads a record by a row of its fields, in the notation of `lend!`:
+/// `read_row!(alloc, reader; Point { x, y: implicit 0 optional })`.
+#[macro_export]
+macro_rules! read_row {
+    (@pattern $field:ident) => { $field };
+    (@pattern $field:ident default) => { $crate::WithDefault { value: $field } };
+    (@pattern $field:ident implicit $n:literal default) => {
+        $crate::WithDefault { value: $crate::Implicit::<_, $n> { value: $field } }
+    };
+    (@pattern $field:ident implicit $n:literal) => { $crate::Implicit::<_, $n> { value: $field } };
+    (@pattern $field:ident explicit $n:literal) => { $crate::Explicit::<_, $n> { value: $field } };
+    (@pattern $field:ident $form:ident $n:literal optional) => { $field };
+    (@value $field:ident implicit $n:literal optional) => {
+        $crate::making::implicit_of::<_, $n>($field)
+    };
+    (@value $field:ident explicit $n:literal optional) => {
+        $crate::making::explicit_of::<_, $n>($field)
+    };
+    (@value $field:ident $($form:tt)*) => { $field };
+    ($alloc:expr, $reader:expr; $record:ident {
+        $($field:ident $(: $form:ident $($n:literal $($kind:ident)?)?)?),+ $(,)?
+    }) => {{
+        let $crate::row!(
+            $($crate::read_row!(@pattern $field $($form $($n $($kind)?)?)?)),+
+        ) = $crate::describing::DecodeRow::decode_row($alloc, $reader)?;
+        Ok($record {
+            $($field: $crate::read_row!(@value $field $($form $($n $($kind)?)?)?)),+
+        })
+    }};
 }
 
 /// What is done with the fields of two values, each lent in a row.

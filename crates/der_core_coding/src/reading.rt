@@ -13,22 +13,6 @@ use der_core_octets::headers::Header;
 use der_core_values::{Decode, DecodeValue, FixedTag};
 use std::alloc::Global;
 
-/// The value that stands next. After a refusal the reader has failed.
-///
-/// # Errors
-/// The first fault from the left, or `OutOfMemory`; `Failed` where the reader failed before.
-pub fn decode<'a, R: Reader<'a>, T: Decode<'a, R>>(
-    alloc: Global,
-    reader: &mut R,
-) -> Result<T, Error>
-    ensures reads { Reads T.plain (R.state reader.old) (R.state reader.new) result
-        (read_at (R.state reader.old) T.shape) }
-    ensures refused { OnErr result ((R.state reader.new).failed ≡ true) }
-{
-    let value = T::decode(alloc, reader)?;
-    Ok(value)
-}
-
 /// The value in a content that is its encoding, all of the octets.
 fn read_only<'a, R: Reader<'a>, T: Decode<'a, R>>(
     alloc: Global,
@@ -130,44 +114,63 @@ pub fn optional_implicit<'a, R: Reader<'a>, T: DecodeValue<'a, R>>(
     }
 }
 
-/// The value behind a context-specific tag of that number, if that tag stands next (X.690 8.14).
-///
-/// # Errors
-/// The first fault from the left, or `OutOfMemory`; `Failed` where the reader failed before.
-pub fn context_specific<'a, R: Reader<'a>, T: DecodeValue<'a, R> + FixedTag>(
-    alloc: Global,
-    reader: &mut R,
-    tag_number: TagNumber,
-    tag_mode: TagMode,
-) -> Result<Option<T>, Error>
-    ensures explicit { tag_mode ≡ modes.Explicit
-        → Reads (plain_option T.value_plain) (R.state reader.old) (R.state reader.new) result
-        (read_at (R.state reader.old)
-        (optional
-        (tagged (context true tag_number.value)
-        (nested (only (tagged T.fixed_tag T.content)))))) }
-    ensures implicit { tag_mode ≡ modes.Implicit
-        → Reads (plain_option T.value_plain) (R.state reader.old) (R.state reader.new) result
-        (read_at (R.state reader.old)
-        (optional (tagged (implicit_tag tag_number.value T.fixed_tag) T.content))) }
-{
-    let number = tag_number;
-    match tag_mode {
-        TagMode::Explicit => {
-            let constructed = true;
-            let tag = Tag::ContextSpecific {
-                constructed,
-                number,
-            };
-            optional_explicit(alloc, reader, tag)
-        }
-        TagMode::Implicit => {
-            let constructed = is_constructed(T::tag());
-            let tag = Tag::ContextSpecific {
-                constructed,
-                number,
-            };
-            optional_implicit(alloc, reader, tag)
+/// What is read of a reader, by the type of what is read.
+pub trait Reading<'r>: Reader<'r> + Sized {
+    /// The value that stands next. After a refusal the reader has failed.
+    ///
+    /// # Errors
+    /// The first fault from the left, or `OutOfMemory`; `Failed` where the reader failed before.
+    final fn decode<T: Decode<'r, Self>>(&mut self, alloc: Global) -> Result<T, Error>
+        ensures reads { Reads T.plain (Self.state self.old) (Self.state self.new) result
+            (read_at (Self.state self.old) T.shape) }
+        ensures refused { OnErr result ((Self.state self.new).failed ≡ true) }
+    {
+        let value = T::decode(alloc, self)?;
+        Ok(value)
+    }
+
+    /// The value behind a context-specific tag of that number, if that tag stands next
+    /// (X.690 8.14).
+    ///
+    /// # Errors
+    /// The first fault from the left, or `OutOfMemory`; `Failed` where the reader failed before.
+    final fn context_specific<T: DecodeValue<'r, Self> + FixedTag>(
+        &mut self,
+        alloc: Global,
+        tag_number: TagNumber,
+        tag_mode: TagMode,
+    ) -> Result<Option<T>, Error>
+        ensures explicit { tag_mode ≡ modes.Explicit
+            → Reads (plain_option T.value_plain) (Self.state self.old) (Self.state self.new) result
+            (read_at (Self.state self.old)
+            (optional
+            (tagged (context true tag_number.value)
+            (nested (only (tagged T.fixed_tag T.content)))))) }
+        ensures implicit { tag_mode ≡ modes.Implicit
+            → Reads (plain_option T.value_plain) (Self.state self.old) (Self.state self.new) result
+            (read_at (Self.state self.old)
+            (optional (tagged (implicit_tag tag_number.value T.fixed_tag) T.content))) }
+    {
+        let number = tag_number;
+        match tag_mode {
+            TagMode::Explicit => {
+                let constructed = true;
+                let tag = Tag::ContextSpecific {
+                    constructed,
+                    number,
+                };
+                optional_explicit(alloc, self, tag)
+            }
+            TagMode::Implicit => {
+                let constructed = is_constructed(T::tag());
+                let tag = Tag::ContextSpecific {
+                    constructed,
+                    number,
+                };
+                optional_implicit(alloc, self, tag)
+            }
         }
     }
 }
+
+impl<'r, R: Reader<'r>> Reading<'r> for R {}

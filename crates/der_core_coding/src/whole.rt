@@ -1,7 +1,8 @@
-//! Reading of all octets.
+//! Reading of all octets, and from their front.
 
 ghost use Rattle.std.specs.Prelude.{◌≡◌, ◌<◌, ◌^◌, ◌++◌, ℕ, List, length, [], true, false, Ok};
-ghost use Rattle.std.specs.Prelude.{IfOk};
+ghost use Rattle.std.specs.Prelude.{◌≢◌, IfOk, IfErr};
+ghost use Rattle.der_core_head.specs.declared.error.ErrorKind.TheVariants.{OutOfMemory};
 ghost use Rattle.der_core_head.specs.Limits.{levels_max};
 ghost use Rattle.der_core_head.specs.Heads.{Fits};
 ghost use Rattle.der_core_head.specs.Shapes.{Value, Spells, IsValid, octets_of, leaf, tagged};
@@ -34,26 +35,33 @@ fn read_whole<'a, T: Decode<'a, SliceReader<'a>>>(
     }
 }
 
-/// The value that the octets spell, all of the octets.
-///
-/// # Errors
-/// `Overflow` for 2^32 octets or more, else the first fault from the left, `TrailingData` where
-/// octets are left behind the value, or `OutOfMemory`.
-pub fn from_der<'a, T: Decode<'a, SliceReader<'a>>>(
+/// Reads all of the octets, whose headers are read by BER.
+#[tactic(auto, unfolding(crate::specs::Wholes::whole_ber_at))]
+fn read_whole_by_ber<'a, T: Decode<'a, SliceReader<'a>>>(
     alloc: Global,
     bytes: &'a [u8],
 ) -> Result<T, Error>
-    // What is read is spelled so.
-    ensures spelled { is_apart T.shape ≡ true
-        → IfOk result (λ v. Spells T.shape (T.plain v) bytes.now) }
-    // What is spelled so is read, unless memory runs out.
-    ensures only { (v : Value T.shape) → is_apart T.shape ≡ true → are_enough T.shape levels_max
-        ≡ true
-        → Spells T.shape v bytes.now → Gives T.plain result (Ok v) }
-    // Which fault it is.
-    ensures exact { Gives (λ v. (T.plain v, [])) result (read_whole T.shape bytes.now) }
+    ensures { Gives (λ v. (T.plain v, [])) result (whole_ber_at T.shape bytes.now) }
 {
-    read_whole(alloc, bytes)
+    let mut reader = SliceReader::new_with_encoding_rules(bytes, EncodingRules::Ber)?;
+    let value = T::decode(alloc, &mut reader)?;
+    if reader.is_finished() {
+        Ok(value)
+    } else {
+        Err(ErrorKind::TrailingData.at(reader.position()))
+    }
+}
+
+/// Reads the value at the front of the octets.
+fn read_front<'a, T: Decode<'a, SliceReader<'a>>>(
+    alloc: Global,
+    bytes: &'a [u8],
+) -> Result<(T, &'a [u8]), Error>
+    ensures { Gives (λ x. (T.plain x.0, x.1.now)) result (read_front T.shape bytes.now) }
+{
+    let mut reader = SliceReader::new(bytes)?;
+    let value = T::decode(alloc, &mut reader)?;
+    Ok((value, reader.remaining()))
 }
 
 /// The value of a leaf that the octets spell behind the tag of its type, all of the octets.
@@ -77,59 +85,64 @@ pub fn leaf_from_der<'a, T: Leaf<'a> + FixedTag>(alloc: Global, bytes: &'a [u8])
     }
 }
 
-/// The value at the front of the octets, and the octets behind it.
-///
-/// # Errors
-/// `Overflow` for 2^32 octets or more, else the first fault from the left, or `OutOfMemory`.
-pub fn from_der_partial<'a, T: Decode<'a, SliceReader<'a>>>(
-    alloc: Global,
-    bytes: &'a [u8],
-) -> Result<(T, &'a [u8]), Error>
-    // What is read is spelled so, and what is lent follows it.
-    ensures spelled { is_apart T.shape ≡ true → IfOk result (λ x.
-        IsValid T.shape (T.plain x.0) × (bytes.now ≡ octets_of T.shape (T.plain x.0) ++ x.1.now)) }
-    // What is spelled so is read, whatever follows it, unless memory runs out.
-    ensures only { (v : Value T.shape) (r : List ℕ) → is_element T.shape ≡ true → is_apart T.shape
-        ≡ true → are_enough T.shape levels_max ≡ true
-        → IsValid T.shape v → bytes.now ≡ octets_of T.shape v ++ r → Fits bytes.now
-        → Gives {P = Value T.shape × List ℕ} (λ x. (T.plain x.0, x.1.now)) result (Ok (v, r)) }
-    // Which fault it is.
-    ensures exact { Gives (λ x. (T.plain x.0, x.1.now)) result (read_front T.shape bytes.now) }
-{
-    read_front(alloc, bytes)
-}
+/// A type whose values are read from slices: all of the octets, or the front of them.
+pub trait FromDer<'a>: Decode<'a, SliceReader<'a>> {
+    /// The value that the octets spell, all of the octets.
+    ///
+    /// # Errors
+    /// `Overflow` for 2^32 octets or more, else the first fault from the left, `TrailingData` where
+    /// octets are left behind the value, or `OutOfMemory`.
+    final fn from_der(alloc: Global, bytes: &'a [u8]) -> Result<Self, Error>
+        // What is read is spelled so.
+        ensures spelled { is_apart Self.shape ≡ true
+            → IfOk result (λ v. Spells Self.shape (Self.plain v) bytes.now) }
+        // What is spelled so is read, unless memory runs out.
+        ensures only { (v : Value Self.shape) → is_apart Self.shape ≡ true
+            → are_enough Self.shape levels_max ≡ true
+            → Spells Self.shape v bytes.now → Gives Self.plain result (Ok v) }
+        // What is refused for another reason than want of memory is spelled by no value.
+        ensures refused { is_apart Self.shape ≡ true → are_enough Self.shape levels_max ≡ true
+            → IfErr result (λ e. e.kind ≢ OutOfMemory
+            → (v : Value Self.shape) → Spells Self.shape v bytes.now → ⊥) }
+        // Which fault it is.
+        ensures exact { Gives (λ v. (Self.plain v, [])) result (read_whole Self.shape bytes.now) }
+    {
+        read_whole(alloc, bytes)
+    }
 
-/// Reads the value at the front of the octets.
-fn read_front<'a, T: Decode<'a, SliceReader<'a>>>(
-    alloc: Global,
-    bytes: &'a [u8],
-) -> Result<(T, &'a [u8]), Error>
-    ensures { Gives (λ x. (T.plain x.0, x.1.now)) result (read_front T.shape bytes.now) }
-{
-    let mut reader = SliceReader::new(bytes)?;
-    let value = T::decode(alloc, &mut reader)?;
-    Ok((value, reader.remaining()))
-}
+    /// The value at the front of the octets, and the octets behind it.
+    ///
+    /// # Errors
+    /// `Overflow` for 2^32 octets or more, else the first fault from the left, or `OutOfMemory`.
+    final fn from_der_partial(alloc: Global, bytes: &'a [u8]) -> Result<(Self, &'a [u8]), Error>
+        // What is read is spelled so, and what is lent follows it.
+        ensures spelled { is_apart Self.shape ≡ true → IfOk result (λ x.
+            IsValid Self.shape (Self.plain x.0)
+            × (bytes.now ≡ octets_of Self.shape (Self.plain x.0) ++ x.1.now)) }
+        // What is spelled so is read, whatever follows it, unless memory runs out.
+        ensures only { (v : Value Self.shape) (r : List ℕ) → is_element Self.shape ≡ true
+            → is_apart Self.shape ≡ true → are_enough Self.shape levels_max ≡ true
+            → IsValid Self.shape v → bytes.now ≡ octets_of Self.shape v ++ r → Fits bytes.now
+            → Gives {P = Value Self.shape × List ℕ} (λ x. (Self.plain x.0, x.1.now)) result
+            (Ok (v, r)) }
+        // Which fault it is.
+        ensures exact { Gives (λ x. (Self.plain x.0, x.1.now)) result
+            (read_front Self.shape bytes.now) }
+    {
+        read_front(alloc, bytes)
+    }
 
-/// The value that octets under BER spell, all of the octets (X.690 8).
-///
-/// Headers are read by BER, contents as under DER.
-///
-/// # Errors
-/// `Overflow` for 2^32 octets or more, else the first fault from the left, `TrailingData` where
-/// octets are left behind the value, or `OutOfMemory`.
-#[tactic(auto, unfolding(crate::specs::Wholes::whole_ber_at))]
-pub fn from_ber<'a, T: Decode<'a, SliceReader<'a>>>(
-    alloc: Global,
-    bytes: &'a [u8],
-) -> Result<T, Error>
-    ensures { Gives (λ v. (T.plain v, [])) result (whole_ber_at T.shape bytes.now) }
-{
-    let mut reader = SliceReader::new_with_encoding_rules(bytes, EncodingRules::Ber)?;
-    let value = T::decode(alloc, &mut reader)?;
-    if reader.is_finished() {
-        Ok(value)
-    } else {
-        Err(ErrorKind::TrailingData.at(reader.position()))
+    /// The value that octets under BER spell, all of the octets (X.690 8).
+    ///
+    /// Headers are read by BER, contents as under DER.
+    ///
+    /// # Errors
+    /// Those of `from_der`.
+    final fn from_ber(alloc: Global, bytes: &'a [u8]) -> Result<Self, Error>
+        ensures { Gives (λ v. (Self.plain v, [])) result (whole_ber_at Self.shape bytes.now) }
+    {
+        read_whole_by_ber(alloc, bytes)
     }
 }
+
+impl<'a, T: Decode<'a, SliceReader<'a>>> FromDer<'a> for T {}

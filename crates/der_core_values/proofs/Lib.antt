@@ -2,3 +2,4 @@ pub mod Contents
 pub mod Lists
 pub mod InTurn
 pub mod Headed
+mod NamedNumbers

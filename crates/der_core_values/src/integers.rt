@@ -1,19 +1,21 @@
 //! Whole numbers: two's complement in the fewest octets (X.690 8.3).
 
 ghost use Rattle.std.specs.Prelude.{◌≡◌, ℤ, pos, false, refl};
-ghost use Rattle.der_core_head.specs.declared.tag.Tag.TheVariants.{Integer as IntegerTag};
+ghost use Rattle.der_core_head.specs.declared.tag.Tag.TheVariants as tags;
 ghost use Rattle.der_core_head.specs.Shapes.{leaf};
 ghost use Rattle.der_core_head.specs.Integers.{Numbers, IsNumber, unsigned, signed, integer_read};
 ghost use Rattle.der_core_head.specs.Leaves.{integer};
 ghost use Rattle.der_core_head.specs.Reading.{GivesNow};
 ghost use Rattle.der_core_octets.specs.Numbers.{signed_number};
 
+use crate::decode::FixedTag;
 use crate::leaves::{Leaf, Primitive, decode_leaf};
 use crate::ways::{AsReadWay, DecodeWay, Described, RangeWay, TagWay, Way};
 use der_core_head::{Error, Length, Tag};
 use der_core_octets::headers::Header;
 use der_core_octets::{Reader, Writer, integer_octets_of, signed_of, unsigned_of};
 use std::alloc::Global;
+use std::marker::PhantomData;
 
 /// A type of whole numbers.
 pub trait Integer: Drop {
@@ -51,10 +53,38 @@ impl<'a, T: Integer> Leaf<'a> for T {
     }
 }
 
-/// As an INTEGER: two's complement in the fewest octets (X.690 8.3).
-pub struct AsInteger;
+/// The tag INTEGER.
+pub struct IntegerTag;
 
-impl<T: Integer> Way<T> for AsInteger {
+impl FixedTag for IntegerTag {
+    ghost fixed_tag = { tags.Integer };
+
+    fn tag() -> Tag {
+        Tag::Integer
+    }
+}
+
+/// The tag ENUMERATED.
+pub struct EnumeratedTag;
+
+impl FixedTag for EnumeratedTag {
+    ghost fixed_tag = { tags.Enumerated };
+
+    fn tag() -> Tag {
+        Tag::Enumerated
+    }
+}
+
+/// As an INTEGER: two's complement in the fewest octets (X.690 8.3); or behind the tag of `K`, as
+/// an ENUMERATED (8.4).
+pub struct AsInteger<K = IntegerTag> {
+    tag: PhantomData<K>,
+}
+
+/// As an ENUMERATED (X.690 8.4).
+pub type AsEnumerated = AsInteger<EnumeratedTag>;
+
+impl<T: Integer, K> Way<T> for AsInteger<K> {
     ghost content_by = { leaf (integer T.numbers) };
 
     ghost plain_by = { T.number };
@@ -78,25 +108,25 @@ impl<T: Integer> Way<T> for AsInteger {
     ghost apart_by = { refl };
 }
 
-impl<T> TagWay<T> for AsInteger {
-    ghost tag_by = { IntegerTag };
+impl<T, K: FixedTag> TagWay<T> for AsInteger<K> {
+    ghost tag_by = { K.fixed_tag };
 
     fn tag_of() -> Tag {
-        Tag::Integer
+        K::tag()
     }
 }
 
-impl<T: Integer> AsReadWay<T> for AsInteger {
+impl<T: Integer, K> AsReadWay<T> for AsInteger<K> {
     ghost as_read_by = { λ _. refl };
 }
 
-impl<'a, R: Reader<'a>, T: Integer> DecodeWay<'a, R, T> for AsInteger {
+impl<'a, R: Reader<'a>, T: Integer, K> DecodeWay<'a, R, T> for AsInteger<K> {
     fn decode_by(alloc: Global, reader: &mut R, header: Header) -> Result<T, Error> {
         decode_leaf(alloc, reader, header)
     }
 }
 
-impl<T: Integer> RangeWay<T> for AsInteger {
+impl<T: Integer, K> RangeWay<T> for AsInteger<K> {
     fn range_by(value: &T) {
         let _magnitude = value.magnitude();
     }

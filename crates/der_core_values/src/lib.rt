@@ -17,6 +17,7 @@ mod leaf_ways;
 mod leaves;
 mod nothing;
 mod now;
+mod numbered;
 mod one_of_four;
 mod one_of_two;
 mod texts;

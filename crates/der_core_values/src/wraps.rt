@@ -13,17 +13,23 @@ use der_core_octets::{Reader, Writer};
 use std::alloc::Global;
 use std::marker::PhantomData;
 
-/// A type of one field.
-pub trait Wraps<F> {
+/// A type of one field, which is made of a value of that field.
+pub trait Wraps<F>: From<F> {
     ghost inner: { Self → F };
 
     /// The field.
     fn inner(&self) -> &F
         ensures { result.now ≡ inner self.now };
 
-    /// The value whose field it is.
-    fn wrap(field: F) -> Self
-        ensures { inner result ≡ field };
+    /// What is made of a value has it as its field.
+    ghost made: { (field : F) (value : Self) → Self.from_gives field value → inner value ≡ field };
+}
+
+/// The value whose field it is.
+fn wrapped<F, T: Wraps<F>>(field: F) -> T
+    ensures { T.inner result ≡ field }
+{
+    T::from(field)
 }
 
 /// As its field, of type `F`: its tag, its content, its range and its order are those of the field.
@@ -68,7 +74,7 @@ impl<'a, R: Reader<'a>, F: DecodeValue<'a, R> + EncodeValue + ApartValue, T: Wra
 > for AsField<F> {
     fn decode_by(alloc: Global, reader: &mut R, header: Header) -> Result<T, Error> {
         let field = F::decode_value(alloc, reader, header)?;
-        Ok(T::wrap(field))
+        Ok(wrapped(field))
     }
 }
 

@@ -3,13 +3,13 @@
 use crate::refusals::Refusal;
 use crate::shown::written;
 use crate::small::Small;
-use der_core::{Error, ErrorKind, from_der};
+use der_core::{Error, ErrorKind, FromDer};
 use der_types_sets::SetOfVec;
 use std::alloc::Global;
 
 /// What is written of the set that these members fill, as the word asks.
 pub fn answer(alloc: Global, word: &str, octets: &[u8]) -> Result<String, Refusal> {
-    let members: Vec<Small> = from_der(alloc, octets)?;
+    let members = Vec::<Small>::from_der(alloc, octets)?;
     let members = members.as_slice();
     match word {
         "insert" | "append" => set_written(alloc, placed(alloc, word, members)),

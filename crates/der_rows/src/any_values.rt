@@ -5,7 +5,7 @@ use crate::questions::{Asked, Question, answer_as};
 use crate::refusals::Refusal;
 use crate::shown::{named, written_in};
 use der_core::describing::Described;
-use der_core::{Encode, EncodeValue, EncodingRules, Error, FixedTag, SliceReader, from_der};
+use der_core::{Encode, EncodeValue, EncodingRules, Error, FixedTag, FromDer, SliceReader};
 use der_core_values::describing::DecodeWay;
 use der_types_any::{Any, AnyRef};
 use der_types_numbers::IntRef;
@@ -26,8 +26,8 @@ pub fn answer(alloc: Global, kind: &str, question: &Question<'_>) -> Result<Stri
 fn answer_of_any(alloc: Global, question: &Question<'_>) -> Result<String, Refusal> {
     match question.asked {
         Asked::Contents => {
-            let first: Any = from_der(alloc, question.first)?;
-            let second: Any = from_der(alloc, question.second)?;
+            let first = Any::from_der(alloc, question.first)?;
+            let second = Any::from_der(alloc, question.second)?;
             named(alloc, first.value_cmp(&second))
         }
         _ => answer_as::<Any>(alloc, question),
@@ -55,7 +55,7 @@ pub fn answer_of_conversions(
     if word == "any-ref-from" {
         return lent_from(alloc, kind, octets);
     }
-    answer_of_conversion(alloc, word, kind, &from_der(alloc, octets)?)
+    answer_of_conversion(alloc, word, kind, &FromDer::from_der(alloc, octets)?)
 }
 
 /// The answer to a question about what any value is read as, or is converted to.
@@ -129,13 +129,13 @@ fn lent_from_value<'a, T: Described + FixedTag + Into<AnyRef<'a>> + Drop>(
 where
     T::By: DecodeWay<'a, SliceReader<'a>, T>,
 {
-    let value: T = from_der(alloc, octets)?;
+    let value = T::from_der(alloc, octets)?;
     let any: AnyRef<'a> = value.into();
     written_in(alloc, Ok(any))
 }
 
 /// What is written of any value that is made of a text.
 fn lent_from_text(alloc: Global, octets: &[u8]) -> Result<String, Refusal> {
-    let text: &str = from_der(alloc, octets)?;
+    let text = <&str>::from_der(alloc, octets)?;
     written_in(alloc, AnyRef::try_from(text))
 }

@@ -4,8 +4,8 @@ use crate::refusals::Refusal;
 use crate::shown::{hex_of, joined, name_of, named, octets_of, shown};
 use const_oid::ObjectIdentifier;
 use der_core::{
-    BytesOwned, BytesRef, DecodeValue, EncodeValue, EncodeValueRef, FixedTag, Header, Length,
-    OrdIsValueOrd, SliceReader, StringOwned, StringRef, Tag, ValueOrd, der_cmp_by_ord, from_der,
+    BytesOwned, BytesRef, DecodeValue, EncodeValue, EncodeValueRef, FixedTag, FromDer, Header,
+    Length, OrdIsValueOrd, SliceReader, StringOwned, StringRef, Tag, ValueOrd, der_cmp_by_ord,
     value_cmp_by_ord, value_cmp_is_ord,
 };
 use std::alloc::{AllocError, Global};
@@ -113,8 +113,8 @@ fn orders_by_ord<
     'a,
     T: DecodeValue<'a, SliceReader<'a>> + EncodeValue + FixedTag + OrdIsValueOrd + ValueOrd,
 >(alloc: Global, first: &'a [u8], second: &'a [u8]) -> Result<String, Refusal> {
-    let first: T = from_der(alloc, first)?;
-    let second: T = from_der(alloc, second)?;
+    let first = T::from_der(alloc, first)?;
+    let second = T::from_der(alloc, second)?;
     orders_of(alloc, &first, &second)
 }
 

@@ -7,7 +7,7 @@ use crate::shown::{joined, shown, written, written_in};
 use crate::small::Small;
 use crate::{contents, fields};
 use der_core::describing::Described;
-use der_core::{Decode, Encode, EncodingRules, FixedTag, SliceReader, from_der};
+use der_core::{Decode, Encode, EncodingRules, FixedTag, FromDer, SliceReader};
 use der_core_values::describing::DecodeWay;
 use der_types_any::{Any, AnyRef};
 use der_types_numbers::{Int, IntRef, Uint, UintRef};
@@ -186,7 +186,7 @@ fn copies<'a, T: Decode<'a, SliceReader<'a>> + Copied<O>, O: Clone + Encode + Dr
     alloc: Global,
     octets: &'a [u8],
 ) -> Result<String, Refusal> {
-    let value: T = from_der(alloc, octets)?;
+    let value = T::from_der(alloc, octets)?;
     both_written(alloc, value.copied(alloc))
 }
 

@@ -2,9 +2,10 @@
 
 ghost use Rattle.std.specs.Prelude.{refl};
 
-use der_core::describing::{AsRecord, DecodeRow, Described, FieldRow, RowUser, Rows};
+use der_core::describing::{AsRecord, Described, FieldRow, RowUser, Rows};
 use der_core::{
-    DecodeFields, Error, Fields, Implicit, InRange, InRangeValue, Reader, StrictSetOf, lend, row,
+    DecodeFields, Error, Fields, Implicit, InRange, InRangeValue, Reader, StrictSetOf, lend,
+    read_row,
 };
 use der_types_numbers::Uint;
 use der_types_text::PrintableString;
@@ -56,14 +57,7 @@ impl Fields for Entry {
 
 impl<'a, R: Reader<'a>> DecodeFields<'a, R> for Entry {
     fn decode_fields(alloc: Global, reader: &mut R) -> Result<Entry, Error> {
-        let row!(number, name, since, uses, codes) = Row::decode_row(alloc, reader)?;
-        Ok(Entry {
-            number,
-            name,
-            since,
-            uses,
-            codes,
-        })
+        read_row!(alloc, reader; Entry { number, name, since, uses, codes })
     }
 }
 

@@ -9,7 +9,7 @@ use crate::shown::written_in;
 use crate::{key_usages, texts};
 use const_oid::ObjectIdentifier;
 use der_core::making::leaf_from_der;
-use der_core::{EncodeValue, Explicit, FixedTag, Implicit, Leaf, from_der};
+use der_core::{EncodeValue, Explicit, FixedTag, FromDer, Implicit, Leaf};
 use der_types_numbers::{Int, IntRef, Uint, UintRef};
 use der_types_text::PrintableString;
 use der_types_values::{BitString, BitStringRef, Null, OctetString, OctetStringRef, SequenceRef};
@@ -94,7 +94,7 @@ fn answer_of_bits(alloc: Global, question: &Question<'_>) -> Result<String, Refu
 
 /// The bits of the string that octets spell.
 fn bits_of(alloc: Global, octets: &[u8]) -> Result<String, Refusal> {
-    let string: BitString = from_der(alloc, octets)?;
+    let string = BitString::from_der(alloc, octets)?;
     let mut text = String::new(alloc);
     for bit in string.bits() {
         text.push(if bit { '1' } else { '0' })?;

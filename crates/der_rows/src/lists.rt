@@ -8,8 +8,8 @@ use crate::small::Small;
 use crate::{fields, record};
 use der_core::{
     ApartValue, AsRead, AsReadValue, Decode, DecodeValue, DerOrd, Element, Encode, EncodeValue,
-    EncodingRules, Error, FixedTag, Header, InRange, Member, Reader, SliceReader, Tag, ValueOrd,
-    from_ber, from_der,
+    EncodingRules, Error, FixedTag, FromDer, Header, InRange, Member, Reader, SliceReader, Tag,
+    ValueOrd,
 };
 use der_types_sets::{SequenceOf, SetOf, SetOfRef, SetOfVec};
 use der_types_values::{FlagSet, OctetStringRef};
@@ -198,7 +198,7 @@ fn order_of_lent(
 /// The values of a SEQUENCE OF; none where other octets stand.
 fn values_of(alloc: Global, octets: &[u8]) -> Result<Vec<Small>, Error> {
     if octets.starts_with(b"\x30") {
-        from_der(alloc, octets)
+        Vec::<Small>::from_der(alloc, octets)
     } else {
         Ok(Vec::new(alloc))
     }
@@ -224,9 +224,9 @@ pub fn read_lent<'a, T: Decode<'a, SliceReader<'a>> + Member>(
     rules: EncodingRules,
 ) -> Result<SetOfRef<'a, T>, Error> {
     if rules.is_der() {
-        return from_der(alloc, octets);
+        return SetOfRef::from_der(alloc, octets);
     }
-    from_ber(alloc, octets)
+    SetOfRef::from_ber(alloc, octets)
 }
 
 /// The answer to a question about members of a set that are read or placed.
@@ -261,7 +261,10 @@ fn written_set<
         "set-strict" => written_in(alloc, strict::<T>(alloc, octets, EncodingRules::Der)),
         "set-strict-ber" => written_in(alloc, strict::<T>(alloc, octets, EncodingRules::Ber)),
         "set-from" | "set-insert" | "set-append" => {
-            written_in(alloc, gathered::<T>(alloc, word, from_der(alloc, octets)?))
+            written_in(
+                alloc,
+                gathered::<T>(alloc, word, FromDer::from_der(alloc, octets)?),
+            )
         }
         _ => Err(Refusal::Unread),
     }

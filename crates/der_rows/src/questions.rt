@@ -7,8 +7,8 @@ use crate::shown::{
 };
 use der_core::describing::{OrderWay, Ordered};
 use der_core::{
-    Decode, DecodeValue, DerOrd, Encode, EncodeValue, EncodingRules, Error, FixedTag, SliceReader,
-    ValueOrd, from_ber, from_der, from_der_partial,
+    Decode, DecodeValue, DerOrd, Encode, EncodeValue, EncodingRules, Error, FixedTag, FromDer,
+    SliceReader, ValueOrd,
 };
 use der_core_values::describing::DecodeWay;
 use der_types_any::{Any, AnyRef};
@@ -77,8 +77,8 @@ fn values_of<'a, T: Decode<'a, SliceReader<'a>> + Drop>(
     alloc: Global,
     question: &Question<'a>,
 ) -> Result<(T, T), Error> {
-    let first = from_der(alloc, question.first)?;
-    let second = from_der(alloc, question.second)?;
+    let first = T::from_der(alloc, question.first)?;
+    let second = T::from_der(alloc, question.second)?;
     Ok((first, second))
 }
 
@@ -88,9 +88,9 @@ pub fn answer_of<'a, T: Decode<'a, SliceReader<'a>> + Encode>(
     question: &Question<'a>,
 ) -> Result<String, Refusal> {
     match question.asked {
-        Asked::Der => written_in(alloc, from_der::<T>(alloc, question.first)),
-        Asked::Ber => written_in(alloc, from_ber::<T>(alloc, question.first)),
-        Asked::Front => front_written(alloc, from_der_partial::<T>(alloc, question.first)),
+        Asked::Der => written_in(alloc, T::from_der(alloc, question.first)),
+        Asked::Ber => written_in(alloc, T::from_ber(alloc, question.first)),
+        Asked::Front => front_written(alloc, T::from_der_partial(alloc, question.first)),
         Asked::Twice => read_twice::<T>(alloc, question.first),
         _ => Err(Refusal::Unread),
     }
@@ -136,7 +136,7 @@ pub fn answer_as_with_debug<'a, T: Decode<'a, SliceReader<'a>> + DerOrd + Encode
     question: &Question<'a>,
 ) -> Result<String, Refusal> {
     match question.asked {
-        Asked::Text => debugged(alloc, from_der::<T>(alloc, question.first)),
+        Asked::Text => debugged(alloc, T::from_der(alloc, question.first)),
         _ => answer_as::<T>(alloc, question),
     }
 }
@@ -160,7 +160,7 @@ pub fn answer_with_debug<'a, T: DecodeValue<'a, SliceReader<'a>> + EncodeValue +
     question: &Question<'a>,
 ) -> Result<String, Refusal> {
     match question.asked {
-        Asked::Text => debugged(alloc, from_der::<T>(alloc, question.first)),
+        Asked::Text => debugged(alloc, T::from_der(alloc, question.first)),
         _ => answer_of_value::<T>(alloc, question),
     }
 }
@@ -186,7 +186,7 @@ pub fn answer_of_plain<
     T: DecodeValue<'a, SliceReader<'a>> + EncodeValue + FixedTag + ValueOrd + Debug,
 >(alloc: Global, question: &Question<'a>) -> Result<String, Refusal> {
     match question.asked {
-        Asked::Text => debugged(alloc, from_der::<T>(alloc, question.first)),
+        Asked::Text => debugged(alloc, T::from_der(alloc, question.first)),
         _ => answer_with_contents::<T>(alloc, question),
     }
 }
@@ -266,7 +266,7 @@ where
     T::By: DecodeWay<'a, SliceReader<'a>, T> + OrderWay<T>,
 {
     match question.asked {
-        Asked::Text => printed(alloc, from_der::<T>(alloc, question.first)),
+        Asked::Text => printed(alloc, T::from_der(alloc, question.first)),
         _ => answer_with_order::<T>(alloc, question),
     }
 }

@@ -6,7 +6,7 @@ use crate::small::Small;
 use der_core::describing::DecodeRow;
 use der_core::{
     BytesOwned, Class, Decode, Element, EncodingRules, Error, ErrorKind, Length, Member, Reader,
-    SliceReader, Tag, TagMode, TagNumber, decode_octets, peek_matches, reading,
+    Reading, SliceReader, Tag, TagMode, TagNumber, decode_octets, peek_matches,
 };
 use der_types_sets::SetOfRef;
 use std::alloc::Global;
@@ -169,7 +169,7 @@ fn nothing(alloc: Global, reader: &mut SliceReader<'_>) -> Result<String, Refusa
 
 /// The flag that stands next.
 fn flag_of(alloc: Global, reader: &mut SliceReader<'_>) -> Result<String, Refusal> {
-    let flag: bool = reading::decode(alloc, reader)?;
+    let flag = reader.decode::<bool>(alloc)?;
     shown(alloc, flag)
 }
 
@@ -213,7 +213,7 @@ fn answer_of_tagged(
     reader: &mut SliceReader<'_>,
     mode: TagMode,
 ) -> Result<String, Refusal> {
-    let number: Option<u8> = reading::context_specific(alloc, reader, TagNumber::new(0), mode)?;
+    let number = reader.context_specific::<u8>(alloc, TagNumber::new(0), mode)?;
     debugged(alloc, Ok(number))
 }
 

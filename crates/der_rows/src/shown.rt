@@ -4,7 +4,7 @@
 //! that has to be dropped.
 
 use crate::refusals::Refusal;
-use der_core::{Encode, Error, to_der};
+use der_core::{Encode, Error, ToDer};
 use std::alloc::Global;
 use std::cmp::Ordering;
 use std::fmt::{Debug, Display};
@@ -43,7 +43,7 @@ pub fn hex_in(alloc: Global, outcome: Result<Vec<u8>, Error>) -> Result<String, 
 
 /// The octets of a value, in hex.
 pub fn written<T: Encode>(alloc: Global, value: &T) -> Result<String, Refusal> {
-    hex_in(alloc, to_der(alloc, value))
+    hex_in(alloc, value.to_der(alloc))
 }
 
 /// The octets of the value of an outcome, in hex.

@@ -10,8 +10,8 @@ use crate::shown::named;
 use const_oid::ObjectIdentifier;
 use der_core::describing::{DecodeRow, FieldRow};
 use der_core::{
-    Choice, Decode, DerOrd, Encode, EncodeFields, EncodeRef, Error, Explicit, Implicit, Length,
-    OneOf2, Reader, Shaped, StrictSetOf, Tag, WithDefault, Writer, from_der,
+    Choice, Decode, DerOrd, Encode, EncodeFields, EncodeRef, Error, Explicit, FromDer, Implicit,
+    Length, OneOf2, Reader, Shaped, StrictSetOf, Tag, WithDefault, Writer,
 };
 use std::alloc::Global;
 use std::fmt;
@@ -146,8 +146,8 @@ fn alternatives(choice: &NumberOrText) -> OneOf2<EncodeRef<'_, u8>, EncodeRef<'_
 pub fn answer_of_choice(alloc: Global, question: &Question<'_>) -> Result<String, Refusal> {
     match question.asked {
         Asked::Order => {
-            let first: NumberOrText = from_der(alloc, question.first)?;
-            let second: NumberOrText = from_der(alloc, question.second)?;
+            let first = NumberOrText::from_der(alloc, question.first)?;
+            let second = NumberOrText::from_der(alloc, question.second)?;
             named(alloc, alternatives(&first).der_cmp(&alternatives(&second)))
         }
         _ => Err(Refusal::Unread),

@@ -5,7 +5,7 @@ use crate::questions::{Asked, Question, answer_of_lent};
 use crate::refusals::Refusal;
 use crate::shown::{printed, shown};
 use der_core::describing::Described;
-use der_core::{Error, FixedTag, SliceReader, from_der};
+use der_core::{Error, FixedTag, FromDer, SliceReader};
 use der_core_values::describing::DecodeWay;
 use der_types_time::{DateTime, GeneralizedTime, UtcTime};
 use std::alloc::Global;
@@ -40,7 +40,7 @@ fn date_of(alloc: Global, kind: &str, octets: &[u8]) -> Result<DateTime, Error> 
     match kind {
         "UtcTime" => date_in::<UtcTime>(alloc, octets),
         "GeneralizedTime" => date_in::<GeneralizedTime>(alloc, octets),
-        _ => from_der(alloc, octets),
+        _ => FromDer::from_der(alloc, octets),
     }
 }
 
@@ -52,7 +52,7 @@ fn date_in<'a, T: Described + FixedTag + Into<DateTime> + Drop>(
 where
     T::By: DecodeWay<'a, SliceReader<'a>, T>,
 {
-    let time: T = from_der(alloc, octets)?;
+    let time = T::from_der(alloc, octets)?;
     Ok(time.into())
 }
 

@@ -4,8 +4,8 @@ use crate::readers::add;
 use crate::refusals::Refusal;
 use crate::shown::{hex_of, joined, octets_of, shown};
 use der_core::{
-    Encode, EncodeValueRef, Error, ErrorKind, Length, SliceWriter, TagMode, TagNumber, Writer,
-    encode_to_slice, encode_to_vec, encode_value_to_slice, from_der, value_header,
+    Encode, EncodeValueRef, Error, ErrorKind, FromDer, Length, SliceWriter, TagMode, TagNumber,
+    ToDer, Writer, encode_value_to_slice, value_header,
 };
 use std::alloc::Global;
 
@@ -143,13 +143,13 @@ fn written_hex(alloc: Global, word: &str, number: u8, room: &mut [u8]) -> Result
 /// The number that octets spell.
 fn number_of(alloc: Global, octets: &str) -> Result<u8, Refusal> {
     let octets = octets_of(alloc, octets)?;
-    Ok(from_der(alloc, octets.as_slice())?)
+    Ok(u8::from_der(alloc, octets.as_slice())?)
 }
 
 /// What is written of a number to the front of a slice, with its header or without.
 fn written_to<'a>(word: &str, number: u8, room: &'a mut [u8]) -> Result<&'a [u8], Refusal> {
     match word {
-        "slice" => Ok(encode_to_slice(&number, room)?),
+        "slice" => Ok(number.encode_to_slice(room)?),
         "slice-value" => Ok(encode_value_to_slice(&number, room)?),
         _ => Err(Refusal::Unread),
     }
@@ -161,7 +161,7 @@ pub fn answer_of_vectors(alloc: Global, rest: &str) -> Result<String, Refusal> {
     let (octets, number) = rest.split_once(' ').ok_or(Refusal::Unread)?;
     let number = number_of(alloc, number)?;
     let mut octets = octets_of(alloc, octets)?;
-    let len = encode_to_vec(&number, &mut octets);
+    let len = number.encode_to_vec(&mut octets);
     joined(
         hex_of(alloc, octets.as_slice()),
         " ",

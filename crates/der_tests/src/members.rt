@@ -3,7 +3,7 @@
 
 use der_core::{
     ApartValue, AsRead, AsReadValue, Decode, DecodeValue, DerOrd, Encode, EncodeValue, Error,
-    FixedTag, InRange, InRangeValue, Member, SliceReader, StrictSetOf, ValueOrd, to_der,
+    FixedTag, InRange, InRangeValue, Member, SliceReader, StrictSetOf, ToDer, ValueOrd,
 };
 use der_types::{
     Any, AnyRef, BitString, BitStringRef, BmpString, DateTime, GeneralStringRef, GeneralizedTime,
@@ -24,11 +24,11 @@ where
     for member in read.into_vec() {
         set.insert(member)?;
     }
-    let written = to_der(alloc, &set)?;
+    let written = set.to_der(alloc)?;
     let strict = StrictSetOf {
         values: set.into_vec(),
     };
-    let strictly = to_der(alloc, &strict)?;
+    let strictly = strict.to_der(alloc)?;
     Ok(written.as_slice() == octets && strictly.as_slice() == octets)
 }
 

@@ -4,7 +4,7 @@
 //! is held by a function that seldom returns early. Want of memory is met by the rows of `der_rows`
 //! (`again`, `copy`, `member`), where `audit/rows` refuses each request in turn.
 
-use der_core::{Decode, Encode, EncodeValue, Error, ErrorKind, Member, SliceReader, from_der};
+use der_core::{Decode, Encode, EncodeValue, Error, ErrorKind, FromDer, Member, SliceReader};
 use der_types::{SequenceOf, SetOf, SetOfRef, SetOfVec};
 use std::alloc::Global;
 use std::cmp::Ordering;
@@ -32,7 +32,7 @@ fn lent<'a, T: Decode<'a, SliceReader<'a>> + Member>(
     alloc: Global,
     octets: &'a [u8],
 ) -> Result<SetOfRef<'a, T>, Error> {
-    from_der(alloc, octets)
+    SetOfRef::from_der(alloc, octets)
 }
 
 /// A list with room for two.

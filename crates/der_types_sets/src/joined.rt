@@ -7,7 +7,7 @@ ghost use Rattle.der_core_head.specs.Reading.{Gives};
 ghost use Rattle.der_core.specs.Orders.{octets_cmp};
 ghost use Rattle.der_types_sets.specs.Lent.{IsUnwritten};
 
-use der_core::{Encode, Error, to_der};
+use der_core::{Encode, Error, ToDer};
 use std::alloc::Global;
 use std::cmp::Ordering;
 
@@ -29,7 +29,7 @@ pub(crate) fn joined_cmp<T: Encode>(
 {
     let mut left = octets;
     for value in values {
-        let encoding = to_der(alloc, value)?;
+        let encoding = value.to_der(alloc)?;
         let Some(behind) = left.strip_prefix(encoding.as_slice()) else {
             return Ok(encoding.as_slice().cmp(left));
         };

@@ -28,8 +28,8 @@ use crate::set_of_ref::SetOfRef;
 use arrayvec::ArrayVec;
 use der_core::making::elements_cmp;
 use der_core::{
-    AsRead, Decode, DecodeValue, DerOrd, Encode, EncodeValue, Error, ErrorKind, FixedTag, Header,
-    Length, Member, Reader, Shaped, ShapedValue, SliceReader, Tag, ValueOrd, Writer, from_der,
+    AsRead, Decode, DecodeValue, DerOrd, Encode, EncodeValue, Error, ErrorKind, FixedTag, FromDer,
+    Header, Length, Member, Reader, Shaped, ShapedValue, SliceReader, Tag, ValueOrd, Writer,
 };
 use std::alloc::{AllocError, Global};
 use std::cmp::Ordering;
@@ -259,7 +259,7 @@ impl<T: DerOrd + Member + Default + Drop, const N: usize> SetOf<T, N> {
             → IfErr result
             (λ e. Fails e.kind (read_whole (tagged Set (nested (few N T.shape))) bytes.now)) }
     {
-        let AnyOrder { list } = from_der::<AnyOrder<SequenceOf<T, N>>>(alloc, bytes)?;
+        let AnyOrder { list } = AnyOrder::<SequenceOf<T, N>>::from_der(alloc, bytes)?;
         let set = SetOf::arranged(list)?;
         Ok(set)
     }

@@ -6,7 +6,7 @@ ghost use Rattle.der_core_head.specs.Grammar.{read};
 ghost use Rattle.der_types_sets.specs.Ascending.{values_at};
 ghost use Rattle.der_types_sets.specs.Lent.{Lent, HasMembers, IsSpelled, IsWantOfMemory};
 
-use der_core::{Decode, Error, Member, Shaped, SliceReader, from_der_partial};
+use der_core::{Decode, Error, FromDer, Member, Shaped, SliceReader};
 use std::alloc::Global;
 use std::fmt;
 use std::marker::Model;
@@ -81,7 +81,7 @@ fn first_member<'a, T: Decode<'a, SliceReader<'a>> + Member>(
     ensures left { IfOk result (λ x. IsSpelled T.shape (count - 1) x.1.now) }
     ensures refused { IfErr result IsWantOfMemory }
 {
-    let (value, behind) = from_der_partial::<T>(alloc, octets)?;
+    let (value, behind) = T::from_der_partial(alloc, octets)?;
     Ok((value, behind))
 }
 

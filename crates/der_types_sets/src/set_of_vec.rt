@@ -30,9 +30,9 @@ use crate::set_of_ref::SetOfRef;
 use crate::sorting::arrange_behind_first;
 use der_core::making::elements_cmp;
 use der_core::{
-    AsRead, Decode, DecodeValue, DerOrd, Encode, EncodeValue, Error, ErrorKind, FixedTag, Header,
-    Length, Member, Reader, Shaped, ShapedValue, SliceReader, StrictSetOf as StrictSet, Tag,
-    ValueOrd, Writer, from_der,
+    AsRead, Decode, DecodeValue, DerOrd, Encode, EncodeValue, Error, ErrorKind, FixedTag, FromDer,
+    Header, Length, Member, Reader, Shaped, ShapedValue, SliceReader, StrictSetOf as StrictSet,
+    Tag, ValueOrd, Writer,
 };
 use std::alloc::{AllocError, Global};
 use std::cmp::Ordering;
@@ -343,7 +343,7 @@ impl<T: DerOrd + Member + Drop> SetOfVec<T> {
             → IfErr result
             (λ e. Fails e.kind (read_whole (tagged Set (nested (many T.shape))) bytes.now)) }
     {
-        let AnyOrder { list } = from_der::<AnyOrder<Vec<T>>>(alloc, bytes)?;
+        let AnyOrder { list } = AnyOrder::<Vec<T>>::from_der(alloc, bytes)?;
         let set = SetOfVec::from_vec(list)?;
         Ok(set)
     }

@@ -20,8 +20,9 @@ use crate::fields::{
     der_cmp_of_fields, der_of_field, encode_field, encode_value_of_field, len_of_field,
     tag_of_class, tag_of_field, value_cmp_of_fields, value_len_of_field,
 };
-use der_core::making::{is_constructed, leading_octet_of};
-use der_core::reading::{optional_explicit, optional_implicit, read_explicit};
+use der_core::making::{
+    is_constructed, leading_octet_of, optional_explicit, optional_implicit, read_explicit,
+};
 use der_core::{
     Decode, DecodeValue, EncodeValue, Error, FixedTag, Length, Reader, Tag, TagMode, TagNumber,
     Tagged, ValueOrd, Writer,

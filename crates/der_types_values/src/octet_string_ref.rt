@@ -15,7 +15,7 @@ ghost use Rattle.der_core_head.specs.Reading.{Gives};
 use crate::octet_string::OctetString;
 use der_core::describing::{AsOctets, Described, Octets, Ordered, Primitive};
 use der_core::making::octets_in_range;
-use der_core::{Decode, Error, ErrorKind, FixedTag, Leaf, Length, SliceReader, Tag, from_der};
+use der_core::{Decode, Error, ErrorKind, FixedTag, FromDer, Leaf, Length, SliceReader, Tag};
 use std::alloc::{AllocError, Global};
 use std::convert::AsSlice;
 
@@ -93,7 +93,7 @@ impl<'a> OctetStringRef<'a> {
         ensures exact { Gives (λ v. (T.plain v, [])) result
             (read_whole T.shape (octets_lent self.now)) }
     {
-        from_der(alloc, self.bytes)
+        T::from_der(alloc, self.bytes)
     }
 
     /// A copy of the octets that owns its octets.

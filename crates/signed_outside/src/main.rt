@@ -15,7 +15,7 @@
 
 mod outside_key;
 
-use der_core::{from_der, to_der};
+use der_core::{FromDer, ToDer};
 use outside_key::{OutsideKey, Scheme};
 use std::alloc::Global;
 use std::str::FromStr;
@@ -92,7 +92,7 @@ fn builder_of<P: BuilderProfile + Drop>(
     key: &[u8],
 ) -> Result<CertificateBuilder<P>, Error> {
     let serial = SerialNumber::new(alloc, &[number])?;
-    let key: SubjectPublicKeyInfo = from_der(alloc, key)?;
+    let key = SubjectPublicKeyInfo::from_der(alloc, key)?;
     let builder = CertificateBuilder::new(alloc, profile, serial, validity()?, key)?;
     Ok(builder)
 }
@@ -162,7 +162,7 @@ fn assembled<P: BuilderProfile + Drop>(
 ) -> Result<String, Error> {
     let signature = key.signature(alloc, bits)?;
     let certificate = builder.assemble(alloc, signature, key)?;
-    let octets = to_der(alloc, &certificate)?;
+    let octets = certificate.to_der(alloc)?;
     hex_of(alloc, octets.as_slice())
 }
 

@@ -1,7 +1,7 @@
 //! Keys that sign elsewhere.
 
 use const_oid::ObjectIdentifier;
-use der_core::{Error, from_der, to_der};
+use der_core::{Error, FromDer, ToDer};
 use der_types_numbers::Uint;
 use std::alloc::Global;
 use x509_cert::builder::{SignError, Signer};
@@ -19,7 +19,7 @@ pub struct OutsideKey {
 impl OutsideKey {
     /// The key that is the encoding of these octets.
     pub fn new(alloc: Global, scheme: Scheme, octets: &[u8]) -> Result<OutsideKey, Error> {
-        let info = from_der(alloc, octets)?;
+        let info = SubjectPublicKeyInfo::from_der(alloc, octets)?;
         let algorithm = scheme.algorithm(alloc)?;
         Ok(OutsideKey {
             scheme,
@@ -44,7 +44,7 @@ fn of_numbers(alloc: Global, numbers: &[u8]) -> Result<BitString, Error> {
     let mut both = Vec::new(alloc);
     both.push(Uint::new(alloc, r)?)?;
     both.push(Uint::new(alloc, s)?)?;
-    BitString::from_bytes(to_der(alloc, &both)?)
+    BitString::from_bytes(both.to_der(alloc)?)
 }
 
 /// How a key signs.

@@ -7,7 +7,7 @@ use Rattle.const_oid.specs.Bound.{Bound}
 use Rattle.const_oid.specs.Digits.{digits}
 use Rattle.const_oid.proofs.DigitLaws.{same_from_digits}
 use Rattle.der_core.proofs.ValueEquality.{Alike, all_alike, alone, behind, each, exact, first, last, leaves, list, next, option, second, set}
-use Rattle.der_core_head.specs.Integers.{Numbers}
+use Rattle.der_core_head.specs.Integers.{Numbers, among}
 use Rattle.der_core_head.specs.Leaves.{integer}
 use Rattle.der_core_head.specs.Shapes.{Shape, Value, leaf, sequence, tagged}
 use Rattle.der_core_head.specs.declared.tag.Tag.{Tag}
@@ -77,7 +77,7 @@ display_texts (texts.Ia5String m) (texts.Ia5String n) = first leaves
 display_texts (texts.Utf8String m) (texts.Utf8String n) = second leaves
 display_texts x y = exact (λ e. absurd cc) (λ e. absurd cc)
 
-pub crl_reasons : {t : Tag} (x y : CrlReason) → Alike (tagged t (leaf (integer reason_numbers))) (same_reason.it x y) (reason_number x) (reason_number y)
+pub crl_reasons : {t : Tag} (x y : CrlReason) → Alike (tagged t (leaf (integer (among reason_numbers)))) (same_reason.it x y) (pos (reason_number x)) (pos (reason_number y))
 crl_reasons reasons.Unspecified reasons.Unspecified = exact (λ e. refl) (λ e. refl)
 crl_reasons reasons.KeyCompromise reasons.KeyCompromise = exact (λ e. refl) (λ e. refl)
 crl_reasons reasons.CaCompromise reasons.CaCompromise = exact (λ e. refl) (λ e. refl)
@@ -90,7 +90,7 @@ crl_reasons reasons.PrivilegeWithdrawn reasons.PrivilegeWithdrawn = exact (λ e.
 crl_reasons reasons.AaCompromise reasons.AaCompromise = exact (λ e. refl) (λ e. refl)
 crl_reasons x y = exact (λ e. absurd cc) (λ e. absurd cc)
 
-pub versions : (x y : Version) → Alike anchor_version (same_version.it x y) (anchor_number x) (anchor_number y)
+pub versions : (x y : Version) → Alike anchor_version (same_version.it x y) (pos (anchor_number x)) (pos (anchor_number y))
 versions V1 V1 = exact (λ e. refl) (λ e. refl)
 
 pub choices : (P : RattleType) (limit : Option ℕ) → ((c d : CertificateInner P.Denot) → Alike (certificate Bound limit) ((same_certificate P).it c d) (certificate_plain c) (certificate_plain d)) → ((t u : TbsCertificateInner P.Denot) → Alike (tbs_certificate Bound limit) ((same_tbs P).it t u) (tbs_plain t) (tbs_plain u))

@@ -7,11 +7,10 @@ ghost use Rattle.std.specs.Prelude.{◌≤◌, ◌↔◌, ℕ, List, Option, Non
 ghost use Rattle.const_oid.specs.Bound.{Bound};
 ghost use Rattle.der_core_head.specs.Bounds.{identifiers_of, AreBelow};
 ghost use Rattle.der_core_head.specs.Grammar.{plain_list};
-ghost use Rattle.der_core_head.specs.Integers.{natural};
-ghost use Rattle.der_core_head.specs.Leaves.{integer, named, text};
+ghost use Rattle.der_core_head.specs.Integers.{among, natural};
+ghost use Rattle.der_core_head.specs.Leaves.{integer, named};
 ghost use Rattle.der_core_head.specs.Shapes.{BodyValue, Value, Spells, leaf, sequence, sequence_of};
 ghost use Rattle.der_core_head.specs.Shapes.{tagged};
-ghost use Rattle.der_core_head.specs.Texts.{ascii};
 ghost use Rattle.der_core_head.specs.declared.tag.Tag.TheVariants as tags;
 ghost use Rattle.x509_cert.specs.Equality.{IsByValue, TellsValues};
 ghost use Rattle.x509_cert_anchors.specs.Grammar as grammar;
@@ -115,12 +114,10 @@ pub fn equality_of_extensions_is_of_values()
         (λ x. plain_list parts.attribute_plain x.0.items) }
     ensures leaves { TellsValues parts.octet_string ⟦<SubjectKeyIdentifier as PartialEq>⟧.eq
         (λ x. x.0)
-        × TellsValues (tagged tags.Ia5String (leaf (text ascii))) ⟦<CpsUri as PartialEq>⟧.eq
-        (λ x. x.0)
         × TellsValues (tagged tags.BitString (leaf (named 9))) ⟦<KeyUsage as PartialEq>⟧.eq
         (λ x. x.0.flags.0)
-        × TellsValues (tagged tags.Enumerated (leaf (integer reason_numbers)))
-        ⟦<CrlReason as PartialEq>⟧.eq reason_number
+        × TellsValues (tagged tags.Enumerated (leaf (integer (among reason_numbers))))
+        ⟦<CrlReason as PartialEq>⟧.eq (λ x. pos (reason_number x))
         × TellsValues (tagged tags.Integer (leaf (integer natural))) ⟦<CrlNumber as PartialEq>⟧.eq
         (λ x. pos x.0)
         × TellsValues (tagged tags.Integer (leaf (integer natural)))
@@ -130,7 +127,7 @@ pub fn equality_of_extensions_is_of_values()
 /// `==` of trust anchors and of their parts is of their plain values, under every profile.
 pub fn equality_of_anchors_is_of_values<P>()
     ensures versions { TellsValues grammar.anchor_version ⟦<AnchorVersion as PartialEq>⟧.eq
-        anchor_views.anchor_number }
+        (λ v. pos (anchor_views.anchor_number v)) }
     ensures controls { (limit : Option ℕ)
         → TellsValues (sequence (grammar.cert_path_controls_fields Bound limit))
         ⟦<CertPathControls<P> as PartialEq>⟧.eq anchor_views.cert_path_controls_plain }

@@ -43,7 +43,7 @@ pub use x509_cert_list_builders::types::{
     AuthorityInfoAccessSyntax, BaseCrlNumber, Criticality, CrlDistributionPoints, CrlNumber,
     CrlReason, ExtendedKeyUsage, FreshestCrl, IssuerAltName, KeyUsage, KeyUsages, SubjectAltName,
     SubjectDirectoryAttributes, SubjectInfoAccessSyntax, SubjectKeyIdentifier, ToExtension,
-    TryFromKey, timestamps,
+    timestamps,
 };
 
 // Lists, requests and anchors.

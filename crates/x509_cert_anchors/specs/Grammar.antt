@@ -4,7 +4,7 @@ use Rattle.std.specs.Prelude.{ℕ, ◌^◌, List, [], ◌∷◌, Bool, Option, N
 use Rattle.std.proofs.Common.{inl, inr}
 use Rattle.der_core_head.specs.declared.tag.Tag.TheVariants as tags
 use Rattle.der_core_head.specs.Grammar.{plain_option}
-use Rattle.der_core_head.specs.Integers.{Numbers, among}
+use Rattle.der_core_head.specs.Integers.{among}
 use Rattle.der_core_head.specs.Leaves.{integer, utf8, named}
 use Rattle.der_core_head.specs.Shapes.{Shape, Body, Value, BodyValue, tagged, leaf, either}
 use Rattle.der_core_head.specs.Shapes.{optional, defaulted, field, done, many, sequence, explicit}
@@ -44,11 +44,11 @@ cert_path_controls_fields bound limit =
     (field (optional (inside 0 (certificate_fields bound limit))) (constraint_fields bound))
 
 -- TrustAnchorInfoVersion ::= INTEGER { v1(1) } (2.1)
-abbrev pub anchor_numbers : Numbers
-anchor_numbers = among (1 ∷ [])
+abbrev pub anchor_numbers : List ℕ
+anchor_numbers = 1 ∷ []
 
 abbrev pub anchor_version : Shape
-anchor_version = tagged tags.Integer (leaf (integer anchor_numbers))
+anchor_version = tagged tags.Integer (leaf (integer (among anchor_numbers)))
 
 -- the octets of v1, which never stand
 abbrev pub first_version_octets : List ℕ

@@ -1,5 +1,5 @@
 -- What contracts see of the types: the plain values of their shapes.
-use Rattle.std.specs.Prelude.{ℤ, pos, string_bytes}
+use Rattle.std.specs.Prelude.{ℕ, pos, string_bytes}
 use Rattle.std.proofs.Common.{inl, inr}
 use Rattle.der_core_head.specs.Grammar.{plain_option, plain_list}
 use Rattle.x509_cert_anchors.specs.Grammar.{PlainControls, PlainInfo, PlainAnchor}
@@ -15,8 +15,8 @@ use Rattle.x509_cert_policies.specs.Parts.{name_plain, key_plain, extensions_pla
 use Rattle.x509_cert_policies.specs.Views.{policy_information_plain}
 
 -- the number of an anchor's version
-abbrev pub anchor_number : Version → ℤ
-anchor_number v = pos 1
+abbrev pub anchor_number : Version → ℕ
+anchor_number v = 1
 
 abbrev pub cert_path_controls_plain : {P : Type 0} → CertPathControls P → PlainControls
 cert_path_controls_plain x = (
@@ -38,7 +38,7 @@ cert_path_controls_plain x = (
 
 abbrev pub trust_anchor_info_plain : {P : Type 0} → TrustAnchorInfo P → PlainInfo
 trust_anchor_info_plain x = (
-  anchor_number x.version,
+  pos (anchor_number x.version),
   (
     key_plain x.pub_key,
     (

@@ -1,12 +1,11 @@
 //! The versions of trust anchors.
 
-ghost use Rattle.std.specs.Prelude.{◌≡◌};
+ghost use Rattle.std.specs.Prelude.{◌≡◌, refl};
 ghost use Rattle.x509_cert_anchors.specs.Grammar.{anchor_numbers, first_version_octets};
 ghost use Rattle.x509_cert_anchors.specs.Views.{anchor_number};
 
-use der_core::describing::{AsInteger, Described, Ordered};
-use der_core::{DefaultValue, Error, Integer, Tag};
-use x509_cert_policies::general_names::making::number_among;
+use der_core::DefaultValue;
+use der_core::describing::{AsInteger, Described, Numbered, Ordered};
 
 /// The version of a trust anchor (RFC 5914 2.1), which is absent where it is `V1`.
 ///
@@ -17,7 +16,7 @@ use x509_cert_policies::general_names::making::number_among;
 pub enum Version {
     /// The only one.
     #[default]
-    V1,
+    V1 = 1,
 }
 
 impl Described for Version {
@@ -25,19 +24,23 @@ impl Described for Version {
 }
 
 /// Any other number is refused as `Value`.
-impl Integer for Version {
-    ghost numbers = { anchor_numbers };
+impl Numbered for Version {
+    ghost known_numbers = { anchor_numbers };
 
-    ghost number = { anchor_number };
+    ghost known_number = { anchor_number };
 
-    fn from_integer(tag: Tag, octets: &[u8]) -> Result<Version, Error> {
-        number_among(tag, octets, &[1])?;
-        Ok(Version::V1)
+    fn from_number(number: u8) -> Option<Version> {
+        match number {
+            1 => Some(Version::V1),
+            _ => None,
+        }
     }
 
-    fn magnitude(&self) -> (bool, u128) {
-        (false, 1)
+    fn to_number(&self) -> u8 {
+        *self as u8
     }
+
+    ghost few = { refl };
 }
 
 impl Ordered for Version {}

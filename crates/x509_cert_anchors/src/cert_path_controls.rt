@@ -11,8 +11,8 @@ ghost use Rattle.x509_cert_anchors.specs.Views.{cert_path_controls_plain};
 
 use crate::cert_policies::CertPolicyFlags;
 use der_core::describing::{AsRecord, DecodeRow, Described, FieldRow, RowUser, Rows};
-use der_core::making::{implicit_of, implicit_ref};
-use der_core::{DecodeFields, EncodeRef, Error, Fields, Reader, lend, row};
+use der_core::making::implicit_of;
+use der_core::{DecodeFields, Error, Fields, Reader, lend, row};
 use std::alloc::Global;
 use x509_cert_certificates::{CertificateInner, Name, Profile, Rfc5280};
 use x509_cert_policies::CertificatePolicies;
@@ -129,13 +129,10 @@ impl<P: Profile> Described for CertPathControls<P> {
 
 impl<P: Profile> Rows for CertPathControls<P> {
     fn with_rows<U: RowUser>(&self, other: &Self, user: &mut U) -> U::Answer {
-        lend!(self, other, user; |controls|
-            EncodeRef(&controls.ta_name),
-            implicit_ref::<_, 0>(&controls.certificate),
-            implicit_ref::<_, 1>(&controls.policy_set),
-            implicit_ref::<_, 2>(&controls.policy_flags),
-            implicit_ref::<_, 3>(&controls.name_constr),
-            implicit_ref::<_, 4>(&controls.path_len_constraint))
+        lend!(self, other, user;
+            ta_name, certificate: implicit 0 optional, policy_set: implicit 1 optional,
+            policy_flags: implicit 2 optional, name_constr: implicit 3 optional,
+            path_len_constraint: implicit 4 optional)
     }
 
     ghost apart = { refl };

@@ -7,8 +7,8 @@ ghost use Rattle.x509_cert_anchors.specs.Views.{trust_anchor_plain};
 
 use crate::trust_anchor_info::TrustAnchorInfo;
 use der_core::{
-    Choice, Decode, Element, Encode, EncodeRef, Error, Explicit, Length, Member, OneOf2, OneOf3,
-    Reader, Shaped, Tag, Writer,
+    Choice, Decode, Element, Encode, EncodeRef, Error, Explicit, Length, Member, OneOf3, Reader,
+    Shaped, Tag, Writer, case,
 };
 use std::alloc::Global;
 use x509_cert_certificates::{CertificateInner, Profile, Rfc5280, TbsCertificateInner};
@@ -51,13 +51,11 @@ impl<P: Profile> TrustAnchorChoice<P> {
             ≡ trust_anchor_by P.respells (trust_anchor_plain self.now) }
     {
         match self {
-            TrustAnchorChoice::Certificate(value) => OneOf2::First(EncodeRef(value)),
-            TrustAnchorChoice::TbsCertificate(value) => OneOf2::Second(OneOf2::First(Explicit {
-                value: EncodeRef(value),
-            })),
-            TrustAnchorChoice::TaInfo(value) => OneOf2::Second(OneOf2::Second(Explicit {
-                value: EncodeRef(value),
-            })),
+            TrustAnchorChoice::Certificate(value) => case!(1 of 3: EncodeRef(value)),
+            TrustAnchorChoice::TbsCertificate(value) => {
+                case!(2 of 3: Explicit { value: EncodeRef(value) })
+            }
+            TrustAnchorChoice::TaInfo(value) => case!(3 of 3: Explicit { value: EncodeRef(value) }),
         }
     }
 }
@@ -79,11 +77,9 @@ impl<P: Profile> Choice for TrustAnchorChoice<P> {
 impl<'a, R: Reader<'a>, P: Profile> Decode<'a, R> for TrustAnchorChoice<P> {
     fn decode(alloc: Global, reader: &mut R) -> Result<TrustAnchorChoice<P>, Error> {
         match <Cases<P>>::decode(alloc, reader)? {
-            OneOf2::First(value) => Ok(TrustAnchorChoice::Certificate(value)),
-            OneOf2::Second(OneOf2::First(value)) => Ok(TrustAnchorChoice::TbsCertificate(
-                value.value,
-            )),
-            OneOf2::Second(OneOf2::Second(value)) => Ok(TrustAnchorChoice::TaInfo(value.value)),
+            case!(1 of 3: value) => Ok(TrustAnchorChoice::Certificate(value)),
+            case!(2 of 3: value) => Ok(TrustAnchorChoice::TbsCertificate(value.value)),
+            case!(3 of 3: value) => Ok(TrustAnchorChoice::TaInfo(value.value)),
         }
     }
 }

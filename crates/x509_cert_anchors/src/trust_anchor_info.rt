@@ -7,9 +7,8 @@ ghost use Rattle.x509_cert_anchors.specs.Views.{trust_anchor_info_plain};
 
 use crate::anchor::Version;
 use crate::cert_path_controls::CertPathControls;
-use der_core::describing::{AsRecord, DecodeRow, Described, RowUser, Rows};
-use der_core::making::{explicit_of, explicit_ref, implicit_of, implicit_ref};
-use der_core::{DecodeFields, EncodeRef, Error, Fields, Reader, WithDefault, lend, row};
+use der_core::describing::{AsRecord, Described, RowUser, Rows};
+use der_core::{DecodeFields, Error, Fields, Reader, lend, read_row};
 use std::alloc::Global;
 use x509_cert_certificates::{Extensions, OctetString, Profile, Rfc5280, SubjectPublicKeyInfo};
 
@@ -55,23 +54,9 @@ impl<P: Profile> Fields for TrustAnchorInfo<P> {
 
 impl<'a, R: Reader<'a>, P: Profile> DecodeFields<'a, R> for TrustAnchorInfo<P> {
     fn decode_fields(alloc: Global, reader: &mut R) -> Result<TrustAnchorInfo<P>, Error> {
-        let row!(
-            WithDefault { value: version },
-            pub_key,
-            key_id,
-            ta_title,
-            cert_path,
-            extensions,
-            ta_title_lang_tag
-        ) = DecodeRow::decode_row(alloc, reader)?;
-        Ok(TrustAnchorInfo {
-            version,
-            pub_key,
-            key_id,
-            ta_title,
-            cert_path,
-            extensions: explicit_of::<_, 1>(extensions),
-            ta_title_lang_tag: implicit_of::<_, 2>(ta_title_lang_tag),
+        read_row!(alloc, reader; TrustAnchorInfo {
+            version: default, pub_key, key_id, ta_title, cert_path, extensions: explicit 1 optional,
+            ta_title_lang_tag: implicit 2 optional,
         })
     }
 }
@@ -82,14 +67,9 @@ impl<P: Profile> Described for TrustAnchorInfo<P> {
 
 impl<P: Profile> Rows for TrustAnchorInfo<P> {
     fn with_rows<U: RowUser>(&self, other: &Self, user: &mut U) -> U::Answer {
-        lend!(self, other, user; |info|
-            WithDefault { value: info.version },
-            EncodeRef(&info.pub_key),
-            EncodeRef(&info.key_id),
-            EncodeRef(&info.ta_title),
-            EncodeRef(&info.cert_path),
-            explicit_ref::<_, 1>(&info.extensions),
-            implicit_ref::<_, 2>(&info.ta_title_lang_tag))
+        lend!(self, other, user;
+            version: default, pub_key, key_id, ta_title, cert_path, extensions: explicit 1 optional,
+            ta_title_lang_tag: implicit 2 optional)
     }
 
     ghost apart = { refl };

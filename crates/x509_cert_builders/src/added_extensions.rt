@@ -22,7 +22,7 @@ use std::alloc::Global;
 use x509_cert_certificates::{Extension, Extensions, Name, SubjectPublicKeyInfoRef};
 use x509_cert_extensions::general_names::AuthorityKeyIdentifier;
 use x509_cert_extensions::policies::BasicConstraints;
-use x509_cert_extensions::{Criticality, KeyUsage, SubjectKeyIdentifier, ToExtension, TryFromKey};
+use x509_cert_extensions::{Criticality, KeyUsage, SubjectKeyIdentifier, ToExtension};
 
 /// Adds the extension of a value, of this number below `id-ce`, with the criticality of its type.
 #[tactic(auto, using(crate::proofs::Lists::plain_pushed, crate::proofs::Faults::not_made))]

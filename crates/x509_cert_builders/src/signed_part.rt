@@ -1,6 +1,6 @@
 //! The part of a certificate that is signed, while it is made.
 
-ghost use Rattle.std.specs.Prelude.{◌≡◌, ◌⊎◌, Some, IfOk, IfErr};
+ghost use Rattle.std.specs.Prelude.{◌≡◌, ◌⊎◌, pos, Some, IfOk, IfErr};
 ghost use Rattle.const_oid.specs.Bound.{Bound};
 ghost use Rattle.der_core_head.specs.Grammar.{plain_option};
 ghost use Rattle.der_core_head.specs.Ranges.{IsInRange};
@@ -15,7 +15,7 @@ ghost use Rattle.x509_cert_builders.specs.SignedParts.{has_any, listed, part_sha
 ghost use Rattle.x509_cert_builders.specs.SignedParts.{version_of, written_part};
 
 use crate::error::Error;
-use der_core::to_der;
+use der_core::ToDer;
 use std::alloc::Global;
 use x509_cert_certificates::{AlgorithmIdentifier, Extensions, TbsCertificate, Version};
 
@@ -45,7 +45,8 @@ fn listed(extensions: Extensions) -> Option<Extensions>
 
 /// The version of a part of so many extensions (4.1.2.1).
 fn version_for(extensions: &Extensions) -> Version
-    ensures { version_number result ≡ version_of (has_any (extensions_plain extensions.now.items)) }
+    ensures { pos (version_number result)
+        ≡ version_of (has_any (extensions_plain extensions.now.items)) }
 {
     if extensions.is_empty() {
         return Version::V1;
@@ -74,7 +75,7 @@ pub(crate) fn written(alloc: Global, part: &TbsCertificate) -> Result<Vec<u8>, E
         (λ e. IsWantOfMemory e ⊎ IsUnwritten (tbs_certificate Bound (Some 21))
         (written_part (tbs_plain part.now)) e) }
 {
-    let octets = to_der(alloc, part)?;
+    let octets = part.to_der(alloc)?;
     Ok(octets)
 }
 

@@ -1,4 +1,5 @@
 -- What contracts see of the types: the plain values of their shapes.
+use Rattle.std.specs.Prelude.{pos}
 use Rattle.der_core_head.specs.Grammar.{plain_option}
 use Rattle.x509_cert_certificates.specs.Certificates.{Tbs, PlainCertificate}
 use Rattle.x509_cert_certificates.specs.declared.certificate.CertificateInner.{CertificateInner}
@@ -9,7 +10,7 @@ use Rattle.x509_cert_parts.specs.Views.{extensions_plain}
 
 abbrev pub tbs_plain : {P : Type 0} → TbsCertificateInner P → Tbs
 tbs_plain t = (
-  version_number t.version,
+  pos (version_number t.version),
   (
     t.serial_number,
     (

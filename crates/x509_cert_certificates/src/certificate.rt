@@ -15,8 +15,8 @@ ghost use Rattle.x509_cert_certificates.specs.Views.{certificate_plain, tbs_plai
 
 use crate::cert_digest::CertDigest;
 use crate::tbs_certificate::TbsCertificateInner;
-use der_core::describing::{AsRecord, DecodeRow, Described, RowUser, Rows};
-use der_core::{DecodeFields, Error, Fields, Reader, from_der, lend, row, to_der};
+use der_core::describing::{AsRecord, Described, RowUser, Rows};
+use der_core::{DecodeFields, Error, Fields, FromDer, Reader, ToDer, lend, read_row};
 use std::alloc::Global;
 use x509_cert_parts::{AlgorithmIdentifier, BitString, Profile, Rfc5280};
 
@@ -52,13 +52,8 @@ impl<P: Profile> Fields for CertificateInner<P> {
 
 impl<'a, R: Reader<'a>, P: Profile> DecodeFields<'a, R> for CertificateInner<P> {
     fn decode_fields(alloc: Global, reader: &mut R) -> Result<CertificateInner<P>, Error> {
-        let row!(tbs_certificate, signature_algorithm, signature) = DecodeRow::decode_row(
-            alloc, reader,
-        )?;
-        Ok(CertificateInner {
-            tbs_certificate,
-            signature_algorithm,
-            signature,
+        read_row!(alloc, reader; CertificateInner {
+            tbs_certificate, signature_algorithm, signature,
         })
     }
 }
@@ -92,7 +87,7 @@ impl<P: Profile> CertificateInner<P> {
         ensures exact { Gives (λ c. (certificate_plain c, [])) result
             (read_whole (certificate Bound P.serial_limit) bytes.now) }
     {
-        from_der(alloc, bytes)
+        FromDer::from_der(alloc, bytes)
     }
 
     /// The digest of the certificate's encoding, as its profile has it written.
@@ -112,7 +107,7 @@ impl<P: Profile> CertificateInner<P> {
             (certificate_by P.respells (certificate_plain self.now))
             (record { written = []; room = None; failed = false }))) }
     {
-        let octets = to_der(alloc, self)?;
+        let octets = self.to_der(alloc)?;
         let digest = D::digest(alloc, octets.as_slice())?;
         Ok(digest)
     }

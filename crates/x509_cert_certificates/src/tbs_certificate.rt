@@ -1,6 +1,6 @@
 //! The signed part of a certificate.
 
-ghost use Rattle.std.specs.Prelude.{◌≡◌, refl};
+ghost use Rattle.std.specs.Prelude.{◌≡◌, pos, refl};
 ghost use Rattle.const_oid.specs.Bound.{Bound};
 ghost use Rattle.der_core_head.specs.Grammar.{plain_option};
 ghost use Rattle.x509_cert_parts.specs.NameParts.{name_plain};
@@ -247,7 +247,7 @@ impl<P: Profile> Rows for TbsCertificateInner<P> {
 impl<P> TbsCertificateInner<P> {
     /// The version.
     pub fn version(&self) -> Version
-        ensures { version_number result ≡ tbs_version (tbs_plain self.now) }
+        ensures { pos (version_number result) ≡ tbs_version (tbs_plain self.now) }
     {
         self.version
     }

@@ -34,9 +34,7 @@ impl Wraps<Vec<AccessDescription>> for AuthorityInfoAccessSyntax {
         &self.0
     }
 
-    fn wrap(field: Vec<AccessDescription>) -> AuthorityInfoAccessSyntax {
-        AuthorityInfoAccessSyntax(field)
-    }
+    ghost made = { λ _ _ e. e };
 }
 
 impl Ordered for AuthorityInfoAccessSyntax {}

@@ -24,9 +24,7 @@ impl Wraps<Uint> for BaseCrlNumber {
         &self.0
     }
 
-    fn wrap(field: Uint) -> BaseCrlNumber {
-        BaseCrlNumber(field)
-    }
+    ghost made = { λ _ _ e. e };
 }
 
 impl Ordered for BaseCrlNumber {}

@@ -34,9 +34,7 @@ impl Wraps<Vec<DistributionPoint>> for CrlDistributionPoints {
         &self.0
     }
 
-    fn wrap(field: Vec<DistributionPoint>) -> CrlDistributionPoints {
-        CrlDistributionPoints(field)
-    }
+    ghost made = { λ _ _ e. e };
 }
 
 impl Ordered for CrlDistributionPoints {}

@@ -44,9 +44,7 @@ impl Wraps<Uint> for CrlNumber {
         &self.0
     }
 
-    fn wrap(field: Uint) -> CrlNumber {
-        CrlNumber(field)
-    }
+    ghost made = { λ _ _ e. e };
 }
 
 impl Ordered for CrlNumber {}

@@ -27,9 +27,7 @@ impl Wraps<Vec<ObjectIdentifier<39>>> for ExtendedKeyUsage {
         &self.0
     }
 
-    fn wrap(field: Vec<ObjectIdentifier<39>>) -> ExtendedKeyUsage {
-        ExtendedKeyUsage(field)
-    }
+    ghost made = { λ _ _ e. e };
 }
 
 impl Ordered for ExtendedKeyUsage {}

@@ -34,9 +34,7 @@ impl Wraps<Vec<DistributionPoint>> for FreshestCrl {
         &self.0
     }
 
-    fn wrap(field: Vec<DistributionPoint>) -> FreshestCrl {
-        FreshestCrl(field)
-    }
+    ghost made = { λ _ _ e. e };
 }
 
 impl Ordered for FreshestCrl {}

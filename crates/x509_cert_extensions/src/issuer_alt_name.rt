@@ -35,9 +35,7 @@ impl Wraps<GeneralNames> for IssuerAltName {
         &self.0
     }
 
-    fn wrap(field: GeneralNames) -> IssuerAltName {
-        IssuerAltName(field)
-    }
+    ghost made = { λ _ _ e. e };
 }
 
 impl Ordered for IssuerAltName {}

@@ -155,9 +155,7 @@ impl Wraps<FlagSet<KeyUsages>> for KeyUsage {
         &self.0
     }
 
-    fn wrap(field: FlagSet<KeyUsages>) -> KeyUsage {
-        KeyUsage(field)
-    }
+    ghost made = { λ _ _ e. e };
 }
 
 impl Ordered for KeyUsage {}

@@ -35,9 +35,7 @@ impl Wraps<GeneralNames> for SubjectAltName {
         &self.0
     }
 
-    fn wrap(field: GeneralNames) -> SubjectAltName {
-        SubjectAltName(field)
-    }
+    ghost made = { λ _ _ e. e };
 }
 
 impl Ordered for SubjectAltName {}

@@ -35,9 +35,7 @@ impl Wraps<Vec<Attribute>> for SubjectDirectoryAttributes {
         &self.0
     }
 
-    fn wrap(field: Vec<Attribute>) -> SubjectDirectoryAttributes {
-        SubjectDirectoryAttributes(field)
-    }
+    ghost made = { λ _ _ e. e };
 }
 
 impl Ordered for SubjectDirectoryAttributes {}

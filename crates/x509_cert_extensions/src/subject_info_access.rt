@@ -34,9 +34,7 @@ impl Wraps<Vec<AccessDescription>> for SubjectInfoAccessSyntax {
         &self.0
     }
 
-    fn wrap(field: Vec<AccessDescription>) -> SubjectInfoAccessSyntax {
-        SubjectInfoAccessSyntax(field)
-    }
+    ghost made = { λ _ _ e. e };
 }
 
 impl Ordered for SubjectInfoAccessSyntax {}

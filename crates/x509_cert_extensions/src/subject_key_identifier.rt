@@ -1,10 +1,16 @@
 //! SubjectKeyIdentifier.
 
-ghost use Rattle.std.specs.Prelude.{◌≡◌};
+ghost use Rattle.std.specs.Prelude.{◌≡◌, IfOk, IfErr};
+ghost use Rattle.der_core_head.specs.declared.error.ErrorKind.TheVariants.{OutOfMemory};
 ghost use Rattle.der_core_head.specs.declared.tag.Tag.TheVariants.{OctetString};
+ghost use Rattle.x509_cert_extensions.specs.KeyIdentifiers.{key_identifier};
+ghost use Rattle.x509_cert_extensions.specs.Parts.{key_lent};
 
+use der_core::Error;
 use der_core::describing::{AsField, Described, Ordered, Wraps};
-use x509_cert_policies::parts::OctetString;
+use std::alloc::Global;
+use x509_cert_policies::general_names::key_identifier_of;
+use x509_cert_policies::parts::{OctetString, SubjectPublicKeyInfoRef};
 
 /// The identifier of a subject's key (RFC 5280 4.2.1.2).
 ///
@@ -13,6 +19,23 @@ use x509_cert_policies::parts::OctetString;
 /// ```
 #[derive(Debug, Drop, PartialEq, Eq)]
 pub struct SubjectKeyIdentifier(pub OctetString);
+
+impl SubjectKeyIdentifier {
+    /// The identifier of a key (`key_identifier_of`).
+    ///
+    /// # Errors
+    /// Want of memory.
+    pub fn try_from_key<'a>(
+        alloc: Global,
+        key: &SubjectPublicKeyInfoRef<'a>,
+    ) -> Result<SubjectKeyIdentifier, Error>
+        ensures ok { IfOk result (λ i. i.0 ≡ key_identifier (key_lent key.now)) }
+        ensures err { IfErr result (λ e. e.kind ≡ OutOfMemory) }
+    {
+        let identifier = key_identifier_of(alloc, key)?;
+        Ok(SubjectKeyIdentifier(identifier))
+    }
+}
 
 impl Described for SubjectKeyIdentifier {
     type By = AsField<OctetString>;
@@ -25,9 +48,7 @@ impl Wraps<OctetString> for SubjectKeyIdentifier {
         &self.0
     }
 
-    fn wrap(field: OctetString) -> SubjectKeyIdentifier {
-        SubjectKeyIdentifier(field)
-    }
+    ghost made = { λ _ _ e. e };
 }
 
 impl Ordered for SubjectKeyIdentifier {}

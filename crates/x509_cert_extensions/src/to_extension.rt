@@ -6,7 +6,7 @@ ghost use Rattle.x509_cert_extensions.specs.Making.{extension_of, IsNotMade};
 
 use crate::criticality::Criticality;
 use const_oid::{AssociatedOid, ObjectIdentifier};
-use der_core::{Encode, Error, to_der};
+use der_core::{Encode, Error, ToDer};
 use std::alloc::Global;
 use x509_cert_policies::parts::{Extension, Name, OctetString};
 
@@ -49,7 +49,7 @@ fn extension_of<T: Encode>(
         (λ e. extension_plain e ≡ extension_of identifier critical T.shape (T.written value.now)) }
     ensures refused { IfErr result (λ e. IsNotMade T.shape (T.written value.now) e.kind) }
 {
-    let content = to_der(alloc, value)?;
+    let content = value.to_der(alloc)?;
     let extn_value = OctetString::new(content)?;
     Ok(Extension {
         extn_id: identifier,

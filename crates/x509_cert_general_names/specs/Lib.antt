@@ -1,6 +1,7 @@
 pub mod Addresses
 pub mod ExtensionTypes
 pub mod Grammar
+pub mod KeyIdentifiers
 pub mod Modules
 pub mod NamedBits
 pub mod Views

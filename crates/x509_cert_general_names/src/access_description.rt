@@ -7,8 +7,8 @@ ghost use Rattle.x509_cert_general_names.specs.Views.{access_description_plain};
 
 use crate::general_name::GeneralName;
 use const_oid::ObjectIdentifier;
-use der_core::describing::{AsRecord, DecodeRow, Described, FieldsView, RowUser, Rows};
-use der_core::{DecodeFields, Error, Reader, lend, row};
+use der_core::describing::{AsRecord, Described, FieldsView, RowUser, Rows};
+use der_core::{DecodeFields, Error, Reader, lend, read_row};
 use std::alloc::Global;
 
 /// Where a service of an authority is had (RFC 5280 4.2.2.1).
@@ -34,11 +34,7 @@ impl FieldsView for AccessDescription {
 
 impl<'a, R: Reader<'a>> DecodeFields<'a, R> for AccessDescription {
     fn decode_fields(alloc: Global, reader: &mut R) -> Result<AccessDescription, Error> {
-        let row!(access_method, access_location) = DecodeRow::decode_row(alloc, reader)?;
-        Ok(AccessDescription {
-            access_method,
-            access_location,
-        })
+        read_row!(alloc, reader; AccessDescription { access_method, access_location })
     }
 }
 

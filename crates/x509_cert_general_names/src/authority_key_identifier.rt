@@ -1,16 +1,19 @@
 //! AuthorityKeyIdentifier.
 
-ghost use Rattle.std.specs.Prelude.{◌≡◌, refl};
+ghost use Rattle.std.specs.Prelude.{◌≡◌, Some, None, IfOk, IfErr, refl};
 ghost use Rattle.const_oid.specs.Bound.{Bound};
+ghost use Rattle.der_core_head.specs.declared.error.ErrorKind.TheVariants.{OutOfMemory};
+ghost use Rattle.x509_cert_parts.specs.Views.{key_lent};
 ghost use Rattle.x509_cert_general_names.specs.Grammar.{authority_key_identifier_fields};
+ghost use Rattle.x509_cert_general_names.specs.KeyIdentifiers.{key_identifier};
 ghost use Rattle.x509_cert_general_names.specs.Views.{authority_key_identifier_plain};
 
 use crate::general_name::GeneralNames;
-use der_core::describing::{AsRecord, DecodeRow, Described, FieldsView, RowUser, Rows};
-use der_core::making::{implicit_of, implicit_ref};
-use der_core::{DecodeFields, Error, Reader, lend, row};
+use crate::key_identifier::key_identifier_of;
+use der_core::describing::{AsRecord, Described, FieldsView, RowUser, Rows};
+use der_core::{DecodeFields, Error, Reader, lend, read_row};
 use std::alloc::Global;
-use x509_cert_parts::{OctetString, SerialNumber};
+use x509_cert_parts::{OctetString, SerialNumber, SubjectPublicKeyInfoRef};
 
 /// The key under which a certificate or a list is signed (RFC 5280 4.2.1.1).
 ///
@@ -40,15 +43,9 @@ impl FieldsView for AuthorityKeyIdentifier {
 
 impl<'a, R: Reader<'a>> DecodeFields<'a, R> for AuthorityKeyIdentifier {
     fn decode_fields(alloc: Global, reader: &mut R) -> Result<AuthorityKeyIdentifier, Error> {
-        let row!(
-            key_identifier,
-            authority_cert_issuer,
-            authority_cert_serial_number
-        ) = DecodeRow::decode_row(alloc, reader)?;
-        Ok(AuthorityKeyIdentifier {
-            key_identifier: implicit_of::<_, 0>(key_identifier),
-            authority_cert_issuer: implicit_of::<_, 1>(authority_cert_issuer),
-            authority_cert_serial_number: implicit_of::<_, 2>(authority_cert_serial_number),
+        read_row!(alloc, reader; AuthorityKeyIdentifier {
+            key_identifier: implicit 0 optional, authority_cert_issuer: implicit 1 optional,
+            authority_cert_serial_number: implicit 2 optional,
         })
     }
 }
@@ -60,11 +57,35 @@ impl Described for AuthorityKeyIdentifier {
 impl Rows for AuthorityKeyIdentifier {
     #[tactic(auto, using(der_core::proofs::Rows::lent))]
     fn with_rows<U: RowUser>(&self, other: &Self, user: &mut U) -> U::Answer {
-        lend!(self, other, user; |identifier|
-            implicit_ref::<_, 0>(&identifier.key_identifier),
-            implicit_ref::<_, 1>(&identifier.authority_cert_issuer),
-            implicit_ref::<_, 2>(&identifier.authority_cert_serial_number))
+        lend!(self, other, user;
+            key_identifier: implicit 0 optional, authority_cert_issuer: implicit 1 optional,
+            authority_cert_serial_number: implicit 2 optional)
     }
 
     ghost apart = { refl };
+}
+
+impl AuthorityKeyIdentifier {
+    /// The identifier of a key (`key_identifier_of`) alone.
+    ///
+    /// # Errors
+    /// Want of memory.
+    pub fn try_from_key<'a>(
+        alloc: Global,
+        key: &SubjectPublicKeyInfoRef<'a>,
+    ) -> Result<AuthorityKeyIdentifier, Error>
+        ensures ok { IfOk result (λ i. i ≡ record {
+          key_identifier = Some (key_identifier (key_lent key.now));
+          authority_cert_issuer = None;
+          authority_cert_serial_number = None;
+        }) }
+        ensures err { IfErr result (λ e. e.kind ≡ OutOfMemory) }
+    {
+        let identifier = key_identifier_of(alloc, key)?;
+        Ok(AuthorityKeyIdentifier {
+            key_identifier: Some(identifier),
+            authority_cert_issuer: None,
+            authority_cert_serial_number: None,
+        })
+    }
 }

@@ -8,9 +8,8 @@ ghost use Rattle.x509_cert_general_names.specs.Views.{distribution_point_plain};
 use crate::distribution_point_name::DistributionPointName;
 use crate::general_name::GeneralNames;
 use crate::reason_flags::ReasonFlags;
-use der_core::describing::{AsRecord, DecodeRow, Described, FieldsView, RowUser, Rows};
-use der_core::making::{explicit_of, explicit_ref, implicit_of, implicit_ref};
-use der_core::{DecodeFields, Error, Reader, lend, row};
+use der_core::describing::{AsRecord, Described, FieldsView, RowUser, Rows};
+use der_core::{DecodeFields, Error, Reader, lend, read_row};
 use std::alloc::Global;
 
 /// Where a list of revoked certificates is had (RFC 5280 4.2.1.13).
@@ -39,11 +38,9 @@ impl FieldsView for DistributionPoint {
 
 impl<'a, R: Reader<'a>> DecodeFields<'a, R> for DistributionPoint {
     fn decode_fields(alloc: Global, reader: &mut R) -> Result<DistributionPoint, Error> {
-        let row!(distribution_point, reasons, crl_issuer) = DecodeRow::decode_row(alloc, reader)?;
-        Ok(DistributionPoint {
-            distribution_point: explicit_of::<_, 0>(distribution_point),
-            reasons: implicit_of::<_, 1>(reasons),
-            crl_issuer: implicit_of::<_, 2>(crl_issuer),
+        read_row!(alloc, reader; DistributionPoint {
+            distribution_point: explicit 0 optional, reasons: implicit 1 optional,
+            crl_issuer: implicit 2 optional,
         })
     }
 }
@@ -55,10 +52,9 @@ impl Described for DistributionPoint {
 impl Rows for DistributionPoint {
     #[tactic(auto, using(der_core::proofs::Rows::lent))]
     fn with_rows<U: RowUser>(&self, other: &Self, user: &mut U) -> U::Answer {
-        lend!(self, other, user; |point|
-            explicit_ref::<_, 0>(&point.distribution_point),
-            implicit_ref::<_, 1>(&point.reasons),
-            implicit_ref::<_, 2>(&point.crl_issuer))
+        lend!(self, other, user;
+            distribution_point: explicit 0 optional, reasons: implicit 1 optional,
+            crl_issuer: implicit 2 optional)
     }
 
     ghost apart = { refl };

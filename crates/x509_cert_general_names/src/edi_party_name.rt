@@ -4,9 +4,8 @@ ghost use Rattle.std.specs.Prelude.{◌≡◌, refl};
 ghost use Rattle.x509_cert_general_names.specs.Grammar.{edi_party_name_fields};
 ghost use Rattle.x509_cert_general_names.specs.Views.{edi_party_name_plain};
 
-use der_core::describing::{AsRecord, DecodeRow, Described, FieldsView, RowUser, Rows};
-use der_core::making::{explicit_of, explicit_ref};
-use der_core::{DecodeFields, EncodeRef, Error, Explicit, Reader, lend, row};
+use der_core::describing::{AsRecord, Described, FieldsView, RowUser, Rows};
+use der_core::{DecodeFields, Error, Reader, lend, read_row};
 use std::alloc::Global;
 use x509_cert_parts::DirectoryString;
 
@@ -33,12 +32,8 @@ impl FieldsView for EdiPartyName {
 
 impl<'a, R: Reader<'a>> DecodeFields<'a, R> for EdiPartyName {
     fn decode_fields(alloc: Global, reader: &mut R) -> Result<EdiPartyName, Error> {
-        let row!(name_assigner, Explicit::<_, 1> { value: party_name }) = DecodeRow::decode_row(
-            alloc, reader,
-        )?;
-        Ok(EdiPartyName {
-            name_assigner: explicit_of::<_, 0>(name_assigner),
-            party_name,
+        read_row!(alloc, reader; EdiPartyName {
+            name_assigner: explicit 0 optional, party_name: explicit 1,
         })
     }
 }
@@ -50,9 +45,7 @@ impl Described for EdiPartyName {
 impl Rows for EdiPartyName {
     #[tactic(auto, using(der_core::proofs::Rows::lent))]
     fn with_rows<U: RowUser>(&self, other: &Self, user: &mut U) -> U::Answer {
-        lend!(self, other, user; |name|
-            explicit_ref::<_, 0>(&name.name_assigner),
-            Explicit::<_, 1> { value: EncodeRef(&name.party_name) })
+        lend!(self, other, user; name_assigner: explicit 0 optional, party_name: explicit 1)
     }
 
     ghost apart = { refl };

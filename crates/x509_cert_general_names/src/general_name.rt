@@ -14,7 +14,7 @@ use crate::other_name::OtherName;
 use const_oid::ObjectIdentifier;
 use der_core::{
     AsRead, Choice, Decode, DerOrd, Element, Encode, EncodeRef, Error, Explicit, FirstTag,
-    Implicit, ImplicitRef, Length, Member, OneOf2, OneOf4, OneOf8, Reader, Shaped, Tag, Writer,
+    Implicit, ImplicitRef, Length, Member, OneOf8, Reader, Shaped, Tag, Writer, case,
 };
 use std::alloc::{AllocError, Global};
 use std::cmp::Ordering;
@@ -113,24 +113,18 @@ impl GeneralName {
         ensures { ⟦<CasesRef<'a> as Shaped>⟧.written result ≡ general_name_plain self.now }
     {
         match self {
-            GeneralName::OtherName(value) => OneOf4::First(ImplicitRef { value: value }),
-            GeneralName::Rfc822Name(value) => OneOf4::Second(ImplicitRef { value: value }),
-            GeneralName::DnsName(value) => OneOf4::Third(ImplicitRef { value: value }),
-            GeneralName::DirectoryName(value) => OneOf4::Fourth(OneOf4::First(Explicit {
-                value: EncodeRef(value),
-            })),
-            GeneralName::EdiPartyName(value) => OneOf4::Fourth(OneOf4::Second(ImplicitRef {
-                value: value,
-            })),
-            GeneralName::UniformResourceIdentifier(value) => OneOf4::Fourth(OneOf4::Third(
-                ImplicitRef { value: value },
-            )),
-            GeneralName::IpAddress(value) => OneOf4::Fourth(OneOf4::Fourth(OneOf2::First(
-                ImplicitRef { value: value },
-            ))),
-            GeneralName::RegisteredId(value) => OneOf4::Fourth(OneOf4::Fourth(OneOf2::Second(
-                ImplicitRef { value: value },
-            ))),
+            GeneralName::OtherName(value) => case!(1 of 8: ImplicitRef { value: value }),
+            GeneralName::Rfc822Name(value) => case!(2 of 8: ImplicitRef { value: value }),
+            GeneralName::DnsName(value) => case!(3 of 8: ImplicitRef { value: value }),
+            GeneralName::DirectoryName(value) => {
+                case!(4 of 8: Explicit { value: EncodeRef(value) })
+            }
+            GeneralName::EdiPartyName(value) => case!(5 of 8: ImplicitRef { value: value }),
+            GeneralName::UniformResourceIdentifier(value) => {
+                case!(6 of 8: ImplicitRef { value: value })
+            }
+            GeneralName::IpAddress(value) => case!(7 of 8: ImplicitRef { value: value }),
+            GeneralName::RegisteredId(value) => case!(8 of 8: ImplicitRef { value: value }),
         }
     }
 }
@@ -152,20 +146,14 @@ impl Choice for GeneralName {
 impl<'a, R: Reader<'a>> Decode<'a, R> for GeneralName {
     fn decode(alloc: Global, reader: &mut R) -> Result<GeneralName, Error> {
         match Cases::decode(alloc, reader)? {
-            OneOf4::First(value) => Ok(GeneralName::OtherName(value.value)),
-            OneOf4::Second(value) => Ok(GeneralName::Rfc822Name(value.value)),
-            OneOf4::Third(value) => Ok(GeneralName::DnsName(value.value)),
-            OneOf4::Fourth(OneOf4::First(value)) => Ok(GeneralName::DirectoryName(value.value)),
-            OneOf4::Fourth(OneOf4::Second(value)) => Ok(GeneralName::EdiPartyName(value.value)),
-            OneOf4::Fourth(OneOf4::Third(value)) => Ok(GeneralName::UniformResourceIdentifier(
-                value.value,
-            )),
-            OneOf4::Fourth(OneOf4::Fourth(OneOf2::First(value))) => Ok(GeneralName::IpAddress(
-                value.value,
-            )),
-            OneOf4::Fourth(OneOf4::Fourth(OneOf2::Second(value))) => Ok(GeneralName::RegisteredId(
-                value.value,
-            )),
+            case!(1 of 8: value) => Ok(GeneralName::OtherName(value.value)),
+            case!(2 of 8: value) => Ok(GeneralName::Rfc822Name(value.value)),
+            case!(3 of 8: value) => Ok(GeneralName::DnsName(value.value)),
+            case!(4 of 8: value) => Ok(GeneralName::DirectoryName(value.value)),
+            case!(5 of 8: value) => Ok(GeneralName::EdiPartyName(value.value)),
+            case!(6 of 8: value) => Ok(GeneralName::UniformResourceIdentifier(value.value)),
+            case!(7 of 8: value) => Ok(GeneralName::IpAddress(value.value)),
+            case!(8 of 8: value) => Ok(GeneralName::RegisteredId(value.value)),
         }
     }
 }

@@ -6,9 +6,8 @@ ghost use Rattle.x509_cert_general_names.specs.Grammar.{general_subtree_fields};
 ghost use Rattle.x509_cert_general_names.specs.Views.{general_subtree_plain};
 
 use crate::general_name::GeneralName;
-use der_core::describing::{AsRecord, DecodeRow, Described, FieldsView, RowUser, Rows};
-use der_core::making::{implicit_of, implicit_ref};
-use der_core::{DecodeFields, EncodeRef, Error, Implicit, Reader, WithDefault, lend, row};
+use der_core::describing::{AsRecord, Described, FieldsView, RowUser, Rows};
+use der_core::{DecodeFields, Error, Reader, lend, read_row};
 use std::alloc::Global;
 
 /// Names below a base (RFC 5280 4.2.1.10).
@@ -39,17 +38,8 @@ impl FieldsView for GeneralSubtree {
 
 impl<'a, R: Reader<'a>> DecodeFields<'a, R> for GeneralSubtree {
     fn decode_fields(alloc: Global, reader: &mut R) -> Result<GeneralSubtree, Error> {
-        let row!(
-            base,
-            WithDefault {
-                value: Implicit::<_, 0> { value: minimum }
-            },
-            maximum
-        ) = DecodeRow::decode_row(alloc, reader)?;
-        Ok(GeneralSubtree {
-            base,
-            minimum,
-            maximum: implicit_of::<_, 1>(maximum),
+        read_row!(alloc, reader; GeneralSubtree {
+            base, minimum: implicit 0 default, maximum: implicit 1 optional,
         })
     }
 }
@@ -61,10 +51,7 @@ impl Described for GeneralSubtree {
 impl Rows for GeneralSubtree {
     #[tactic(auto, using(der_core::proofs::Rows::lent))]
     fn with_rows<U: RowUser>(&self, other: &Self, user: &mut U) -> U::Answer {
-        lend!(self, other, user; |subtree|
-            EncodeRef(&subtree.base),
-            WithDefault { value: Implicit::<_, 0> { value: subtree.minimum } },
-            implicit_ref::<_, 1>(&subtree.maximum))
+        lend!(self, other, user; base, minimum: implicit 0 default, maximum: implicit 1 optional)
     }
 
     ghost apart = { refl };

@@ -11,8 +11,8 @@ ghost use Rattle.x509_cert_general_names.specs.Views.{hardware_module_name_plain
 
 use crate::other_name::OtherName;
 use const_oid::{AssociatedOid, ObjectIdentifier};
-use der_core::describing::{AsRecord, DecodeRow, Described, FieldsView, RowUser, Rows};
-use der_core::{DecodeFields, Error, Reader, lend, row};
+use der_core::describing::{AsRecord, Described, FieldsView, RowUser, Rows};
+use der_core::{DecodeFields, Error, Reader, lend, read_row};
 use std::alloc::Global;
 use x509_cert_parts::OctetString;
 
@@ -78,11 +78,7 @@ impl FieldsView for HardwareModuleName {
 
 impl<'a, R: Reader<'a>> DecodeFields<'a, R> for HardwareModuleName {
     fn decode_fields(alloc: Global, reader: &mut R) -> Result<HardwareModuleName, Error> {
-        let row!(hw_type, hw_serial_num) = DecodeRow::decode_row(alloc, reader)?;
-        Ok(HardwareModuleName {
-            hw_type,
-            hw_serial_num,
-        })
+        read_row!(alloc, reader; HardwareModuleName { hw_type, hw_serial_num })
     }
 }
 

@@ -7,9 +7,8 @@ ghost use Rattle.x509_cert_general_names.specs.Views.{issuing_distribution_point
 
 use crate::distribution_point_name::DistributionPointName;
 use crate::reason_flags::ReasonFlags;
-use der_core::describing::{AsRecord, DecodeRow, Described, FieldsView, RowUser, Rows};
-use der_core::making::{explicit_of, explicit_ref, implicit_of, implicit_ref};
-use der_core::{DecodeFields, Error, Implicit, Reader, WithDefault, lend, row};
+use der_core::describing::{AsRecord, Described, FieldsView, RowUser, Rows};
+use der_core::{DecodeFields, Error, Reader, lend, read_row};
 use std::alloc::Global;
 
 /// What stands in a list of revoked certificates (RFC 5280 5.2.5).
@@ -47,37 +46,10 @@ impl FieldsView for IssuingDistributionPoint {
 
 impl<'a, R: Reader<'a>> DecodeFields<'a, R> for IssuingDistributionPoint {
     fn decode_fields(alloc: Global, reader: &mut R) -> Result<IssuingDistributionPoint, Error> {
-        let row!(
-            distribution_point,
-            WithDefault {
-                value: Implicit::<_, 1> {
-                    value: only_contains_user_certs
-                }
-            },
-            WithDefault {
-                value: Implicit::<_, 2> {
-                    value: only_contains_ca_certs
-                }
-            },
-            only_some_reasons,
-            WithDefault {
-                value: Implicit::<_, 4> {
-                    value: indirect_crl
-                }
-            },
-            WithDefault {
-                value: Implicit::<_, 5> {
-                    value: only_contains_attribute_certs
-                }
-            }
-        ) = DecodeRow::decode_row(alloc, reader)?;
-        Ok(IssuingDistributionPoint {
-            distribution_point: explicit_of::<_, 0>(distribution_point),
-            only_contains_user_certs,
-            only_contains_ca_certs,
-            only_some_reasons: implicit_of::<_, 3>(only_some_reasons),
-            indirect_crl,
-            only_contains_attribute_certs,
+        read_row!(alloc, reader; IssuingDistributionPoint {
+            distribution_point: explicit 0 optional, only_contains_user_certs: implicit 1 default,
+            only_contains_ca_certs: implicit 2 default, only_some_reasons: implicit 3 optional,
+            indirect_crl: implicit 4 default, only_contains_attribute_certs: implicit 5 default,
         })
     }
 }
@@ -88,13 +60,10 @@ impl Described for IssuingDistributionPoint {
 
 impl Rows for IssuingDistributionPoint {
     fn with_rows<U: RowUser>(&self, other: &Self, user: &mut U) -> U::Answer {
-        lend!(self, other, user; |point|
-            explicit_ref::<_, 0>(&point.distribution_point),
-            WithDefault { value: Implicit::<_, 1> { value: point.only_contains_user_certs } },
-            WithDefault { value: Implicit::<_, 2> { value: point.only_contains_ca_certs } },
-            implicit_ref::<_, 3>(&point.only_some_reasons),
-            WithDefault { value: Implicit::<_, 4> { value: point.indirect_crl } },
-            WithDefault { value: Implicit::<_, 5> { value: point.only_contains_attribute_certs } })
+        lend!(self, other, user;
+            distribution_point: explicit 0 optional, only_contains_user_certs: implicit 1 default,
+            only_contains_ca_certs: implicit 2 default, only_some_reasons: implicit 3 optional,
+            indirect_crl: implicit 4 default, only_contains_attribute_certs: implicit 5 default)
     }
 
     ghost apart = { refl };

@@ -6,9 +6,8 @@ ghost use Rattle.x509_cert_general_names.specs.Grammar.{name_constraints_fields}
 ghost use Rattle.x509_cert_general_names.specs.Views.{name_constraints_plain};
 
 use crate::general_subtree::GeneralSubtrees;
-use der_core::describing::{AsRecord, DecodeRow, Described, FieldsView, RowUser, Rows};
-use der_core::making::{implicit_of, implicit_ref};
-use der_core::{DecodeFields, Error, Reader, lend, row};
+use der_core::describing::{AsRecord, Described, FieldsView, RowUser, Rows};
+use der_core::{DecodeFields, Error, Reader, lend, read_row};
 use std::alloc::Global;
 
 /// Where the names of all subjects below an authority must lie (RFC 5280 4.2.1.10).
@@ -36,10 +35,8 @@ impl FieldsView for NameConstraints {
 
 impl<'a, R: Reader<'a>> DecodeFields<'a, R> for NameConstraints {
     fn decode_fields(alloc: Global, reader: &mut R) -> Result<NameConstraints, Error> {
-        let row!(permitted_subtrees, excluded_subtrees) = DecodeRow::decode_row(alloc, reader)?;
-        Ok(NameConstraints {
-            permitted_subtrees: implicit_of::<_, 0>(permitted_subtrees),
-            excluded_subtrees: implicit_of::<_, 1>(excluded_subtrees),
+        read_row!(alloc, reader; NameConstraints {
+            permitted_subtrees: implicit 0 optional, excluded_subtrees: implicit 1 optional,
         })
     }
 }
@@ -51,9 +48,8 @@ impl Described for NameConstraints {
 impl Rows for NameConstraints {
     #[tactic(auto, using(der_core::proofs::Rows::lent))]
     fn with_rows<U: RowUser>(&self, other: &Self, user: &mut U) -> U::Answer {
-        lend!(self, other, user; |constraints|
-            implicit_ref::<_, 0>(&constraints.permitted_subtrees),
-            implicit_ref::<_, 1>(&constraints.excluded_subtrees))
+        lend!(self, other, user;
+            permitted_subtrees: implicit 0 optional, excluded_subtrees: implicit 1 optional)
     }
 
     ghost apart = { refl };

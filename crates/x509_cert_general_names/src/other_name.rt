@@ -9,8 +9,8 @@ ghost use Rattle.x509_cert_general_names.specs.Views.{hardware_module_name_plain
 
 use crate::hardware_module_name::HardwareModuleName;
 use const_oid::{AssociatedOid, ObjectIdentifier};
-use der_core::describing::{AsRecord, DecodeRow, Described, FieldsView, RowUser, Rows};
-use der_core::{DecodeFields, EncodeRef, Error, Explicit, Reader, lend, row};
+use der_core::describing::{AsRecord, Described, FieldsView, RowUser, Rows};
+use der_core::{DecodeFields, Error, Reader, lend, read_row};
 use std::alloc::Global;
 use x509_cert_parts::Any;
 
@@ -54,10 +54,7 @@ impl FieldsView for OtherName {
 
 impl<'a, R: Reader<'a>> DecodeFields<'a, R> for OtherName {
     fn decode_fields(alloc: Global, reader: &mut R) -> Result<OtherName, Error> {
-        let row!(type_id, Explicit::<_, 0> { value: value }) = DecodeRow::decode_row(
-            alloc, reader,
-        )?;
-        Ok(OtherName { type_id, value })
+        read_row!(alloc, reader; OtherName { type_id, value: explicit 0 })
     }
 }
 
@@ -68,9 +65,7 @@ impl Described for OtherName {
 impl Rows for OtherName {
     #[tactic(auto, using(der_core::proofs::Rows::lent))]
     fn with_rows<U: RowUser>(&self, other: &Self, user: &mut U) -> U::Answer {
-        lend!(self, other, user; |name|
-            EncodeRef(&name.type_id),
-            Explicit::<_, 0> { value: EncodeRef(&name.value) })
+        lend!(self, other, user; type_id, value: explicit 0)
     }
 
     ghost apart = { refl };

@@ -34,7 +34,7 @@ use x509_cert_builders::certificates::{
     Version,
 };
 use x509_cert_builders::types::general_names::AuthorityKeyIdentifier;
-use x509_cert_builders::types::{CrlNumber, ToExtension, TryFromKey};
+use x509_cert_builders::types::{CrlNumber, ToExtension};
 use x509_cert_builders::{Builder, Error, Signer};
 use x509_cert_lists::{CertificateList, RevokedCert, TbsCertList};
 

@@ -20,7 +20,7 @@ ghost use Rattle.x509_cert_list_builders.specs.Signed.{octets_in_place};
 use crate::laws::signed_part_stands_in_place;
 use crate::writing::written;
 use der_core::making::{copies_of, place_of};
-use der_core::{ErrorKind, InRange, StrictSetOf, to_der};
+use der_core::{ErrorKind, InRange, StrictSetOf, ToDer};
 use std::alloc::Global;
 use std::marker::Model;
 use x509_cert_builders::certificates::{
@@ -139,7 +139,7 @@ impl RequestBuilder {
     {
         let made = value.to_attribute(alloc)?;
         made.in_range();
-        let _octets = to_der(alloc, &made)?;
+        let _octets = made.to_der(alloc)?;
         self.attributes.insert(made)?;
         Ok(())
     }

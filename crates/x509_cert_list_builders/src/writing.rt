@@ -7,7 +7,7 @@ ghost use Rattle.x509_cert_lists.specs.Views.{tbs_cert_list_plain};
 ghost use Rattle.x509_cert_list_builders.specs.Lists.{list_part};
 
 use crate::in_range::list_in_range;
-use der_core::{Encode, InRange, to_der};
+use der_core::{Encode, InRange, ToDer};
 use std::alloc::Global;
 use x509_cert_builders::Error;
 use x509_cert_builders::certificates::Profile;
@@ -21,7 +21,7 @@ pub(crate) fn written<T: Encode + InRange>(alloc: Global, value: &T) -> Result<V
         (λ e. IsWantOfMemory e ⊎ IsUnwritten T.shape (T.written value.now) e) }
 {
     value.in_range();
-    let octets = to_der(alloc, value)?;
+    let octets = value.to_der(alloc)?;
     Ok(octets)
 }
 
@@ -37,6 +37,6 @@ pub(crate) fn list_written<P: Profile>(
         ⊎ IsUnwritten (list_part P.serial_limit) (tbs_cert_list_plain part.now) e) }
 {
     list_in_range(part);
-    let octets = to_der(alloc, part)?;
+    let octets = part.to_der(alloc)?;
     Ok(octets)
 }

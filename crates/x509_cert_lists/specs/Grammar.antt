@@ -4,7 +4,7 @@
 use Rattle.std.specs.Prelude.{ℕ, List, [], ◌∷◌, true, Option, Result, Ok}
 use Rattle.der_core_head.specs.declared.error.ErrorKind.{ErrorKind}
 use Rattle.der_core_head.specs.declared.tag.Tag.TheVariants as tags
-use Rattle.der_core_head.specs.Integers.{Numbers, among}
+use Rattle.der_core_head.specs.Integers.{among}
 use Rattle.der_core_head.specs.Leaves.{integer}
 use Rattle.der_core_head.specs.Octets.{◌>>=◌}
 use Rattle.der_core_head.specs.Shapes.{Shape, Body, Content, tagged, leaf, optional, field, done}
@@ -45,15 +45,15 @@ certificate_list_fields bound limit =
     (field (algorithm_identifier bound) (field bit_string done))
 
 -- The version of a request: INTEGER { v1(0) }
-abbrev pub request_numbers : Numbers
-request_numbers = among (0 ∷ [])
+abbrev pub request_numbers : List ℕ
+request_numbers = 0 ∷ []
 
 -- CertificationRequestInfo ::= SEQUENCE { version INTEGER { v1(0) }, subject Name, subjectPKInfo
 --     SubjectPublicKeyInfo,
 --     attributes [0] IMPLICIT SET OF Attribute } (RFC 2986 4.1)
 abbrev pub cert_req_info_fields : ℕ → Body
 cert_req_info_fields bound =
-    field (tagged tags.Integer (leaf (integer request_numbers)))
+    field (tagged tags.Integer (leaf (integer (among request_numbers))))
     (field (name bound)
     (field (public_key_info bound)
     (field (tagged (context true 0) (nested (rising (attribute bound)))) done)))

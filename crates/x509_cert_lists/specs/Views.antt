@@ -1,5 +1,5 @@
 -- What contracts see of the types: the plain values of their shapes.
-use Rattle.std.specs.Prelude.{ℤ, pos, None}
+use Rattle.std.specs.Prelude.{ℕ, pos, None}
 use Rattle.der_core_head.specs.Grammar.{plain_option, plain_list}
 use Rattle.der_core_head.specs.Shapes.{BodyValue}
 use Rattle.x509_cert_lists.specs.Grammar.{revoked_cert_fields, tbs_cert_list_fields}
@@ -28,7 +28,7 @@ revoked_cert_plain r = (
 abbrev pub tbs_cert_list_plain : {P : Type 0} → TbsCertList P
     → BodyValue (tbs_cert_list_fields 0 None)
 tbs_cert_list_plain t = (
-  version_number t.version,
+  pos (version_number t.version),
   (
     algorithm_plain t.signature,
     (
@@ -55,12 +55,12 @@ certificate_list_plain c = (
 )
 
 -- the number of a request's version
-abbrev pub request_number : Version → ℤ
-request_number v = pos 0
+abbrev pub request_number : Version → ℕ
+request_number v = 0
 
 abbrev pub cert_req_info_plain : CertReqInfo → BodyValue (cert_req_info_fields 0)
 cert_req_info_plain i = (
-  request_number i.version,
+  pos (request_number i.version),
   (
     name_plain i.subject,
     (key_plain i.public_key, (plain_list attribute_plain i.attributes.values.items, tt)),

@@ -10,8 +10,8 @@ ghost use Rattle.x509_cert_lists.specs.Grammar.{cert_req, cert_req_fields};
 ghost use Rattle.x509_cert_lists.specs.Views.{cert_req_plain};
 
 use crate::cert_req_info::CertReqInfo;
-use der_core::describing::{AsRecord, DecodeRow, Described, FieldsView, RowUser, Rows};
-use der_core::{DecodeFields, Error, Reader, from_der, lend, row};
+use der_core::describing::{AsRecord, Described, FieldsView, RowUser, Rows};
+use der_core::{DecodeFields, Error, FromDer, Reader, lend, read_row};
 use std::alloc::Global;
 use x509_cert_parts::{AlgorithmIdentifier, BitString};
 
@@ -41,12 +41,7 @@ impl FieldsView for CertReq {
 
 impl<'a, R: Reader<'a>> DecodeFields<'a, R> for CertReq {
     fn decode_fields(alloc: Global, reader: &mut R) -> Result<CertReq, Error> {
-        let row!(info, algorithm, signature) = DecodeRow::decode_row(alloc, reader)?;
-        Ok(CertReq {
-            info,
-            algorithm,
-            signature,
-        })
+        read_row!(alloc, reader; CertReq { info, algorithm, signature })
     }
 }
 
@@ -77,6 +72,6 @@ impl CertReq {
         ensures exact { Gives (λ r. (cert_req_plain r, [])) result
             (read_whole (cert_req Bound) bytes.now) }
     {
-        from_der(alloc, bytes)
+        CertReq::from_der(alloc, bytes)
     }
 }

@@ -6,10 +6,8 @@ ghost use Rattle.x509_cert_lists.specs.Grammar.{cert_req_info_fields};
 ghost use Rattle.x509_cert_lists.specs.Views.{cert_req_info_plain};
 
 use crate::request::Version;
-use der_core::describing::{AsRecord, DecodeRow, Described, FieldsView, RowUser, Rows};
-use der_core::{
-    DecodeFields, EncodeRef, Error, Implicit, ImplicitRef, InRange, InRangeValue, Reader, lend, row,
-};
+use der_core::describing::{AsRecord, Described, FieldsView, RowUser, Rows};
+use der_core::{DecodeFields, Error, InRange, InRangeValue, Reader, lend, read_row};
 use std::alloc::Global;
 use x509_cert_parts::{Attributes, Name, SubjectPublicKeyInfo};
 
@@ -42,17 +40,8 @@ impl FieldsView for CertReqInfo {
 
 impl<'a, R: Reader<'a>> DecodeFields<'a, R> for CertReqInfo {
     fn decode_fields(alloc: Global, reader: &mut R) -> Result<CertReqInfo, Error> {
-        let row!(
-            version,
-            subject,
-            public_key,
-            Implicit::<_, 0> { value: attributes }
-        ) = DecodeRow::decode_row(alloc, reader)?;
-        Ok(CertReqInfo {
-            version,
-            subject,
-            public_key,
-            attributes,
+        read_row!(alloc, reader; CertReqInfo {
+            version, subject, public_key, attributes: implicit 0,
         })
     }
 }
@@ -63,11 +52,7 @@ impl Described for CertReqInfo {
 
 impl Rows for CertReqInfo {
     fn with_rows<U: RowUser>(&self, other: &Self, user: &mut U) -> U::Answer {
-        lend!(self, other, user; |info|
-            EncodeRef(&info.version),
-            EncodeRef(&info.subject),
-            EncodeRef(&info.public_key),
-            ImplicitRef::<_, 0> { value: &info.attributes })
+        lend!(self, other, user; version, subject, public_key, attributes: implicit 0)
     }
 
     ghost apart = { refl };

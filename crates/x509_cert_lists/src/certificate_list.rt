@@ -6,8 +6,8 @@ ghost use Rattle.x509_cert_lists.specs.Grammar.{certificate_list_fields};
 ghost use Rattle.x509_cert_lists.specs.Views.{certificate_list_plain};
 
 use crate::tbs_cert_list::TbsCertList;
-use der_core::describing::{AsRecord, DecodeRow, Described, FieldsView, RowUser, Rows};
-use der_core::{DecodeFields, Error, Reader, lend, row};
+use der_core::describing::{AsRecord, Described, FieldsView, RowUser, Rows};
+use der_core::{DecodeFields, Error, Reader, lend, read_row};
 use std::alloc::Global;
 use x509_cert_parts::{AlgorithmIdentifier, BitString, Profile, Rfc5280};
 
@@ -38,14 +38,7 @@ impl<P: Profile> FieldsView for CertificateList<P> {
 
 impl<'a, R: Reader<'a>, P: Profile> DecodeFields<'a, R> for CertificateList<P> {
     fn decode_fields(alloc: Global, reader: &mut R) -> Result<CertificateList<P>, Error> {
-        let row!(tbs_cert_list, signature_algorithm, signature) = DecodeRow::decode_row(
-            alloc, reader,
-        )?;
-        Ok(CertificateList {
-            tbs_cert_list,
-            signature_algorithm,
-            signature,
-        })
+        read_row!(alloc, reader; CertificateList { tbs_cert_list, signature_algorithm, signature })
     }
 }
 

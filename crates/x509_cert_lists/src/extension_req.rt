@@ -52,9 +52,7 @@ impl Wraps<Vec<Extension>> for ExtensionReq {
         &self.0
     }
 
-    fn wrap(field: Vec<Extension>) -> ExtensionReq {
-        ExtensionReq(field)
-    }
+    ghost made = { λ _ _ e. e };
 }
 
 impl Ordered for ExtensionReq {}

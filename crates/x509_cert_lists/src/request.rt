@@ -1,12 +1,10 @@
 //! The versions of certification requests.
 
-ghost use Rattle.std.specs.Prelude.{◌≡◌};
+ghost use Rattle.std.specs.Prelude.{◌≡◌, refl};
 ghost use Rattle.x509_cert_lists.specs.Grammar.{request_numbers};
 ghost use Rattle.x509_cert_lists.specs.Views.{request_number};
 
-use der_core::describing::{AsInteger, Described, Ordered};
-use der_core::{Error, Integer, Tag};
-use x509_cert_parts::making::number_among;
+use der_core::describing::{AsInteger, Described, Numbered, Ordered};
 
 /// The version of a certification request (RFC 2986 4.1).
 ///
@@ -25,19 +23,23 @@ impl Described for Version {
 }
 
 /// Any other number is refused as `Value`.
-impl Integer for Version {
-    ghost numbers = { request_numbers };
+impl Numbered for Version {
+    ghost known_numbers = { request_numbers };
 
-    ghost number = { request_number };
+    ghost known_number = { request_number };
 
-    fn from_integer(tag: Tag, octets: &[u8]) -> Result<Version, Error> {
-        number_among(tag, octets, &[0])?;
-        Ok(Version::V1)
+    fn from_number(number: u8) -> Option<Version> {
+        match number {
+            0 => Some(Version::V1),
+            _ => None,
+        }
     }
 
-    fn magnitude(&self) -> (bool, u128) {
-        (false, 0)
+    fn to_number(&self) -> u8 {
+        *self as u8
     }
+
+    ghost few = { refl };
 }
 
 impl Ordered for Version {}

@@ -5,8 +5,8 @@ ghost use Rattle.const_oid.specs.Bound.{Bound};
 ghost use Rattle.x509_cert_lists.specs.Grammar.{revoked_cert_fields};
 ghost use Rattle.x509_cert_lists.specs.Views.{revoked_cert_plain};
 
-use der_core::describing::{AsRecord, DecodeRow, Described, FieldsView, RowUser, Rows};
-use der_core::{DecodeFields, Error, Reader, lend, row};
+use der_core::describing::{AsRecord, Described, FieldsView, RowUser, Rows};
+use der_core::{DecodeFields, Error, Reader, lend, read_row};
 use std::alloc::Global;
 use x509_cert_parts::{Extensions, Profile, Rfc5280, SerialNumber, Time};
 
@@ -37,13 +37,8 @@ impl<P: Profile> FieldsView for RevokedCert<P> {
 
 impl<'a, R: Reader<'a>, P: Profile> DecodeFields<'a, R> for RevokedCert<P> {
     fn decode_fields(alloc: Global, reader: &mut R) -> Result<RevokedCert<P>, Error> {
-        let row!(serial_number, revocation_date, crl_entry_extensions) = DecodeRow::decode_row(
-            alloc, reader,
-        )?;
-        Ok(RevokedCert {
-            serial_number,
-            revocation_date,
-            crl_entry_extensions,
+        read_row!(alloc, reader; RevokedCert {
+            serial_number, revocation_date, crl_entry_extensions,
         })
     }
 }

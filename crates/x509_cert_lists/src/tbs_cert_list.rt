@@ -6,9 +6,8 @@ ghost use Rattle.x509_cert_lists.specs.Grammar.{tbs_cert_list_fields};
 ghost use Rattle.x509_cert_lists.specs.Views.{tbs_cert_list_plain};
 
 use crate::revoked_cert::RevokedCert;
-use der_core::describing::{AsRecord, DecodeRow, Described, FieldsView, RowUser, Rows};
-use der_core::making::{explicit_of, explicit_ref};
-use der_core::{DecodeFields, EncodeRef, Error, Reader, lend, row};
+use der_core::describing::{AsRecord, Described, FieldsView, RowUser, Rows};
+use der_core::{DecodeFields, Error, Reader, lend, read_row};
 use std::alloc::Global;
 use x509_cert_parts::{AlgorithmIdentifier, Extensions, Name, Profile, Rfc5280, Time, Version};
 
@@ -53,23 +52,9 @@ impl<P: Profile> FieldsView for TbsCertList<P> {
 
 impl<'a, R: Reader<'a>, P: Profile> DecodeFields<'a, R> for TbsCertList<P> {
     fn decode_fields(alloc: Global, reader: &mut R) -> Result<TbsCertList<P>, Error> {
-        let row!(
-            version,
-            signature,
-            issuer,
-            this_update,
-            next_update,
-            revoked_certificates,
-            crl_extensions
-        ) = DecodeRow::decode_row(alloc, reader)?;
-        Ok(TbsCertList {
-            version,
-            signature,
-            issuer,
-            this_update,
-            next_update,
-            revoked_certificates,
-            crl_extensions: explicit_of::<_, 0>(crl_extensions),
+        read_row!(alloc, reader; TbsCertList {
+            version, signature, issuer, this_update, next_update, revoked_certificates,
+            crl_extensions: explicit 0 optional,
         })
     }
 }
@@ -80,14 +65,9 @@ impl<P: Profile> Described for TbsCertList<P> {
 
 impl<P: Profile> Rows for TbsCertList<P> {
     fn with_rows<U: RowUser>(&self, other: &Self, user: &mut U) -> U::Answer {
-        lend!(self, other, user; |list|
-            EncodeRef(&list.version),
-            EncodeRef(&list.signature),
-            EncodeRef(&list.issuer),
-            EncodeRef(&list.this_update),
-            EncodeRef(&list.next_update),
-            EncodeRef(&list.revoked_certificates),
-            explicit_ref::<_, 0>(&list.crl_extensions))
+        lend!(self, other, user;
+            version, signature, issuer, this_update, next_update, revoked_certificates,
+            crl_extensions: explicit 0 optional)
     }
 
     ghost apart = { refl };

@@ -8,8 +8,8 @@ ghost use Rattle.x509_cert_names.specs.Views.{attribute_plain};
 
 use crate::attribute_type_and_value::{AttributeType, AttributeValue};
 use crate::members::copy_of;
-use der_core::describing::{AsRecord, DecodeRow, Described, FieldsView, RowUser, Rows};
-use der_core::{DecodeFields, Error, InRangeValue, Reader, StrictSetOf, lend, row};
+use der_core::describing::{AsRecord, Described, FieldsView, RowUser, Rows};
+use der_core::{DecodeFields, Error, InRangeValue, Reader, StrictSetOf, lend, read_row};
 use std::alloc::{AllocError, Global};
 
 /// An attribute with any number of values (RFC 5280 appendix A.1), none of which stands twice.
@@ -56,8 +56,7 @@ impl FieldsView for Attribute {
 
 impl<'a, R: Reader<'a>> DecodeFields<'a, R> for Attribute {
     fn decode_fields(alloc: Global, reader: &mut R) -> Result<Attribute, Error> {
-        let row!(oid, values) = DecodeRow::decode_row(alloc, reader)?;
-        Ok(Attribute { oid, values })
+        read_row!(alloc, reader; Attribute { oid, values })
     }
 }
 

@@ -16,8 +16,10 @@ ghost use Rattle.x509_cert_names.specs.Pairs.{same_pair_equiv, pair_fed, pair_fe
 
 use crate::value_texts::{text_of, value_of, write_encoding};
 use const_oid::ObjectIdentifier;
-use der_core::describing::{AsRecord, DecodeRow, Described, FieldsView, RowUser, Rows};
-use der_core::{DecodeFields, Error, ErrorKind, InRange, InRangeValue, Reader, lend, row, to_der};
+use der_core::describing::{AsRecord, Described, FieldsView, RowUser, Rows};
+use der_core::{
+    DecodeFields, Error, ErrorKind, InRange, InRangeValue, Reader, ToDer, lend, read_row,
+};
 use der_types_any::Any;
 use std::alloc::{AllocError, Global};
 use std::fmt;
@@ -59,8 +61,7 @@ impl FieldsView for AttributeTypeAndValue {
 
 impl<'a, R: Reader<'a>> DecodeFields<'a, R> for AttributeTypeAndValue {
     fn decode_fields(alloc: Global, reader: &mut R) -> Result<AttributeTypeAndValue, Error> {
-        let row!(oid, value) = DecodeRow::decode_row(alloc, reader)?;
-        Ok(AttributeTypeAndValue { oid, value })
+        read_row!(alloc, reader; AttributeTypeAndValue { oid, value })
     }
 }
 
@@ -144,7 +145,7 @@ impl AttributeTypeAndValue {
             (ReadsEncoding (type_and_value Bound) pair_plain (ReadsAttribute Bound text.now)) }
     {
         let attribute = AttributeTypeAndValue::from_str(alloc, text)?;
-        let octets = to_der(alloc, &attribute)?;
+        let octets = attribute.to_der(alloc)?;
         Ok(octets)
     }
 

@@ -20,7 +20,7 @@ use crate::members::copy_of;
 use crate::name_iter::RdnSequenceIter;
 use crate::relative_distinguished_name::RelativeDistinguishedName;
 use der_core::describing::{AsField, Described, Ordered, Wraps};
-use der_core::{Error, to_der};
+use der_core::{Error, ToDer};
 use std::alloc::{AllocError, Global};
 use std::fmt;
 use x509_cert_name_texts::read_pieces;
@@ -70,7 +70,7 @@ impl RdnSequence {
             (ReadsEncoding (name Bound) (plain_list relative_plain) (ReadsName Bound text.now)) }
     {
         let sequence = RdnSequence::from_str(alloc, text)?;
-        let octets = to_der(alloc, &sequence)?;
+        let octets = sequence.to_der(alloc)?;
         Ok(octets)
     }
 
@@ -143,11 +143,7 @@ impl Wraps<Vec<RelativeDistinguishedName>> for RdnSequence {
         &self.relative_names
     }
 
-    fn wrap(field: Vec<RelativeDistinguishedName>) -> RdnSequence {
-        RdnSequence {
-            relative_names: field,
-        }
-    }
+    ghost made = { λ _ _ e. e };
 }
 
 /// The encodings of the relative names, one after the other.

@@ -27,8 +27,8 @@ use crate::attribute_type_and_value::AttributeTypeAndValue;
 use crate::members::{arrange, copy_of, decode_members};
 use crate::plain_attribute::plain_attribute;
 use der_core::{
-    ApartValue, AsReadValue, DecodeValue, Encode, EncodeValue, Error, ErrorKind, FixedTag, Header,
-    InRange, InRangeValue, Length, Reader, ShapedValue, Tag, ValueOrd, Writer, from_der,
+    ApartValue, AsReadValue, DecodeValue, Encode, EncodeValue, Error, ErrorKind, FixedTag, FromDer,
+    Header, InRange, InRangeValue, Length, Reader, ShapedValue, Tag, ValueOrd, Writer,
 };
 use der_types_sets::SetOfIter;
 use der_types_sets::making::place_of;
@@ -227,7 +227,7 @@ fn one_attribute<'a, R: Reader<'a>>(
     if let Some(one) = plain_attribute(alloc, &rest[..len]) {
         return Some(one);
     }
-    match from_der::<AttributeTypeAndValue>(alloc, &rest[..len]) {
+    match AttributeTypeAndValue::from_der(alloc, &rest[..len]) {
         Ok(one) => Some(one),
         Err(_) => None,
     }

@@ -11,7 +11,7 @@ ghost use Rattle.x509_cert_names.specs.ValueTexts.{text_of, encoding_of};
 use crate::attribute_type_and_value::{AttributeType, AttributeValue};
 use crate::attribute_types as types;
 use der_core::making::encode_header;
-use der_core::{Error, Length, SliceWriter, Tag, from_der};
+use der_core::{Error, FromDer, Length, SliceWriter, Tag};
 use der_types_any::Any;
 use der_types_any::text_types::{Ia5StringRef, PrintableStringRef, TeletexStringRef};
 use std::alloc::Global;
@@ -37,7 +37,7 @@ fn encoded_value(alloc: Global, digits: &[u8]) -> Result<AttributeValue, Error>
     ensures { Gives (λ a. a) result (encoded_value digits.now) }
 {
     let octets = from_hex(alloc, digits)?;
-    let value = from_der::<Any>(alloc, octets.as_slice())?;
+    let value = Any::from_der(alloc, octets.as_slice())?;
     Ok(value)
 }
 

@@ -1,7 +1,6 @@
 pub mod Shorter
 pub mod Respelled
 mod Fills
-mod OctetNumbers
 pub mod ValueEquality
 pub mod OneKey
 pub mod Texts

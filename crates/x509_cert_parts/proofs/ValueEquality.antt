@@ -1,6 +1,6 @@
 -- `==` of the parts of certificates is of their plain values.
 use Rattle.std.proofs.Common.{◌≡◌, List, Bool, true, refl, ap, subst, inl, inr, arith}
-use Rattle.std.specs.Prelude.{nat_eq, ◌&&◌}
+use Rattle.std.specs.Prelude.{pos, nat_eq, ◌&&◌}
 use Rattle.std.specs.Cmp.{nat_eq_equiv}
 use Rattle.std.specs.Cmp.Lexicographic.{pointwise}
 use Rattle.const_oid.specs.Bound.{Bound}
@@ -62,7 +62,7 @@ each_time x y = exact (λ e. absurd cc) (λ e. absurd cc)
 pub validities : {P : Type 0} (x y : Validity P) → Alike validity (same_time.it x.not_before y.not_before && (same_time.it x.not_after y.not_after && true)) (validity_plain x) (validity_plain y)
 validities x y = behind (next (each_time x.not_before y.not_before) (marked (last (each_time x.not_after y.not_after))))
 
-pub each_version : (x y : Version) → Alike version (same_version.it x y) (version_number x) (version_number y)
+pub each_version : (x y : Version) → Alike version (same_version.it x y) (pos (version_number x)) (pos (version_number y))
 each_version versions.V1 versions.V1 = exact (λ e. refl) (λ e. refl)
 each_version versions.V2 versions.V2 = exact (λ e. refl) (λ e. refl)
 each_version versions.V3 versions.V3 = exact (λ e. refl) (λ e. refl)

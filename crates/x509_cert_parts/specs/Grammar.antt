@@ -41,11 +41,11 @@ abbrev pub public_key_info : ℕ → Shape
 public_key_info bound = sequence (public_key_fields bound)
 
 -- Version ::= INTEGER { v1(0), v2(1), v3(2) } (4.1.2.1)
-abbrev pub version_numbers : Numbers
-version_numbers = among (0 ∷ 1 ∷ 2 ∷ [])
+abbrev pub version_numbers : List ℕ
+version_numbers = 0 ∷ 1 ∷ 2 ∷ []
 
 abbrev pub version : Shape
-version = tagged tags.Integer (leaf (integer version_numbers))
+version = tagged tags.Integer (leaf (integer (among version_numbers)))
 
 -- the octets of [0] EXPLICIT Version for v1, which never stand
 abbrev pub first_version_octets : List ℕ

@@ -1,5 +1,5 @@
 -- What contracts see of the types: the plain values of their shapes.
-use Rattle.std.specs.Prelude.{ℤ, pos, List}
+use Rattle.std.specs.Prelude.{ℕ, List}
 use Rattle.std.proofs.Common.{inl, inr}
 use Rattle.der_core_head.specs.Dates.{Civil}
 use Rattle.der_core_head.specs.Grammar.{plain_option, plain_list}
@@ -30,10 +30,10 @@ key_plain k = (algorithm_plain k.algorithm, (k.subject_public_key, tt))
 abbrev pub key_lent : SubjectPublicKeyInfoRef → PublicKey
 key_lent k = (algorithm_lent k.algorithm, (bits_lent k.subject_public_key, tt))
 
-abbrev pub version_number : Version → ℤ
-version_number versions.V1 = pos 0
-version_number versions.V2 = pos 1
-version_number versions.V3 = pos 2
+abbrev pub version_number : Version → ℕ
+version_number versions.V1 = 0
+version_number versions.V2 = 1
+version_number versions.V3 = 2
 
 abbrev pub extension_plain : Extension → PlainExtension
 extension_plain e = (e.extn_id, (e.critical, (e.extn_value, tt)))

@@ -9,9 +9,9 @@ ghost use Rattle.x509_cert_parts.specs.Views.{algorithm_plain, algorithm_lent};
 
 use crate::algorithm_identifier_ref::AlgorithmIdentifierRef;
 use const_oid::ObjectIdentifier;
-use der_core::describing::{AsRecord, DecodeRow, Described, FieldsView, RowUser, Rows};
+use der_core::describing::{AsRecord, Described, FieldsView, RowUser, Rows};
 use der_core::making::copy_of_option;
-use der_core::{DecodeFields, Error, Reader, lend, row};
+use der_core::{DecodeFields, Error, Reader, lend, read_row};
 use std::alloc::{AllocError, Global};
 use x509_cert_names::Any;
 
@@ -79,8 +79,7 @@ impl FieldsView for AlgorithmIdentifier {
 
 impl<'a, R: Reader<'a>> DecodeFields<'a, R> for AlgorithmIdentifier {
     fn decode_fields(alloc: Global, reader: &mut R) -> Result<AlgorithmIdentifier, Error> {
-        let row!(oid, parameters) = DecodeRow::decode_row(alloc, reader)?;
-        Ok(AlgorithmIdentifier { oid, parameters })
+        read_row!(alloc, reader; AlgorithmIdentifier { oid, parameters })
     }
 }
 

@@ -7,8 +7,8 @@ ghost use Rattle.x509_cert_parts.specs.Grammar.{extension_fields};
 ghost use Rattle.x509_cert_parts.specs.Views.{extension_plain};
 
 use const_oid::ObjectIdentifier;
-use der_core::describing::{AsRecord, DecodeRow, Described, FieldsView, RowUser, Rows};
-use der_core::{DecodeFields, EncodeRef, Error, Reader, WithDefault, lend, row};
+use der_core::describing::{AsRecord, Described, FieldsView, RowUser, Rows};
+use der_core::{DecodeFields, Error, Reader, lend, read_row};
 use std::alloc::{AllocError, Global};
 use x509_cert_names::value_types::OctetString;
 
@@ -64,14 +64,7 @@ impl<'a, R: Reader<'a>> DecodeFields<'a, R> for Extension {
     // Not inlined, so that its fields are moved into their places once.
     #[inline(never)]
     fn decode_fields(alloc: Global, reader: &mut R) -> Result<Extension, Error> {
-        let row!(extn_id, WithDefault { value: critical }, extn_value) = DecodeRow::decode_row(
-            alloc, reader,
-        )?;
-        Ok(Extension {
-            extn_id,
-            critical,
-            extn_value,
-        })
+        read_row!(alloc, reader; Extension { extn_id, critical: default, extn_value })
     }
 }
 
@@ -82,10 +75,7 @@ impl Described for Extension {
 impl Rows for Extension {
     #[tactic(auto, using(der_core::proofs::Rows::lent))]
     fn with_rows<U: RowUser>(&self, other: &Self, user: &mut U) -> U::Answer {
-        lend!(self, other, user; |extension|
-            EncodeRef(&extension.extn_id),
-            WithDefault { value: extension.critical },
-            EncodeRef(&extension.extn_value))
+        lend!(self, other, user; extn_id, critical: default, extn_value)
     }
 
     ghost apart = { refl };

@@ -8,7 +8,7 @@ ghost use Rattle.x509_cert_parts.specs.Views.{extension_plain, extensions_plain}
 
 use crate::extension::Extension;
 use const_oid::{AssociatedOid, ObjectIdentifier};
-use der_core::{Decode, Error, ErrorKind, SliceReader, from_der};
+use der_core::{Decode, Error, ErrorKind, FromDer, SliceReader};
 use std::alloc::Global;
 
 /// The value of the only extension of the identifier of `T`, and whether it is critical; none where
@@ -30,7 +30,7 @@ pub fn get_extension<'a, T: AssociatedOid + Decode<'a, SliceReader<'a>>>(
     if next_of(T::associated_oid(), left).is_some() {
         return Err(Error::from(ErrorKind::Failed));
     }
-    let value: T = from_der(alloc, extension.extn_value.as_bytes())?;
+    let value = T::from_der(alloc, extension.extn_value.as_bytes())?;
     Ok(Some((extension.critical, value)))
 }
 

@@ -7,7 +7,7 @@ ghost use Rattle.x509_cert_parts.specs.Views.{extensions_plain};
 use crate::extension::Extension;
 use crate::extension_search::next_of;
 use const_oid::AssociatedOid;
-use der_core::{Decode, Error, SliceReader, from_der};
+use der_core::{Decode, Error, FromDer, SliceReader};
 use std::alloc::Global;
 use std::marker::PhantomData;
 
@@ -53,7 +53,7 @@ impl<'a, T: AssociatedOid + Decode<'a, SliceReader<'a>>> Iterator for Extensions
             return None;
         };
         self.left = left;
-        match from_der(self.alloc, extension.extn_value.as_bytes()) {
+        match T::from_der(self.alloc, extension.extn_value.as_bytes()) {
             Ok(value) => Some(Ok((extension.critical, value))),
             Err(error) => Some(Err(error)),
         }

@@ -4,7 +4,7 @@
 //! part is lawful: no encoding begins another, no two values have one encoding, and what is read is
 //! spelled.
 
-ghost use Rattle.std.specs.Prelude.{◌≡◌, ◌≤◌, ◌↔◌, ℕ, ℤ, Option, Bool, true, false, length};
+ghost use Rattle.std.specs.Prelude.{◌≡◌, ◌≤◌, ◌↔◌, ℕ, ℤ, pos, Option, Bool, true, false, length};
 ghost use Rattle.const_oid.specs.Bound.{Bound};
 ghost use Rattle.der_core.specs.Equality.{IsOfValues};
 ghost use Rattle.der_core_head.specs.Integers.{integer_octets, IsNumber};
@@ -84,7 +84,8 @@ pub fn equality_of_parts_is_of_values<P>()
         (octets_of (public_key_info Bound)) }
     ensures extensions { IsOfValues ⟦<Extension as PartialEq>⟧.eq extension_plain
         (octets_of (extension Bound)) }
-    ensures versions { IsOfValues ⟦<Version as PartialEq>⟧.eq version_number (octets_of version) }
+    ensures versions { IsOfValues ⟦<Version as PartialEq>⟧.eq (λ v. pos (version_number v))
+        (octets_of version) }
     ensures serials { (limit : Option ℕ) → IsOfValues ⟦<SerialNumber<P> as PartialEq>⟧.eq (λ n. n)
         (octets_of (serial_number limit)) }
     ensures times { IsOfValues ⟦<Time as PartialEq>⟧.eq time_value (octets_of time) }

@@ -10,8 +10,6 @@ mod extension_search;
 mod extensions_of;
 mod in_range;
 pub mod laws;
-pub mod making;
-mod octet_numbers;
 mod profile;
 mod serial_number;
 mod serial_text;

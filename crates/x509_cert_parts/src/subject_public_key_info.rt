@@ -8,8 +8,8 @@ ghost use Rattle.x509_cert_parts.specs.Views.{key_plain, key_lent};
 
 use crate::algorithm_identifier::AlgorithmIdentifier;
 use crate::subject_public_key_info_ref::SubjectPublicKeyInfoRef;
-use der_core::describing::{AsRecord, DecodeRow, Described, FieldsView, RowUser, Rows};
-use der_core::{DecodeFields, Error, Reader, lend, row};
+use der_core::describing::{AsRecord, Described, FieldsView, RowUser, Rows};
+use der_core::{DecodeFields, Error, Reader, lend, read_row};
 use std::alloc::{AllocError, Global};
 use x509_cert_names::value_types::BitString;
 
@@ -61,11 +61,7 @@ impl FieldsView for SubjectPublicKeyInfo {
 
 impl<'a, R: Reader<'a>> DecodeFields<'a, R> for SubjectPublicKeyInfo {
     fn decode_fields(alloc: Global, reader: &mut R) -> Result<SubjectPublicKeyInfo, Error> {
-        let row!(algorithm, subject_public_key) = DecodeRow::decode_row(alloc, reader)?;
-        Ok(SubjectPublicKeyInfo {
-            algorithm,
-            subject_public_key,
-        })
+        read_row!(alloc, reader; SubjectPublicKeyInfo { algorithm, subject_public_key })
     }
 }
 

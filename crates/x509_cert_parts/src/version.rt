@@ -1,13 +1,12 @@
 //! Version.
 
-ghost use Rattle.std.specs.Prelude.{◌≡◌, [], ◌∷◌, pos, refl};
+ghost use Rattle.std.specs.Prelude.{◌≡◌, [], ◌∷◌, refl};
 ghost use Rattle.x509_cert_parts.specs.Grammar.{version_numbers};
 ghost use Rattle.x509_cert_parts.specs.Views.{version_number};
 
-use crate::octet_numbers::number_among;
-use der_core::describing::{AsInteger, Described, Ordered};
+use der_core::DefaultContent;
+use der_core::describing::{AsInteger, Described, Numbered, Ordered};
 use der_core::making::is_zero;
-use der_core::{DefaultContent, Error, Integer, Tag};
 
 /// The version of a certificate (RFC 5280 4.1.2.1).
 ///
@@ -25,40 +24,30 @@ pub enum Version {
     V3,
 }
 
-impl Version {
-    /// The number that is written.
-    fn number(self) -> u8
-        ensures { pos result ≡ version_number self }
-    {
-        match self {
-            Version::V1 => 0,
-            Version::V2 => 1,
-            Version::V3 => 2,
-        }
-    }
-}
-
 impl Described for Version {
     type By = AsInteger;
 }
 
 /// Any other number is refused as `Value`.
-impl Integer for Version {
-    ghost numbers = { version_numbers };
+impl Numbered for Version {
+    ghost known_numbers = { version_numbers };
 
-    ghost number = { version_number };
+    ghost known_number = { version_number };
 
-    fn from_integer(tag: Tag, octets: &[u8]) -> Result<Version, Error> {
-        match number_among(tag, octets, &[0, 1, 2])? {
-            0 => Ok(Version::V1),
-            1 => Ok(Version::V2),
-            _ => Ok(Version::V3),
+    fn from_number(number: u8) -> Option<Version> {
+        match number {
+            0 => Some(Version::V1),
+            1 => Some(Version::V2),
+            2 => Some(Version::V3),
+            _ => None,
         }
     }
 
-    fn magnitude(&self) -> (bool, u128) {
-        (false, u128::from(self.number()))
+    fn to_number(&self) -> u8 {
+        *self as u8
     }
+
+    ghost few = { refl };
 }
 
 /// The order of the numbers.

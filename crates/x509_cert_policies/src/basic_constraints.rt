@@ -4,8 +4,8 @@ ghost use Rattle.std.specs.Prelude.{◌≡◌, refl};
 ghost use Rattle.x509_cert_policies.specs.Grammar.{basic_constraints_fields};
 ghost use Rattle.x509_cert_policies.specs.Views.{basic_constraints_plain};
 
-use der_core::describing::{AsRecord, DecodeRow, Described, FieldsView, RowUser, Rows};
-use der_core::{DecodeFields, EncodeRef, Error, Reader, WithDefault, lend, row};
+use der_core::describing::{AsRecord, Described, FieldsView, RowUser, Rows};
+use der_core::{DecodeFields, Error, Reader, lend, read_row};
 use std::alloc::Global;
 
 /// Whether a key belongs to an authority, and how long the paths below it may be (RFC 5280
@@ -33,13 +33,7 @@ impl FieldsView for BasicConstraints {
 
 impl<'a, R: Reader<'a>> DecodeFields<'a, R> for BasicConstraints {
     fn decode_fields(alloc: Global, reader: &mut R) -> Result<BasicConstraints, Error> {
-        let row!(WithDefault { value: ca }, path_len_constraint) = DecodeRow::decode_row(
-            alloc, reader,
-        )?;
-        Ok(BasicConstraints {
-            ca,
-            path_len_constraint,
-        })
+        read_row!(alloc, reader; BasicConstraints { ca: default, path_len_constraint })
     }
 }
 
@@ -50,9 +44,7 @@ impl Described for BasicConstraints {
 impl Rows for BasicConstraints {
     #[tactic(auto, using(der_core::proofs::Rows::lent))]
     fn with_rows<U: RowUser>(&self, other: &Self, user: &mut U) -> U::Answer {
-        lend!(self, other, user; |constraints|
-            WithDefault { value: constraints.ca },
-            EncodeRef(&constraints.path_len_constraint))
+        lend!(self, other, user; ca: default, path_len_constraint)
     }
 
     ghost apart = { refl };

@@ -24,9 +24,7 @@ impl Wraps<Vec<PolicyInformation>> for CertificatePolicies {
         &self.0
     }
 
-    fn wrap(field: Vec<PolicyInformation>) -> CertificatePolicies {
-        CertificatePolicies(field)
-    }
+    ghost made = { λ _ _ e. e };
 }
 
 impl Ordered for CertificatePolicies {}

@@ -5,7 +5,7 @@ ghost use Rattle.der_core.specs.Copies.{IsCopy};
 ghost use Rattle.x509_cert_policies.specs.Views as views;
 
 use crate::{
-    CertificatePolicies, CpsUri, DisplayText, NoticeReference, PolicyInformation, PolicyMappings,
+    CertificatePolicies, DisplayText, NoticeReference, PolicyInformation, PolicyMappings,
     PolicyQualifierInfo, UserNotice,
 };
 use der_core::making::{copies_of, copies_of_option, copy_of_option};
@@ -95,14 +95,5 @@ impl UserNotice {
             notice_ref: copy_of_option(alloc, &self.notice_ref, NoticeReference::clone)?,
             explicit_text: copy_of_option(alloc, &self.explicit_text, DisplayText::clone)?,
         })
-    }
-}
-
-impl CpsUri {
-    /// A copy. Want of memory is the only error.
-    pub fn clone(&self, alloc: Global) -> Result<CpsUri, AllocError>
-        ensures { IsCopy self.now result (λ x. x.0) }
-    {
-        Ok(CpsUri(self.0.clone(alloc)?))
     }
 }

@@ -25,9 +25,7 @@ impl Wraps<u32> for InhibitAnyPolicy {
         &self.0
     }
 
-    fn wrap(field: u32) -> InhibitAnyPolicy {
-        InhibitAnyPolicy(field)
-    }
+    ghost made = { λ _ _ e. e };
 }
 
 impl Ordered for InhibitAnyPolicy {}

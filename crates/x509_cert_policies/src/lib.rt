@@ -4,7 +4,6 @@
 mod basic_constraints;
 mod certificate_policies;
 mod copies;
-mod cps_uri;
 mod display_text;
 mod identifiers;
 mod inhibit_any_policy;
@@ -19,7 +18,6 @@ mod user_notice;
 
 pub use basic_constraints::BasicConstraints;
 pub use certificate_policies::CertificatePolicies;
-pub use cps_uri::CpsUri;
 pub use display_text::DisplayText;
 pub use inhibit_any_policy::InhibitAnyPolicy;
 pub use notice_reference::NoticeReference;
@@ -27,7 +25,7 @@ pub use policy_constraints::PolicyConstraints;
 pub use policy_information::PolicyInformation;
 pub use policy_mapping::PolicyMapping;
 pub use policy_mappings::PolicyMappings;
-pub use policy_qualifier_info::PolicyQualifierInfo;
+pub use policy_qualifier_info::{CpsUri, PolicyQualifierInfo};
 pub use private_key_usage_period::PrivateKeyUsagePeriod;
 pub use user_notice::UserNotice;
 pub use x509_cert_general_names as general_names;

@@ -5,8 +5,8 @@ ghost use Rattle.x509_cert_policies.specs.Grammar.{notice_reference_fields};
 ghost use Rattle.x509_cert_policies.specs.Views.{notice_reference_plain};
 
 use crate::display_text::DisplayText;
-use der_core::describing::{AsRecord, DecodeRow, Described, FieldsView, RowUser, Rows};
-use der_core::{DecodeFields, Error, Reader, lend, row};
+use der_core::describing::{AsRecord, Described, FieldsView, RowUser, Rows};
+use der_core::{DecodeFields, Error, Reader, lend, read_row};
 use std::alloc::Global;
 use x509_cert_general_names::parts::Uint;
 
@@ -33,11 +33,7 @@ impl FieldsView for NoticeReference {
 
 impl<'a, R: Reader<'a>> DecodeFields<'a, R> for NoticeReference {
     fn decode_fields(alloc: Global, reader: &mut R) -> Result<NoticeReference, Error> {
-        let row!(organization, notice_numbers) = DecodeRow::decode_row(alloc, reader)?;
-        Ok(NoticeReference {
-            organization,
-            notice_numbers,
-        })
+        read_row!(alloc, reader; NoticeReference { organization, notice_numbers })
     }
 }
 

@@ -4,9 +4,8 @@ ghost use Rattle.std.specs.Prelude.{◌≡◌, refl};
 ghost use Rattle.x509_cert_policies.specs.Grammar.{policy_constraints_fields};
 ghost use Rattle.x509_cert_policies.specs.Views.{policy_constraints_plain};
 
-use der_core::describing::{AsRecord, DecodeRow, Described, FieldsView, RowUser, Rows};
-use der_core::making::{implicit_of, implicit_ref};
-use der_core::{DecodeFields, Error, Reader, lend, row};
+use der_core::describing::{AsRecord, Described, FieldsView, RowUser, Rows};
+use der_core::{DecodeFields, Error, Reader, lend, read_row};
 use std::alloc::Global;
 
 /// From where on in a path policies must be explicit, or may not be mapped (RFC 5280 4.2.1.11).
@@ -34,12 +33,9 @@ impl FieldsView for PolicyConstraints {
 
 impl<'a, R: Reader<'a>> DecodeFields<'a, R> for PolicyConstraints {
     fn decode_fields(alloc: Global, reader: &mut R) -> Result<PolicyConstraints, Error> {
-        let row!(require_explicit_policy, inhibit_policy_mapping) = DecodeRow::decode_row(
-            alloc, reader,
-        )?;
-        Ok(PolicyConstraints {
-            require_explicit_policy: implicit_of::<_, 0>(require_explicit_policy),
-            inhibit_policy_mapping: implicit_of::<_, 1>(inhibit_policy_mapping),
+        read_row!(alloc, reader; PolicyConstraints {
+            require_explicit_policy: implicit 0 optional,
+            inhibit_policy_mapping: implicit 1 optional,
         })
     }
 }
@@ -51,9 +47,9 @@ impl Described for PolicyConstraints {
 impl Rows for PolicyConstraints {
     #[tactic(auto, using(der_core::proofs::Rows::lent))]
     fn with_rows<U: RowUser>(&self, other: &Self, user: &mut U) -> U::Answer {
-        lend!(self, other, user; |constraints|
-            implicit_ref::<_, 0>(&constraints.require_explicit_policy),
-            implicit_ref::<_, 1>(&constraints.inhibit_policy_mapping))
+        lend!(self, other, user;
+            require_explicit_policy: implicit 0 optional,
+            inhibit_policy_mapping: implicit 1 optional)
     }
 
     ghost apart = { refl };

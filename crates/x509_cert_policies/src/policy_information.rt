@@ -7,8 +7,8 @@ ghost use Rattle.x509_cert_policies.specs.Views.{policy_information_plain};
 
 use crate::policy_qualifier_info::PolicyQualifierInfo;
 use const_oid::ObjectIdentifier;
-use der_core::describing::{AsRecord, DecodeRow, Described, FieldsView, RowUser, Rows};
-use der_core::{DecodeFields, Error, Reader, lend, row};
+use der_core::describing::{AsRecord, Described, FieldsView, RowUser, Rows};
+use der_core::{DecodeFields, Error, Reader, lend, read_row};
 use std::alloc::Global;
 
 /// A policy under which a certificate was issued (RFC 5280 4.2.1.4).
@@ -34,11 +34,7 @@ impl FieldsView for PolicyInformation {
 
 impl<'a, R: Reader<'a>> DecodeFields<'a, R> for PolicyInformation {
     fn decode_fields(alloc: Global, reader: &mut R) -> Result<PolicyInformation, Error> {
-        let row!(policy_identifier, policy_qualifiers) = DecodeRow::decode_row(alloc, reader)?;
-        Ok(PolicyInformation {
-            policy_identifier,
-            policy_qualifiers,
-        })
+        read_row!(alloc, reader; PolicyInformation { policy_identifier, policy_qualifiers })
     }
 }
 

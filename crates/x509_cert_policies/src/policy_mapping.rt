@@ -6,8 +6,8 @@ ghost use Rattle.x509_cert_policies.specs.Grammar.{policy_mapping_fields};
 ghost use Rattle.x509_cert_policies.specs.Views.{policy_mapping_plain};
 
 use const_oid::ObjectIdentifier;
-use der_core::describing::{AsRecord, DecodeRow, Described, FieldsView, RowUser, Rows};
-use der_core::{DecodeFields, Error, Reader, lend, row};
+use der_core::describing::{AsRecord, Described, FieldsView, RowUser, Rows};
+use der_core::{DecodeFields, Error, Reader, lend, read_row};
 use std::alloc::Global;
 
 /// A policy of the issuer's domain that the issuer takes for one of the subject's (RFC 5280
@@ -34,13 +34,7 @@ impl FieldsView for PolicyMapping {
 
 impl<'a, R: Reader<'a>> DecodeFields<'a, R> for PolicyMapping {
     fn decode_fields(alloc: Global, reader: &mut R) -> Result<PolicyMapping, Error> {
-        let row!(issuer_domain_policy, subject_domain_policy) = DecodeRow::decode_row(
-            alloc, reader,
-        )?;
-        Ok(PolicyMapping {
-            issuer_domain_policy,
-            subject_domain_policy,
-        })
+        read_row!(alloc, reader; PolicyMapping { issuer_domain_policy, subject_domain_policy })
     }
 }
 

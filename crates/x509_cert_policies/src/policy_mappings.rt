@@ -24,9 +24,7 @@ impl Wraps<Vec<PolicyMapping>> for PolicyMappings {
         &self.0
     }
 
-    fn wrap(field: Vec<PolicyMapping>) -> PolicyMappings {
-        PolicyMappings(field)
-    }
+    ghost made = { λ _ _ e. e };
 }
 
 impl Ordered for PolicyMappings {}

@@ -6,10 +6,10 @@ ghost use Rattle.x509_cert_policies.specs.Grammar.{policy_qualifier_info_fields}
 ghost use Rattle.x509_cert_policies.specs.Views.{policy_qualifier_info_plain};
 
 use const_oid::ObjectIdentifier;
-use der_core::describing::{AsRecord, DecodeRow, Described, FieldsView, RowUser, Rows};
-use der_core::{DecodeFields, Error, Reader, lend, row};
+use der_core::describing::{AsRecord, Described, FieldsView, RowUser, Rows};
+use der_core::{DecodeFields, Error, Reader, lend, read_row};
 use std::alloc::Global;
-use x509_cert_general_names::parts::Any;
+use x509_cert_general_names::parts::{Any, Ia5String};
 
 /// A qualifier of a policy (RFC 5280 4.2.1.4).
 ///
@@ -34,11 +34,7 @@ impl FieldsView for PolicyQualifierInfo {
 
 impl<'a, R: Reader<'a>> DecodeFields<'a, R> for PolicyQualifierInfo {
     fn decode_fields(alloc: Global, reader: &mut R) -> Result<PolicyQualifierInfo, Error> {
-        let row!(policy_qualifier_id, qualifier) = DecodeRow::decode_row(alloc, reader)?;
-        Ok(PolicyQualifierInfo {
-            policy_qualifier_id,
-            qualifier,
-        })
+        read_row!(alloc, reader; PolicyQualifierInfo { policy_qualifier_id, qualifier })
     }
 }
 
@@ -53,3 +49,11 @@ impl Rows for PolicyQualifierInfo {
 
     ghost apart = { refl };
 }
+
+/// Where the practice statement of an authority is had, the qualifier that 1.3.6.1.5.5.7.2.1 marks
+/// (RFC 5280 4.2.1.4).
+///
+/// ```text
+/// CPSuri ::= IA5String
+/// ```
+pub type CpsUri = Ia5String;

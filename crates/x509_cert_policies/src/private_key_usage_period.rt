@@ -4,9 +4,8 @@ ghost use Rattle.std.specs.Prelude.{◌≡◌, refl};
 ghost use Rattle.x509_cert_policies.specs.Grammar.{private_key_usage_period_fields};
 ghost use Rattle.x509_cert_policies.specs.Views.{private_key_usage_period_plain};
 
-use der_core::describing::{AsRecord, DecodeRow, Described, FieldsView, RowUser, Rows};
-use der_core::making::{implicit_of, implicit_ref};
-use der_core::{DecodeFields, Error, Reader, lend, row};
+use der_core::describing::{AsRecord, Described, FieldsView, RowUser, Rows};
+use der_core::{DecodeFields, Error, Reader, lend, read_row};
 use std::alloc::Global;
 use x509_cert_general_names::parts::GeneralizedTime;
 
@@ -33,10 +32,8 @@ impl FieldsView for PrivateKeyUsagePeriod {
 
 impl<'a, R: Reader<'a>> DecodeFields<'a, R> for PrivateKeyUsagePeriod {
     fn decode_fields(alloc: Global, reader: &mut R) -> Result<PrivateKeyUsagePeriod, Error> {
-        let row!(not_before, not_after) = DecodeRow::decode_row(alloc, reader)?;
-        Ok(PrivateKeyUsagePeriod {
-            not_before: implicit_of::<_, 0>(not_before),
-            not_after: implicit_of::<_, 1>(not_after),
+        read_row!(alloc, reader; PrivateKeyUsagePeriod {
+            not_before: implicit 0 optional, not_after: implicit 1 optional,
         })
     }
 }
@@ -48,9 +45,7 @@ impl Described for PrivateKeyUsagePeriod {
 impl Rows for PrivateKeyUsagePeriod {
     #[tactic(auto, using(der_core::proofs::Rows::lent))]
     fn with_rows<U: RowUser>(&self, other: &Self, user: &mut U) -> U::Answer {
-        lend!(self, other, user; |period|
-            implicit_ref::<_, 0>(&period.not_before),
-            implicit_ref::<_, 1>(&period.not_after))
+        lend!(self, other, user; not_before: implicit 0 optional, not_after: implicit 1 optional)
     }
 
     ghost apart = { refl };

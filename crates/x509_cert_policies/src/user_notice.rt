@@ -6,8 +6,8 @@ ghost use Rattle.x509_cert_policies.specs.Views.{user_notice_plain};
 
 use crate::display_text::DisplayText;
 use crate::notice_reference::NoticeReference;
-use der_core::describing::{AsRecord, DecodeRow, Described, FieldsView, RowUser, Rows};
-use der_core::{DecodeFields, Error, Reader, lend, row};
+use der_core::describing::{AsRecord, Described, FieldsView, RowUser, Rows};
+use der_core::{DecodeFields, Error, Reader, lend, read_row};
 use std::alloc::Global;
 
 /// What is shown to those who rely on a certificate (RFC 5280 4.2.1.4).
@@ -33,11 +33,7 @@ impl FieldsView for UserNotice {
 
 impl<'a, R: Reader<'a>> DecodeFields<'a, R> for UserNotice {
     fn decode_fields(alloc: Global, reader: &mut R) -> Result<UserNotice, Error> {
-        let row!(notice_ref, explicit_text) = DecodeRow::decode_row(alloc, reader)?;
-        Ok(UserNotice {
-            notice_ref,
-            explicit_text,
-        })
+        read_row!(alloc, reader; UserNotice { notice_ref, explicit_text })
     }
 }
 

@@ -1,8 +1,9 @@
 //! HashAlgorithm.
 
+ghost use Rattle.std.specs.Prelude.{◌≡◌, refl};
 ghost use Rattle.x509_cert_timestamps.specs.Numbers.{hash_number, hash_numbers};
 
-use crate::numbered::Numbered;
+use der_core::describing::Numbered;
 
 /// The hash of a signature (RFC 5246 7.4.1.4.1, RFC 8422 5.1.3).
 ///
@@ -32,12 +33,12 @@ pub enum HashAlgorithm {
 }
 
 impl Numbered for HashAlgorithm {
-    ghost numbers = { hash_numbers };
+    ghost known_numbers = { hash_numbers };
 
-    ghost number = { hash_number };
+    ghost known_number = { hash_number };
 
-    fn from_number(octet: u8) -> Option<HashAlgorithm> {
-        match octet {
+    fn from_number(number: u8) -> Option<HashAlgorithm> {
+        match number {
             0 => Some(HashAlgorithm::None),
             1 => Some(HashAlgorithm::Md5),
             2 => Some(HashAlgorithm::Sha1),
@@ -62,4 +63,6 @@ impl Numbered for HashAlgorithm {
             HashAlgorithm::Intrinsic => 8,
         }
     }
+
+    ghost few = { refl };
 }

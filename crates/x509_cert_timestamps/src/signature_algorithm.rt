@@ -1,8 +1,9 @@
 //! SignatureAlgorithm.
 
+ghost use Rattle.std.specs.Prelude.{◌≡◌, refl};
 ghost use Rattle.x509_cert_timestamps.specs.Numbers.{signature_number, signature_numbers};
 
-use crate::numbered::Numbered;
+use der_core::describing::Numbered;
 
 /// The algorithm of a signature (RFC 5246 7.4.1.4.1, RFC 8422 5.1.3).
 ///
@@ -26,12 +27,12 @@ pub enum SignatureAlgorithm {
 }
 
 impl Numbered for SignatureAlgorithm {
-    ghost numbers = { signature_numbers };
+    ghost known_numbers = { signature_numbers };
 
-    ghost number = { signature_number };
+    ghost known_number = { signature_number };
 
-    fn from_number(octet: u8) -> Option<SignatureAlgorithm> {
-        match octet {
+    fn from_number(number: u8) -> Option<SignatureAlgorithm> {
+        match number {
             0 => Some(SignatureAlgorithm::Anonymous),
             1 => Some(SignatureAlgorithm::Rsa),
             2 => Some(SignatureAlgorithm::Dsa),
@@ -52,4 +53,6 @@ impl Numbered for SignatureAlgorithm {
             SignatureAlgorithm::Ed448 => 8,
         }
     }
+
+    ghost few = { refl };
 }

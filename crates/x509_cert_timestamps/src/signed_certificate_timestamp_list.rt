@@ -107,9 +107,7 @@ impl Wraps<OctetString> for SignedCertificateTimestampList {
         &self.0
     }
 
-    fn wrap(field: OctetString) -> SignedCertificateTimestampList {
-        SignedCertificateTimestampList(field)
-    }
+    ghost made = { λ _ _ e. e };
 }
 
 impl Ordered for SignedCertificateTimestampList {}

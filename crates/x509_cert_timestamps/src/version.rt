@@ -1,8 +1,9 @@
 //! Version.
 
+ghost use Rattle.std.specs.Prelude.{◌≡◌, refl};
 ghost use Rattle.x509_cert_timestamps.specs.Numbers.{version_number, version_numbers};
 
-use crate::numbered::Numbered;
+use der_core::describing::Numbered;
 
 /// The version of a timestamp (RFC 6962 3.2).
 ///
@@ -16,12 +17,12 @@ pub enum Version {
 }
 
 impl Numbered for Version {
-    ghost numbers = { version_numbers };
+    ghost known_numbers = { version_numbers };
 
-    ghost number = { version_number };
+    ghost known_number = { version_number };
 
-    fn from_number(octet: u8) -> Option<Version> {
-        match octet {
+    fn from_number(number: u8) -> Option<Version> {
+        match number {
             0 => Some(Version::V1),
             _ => None,
         }
@@ -32,4 +33,6 @@ impl Numbered for Version {
             Version::V1 => 0,
         }
     }
+
+    ghost few = { refl };
 }

@@ -4,7 +4,7 @@ use crate::refusals::Refusal;
 use crate::shown::{octets_of, written};
 use crate::{name_texts, relative_names};
 use const_oid::ObjectIdentifier;
-use der_core::{Encode, Error, from_der};
+use der_core::{Encode, Error, FromDer};
 use std::alloc::Global;
 use std::convert::AsStr;
 use x509_cert::{
@@ -35,7 +35,7 @@ pub fn answer(alloc: Global, word: &str, rest: &str) -> Result<String, Refusal> 
 /// The name that hex octets spell.
 fn name_of(alloc: Global, octets: &str) -> Result<Name, Refusal> {
     let octets = octets_of(alloc, octets)?;
-    Ok(from_der(alloc, octets.as_slice())?)
+    Ok(Name::from_der(alloc, octets.as_slice())?)
 }
 
 /// The types and the values of a name's attributes.

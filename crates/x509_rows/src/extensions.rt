@@ -2,10 +2,10 @@
 
 use crate::lists;
 use crate::questions::{
-    Asked, Question, answer_of_content, answer_of_copied, answer_of_described, answer_of_field,
-    answer_of_list, answer_of_ordered, answer_with_both, answer_with_debug,
-    answer_with_debug_and_copy, answer_with_default_and_copy, answer_with_field,
-    answer_with_field_and_copy, answer_with_order, answer_with_order_and_copy,
+    Asked, Question, answer_of_content, answer_of_copied, answer_of_described, answer_of_list,
+    answer_of_ordered, answer_with_both, answer_with_debug, answer_with_debug_and_copy,
+    answer_with_default_and_copy, answer_with_field, answer_with_field_and_copy, answer_with_order,
+    answer_with_order_and_copy,
 };
 use crate::refusals::Refusal;
 use crate::shown::written;
@@ -17,7 +17,7 @@ use x509_cert::{
     BasicConstraints, CertificatePolicies, CpsUri, CrlDistributionPoints, CrlNumber, CrlReason,
     DirectoryString, DisplayText, DistributionPoint, DistributionPointName, EdiPartyName,
     ExtendedKeyUsage, FlagSet, FreshestCrl, GeneralName, GeneralSubtree, HardwareModuleName,
-    Ia5String, InhibitAnyPolicy, IssuerAltName, IssuingDistributionPoint, KeyUsage, KeyUsages,
+    InhibitAnyPolicy, IssuerAltName, IssuingDistributionPoint, KeyUsage, KeyUsages,
     NameConstraints, NoticeReference, OctetString, OtherName, PolicyConstraints, PolicyInformation,
     PolicyMapping, PolicyMappings, PolicyQualifierInfo, PrivateKeyUsagePeriod, ReasonFlags,
     SubjectAltName, SubjectDirectoryAttributes, SubjectInfoAccessSyntax, SubjectKeyIdentifier,
@@ -125,19 +125,11 @@ fn answer_of_records(
             IssuingDistributionPoint::clone,
         ),
         "BasicConstraints" => answer_with_both::<BasicConstraints>(alloc, question),
-        "CrlReason" => answer_of_reason(alloc, question),
+        "CrlReason" => answer_with_both::<CrlReason>(alloc, question),
         "PolicyConstraints" => answer_with_debug::<PolicyConstraints>(alloc, question),
         "PrivateKeyUsagePeriod" => answer_of_content::<PrivateKeyUsagePeriod>(alloc, question),
         "NameConstraints" => answer_of_content::<NameConstraints>(alloc, question),
         _ => answer_of_parts(alloc, kind, question),
-    }
-}
-
-/// The answer of a reason, whose order is its own and not that of its way.
-fn answer_of_reason(alloc: Global, question: &Question<'_>) -> Result<String, Refusal> {
-    match question.asked {
-        Asked::Order => answer_with_order::<CrlReason>(alloc, question),
-        _ => answer_with_debug::<CrlReason>(alloc, question),
     }
 }
 
@@ -165,7 +157,7 @@ fn answer_of_parts(alloc: Global, kind: &str, question: &Question<'_>) -> Result
         "PolicyInformation" => answer_of_described::<PolicyInformation>(alloc, question),
         "PolicyQualifierInfo" => answer_of_described::<PolicyQualifierInfo>(alloc, question),
         "PolicyMapping" => answer_of_described::<PolicyMapping>(alloc, question),
-        "CpsUri" => answer_of_field::<_, Ia5String, _>(alloc, question, CpsUri::clone),
+        "CpsUri" => answer_of_copied(alloc, question, CpsUri::clone),
         "UserNotice" => answer_of_copied(alloc, question, UserNotice::clone),
         "NoticeReference" => answer_of_described::<NoticeReference>(alloc, question),
         "DisplayText" => answer_with_order::<DisplayText>(alloc, question),

@@ -6,7 +6,7 @@ use crate::questions::{
 };
 use crate::refusals::Refusal;
 use crate::shown::{joined, octets_of, shown, written};
-use der_core::{StrictSetOf, from_der};
+use der_core::{FromDer, StrictSetOf};
 use std::alloc::Global;
 use x509_cert::{
     Attribute, AttributeTypeAndValue, AttributeValue, CertReq, CertReqInfo, ExtensionReq, Name,
@@ -52,7 +52,7 @@ fn answer_of_names(alloc: Global, kind: &str, question: &Question<'_>) -> Result
 pub fn values_of(alloc: Global, index: &str, octets: &str) -> Result<String, Refusal> {
     let index = index.parse::<usize>()?;
     let octets = octets_of(alloc, octets)?;
-    let attribute: Attribute = from_der(alloc, octets.as_slice())?;
+    let attribute = Attribute::from_der(alloc, octets.as_slice())?;
     let values = &attribute.values;
     joined(listed(alloc, values), "; ", value_at(alloc, values, index))
 }
@@ -61,8 +61,10 @@ pub fn values_of(alloc: Global, index: &str, octets: &str) -> Result<String, Ref
 pub fn value_placed(alloc: Global, value: &str, octets: &str) -> Result<String, Refusal> {
     let value = octets_of(alloc, value)?;
     let octets = octets_of(alloc, octets)?;
-    let mut attribute: Attribute = from_der(alloc, octets.as_slice())?;
-    attribute.values.insert(from_der(alloc, value.as_slice())?)?;
+    let mut attribute = Attribute::from_der(alloc, octets.as_slice())?;
+    attribute
+        .values
+        .insert(FromDer::from_der(alloc, value.as_slice())?)?;
     written(alloc, &attribute)
 }
 

@@ -4,7 +4,7 @@ use crate::name_texts::spelled;
 use crate::refusals::Refusal;
 use crate::shown::{octets_of, shown, written, written_in};
 use crate::validities::validity_of;
-use der_core::{Encode, from_der};
+use der_core::FromDer;
 use sha1::Sha1;
 use std::alloc::Global;
 use std::net::IpAddr;
@@ -12,7 +12,7 @@ use x509_cert::{
     AlgorithmIdentifierRef, AsAttribute, Attribute, AuthorityKeyIdentifier, CertificateInner,
     ChallengePassword, CrlNumber, ExtensionReq, GeneralName, HardwareModuleName, OtherName,
     Profile, Raw, Rfc5280, SerialNumber, SubjectKeyIdentifier, SubjectPublicKeyInfo,
-    SubjectPublicKeyInfoRef, Time, TryFromExtensionReq, TryFromKey,
+    SubjectPublicKeyInfoRef, Time, TryFromExtensionReq,
 };
 
 /// What is written of the value that a type makes of a text, or of octets.
@@ -56,8 +56,7 @@ fn serial_of(alloc: Global, text: &str) -> Result<String, Refusal> {
 fn made_of_octets(alloc: Global, kind: &str, octets: &[u8]) -> Result<String, Refusal> {
     match kind {
         "SerialNumber" => written_in(alloc, SerialNumber::<Rfc5280>::new(alloc, octets)),
-        "SubjectKeyIdentifier" => identifier_of::<SubjectKeyIdentifier>(alloc, octets),
-        "AuthorityKeyIdentifier" => identifier_of::<AuthorityKeyIdentifier>(alloc, octets),
+        "SubjectKeyIdentifier" | "AuthorityKeyIdentifier" => identifier_of(alloc, kind, octets),
         "OtherName" => other_name_of(alloc, octets),
         "HardwareModuleName" => module_of(alloc, octets),
         "ChallengePassword" => password_of(alloc, octets),
@@ -67,28 +66,30 @@ fn made_of_octets(alloc: Global, kind: &str, octets: &[u8]) -> Result<String, Re
 }
 
 /// What is written of the identifier of a key.
-fn identifier_of<T: TryFromKey + Encode + Drop>(
-    alloc: Global,
-    octets: &[u8],
-) -> Result<String, Refusal> {
-    let key: SubjectPublicKeyInfo = from_der(alloc, octets)?;
+fn identifier_of(alloc: Global, kind: &str, octets: &[u8]) -> Result<String, Refusal> {
+    let key = SubjectPublicKeyInfo::from_der(alloc, octets)?;
     let algorithm: AlgorithmIdentifierRef<'_> = key.algorithm.owned_to_ref();
     let lent: SubjectPublicKeyInfoRef<'_> = SubjectPublicKeyInfoRef {
         algorithm,
         subject_public_key: key.subject_public_key.owned_to_ref(),
     };
-    written_in(alloc, T::try_from_key(alloc, &lent))
+    match kind {
+        "SubjectKeyIdentifier" => {
+            written_in(alloc, SubjectKeyIdentifier::try_from_key(alloc, &lent))
+        }
+        _ => written_in(alloc, AuthorityKeyIdentifier::try_from_key(alloc, &lent)),
+    }
 }
 
 /// What is written of the name of a module.
 fn other_name_of(alloc: Global, octets: &[u8]) -> Result<String, Refusal> {
-    let module: HardwareModuleName = from_der(alloc, octets)?;
+    let module = HardwareModuleName::from_der(alloc, octets)?;
     written_in(alloc, OtherName::try_from(alloc, &module))
 }
 
 /// What is written of the module that a name holds, if it holds one.
 fn module_of(alloc: Global, octets: &[u8]) -> Result<String, Refusal> {
-    let name: OtherName = from_der(alloc, octets)?;
+    let name = OtherName::from_der(alloc, octets)?;
     match HardwareModuleName::from_other_name(alloc, &name)? {
         Some(module) => written(alloc, &module),
         None => shown(alloc, "none"),
@@ -97,13 +98,13 @@ fn module_of(alloc: Global, octets: &[u8]) -> Result<String, Refusal> {
 
 /// What is written of the attribute of a password.
 fn password_of(alloc: Global, octets: &[u8]) -> Result<String, Refusal> {
-    let password = ChallengePassword(from_der(alloc, octets)?);
+    let password = ChallengePassword(FromDer::from_der(alloc, octets)?);
     written_in(alloc, password.to_attribute(alloc))
 }
 
 /// What is written of the attribute of requested extensions.
 fn attribute_of(alloc: Global, octets: &[u8]) -> Result<String, Refusal> {
-    let request: ExtensionReq = from_der(alloc, octets)?;
+    let request = ExtensionReq::from_der(alloc, octets)?;
     written_in(alloc, Attribute::try_from_extension_req(alloc, request))
 }
 
@@ -119,7 +120,7 @@ pub fn digest_of(alloc: Global, kind: &str, octets: &str) -> Result<String, Refu
 
 /// The digest of a certificate that is read and written by a profile.
 fn digest_by<P: Profile>(alloc: Global, octets: &[u8]) -> Result<String, Refusal> {
-    let certificate: CertificateInner<P> = from_der(alloc, octets)?;
+    let certificate = CertificateInner::<P>::from_der(alloc, octets)?;
     digested(alloc, &certificate)
 }
 

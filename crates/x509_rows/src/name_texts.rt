@@ -2,7 +2,7 @@
 
 use crate::refusals::Refusal;
 use crate::shown::{hex_in, octets_of, printed as printed_in, written_in};
-use der_core::{Decode, SliceReader, from_der};
+use der_core::{Decode, FromDer, SliceReader};
 use std::alloc::Global;
 use std::fmt::Display;
 use x509_cert::{
@@ -49,12 +49,12 @@ fn text_of<'a, T: Decode<'a, SliceReader<'a>> + Display + Drop>(
     alloc: Global,
     octets: &'a [u8],
 ) -> Result<String, Refusal> {
-    printed_in(alloc, from_der::<T>(alloc, octets))
+    printed_in(alloc, T::from_der(alloc, octets))
 }
 
 /// The text of the DirectoryString that octets spell.
 fn value_of(alloc: Global, octets: &[u8]) -> Result<String, Refusal> {
-    let text: DirectoryString = from_der(alloc, octets)?;
+    let text = DirectoryString::from_der(alloc, octets)?;
     let value = text.value(alloc)?;
     Ok(value.into_owned(alloc)?)
 }

@@ -2,7 +2,7 @@
 
 use crate::refusals::Refusal;
 use crate::shown::octets_of;
-use der_core::from_der;
+use der_core::FromDer;
 use std::alloc::{AllocError, Global};
 use x509_cert::{GeneralName, KeyUsage, SubjectAltName};
 
@@ -18,12 +18,12 @@ pub fn names_of(alloc: Global, kind: &str, octets: &str) -> Result<String, Refus
 
 /// What the key is used for whose usage octets spell.
 fn usages_in(alloc: Global, octets: &[u8]) -> Result<String, Refusal> {
-    Ok(usages_of(alloc, from_der(alloc, octets)?)?)
+    Ok(usages_of(alloc, FromDer::from_der(alloc, octets)?)?)
 }
 
 /// The names of the subject that octets spell.
 fn subjects_in(alloc: Global, octets: &[u8]) -> Result<String, Refusal> {
-    Ok(subjects_of(alloc, &from_der(alloc, octets)?)?)
+    Ok(subjects_of(alloc, &FromDer::from_der(alloc, octets)?)?)
 }
 
 /// What a key is used for.

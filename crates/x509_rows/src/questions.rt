@@ -10,8 +10,7 @@ use crate::whole_extensions::got;
 use const_oid::AssociatedOid;
 use der_core::describing::{Described, OrderWay, Ordered};
 use der_core::{
-    Decode, DecodeValue, DerOrd, Encode, EncodeValue, Error, FixedTag, SliceReader, from_der,
-    from_der_partial,
+    Decode, DecodeValue, DerOrd, Encode, EncodeValue, Error, FixedTag, FromDer, SliceReader,
 };
 use der_core_values::describing::{DecodeWay, TagWay};
 use std::alloc::{AllocError, Global};
@@ -76,8 +75,8 @@ pub fn answer_of<'a, T: Decode<'a, SliceReader<'a>> + Encode>(
     question: &Question<'a>,
 ) -> Result<String, Refusal> {
     match question.asked {
-        Asked::Der => written_in(alloc, from_der::<T>(alloc, question.first)),
-        Asked::Front => front_written(alloc, from_der_partial::<T>(alloc, question.first)),
+        Asked::Der => written_in(alloc, T::from_der(alloc, question.first)),
+        Asked::Front => front_written(alloc, T::from_der_partial(alloc, question.first)),
         Asked::Twice => read_twice::<T>(alloc, question.first),
         _ => Err(Refusal::Unread),
     }
@@ -123,7 +122,7 @@ pub fn answer_with_copy<
     requires { C.IsAlwaysCallable copy }
 {
     match question.asked {
-        Asked::Copy => copied(alloc, from_der::<T>(alloc, question.first), copy),
+        Asked::Copy => copied(alloc, T::from_der(alloc, question.first), copy),
         _ => answer_of::<T>(alloc, question),
     }
 }
@@ -235,8 +234,8 @@ where
 {
     match question.asked {
         Asked::Extension => {
-            let subject: Name = from_der(alloc, question.first)?;
-            given(alloc, &subject, &from_der::<T>(alloc, question.second)?)
+            let subject = Name::from_der(alloc, question.first)?;
+            given(alloc, &subject, &T::from_der(alloc, question.second)?)
         }
         Asked::Get(certificate) => got::<T>(alloc, certificate),
         _ => answer_of::<T>(alloc, question),
@@ -269,7 +268,7 @@ where
     requires { C.IsAlwaysCallable copy }
 {
     match question.asked {
-        Asked::Copy => copied(alloc, from_der::<T>(alloc, question.first), copy),
+        Asked::Copy => copied(alloc, T::from_der(alloc, question.first), copy),
         _ => answer_with_field::<T, F>(alloc, question),
     }
 }
@@ -303,7 +302,7 @@ where
 {
     match question.asked {
         Asked::Debug => {
-            let value: T = from_der(alloc, question.first)?;
+            let value = T::from_der(alloc, question.first)?;
             Ok(format!(in alloc; "{value:?}")?)
         }
         _ => answer_of_content::<T>(alloc, question),
@@ -335,7 +334,7 @@ where
     requires { C.IsAlwaysCallable copy }
 {
     match question.asked {
-        Asked::Copy => copied(alloc, from_der::<T>(alloc, question.first), copy),
+        Asked::Copy => copied(alloc, T::from_der(alloc, question.first), copy),
         _ => answer_with_debug::<T>(alloc, question),
     }
 }
@@ -366,8 +365,8 @@ fn exchange_of<'a, T: Decode<'a, SliceReader<'a>> + Encode + AsMut<F>, F>(
     alloc: Global,
     question: &Question<'a>,
 ) -> Result<String, Refusal> {
-    let first: T = from_der(alloc, question.first)?;
-    exchanged(alloc, first, from_der(alloc, question.second)?)
+    let first = T::from_der(alloc, question.first)?;
+    exchanged(alloc, first, T::from_der(alloc, question.second)?)
 }
 
 /// The extension that a value gives.
@@ -384,8 +383,8 @@ fn order_of<'a, T: Decode<'a, SliceReader<'a>> + DerOrd + Drop>(
     alloc: Global,
     question: &Question<'a>,
 ) -> Result<String, Refusal> {
-    let first: T = from_der(alloc, question.first)?;
-    let second: T = from_der(alloc, question.second)?;
+    let first = T::from_der(alloc, question.first)?;
+    let second = T::from_der(alloc, question.second)?;
     name_of(alloc, first.der_cmp(&second))
 }
 

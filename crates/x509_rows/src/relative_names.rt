@@ -2,7 +2,7 @@
 
 use crate::refusals::Refusal;
 use crate::shown::{octets_of, written, written_in};
-use der_core::{from_der, to_der};
+use der_core::{FromDer, ToDer};
 use std::alloc::{AllocError, Global};
 use x509_cert::name::AttributeSet;
 use x509_cert::{AttributeTypeAndValue, Name, RdnSequence, RelativeDistinguishedName, SetOfIter};
@@ -18,7 +18,7 @@ pub fn again(alloc: Global, rest: &str) -> Result<String, Refusal> {
 /// The attribute that hex octets spell.
 fn attribute_of(alloc: Global, word: &str) -> Result<AttributeTypeAndValue, Refusal> {
     let octets = octets_of(alloc, word)?;
-    Ok(from_der(alloc, octets.as_slice())?)
+    Ok(AttributeTypeAndValue::from_der(alloc, octets.as_slice())?)
 }
 
 /// The attributes that hex octets spell, separated by blanks.
@@ -54,14 +54,14 @@ fn insert_again(
     name: &mut RelativeDistinguishedName,
     word: &str,
 ) -> Result<(), Refusal> {
-    let before = to_der(alloc, name)?;
+    let before = name.to_der(alloc)?;
     let Err(error) = name.insert(attribute_of(alloc, word)?) else {
         return Ok(());
     };
     let Refusal::Memory = Refusal::from(error) else {
         return Err(Refusal::Der(error));
     };
-    if to_der(alloc, name)?.as_slice() != before.as_slice() {
+    if name.to_der(alloc)?.as_slice() != before.as_slice() {
         return Err(Refusal::Changed);
     }
     name.insert(attribute_of(alloc, word)?)?;
@@ -79,7 +79,7 @@ pub fn made(alloc: Global, words: &str) -> Result<String, Refusal> {
 /// The relative name that hex octets spell.
 fn relative_name_of(alloc: Global, word: &str) -> Result<RelativeDistinguishedName, Refusal> {
     let octets = octets_of(alloc, word)?;
-    Ok(from_der(alloc, octets.as_slice())?)
+    Ok(RelativeDistinguishedName::from_der(alloc, octets.as_slice())?)
 }
 
 /// The name of the sequence to which relative names are pushed, where a push that finds no memory
@@ -94,11 +94,11 @@ fn pushed_again(alloc: Global, words: &str) -> Result<String, Refusal> {
 
 /// Pushes a relative name, at the second call where the first finds no memory.
 fn push_again(alloc: Global, names: &mut RdnSequence, word: &str) -> Result<(), Refusal> {
-    let before = to_der(alloc, names)?;
+    let before = names.to_der(alloc)?;
     let Err(AllocError) = names.push(relative_name_of(alloc, word)?) else {
         return Ok(());
     };
-    if to_der(alloc, names)?.as_slice() != before.as_slice() {
+    if names.to_der(alloc)?.as_slice() != before.as_slice() {
         return Err(Refusal::Changed);
     }
     names.push(relative_name_of(alloc, word)?)?;
@@ -108,7 +108,7 @@ fn push_again(alloc: Global, names: &mut RdnSequence, word: &str) -> Result<(), 
 /// What is written of a sequence whose relative names are turned round in the list that it lends.
 pub fn turned(alloc: Global, octets: &str) -> Result<String, Refusal> {
     let octets = octets_of(alloc, octets)?;
-    let mut sequence: RdnSequence = from_der(alloc, octets.as_slice())?;
+    let mut sequence = RdnSequence::from_der(alloc, octets.as_slice())?;
     sequence.as_mut().reverse();
     written(alloc, &sequence)
 }

@@ -2,7 +2,7 @@
 
 use crate::refusals::Refusal;
 use crate::shown::{Dashed, dashed_octets_of, written};
-use der_core::from_der;
+use der_core::FromDer;
 use std::alloc::Global;
 use std::fmt::Write;
 use x509_cert::timestamps::{SerializedSct, SignedCertificateTimestampList};
@@ -10,7 +10,7 @@ use x509_cert::timestamps::{SerializedSct, SignedCertificateTimestampList};
 /// The octets of each timestamp of the list that octets spell.
 pub fn members_of(alloc: Global, octets: &str) -> Result<String, Refusal> {
     let octets = dashed_octets_of(alloc, octets)?;
-    let list: SignedCertificateTimestampList = from_der(alloc, octets.as_slice())?;
+    let list = SignedCertificateTimestampList::from_der(alloc, octets.as_slice())?;
     let members = list.parse_timestamps(alloc)?;
     members_in(alloc, members.as_slice())
 }

@@ -2,7 +2,7 @@
 
 use crate::refusals::Refusal;
 use crate::shown::{Dashed, dashed_octets_of, shown};
-use der_core::to_der;
+use der_core::ToDer;
 use std::alloc::Global;
 use x509_cert::timestamps::{
     DigitallySigned, HashAlgorithm, LogId, SerializedSct, SignatureAlgorithm,
@@ -46,7 +46,7 @@ pub fn length_of(alloc: Global, count: &str) -> Result<String, Refusal> {
 /// How many octets spell the list of one timestamp of so many octets.
 pub fn length_of_list(alloc: Global, count: &str) -> Result<String, Refusal> {
     let list = SignedCertificateTimestampList::new(alloc, &[timestamp_of(alloc, count)?])?;
-    shown(alloc, to_der(alloc, &list)?.len())
+    shown(alloc, list.to_der(alloc)?.len())
 }
 
 /// A timestamp of so many octets, all zero.

@@ -3,14 +3,14 @@
 use crate::refusals::Refusal;
 use crate::shown::{octets_of, shown, written};
 use const_oid::AssociatedOid;
-use der_core::{Decode, Encode, Error, SliceReader, from_der};
+use der_core::{Decode, Encode, Error, FromDer, SliceReader};
 use std::alloc::Global;
 use x509_cert::{CertificateInner, KeyUsage, Raw, TbsCertificateInner};
 
 /// The certificate that octets spell.
 pub fn certificate_of(alloc: Global, digits: &str) -> Result<CertificateInner<Raw>, Refusal> {
     let octets = octets_of(alloc, digits)?;
-    Ok(from_der(alloc, octets.as_slice())?)
+    Ok(CertificateInner::<Raw>::from_der(alloc, octets.as_slice())?)
 }
 
 /// The one value of a type that a certificate has.

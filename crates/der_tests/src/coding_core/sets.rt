@@ -1,10 +1,7 @@
 //! Strict sets that a program makes.
 
 use der_core::laws::in_range_is_spelled;
-use der_core::{
-    Error, ErrorKind, StrictSetOf, encode_to_slice, encode_to_vec, encode_value_to_slice, from_der,
-    to_der,
-};
+use der_core::{Error, ErrorKind, FromDer, StrictSetOf, ToDer, encode_value_to_slice};
 use std::alloc::{AllocError, Global};
 use std::test::Fail;
 
@@ -25,7 +22,7 @@ fn pair(alloc: Global, values: [u8; 2]) -> Result<StrictSetOf<u8>, AllocError> {
 
 /// Whether octets are read as a set that equals this one.
 fn is_read(alloc: Global, set: &StrictSetOf<u8>, octets: &[u8]) -> Result<bool, Error> {
-    let again: StrictSetOf<u8> = from_der(alloc, octets)?;
+    let again = StrictSetOf::<u8>::from_der(alloc, octets)?;
     Ok(again.values.as_slice() == [1, 2].as_slice() && again == *set && again.clone()? == *set)
 }
 
@@ -34,7 +31,7 @@ fn a_set_is_written_where_it_rises(rt: HostRuntime) -> Result<(), Fail> {
     let alloc = rt.alloc();
     let set = pair(alloc, [1, 2])?;
     in_range_is_spelled(&set);
-    let octets = to_der(alloc, &set)?;
+    let octets = set.to_der(alloc)?;
     assert!(rt; octets.as_slice() == b"\x31\x06\x02\x01\x01\x02\x01\x02".as_slice());
     assert!(rt; is_read(alloc, &set, octets.as_slice())?);
     Ok(())
@@ -43,9 +40,9 @@ fn a_set_is_written_where_it_rises(rt: HostRuntime) -> Result<(), Fail> {
 /// Whether each call refuses to write a set, and leaves what stood in a vector alone.
 fn is_refused_by_all(alloc: Global, set: &StrictSetOf<u8>, kind: ErrorKind) -> Result<bool, Error> {
     let mut out = Vec::from_array(alloc, [7_u8])?;
-    let behind = is_refused(encode_to_vec(set, &mut out), kind);
-    let alone = is_refused(to_der(alloc, set), kind);
-    let in_slices = is_refused(encode_to_slice(set, &mut [0; 8]), kind)
+    let behind = is_refused(set.encode_to_vec(&mut out), kind);
+    let alone = is_refused(set.to_der(alloc), kind);
+    let in_slices = is_refused(set.encode_to_slice(&mut [0; 8]), kind)
         && is_refused(encode_value_to_slice(set, &mut [0; 6]), kind);
     Ok(behind && alone && in_slices && out.as_slice() == b"\x07".as_slice())
 }
@@ -75,8 +72,8 @@ fn a_set_in_a_set_is_refused(rt: HostRuntime) -> Result<(), Fail> {
         values: vec![in alloc; inner]?,
     };
     let mut out = Vec::from_array(alloc, [7_u8])?;
-    assert!(rt; is_refused(encode_to_vec(&set, &mut out), ErrorKind::SetOrdering));
+    assert!(rt; is_refused(set.encode_to_vec(&mut out), ErrorKind::SetOrdering));
     assert!(rt; out.as_slice() == b"\x07".as_slice());
-    assert!(rt; is_refused(encode_to_slice(&set, &mut [0; 12]), ErrorKind::Overlength));
+    assert!(rt; is_refused(set.encode_to_slice(&mut [0; 12]), ErrorKind::Overlength));
     Ok(())
 }

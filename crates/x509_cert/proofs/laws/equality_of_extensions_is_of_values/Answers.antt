@@ -46,4 +46,4 @@ returns-clause-lists c =
     (whole (λ x y. behind (list general_names _ _)), whole (λ x y. behind (list general_names _ _)), whole (λ x y. behind (list accesses _ _)), whole (λ x y. behind (list accesses _ _)), whole (λ x y. behind (list points _ _)), whole (λ x y. behind (list points _ _)), whole (λ x y. behind (list (of (returns-clause-policies c).1) _ _)), whole (λ x y. behind (list (of (returns-clause-notices c).3) _ _)), whole (λ x y. behind (list (λ v w. leaves) _ _)), whole (λ x y. behind (list attributes _ _)))
 
 pub returns-clause-leaves : goal.returns-clause-leaves
-returns-clause-leaves c = (whole (λ x y. leaves), whole (λ x y. leaves), whole (λ x y. named_bits), whole crl_reasons, whole (λ x y. digits_alike), whole (λ x y. digits_alike))
+returns-clause-leaves c = (whole (λ x y. leaves), whole (λ x y. named_bits), whole crl_reasons, whole (λ x y. digits_alike), whole (λ x y. digits_alike))

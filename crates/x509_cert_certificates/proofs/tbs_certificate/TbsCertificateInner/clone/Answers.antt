@@ -1,4 +1,5 @@
 use Rattle.std.proofs.Common.{sym, ap, ◌∙◌}
+use Rattle.std.specs.Prelude.{pos}
 use Rattle.der_core.proofs.ValueEquality.{itself_absent}
 use Rattle.x509_cert_parts.specs.Views.{time_value, version_number}
 use Rattle.x509_cert_certificates.proofs.tbs_certificate.TbsCertificateInner.clone.Goals as goal
@@ -10,7 +11,7 @@ returns g c =
     let issuer_id = sym (itself_absent c.in_ok-copy_of_option.field-0) ∙ c.in_ok-copy_of_option.ensures ∙ itself_absent c.args.self.now.issuer_unique_id in
     let subject_id = sym (itself_absent c.in_ok-copy_of_option-2.field-0) ∙ c.in_ok-copy_of_option-2.ensures ∙ itself_absent c.args.self.now.subject_unique_id in
     λ i. (
-      version_number c.args.self.now.version,
+      pos (version_number c.args.self.now.version),
       (
         c.in_ok-clone.ensures i,
         (

@@ -1,14 +1,15 @@
 -- What a content is read as where only some numbers of eight bits are read, by what it is read as where all of them are.
-use Rattle.std.proofs.Common.{rules, ◌≡◌, ℕ, ◌≤◌, ◌<◌, ◌^◌, Bool, true, false, cond, List, [], ◌∷◌, length, get_or, Fits, w8, suc, Ok, Err, refl, sym, ap, arith}
-use Rattle.std.specs.Prelude.{ℤ, pos, negsuc, nat_lt, ◌==◌, ◌≢◌}
-use Rattle.std.specs.List.{list_any}
-use Rattle.std.proofs.lemmas.Bool.{ltb-false, ne_eqb}
+use Rattle.std.proofs.Common.{rules, ◌≡◌, ℕ, ◌≤◌, ◌<◌, ◌^◌, Bool, true, false, cond, List, [], ◌∷◌, length, suc, Ok, Err, refl, sym, ap, arith}
+use Rattle.std.specs.Prelude.{ℤ, pos, negsuc, nat_lt, ◌==◌, ◌||◌, ◌≢◌, Contains}
+use Rattle.std.specs.List.{AllByRecursion, list_any}
+use Rattle.std.proofs.lemmas.Bool.{ltb-false, ltb-true, eqb-true, ne_eqb, and_parts}
 use Rattle.der_core_head.specs.declared.error.ErrorKind.{ErrorKind}
 use Rattle.der_core_head.specs.declared.error.ErrorKind.TheVariants as kinds
 use Rattle.der_core_head.specs.declared.tag.Tag.{Tag}
 use Rattle.der_core_head.specs.Integers.{Numbers, unsigned, among, checked, shortest_integer, integer_read, is_redundant, integer_of}
 use Rattle.der_core_head.specs.Octets.{◌>>=◌}
 use Rattle.der_core_head.proofs.Results.{fine}
+use Rattle.der_core_values.specs.Numbered.{are_octets}
 
 not_fine : (b : Bool) (z : ℤ) (d k : ErrorKind) → cond b (fine z) (Err d) ≡ Err k → (b ≡ false) × (d ≡ k)
 not_fine true z d k e = absurd cc
@@ -18,9 +19,12 @@ not_fine false z d k e = (refl, cc)
 abbrev pub AreOctets : List ℕ → Type 0
 AreOctets ns = (n : ℕ) → 256 ≤ n → list_any (λ m. m == n) ns ≡ false
 
-pub octets_alone : (ns : List ℕ) → ((i : ℕ) → Fits w8 (get_or ns i 0)) → AreOctets ns
+pub octets_alone : (ns : List ℕ) → are_octets ns ≡ true → AreOctets ns
 octets_alone [] h n k = refl
-octets_alone (m ∷ ms) h n k = rw (ne_eqb m n (λ e. omega (arith, k, e, h 0))) (octets_alone ms (λ i. h (suc i)) n k)
+octets_alone (m ∷ ms) h n k =
+    let parts = and_parts (nat_lt m 256) (are_octets ms) h in
+    let small = ltb-true m 256 parts.0 in
+    rw (ne_eqb m n (λ e. omega (arith, k, e, small))) (octets_alone ms parts.1 n k)
 
 module _ (ns : List ℕ) (small : AreOctets ns) where
   unknown : (t : Tag) (n : ℕ) → list_any (λ m. m == n) ns ≡ false → checked (among ns) t (pos n) ≡ Err (kinds.Value t)
@@ -75,3 +79,20 @@ pub empty : (ns : Numbers) (t : Tag) (w : List ℕ) → length w < 1 → integer
 unfolding shortest_integer
 empty ns t [] h = refl
 empty ns t (d ∷ ds) h = absurd (omega (arith, h))
+
+-- a number that is found is one of the numbers
+found : (b : Bool) (m n : ℕ) (ms : List ℕ) → (m == n) ≡ b → (b || list_any (λ x. x == n) ms) ≡ true → (list_any (λ x. x == n) ms ≡ true → Contains ms n)
+    → Contains (m ∷ ms) n
+found true m n ms same h more = (0, omega arith, eqb-true m n same)
+found false m n ms same h more =
+    let c = more h in
+    (suc c.0, omega (arith, c.1), c.2)
+
+pub listed : (ns : List ℕ) (n : ℕ) → list_any (λ x. x == n) ns ≡ true → Contains ns n
+listed [] n h = absurd cc
+listed (m ∷ ms) n h = found (m == n) m n ms refl h (listed ms n)
+
+-- a number that differs from each isn't found
+pub unlisted : (ns : List ℕ) (n : ℕ) → AllByRecursion (λ m. n ≢ m) ns → list_any (λ m. m == n) ns ≡ false
+unlisted [] n h = refl
+unlisted (m ∷ ms) n h = rw (ne_eqb m n (λ e. h.0 (sym e))) (unlisted ms n h.1)

@@ -1,3 +1,0 @@
-//! What only makers of types need.
-
-pub use crate::octet_numbers::number_among;
