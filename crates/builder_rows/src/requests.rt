@@ -6,8 +6,8 @@ use crate::words::{Words, extension_of, octets_of};
 use der_core::{FromDer, ToDer};
 use std::alloc::Global;
 use x509_cert_list_builders::RequestBuilder;
-use x509_cert_list_builders::certificates::DirectoryString;
-use x509_cert_list_builders::lists::{CertReq, ChallengePassword};
+use x509_cert_lists::{CertReq, ChallengePassword};
+use x509_cert_names::DirectoryString;
 
 impl Change for RequestBuilder {
     fn change(&mut self, alloc: Global, word: &str) -> Result<(), Refusal> {

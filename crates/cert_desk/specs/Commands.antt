@@ -1,6 +1,6 @@
 -- What the program's words ask for.
 use Rattle.std.specs.Prelude.{◌≡◌, ℕ, ◌≤◌, List, [], ◌∷◌, codes}
-use Rattle.cert_desk_issuing.specs.Arguments.{AskCheck}
+use Rattle.cert_desk_checking.specs.Arguments.{AskCheck}
 use Rattle.cert_desk_listing.specs.declared.file_kind.FileKind.{FileKind}
 use Rattle.cert_desk_listing.specs.Kinds.{kind_word}
 use Rattle.cert_desk.specs.declared.command.Command.{Command}

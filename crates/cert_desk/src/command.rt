@@ -1,10 +1,10 @@
 //! What the program is asked for.
 ghost use Rattle.std.specs.Prelude.{map, IfSome, IfNone, string_bytes};
-ghost use Rattle.cert_desk_issuing.specs.Arguments.{AskNoCheck};
+ghost use Rattle.cert_desk_checking.specs.Arguments.{AskNoCheck};
 ghost use Rattle.cert_desk.specs.Commands.{AsksFor, AskShow, AskIssue, AskNoListing, AskNoChain};
 ghost use Rattle.cert_desk.specs.Commands.{HasLimit};
 
-use cert_desk_issuing::Arguments;
+use cert_desk_checking::Arguments;
 use cert_desk_listing::FileKind;
 
 /// What the program is asked for.

@@ -7,11 +7,11 @@ ghost use Rattle.cert_desk.specs.Commands.{HasLimit};
 ghost use Rattle.cert_desk.specs.Running.{IsChecked, IsShown, IsIssued, IsRun, IsObeyed};
 
 use crate::command::Command;
-use cert_desk_io::{NamedInputs, tell_unopened};
-use cert_desk_issuing::{
-    Arguments, ExitStatus, Input, Output, SignatureJudge, USAGE, complain, run_check, run_orders,
-};
+use cert_desk_checking::{Arguments, USAGE, run_check};
+use cert_desk_io::{ExitStatus, Input, NamedInputs, Output, complain, tell_unopened};
+use cert_desk_issuing::run_orders;
 use cert_desk_listing::{FileKind, run_show};
+use cert_desk_rules::SignatureJudge;
 use std::alloc::Global;
 
 // Opens the inputs of a check, and runs it on them.

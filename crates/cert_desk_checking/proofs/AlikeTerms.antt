@@ -2,15 +2,15 @@
 use Rattle.std.proofs.Common.{◌≡◌, ℕ, zero, suc, ◌+◌, List, [], ◌∷◌, length, Bool, ◌&&◌, cond, slice_get, refl, sym, ap, ◌∙◌}
 use Rattle.std.specs.List.{list_all}
 use Rattle.std.specs.Option.{option_map_or}
-use Rattle.x509_cert_anchors.specs.Certificates.{PlainCertificate}
-use Rattle.cert_desk_checking.specs.declared.checked.Verdict.{Verdict}
-use Rattle.cert_desk_checking.specs.declared.checked.Verdict.TheVariants as verdicts
-use Rattle.cert_desk_checking.specs.declared.fault_kind.FaultKind.{FaultKind}
-use Rattle.cert_desk_checking.specs.declared.rule.Rule.{Rule}
-use Rattle.cert_desk_checking.specs.declared.rule.Rule.TheVariants as rules
-use Rattle.cert_desk_checking.specs.Chains.{Chain}
-use Rattle.cert_desk_checking.specs.Judging.{Terms, before_signature, keeps_all, keeps_at, may_ask}
-use Rattle.cert_desk_checking.specs.Verdicts.{Faulty, IsVerdict, all_kept_below, asked, asked_anchors, asked_first, asked_later}
+use Rattle.x509_cert_certificates.specs.Certificates.{PlainCertificate}
+use Rattle.cert_desk_rules.specs.declared.checked.Verdict.{Verdict}
+use Rattle.cert_desk_rules.specs.declared.checked.Verdict.TheVariants as verdicts
+use Rattle.cert_desk_bundle.specs.declared.fault_kind.FaultKind.{FaultKind}
+use Rattle.cert_desk_rules.specs.declared.rule.Rule.{Rule}
+use Rattle.cert_desk_rules.specs.declared.rule.Rule.TheVariants as rules
+use Rattle.cert_desk_bundle.specs.Chains.{Chain}
+use Rattle.cert_desk_rules.specs.Judging.{Terms, before_signature, keeps_all, keeps_at, may_ask}
+use Rattle.cert_desk_rules.specs.Verdicts.{Faulty, IsVerdict, all_kept_below, asked, asked_anchors, asked_first, asked_later}
 
 pub list_all-same : {A : Type 0} (test other : A → Bool) → ((x : A) → test x ≡ other x) → (xs : List A) → list_all test xs ≡ list_all other xs
 list_all-same test other same [] = refl

@@ -11,8 +11,8 @@ use Rattle.cert_desk_checking.specs.declared.outcome.Outcome.TheVariants as outc
 use Rattle.cert_desk_checking.specs.Anchors.{anchor_plain, given_by}
 use Rattle.cert_desk_checking.specs.AnchorFiles.{raw_choice, IsFaulty}
 use Rattle.cert_desk_checking.specs.AnchorReading.{StandsAt, GivesAt, UngivenFor, IsUngiven, GivesNone}
-use Rattle.cert_desk_checking.specs.Judging.{PlainAnchor}
-use Rattle.cert_desk_checking.specs.Series.{IsUnambiguous, BeginsWith}
+use Rattle.cert_desk_rules.specs.Judging.{PlainAnchor}
+use Rattle.cert_desk_bundle.specs.Series.{IsUnambiguous, BeginsWith}
 use Rattle.cert_desk_checking.proofs.FileReading.{SoFar, begins_with}
 
 pub choices_told : IsUnambiguous raw_choice

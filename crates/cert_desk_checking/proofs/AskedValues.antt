@@ -7,17 +7,21 @@ use Rattle.der_core_head.specs.Octets.{IsOctets}
 use Rattle.der_core_head.specs.Shapes.{IsValid, IsContent, IsBody, octets_of}
 use Rattle.der_core_head.proofs.Below.{octets_below}
 use Rattle.der_core_head.proofs.BoundLaws.{both_all}
-use Rattle.x509_cert_anchors.specs.Certificates.{PlainCertificate, raw_certificate, raw_tbs_certificate, subject, tbs, tbs_public_key, tbs_subject, public_key, signature_bits}
+use Rattle.x509_cert_certificates.specs.Certificates.{PlainCertificate, raw_certificate}
+use Rattle.x509_cert_certificates.specs.Certificates.{raw_tbs_certificate, subject, tbs}
+use Rattle.x509_cert_certificates.specs.Certificates.{tbs_public_key, tbs_subject, public_key}
+use Rattle.x509_cert_certificates.specs.Certificates.{signature_bits}
 use Rattle.x509_cert_anchors.specs.Grammar.{PlainControls, PlainAnchor as PlainChoice}
-use Rattle.x509_cert_extensions.specs.Parts.{PublicKey, algorithm_identifier, bit_string, public_key_info}
+use Rattle.x509_cert_parts.specs.Grammar.{PublicKey, algorithm_identifier, bit_string}
+use Rattle.x509_cert_parts.specs.Grammar.{public_key_info}
 use Rattle.cert_desk_checking.specs.declared.anchor_error.AnchorError.{AnchorError}
 use Rattle.cert_desk_checking.specs.declared.anchor_error.AnchorError.TheVariants as errors
 use Rattle.cert_desk_checking.specs.AnchorFiles.{IsAnchorFile, raw_choice}
 use Rattle.cert_desk_checking.specs.Anchors.{controls_name, given_by, given_by_key, has_only_name, info_controls, info_key}
-use Rattle.cert_desk_checking.specs.Chains.{Chain}
-use Rattle.cert_desk_checking.specs.Judging.{PlainAnchor, is_named, signed_part}
+use Rattle.cert_desk_bundle.specs.Chains.{Chain}
+use Rattle.cert_desk_rules.specs.Judging.{PlainAnchor, is_named, signed_part}
 use Rattle.cert_desk_checking.specs.QuestionLines.{QuestionLine, anchor_lines, chain_lines, lines_at, lines_below, lines_of}
-use Rattle.cert_desk_checking.specs.Questions.{Question, question}
+use Rattle.cert_desk_rules.specs.Questions.{Question, question}
 use Rattle.cert_desk_checking.proofs.Encodings.{Stands-at, signed_part-is, valid_algorithms}
 
 pub record IsWritable (q : Question) : Type 0 where

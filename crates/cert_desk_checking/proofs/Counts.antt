@@ -1,6 +1,6 @@
 -- Counts that rise, and stay at the most that 64 bits hold.
 use Rattle.std.proofs.Common.{◌≡◌, ℕ, ◌+◌, ◌-◌, ◌^◌, min, max, ap, ◌∙◌, arith}
-use Rattle.cert_desk_checking.specs.Verdicts.{raised}
+use Rattle.cert_desk_rules.specs.Verdicts.{raised}
 use Rattle.cert_desk_checking.specs.Places.{Rises}
 
 raised_to : (cap old n m : ℕ) → max (max old (min (old + n) cap)) (min (max old (min (old + n) cap) + m) cap) ≡ max old (min (old + (n + m)) cap)

@@ -3,15 +3,15 @@ use Rattle.std.proofs.Common.{◌≡◌, ℕ, zero, suc, ◌+◌, ◌<◌, ◌�
 use Rattle.std.specs.Option.{option_map_or}
 use Rattle.std.proofs.lemmas.Bool.{both_ways, cases_lt, cases_order}
 use Rattle.std.proofs.lemmas.Option.{slice_get_past}
-use Rattle.x509_cert_anchors.specs.Certificates.{PlainCertificate}
-use Rattle.cert_desk_checking.specs.declared.checked.Verdict.TheVariants as verdicts
-use Rattle.cert_desk_checking.specs.declared.kept_rules.KeptRules.{KeptRules}
-use Rattle.cert_desk_checking.specs.declared.rule.Rule.{Rule}
-use Rattle.cert_desk_checking.specs.Judging.{Terms, keeps, keeps_at}
-use Rattle.cert_desk_checking.specs.KeptRules.{AreJudged, IsFirstBreach, kept_at, kept_by}
+use Rattle.x509_cert_certificates.specs.Certificates.{PlainCertificate}
+use Rattle.cert_desk_rules.specs.declared.checked.Verdict.TheVariants as verdicts
+use Rattle.cert_desk_rules.specs.declared.kept_rules.KeptRules.{KeptRules}
+use Rattle.cert_desk_rules.specs.declared.rule.Rule.{Rule}
+use Rattle.cert_desk_rules.specs.Judging.{Terms, keeps, keeps_at}
+use Rattle.cert_desk_rules.specs.KeptRules.{AreJudged, IsFirstBreach, kept_at, kept_by}
 use Rattle.cert_desk_checking.specs.Laws.{RefusedAtFirstBreach, TrustedWithoutBreach}
-use Rattle.cert_desk_checking.specs.Verdicts.{IsVerdict, Refused, Trusted}
-use Rattle.cert_desk_checking.proofs.OneChain.{one_chain}
+use Rattle.cert_desk_rules.specs.Verdicts.{IsVerdict, Refused, Trusted}
+use Rattle.cert_desk_bundle.proofs.OneChain.{one_chain}
 use Rattle.cert_desk_checking.proofs.OneVerdict.{one_verdict}
 
 -- behind the last place nothing is broken

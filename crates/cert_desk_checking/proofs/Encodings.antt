@@ -6,10 +6,15 @@ use Rattle.der_core_head.specs.declared.tag.Tag.TheVariants as tags
 use Rattle.der_core_head.specs.Tags.{tag_octets}
 use Rattle.der_core_head.specs.Heads.{tlv, head_octets, length_octets}
 use Rattle.der_core_head.specs.Shapes.{octets_of, contents, body_octets, IsValid, IsContent, IsBody}
-use Rattle.x509_cert_anchors.specs.Certificates.{PlainCertificate, raw_certificate, raw_certificate_fields, certificate_octets, raw_tbs_certificate, tbs, inner_algorithm, outer_algorithm, issuer, signed_start, signed_length}
-use Rattle.x509_cert_extensions.specs.Parts.{algorithm_identifier, name}
-use Rattle.cert_desk_checking.specs.Chains.{Stands, joined, offset_at}
-use Rattle.cert_desk_checking.specs.Judging.{signed_part}
+use Rattle.x509_cert_certificates.specs.Certificates.{PlainCertificate, raw_certificate}
+use Rattle.x509_cert_certificates.specs.Certificates.{raw_certificate_fields, certificate_octets}
+use Rattle.x509_cert_certificates.specs.Certificates.{raw_tbs_certificate, tbs, inner_algorithm}
+use Rattle.x509_cert_certificates.specs.Certificates.{outer_algorithm, issuer, signed_start}
+use Rattle.x509_cert_certificates.specs.Certificates.{signed_length}
+use Rattle.x509_cert_parts.specs.Grammar.{algorithm_identifier}
+use Rattle.x509_cert_names.specs.Names.{name}
+use Rattle.cert_desk_bundle.specs.Chains.{Stands, joined, offset_at}
+use Rattle.cert_desk_rules.specs.Judging.{signed_part}
 
 -- a certificate begins with the octet of a SEQUENCE
 pub certificate_octets-first : (bound : ℕ) (c : PlainCertificate) → (w : List ℕ) × (certificate_octets bound c ≡ 0x30 ∷ w)

@@ -3,9 +3,9 @@ use Rattle.std.proofs.Common.{◌≡◌, ℕ, List, [], ◌∷◌, ◌++◌, len
 use Rattle.std.specs.List.{AllByRecursion}
 use Rattle.der_core_head.specs.Shapes.{Shape, Value, octets_of, IsValid}
 use Rattle.der_core_head.proofs.BoundLaws.{front_all}
-use Rattle.cert_desk_checking.specs.Series.{IsUnambiguous, encodings}
+use Rattle.cert_desk_bundle.specs.Series.{IsUnambiguous, encodings}
 use Rattle.cert_desk_checking.specs.Files.{GiveAll, IsFileOf, BeginsNone, BeginsRefused, HasFirstWrong}
-use Rattle.cert_desk_checking.proofs.SeriesLaws.{each-last, each-so, value_some, one_first, one_front}
+use Rattle.cert_desk_bundle.proofs.SeriesLaws.{each-last, each-so, value_some, one_first, one_front}
 
 module _ (s : Shape) (u : IsUnambiguous s) {A E : Type 0} (gives : Value s → Result A E) where
   -- no value that gives something begins these octets

@@ -3,22 +3,22 @@ use Rattle.std.proofs.Common.{◌≡◌, ℕ, ◌<◌, List, Bool, true, false, 
 use Rattle.std.specs.List.{list_any}
 use Rattle.std.proofs.lemmas.Bool.{both_ways}
 use Rattle.std.specs.Option.{option_map_or}
-use Rattle.x509_cert_anchors.specs.Certificates.{PlainCertificate, extensions_of}
-use Rattle.cert_desk_checking.specs.declared.findings.Findings.{Findings}
-use Rattle.cert_desk_checking.specs.declared.kept_rules.KeptRules.{KeptRules}
-use Rattle.cert_desk_checking.specs.declared.path_room.PathRoom.{PathRoom}
-use Rattle.cert_desk_checking.specs.declared.rule.Rule.{Rule}
-use Rattle.cert_desk_checking.specs.declared.rule.Rule.TheVariants as rules
-use Rattle.cert_desk_checking.specs.Findings.{IsRoom, found}
-use Rattle.cert_desk_checking.specs.Judging.{Terms, keeps_at, number}
-use Rattle.cert_desk_checking.specs.KeptRules.{IsFirstOf, kept_by}
-use Rattle.cert_desk_checking.specs.Paths.{counts, is_last, is_self_issued, is_within}
+use Rattle.x509_cert_certificates.specs.Certificates.{PlainCertificate, extensions_of}
+use Rattle.cert_desk_rules.specs.declared.findings.Findings.{Findings}
+use Rattle.cert_desk_rules.specs.declared.kept_rules.KeptRules.{KeptRules}
+use Rattle.cert_desk_rules.specs.declared.path_room.PathRoom.{PathRoom}
+use Rattle.cert_desk_rules.specs.declared.rule.Rule.{Rule}
+use Rattle.cert_desk_rules.specs.declared.rule.Rule.TheVariants as rules
+use Rattle.cert_desk_rules.specs.Findings.{IsRoom, found}
+use Rattle.cert_desk_rules.specs.Judging.{Terms, keeps_at, number}
+use Rattle.cert_desk_rules.specs.KeptRules.{IsFirstOf, kept_by}
+use Rattle.cert_desk_rules.specs.Paths.{counts, is_last, is_self_issued, is_within}
 use Rattle.cert_desk_checking.specs.Places.{IsFirstUnsigned}
-use Rattle.cert_desk_checking.specs.Weighing.{is_authority, weigh}
-use Rattle.cert_desk_checking.proofs.FoundLaws.{found_ca, found_certifies, found_malformed, found_serves, found_unweighed}
-use Rattle.cert_desk_checking.proofs.PathLaws.{within_room}
+use Rattle.cert_desk_rules.specs.Weighing.{is_authority, weigh}
+use Rattle.cert_desk_rules.proofs.FoundLaws.{found_ca, found_certifies, found_malformed, found_serves, found_unweighed}
+use Rattle.cert_desk_rules.proofs.PathLaws.{within_room}
 use Rattle.cert_desk_checking.proofs.PlaceLaws.{keeps_at-is}
-use Rattle.cert_desk_checking.proofs.RuleList.{or_signature}
+use Rattle.cert_desk_rules.proofs.RuleList.{or_signature}
 
 -- what was tested is what the rules say, the signature aside
 pub first_unsigned_by : (k : KeptRules) (t : Terms) (cs : List PlainCertificate) (stream : List ℕ) (place : ℕ) (broken : Option Rule)

@@ -6,13 +6,13 @@ use Rattle.std.proofs.lemmas.Bool.{cases_lt}
 use Rattle.std.proofs.lemmas.Option.{slice_get_past}
 use Rattle.der_core_head.proofs.BoundLaws.{front_all, back_all}
 use Rattle.const_oid.specs.Bound.{Bound}
-use Rattle.cert_desk_checking.specs.Certificates.{PlainCertificate, public_key}
-use Rattle.cert_desk_checking.specs.declared.checked.Verdict.{Verdict}
-use Rattle.cert_desk_checking.specs.Chains.{Chain}
-use Rattle.cert_desk_checking.specs.Judging.{Answers, Terms, PlainAnchor, is_named}
+use Rattle.x509_cert_certificates.specs.Certificates.{PlainCertificate, public_key}
+use Rattle.cert_desk_rules.specs.declared.checked.Verdict.{Verdict}
+use Rattle.cert_desk_bundle.specs.Chains.{Chain}
+use Rattle.cert_desk_rules.specs.Judging.{Answers, Terms, PlainAnchor, is_named}
 use Rattle.cert_desk_checking.specs.QuestionLines.{QuestionLine, anchor_lines, chain_lines, lines_at, lines_below, lines_of, questions_of_lines}
-use Rattle.cert_desk_checking.specs.Questions.{Question, anchor_questions, answer_on, question, questions_at, questions_of, under}
-use Rattle.cert_desk_checking.specs.Verdicts.{IsVerdict, Asks}
+use Rattle.cert_desk_rules.specs.Questions.{Question, anchor_questions, answer_on, question, questions_at, questions_of, under}
+use Rattle.cert_desk_rules.specs.Verdicts.{IsVerdict, Asks}
 use Rattle.cert_desk_checking.proofs.JudgedAlike.{judged_alike}
 
 module _ (cs : List PlainCertificate) (stream : List ℕ) where

@@ -5,7 +5,7 @@ use Rattle.cert_desk_checking.specs.declared.anchor_fault.AnchorFault.{AnchorFau
 use Rattle.cert_desk_checking.specs.declared.anchor_fault.AnchorFault.TheVariants as faults
 use Rattle.cert_desk_checking.specs.Anchors.{given_by}
 use Rattle.cert_desk_checking.specs.AnchorFiles.{raw_choice, IsAnchorFile, IsFaulty, HasFirstFault, SaysAsFile}
-use Rattle.cert_desk_checking.specs.Judging.{PlainAnchor}
+use Rattle.cert_desk_rules.specs.Judging.{PlainAnchor}
 use Rattle.cert_desk_checking.proofs.AnchorLaws.{choices_told}
 use Rattle.cert_desk_checking.proofs.FileLaws.{Ends, ends_none, ends_refused, one_reason, refused_some, one_file, not_both, one_place}
 

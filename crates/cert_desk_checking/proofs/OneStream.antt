@@ -5,11 +5,13 @@ use Rattle.std.specs.Option.{option_map}
 use Rattle.der_core_head.specs.BitStrings.{Bits}
 use Rattle.der_core_head.specs.Shapes.{octets_of, IsValid, IsContent, IsBody}
 use Rattle.der_core_head.proofs.OneEncoding.{one_value}
-use Rattle.x509_cert_anchors.specs.Certificates.{PlainCertificate, Tbs, raw_certificate, raw_tbs_certificate, outer_algorithm, signature_bits, tbs}
-use Rattle.x509_cert_extensions.specs.Parts.{Algorithm}
-use Rattle.cert_desk_checking.specs.Chains.{Chain, Stands, joined}
+use Rattle.x509_cert_certificates.specs.Certificates.{PlainCertificate, Tbs, raw_certificate}
+use Rattle.x509_cert_certificates.specs.Certificates.{raw_tbs_certificate, outer_algorithm}
+use Rattle.x509_cert_certificates.specs.Certificates.{signature_bits, tbs}
+use Rattle.x509_cert_parts.specs.Grammar.{Algorithm}
+use Rattle.cert_desk_bundle.specs.Chains.{Chain, Stands, joined}
 use Rattle.cert_desk_checking.specs.Issuers.{shown_at}
-use Rattle.cert_desk_checking.specs.Judging.{signed_part}
+use Rattle.cert_desk_rules.specs.Judging.{signed_part}
 use Rattle.cert_desk_checking.proofs.Encodings.{signed_part-is}
 
 valid_signed : (bound : ℕ) (c : PlainCertificate) → IsValid (raw_certificate bound) c → IsValid (raw_tbs_certificate bound) (tbs c)

@@ -1,17 +1,16 @@
 -- From what was found at each place to what is said of the stream.
 use Rattle.std.proofs.Common.{◌≡◌, ℕ, zero, suc, ◌+◌, ◌<◌, List, length, true, false, cond, ◌&&◌, Some, None, inl, inr, refl, sym, subst, arith}
 use Rattle.std.proofs.lemmas.Bool.{and_parts, and_from, and_left, and_right, both_ways, false_from_ne_true, cond-true, cond-false, cases_order}
-use Rattle.x509_cert_anchors.specs.Certificates.{PlainCertificate}
-use Rattle.cert_desk_checking.specs.declared.rule.Rule.{Rule}
-use Rattle.cert_desk_checking.specs.declared.rule.Rule.TheVariants as rules
-use Rattle.cert_desk_checking.specs.Chains.{Chain, joined}
-use Rattle.cert_desk_checking.specs.Judging.{Terms, keeps_at, keeps_all, may_ask, number}
-use Rattle.cert_desk_checking.specs.Paths.{extensions_at}
-use Rattle.cert_desk_checking.specs.Weighing.{may_take_memory}
-use Rattle.cert_desk_checking.specs.Verdicts.{Trusted, Refused, StopsAsking, all_kept_below, asked, asked_below, asked_signature, raised}
+use Rattle.x509_cert_certificates.specs.Certificates.{PlainCertificate}
+use Rattle.cert_desk_rules.specs.declared.rule.Rule.{Rule}
+use Rattle.cert_desk_rules.specs.declared.rule.Rule.TheVariants as rules
+use Rattle.cert_desk_bundle.specs.Chains.{Chain, joined}
+use Rattle.cert_desk_rules.specs.Judging.{Terms, keeps_at, keeps_all, may_ask, number}
+use Rattle.cert_desk_rules.specs.Paths.{extensions_at}
+use Rattle.cert_desk_rules.specs.Weighing.{may_take_memory}
+use Rattle.cert_desk_rules.specs.Verdicts.{Trusted, Refused, StopsAsking, all_kept_below, asked, asked_below, asked_signature, raised}
 use Rattle.cert_desk_checking.specs.Places.{IsFirstUnsigned}
 use Rattle.cert_desk_checking.proofs.PlaceLaws.{may_ask-false, may_ask-kept, may_ask-true, all_kept}
-pub use Rattle.cert_desk_io.proofs.Given.{OnErr-by}
 
 -- all rules at one place
 pub keeps_all-kept : (t : Terms) (cs : List PlainCertificate) (stream : List ℕ) (place : ℕ) → keeps_all t cs stream place ≡ true

@@ -8,24 +8,26 @@ use Rattle.std.proofs.lemmas.Bool.Decides.{same_from_decides}
 use Rattle.std.proofs.lemmas.Slice.Eq.{bytes_eq-Decides}
 use Rattle.const_oid.specs.Bound.{Bound}
 use Rattle.der_core_head.specs.Shapes.{octets_of, IsValid}
-use Rattle.x509_cert_anchors.specs.Certificates.{PlainCertificate, raw_certificate, inner_algorithm, outer_algorithm, issuer, subject, public_key}
-use Rattle.x509_cert_extensions.specs.Parts.{algorithm_identifier}
-use Rattle.x509_cert_anchors.specs.CertificateViews.{certificate_plain}
+use Rattle.x509_cert_certificates.specs.Certificates.{PlainCertificate, raw_certificate}
+use Rattle.x509_cert_certificates.specs.Certificates.{inner_algorithm, outer_algorithm, issuer}
+use Rattle.x509_cert_certificates.specs.Certificates.{subject, public_key}
+use Rattle.x509_cert_parts.specs.Grammar.{algorithm_identifier}
+use Rattle.x509_cert_certificates.specs.Views.{certificate_plain}
 use Rattle.cert_desk_checking.specs.declared.anchor.Anchor.{Anchor}
-use Rattle.cert_desk_checking.specs.declared.entry.Entry.{Entry}
+use Rattle.cert_desk_bundle.specs.declared.entry.Entry.{Entry}
 use Rattle.cert_desk_checking.specs.declared.issuer.Issuer.{Issuer}
 use Rattle.cert_desk_checking.specs.declared.issuer.Issuer.TheVariants as issuers
-use Rattle.cert_desk_checking.specs.declared.path_room.PathRoom.{PathRoom}
-use Rattle.cert_desk_checking.specs.declared.rule.Rule.{Rule}
-use Rattle.cert_desk_checking.specs.declared.rule.Rule.TheVariants as rules
+use Rattle.cert_desk_rules.specs.declared.path_room.PathRoom.{PathRoom}
+use Rattle.cert_desk_rules.specs.declared.rule.Rule.{Rule}
+use Rattle.cert_desk_rules.specs.declared.rule.Rule.TheVariants as rules
 use Rattle.cert_desk_checking.specs.Anchors.{anchor_plain, terms_of}
-use Rattle.cert_desk_checking.specs.Entries.{IsEntry}
-use Rattle.cert_desk_checking.specs.Findings.{IsRoom}
-use Rattle.cert_desk_checking.specs.Judging.{Answers, Terms, has_one_algorithm, keeps, keeps_at, number, may_ask, is_named, same_name, signed_part}
+use Rattle.cert_desk_bundle.specs.Entries.{IsEntry}
+use Rattle.cert_desk_rules.specs.Findings.{IsRoom}
+use Rattle.cert_desk_rules.specs.Judging.{Answers, Terms, has_one_algorithm, keeps, keeps_at, number, may_ask, is_named, same_name, signed_part}
 use Rattle.cert_desk_checking.specs.Places.{IsIssuer, StandsAt, asked_of, linked_to, signed_by, signs}
-use Rattle.cert_desk_checking.specs.Verdicts.{accepted, asked_anchors, asked_signature, asked_until}
+use Rattle.cert_desk_rules.specs.Verdicts.{accepted, asked_anchors, asked_signature, asked_until}
 use Rattle.cert_desk_checking.proofs.OneEncoding.{one_algorithm}
-use Rattle.cert_desk_checking.proofs.RuleList.{test_of_all, all_of_tests, or_signature}
+use Rattle.cert_desk_rules.proofs.RuleList.{test_of_all, all_of_tests, or_signature}
 use Rattle.cert_desk_checking.proofs.Encodings.{valid_algorithms}
 
 pub entry_at : (bound : ℕ) (cs : List PlainCertificate) (place : ℕ) (o : Option Entry) (e : Entry) → IfSome o (λ e. IsEntry bound cs place e) → o ≡ Some e → IsEntry bound cs place e

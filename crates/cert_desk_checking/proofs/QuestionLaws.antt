@@ -1,16 +1,18 @@
 -- The lines of a certificate's questions are those of the chain.
 use Rattle.std.proofs.Common.{◌≡◌, ℕ, zero, suc, ◌+◌, ◌-◌, ◌<◌, List, [], ◌∷◌, ◌++◌, cond, codes, decimal, Option, Some, None, Bool, true, false, slice_get, arith, refl, ap, sym, ◌∙◌, append-nil}
 use Rattle.std.specs.Option.{option_map_or}
-use Rattle.cert_desk_checking.specs.declared.entry.Entry.{Entry}
+use Rattle.cert_desk_bundle.specs.declared.entry.Entry.{Entry}
 use Rattle.hex.specs.Hex.{encode_lower}
 use Rattle.const_oid.specs.Bound.{Bound}
-use Rattle.x509_cert_anchors.specs.Certificates.{PlainCertificate, outer_algorithm, public_key, signature_bits}
-use Rattle.x509_cert_extensions.specs.Parts.{PublicKey, algorithm_identifier, bit_string, public_key_info}
-use Rattle.x509_cert_anchors.specs.CertificateViews.{certificate_plain}
-use Rattle.cert_desk_checking.specs.Chains.{joined}
-use Rattle.cert_desk_checking.specs.Entries.{IsEntry}
-use Rattle.cert_desk_checking.specs.Judging.{PlainAnchor, is_named}
-use Rattle.cert_desk_checking.specs.Questions.{Question, question}
+use Rattle.x509_cert_certificates.specs.Certificates.{PlainCertificate, outer_algorithm, public_key}
+use Rattle.x509_cert_certificates.specs.Certificates.{signature_bits}
+use Rattle.x509_cert_parts.specs.Grammar.{PublicKey, algorithm_identifier, bit_string}
+use Rattle.x509_cert_parts.specs.Grammar.{public_key_info}
+use Rattle.x509_cert_certificates.specs.Views.{certificate_plain}
+use Rattle.cert_desk_bundle.specs.Chains.{joined}
+use Rattle.cert_desk_bundle.specs.Entries.{IsEntry}
+use Rattle.cert_desk_rules.specs.Judging.{PlainAnchor, is_named}
+use Rattle.cert_desk_rules.specs.Questions.{Question, question}
 use Rattle.cert_desk_checking.proofs.Encodings.{signed_part-is}
 use Rattle.cert_desk_checking.specs.QuestionLines.{QuestionLine, anchor_lines, anchor_word, line_octets, lines_at, lines_octets, lines_of, spaced, written}
 use Rattle.cert_desk_checking.specs.Questioning.{anchor_line, entry_line, entry_lines, entry_question}

@@ -6,21 +6,21 @@ use Rattle.std.specs.List.{list_all, list_any}
 use Rattle.std.specs.Option.{is_some, option_map_or}
 use Rattle.const_oid.specs.Bound.{Bound}
 use Rattle.der_core_head.specs.Grammar.{plain_list}
-use Rattle.x509_cert_anchors.specs.Certificates.{PlainCertificate, extensions_of}
-use Rattle.x509_cert_extensions.specs.Parts.{PlainExtension}
-use Rattle.cert_desk_checking.specs.declared.findings.Findings.{Findings}
-use Rattle.cert_desk_checking.specs.declared.reason.Reason.{Reason}
-use Rattle.cert_desk_checking.specs.declared.reason.Reason.TheVariants as reasons
-use Rattle.cert_desk_checking.specs.declared.rule.Rule.{Rule}
-use Rattle.cert_desk_checking.specs.declared.rule.Rule.TheVariants as rules
-use Rattle.cert_desk_checking.specs.Findings.{found}
-use Rattle.cert_desk_checking.specs.Judging.{Terms, are_distinct, has_twin, keeps_at}
-use Rattle.cert_desk_checking.specs.Paths.{counted, counts, extensions_at, is_last, is_within, is_within_lengths, keep_lengths, keeps_length}
-use Rattle.cert_desk_checking.specs.Reasons.{AreFirstTwins, Explains, ExplainsFirst, IsFirstAt, Precedes, are_twins, goes_against, has_no_authority, have_one_identifier, is_against, is_at, is_explained}
-use Rattle.cert_desk_checking.specs.Weighing.{is_authority, may_certify, path_length, serves, weigh}
-use Rattle.cert_desk_checking.proofs.Folds.{and_yes, not_twice, or_no}
-use Rattle.cert_desk_checking.proofs.FoundLaws.{found_malformed, found_unweighed, found_serves, found_certifies, found_length}
-use Rattle.cert_desk_checking.proofs.PathLaws.{counted_first}
+use Rattle.x509_cert_certificates.specs.Certificates.{PlainCertificate, extensions_of}
+use Rattle.x509_cert_parts.specs.Grammar.{PlainExtension}
+use Rattle.cert_desk_rules.specs.declared.findings.Findings.{Findings}
+use Rattle.cert_desk_rules.specs.declared.reason.Reason.{Reason}
+use Rattle.cert_desk_rules.specs.declared.reason.Reason.TheVariants as reasons
+use Rattle.cert_desk_rules.specs.declared.rule.Rule.{Rule}
+use Rattle.cert_desk_rules.specs.declared.rule.Rule.TheVariants as rules
+use Rattle.cert_desk_rules.specs.Findings.{found}
+use Rattle.cert_desk_rules.specs.Judging.{Terms, are_distinct, has_twin, keeps_at}
+use Rattle.cert_desk_rules.specs.Paths.{counted, counts, extensions_at, is_last, is_within, is_within_lengths, keep_lengths, keeps_length}
+use Rattle.cert_desk_rules.specs.Reasons.{AreFirstTwins, Explains, ExplainsFirst, IsFirstAt, Precedes, are_twins, goes_against, has_no_authority, have_one_identifier, is_against, is_at, is_explained}
+use Rattle.cert_desk_rules.specs.Weighing.{is_authority, may_certify, path_length, serves, weigh}
+use Rattle.cert_desk_rules.proofs.Folds.{and_yes, not_twice, or_no}
+use Rattle.cert_desk_rules.proofs.FoundLaws.{found_malformed, found_unweighed, found_serves, found_certifies, found_length}
+use Rattle.cert_desk_rules.proofs.PathLaws.{counted_first}
 use Rattle.cert_desk_checking.proofs.PlaceLaws.{keeps_at-is}
 
 -- what stands at a number of a list of plain values

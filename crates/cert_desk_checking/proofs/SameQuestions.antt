@@ -14,11 +14,13 @@ use Rattle.der_core_head.specs.BitStrings.{Bits, bit_contents}
 use Rattle.der_core_head.specs.Shapes.{AnyValue, IsValid, IsContent, IsBody}
 use Rattle.der_core_head.specs.Tags.{leading_octet, number_of}
 use Rattle.der_core_head.proofs.TagLaws.{same_tag-eq}
-use Rattle.x509_cert_extensions.specs.Parts.{Algorithm, PublicKey, algorithm_arcs, algorithm_identifier, algorithm_parameters, key_algorithm, key_bits, public_key_info}
-use Rattle.cert_desk_checking.specs.Answers.{any_key, is_about, listed, same_algorithm, same_any, same_bits, same_key}
-use Rattle.cert_desk_checking.specs.Judging.{Answers}
+use Rattle.x509_cert_parts.specs.Grammar.{Algorithm, PublicKey, algorithm_arcs}
+use Rattle.x509_cert_parts.specs.Grammar.{algorithm_identifier, algorithm_parameters, key_algorithm}
+use Rattle.x509_cert_parts.specs.Grammar.{key_bits, public_key_info}
+use Rattle.cert_desk_rules.specs.Answers.{any_key, is_about, listed, same_algorithm, same_any, same_bits, same_key}
+use Rattle.cert_desk_rules.specs.Judging.{Answers}
 use Rattle.cert_desk_checking.specs.QuestionLines.{QuestionLine, questions_of_lines}
-use Rattle.cert_desk_checking.specs.Questions.{Question, answer_on}
+use Rattle.cert_desk_rules.specs.Questions.{Question, answer_on}
 use Rattle.cert_desk_checking.proofs.AskedValues.{IsWritable}
 
 -- Bits

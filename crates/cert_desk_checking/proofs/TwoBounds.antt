@@ -15,15 +15,17 @@ use Rattle.der_core_head.specs.Leaves.{octets}
 use Rattle.der_core_head.specs.Shapes.{Shape, Value, IsValid, IsContent, IsBody, done, explicit, field, leaf, octets_of, optional, sequence, sequence_of, tagged}
 use Rattle.der_core_head.proofs.BoundLaws.{below_or_large}
 use Rattle.der_core_head.proofs.Families.{Family, same_octets, valid_wider, valid_narrow, whole_wider, whole_new}
-use Rattle.x509_cert_anchors.specs.Certificates.{PlainCertificate, extensions_of, raw_certificate}
-use Rattle.x509_cert_extensions.specs.ExtensionTypes as types
-use Rattle.x509_cert_extensions.specs.ExtensionTypes.{identifier_of}
-use Rattle.x509_cert_extensions.specs.Parts.{PlainExtension, extension_arcs, extension_octets, object_identifier, false_by_default}
+use Rattle.x509_cert_certificates.specs.Certificates.{PlainCertificate, extensions_of}
+use Rattle.x509_cert_certificates.specs.Certificates.{raw_certificate}
+use Rattle.x509_cert_parts.specs.ExtensionTypes as types
+use Rattle.x509_cert_parts.specs.ExtensionTypes.{identifier_of}
+use Rattle.x509_cert_parts.specs.Grammar.{PlainExtension, extension_arcs, extension_octets}
+use Rattle.x509_cert_parts.specs.Grammar.{object_identifier, false_by_default}
 use Rattle.der_core_head.proofs.Results.{bind_ok, unless_ok, whole_ok}
 use Rattle.cert_desk_checking.specs.Bounded.{BecomesReadable, OneBecomesReadable, OneHoldsLarge, identifiers_in, identifiers_said}
-use Rattle.cert_desk_checking.specs.Chains.{Chain, Stands, joined}
-use Rattle.cert_desk_checking.specs.Weighing.{Meaning, basic_constraints, constraints_of, extended_key_usage, is_malformed, key_usage, malformed, meaning_by, meaning_of, other_names, purposes, subject_alt_name, unweighed, uses, weigh}
-use Rattle.cert_desk_checking.proofs.SeriesLaws.{each-so}
+use Rattle.cert_desk_bundle.specs.Chains.{Chain, Stands, joined}
+use Rattle.cert_desk_rules.specs.Weighing.{Meaning, basic_constraints, constraints_of, extended_key_usage, is_malformed, key_usage, malformed, meaning_by, meaning_of, other_names, purposes, subject_alt_name, unweighed, uses, weigh}
+use Rattle.cert_desk_bundle.proofs.SeriesLaws.{each-so}
 
 -- Certificates
 

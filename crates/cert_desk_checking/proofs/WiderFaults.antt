@@ -11,15 +11,16 @@ use Rattle.der_core_head.specs.Shapes.{IsValid, Spells, body_octets, contents, o
 use Rattle.der_core_head.proofs.AllOctets.{is_spelled, whole_again}
 use Rattle.der_core_head.proofs.Below.{bytes_are, octets_below}
 use Rattle.der_core_head.proofs.Fits.{valid_fits}
-use Rattle.x509_cert_anchors.specs.Certificates.{PlainCertificate, raw_certificate, raw_certificate_fields}
-use Rattle.cert_desk_checking.specs.declared.fault_kind.FaultKind.{FaultKind}
-use Rattle.cert_desk_checking.specs.declared.fault_kind.FaultKind.TheVariants as kinds
+use Rattle.x509_cert_certificates.specs.Certificates.{PlainCertificate, raw_certificate}
+use Rattle.x509_cert_certificates.specs.Certificates.{raw_certificate_fields}
+use Rattle.cert_desk_bundle.specs.declared.fault_kind.FaultKind.{FaultKind}
+use Rattle.cert_desk_bundle.specs.declared.fault_kind.FaultKind.TheVariants as kinds
 use Rattle.cert_desk_checking.specs.Bounded.{identifiers_in}
-use Rattle.cert_desk_checking.specs.Chains.{Chain, Stands, joined}
-use Rattle.cert_desk_checking.specs.Faults.{IsFault, NoneBefore, Says, StreamFault, whole_length}
-use Rattle.cert_desk_checking.specs.Streams.{Begins}
-use Rattle.cert_desk_checking.proofs.SeriesLaws.{Series-more, each-last, encodings-more}
-use Rattle.cert_desk_checking.proofs.SeriesReading.{reads_fault}
+use Rattle.cert_desk_bundle.specs.Chains.{Chain, Stands, joined}
+use Rattle.cert_desk_bundle.specs.Faults.{IsFault, NoneBefore, Says, StreamFault, whole_length}
+use Rattle.cert_desk_bundle.specs.Streams.{Begins}
+use Rattle.cert_desk_bundle.proofs.SeriesLaws.{Series-more, each-last, encodings-more}
+use Rattle.cert_desk_bundle.proofs.SeriesReading.{reads_fault}
 use Rattle.cert_desk_checking.proofs.TwoBounds.{certificate_or_large, certificate_wider, chain_wider, leaves_none, same_encoding, same_joined}
 
 -- whether all are octets

@@ -5,17 +5,19 @@ use Rattle.std.specs.Option.{option_map_or}
 use Rattle.std.proofs.lemmas.Bool.{and_from, and_parts, cases_lt, eq-eqb, eqb-true, or_cases}
 use Rattle.std.proofs.lemmas.Bool.Decides.{eqb_tells}
 use Rattle.std.proofs.lemmas.Option.{slice_get_cases}
-use Rattle.x509_cert_anchors.specs.Certificates.{PlainCertificate, extensions_of, issuer, outer_algorithm, public_key, signature_bits, subject}
-use Rattle.cert_desk_checking.specs.declared.rule.Rule.{Rule}
-use Rattle.cert_desk_checking.specs.declared.rule.Rule.TheVariants as rules
-use Rattle.cert_desk_checking.specs.Chains.{Stands, joined}
+use Rattle.x509_cert_certificates.specs.Certificates.{PlainCertificate, extensions_of, issuer}
+use Rattle.x509_cert_certificates.specs.Certificates.{outer_algorithm, public_key, signature_bits}
+use Rattle.x509_cert_certificates.specs.Certificates.{subject}
+use Rattle.cert_desk_rules.specs.declared.rule.Rule.{Rule}
+use Rattle.cert_desk_rules.specs.declared.rule.Rule.TheVariants as rules
+use Rattle.cert_desk_bundle.specs.Chains.{Stands, joined}
 use Rattle.cert_desk_checking.specs.Issuers.{among}
-use Rattle.cert_desk_checking.specs.Judging.{PlainAnchor, Terms, has_authority, is_linked, is_signed, keeps, keeps_at, same_name, says_yes, signed_part}
-use Rattle.cert_desk_checking.specs.Paths.{counted, counts, extensions_at, is_last, is_self_issued, is_within, is_within_lengths, keep_lengths, keeps_length}
-use Rattle.cert_desk_checking.specs.Verdicts.{Trusted}
-use Rattle.cert_desk_checking.specs.Weighing.{path_length, weigh}
+use Rattle.cert_desk_rules.specs.Judging.{PlainAnchor, Terms, has_authority, is_linked, is_signed, keeps, keeps_at, same_name, says_yes, signed_part}
+use Rattle.cert_desk_rules.specs.Paths.{counted, counts, extensions_at, is_last, is_self_issued, is_within, is_within_lengths, keep_lengths, keeps_length}
+use Rattle.cert_desk_rules.specs.Verdicts.{Trusted}
+use Rattle.cert_desk_rules.specs.Weighing.{path_length, weigh}
 use Rattle.cert_desk_checking.proofs.Encodings.{signed_part-is}
-use Rattle.cert_desk_checking.proofs.Folds.{or_yes}
+use Rattle.cert_desk_rules.proofs.Folds.{or_yes}
 
 -- cs stand in ds, from a place on
 pub record Window (ds cs : List PlainCertificate) (from : ℕ) : Type 0 where

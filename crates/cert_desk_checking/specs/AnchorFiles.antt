@@ -8,7 +8,7 @@ use Rattle.cert_desk_checking.specs.declared.anchor_fault.AnchorFault.{AnchorFau
 use Rattle.cert_desk_checking.specs.declared.anchor_fault.AnchorFault.TheVariants as faults
 use Rattle.cert_desk_checking.specs.Anchors.{given_by}
 use Rattle.cert_desk_checking.specs.Files.{IsFileOf, BeginsNone, BeginsRefused, HasFirstWrong}
-use Rattle.cert_desk_checking.specs.Judging.{PlainAnchor}
+use Rattle.cert_desk_rules.specs.Judging.{PlainAnchor}
 
 -- a trust anchor as it is read under `Raw`, and its octets
 abbrev pub raw_choice : Shape

@@ -9,7 +9,7 @@ use Rattle.cert_desk_checking.specs.declared.outcome.Outcome.TheVariants as outc
 use Rattle.cert_desk_checking.specs.Anchors.{given_by}
 use Rattle.cert_desk_checking.specs.AnchorFiles.{raw_choice, IsFaulty, HasFirstFault}
 use Rattle.cert_desk_checking.specs.Files as files
-use Rattle.cert_desk_checking.specs.Judging.{PlainAnchor}
+use Rattle.cert_desk_rules.specs.Judging.{PlainAnchor}
 
 -- From the start to the end stands this trust anchor.
 abbrev pub StandsAt : List ℕ → ℕ → ℕ → PlainChoice → Type 0

@@ -4,13 +4,17 @@ use Rattle.std.specs.Prelude.{ℕ, List, map, Bool, ◌&&◌, if◌then◌else�
 use Rattle.std.specs.Prelude.{Result, Ok, Err}
 use Rattle.std.proofs.Common.{inl, inr}
 use Rattle.const_oid.specs.Bound.{Bound}
-use Rattle.x509_cert_extensions.specs.Parts.{name_plain, key_plain, PlainName, PublicKey}
-use Rattle.x509_cert_anchors.specs.Certificates.{subject, public_key, tbs_subject, tbs_public_key}
+use Rattle.x509_cert_names.specs.Views.{name_plain}
+use Rattle.x509_cert_parts.specs.Views.{key_plain}
+use Rattle.x509_cert_names.specs.Names.{PlainName}
+use Rattle.x509_cert_parts.specs.Grammar.{PublicKey}
+use Rattle.x509_cert_certificates.specs.Certificates.{subject, public_key, tbs_subject}
+use Rattle.x509_cert_certificates.specs.Certificates.{tbs_public_key}
 use Rattle.x509_cert_anchors.specs.Grammar.{PlainControls, PlainInfo, PlainAnchor as PlainChoice}
 use Rattle.cert_desk_checking.specs.declared.anchor.Anchor.{Anchor}
 use Rattle.cert_desk_checking.specs.declared.anchor_error.AnchorError.{AnchorError}
 use Rattle.cert_desk_checking.specs.declared.anchor_error.AnchorError.TheVariants as errors
-use Rattle.cert_desk_checking.specs.Judging.{PlainAnchor, Answers, Terms}
+use Rattle.cert_desk_rules.specs.Judging.{PlainAnchor, Answers, Terms}
 
 unfoldable pub anchor_plain : Anchor → PlainAnchor
 anchor_plain a = record { name = name_plain a.name; key = key_plain a.key }

@@ -2,12 +2,13 @@
 -- chain is judged under any bound.
 use Rattle.std.specs.Prelude.{◌≡◌, ℕ, List, [], false, Contains}
 use Rattle.der_core_head.specs.Bounds.{identifiers_of, HoldsLarge}
-use Rattle.x509_cert_anchors.specs.Certificates.{PlainCertificate, extensions_of, raw_certificate}
-use Rattle.x509_cert_extensions.specs.Parts.{PlainExtension}
-use Rattle.cert_desk_checking.specs.Judging.{Terms}
-use Rattle.cert_desk_checking.specs.Weighing.{Meaning, uses, other_names, constraints, purposes}
-use Rattle.cert_desk_checking.specs.Weighing.{malformed, unweighed, extended_key_usage}
-use Rattle.cert_desk_checking.specs.Weighing.{is_malformed, subject_alt_name, weigh}
+use Rattle.x509_cert_certificates.specs.Certificates.{PlainCertificate, extensions_of}
+use Rattle.x509_cert_certificates.specs.Certificates.{raw_certificate}
+use Rattle.x509_cert_parts.specs.Grammar.{PlainExtension}
+use Rattle.cert_desk_rules.specs.Judging.{Terms}
+use Rattle.cert_desk_rules.specs.Weighing.{Meaning, uses, other_names, constraints, purposes}
+use Rattle.cert_desk_rules.specs.Weighing.{malformed, unweighed, extended_key_usage}
+use Rattle.cert_desk_rules.specs.Weighing.{is_malformed, subject_alt_name, weigh}
 
 -- terms under another bound of arcs, all else alike
 abbrev pub bounded : Terms → ℕ → Terms

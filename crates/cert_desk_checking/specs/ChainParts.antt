@@ -1,12 +1,12 @@
 -- What holds of every chain: of its parts, of strangers among the anchors, and of the questions
 -- about it.
 use Rattle.std.specs.Prelude.{◌≡◌, ℕ, ◌+◌, ◌≤◌, ◌<◌, List, [], ◌∷◌, ◌++◌, length}
-use Rattle.x509_cert_anchors.specs.Certificates.{PlainCertificate}
-use Rattle.cert_desk_checking.specs.declared.checked.Verdict.{Verdict}
-use Rattle.cert_desk_checking.specs.Chains.{Chain, joined}
+use Rattle.x509_cert_certificates.specs.Certificates.{PlainCertificate}
+use Rattle.cert_desk_rules.specs.declared.checked.Verdict.{Verdict}
+use Rattle.cert_desk_bundle.specs.Chains.{Chain, joined}
 use Rattle.cert_desk_checking.specs.Issuers.{among, anchors_named, as_anchor, shown_at}
-use Rattle.cert_desk_checking.specs.Judging.{PlainAnchor, Terms}
-use Rattle.cert_desk_checking.specs.Verdicts.{IsVerdict, Trusted, asked}
+use Rattle.cert_desk_rules.specs.Judging.{PlainAnchor, Terms}
+use Rattle.cert_desk_rules.specs.Verdicts.{IsVerdict, Trusted, asked}
 
 -- There is at most one question for each certificate behind the first, and one for each anchor of
 -- the first one's issuer's name.

@@ -3,10 +3,10 @@ use Rattle.std.specs.Prelude.{ℕ, List, Option, slice_get}
 use Rattle.std.specs.List.{filter}
 use Rattle.std.specs.Option.{option_map}
 use Rattle.der_core_head.specs.BitStrings.{Bits}
-use Rattle.x509_cert_anchors.specs.Certificates.{PlainCertificate, outer_algorithm, public_key}
-use Rattle.x509_cert_anchors.specs.Certificates.{signature_bits, subject}
-use Rattle.x509_cert_extensions.specs.Parts.{Algorithm}
-use Rattle.cert_desk_checking.specs.Judging.{Terms, PlainAnchor, is_named, signed_part}
+use Rattle.x509_cert_certificates.specs.Certificates.{PlainCertificate, outer_algorithm, public_key}
+use Rattle.x509_cert_certificates.specs.Certificates.{signature_bits, subject}
+use Rattle.x509_cert_parts.specs.Grammar.{Algorithm}
+use Rattle.cert_desk_rules.specs.Judging.{Terms, PlainAnchor, is_named, signed_part}
 
 -- the anchors of the issuer's name (RFC 5280 6.1.3 (a)(4))
 abbrev pub anchors_named : ℕ → PlainCertificate → List PlainAnchor → List PlainAnchor

@@ -3,20 +3,20 @@ use Rattle.std.specs.Prelude.{◌≡◌, ℕ, zero, suc, ◌<◌, List, map, Boo
 use Rattle.std.specs.Prelude.{None, ◌&&◌, if◌then◌else◌, slice_get}
 use Rattle.std.specs.List.{list_any}
 use Rattle.const_oid.specs.Bound.{Bound}
-use Rattle.x509_cert_anchors.specs.Certificates.{PlainCertificate, issuer, public_key, subject}
-use Rattle.x509_cert_anchors.specs.CertificateViews.{certificate_plain}
+use Rattle.x509_cert_certificates.specs.Certificates.{PlainCertificate, issuer, public_key, subject}
+use Rattle.x509_cert_certificates.specs.Views.{certificate_plain}
 use Rattle.cert_desk_checking.specs.declared.anchor.Anchor.{Anchor}
 use Rattle.cert_desk_checking.specs.declared.issuer.Issuer.{Issuer}
 use Rattle.cert_desk_checking.specs.declared.issuer.Issuer.TheVariants as issuers
-use Rattle.cert_desk_checking.specs.declared.path_room.PathRoom.{PathRoom}
-use Rattle.cert_desk_checking.specs.declared.rule.Rule.{Rule}
-use Rattle.cert_desk_checking.specs.declared.rule.Rule.TheVariants as rules
+use Rattle.cert_desk_rules.specs.declared.path_room.PathRoom.{PathRoom}
+use Rattle.cert_desk_rules.specs.declared.rule.Rule.{Rule}
+use Rattle.cert_desk_rules.specs.declared.rule.Rule.TheVariants as rules
 use Rattle.cert_desk_checking.specs.Anchors.{anchor_plain}
-use Rattle.cert_desk_checking.specs.Findings.{IsRoom}
-use Rattle.cert_desk_checking.specs.Judging.{Answers, Terms, PlainAnchor, keeps_at, number}
-use Rattle.cert_desk_checking.specs.Judging.{is_named, same_name}
-use Rattle.cert_desk_checking.specs.Paths.{is_last}
-use Rattle.cert_desk_checking.specs.Verdicts.{accepted, asked_until, raised}
+use Rattle.cert_desk_rules.specs.Findings.{IsRoom}
+use Rattle.cert_desk_rules.specs.Judging.{Answers, Terms, PlainAnchor, keeps_at, number}
+use Rattle.cert_desk_rules.specs.Judging.{is_named, same_name}
+use Rattle.cert_desk_rules.specs.Paths.{is_last}
+use Rattle.cert_desk_rules.specs.Verdicts.{accepted, asked_until, raised}
 
 -- the first rule before the signature that the certificate at a place breaks, or none
 abbrev pub IsFirstUnsigned : Terms → List PlainCertificate → List ℕ → ℕ → Option Rule → Type 0

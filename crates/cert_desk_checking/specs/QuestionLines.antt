@@ -5,10 +5,10 @@ use Rattle.std.specs.Option.{option_map_or}
 use Rattle.der_core_head.specs.Shapes.{Shape, Value, octets_of}
 use Rattle.hex.specs.Hex.{encode_lower}
 use Rattle.const_oid.specs.Bound.{Bound}
-use Rattle.x509_cert_anchors.specs.Certificates.{PlainCertificate, public_key}
-use Rattle.x509_cert_extensions.specs.Parts.{algorithm_identifier, bit_string, public_key_info}
-use Rattle.cert_desk_checking.specs.Judging.{PlainAnchor, is_named}
-use Rattle.cert_desk_checking.specs.Questions.{Question, question}
+use Rattle.x509_cert_certificates.specs.Certificates.{PlainCertificate, public_key}
+use Rattle.x509_cert_parts.specs.Grammar.{algorithm_identifier, bit_string, public_key_info}
+use Rattle.cert_desk_rules.specs.Judging.{PlainAnchor, is_named}
+use Rattle.cert_desk_rules.specs.Questions.{Question, question}
 
 -- what a line says: the place, the number of the anchor whose key it is, if it is an anchor's, and
 -- the question

@@ -1,12 +1,12 @@
 -- The questions about a certificate that a bundle lends.
 use Rattle.std.specs.Prelude.{ℕ, ◌+◌, List, [], ◌∷◌, ◌++◌, Option, Some, if◌then◌else◌}
-use Rattle.cert_desk_checking.specs.declared.entry.Entry.{Entry}
+use Rattle.cert_desk_bundle.specs.declared.entry.Entry.{Entry}
 use Rattle.const_oid.specs.Bound.{Bound}
-use Rattle.x509_cert_extensions.specs.Parts.{PublicKey}
-use Rattle.x509_cert_anchors.specs.CertificateViews.{certificate_plain}
-use Rattle.x509_cert_anchors.specs.Certificates.{outer_algorithm, signature_bits}
-use Rattle.cert_desk_checking.specs.Judging.{PlainAnchor, is_named}
-use Rattle.cert_desk_checking.specs.Questions.{Question}
+use Rattle.x509_cert_parts.specs.Grammar.{PublicKey}
+use Rattle.x509_cert_certificates.specs.Views.{certificate_plain}
+use Rattle.x509_cert_certificates.specs.Certificates.{outer_algorithm, signature_bits}
+use Rattle.cert_desk_rules.specs.Judging.{PlainAnchor, is_named}
+use Rattle.cert_desk_rules.specs.Questions.{Question}
 use Rattle.cert_desk_checking.specs.QuestionLines.{line_octets}
 
 -- under a key

@@ -2,14 +2,14 @@
 use Rattle.std.specs.Prelude.{◌≡◌, ◌≢◌, ℕ, ◌≤◌, List, length}
 use Rattle.const_oid.specs.Bound.{Bound}
 use Rattle.cert_desk_io.specs.Devices.{Device, Moved, MetEnd, Sound, Fails}
-use Rattle.x509_cert_anchors.specs.Certificates.{PlainCertificate}
-use Rattle.cert_desk_checking.specs.declared.fault_kind.FaultKind.{FaultKind}
-use Rattle.cert_desk_checking.specs.declared.fault_kind.FaultKind.TheVariants as kinds
-use Rattle.cert_desk_checking.specs.declared.standing.Standing.{Standing}
-use Rattle.cert_desk_checking.specs.declared.standing.Standing.TheVariants as standings
-use Rattle.cert_desk_checking.specs.Faults.{Split, StreamFault}
-use Rattle.cert_desk_checking.specs.Steps.{most_read}
-use Rattle.cert_desk_checking.specs.Streams.{Begins, Kept, Reads}
+use Rattle.x509_cert_certificates.specs.Certificates.{PlainCertificate}
+use Rattle.cert_desk_bundle.specs.declared.fault_kind.FaultKind.{FaultKind}
+use Rattle.cert_desk_bundle.specs.declared.fault_kind.FaultKind.TheVariants as kinds
+use Rattle.cert_desk_bundle.specs.declared.standing.Standing.{Standing}
+use Rattle.cert_desk_bundle.specs.declared.standing.Standing.TheVariants as standings
+use Rattle.cert_desk_bundle.specs.Faults.{Split, StreamFault}
+use Rattle.cert_desk_bundle.specs.Steps.{most_read}
+use Rattle.cert_desk_bundle.specs.Streams.{Begins, Kept, Reads}
 
 -- octets with no fault but that they may end too early
 abbrev pub MayGoOn : ℕ → List ℕ → Type 0

@@ -7,19 +7,19 @@ use Rattle.cert_desk_io.specs.declared.read_all_error.ReadAllError.TheVariants a
 use Rattle.cert_desk_io.specs.Devices.{Device, Moved, MetEnd, Sound, Untouched}
 use Rattle.cert_desk_io.specs.Telling.{IsAnswer, IsComplaint, IsDeviceTold, IsMemoryTold}
 use Rattle.cert_desk_io.specs.Whole.{IsWhole, IsUnread, most_octets}
-use Rattle.x509_cert_anchors.specs.Certificates.{PlainCertificate}
+use Rattle.x509_cert_certificates.specs.Certificates.{PlainCertificate}
 use Rattle.cert_desk_checking.specs.declared.anchor_fault.AnchorFault.TheVariants as faults
-use Rattle.cert_desk_checking.specs.declared.checked.Verdict.{Verdict}
-use Rattle.cert_desk_checking.specs.declared.checked.Verdict.TheVariants as verdicts
-use Rattle.cert_desk_checking.specs.declared.fault_kind.FaultKind.TheVariants as kinds
+use Rattle.cert_desk_rules.specs.declared.checked.Verdict.{Verdict}
+use Rattle.cert_desk_rules.specs.declared.checked.Verdict.TheVariants as verdicts
+use Rattle.cert_desk_bundle.specs.declared.fault_kind.FaultKind.TheVariants as kinds
 use Rattle.cert_desk_checking.specs.declared.outcome.Outcome.{Outcome}
 use Rattle.cert_desk_checking.specs.declared.outcome.Outcome.TheVariants as outcomes
 use Rattle.cert_desk_checking.specs.AnchorFiles.{IsAnchorFile, HasFirstFault}
-use Rattle.cert_desk_checking.specs.Chains.{Chain}
-use Rattle.cert_desk_checking.specs.Judging.{PlainAnchor, Answers, Terms}
+use Rattle.cert_desk_bundle.specs.Chains.{Chain}
+use Rattle.cert_desk_rules.specs.Judging.{PlainAnchor, Answers, Terms}
 use Rattle.cert_desk_checking.specs.Lines.{line_of, anchors_line}
 use Rattle.cert_desk_checking.specs.Reading.{AsksNoMore, ReadFailed}
-use Rattle.cert_desk_checking.specs.Verdicts.{IsVerdict, IsCounted, StopsAsking}
+use Rattle.cert_desk_rules.specs.Verdicts.{IsVerdict, IsCounted, StopsAsking}
 
 -- All octets of an input give these anchors.
 abbrev pub HasAnchors : Device → List PlainAnchor → Type 0

@@ -1,16 +1,16 @@
 -- What a wider bound of arcs changes of streams and their verdicts.
 use Rattle.std.specs.Prelude.{◌≡◌, ℕ, ◌≤◌, ◌⊎◌, List, [], ◌∷◌, ◌++◌}
 use Rattle.der_core_head.specs.Bounds.{HoldsLarge}
-use Rattle.x509_cert_anchors.specs.Certificates.{PlainCertificate}
-use Rattle.cert_desk_checking.specs.declared.checked.Verdict.{Verdict}
-use Rattle.cert_desk_checking.specs.declared.fault_kind.FaultKind.{FaultKind}
+use Rattle.x509_cert_certificates.specs.Certificates.{PlainCertificate}
+use Rattle.cert_desk_rules.specs.declared.checked.Verdict.{Verdict}
+use Rattle.cert_desk_bundle.specs.declared.fault_kind.FaultKind.{FaultKind}
 use Rattle.cert_desk_checking.specs.Bounded.{OneBecomesReadable, OneHoldsLarge, bounded}
 use Rattle.cert_desk_checking.specs.Bounded.{identifiers_in}
-use Rattle.cert_desk_checking.specs.Chains.{Chain}
-use Rattle.cert_desk_checking.specs.Faults.{StreamFault}
-use Rattle.cert_desk_checking.specs.Judging.{Terms}
-use Rattle.cert_desk_checking.specs.Streams.{Begins}
-use Rattle.cert_desk_checking.specs.Verdicts.{IsVerdict, Trusted, asked}
+use Rattle.cert_desk_bundle.specs.Chains.{Chain}
+use Rattle.cert_desk_bundle.specs.Faults.{StreamFault}
+use Rattle.cert_desk_rules.specs.Judging.{Terms}
+use Rattle.cert_desk_bundle.specs.Streams.{Begins}
+use Rattle.cert_desk_rules.specs.Verdicts.{IsVerdict, Trusted, asked}
 
 -- A chain is the same chain under a wider bound.
 abbrev pub WiderKeepsChains : Type 0

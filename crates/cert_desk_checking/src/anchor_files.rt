@@ -11,11 +11,10 @@ use crate::anchor::Anchor;
 use crate::anchor_error::AnchorError;
 use crate::anchor_fault::AnchorFault;
 use crate::outcome::Outcome;
-use der_core::FromDer;
-use der_core_head::ErrorKind;
+use der_core::{ErrorKind, FromDer};
 use std::alloc::Global;
 use x509_cert_anchors::TrustAnchorChoice;
-use x509_cert_anchors::certificates::Raw;
+use x509_cert_parts::Raw;
 
 // That the trust anchor that begins at the start is faulty.
 fn faulty(start: usize, fault: AnchorFault) -> Outcome

@@ -5,41 +5,40 @@ ghost use Rattle.std.specs.List.{list_any};
 ghost use Rattle.std.specs.Option.{is_some};
 ghost use Rattle.const_oid.specs.Bound.{Bound};
 ghost use Rattle.der_core_head.specs.Shapes.{IsValid};
-ghost use Rattle.x509_cert_extensions.specs.Names.TimeTypes.Seconds.{unix_seconds};
-ghost use Rattle.x509_cert_anchors.specs.CertificateViews.{certificate_plain};
-ghost use Rattle.x509_cert_extensions.specs.Parts.{key_plain, name_plain};
-ghost use Rattle.x509_cert_anchors.specs.Certificates.{PlainCertificate, extensions_of, issuer};
-ghost use Rattle.x509_cert_anchors.specs.Certificates.{not_before, not_after, raw_certificate};
-ghost use Rattle.cert_desk_checking.specs.declared.fault_kind.FaultKind.{FaultKind};
+ghost use Rattle.der_types_time.specs.Seconds.{unix_seconds};
+ghost use Rattle.x509_cert_certificates.specs.Views.{certificate_plain};
+ghost use Rattle.x509_cert_parts.specs.Views.{key_plain};
+ghost use Rattle.x509_cert_names.specs.Views.{name_plain};
+ghost use Rattle.x509_cert_certificates.specs.Certificates.{PlainCertificate, extensions_of};
+ghost use Rattle.x509_cert_certificates.specs.Certificates.{issuer, not_before, not_after};
+ghost use Rattle.x509_cert_certificates.specs.Certificates.{raw_certificate};
+ghost use Rattle.cert_desk_bundle.specs.declared.fault_kind.FaultKind.{FaultKind};
 ghost use Rattle.cert_desk_checking.specs.Anchors.{anchor_plain, terms_of};
-ghost use Rattle.cert_desk_checking.specs.Chains.{Chain, joined};
-ghost use Rattle.cert_desk_checking.specs.Findings.{IsRoom};
-ghost use Rattle.cert_desk_checking.specs.Paths.{is_self_issued};
-ghost use Rattle.cert_desk_checking.specs.KeptRules.{kept_by};
-ghost use Rattle.cert_desk_checking.specs.Judging.{Answers, has_one_algorithm, is_named, keeps_at};
-ghost use Rattle.cert_desk_checking.specs.Judging.{number, same_name};
-ghost use Rattle.cert_desk_checking.specs.Streams.{Reads};
-ghost use Rattle.cert_desk_checking.specs.Verdicts.{IsVerdict, Trusted, IsCounted, StopsAsking};
-ghost use Rattle.cert_desk_checking.specs.Verdicts.{accepted, asked, asked_until};
+ghost use Rattle.cert_desk_bundle.specs.Chains.{Chain, joined};
+ghost use Rattle.cert_desk_rules.specs.Findings.{IsRoom};
+ghost use Rattle.cert_desk_rules.specs.Paths.{is_self_issued};
+ghost use Rattle.cert_desk_rules.specs.KeptRules.{kept_by};
+ghost use Rattle.cert_desk_rules.specs.Judging.{Answers, has_one_algorithm, is_named, keeps_at};
+ghost use Rattle.cert_desk_rules.specs.Judging.{number, same_name};
+ghost use Rattle.cert_desk_bundle.specs.Streams.{Reads};
+ghost use Rattle.cert_desk_rules.specs.Verdicts.{IsVerdict, Trusted, IsCounted, StopsAsking};
+ghost use Rattle.cert_desk_rules.specs.Verdicts.{accepted, asked, asked_until};
 ghost use Rattle.cert_desk_checking.specs.Places.{Rises, StandsAt, asked_of};
 ghost use Rattle.cert_desk_checking.specs.Places.{asked_once, linked_to, signed_by, signs};
-ghost use Rattle.cert_desk_checking.specs.Weighing.{may_take_memory};
+ghost use Rattle.cert_desk_rules.specs.Weighing.{may_take_memory};
 
 use crate::anchor::Anchor;
-use crate::bundle::Bundle;
-use crate::checked::{CheckError, Checked, Verdict};
-use crate::entry::Entry;
-use crate::extensions::{extensions_of, first_twin};
 use crate::issuer::Issuer;
-use crate::kept_rules::KeptRules;
-use crate::path_room::PathRoom;
-use crate::rule::Rule;
-use crate::signature_judge::SignatureJudge;
-use crate::standing::Standing;
-use crate::weighing::findings_of;
+use cert_desk_bundle::{Bundle, Entry, Standing};
+use cert_desk_rules::{
+    CheckError, Checked, KeptRules, PathRoom, Rule, SignatureJudge, Verdict, extensions_of,
+    findings_of, first_twin,
+};
 use const_oid::ObjectIdentifier;
 use std::alloc::{AllocError, Global};
-use x509_cert_anchors::certificates::{CertificateInner, Name, Raw, SubjectPublicKeyInfo};
+use x509_cert_certificates::CertificateInner;
+use x509_cert_names::Name;
+use x509_cert_parts::{Raw, SubjectPublicKeyInfo};
 
 /// The verdict on the stream that a bundle has read, and how often the judge was asked for it.
 ///

@@ -2,16 +2,14 @@
 ghost use Rattle.std.specs.Prelude.{◌≡◌, IfOk};
 ghost use Rattle.const_oid.specs.Bound.{Bound};
 ghost use Rattle.cert_desk_checking.specs.Anchors.{terms_of};
-ghost use Rattle.cert_desk_checking.specs.Chains.{joined};
-ghost use Rattle.cert_desk_checking.specs.KeptRules.{AreJudged};
+ghost use Rattle.cert_desk_bundle.specs.Chains.{joined};
+ghost use Rattle.cert_desk_rules.specs.KeptRules.{AreJudged};
 
 use crate::anchor::Anchor;
-use crate::bundle::Bundle;
 use crate::checking::{is_signed, rules_kept};
 use crate::issuer::Issuer;
-use crate::kept_rules::KeptRules;
-use crate::path_room::PathRoom;
-use crate::signature_judge::SignatureJudge;
+use cert_desk_bundle::Bundle;
+use cert_desk_rules::{KeptRules, PathRoom, SignatureJudge};
 use const_oid::ObjectIdentifier;
 use std::alloc::{AllocError, Global};
 

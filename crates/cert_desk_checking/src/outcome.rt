@@ -1,7 +1,7 @@
 //! What a run comes to.
 
 use crate::anchor_fault::AnchorFault;
-use crate::checked::Checked;
+use cert_desk_rules::Checked;
 
 /// What a run finds in its inputs.
 #[derive(Clone, Copy, Debug, PartialEq, Eq)]

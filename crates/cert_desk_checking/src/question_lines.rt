@@ -4,22 +4,21 @@ ghost use Rattle.der_core_head.specs.Shapes.{IsValid, octets_of};
 ghost use Rattle.hex.specs.Hex.{encode_lower};
 ghost use Rattle.cert_desk_checking.specs.Anchors.{anchor_plain};
 ghost use Rattle.const_oid.specs.Bound.{Bound};
-ghost use Rattle.x509_cert_anchors.specs.CertificateViews.{certificate_plain};
-ghost use Rattle.x509_cert_anchors.specs.Certificates.{raw_certificate};
-ghost use Rattle.cert_desk_checking.specs.Chains.{joined};
-ghost use Rattle.cert_desk_checking.specs.Judging.{PlainAnchor};
-ghost use Rattle.x509_cert_extensions.specs.Parts.{key_plain};
+ghost use Rattle.x509_cert_certificates.specs.Views.{certificate_plain};
+ghost use Rattle.x509_cert_certificates.specs.Certificates.{raw_certificate};
+ghost use Rattle.cert_desk_bundle.specs.Chains.{joined};
+ghost use Rattle.cert_desk_rules.specs.Judging.{PlainAnchor};
+ghost use Rattle.x509_cert_parts.specs.Views.{key_plain};
 ghost use Rattle.cert_desk_checking.specs.QuestionLines.{anchor_word, chain_lines};
 ghost use Rattle.cert_desk_checking.specs.QuestionLines.{lines_at, lines_octets};
 ghost use Rattle.cert_desk_checking.specs.Questioning.{anchor_line, entry_line, entry_lines};
 
 use crate::anchor::Anchor;
-use crate::bundle::Bundle;
 use crate::checking::is_issued_by;
-use crate::entry::Entry;
+use cert_desk_bundle::{Bundle, Entry};
 use der_core::{Encode, ToDer};
 use std::alloc::{AllocError, Global};
-use x509_cert_anchors::certificates::SubjectPublicKeyInfo;
+use x509_cert_parts::SubjectPublicKeyInfo;
 
 // The encoding of a value, in base 16.
 fn written<T: Encode>(alloc: Global, value: &T) -> Result<String, AllocError>

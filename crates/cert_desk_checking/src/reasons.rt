@@ -4,27 +4,23 @@ ghost use Rattle.std.specs.Prelude.{IfSome, IfOk, OnErr, ◌&&◌, ◌||◌};
 ghost use Rattle.std.specs.List.{list_any};
 ghost use Rattle.std.specs.Option.{is_some};
 ghost use Rattle.const_oid.specs.Bound.{Bound};
-ghost use Rattle.x509_cert_extensions.specs.Parts.{extension_plain, extensions_plain};
-ghost use Rattle.cert_desk_checking.specs.Judging.{Terms, are_distinct, is_alone, keeps_at};
-ghost use Rattle.cert_desk_checking.specs.Paths.{counted, counts, extensions_at, is_last};
-ghost use Rattle.cert_desk_checking.specs.Paths.{is_within_lengths, keep_lengths, keeps_length};
-ghost use Rattle.cert_desk_checking.specs.Reasons.{AreFirstTwins, ExplainsFirst, IsFirstAt};
-ghost use Rattle.cert_desk_checking.specs.Reasons.{SomeMayTakeMemory, goes_against};
-ghost use Rattle.cert_desk_checking.specs.Reasons.{has_no_authority, have_one_identifier};
-ghost use Rattle.cert_desk_checking.specs.Reasons.{is_against, is_explained};
-ghost use Rattle.cert_desk_checking.specs.Weighing.{may_take_memory};
+ghost use Rattle.x509_cert_parts.specs.Views.{extension_plain, extensions_plain};
+ghost use Rattle.cert_desk_rules.specs.Judging.{Terms, are_distinct, is_alone, keeps_at};
+ghost use Rattle.cert_desk_rules.specs.Paths.{counted, counts, extensions_at, is_last};
+ghost use Rattle.cert_desk_rules.specs.Paths.{is_within_lengths, keep_lengths, keeps_length};
+ghost use Rattle.cert_desk_rules.specs.Reasons.{AreFirstTwins, ExplainsFirst, IsFirstAt};
+ghost use Rattle.cert_desk_rules.specs.Reasons.{SomeMayTakeMemory, goes_against};
+ghost use Rattle.cert_desk_rules.specs.Reasons.{has_no_authority, have_one_identifier};
+ghost use Rattle.cert_desk_rules.specs.Reasons.{is_against, is_explained};
+ghost use Rattle.cert_desk_rules.specs.Weighing.{may_take_memory};
 
-use crate::bundle::Bundle;
 use crate::checking::is_self_issued;
-use crate::extensions::{extensions_of, first_twin};
-use crate::findings::Findings;
-use crate::reason::Reason;
-use crate::rule::Rule;
-use crate::weighing::findings_of;
+use cert_desk_bundle::Bundle;
+use cert_desk_rules::{Findings, Reason, Rule, extensions_of, findings_of, first_twin};
 use const_oid::ObjectIdentifier;
 use std::alloc::{AllocError, Global};
 use std::slice;
-use x509_cert_anchors::certificates::Extension;
+use x509_cert_parts::Extension;
 
 /// Why the certificate at a place of a bundle breaks a rule, for this purpose, where it does and
 /// the rule leaves that open. Of the reasons that hold it is the first: of extensions and places

@@ -2,7 +2,7 @@
 ghost use Rattle.std.specs.Prelude.{◌≡◌, ◌≢◌, ℕ, ◌<◌, ◌≤◌, List, map, IfOk, IfErr};
 ghost use Rattle.cert_desk_io.specs.Devices.{sink, source};
 ghost use Rattle.cert_desk_checking.specs.declared.outcome.Outcome.{Outcome};
-ghost use Rattle.cert_desk_checking.specs.declared.standing.Standing.{Standing};
+ghost use Rattle.cert_desk_bundle.specs.declared.standing.Standing.{Standing};
 ghost use Rattle.cert_desk_checking.specs.Anchors.{anchor_plain, purpose_plain};
 ghost use Rattle.cert_desk_checking.specs.Reading.{IsFed};
 ghost use Rattle.cert_desk_checking.specs.Runs.{HasAnchors, HasNoAnchors, IsOutcome, IsTold};
@@ -11,15 +11,14 @@ ghost use Rattle.cert_desk_checking.specs.Runs.{judging, status_of};
 use crate::anchor::Anchor;
 use crate::anchor_fault::AnchorFault;
 use crate::anchor_files::anchors_in;
-use crate::bundle::Bundle;
-use crate::checked::{CheckError, Checked, Verdict};
 use crate::checking::check;
 use crate::lines::{anchors_line, verdict_line};
 use crate::outcome::Outcome;
-use crate::signature_judge::SignatureJudge;
+use cert_desk_bundle::Bundle;
 use cert_desk_io::{
     ExitStatus, Input, Output, ReadAllError, answer, complain, read_all, tell_device, tell_memory,
 };
+use cert_desk_rules::{CheckError, Checked, SignatureJudge, Verdict};
 use const_oid::ObjectIdentifier;
 use std::alloc::Global;
 

@@ -13,15 +13,16 @@ use Rattle.der_core_head.specs.Integers.{integer_octets}
 use Rattle.der_core_head.specs.Octets.{◌>>=◌}
 use Rattle.der_core_head.specs.declared.error.ErrorKind.{ErrorKind}
 use Rattle.x509_cert_builders.specs.Subscribers.{may_stay, all_stays, stays}
-use Rattle.cert_desk_checking.specs.Parts.{Algorithm, PlainName, PublicKey}
-use Rattle.cert_desk_checking.specs.Names.Pairs.{relative_plain}
-use Rattle.cert_desk_checking.specs.Names.declared.attribute_type_and_value.AttributeTypeAndValue.{AttributeTypeAndValue}
-use Rattle.cert_desk_checking.specs.Texts.{SpellsName}
-use Rattle.cert_desk_orders.specs.SerialNumbers.{new_serial}
+use Rattle.x509_cert_parts.specs.Grammar.{Algorithm, PublicKey}
+use Rattle.x509_cert_names.specs.Names.{PlainName}
+use Rattle.x509_cert_names.specs.Pairs.{relative_plain}
+use Rattle.x509_cert_names.specs.declared.attribute_type_and_value.AttributeTypeAndValue.{AttributeTypeAndValue}
+use Rattle.x509_cert_names.specs.PlainTexts.{SpellsName}
+use Rattle.x509_cert_parts.specs.SerialNumbers.{new_serial}
 use Rattle.cert_desk_orders.specs.declared.order.Order.{Order}
-use Rattle.cert_desk_checking.proofs.Names.SetTypes.LentOwned.{plain-append}
-use Rattle.cert_desk_checking.proofs.Names.OneName.{HasSome, read_some}
-use Rattle.cert_desk_checking.proofs.Names.SetTypes.FewSteps.{length_plain_list}
+use Rattle.der_types_sets.proofs.LentOwned.{plain-append}
+use Rattle.x509_cert_names.proofs.OneName.{HasSome, read_some}
+use Rattle.der_types_sets.proofs.FewSteps.{length_plain_list}
 use Rattle.cert_desk_issuing.specs.Acceptance.{AcceptedOrders, AcceptsFront, IsAccepted, IsAcceptedAt, IsKeyOf, IsNamedFor, names_subscriber}
 use Rattle.cert_desk_issuing.specs.PlainOrders.{AreKeys, AreReady, IsReady, PlainOrder, accepted_plain, orders_plain, CanBear}
 use Rattle.cert_desk_issuing.specs.Refusals.{IsRefusedAt, Refuses, RefusesAt, RefusesOrder, fault_at}

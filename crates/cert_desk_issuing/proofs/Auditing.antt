@@ -2,18 +2,19 @@
 use Rattle.std.proofs.Common.{◌≡◌, ◌≢◌, ◌⊎◌, inl, inr, ℕ, ◌<◌, List, [], ◌∷◌, length, Some, Result, Ok, Err, OnErr, slice_get, refl, sym, ap, ◌∙◌, subst, arith}
 use Rattle.const_oid.specs.Bound.{Bound}
 use Rattle.der_core_head.specs.Limits.{length_max}
-use Rattle.cert_desk_checking.specs.Certificates.{PlainCertificate, public_key}
-use Rattle.cert_desk_checking.specs.Parts.{PlainName, PublicKey}
-use Rattle.cert_desk_checking.specs.declared.checked.CheckError.TheVariants as errors
-use Rattle.cert_desk_checking.specs.declared.checked.Verdict.{Verdict}
-use Rattle.cert_desk_checking.specs.declared.checked.Verdict.TheVariants as verdicts
-use Rattle.cert_desk_checking.specs.declared.standing.Standing.{Standing}
-use Rattle.cert_desk_checking.specs.declared.standing.Standing.TheVariants as standings
-use Rattle.cert_desk_checking.specs.Chains.{Chain}
-use Rattle.cert_desk_checking.specs.Judging.{Answers, PlainAnchor, Terms}
-use Rattle.cert_desk_checking.specs.Verdicts.{IsVerdict, Trusted}
+use Rattle.x509_cert_certificates.specs.Certificates.{PlainCertificate, public_key}
+use Rattle.x509_cert_names.specs.Names.{PlainName}
+use Rattle.x509_cert_parts.specs.Grammar.{PublicKey}
+use Rattle.cert_desk_rules.specs.declared.checked.CheckError.TheVariants as errors
+use Rattle.cert_desk_rules.specs.declared.checked.Verdict.{Verdict}
+use Rattle.cert_desk_rules.specs.declared.checked.Verdict.TheVariants as verdicts
+use Rattle.cert_desk_bundle.specs.declared.standing.Standing.{Standing}
+use Rattle.cert_desk_bundle.specs.declared.standing.Standing.TheVariants as standings
+use Rattle.cert_desk_bundle.specs.Chains.{Chain}
+use Rattle.cert_desk_rules.specs.Judging.{Answers, PlainAnchor, Terms}
+use Rattle.cert_desk_rules.specs.Verdicts.{IsVerdict, Trusted}
 use Rattle.cert_desk_checking.proofs.ChainLaws.{only_trusted}
-use Rattle.cert_desk_checking.proofs.OneChain.{one_chain}
+use Rattle.cert_desk_bundle.proofs.OneChain.{one_chain}
 use Rattle.cert_desk_checking.specs.Issuers.{as_anchor}
 use Rattle.cert_desk_issuing.specs.Laws.{root_anchors, Permits, anchor_of, terms_for}
 use Rattle.cert_desk_issuing.specs.Chains.{HoldsOrders}

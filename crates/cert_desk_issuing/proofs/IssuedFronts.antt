@@ -11,9 +11,10 @@ use Rattle.der_core_head.specs.BitStrings.{Bits}
 use Rattle.der_core_head.specs.Grammar.{plain_list}
 use Rattle.der_core_head.specs.Heads.{Fits}
 use Rattle.der_core_head.specs.Shapes.{IsValid}
-use Rattle.cert_desk_checking.specs.Parts.{Algorithm, PublicKey}
-use Rattle.cert_desk_checking.specs.Certificates.{PlainCertificate, Tbs, certificate_octets, raw_certificate, signature_bits}
-use Rattle.cert_desk_checking.specs.Chains.{Stands, joined}
+use Rattle.x509_cert_parts.specs.Grammar.{Algorithm, PublicKey}
+use Rattle.x509_cert_certificates.specs.Certificates.{PlainCertificate, Tbs, certificate_octets}
+use Rattle.x509_cert_certificates.specs.Certificates.{raw_certificate, signature_bits}
+use Rattle.cert_desk_bundle.specs.Chains.{Stands, joined}
 use Rattle.cert_desk_orders.specs.declared.order.Order.{Order}
 use Rattle.cert_desk_issuing.specs.declared.accepted.Accepted.{Accepted}
 use Rattle.cert_desk_issuing.specs.declared.making.Made.{Made}
@@ -29,9 +30,9 @@ use Rattle.cert_desk_issuing.specs.PlainOrders.{AreKeys, AreReady, IsReady, Plai
 use Rattle.cert_desk_issuing.specs.Refusals.{IsStoppedAt, Refuses, Stops, stop_at}
 use Rattle.cert_desk_issuing.specs.Roles.{place_above, role_at}
 use Rattle.cert_desk_issuing.proofs.AcceptedFronts.{each_more, key_there, plain_at}
-use Rattle.cert_desk_checking.proofs.Names.SetTypes.FewSteps.{length_plain_list}
-use Rattle.cert_desk_checking.proofs.Names.Lists.{all_more}
-use Rattle.cert_desk_checking.proofs.Names.SetTypes.LentOwned.{plain-append}
+use Rattle.der_types_sets.proofs.FewSteps.{length_plain_list}
+use Rattle.x509_cert_names.proofs.Lists.{all_more}
+use Rattle.der_types_sets.proofs.LentOwned.{plain-append}
 
 -- so many certificates, from the first on, hold the orders and are signed, and the stream joins them
 pub record IsFront {S : Type 0} (algorithm : S → Algorithm) (signs : S → List ℕ → Bits → Type 0) (ps : List PlainOrder) (signers : List S) (cs : List PlainCertificate) (stream : List ℕ) : Type 0 where

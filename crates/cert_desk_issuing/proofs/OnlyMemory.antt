@@ -8,15 +8,18 @@ use Rattle.der_core_head.specs.Dates.{Civil}
 use Rattle.der_core_head.specs.Shapes.{IsBody, IsContent, IsValid}
 use Rattle.x509_cert_builders.specs.Refusals.{IsWantOfMemory}
 use Rattle.x509_cert_builders.specs.Naming.{NamesAuthority}
-use Rattle.cert_desk_checking.specs.Parts.{Algorithm, PlainName, PublicKey, name, civil_of, time_of, key_plain}
-use Rattle.cert_desk_checking.specs.Certificates.{Tbs, tbs_certificate}
-use Rattle.cert_desk_checking.specs.Names.TimeTypes.Seconds.{unix_seconds}
-use Rattle.cert_desk_checking.specs.Texts.{SpellsName}
-use Rattle.cert_desk_orders.specs.Grammar.{PlainValidity, not_after, not_before}
+use Rattle.x509_cert_parts.specs.Grammar.{Algorithm, PublicKey, civil_of, PlainValidity, not_after}
+use Rattle.x509_cert_parts.specs.Grammar.{not_before}
+use Rattle.x509_cert_names.specs.Names.{PlainName, name}
+use Rattle.x509_cert_parts.specs.Times.{time_of}
+use Rattle.x509_cert_parts.specs.Views.{key_plain}
+use Rattle.x509_cert_certificates.specs.Certificates.{Tbs, tbs_certificate}
+use Rattle.der_types_time.specs.Seconds.{unix_seconds}
+use Rattle.x509_cert_names.specs.PlainTexts.{SpellsName}
 use Rattle.cert_desk_orders.specs.declared.order.Order.{Order}
 use Rattle.x509_cert_builders.specs.declared.error.Error.{Error}
-use Rattle.cert_desk_checking.proofs.Names.OneName.{one_spelled, spelled_stands}
-use Rattle.cert_desk_checking.proofs.Names.TimeTypes.SecondsOrders.{one_by_text}
+use Rattle.x509_cert_names.proofs.OneName.{one_spelled, spelled_stands}
+use Rattle.der_types_time.proofs.SecondsOrders.{one_by_text}
 use Rattle.cert_desk_issuing.specs.Acceptance.{IsAccepted, IsAcceptedAt, IsKeyOf, IsNamedFor, IsTextOf, SpellDates, names_subscriber}
 use Rattle.cert_desk_issuing.specs.Issuable.{AreIssuable, IsShort}
 use Rattle.cert_desk_issuing.specs.Ordered.{ordered_part, part_octets}

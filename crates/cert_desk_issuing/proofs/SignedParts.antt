@@ -16,10 +16,15 @@ use Rattle.x509_cert_builders.specs.declared.error.Error.TheVariants as builders
 use Rattle.x509_cert_builders.specs.declared.sign_error.SignError.TheVariants as signers
 use Rattle.x509_cert_builders.specs.SignedParts.{bare_part, part_shape, signed_part, written_part}
 use Rattle.x509_cert_builders.specs.States.{CertificateState, part_for}
-use Rattle.cert_desk_checking.specs.Parts.{Algorithm, PlainExtension, PlainName, PublicKey, algorithm_identifier, bit_string, time_of}
-use Rattle.cert_desk_checking.specs.Certificates.{PlainCertificate, Tbs, certificate_octets, outer_algorithm, raw_certificate, signature_bits, tbs, certificate, tbs_certificate}
-use Rattle.cert_desk_orders.specs.Grammar.{PlainValidity}
-use Rattle.cert_desk_orders.specs.Respelling.{respelled, validity_by}
+use Rattle.x509_cert_parts.specs.Grammar.{Algorithm, PlainExtension, PublicKey}
+use Rattle.x509_cert_parts.specs.Grammar.{algorithm_identifier, bit_string, PlainValidity}
+use Rattle.x509_cert_names.specs.Names.{PlainName}
+use Rattle.x509_cert_parts.specs.Times.{time_of}
+use Rattle.x509_cert_certificates.specs.Certificates.{PlainCertificate, Tbs, certificate_octets}
+use Rattle.x509_cert_certificates.specs.Certificates.{outer_algorithm, raw_certificate}
+use Rattle.x509_cert_certificates.specs.Certificates.{signature_bits, tbs, certificate}
+use Rattle.x509_cert_certificates.specs.Certificates.{tbs_certificate}
+use Rattle.x509_cert_parts.specs.Respelling.{respelled, validity_by}
 use Rattle.cert_desk_issuing.specs.declared.role.Role.{Role}
 use Rattle.cert_desk_issuing.specs.declared.role.Role.TheVariants as roles
 use Rattle.cert_desk_issuing.specs.declared.stop.Stop.{Stop}

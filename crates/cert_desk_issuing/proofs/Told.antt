@@ -17,12 +17,13 @@ use Rattle.der_core_head.specs.Shapes.{octets_of, Shape, Value, IsValid, IsConte
 use Rattle.der_core_head.specs.Spelling.{is_apart, are_enough}
 use Rattle.der_core_head.specs.Tags.{context}
 use Rattle.x509_cert_builders.specs.Profiles.{authority_uses, authority_key_extension, constraints_extension, digital_signature, purposes_extension, subject_key_extension, usage_extension}
-use Rattle.cert_desk_checking.specs.Parts.{PlainExtension, PublicKey, PlainName}
-use Rattle.cert_desk_checking.specs.GeneralNames.{general_names, general_name}
-use Rattle.cert_desk_checking.specs.Judging.{are_distinct}
-use Rattle.cert_desk_checking.specs.Paths.{is_within}
-use Rattle.cert_desk_checking.specs.Weighing.{Meaning, uses, purposes, is_authority, is_malformed, is_unweighed, is_unweighed_critical, may_certify, path_length, serves, weigh, constraints, other_names, unweighed, basic_constraints, constraints_of, key_usage, extended_key_usage, meaning_by, meaning_of}
-use Rattle.cert_desk_checking.proofs.Folds.{and_yes}
+use Rattle.x509_cert_parts.specs.Grammar.{PlainExtension, PublicKey}
+use Rattle.x509_cert_names.specs.Names.{PlainName}
+use Rattle.x509_cert_general_names.specs.Grammar.{general_names, general_name}
+use Rattle.cert_desk_rules.specs.Judging.{are_distinct}
+use Rattle.cert_desk_rules.specs.Paths.{is_within}
+use Rattle.cert_desk_rules.specs.Weighing.{Meaning, uses, purposes, is_authority, is_malformed, is_unweighed, is_unweighed_critical, may_certify, path_length, serves, weigh, constraints, other_names, unweighed, basic_constraints, constraints_of, key_usage, extended_key_usage, meaning_by, meaning_of}
+use Rattle.cert_desk_rules.proofs.Folds.{and_yes}
 use Rattle.x509_cert_builders.proofs.Encodable.{constraints_valid, purposes_valid, use_valid}
 use Rattle.cert_desk_issuing.specs.Allowances.{allows_one, path_in}
 use Rattle.cert_desk_issuing.specs.Ordered.{dns_names, extensions_for, names_extension}

@@ -12,19 +12,24 @@ use Rattle.der_core_head.specs.BitStrings.{Bits}
 use Rattle.der_core_head.specs.Heads.{Fits}
 use Rattle.der_core_head.specs.Limits.{length_max}
 use Rattle.der_core_head.specs.Shapes.{IsValid, IsContent, IsBody, octets_of}
-use Rattle.cert_desk_checking.specs.Certificates.{PlainCertificate, Tbs, extensions_of, inner_algorithm, issuer, not_after, not_before, outer_algorithm, public_key, raw_certificate, raw_tbs_certificate, subject, tbs, certificate_octets, signature_bits}
-use Rattle.cert_desk_checking.specs.Parts.{Algorithm, algorithm_identifier, name_octets, PublicKey, civil_of}
-use Rattle.cert_desk_checking.specs.Chains.{Chain, Stands}
-use Rattle.cert_desk_checking.specs.GeneralNames.{general_names}
-use Rattle.cert_desk_checking.specs.Judging.{same_name, Answers, are_distinct, has_authority, keeps, keeps_at, signed_part}
-use Rattle.cert_desk_checking.specs.Names.TimeTypes.Seconds.{unix_seconds}
-use Rattle.cert_desk_checking.specs.Paths.{counted, counts, is_last, is_self_issued, is_within, is_within_lengths, keep_lengths, keeps_length}
-use Rattle.cert_desk_checking.specs.Verdicts.{Trusted}
-use Rattle.cert_desk_checking.specs.Weighing.{path_length, weigh, is_authority, is_malformed, is_unweighed_critical, may_certify, serves}
-use Rattle.cert_desk_checking.specs.declared.rule.Rule.{Rule}
+use Rattle.x509_cert_certificates.specs.Certificates.{PlainCertificate, Tbs, extensions_of}
+use Rattle.x509_cert_certificates.specs.Certificates.{inner_algorithm, issuer, not_after}
+use Rattle.x509_cert_certificates.specs.Certificates.{not_before, outer_algorithm, public_key}
+use Rattle.x509_cert_certificates.specs.Certificates.{raw_certificate, raw_tbs_certificate, subject}
+use Rattle.x509_cert_certificates.specs.Certificates.{tbs, certificate_octets, signature_bits}
+use Rattle.x509_cert_parts.specs.Grammar.{Algorithm, algorithm_identifier, PublicKey, civil_of}
+use Rattle.x509_cert_names.specs.Names.{name_octets}
+use Rattle.cert_desk_bundle.specs.Chains.{Chain, Stands}
+use Rattle.x509_cert_general_names.specs.Grammar.{general_names}
+use Rattle.cert_desk_rules.specs.Judging.{same_name, Answers, are_distinct, has_authority, keeps, keeps_at, signed_part}
+use Rattle.der_types_time.specs.Seconds.{unix_seconds}
+use Rattle.cert_desk_rules.specs.Paths.{counted, counts, is_last, is_self_issued, is_within, is_within_lengths, keep_lengths, keeps_length}
+use Rattle.cert_desk_rules.specs.Verdicts.{Trusted}
+use Rattle.cert_desk_rules.specs.Weighing.{path_length, weigh, is_authority, is_malformed, is_unweighed_critical, may_certify, serves}
+use Rattle.cert_desk_rules.specs.declared.rule.Rule.{Rule}
 use Rattle.cert_desk_checking.proofs.Encodings.{Stands-at, signed_part-is}
-use Rattle.cert_desk_checking.proofs.Folds.{or_yes}
-use Rattle.cert_desk_checking.proofs.OneChain.{one_chain}
+use Rattle.cert_desk_rules.proofs.Folds.{or_yes}
+use Rattle.cert_desk_bundle.proofs.OneChain.{one_chain}
 use Rattle.cert_desk_issuing.specs.Allowances.{counted_orders, counts_order, path_in, subject_at, suffices_at, Suffices, allows, allows_one}
 use Rattle.cert_desk_issuing.specs.Chains.{HoldFront, HoldsOrders, AreSigned}
 use Rattle.cert_desk_issuing.specs.Laws.{terms_for, HeldIsTrusted, Permits, TrustedIsPermitted, BreaksFor, HeldIsRefusedFor, IsTooFar, SaysAsOrdered, SignedIsSliced, AcceptsSigners, AreAnswered, IssuedIsTrusted, told, told_for}
@@ -35,7 +40,7 @@ use Rattle.cert_desk_issuing.specs.declared.role.Role.{Role}
 use Rattle.cert_desk_issuing.proofs.Told.{FitsFor, lengths, all_weighed, allows_in, authority, distinct, serves_as, well_formed, told_is}
 use Rattle.der_core_head.specs.declared.tag.Tag.TheVariants as tags
 use Rattle.cert_desk_issuing.specs.declared.role.Role.TheVariants as roles
-use Rattle.cert_desk_checking.specs.declared.rule.Rule.TheVariants as rules
+use Rattle.cert_desk_rules.specs.declared.rule.Rule.TheVariants as rules
 
 same_octets : (w : List ℕ) → bytes_eq w w ≡ true
 same_octets w = (bytes_eq-Decides w w).1 refl

@@ -6,14 +6,16 @@ use Rattle.std.specs.List.{list_all}
 use Rattle.const_oid.specs.Bound.{Bound}
 use Rattle.der_core_head.specs.Dates.{Civil, is_civil}
 use Rattle.der_core_head.specs.Grammar.{plain_list}
-use Rattle.cert_desk_checking.specs.Names.TimeTypes.DateTexts.{date_text}
-use Rattle.cert_desk_checking.specs.Names.TimeTypes.Seconds.{unix_seconds}
+use Rattle.der_types_time.specs.DateTexts.{date_text}
+use Rattle.der_types_time.specs.Seconds.{unix_seconds}
 use Rattle.x509_cert_builders.specs.Naming.{NamesAuthority}
 use Rattle.x509_cert_builders.specs.Subscribers.{may_stay}
-use Rattle.cert_desk_checking.specs.Parts.{PlainName, PublicKey, key_plain, civil_of, time_of}
-use Rattle.cert_desk_checking.specs.Texts.{SpellsName}
-use Rattle.cert_desk_orders.specs.Grammar.{PlainValidity, not_after, not_before}
-use Rattle.cert_desk_orders.specs.SerialNumbers.{new_serial}
+use Rattle.x509_cert_names.specs.Names.{PlainName}
+use Rattle.x509_cert_parts.specs.Grammar.{PublicKey, civil_of, PlainValidity, not_after, not_before}
+use Rattle.x509_cert_parts.specs.Views.{key_plain}
+use Rattle.x509_cert_parts.specs.Times.{time_of}
+use Rattle.x509_cert_names.specs.PlainTexts.{SpellsName}
+use Rattle.x509_cert_parts.specs.SerialNumbers.{new_serial}
 use Rattle.cert_desk_orders.specs.declared.order.Order.{Order}
 use Rattle.cert_desk_issuing.specs.declared.role.Role.{Role}
 use Rattle.cert_desk_issuing.specs.declared.role.Role.TheVariants as roles

@@ -5,11 +5,11 @@ use Rattle.std.specs.List.{list_all}
 use Rattle.std.specs.Option.{option_map_or}
 use Rattle.const_oid.specs.Bound.{Bound}
 use Rattle.const_oid.specs.Comparing.{owned_eq}
-use Rattle.cert_desk_checking.specs.Names.TimeTypes.Seconds.{unix_seconds}
+use Rattle.der_types_time.specs.Seconds.{unix_seconds}
 use Rattle.x509_cert_builders.specs.Profiles.{id_kp}
-use Rattle.cert_desk_checking.specs.Parts.{PlainName}
-use Rattle.cert_desk_checking.specs.Judging.{same_name}
-use Rattle.cert_desk_checking.specs.Paths.{is_within}
+use Rattle.x509_cert_names.specs.Names.{PlainName}
+use Rattle.cert_desk_rules.specs.Judging.{same_name}
+use Rattle.cert_desk_rules.specs.Paths.{is_within}
 use Rattle.cert_desk_issuing.specs.declared.role.Role.{Role}
 use Rattle.cert_desk_issuing.specs.declared.role.Role.TheVariants as roles
 use Rattle.cert_desk_issuing.specs.PlainOrders.{PlainOrder, begins, ends}

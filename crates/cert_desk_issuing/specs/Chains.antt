@@ -4,10 +4,10 @@ use Rattle.std.specs.List.{AllByRecursion}
 use Rattle.const_oid.specs.Bound.{Bound}
 use Rattle.der_core_head.specs.Limits.{length_max}
 use Rattle.der_core_head.specs.BitStrings.{Bits}
-use Rattle.cert_desk_checking.specs.Certificates.{PlainCertificate, outer_algorithm, signature_bits}
-use Rattle.cert_desk_checking.specs.Certificates.{certificate_octets, tbs}
-use Rattle.cert_desk_checking.specs.Parts.{Algorithm, PublicKey}
-use Rattle.cert_desk_checking.specs.Chains.{Chain, Stands}
+use Rattle.x509_cert_certificates.specs.Certificates.{PlainCertificate, outer_algorithm}
+use Rattle.x509_cert_certificates.specs.Certificates.{signature_bits, certificate_octets, tbs}
+use Rattle.x509_cert_parts.specs.Grammar.{Algorithm, PublicKey}
+use Rattle.cert_desk_bundle.specs.Chains.{Chain, Stands}
 use Rattle.cert_desk_orders.specs.declared.order.Order.{Order}
 use Rattle.cert_desk_issuing.specs.Acceptance.{AcceptedOrders}
 use Rattle.cert_desk_issuing.specs.Ordered.{ordered_part, part_octets}

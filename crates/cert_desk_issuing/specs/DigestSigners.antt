@@ -1,8 +1,8 @@
 -- What a signer of digests answers.
 use Rattle.std.specs.Prelude.{ℕ, List, IsTrue}
 use Rattle.der_core_head.specs.BitStrings.{Bits}
-use Rattle.cert_desk_checking.specs.Parts.{Algorithm, PublicKey, plain_algorithm}
-use Rattle.cert_desk_checking.specs.Digests.{digest_arcs, digest_answers}
+use Rattle.x509_cert_parts.specs.Grammar.{Algorithm, PublicKey, plain_algorithm}
+use Rattle.cert_desk_rules.specs.Digests.{digest_arcs, digest_answers}
 
 -- 1.3.6.1.4.1.32473.2, without parameters
 abbrev pub digest_algorithm : Algorithm

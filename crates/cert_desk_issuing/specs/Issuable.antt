@@ -3,8 +3,8 @@ use Rattle.std.specs.Prelude.{◌≡◌, ℕ, ◌<◌, List, length, map, None, 
 use Rattle.const_oid.specs.Bound.{Bound}
 use Rattle.der_core_head.specs.BitStrings.{Bits, IsBits}
 use Rattle.der_core_head.specs.Shapes.{IsValid}
-use Rattle.cert_desk_checking.specs.Parts.{Algorithm, PublicKey}
-use Rattle.cert_desk_checking.specs.Certificates.{Tbs, certificate, tbs_certificate}
+use Rattle.x509_cert_parts.specs.Grammar.{Algorithm, PublicKey}
+use Rattle.x509_cert_certificates.specs.Certificates.{Tbs, certificate, tbs_certificate}
 use Rattle.cert_desk_orders.specs.declared.order.Order.{Order}
 use Rattle.cert_desk_issuing.specs.declared.issue_error.IssueError.{IssueError}
 use Rattle.cert_desk_issuing.specs.declared.issue_error.IssueError.TheVariants as errors

@@ -3,16 +3,16 @@ use Rattle.std.specs.Prelude.{◌≡◌, ℕ, ◌+◌, ◌-◌, ◌≤◌, ◌<�
 use Rattle.std.specs.Prelude.{Some, slice_get, Bool, None, ◌==◌}
 use Rattle.const_oid.specs.Bound.{Bound}
 use Rattle.der_core_head.specs.BitStrings.{Bits}
-use Rattle.cert_desk_checking.specs.Names.TimeTypes.Seconds.{unix_seconds}
-use Rattle.cert_desk_checking.specs.Certificates.{PlainCertificate, certificate_octets}
-use Rattle.cert_desk_checking.specs.Certificates.{extensions_of, outer_algorithm, signature_bits}
-use Rattle.cert_desk_checking.specs.Certificates.{tbs}
-use Rattle.cert_desk_checking.specs.Parts.{Algorithm, PublicKey, PlainExtension, is_critical}
-use Rattle.cert_desk_checking.specs.declared.rule.Rule.{Rule}
-use Rattle.cert_desk_checking.specs.declared.rule.Rule.TheVariants as rules
-use Rattle.cert_desk_checking.specs.Judging.{Answers, PlainAnchor, Terms, signed_part}
-use Rattle.cert_desk_checking.specs.Paths.{is_within}
-use Rattle.cert_desk_checking.specs.Verdicts.{Refused, Trusted}
+use Rattle.der_types_time.specs.Seconds.{unix_seconds}
+use Rattle.x509_cert_certificates.specs.Certificates.{PlainCertificate, certificate_octets}
+use Rattle.x509_cert_certificates.specs.Certificates.{extensions_of, outer_algorithm}
+use Rattle.x509_cert_certificates.specs.Certificates.{signature_bits, tbs}
+use Rattle.x509_cert_parts.specs.Grammar.{Algorithm, PublicKey, PlainExtension, is_critical}
+use Rattle.cert_desk_rules.specs.declared.rule.Rule.{Rule}
+use Rattle.cert_desk_rules.specs.declared.rule.Rule.TheVariants as rules
+use Rattle.cert_desk_rules.specs.Judging.{Answers, PlainAnchor, Terms, signed_part}
+use Rattle.cert_desk_rules.specs.Paths.{is_within}
+use Rattle.cert_desk_rules.specs.Verdicts.{Refused, Trusted}
 use Rattle.cert_desk_orders.specs.declared.order.Order.{Order}
 use Rattle.cert_desk_issuing.specs.Allowances.{AreLasting, Suffices, allows, allows_one}
 use Rattle.cert_desk_issuing.specs.Allowances.{counted_orders, counts_order, path_in}
@@ -22,8 +22,8 @@ use Rattle.cert_desk_issuing.specs.PlainOrders.{PlainOrder, begins, ends}
 use Rattle.cert_desk_issuing.specs.Roles.{place_above, role_at}
 use Rattle.x509_cert_builders.specs.Profiles.{authority_uses, digital_signature}
 use Rattle.x509_cert_builders.specs.Profiles as profiles
-use Rattle.cert_desk_checking.specs.Weighing.{Meaning, constraints, other_names, purposes}
-use Rattle.cert_desk_checking.specs.Weighing.{unweighed, uses, weigh}
+use Rattle.cert_desk_rules.specs.Weighing.{Meaning, constraints, other_names, purposes}
+use Rattle.cert_desk_rules.specs.Weighing.{unweighed, uses, weigh}
 use Rattle.cert_desk_issuing.specs.declared.role.Role.{Role}
 use Rattle.cert_desk_issuing.specs.declared.role.Role.TheVariants as roles
 use Rattle.cert_desk_checking.specs.Issuers.{as_anchor}

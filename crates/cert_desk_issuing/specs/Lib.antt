@@ -11,4 +11,3 @@ pub mod PlainOrders
 pub mod Refusals
 pub mod Roles
 pub mod Runs
-pub mod Arguments

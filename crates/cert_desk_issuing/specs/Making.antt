@@ -8,12 +8,13 @@ use Rattle.der_core_head.specs.Shapes.{IsValid}
 use Rattle.x509_cert_builders.specs.SignedParts.{PlainFields}
 use Rattle.x509_cert_builders.specs.States.{as_written}
 use Rattle.x509_cert_builders.specs.declared.error.Error.{Error}
-use Rattle.cert_desk_checking.specs.Parts.{Algorithm, PlainExtension, PlainName, PublicKey}
-use Rattle.cert_desk_checking.specs.Certificates.{PlainCertificate, Tbs, certificate_octets}
-use Rattle.cert_desk_checking.specs.Certificates.{outer_algorithm, raw_certificate, signature_bits}
-use Rattle.cert_desk_checking.specs.Certificates.{tbs}
-use Rattle.cert_desk_checking.specs.CertificateViews.{certificate_plain}
-use Rattle.cert_desk_checking.specs.Chains.{Chain}
+use Rattle.x509_cert_parts.specs.Grammar.{Algorithm, PlainExtension, PublicKey}
+use Rattle.x509_cert_names.specs.Names.{PlainName}
+use Rattle.x509_cert_certificates.specs.Certificates.{PlainCertificate, Tbs, certificate_octets}
+use Rattle.x509_cert_certificates.specs.Certificates.{outer_algorithm, raw_certificate}
+use Rattle.x509_cert_certificates.specs.Certificates.{signature_bits, tbs}
+use Rattle.x509_cert_certificates.specs.Views.{certificate_plain}
+use Rattle.cert_desk_bundle.specs.Chains.{Chain}
 use Rattle.cert_desk_issuing.specs.declared.issued.Issued.TheInside.{Inside}
 use Rattle.cert_desk_issuing.specs.declared.making.Made.{Made}
 use Rattle.cert_desk_issuing.specs.declared.role.Role.{Role}

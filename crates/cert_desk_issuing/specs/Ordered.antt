@@ -6,13 +6,14 @@ use Rattle.std.specs.Bool.{⊤}
 use Rattle.const_oid.specs.Bound.{Bound}
 use Rattle.der_core_head.specs.Grammar.{plain_list, plain_option}
 use Rattle.der_core_head.specs.Shapes.{IsValid, Value, octets_of}
-use Rattle.x509_cert_builders.specs.ExtensionTypes as types
+use Rattle.x509_cert_parts.specs.ExtensionTypes as types
 use Rattle.x509_cert_builders.specs.Profiles.{digital_signature, root_extensions}
 use Rattle.x509_cert_builders.specs.Profiles.{standard_extension, subordinate_extensions}
 use Rattle.x509_cert_builders.specs.Profiles.{subscriber_extensions}
-use Rattle.cert_desk_checking.specs.Certificates.{Tbs, tbs_certificate}
-use Rattle.cert_desk_checking.specs.Parts.{Algorithm, PlainExtension, PlainName, PublicKey}
-use Rattle.cert_desk_checking.specs.GeneralNames.{general_name, general_names}
+use Rattle.x509_cert_certificates.specs.Certificates.{Tbs, tbs_certificate}
+use Rattle.x509_cert_parts.specs.Grammar.{Algorithm, PlainExtension, PublicKey}
+use Rattle.x509_cert_names.specs.Names.{PlainName}
+use Rattle.x509_cert_general_names.specs.Grammar.{general_name, general_names}
 use Rattle.cert_desk_issuing.specs.declared.role.Role.{Role}
 use Rattle.cert_desk_issuing.specs.declared.role.Role.TheVariants as roles
 use Rattle.cert_desk_issuing.specs.PlainOrders.{PlainOrder}

@@ -8,9 +8,11 @@ use Rattle.der_core_head.specs.Grammar.{plain_list}
 use Rattle.der_core_head.specs.Integers.{integer_octets}
 use Rattle.x509_cert_builders.specs.Subscribers.{all_stays}
 use Rattle.x509_cert_builders.specs.Naming.{NamesAuthority}
-use Rattle.cert_desk_checking.specs.Parts.{PlainName, PublicKey, key_plain, name_plain}
-use Rattle.cert_desk_checking.specs.Parts.{validity_plain, time_of, civil_of}
-use Rattle.cert_desk_orders.specs.Grammar.{PlainValidity, not_after, not_before}
+use Rattle.x509_cert_names.specs.Names.{PlainName}
+use Rattle.x509_cert_parts.specs.Grammar.{PublicKey, civil_of, PlainValidity, not_after, not_before}
+use Rattle.x509_cert_parts.specs.Views.{key_plain, validity_plain}
+use Rattle.x509_cert_names.specs.Views.{name_plain}
+use Rattle.x509_cert_parts.specs.Times.{time_of}
 use Rattle.cert_desk_issuing.specs.declared.accepted.Accepted.{Accepted}
 use Rattle.cert_desk_issuing.specs.declared.role.Role.{Role}
 use Rattle.cert_desk_issuing.specs.declared.role.Role.TheVariants as roles

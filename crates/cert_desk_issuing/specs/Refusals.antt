@@ -10,20 +10,22 @@ use Rattle.der_core_head.specs.Grammar.{plain_list}
 use Rattle.der_core_head.specs.declared.error.ErrorKind.{ErrorKind}
 use Rattle.der_core_head.specs.declared.error.ErrorKind.TheVariants as kinds
 use Rattle.der_core_head.specs.Shapes.{IsValid}
-use Rattle.cert_desk_checking.specs.Names.TimeTypes.DateTexts.{date_text}
-use Rattle.cert_desk_checking.specs.Names.TimeTypes.Seconds.{unix_seconds}
+use Rattle.der_types_time.specs.DateTexts.{date_text}
+use Rattle.der_types_time.specs.Seconds.{unix_seconds}
 use Rattle.x509_cert_builders.specs.Naming.{NamesAuthority}
 use Rattle.x509_cert_builders.specs.Refusals.{IsWantOfMemory}
 use Rattle.x509_cert_builders.specs.declared.error.Error.{Error as BuilderError}
 use Rattle.x509_cert_builders.specs.declared.error.Error.TheVariants as builders
 use Rattle.x509_cert_builders.specs.declared.sign_error.SignError.TheVariants
     as signers
-use Rattle.cert_desk_checking.specs.Certificates.{PlainCertificate, Tbs, certificate}
-use Rattle.cert_desk_checking.specs.Certificates.{tbs_certificate}
-use Rattle.cert_desk_checking.specs.Parts.{Algorithm, PlainName, PublicKey, key_plain}
-use Rattle.cert_desk_checking.specs.Texts.{ReadsName, SpellsName}
-use Rattle.cert_desk_orders.specs.Grammar.{PlainValidity}
-use Rattle.cert_desk_orders.specs.SerialNumbers.{new_serial}
+use Rattle.x509_cert_certificates.specs.Certificates.{PlainCertificate, Tbs, certificate}
+use Rattle.x509_cert_certificates.specs.Certificates.{tbs_certificate}
+use Rattle.x509_cert_parts.specs.Grammar.{Algorithm, PublicKey, PlainValidity}
+use Rattle.x509_cert_names.specs.Names.{PlainName}
+use Rattle.x509_cert_parts.specs.Views.{key_plain}
+use Rattle.x509_cert_names.specs.NameTexts.{ReadsName}
+use Rattle.x509_cert_names.specs.PlainTexts.{SpellsName}
+use Rattle.x509_cert_parts.specs.SerialNumbers.{new_serial}
 use Rattle.cert_desk_orders.specs.declared.order.Order.{Order}
 use Rattle.cert_desk_issuing.specs.declared.fault.Fault.{Fault}
 use Rattle.cert_desk_issuing.specs.declared.fault.Fault.TheVariants as faults

@@ -6,7 +6,8 @@ use Rattle.cert_desk_io.specs.declared.read_all_error.ReadAllError.TheVariants a
 use Rattle.cert_desk_io.specs.Devices.{Device, Untouched}
 use Rattle.cert_desk_io.specs.Telling.{IsAnswer, IsComplaint, IsDeviceTold, IsMemoryTold}
 use Rattle.cert_desk_io.specs.Whole.{IsWhole, IsUnread, most_octets}
-use Rattle.cert_desk_checking.specs.Parts.{PublicKey, key_plain}
+use Rattle.x509_cert_parts.specs.Grammar.{PublicKey}
+use Rattle.x509_cert_parts.specs.Views.{key_plain}
 use Rattle.cert_desk_orders.specs.OrdersFile.{SaysOrders, faulty_line}
 use Rattle.cert_desk_orders.specs.declared.order.Order.{Order}
 use Rattle.cert_desk_issuing.specs.declared.digest_signer.DigestSigner.{DigestSigner}

@@ -1,7 +1,8 @@
 //! Orders that were accepted.
 
-use cert_desk_checking::certificates::{Name, SerialNumber, Validity};
 use cert_desk_orders::Order;
+use x509_cert_names::Name;
+use x509_cert_parts::{SerialNumber, Validity};
 
 /// An order that was accepted, and what its texts spell.
 #[derive(Drop)]

@@ -9,11 +9,13 @@ ghost use Rattle.der_core_head.specs.Ranges.{IsInRange};
 ghost use Rattle.x509_cert_builders.specs.Refusals.{IsWantOfMemory};
 ghost use Rattle.x509_cert_builders.specs.Naming.{common_name, country, is_among};
 ghost use Rattle.x509_cert_builders.specs.Subscribers.{may_stay};
-ghost use Rattle.cert_desk_checking.specs.Parts.{PublicKey, relative_plain, time_of, key_plain};
-ghost use Rattle.cert_desk_checking.specs.Parts.{name_plain, time_date, time_value, validity_plain};
-ghost use Rattle.cert_desk_orders.specs.Grammar.{time};
-ghost use Rattle.cert_desk_orders.specs.SerialNumbers.{new_serial};
-ghost use Rattle.cert_desk_checking.specs.Texts.{SpellsName};
+ghost use Rattle.x509_cert_parts.specs.Grammar.{PublicKey, time};
+ghost use Rattle.x509_cert_names.specs.Pairs.{relative_plain};
+ghost use Rattle.x509_cert_parts.specs.Times.{time_of};
+ghost use Rattle.x509_cert_parts.specs.Views.{key_plain, time_date, time_value, validity_plain};
+ghost use Rattle.x509_cert_names.specs.Views.{name_plain};
+ghost use Rattle.x509_cert_parts.specs.SerialNumbers.{new_serial};
+ghost use Rattle.x509_cert_names.specs.PlainTexts.{SpellsName};
 ghost use Rattle.cert_desk_issuing.specs.Acceptance.{IsAccepted, IsKeyOf, IsNamedFor, IsTextOf};
 ghost use Rattle.cert_desk_issuing.specs.Acceptance.{SpellDates, names_subscriber};
 ghost use Rattle.cert_desk_issuing.specs.PlainOrders.{HasNamesFor, accepted_plain};
@@ -23,15 +25,14 @@ ghost use Rattle.cert_desk_issuing.specs.Refusals.{RefusesName, RefusesOrder};
 use crate::accepted::Accepted;
 use crate::fault::Fault;
 use crate::role::Role;
-use cert_desk_checking::certificates::{
-    Name, RelativeDistinguishedName, SerialNumber, SubjectPublicKeyInfo, Time, Validity,
-};
 use cert_desk_orders::Order;
 use const_oid::ObjectIdentifier;
 use der_core::{ErrorKind, InRange};
 use std::alloc::Global;
 use std::str::FromStr;
 use x509_cert_builders::{Error, ca_certificate_naming};
+use x509_cert_names::{Name, RelativeDistinguishedName};
+use x509_cert_parts::{SerialNumber, SubjectPublicKeyInfo, Time, Validity};
 
 /// The name that the text of an order spells.
 fn name_of(alloc: Global, order: &Order) -> Result<Name, Fault>

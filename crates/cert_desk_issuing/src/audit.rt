@@ -3,14 +3,14 @@
 ghost use Rattle.std.specs.Prelude.{◌≡◌, ◌≢◌, ◌≤◌, ◌↔◌, ◌⊎◌, ℕ, List, ◌∷◌, map, IfOk, IfErr, OnErr};
 ghost use Rattle.const_oid.specs.Bound.{Bound};
 ghost use Rattle.der_core_head.specs.Grammar.{plain_list};
-ghost use Rattle.cert_desk_checking.specs.Certificates.{PlainCertificate};
-ghost use Rattle.cert_desk_checking.specs.CertificateViews.{certificate_plain};
-ghost use Rattle.cert_desk_checking.specs.declared.checked.CheckError.TheVariants as errors;
-ghost use Rattle.cert_desk_checking.specs.declared.checked.Verdict.TheVariants as verdicts;
-ghost use Rattle.cert_desk_checking.specs.declared.standing.Standing.TheVariants as standings;
+ghost use Rattle.x509_cert_certificates.specs.Certificates.{PlainCertificate};
+ghost use Rattle.x509_cert_certificates.specs.Views.{certificate_plain};
+ghost use Rattle.cert_desk_rules.specs.declared.checked.CheckError.TheVariants as errors;
+ghost use Rattle.cert_desk_rules.specs.declared.checked.Verdict.TheVariants as verdicts;
+ghost use Rattle.cert_desk_bundle.specs.declared.standing.Standing.TheVariants as standings;
 ghost use Rattle.cert_desk_checking.specs.Anchors.{anchor_plain};
-ghost use Rattle.cert_desk_checking.specs.Streams.{Reads};
-ghost use Rattle.cert_desk_checking.specs.Verdicts.{IsCounted, IsVerdict, StopsAsking};
+ghost use Rattle.cert_desk_bundle.specs.Streams.{Reads};
+ghost use Rattle.cert_desk_rules.specs.Verdicts.{IsCounted, IsVerdict, StopsAsking};
 ghost use Rattle.cert_desk_checking.specs.Issuers.{as_anchor};
 ghost use Rattle.cert_desk_issuing.specs.Chains.{HoldsOrders};
 ghost use Rattle.cert_desk_issuing.specs.Laws.{Permits, root_anchors, terms_for};
@@ -18,10 +18,12 @@ ghost use Rattle.x509_cert_builders.specs.States.{as_written};
 ghost use Rattle.cert_desk_issuing.specs.PlainOrders.{PlainOrder};
 
 use crate::issued::Issued;
-use cert_desk_checking::certificates::Certificate;
-use cert_desk_checking::{Anchor, Bundle, CheckError, Checked, SignatureJudge, check};
+use cert_desk_bundle::Bundle;
+use cert_desk_checking::{Anchor, check};
+use cert_desk_rules::{CheckError, Checked, SignatureJudge};
 use const_oid::ObjectIdentifier;
 use std::alloc::Global;
+use x509_cert_certificates::Certificate;
 
 impl Issued {
     /// The verdict of `check` on the stream, with the first certificate as the only anchor.

@@ -1,15 +1,16 @@
 //! A signer of digests, which stands where an algorithm would.
 ghost use Rattle.std.specs.Prelude.{◌≡◌, ◌↔◌, ℕ, List};
 ghost use Rattle.der_core_head.specs.BitStrings.{Bits};
-ghost use Rattle.cert_desk_checking.specs.Parts.{algorithm_plain, key_plain};
-ghost use Rattle.cert_desk_checking.specs.Digests.{digest_arcs};
+ghost use Rattle.x509_cert_parts.specs.Views.{algorithm_plain, key_plain};
+ghost use Rattle.cert_desk_rules.specs.Digests.{digest_arcs};
 ghost use Rattle.cert_desk_issuing.specs.DigestSigners.{digest_algorithm, IsDigestOf};
 
-use cert_desk_checking::{AlgorithmIdentifier, BitString, SubjectPublicKeyInfo};
 use const_oid::ObjectIdentifier;
+use der_types_values::BitString;
 use sha2::{Digest, Sha256};
 use std::alloc::Global;
 use x509_cert_builders::{SignError, Signer};
+use x509_cert_parts::{AlgorithmIdentifier, SubjectPublicKeyInfo};
 
 // 1.3.6.1.4.1.32473.2, under the arc for examples (RFC 5612).
 fn digest_identifier() -> ObjectIdentifier<39>
@@ -59,7 +60,7 @@ impl DigestSigner {
 }
 
 impl Signer for DigestSigner {
-    ghost use Rattle.cert_desk_checking.specs.Parts.{algorithm_plain, key_plain};
+    ghost use Rattle.x509_cert_parts.specs.Views.{algorithm_plain, key_plain};
     ghost use Rattle.cert_desk_issuing.specs.DigestSigners.{digest_algorithm, IsDigestOf};
 
     ghost public_key = { λ s. key_plain s.key };

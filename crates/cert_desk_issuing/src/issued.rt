@@ -4,12 +4,12 @@ ghost use Rattle.std.specs.Prelude.{◌≡◌, ◌-◌, ◌^◌};
 ghost use Rattle.const_oid.specs.Bound.{Bound};
 ghost use Rattle.der_core_head.specs.Limits.{length_max};
 ghost use Rattle.der_core_head.specs.Grammar.{plain_list};
-ghost use Rattle.cert_desk_checking.specs.CertificateViews.{certificate_plain};
-ghost use Rattle.cert_desk_checking.specs.Chains.{Chain};
+ghost use Rattle.x509_cert_certificates.specs.Views.{certificate_plain};
+ghost use Rattle.cert_desk_bundle.specs.Chains.{Chain};
 ghost use Rattle.x509_cert_builders.specs.States.{as_written};
 
-use cert_desk_checking::certificates::Certificate;
 use std::marker::Model;
+use x509_cert_certificates::Certificate;
 
 /// A chain that was issued: its certificates, the root first, and the stream that joins their
 /// encodings.

@@ -2,7 +2,7 @@
 
 ghost use Rattle.std.specs.Prelude.{◌≡◌, ◌<◌, ◌-◌, List, length, map, slice_get, IfOk, IfErr};
 ghost use Rattle.der_core_head.specs.Grammar.{plain_option};
-ghost use Rattle.cert_desk_checking.specs.Parts.{key_plain};
+ghost use Rattle.x509_cert_parts.specs.Views.{key_plain};
 ghost use Rattle.cert_desk_issuing.specs.Acceptance.{AcceptedOrders, AcceptsFront, IsAcceptedAt};
 ghost use Rattle.cert_desk_issuing.specs.Chains.{AreSigned, HoldsOrders, IssuedChain};
 ghost use Rattle.cert_desk_issuing.specs.Issuable.{AreIssuable};
@@ -20,10 +20,10 @@ use crate::issued::Issued;
 use crate::making::{Made, certificate_for};
 use crate::role::{place_above, role_at};
 use crate::stop::Stop;
-use cert_desk_checking::certificates::SubjectPublicKeyInfo;
 use cert_desk_orders::Order;
 use std::alloc::Global;
 use x509_cert_builders::Signer;
+use x509_cert_parts::SubjectPublicKeyInfo;
 
 /// The chain that these orders ask for: the first is for its root, the last of two or more for a
 /// subscriber, those between for authorities, each below the one before. The first signer signs the

@@ -3,13 +3,6 @@ ghost use Rattle.cert_desk_issuing.specs.Issuable.{IssuableIsIssued};
 ghost use Rattle.cert_desk_issuing.specs.Laws.{HeldIsTrusted, TrustedIsPermitted, HeldIsRefusedFor};
 ghost use Rattle.cert_desk_issuing.specs.Laws.{IssuedIsTrusted, SignedIsSliced, SaysAsOrdered};
 
-pub use cert_desk_checking::laws::{
-    fault_stays, few_questions, first_breach_is_the_verdict, fronts_are_trusted, judged_alike,
-    no_chain_with_a_fault, nothing_is_outside, one_anchor_file, one_chain, one_fault, one_series,
-    one_series_fault, one_stream, one_verdict, questions_are_listed, rests_are_trusted,
-    strangers_are_ignored, wider_bounds_keep_chains, wider_bounds_keep_faults,
-    wider_bounds_keep_trust, wider_bounds_keep_verdicts,
-};
 use x509_cert_builders::Signer;
 
 /// Of orders that are accepted, of which no signer may refuse a part, and whose lengths fit, none

@@ -6,8 +6,9 @@ ghost use Rattle.der_core_head.specs.Grammar.{plain_list};
 ghost use Rattle.der_core_head.specs.Integers.{integer_octets};
 ghost use Rattle.x509_cert_builders.specs.States.{CertificateState, part_for};
 ghost use Rattle.x509_cert_builders.specs.declared.error.Error.{Error};
-ghost use Rattle.cert_desk_checking.specs.Certificates.{Tbs};
-ghost use Rattle.cert_desk_checking.specs.Parts.{key_plain, name_plain};
+ghost use Rattle.x509_cert_certificates.specs.Certificates.{Tbs};
+ghost use Rattle.x509_cert_parts.specs.Views.{key_plain};
+ghost use Rattle.x509_cert_names.specs.Views.{name_plain};
 ghost use Rattle.cert_desk_issuing.specs.Making.{IsProfile, Makes, fields_below};
 ghost use Rattle.cert_desk_issuing.specs.Ordered.{ordered_part};
 ghost use Rattle.cert_desk_issuing.specs.PlainOrders.{IsReady, accepted_plain};
@@ -16,13 +17,13 @@ use crate::accepted::Accepted;
 use crate::naming::add_names;
 use crate::role::Role;
 use crate::stop::Stop;
-use cert_desk_checking::certificates::Certificate;
 use der_core::{InRange, ToDer};
 use std::alloc::Global;
 use x509_cert_builders::{
     Builder, BuilderProfile, CertificateBuilder, CertificateType, Root, Signer, Subordinate,
     Subscriber, Tls12Options,
 };
+use x509_cert_certificates::Certificate;
 
 /// A certificate, and its octets.
 #[derive(Drop)]

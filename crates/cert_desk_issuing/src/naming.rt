@@ -5,21 +5,21 @@ ghost use Rattle.const_oid.specs.Bound.{Bound};
 ghost use Rattle.der_core_head.specs.declared.error.ErrorKind.TheVariants.{OutOfMemory};
 ghost use Rattle.der_core_head.specs.Grammar.{plain_list};
 ghost use Rattle.der_core_head.specs.Shapes.{IsValid};
-ghost use Rattle.cert_desk_checking.specs.GeneralNameViews.{general_name_plain};
-ghost use Rattle.cert_desk_checking.specs.GeneralNames.{general_names};
-ghost use Rattle.cert_desk_checking.specs.Parts.{name_plain};
+ghost use Rattle.x509_cert_general_names.specs.Views.{general_name_plain};
+ghost use Rattle.x509_cert_general_names.specs.Grammar.{general_names};
+ghost use Rattle.x509_cert_names.specs.Views.{name_plain};
 ghost use Rattle.cert_desk_issuing.specs.Ordered.{CanName, dns_names, names_for};
 ghost use Rattle.cert_desk_issuing.specs.PlainOrders.{accepted_plain};
 
 use crate::accepted::Accepted;
 use crate::role::Role;
 use crate::stop::Stop;
-use cert_desk_checking::certificates::Ia5String;
-use cert_desk_checking::types::SubjectAltName;
-use cert_desk_checking::types::general_names::GeneralName;
 use der_core::Error;
+use der_types_text::Ia5String;
 use std::alloc::Global;
 use x509_cert_builders::{BuilderProfile, CertificateBuilder};
+use x509_cert_extensions::SubjectAltName;
+use x509_cert_general_names::GeneralName;
 
 /// DNS names, as a subject's other names.
 fn names_of(alloc: Global, texts: &[String]) -> Result<SubjectAltName, Error>

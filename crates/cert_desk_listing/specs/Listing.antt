@@ -10,9 +10,11 @@ use Rattle.der_core_head.specs.declared.tag.Tag.TheVariants as tags
 use Rattle.der_core_head.specs.Shapes.{AnyValue}
 use Rattle.x509_cert_certificates.specs.Certificates.{PlainCertificate, issuer, subject}
 use Rattle.x509_cert_lists.specs.Grammar.{extension_req_arcs, extension_req_content}
-use Rattle.x509_cert_lists.specs.Parts.{PlainName, PlainAttribute, PlainExtension, extension_arcs}
-use Rattle.x509_cert_lists.specs.Parts.{is_critical, content_as}
-use Rattle.x509_cert_lists.specs.Texts.{name_text, serial_text, time_text}
+use Rattle.x509_cert_names.specs.Names.{PlainName, PlainAttribute}
+use Rattle.x509_cert_parts.specs.Grammar.{PlainExtension, extension_arcs, is_critical}
+use Rattle.der_types_any.specs.Contents.{content_as}
+use Rattle.x509_cert_names.specs.PlainTexts.{name_text}
+use Rattle.x509_cert_parts.specs.Texts.{serial_text, time_text}
 use Rattle.cert_desk_listing.specs.Parts.{serial, not_before, not_after, extensions_of, PlainTime}
 use Rattle.cert_desk_listing.specs.Parts.{PlainList, PlainRevoked, list_issuer, this_update}
 use Rattle.cert_desk_listing.specs.Parts.{next_update, revoked, list_extensions, revoked_serial}

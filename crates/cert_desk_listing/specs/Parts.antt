@@ -5,7 +5,8 @@ use Rattle.x509_cert_certificates.specs.Certificates.{PlainCertificate, tbs, tbs
 use Rattle.x509_cert_certificates.specs.Certificates.{tbs_validity}
 use Rattle.x509_cert_lists.specs.Grammar.{revoked_cert_fields, certificate_list_fields}
 use Rattle.x509_cert_lists.specs.Grammar.{cert_req_fields}
-use Rattle.x509_cert_lists.specs.Parts.{PlainName, PlainAttribute, PlainExtension, time}
+use Rattle.x509_cert_names.specs.Names.{PlainName, PlainAttribute}
+use Rattle.x509_cert_parts.specs.Grammar.{PlainExtension, time}
 
 -- the members of a field; where it is absent there are none
 abbrev pub listed : {A : Type 0} → Option (List A) → List A

@@ -12,4 +12,3 @@ pub use file_kind::FileKind;
 pub use listing::{show_certificate, show_list, show_request};
 pub use show_error::ShowError;
 pub use showing::run_show;
-pub use x509_cert_lists::{CertReq, CertificateList};

@@ -2,10 +2,11 @@
 ghost use Rattle.std.specs.Prelude.{◌≡◌, ◌++◌, codes, Some, IfOk, IfSome, OnOk, string_bytes};
 ghost use Rattle.std.specs.List.{flat_map};
 ghost use Rattle.der_core_head.specs.Grammar.{plain_option, plain_list};
-ghost use Rattle.x509_cert_lists.specs.Parts.{name_plain, attribute_plain, extension_plain};
-ghost use Rattle.x509_cert_lists.specs.Parts.{extensions_plain, time_value};
+ghost use Rattle.x509_cert_names.specs.Views.{name_plain, attribute_plain};
+ghost use Rattle.x509_cert_parts.specs.Views.{extension_plain, extensions_plain, time_value};
 ghost use Rattle.x509_cert_lists.specs.Views.{revoked_cert_plain};
-ghost use Rattle.x509_cert_lists.specs.Texts.{name_text, serial_text, time_text};
+ghost use Rattle.x509_cert_names.specs.PlainTexts.{name_text};
+ghost use Rattle.x509_cert_parts.specs.Texts.{serial_text, time_text};
 ghost use Rattle.cert_desk_listing.specs.Listing.{alone, labelled, extension_line, extension_lines};
 ghost use Rattle.cert_desk_listing.specs.Listing.{next_update_line, revoked_line, revoked_lines};
 ghost use Rattle.cert_desk_listing.specs.Listing.{value_lines, attribute_lines};
@@ -13,10 +14,12 @@ ghost use Rattle.cert_desk_listing.specs.Parts.{listed};
 
 use const_oid::AssociatedOid;
 use der_core::ErrorKind;
+use der_types_any::Any;
 use std::alloc::{AllocError, Global};
 use std::fmt;
-use x509_cert_certificates::{Any, Attribute, Extension, Extensions, Name, SerialNumber, Time};
 use x509_cert_lists::{ExtensionReq, RevokedCert};
+use x509_cert_names::{Attribute, Name};
+use x509_cert_parts::{Extension, Extensions, SerialNumber, Time};
 
 /// Lines that were gathered, each ended by LF.
 #[derive(Drop)]

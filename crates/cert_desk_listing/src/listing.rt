@@ -10,8 +10,9 @@ use crate::lines::Lines;
 use crate::show_error::ShowError;
 use cert_desk_io::{Output, write_all};
 use std::alloc::{AllocError, Global};
-use x509_cert_certificates::{CertificateInner, Profile};
+use x509_cert_certificates::CertificateInner;
 use x509_cert_lists::{CertReq, CertificateList};
+use x509_cert_parts::Profile;
 
 /// The lines of a certificate.
 pub(crate) fn of_certificate<P: Profile>(

@@ -18,8 +18,9 @@ use cert_desk_io::{
 };
 use der_core::{Error, ErrorKind, FromDer};
 use std::alloc::Global;
-use x509_cert_certificates::{CertificateInner, Raw};
+use x509_cert_certificates::CertificateInner;
 use x509_cert_lists::{CertReq, CertificateList};
+use x509_cert_parts::Raw;
 
 // The certificate that these octets spell.
 fn certificate_in(alloc: Global, octets: &[u8]) -> Finding

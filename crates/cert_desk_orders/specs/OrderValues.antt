@@ -8,8 +8,7 @@ use Rattle.std.specs.Str.Parse.{digits_value}
 use Rattle.const_oid.specs.Bound.{Bound}
 use Rattle.der_core_head.specs.Grammar.{read_whole}
 use Rattle.hex.specs.Hex.{decode_of}
-pub use Rattle.x509_cert_parts.specs.Views.{key_plain}
-use Rattle.x509_cert_parts.specs.Parts.{PublicKey, public_key_info}
+use Rattle.x509_cert_parts.specs.Grammar.{PublicKey, public_key_info}
 
 -- the octets that a text writes in base 16
 abbrev pub octets_in : List ℕ → Option (List ℕ)

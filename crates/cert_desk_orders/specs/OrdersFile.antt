@@ -5,7 +5,8 @@ use Rattle.std.specs.Prelude.{if◌then◌else◌, Option, Some, None, is_some, 
 use Rattle.std.specs.List.{after_first, before_first, list_any, position_or_len, slice_split}
 use Rattle.std.specs.Option.{option_and_then, option_or}
 use Rattle.std.specs.Str.{is_utf8}
-use Rattle.cert_desk_orders.specs.OrderValues.{octets_in, key_in, key_plain, length_in}
+use Rattle.cert_desk_orders.specs.OrderValues.{octets_in, key_in, length_in}
+use Rattle.x509_cert_parts.specs.Views.{key_plain}
 use Rattle.cert_desk_orders.specs.declared.order.Order.{Order}
 
 -- A line that isn't empty. Its word ends at the first blank, or with the line, and behind the blank

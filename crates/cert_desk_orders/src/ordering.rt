@@ -2,7 +2,8 @@
 ghost use Rattle.std.specs.Prelude.{◌≡◌, ◌<◌, length, map, codes, string_bytes};
 ghost use Rattle.std.specs.Prelude.{IfOk, IsSome, None, Some};
 ghost use Rattle.std.specs.Option.{option_and_then};
-ghost use Rattle.cert_desk_orders.specs.OrderValues.{key_in, key_plain, length_in, octets_in};
+ghost use Rattle.cert_desk_orders.specs.OrderValues.{key_in, length_in, octets_in};
+ghost use Rattle.x509_cert_parts.specs.Views.{key_plain};
 ghost use Rattle.cert_desk_orders.specs.OrderReading.{lines_plain};
 ghost use Rattle.cert_desk_orders.specs.OrdersFile.{SayOrder, order_fault, value_of, values_of};
 

@@ -1,8 +1,8 @@
 //! The values of lines.
 ghost use Rattle.std.specs.Prelude.{◌≡◌, IfOk};
 ghost use Rattle.der_core_head.specs.Grammar.{plain_option};
-ghost use Rattle.cert_desk_orders.specs.OrderValues.{octets_in, key_in, key_plain, key_read};
-ghost use Rattle.cert_desk_orders.specs.OrderValues.{length_in};
+ghost use Rattle.cert_desk_orders.specs.OrderValues.{octets_in, key_in, key_read, length_in};
+ghost use Rattle.x509_cert_parts.specs.Views.{key_plain};
 
 use der_core::{ErrorKind, FromDer};
 use hex::FromHexError;

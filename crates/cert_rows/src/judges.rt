@@ -2,7 +2,7 @@
 
 ghost use Rattle.std.specs.Prelude.{bytes_eq};
 ghost use Rattle.std.specs.List.{list_any};
-ghost use Rattle.cert_desk_plain.specs.Parts.{key_bits};
+ghost use Rattle.x509_cert_parts.specs.Grammar.{key_bits};
 
 use cert_desk::{AlgorithmIdentifier, BitString, SignatureJudge, SubjectPublicKeyInfo};
 

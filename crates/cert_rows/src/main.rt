@@ -61,6 +61,7 @@ mod issues;
 mod judges;
 mod listings;
 mod odd_signer;
+mod plain_split;
 mod readings;
 mod refusals;
 mod schedules;

@@ -1,10 +1,10 @@
 //! How a stream splits, as two programs find it.
 
 use crate::bundles::limit_of;
+use crate::plain_split::split;
 use crate::refusals::Refusal;
 use crate::words::octets_of;
 use cert_desk::{Bundle, BundleError};
-use cert_desk_plain::split;
 use std::alloc::Global;
 
 /// The number of certificates and of their octets, by the plain split and by a bundle.

@@ -14,19 +14,19 @@ use Rattle.der_core_head.proofs.BoundLaws.{both_all}
 use Rattle.hex.specs.Hex.{encode_lower}
 use Rattle.hex.proofs.HexLemmas.{decode_of-encode_lower}
 use Rattle.const_oid.specs.Bound.{Bound}
-use Rattle.cert_desk_checking.specs.declared.checked.Verdict.{Verdict}
+use Rattle.cert_desk_rules.specs.declared.checked.Verdict.{Verdict}
 use Rattle.cert_desk_checking.specs.AnchorFiles.{IsAnchorFile}
-use Rattle.cert_desk_checking.specs.Answers.{listed}
-use Rattle.cert_desk_checking.specs.Certificates.{PlainCertificate}
-use Rattle.cert_desk_checking.specs.Chains.{Chain}
-use Rattle.cert_desk_checking.specs.Judging.{Answers, PlainAnchor, Terms}
-use Rattle.cert_desk_checking.specs.Parts.{algorithm_identifier, bit_string, public_key_info}
+use Rattle.cert_desk_rules.specs.Answers.{listed}
+use Rattle.x509_cert_certificates.specs.Certificates.{PlainCertificate}
+use Rattle.cert_desk_bundle.specs.Chains.{Chain}
+use Rattle.cert_desk_rules.specs.Judging.{Answers, PlainAnchor, Terms}
+use Rattle.x509_cert_parts.specs.Grammar.{algorithm_identifier, bit_string, public_key_info}
 use Rattle.cert_desk_checking.specs.QuestionLines.{QuestionLine, anchor_word, chain_lines, line_octets, lines_octets, questions_of_lines, spaced, written}
-use Rattle.cert_desk_checking.specs.Questions.{Question, answer_on, under}
-use Rattle.cert_desk_checking.specs.Verdicts.{Asks, IsVerdict}
+use Rattle.cert_desk_rules.specs.Questions.{Question, answer_on, under}
+use Rattle.cert_desk_rules.specs.Verdicts.{Asks, IsVerdict}
 use Rattle.cert_desk_checking.proofs.AskedValues.{IsWritable, file_keys, lines_writable}
 use Rattle.cert_desk_checking.proofs.ListedQuestions.{judged_by_lines}
-use Rattle.cert_desk_checking.proofs.OneChain.{one_chain}
+use Rattle.cert_desk_bundle.proofs.OneChain.{one_chain}
 use Rattle.cert_desk_checking.proofs.SameQuestions.{listed_alike}
 use Rattle.cert_tool_runs.specs.declared.line_fault.LineFault.{LineFault}
 use Rattle.cert_tool_runs.specs.declared.line_fault.LineFault.TheVariants as faults

@@ -9,9 +9,9 @@ use Rattle.der_core_head.specs.Shapes.{Shape, Value}
 use Rattle.hex.specs.Hex.{decode_of}
 use Rattle.hex.specs.declared.error.FromHexError.{FromHexError}
 use Rattle.const_oid.specs.Bound.{Bound}
-use Rattle.cert_desk_checking.specs.Parts.{Algorithm, PublicKey, algorithm_identifier, bit_string}
-use Rattle.cert_desk_checking.specs.Parts.{public_key_info}
-use Rattle.cert_desk_checking.specs.Questions.{Question}
+use Rattle.x509_cert_parts.specs.Grammar.{Algorithm, PublicKey, algorithm_identifier, bit_string}
+use Rattle.x509_cert_parts.specs.Grammar.{public_key_info}
+use Rattle.cert_desk_rules.specs.Questions.{Question}
 use Rattle.cert_tool_runs.specs.declared.line_fault.LineFault.{LineFault}
 use Rattle.cert_tool_runs.specs.declared.line_fault.LineFault.TheVariants as faults
 

@@ -7,10 +7,10 @@ use Rattle.cert_desk_io.specs.Telling.{IsAnswer}
 use Rattle.cert_desk_checking.specs.declared.outcome.Outcome.{Outcome}
 use Rattle.cert_desk_checking.specs.declared.outcome.Outcome.TheVariants as outcomes
 use Rattle.const_oid.specs.Bound.{Bound}
-use Rattle.cert_desk_checking.specs.Chains.{joined}
-use Rattle.cert_desk_checking.specs.Judging.{PlainAnchor}
+use Rattle.cert_desk_bundle.specs.Chains.{joined}
+use Rattle.cert_desk_rules.specs.Judging.{PlainAnchor}
 use Rattle.cert_desk_checking.specs.Runs.{HasAnchors, HasNoAnchors}
-use Rattle.cert_desk_checking.specs.Streams.{Kept}
+use Rattle.cert_desk_bundle.specs.Streams.{Kept}
 use Rattle.cert_desk_checking.specs.QuestionLines.{chain_lines, lines_octets}
 use Rattle.cert_tool_runs.specs.Stops.{FedWithin, IsStopTold, stop_of}
 

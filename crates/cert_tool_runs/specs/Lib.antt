@@ -9,4 +9,3 @@ pub mod Verifying
 pub mod Splitting
 pub mod TaskRuns
 pub mod Laws
-pub mod Parts

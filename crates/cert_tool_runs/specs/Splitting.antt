@@ -9,9 +9,9 @@ use Rattle.cert_desk_io.specs.Devices.{Device, Untouched}
 use Rattle.cert_desk_io.specs.Telling.{IsAnswer, IsComplaint, IsMemoryTold}
 use Rattle.cert_desk_checking.specs.declared.outcome.Outcome.{Outcome}
 use Rattle.const_oid.specs.Bound.{Bound}
-use Rattle.cert_desk_checking.specs.Certificates.{PlainCertificate, certificate_octets}
-use Rattle.cert_desk_checking.specs.Chains.{offset_at}
-use Rattle.cert_desk_checking.specs.Streams.{Kept}
+use Rattle.x509_cert_certificates.specs.Certificates.{PlainCertificate, certificate_octets}
+use Rattle.cert_desk_bundle.specs.Chains.{offset_at}
+use Rattle.cert_desk_bundle.specs.Streams.{Kept}
 use Rattle.cert_tool_runs.specs.Stops.{IsStopTold, stop_of}
 
 -- where the certificate c at a place stands

@@ -4,19 +4,19 @@ use Rattle.cert_desk_io.specs.declared.exit_status.ExitStatus.{ExitStatus}
 use Rattle.cert_desk_io.specs.declared.exit_status.ExitStatus.TheVariants as statuses
 use Rattle.cert_desk_io.specs.Devices.{Device}
 use Rattle.cert_desk_io.specs.Telling.{IsComplaint, IsDeviceTold, IsMemoryTold}
-use Rattle.cert_desk_checking.specs.declared.checked.Verdict.{Verdict}
-use Rattle.cert_desk_checking.specs.declared.checked.Verdict.TheVariants as verdicts
-use Rattle.cert_desk_checking.specs.declared.standing.Standing.{Standing}
-use Rattle.cert_desk_checking.specs.declared.standing.Standing.TheVariants as standings
+use Rattle.cert_desk_rules.specs.declared.checked.Verdict.{Verdict}
+use Rattle.cert_desk_rules.specs.declared.checked.Verdict.TheVariants as verdicts
+use Rattle.cert_desk_bundle.specs.declared.standing.Standing.{Standing}
+use Rattle.cert_desk_bundle.specs.declared.standing.Standing.TheVariants as standings
 use Rattle.cert_desk_checking.specs.declared.outcome.Outcome.{Outcome}
 use Rattle.cert_desk_checking.specs.declared.outcome.Outcome.TheVariants as outcomes
 use Rattle.const_oid.specs.Bound.{Bound}
-use Rattle.cert_desk_checking.specs.Certificates.{PlainCertificate}
-use Rattle.cert_desk_checking.specs.Chains.{joined}
+use Rattle.x509_cert_certificates.specs.Certificates.{PlainCertificate}
+use Rattle.cert_desk_bundle.specs.Chains.{joined}
 use Rattle.cert_desk_checking.specs.Lines.{anchors_line, line_of}
 use Rattle.cert_desk_checking.specs.Reading.{IsFed}
 use Rattle.cert_desk_checking.specs.Runs.{status_of}
-use Rattle.cert_desk_checking.specs.Streams.{Kept}
+use Rattle.cert_desk_bundle.specs.Streams.{Kept}
 
 -- that the stream has this verdict, for which nobody was asked
 abbrev pub unasked : Verdict → Outcome

@@ -5,14 +5,14 @@ use Rattle.cert_desk_io.specs.declared.exit_status.ExitStatus.{ExitStatus}
 use Rattle.cert_desk_io.specs.declared.exit_status.ExitStatus.TheVariants as statuses
 use Rattle.cert_desk_io.specs.Devices.{Device, Untouched}
 use Rattle.cert_desk_io.specs.NamedInputs.{Inputs, OfOpened}
-use Rattle.cert_desk_checking.specs.declared.answers_judge.AnswersJudge.{AnswersJudge}
+use Rattle.cert_desk_rules.specs.declared.answers_judge.AnswersJudge.{AnswersJudge}
 use Rattle.cert_desk_checking.specs.declared.outcome.Outcome.{Outcome}
 use Rattle.cert_desk_checking.specs.Anchors.{purpose_plain}
-use Rattle.cert_desk_checking.specs.Answers.{listed}
-use Rattle.cert_desk_checking.specs.Judges.{judge_answers, judge_questions}
-use Rattle.cert_desk_checking.specs.Questions.{Question}
+use Rattle.cert_desk_rules.specs.Answers.{listed}
+use Rattle.cert_desk_rules.specs.Judges.{judge_answers, judge_questions}
+use Rattle.cert_desk_rules.specs.Questions.{Question}
 use Rattle.cert_desk_checking.specs.Runs.{IsOutcome, judging}
-use Rattle.cert_desk_checking.specs.Streams.{Kept}
+use Rattle.cert_desk_bundle.specs.Streams.{Kept}
 use Rattle.cert_tool_runs.specs.declared.arguments.Moment.{Moment}
 use Rattle.cert_tool_runs.specs.declared.arguments.Moment.TheVariants as moments
 use Rattle.cert_tool_runs.specs.declared.no_answers.NoAnswers.{NoAnswers}

@@ -6,13 +6,13 @@ use Rattle.std.specs.Borrow.{Bor}
 use Rattle.const_oid.specs.Bound.{Bound, max_size}
 use Rattle.const_oid.specs.TextReading.{read_text}
 use Rattle.der_core_head.specs.Dates.{Civil, is_civil}
-use Rattle.cert_desk_checking.specs.Names.TimeTypes.DateTexts.{date_text}
-use Rattle.cert_desk_checking.specs.Names.TimeTypes.Seconds.{last_second, unix_seconds}
+use Rattle.der_types_time.specs.DateTexts.{date_text}
+use Rattle.der_types_time.specs.Seconds.{last_second, unix_seconds}
 use Rattle.cert_desk_checking.specs.Arguments.{IsNumber}
 use Rattle.cert_tool_runs.specs.declared.given.Key.{Key}
 use Rattle.cert_tool_runs.specs.declared.given.Key.TheVariants as keys
-use Rattle.cert_tool_runs.specs.declared.kind.Kind.{Kind}
-use Rattle.cert_tool_runs.specs.declared.kind.Kind.TheVariants as kinds
+use Rattle.cert_tool_explain.specs.declared.kind.Kind.{Kind}
+use Rattle.cert_tool_explain.specs.declared.kind.Kind.TheVariants as kinds
 use Rattle.cert_tool_runs.specs.declared.arguments.Moment.{Moment}
 use Rattle.cert_tool_runs.specs.declared.arguments.Moment.TheVariants as moments
 use Rattle.cert_tool_runs.specs.declared.tasks.Command.{Command}

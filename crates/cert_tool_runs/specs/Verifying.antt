@@ -8,12 +8,14 @@ use Rattle.cert_desk_io.specs.declared.read_all_error.ReadAllError.TheVariants a
 use Rattle.cert_desk_io.specs.Devices.{Device, Untouched}
 use Rattle.cert_desk_io.specs.Telling.{IsAnswer, IsComplaint, IsDeviceTold, IsMemoryTold}
 use Rattle.cert_desk_io.specs.Whole.{IsUnread, IsWhole, most_octets}
-use Rattle.cert_desk_checking.specs.declared.checked.Verdict.{Verdict}
-use Rattle.cert_desk_checking.specs.declared.checked.Verdict.TheVariants as verdicts
+use Rattle.cert_desk_rules.specs.declared.checked.Verdict.{Verdict}
+use Rattle.cert_desk_rules.specs.declared.checked.Verdict.TheVariants as verdicts
 use Rattle.cert_desk_checking.specs.declared.outcome.Outcome.{Outcome}
 use Rattle.cert_desk_checking.specs.declared.outcome.Outcome.TheVariants as outcomes
-use Rattle.cert_desk_checking.specs.Lines.{kind_name, line_of, rule_name}
-use Rattle.cert_desk_checking.specs.Questions.{Question}
+use Rattle.cert_desk_bundle.specs.FaultNames.{kind_name}
+use Rattle.cert_desk_rules.specs.RuleNames.{rule_name}
+use Rattle.cert_desk_checking.specs.Lines.{line_of}
+use Rattle.cert_desk_rules.specs.Questions.{Question}
 use Rattle.cert_desk_checking.specs.Runs.{status_of}
 use Rattle.cert_tool_runs.specs.declared.line_fault.LineFault.{LineFault}
 use Rattle.cert_tool_runs.specs.declared.no_answers.NoAnswers.{NoAnswers}

@@ -1,8 +1,8 @@
 //! What differs between names that print alike, or nearly so.
 
-use crate::lines::Lines;
 use crate::reasons::begin_detail;
-use cert_desk_checking::certificates::{AttributeTypeAndValue, Name};
+use cert_tool_describe::Lines;
+use x509_cert_names::{AttributeTypeAndValue, Name};
 
 // These octets behind the blanks in front.
 fn without_blanks(octets: &[u8]) -> &[u8] {

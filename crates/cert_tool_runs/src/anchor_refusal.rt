@@ -1,15 +1,15 @@
 //! Why octets give no anchors.
 
-use crate::faults::add_fault;
-use crate::lines::Lines;
-use crate::parts::Node;
-use crate::refusal::is_pem;
 use crate::stream_refusal::PEM_STREAM;
 use crate::unjudged::{add_unjudged, begin_anchor};
-use cert_desk_checking::{AnchorFault, Outcome, Raw, TrustAnchorChoice, read_anchors};
+use cert_desk_checking::{AnchorFault, Outcome, read_anchors};
 use cert_desk_io::FromRead;
+use cert_tool_describe::Lines;
+use cert_tool_explain::{Node, add_fault, is_pem};
 use der_core::FromDer;
 use std::alloc::{AllocError, Global};
+use x509_cert_anchors::TrustAnchorChoice;
+use x509_cert_parts::Raw;
 
 // What a fault of an anchor means.
 fn meaning(fault: AnchorFault) -> &'static str {

@@ -2,8 +2,8 @@
 ghost use Rattle.std.specs.Prelude.{◌≡◌, map, IfOk, IfErr, OnOk, Some, Ok};
 ghost use Rattle.std.specs.List.{list_all};
 ghost use Rattle.der_core_head.specs.Grammar.{plain_option, read_whole};
-ghost use Rattle.cert_desk_checking.specs.Parts.{algorithm_plain, key_plain};
-ghost use Rattle.cert_desk_checking.specs.Answers.{answer_plain};
+ghost use Rattle.x509_cert_parts.specs.Views.{algorithm_plain, key_plain};
+ghost use Rattle.cert_desk_rules.specs.Answers.{answer_plain};
 ghost use Rattle.cert_tool_runs.specs.AnswerLines.{algorithm_in, bits_in, file_says, is_anchor};
 ghost use Rattle.cert_tool_runs.specs.AnswerLines.{is_digit, is_number, is_skipped, key_in};
 ghost use Rattle.cert_tool_runs.specs.AnswerLines.{line_says, octets_in, parts, question_in};
@@ -12,10 +12,12 @@ ghost use Rattle.cert_tool_runs.specs.AnswerReading.{FailsBy, IsNoFile, IsNoLine
 
 use crate::line_fault::LineFault;
 use crate::no_answers::NoAnswers;
-use cert_desk_checking::{AlgorithmIdentifier, Answer, BitString, SubjectPublicKeyInfo};
+use cert_desk_rules::Answer;
 use der_core::{Decode, ErrorKind, FromDer, SliceReader};
+use der_types_values::BitString;
 use hex::FromHexError;
 use std::alloc::{AllocError, Global};
+use x509_cert_parts::{AlgorithmIdentifier, SubjectPublicKeyInfo};
 
 // Why what a line says isn't read.
 #[derive(Clone, Copy)]

@@ -4,13 +4,13 @@ ghost use Rattle.std.specs.Prelude.{◌≡◌, ◌≢◌, ℕ, ◌<◌, ◌≤�
 ghost use Rattle.const_oid.specs.Bound.{Bound, max_size};
 ghost use Rattle.const_oid.specs.TextReading.{read_text};
 ghost use Rattle.der_core_head.specs.Dates.{Civil, is_civil};
-ghost use Rattle.cert_desk_checking.specs.Names.TimeTypes.DateTexts.{date_text};
-ghost use Rattle.cert_desk_checking.specs.Names.TimeTypes.Seconds.{last_second};
+ghost use Rattle.der_types_time.specs.DateTexts.{date_text};
+ghost use Rattle.der_types_time.specs.Seconds.{last_second};
 ghost use Rattle.cert_desk_checking.specs.Arguments.{IsNumber};
 ghost use Rattle.cert_tool_runs.specs.Tasks.{IsMoment, IsNoMoment, arcs_of};
 
-use cert_desk_checking::certificates::DateTime;
 use const_oid::{Error, ObjectIdentifier};
+use der_types_time::DateTime;
 
 // The least limit: a certificate has a header and some content.
 const LEAST_LIMIT: u64 = 6;

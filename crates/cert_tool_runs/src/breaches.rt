@@ -3,16 +3,19 @@
 use crate::alike_names::{add_differences, are_alike};
 use crate::chain_place::ChainPlace;
 use crate::heard::{Heard, add_algorithm};
-use crate::lines::Lines;
 use crate::reasons::{LengthReasons, add_reason_of, begin_breach, begin_detail};
-use crate::remark_lines::end_remark;
 use crate::remarks::add_remarks;
 use crate::serial_numbers::SerialNumbers;
 use crate::stream_refusal::{LEAF_FIRST, is_leaf_first};
 use crate::unjudged::add_unjudged;
-use cert_desk_checking::certificates::{Name, Time};
-use cert_desk_checking::{Anchor, Bundle, KeptRules, Rule};
+use cert_desk_bundle::Bundle;
+use cert_desk_checking::Anchor;
+use cert_desk_rules::{KeptRules, Rule};
+use cert_tool_describe::Lines;
+use cert_tool_explain::end_remark;
 use const_oid::ObjectIdentifier;
+use x509_cert_names::Name;
+use x509_cert_parts::Time;
 
 // All rules, in the order in which they are judged.
 const RULES: [Rule; 11] = [

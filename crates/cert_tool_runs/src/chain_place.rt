@@ -1,7 +1,9 @@
 //! A place of a chain.
 
-use cert_desk_checking::certificates::{Extension, Name, TbsCertificateInner};
-use cert_desk_checking::{Bundle, CertificateInner, Raw};
+use cert_desk_bundle::Bundle;
+use x509_cert_certificates::{CertificateInner, TbsCertificateInner};
+use x509_cert_names::Name;
+use x509_cert_parts::{Extension, Raw};
 
 // A place of a chain.
 #[derive(Clone, Copy)]

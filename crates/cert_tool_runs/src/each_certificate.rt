@@ -2,12 +2,13 @@
 
 ghost use Rattle.std.specs.Prelude.{◌≤◌};
 
-use crate::description::add_certificate;
-use crate::lines::Lines;
 use crate::stopping::tell_stop;
 use crate::telling::tell;
-use cert_desk_checking::{Bundle, BundleError, Checked, FaultKind, Outcome, ReadError, Verdict};
+use cert_desk_bundle::{Bundle, BundleError, FaultKind, ReadError};
+use cert_desk_checking::Outcome;
 use cert_desk_io::{ExitStatus, Input, Output, write_all};
+use cert_desk_rules::{Checked, Verdict};
+use cert_tool_describe::{Lines, add_certificate};
 use std::alloc::{AllocError, Global};
 
 // The certificates of a stream that were described: how many, and how many octets they have.

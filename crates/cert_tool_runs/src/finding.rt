@@ -5,8 +5,9 @@ ghost use Rattle.cert_desk_io.specs.Devices.{source};
 ghost use Rattle.cert_desk_checking.specs.Anchors.{purpose_plain};
 ghost use Rattle.cert_desk_checking.specs.Runs.{IsOutcome, judging};
 
-use cert_desk_checking::{CheckError, Outcome, SignatureJudge, check, read_anchors, read_stream};
+use cert_desk_checking::{Outcome, check, read_anchors, read_stream};
 use cert_desk_io::Input;
+use cert_desk_rules::{CheckError, SignatureJudge};
 use const_oid::ObjectIdentifier;
 use std::alloc::Global;
 

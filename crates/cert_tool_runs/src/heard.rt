@@ -1,8 +1,9 @@
 //! What answers are about.
 
-use crate::lines::Lines;
 use crate::reasons::begin_detail;
-use cert_desk_checking::{Answer, ObjectIdentifier};
+use cert_desk_rules::Answer;
+use cert_tool_describe::Lines;
+use const_oid::ObjectIdentifier;
 use std::alloc::{AllocError, Global};
 use std::collections::BTreeMap;
 

@@ -1,12 +1,13 @@
 //! Why a certificate breaks a rule of its extensions, or of path lengths.
 
 use crate::chain_place::ChainPlace;
-use crate::content_faults::{add_content_fault, content_fault};
-use crate::lines::Lines;
-use crate::remark_lines::end_remark;
-use cert_desk_checking::certificates::Extension;
-use cert_desk_checking::{Bundle, KeptRules, Reason, Rule, reason_of};
+use cert_desk_bundle::Bundle;
+use cert_desk_checking::reason_of;
+use cert_desk_rules::{KeptRules, Reason, Rule};
+use cert_tool_describe::Lines;
+use cert_tool_explain::{add_content_fault, content_fault, end_remark};
 use const_oid::ObjectIdentifier;
+use x509_cert_parts::Extension;
 
 // Begins a rule that is broken, and the reason.
 pub(crate) fn begin_breach(lines: &mut Lines, rule: Rule) {

@@ -2,14 +2,15 @@
 
 ghost use Rattle.std.specs.Prelude.{◌≡◌, ◌≤◌, IfOk, string_bytes, true};
 ghost use Rattle.cert_desk_io.specs.Devices.{sink, source};
-ghost use Rattle.cert_desk_checking.specs.Streams.{Kept};
+ghost use Rattle.cert_desk_bundle.specs.Streams.{Kept};
 ghost use Rattle.cert_tool_runs.specs.Splitting.{IsListed, IsReversed, IsTaken, comma_before};
 ghost use Rattle.cert_tool_runs.specs.Splitting.{place_lines, places_text, reversed};
 ghost use Rattle.cert_tool_runs.specs.Stops.{FedWithin};
 
 use crate::stopping::tell_stop;
 use crate::stream_fault::stop_of;
-use cert_desk_checking::{Bundle, read_stream};
+use cert_desk_bundle::Bundle;
+use cert_desk_checking::read_stream;
 use cert_desk_io::{ExitStatus, Input, Output, answer, complain, tell_memory};
 use std::alloc::{AllocError, Global};
 

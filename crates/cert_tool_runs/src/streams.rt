@@ -3,7 +3,7 @@
 ghost use Rattle.std.specs.Prelude.{◌⊎◌, ◌≤◌};
 ghost use Rattle.cert_desk_io.specs.Devices.{sink, source};
 ghost use Rattle.cert_desk_io.specs.NamedInputs.{inputs};
-ghost use Rattle.cert_desk_checking.specs.Streams.{Kept};
+ghost use Rattle.cert_desk_bundle.specs.Streams.{Kept};
 ghost use Rattle.cert_tool_runs.specs.Stops.{FedWithin};
 ghost use Rattle.cert_tool_runs.specs.TaskRuns.{IsSplitAt, IsSplit, IsTurned};
 ghost use Rattle.cert_tool_runs.specs.TaskRuns.{IsStopped};

@@ -11,7 +11,7 @@ ghost use Rattle.cert_tool_runs.specs.Tasks.{command_in, plain_command, tells, i
 
 use crate::arguments::{Moment, limit_in, moment_in, number_in, purpose_in};
 use crate::given::{Given, Key, WordFault, given_in};
-use crate::kind::Kind;
+use cert_tool_explain::Kind;
 use const_oid::ObjectIdentifier;
 
 /// What is done.

@@ -1,9 +1,11 @@
 //! What trust anchors say, and no rule looks at.
 
-use crate::lines::Lines;
-use cert_desk_checking::TrustAnchorChoice;
-use cert_desk_checking::certificates::{Extension, Name, Raw, TbsCertificateInner, Validity};
+use cert_tool_describe::Lines;
 use der_core::FromDer;
+use x509_cert_anchors::TrustAnchorChoice;
+use x509_cert_certificates::TbsCertificateInner;
+use x509_cert_names::Name;
+use x509_cert_parts::{Extension, Raw, Validity};
 
 // Begins what is said of the anchor at an octet.
 pub(crate) fn begin_anchor(lines: &mut Lines, offset: u64) {

@@ -4,11 +4,11 @@ ghost use Rattle.std.specs.Prelude.{◌≡◌, ◌≤◌, List, map, IfOk, IfErr
 ghost use Rattle.cert_desk_io.specs.Devices.{sink, source};
 ghost use Rattle.cert_desk_checking.specs.declared.outcome.Outcome.{Outcome};
 ghost use Rattle.cert_desk_checking.specs.Anchors.{purpose_plain};
-ghost use Rattle.cert_desk_checking.specs.Questions.{Question};
+ghost use Rattle.cert_desk_rules.specs.Questions.{Question};
 ghost use Rattle.cert_desk_checking.specs.Runs.{IsOutcome, judging};
-ghost use Rattle.cert_desk_checking.specs.declared.answers_judge.AnswersJudge.{AnswersJudge};
-ghost use Rattle.cert_desk_checking.specs.Answers.{answer_plain, listed};
-ghost use Rattle.cert_desk_checking.specs.Judges.{judge_answers, judge_questions};
+ghost use Rattle.cert_desk_rules.specs.declared.answers_judge.AnswersJudge.{AnswersJudge};
+ghost use Rattle.cert_desk_rules.specs.Answers.{answer_plain, listed};
+ghost use Rattle.cert_desk_rules.specs.Judges.{judge_answers, judge_questions};
 ghost use Rattle.cert_tool_runs.specs.Verifying.{AreAnswers, IsNoneTold, IsToldAs, wrong_line};
 ghost use Rattle.cert_tool_runs.specs.Verifying.{verdict_json, verdict_text};
 
@@ -17,12 +17,11 @@ use crate::finding::find_outcome;
 use crate::line_fault::LineFault;
 use crate::no_answers::NoAnswers;
 use crate::stopping::tell_stop;
-use cert_desk_checking::{
-    Answer, AnswersJudge, Checked, Outcome, Verdict, status_of, verdict_line,
-};
+use cert_desk_checking::{Outcome, status_of, verdict_line};
 use cert_desk_io::{
     ExitStatus, Input, Output, ReadAllError, answer, complain, read_all, tell_device, tell_memory,
 };
+use cert_desk_rules::{Answer, AnswersJudge, Checked, Verdict};
 use const_oid::ObjectIdentifier;
 use std::alloc::{AllocError, Global};
 

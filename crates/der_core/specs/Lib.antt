@@ -3,3 +3,4 @@ pub mod Equality
 pub mod Orders
 pub mod OrdLaws
 pub mod Placed
+pub mod Rows

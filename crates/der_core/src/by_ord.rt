@@ -9,8 +9,8 @@ ghost use Rattle.der_core.specs.Orders.{contents_cmp, encodings_cmp, Overflows};
 use crate::headers::length_cmp;
 use crate::order::ValueOrd;
 use const_oid::ObjectIdentifier;
-use der_core_coding::values::{EncodeValue, FixedTag, ShapedValue};
 use der_core_head::Error;
+use der_core_values::{EncodeValue, FixedTag, ShapedValue};
 use std::cmp::Ordering;
 
 /// A type whose `Ord` is the order of contents of equal length, as lists of octets.
@@ -84,18 +84,6 @@ pub fn der_cmp_by_ord<T: OrdIsValueOrd + EncodeValue + FixedTag>(
         return Ok(lengths);
     }
     Ok(value_cmp_by_ord(a, b))
-}
-
-impl OrdIsValueOrd for bool {
-    ghost use Rattle.der_core.specs.OrdLaws.{bool_order};
-
-    ghost order = { bool_order };
-}
-
-impl OrdIsValueOrd for () {
-    ghost use Rattle.der_core.specs.OrdLaws.{null_order};
-
-    ghost order = { null_order };
 }
 
 impl<const MAX_SIZE: usize> OrdIsValueOrd for ObjectIdentifier<MAX_SIZE> {

@@ -3,7 +3,7 @@
 ghost use Rattle.std.specs.Prelude.{◌≡◌, IfOk};
 ghost use Rattle.der_core_head.specs.Grammar.{plain_list, plain_option};
 
-use der_core_coding::values::Shaped;
+use der_core_values::Shaped;
 use std::alloc::{AllocError, Global};
 
 /// Copies of the members of a list, each made by `copy`.

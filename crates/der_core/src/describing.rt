@@ -15,8 +15,8 @@
 
 pub use crate::order::{OrderWay, Ordered};
 pub use crate::records::{AsRecord, RowUser, Rows};
-pub use der_core_coding::values::describing::{
+pub use der_core_values::describing::{
     AsEnumerated, AsField, AsInteger, AsLeaf, AsOctets, Described, EncodeLeaf, Numbered, Octets,
     Primitive, Wraps,
 };
-pub use der_core_coding::values::{DecodeRow, FieldRow, FieldsView};
+pub use der_core_values::{DecodeRow, FieldRow, FieldsView};

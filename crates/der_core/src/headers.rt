@@ -5,8 +5,8 @@ ghost use Rattle.der_core_head.specs.Tags.{IsTag, tag_octets};
 ghost use Rattle.der_core_head.specs.Heads.{length_octets, head_octets};
 ghost use Rattle.der_core.specs.Orders.{octets_cmp};
 
-use der_core_coding::octets::headers::Header;
 use der_core_head::{Length, Tag, leading_octet_of, number_of};
+use der_core_octets::Header;
 use std::cmp::Ordering;
 
 /// The octets of a tag (X.690 8.1.2): those of the array up to a place.

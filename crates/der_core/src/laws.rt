@@ -15,14 +15,14 @@ ghost use Rattle.der_core_head.specs.Writing.{Out, write};
 ghost use Rattle.der_core.specs.Equality.{IsOfValues};
 ghost use Rattle.der_core.specs.Orders.{octets_cmp, encodings_cmp};
 
-pub use der_core_coding::octets::headers::laws::scanned_in_one_way;
-use der_core_coding::values::{Element, InRange, Member};
 pub use der_core_head::laws::{
     apart_is_lawful, ber_headers_are_spelled, bodies_end_themselves, bounds_are_those_of_shapes,
     headers_are_spelled, headers_stay, more_levels_read_alike, new_values_hold_large_arcs,
     read_is_spelled, spelled_is_read, valid_is_written, values_begin_as_stated,
     wider_bounds_keep_encodings, written_is_read, written_is_spelled,
 };
+pub use der_core_octets::laws::scanned_in_one_way;
+use der_core_values::{Element, InRange, Member};
 
 /// What was written of a value has an encoding, where the values of its type are in range, and is
 /// read as that value.

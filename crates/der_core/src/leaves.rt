@@ -4,29 +4,13 @@ ghost use Rattle.std.specs.Prelude.{◌≡◌};
 ghost use Rattle.der_core_head.specs.Integers.{integer_octets};
 ghost use Rattle.der_core.specs.Orders.{octets_cmp};
 
-use crate::order::{OrderWay, Ordered, ValueOrd};
+use crate::order::{OrderWay, Ordered};
 use const_oid::ObjectIdentifier;
-use der_core_coding::octets::{BytesOwned, BytesRef, StringOwned, StringRef, integer_octets_of};
-use der_core_coding::values::Integer;
-use der_core_coding::values::describing::{AsInteger, AsOctets, Octets};
 use der_core_head::Error;
+use der_core_octets::{BytesOwned, BytesRef, StringOwned, StringRef, integer_octets_of};
+use der_core_values::Integer;
+use der_core_values::describing::{AsInteger, AsOctets, Octets};
 use std::cmp::Ordering;
-
-/// False, `00`, is below true, `FF` (X.690 11.1).
-impl ValueOrd for bool {
-    #[tactic(auto, using(crate::proofs::LeafOrders::bool_contents))]
-    fn value_cmp(&self, other: &Self) -> Result<Ordering, Error> {
-        Ok(self.cmp(other))
-    }
-}
-
-/// There is one content, of no octets.
-impl ValueOrd for () {
-    #[tactic(auto, using(crate::proofs::LeafOrders::null_contents))]
-    fn value_cmp(&self, _other: &Self) -> Result<Ordering, Error> {
-        Ok(Ordering::Equal)
-    }
-}
 
 /// The order of the contents of two whole numbers (X.690 8.3). It isn't that of the numbers: 127 is
 /// `7F` and 128 `00 80`, and -1 is `FF`.

@@ -8,7 +8,6 @@ mod choices;
 mod contents;
 mod copies;
 pub mod describing;
-mod fields;
 mod headers;
 mod iterators;
 pub mod laws;
@@ -22,19 +21,6 @@ mod strict_set_of;
 mod wrappers;
 
 pub use by_ord::{OrdIsValueOrd, der_cmp_by_ord, value_cmp_by_ord, value_cmp_is_ord};
-pub use der_core_coding::octets::headers::{
-    Header, header_ber_of, header_of, indefinite_length_of, length_of, lone_length_of, tag_ber_of,
-};
-pub use der_core_coding::octets::{
-    BytesOwned, BytesRef, Reader, StringOwned, StringRef, Writer, encode_length, encode_tag,
-    peek_matches,
-};
-pub use der_core_coding::values::{
-    ApartValue, AsRead, AsReadValue, Choice, Decode, DecodeFields, DecodeValue, Element, Encode,
-    EncodeValue, Fields, FixedTag, InRange, InRangeFields, InRangeValue, Integer, Leaf, Member,
-    OneOf2, OneOf3, OneOf4, OneOf5, OneOf6, OneOf7, OneOf8, OneOf9, Shaped, ShapedValue,
-    decode_octets,
-};
 pub use der_core_coding::{
     DefaultContent, DefaultValue, EncodeFields, EncodeRef, EncodeValueRef, Explicit, FromDer,
     Implicit, ImplicitRef, IsConstructed, Reading, SliceReader, SliceWriter, Tagged, ToDer,
@@ -44,8 +30,30 @@ pub use der_core_head::{
     CLASS_APPLICATION, CLASS_CONTEXT_SPECIFIC, CLASS_PRIVATE, CLASS_UNIVERSAL, Class,
     EncodingRules, Error, ErrorKind, Length, Result, Tag, TagMode, TagNumber, tag_of,
 };
-pub use fields::FieldsOrd;
+pub use der_core_octets::{
+    BytesOwned, BytesRef, Header, Reader, StringOwned, StringRef, Writer, encode_length,
+    encode_tag, header_ber_of, header_of, indefinite_length_of, length_of, lone_length_of,
+    peek_matches, tag_ber_of,
+};
+pub use der_core_values::{
+    ApartValue, AsRead, AsReadValue, Choice, Decode, DecodeFields, DecodeValue, Element, Encode,
+    EncodeValue, Fields, FixedTag, InRange, InRangeFields, InRangeValue, Integer, Leaf, Member,
+    OneOf2, OneOf3, OneOf4, OneOf5, OneOf6, OneOf7, OneOf8, OneOf9, Shaped, ShapedValue,
+    decode_octets,
+};
 pub use headers::{header_cmp, length_cmp, tag_cmp};
 pub use iterators::{iter_cmp, iter_cmp_owned};
 pub use order::{DerOrd, FirstTag, ValueOrd};
+pub use pairs::FieldsOrd;
 pub use strict_set_of::StrictSetOf;
+
+mod absent;
+mod boolean;
+mod boxes;
+mod encode_ref;
+mod explicit;
+mod implicit;
+mod options;
+mod pairs;
+mod unit;
+mod with_default;

@@ -5,16 +5,16 @@ pub use crate::contents::{value_cmp_behind, value_cmp_by_contents};
 pub use crate::copies::{copies_of, copies_of_option, copy_of_option};
 pub use crate::lists::elements_cmp;
 pub use crate::placing::{place_of, stands_among};
-pub use der_core_coding::octets::{
-    encode_header, integer_octets_of, signed_of, slice_len, sum_len, unsigned_of,
-};
-pub use der_core_coding::values::{
-    decode_leaf, decode_leaf_of_tag, list_in_range, octets_in_range, read_content, read_fields,
-    text_in_range,
-};
 pub use der_core_coding::{
     decode_sliced, encode_behind, encode_explicit, encode_implicit, explicit_of, explicit_ref,
     implicit_of, implicit_ref, is_zero, leaf_from_der, len_behind, optional_explicit,
-    optional_implicit, read_explicit, read_rising,
+    optional_implicit, read_explicit, read_rising, read_whole,
 };
 pub use der_core_head::{header_len, is_constructed, is_same_tag, leading_octet_of, number_of};
+pub use der_core_octets::{
+    encode_header, integer_octets_of, signed_of, slice_len, sum_len, unsigned_of,
+};
+pub use der_core_values::{
+    decode_leaf, decode_leaf_of_tag, list_in_range, octets_in_range, read_content, read_fields,
+    text_in_range,
+};

@@ -7,9 +7,9 @@ ghost use Rattle.der_core_head.specs.Writing.{size, size_content};
 ghost use Rattle.der_core.specs.Orders.{encodings_cmp, contents_cmp, Overflows, StartsWith};
 
 use crate::headers::length_cmp;
-use der_core_coding::values::describing::{Described, Way};
-use der_core_coding::values::{EncodeValue, FixedTag, Shaped, ShapedValue};
 use der_core_head::{Error, Tag};
+use der_core_values::describing::{Described, Way};
+use der_core_values::{EncodeValue, FixedTag, Shaped, ShapedValue};
 use std::cmp::Ordering;
 
 /// A type whose values are compared by their contents.
@@ -107,28 +107,5 @@ impl<T: ValueOrd + FixedTag> FirstTag for T {
     #[tactic(auto, using(crate::proofs::FirstTags::tagged_starts))]
     fn first_tag(&self) -> Option<Tag> {
         Some(T::tag())
-    }
-}
-
-/// Nothing is below any encoding.
-impl<T: DerOrd> DerOrd for Option<T> {
-    #[tactic(auto, using(crate::proofs::FirstTags::option_orders))]
-    fn der_cmp(&self, other: &Self) -> Result<Ordering, Error> {
-        match (self, other) {
-            (Some(value), Some(other)) => value.der_cmp(other),
-            (Some(_), None) => Ok(Ordering::Greater),
-            (None, Some(_)) => Ok(Ordering::Less),
-            (None, None) => Ok(Ordering::Equal),
-        }
-    }
-}
-
-impl<T: FirstTag> FirstTag for Option<T> {
-    #[tactic(auto, unfolding(der_core_head::specs::Shapes::octets_of, der_core_head::specs::Shapes::IsValid))]
-    fn first_tag(&self) -> Option<Tag> {
-        match self {
-            Some(value) => value.first_tag(),
-            None => None,
-        }
     }
 }

@@ -8,8 +8,8 @@ ghost use Rattle.der_core_head.specs.Shapes.{IsValid};
 ghost use Rattle.der_core.specs.Placed.{placed, stands_among, AllValid};
 
 use crate::order::DerOrd;
-use der_core_coding::values::Member;
 use der_core_head::Error;
+use der_core_values::Member;
 use std::cmp::Ordering;
 
 /// The place of a value among others: in front of the first whose encoding is above its own (X.690

@@ -6,17 +6,16 @@ ghost use Rattle.der_core_head.specs.Shapes.{Body, BodyValue, IsBody, nested};
 ghost use Rattle.der_core_head.specs.Reading.{GivesNow};
 ghost use Rattle.der_core_head.specs.Writing.{Writes, size_body, write_body};
 ghost use Rattle.der_core_head.specs.Spelling.{is_body_apart};
-ghost use Rattle.der_core_coding.specs.Octets.Outputs.{Continues};
+ghost use Rattle.der_core_octets.specs.Outputs.{Continues};
 ghost use Rattle.der_core.specs.Orders.{bodies_cmp, Overflows};
 
-use crate::fields::FieldsOrd;
 use crate::order::{OrderWay, Ordered};
+use crate::pairs::FieldsOrd;
 use der_core_coding::EncodeFields;
-use der_core_coding::octets::headers::Header;
-use der_core_coding::octets::{Reader, Writer};
-use der_core_coding::values::describing::{AsReadWay, DecodeWay, Described, TagWay, Way};
-use der_core_coding::values::{AsReadFields, DecodeFields, Fields, read_fields};
 use der_core_head::{Error, Length, Tag};
+use der_core_octets::{Header, Reader, Writer};
+use der_core_values::describing::{AsReadWay, DecodeWay, Described, TagWay, Way};
+use der_core_values::{AsReadFields, DecodeFields, Fields, read_fields};
 use std::alloc::Global;
 use std::cmp::Ordering;
 

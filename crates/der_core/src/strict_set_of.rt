@@ -15,14 +15,13 @@ ghost use Rattle.der_core.specs.Placed.{AllValid, IsNotPlaced, placed, stands_am
 
 use crate::order::DerOrd;
 use crate::placing::{place_of, stands_among};
-use der_core_coding::octets::headers::Header;
-use der_core_coding::octets::{Reader, Writer};
 use der_core_coding::read_rising;
-use der_core_coding::values::{
+use der_core_head::{Error, ErrorKind, Length, Tag};
+use der_core_octets::{Header, Reader, Writer};
+use der_core_values::{
     ApartValue, AsRead, AsReadValue, Decode, DecodeFields, DecodeValue, Element, Encode,
     EncodeValue, Fields, FixedTag, InRange, InRangeValue, Member, Shaped, ShapedValue, read_fields,
 };
-use der_core_head::{Error, ErrorKind, Length, Tag};
 use std::alloc::Global;
 use std::cmp::Ordering;
 use std::slice::Iter;
@@ -207,13 +206,13 @@ impl<T: Encode + DerOrd + Member + InRange> EncodeValue for StrictSetOf<T> {
 }
 
 impl<T: Element + Member> ApartValue for StrictSetOf<T> {
-    ghost use Rattle.der_core_coding.specs.Values.Both.{both_true};
+    ghost use Rattle.der_core_values.specs.Both.{both_true};
 
     ghost apart_value = { both_true T.element T.apart };
 }
 
 impl<T: AsRead> AsReadValue for StrictSetOf<T> {
-    ghost use Rattle.der_core_coding.specs.Values.Same.{same_list};
+    ghost use Rattle.der_core_values.specs.Same.{same_list};
 
     ghost as_read_value = { λ v. same_list T.as_read v.values.items };
 }

@@ -1,42 +1,19 @@
 //! Defaults.
 
-ghost use Rattle.std.specs.Prelude.{
-  ◌≡◌,
-  List,
-  ℕ,
-  [],
-  ◌∷◌,
-  Ok,
-  true,
-  bytes_eq,
-  nat_lt,
-  length,
-  pos,
-  refl,
-};
+ghost use Rattle.std.specs.Prelude.{◌≡◌, List, ℕ, [], ◌∷◌, Ok, true, bytes_eq, nat_lt, length};
+ghost use Rattle.std.specs.Prelude.{pos, refl};
 ghost use Rattle.der_core_head.specs.Grammar.{read};
 ghost use Rattle.der_core_head.specs.Leaves.{integer};
 ghost use Rattle.der_core_head.specs.Limits.{levels_max};
-ghost use Rattle.der_core_head.specs.Shapes.{
-  leaf,
-  defaulted,
-  octets_of,
-  contents,
-  IsValid,
-  IsContent,
-};
+ghost use Rattle.der_core_head.specs.Shapes.{leaf, octets_of, contents, IsValid, IsContent};
 ghost use Rattle.der_core_head.specs.Spelling.{are_content_enough};
 ghost use Rattle.der_core_head.specs.Tags.{context};
 ghost use Rattle.der_core_coding.specs.Defaults.{short_tlv};
 
-use crate::wrappers::{Explicit, Implicit};
-use der_core_head::{Error, ErrorKind, Length, number_of};
-use der_core_octets::{Reader, Writer};
-use der_core_values::{
-    ApartValue, AsRead, AsReadValue, Choice, Decode, Encode, FixedTag, InRange, Integer, Shaped,
-    ShapedValue,
-};
-use std::alloc::Global;
+use crate::explicit::Explicit;
+use crate::implicit::Implicit;
+use der_core_head::number_of;
+use der_core_values::{ApartValue, AsRead, AsReadValue, FixedTag, Integer, Shaped, ShapedValue};
 
 /// A type with a value that is never written (X.690 11.5), whose values are written as they are
 /// read.
@@ -180,81 +157,5 @@ impl DefaultContent for u32 {
 
     fn is_default_content(&self) -> bool {
         is_zero(self)
-    }
-}
-
-/// A value that is absent where it is the default.
-#[derive(Debug, Drop)]
-pub struct WithDefault<T> {
-    /// The value, which isn't written where it is the default.
-    pub value: T,
-}
-
-impl<T: DefaultValue> Shaped for WithDefault<T> {
-    ghost shape = { defaulted T.shape T.default_octets };
-
-    ghost plain = { λ x. T.plain x.value };
-
-    ghost written = { λ x. T.plain x.value };
-}
-
-impl<T: DefaultValue> AsRead for WithDefault<T> {
-    ghost as_read = { λ _. refl };
-}
-
-impl<'a, R: Reader<'a>, T: Decode<'a, R> + Choice + DefaultValue> Decode<'a, R> for WithDefault<T> {
-    // Inlined, since a default that is absent is told by one octet.
-    #[inline(always)]
-    #[tactic(auto, unfolding(der_core_head::specs::Grammar::default_at))]
-    fn decode(alloc: Global, reader: &mut R) -> Result<WithDefault<T>, Error> {
-        let Some(tag) = reader.next_tag_or_end()? else {
-            return Ok(WithDefault {
-                value: T::default_value(),
-            });
-        };
-        if !T::can_decode(tag) {
-            return Ok(WithDefault {
-                value: T::default_value(),
-            });
-        }
-        let place = reader.position();
-        let value = T::decode(alloc, reader)?;
-        if value.is_default() {
-            reader.fail();
-            return Err(ErrorKind::Noncanonical { tag }.at(place));
-        }
-        Ok(WithDefault { value })
-    }
-}
-
-impl<T: Encode + DefaultValue> Encode for WithDefault<T> {
-    // Inlined, so that what is answered isn't moved.
-    #[inline(always)]
-    #[tactic(auto, unfolding(der_core_head::specs::Writing::default_len))]
-    fn encoded_len(&self) -> Result<Length, Error> {
-        if self.value.is_default() {
-            Ok(Length { value: 0 })
-        } else {
-            self.value.encoded_len()
-        }
-    }
-
-    // Inlined, so that what is answered isn't moved.
-    #[inline(always)]
-    #[tactic(auto, unfolding(der_core_head::specs::Writing::default_write))]
-    fn encode<W: Writer>(&self, writer: &mut W) -> Result<(), Error> {
-        if self.value.is_default() {
-            Ok(())
-        } else {
-            self.value.encode(writer)
-        }
-    }
-}
-
-/// A default has an encoding, though it isn't written.
-impl<T: InRange + DefaultValue> InRange for WithDefault<T> {
-    fn in_range(&self) {
-        self.value.in_range();
-        let _absent = self.value.is_default();
     }
 }

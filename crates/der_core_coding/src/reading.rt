@@ -8,8 +8,7 @@ ghost use Rattle.der_core_head.specs.Grammar.{value_at, plain_option};
 ghost use Rattle.der_core_head.specs.Reading.{Reads, read_at, read_content_at};
 
 use der_core_head::{Error, Tag, TagMode, TagNumber, is_constructed, is_same_tag};
-use der_core_octets::Reader;
-use der_core_octets::headers::Header;
+use der_core_octets::{Header, Reader};
 use der_core_values::{Decode, DecodeValue, FixedTag};
 use std::alloc::Global;
 

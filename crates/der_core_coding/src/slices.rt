@@ -10,7 +10,7 @@ ghost use Rattle.der_core_octets.specs.Outputs.{filled};
 use crate::slice_writer::SliceWriter;
 use crate::tagged::Tagged;
 use der_core_head::Error;
-use der_core_octets::headers::Header;
+use der_core_octets::Header;
 use der_core_values::EncodeValue;
 
 /// The header of a value: its tag, and the number of octets of its content.

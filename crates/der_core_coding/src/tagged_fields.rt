@@ -3,8 +3,9 @@
 ghost use Rattle.std.specs.Prelude.{◌≡◌};
 ghost use Rattle.der_core_head.specs.Grammar.{plain_option};
 
-use crate::tuples::EncodeRef;
-use crate::wrappers::{Explicit, Implicit, ImplicitRef};
+use crate::encode_ref::EncodeRef;
+use crate::explicit::Explicit;
+use crate::implicit::{Implicit, ImplicitRef};
 
 /// The value behind a tag that replaced its own.
 pub fn implicit_of<T, const N: u32>(field: Option<Implicit<T, N>>) -> Option<T>

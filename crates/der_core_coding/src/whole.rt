@@ -18,9 +18,12 @@ use der_core_octets::Reader;
 use der_core_values::{Decode, FixedTag, Leaf, decode_leaf_of_tag};
 use std::alloc::Global;
 
-/// Reads all of the octets.
+/// The value that the octets spell, all of the octets.
+///
+/// # Errors
+/// Those of `from_der`.
 #[tactic(auto, unfolding(der_core_head::specs::Grammar::read_whole))]
-fn read_whole<'a, T: Decode<'a, SliceReader<'a>>>(
+pub fn read_whole<'a, T: Decode<'a, SliceReader<'a>>>(
     alloc: Global,
     bytes: &'a [u8],
 ) -> Result<T, Error>

@@ -12,11 +12,11 @@ use Rattle.der_core_head.specs.Bodies.{head_by}
 use Rattle.der_core_head.specs.Shapes.{Body, BodyValue, nested, tagged}
 use Rattle.der_core_head.specs.Grammar.{value_at, tlv_at}
 use Rattle.der_core_head.specs.Reading.{State, Kept, Refuses, Opens, Closes, Reads, ReadsNow, ClosureReads, HandsBack, entered, restored, read_at, read_content_at, read_body_at}
-use Rattle.der_core_headers.specs.declared.header.Header.{Header}
+use Rattle.der_core_octets.specs.declared.header.Header.{Header}
 use Rattle.der_core_head.specs.declared.tag.Tag.{Tag}
-use Rattle.der_core_headers.specs.Fronts.{head_of, wanted_at}
+use Rattle.der_core_octets.specs.Headers.{head_of, wanted_at}
 use Rattle.der_core_octets.specs.Nesting.{Enters, IsNested, CalledWithin, Answered, RefusesNested}
-use Rattle.der_core_headers.proofs.Wanted.{wanted_ok}
+use Rattle.der_core_octets.proofs.Wanted.{wanted_ok}
 use Rattle.der_core_octets.proofs.ReadCases.{or_true}
 use Rattle.der_core_octets.proofs.GoingOn.{reads_after, tlv_wanted}
 use Rattle.der_core_octets.proofs.Nested.{is_kept, at_length, gives, trails}

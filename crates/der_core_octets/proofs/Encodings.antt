@@ -6,7 +6,7 @@ use Rattle.der_core_head.specs.declared.error.ErrorKind.TheVariants as kinds
 use Rattle.der_core_head.specs.Octets.{Readings}
 use Rattle.der_core_head.specs.Heads.{Head}
 use Rattle.der_core_octets.specs.Places.{encoding_at}
-use Rattle.der_core_octets.proofs.ReadCases.{slice_short, slice_ok}
+use Rattle.der_core_head.proofs.SliceCases.{slice_short, slice_ok}
 
 pub no_header : (head : Readings Head) (w : List ℕ) (k : ErrorKind) → head w ≡ Err k → encoding_at head w ≡ Err k
 unfolding encoding_at

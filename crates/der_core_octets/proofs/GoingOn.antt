@@ -10,7 +10,7 @@ use Rattle.der_core_head.specs.declared.encoding_rules.EncodingRules.{EncodingRu
 use Rattle.der_core_head.specs.Bodies.{head_by}
 use Rattle.der_core_head.specs.Grammar.{tlv_at, value_at, peek_at, opt_at}
 use Rattle.der_core_head.specs.Reading.{State, IsRest, Kept, Reads}
-use Rattle.der_core_headers.specs.Fronts.{wanted_at}
+use Rattle.der_core_octets.specs.Headers.{wanted_at}
 
 -- a rest of a rest is a rest
 pub rest_then : (a b d : List ℕ) → IsRest b a → IsRest d b → IsRest d a

@@ -5,3 +5,9 @@ pub mod GoingOn
 mod Encodings
 mod Closures
 mod Joined
+pub mod Wanted
+pub mod LongLengths
+pub mod Longer
+pub mod LoneLaws
+pub mod Levels
+pub mod Spelled

@@ -12,7 +12,8 @@ use Rattle.der_core_head.specs.declared.tag.Tag.{Tag}
 use Rattle.der_core_head.specs.Octets.{◌>>=◌}
 use Rattle.der_core_head.specs.Grammar.{whole, value_at, read_content_by, read_body_by}
 use Rattle.der_core_head.specs.Reading.{State, IsRest, Kept, Fails, Reads, Refuses, Closes, entered, restored, broken, read_content_at, read_body_at}
-use Rattle.der_core_octets.proofs.ReadCases.{value_short, value_enough, or_false, or_true}
+use Rattle.der_core_head.proofs.SliceCases.{value_short, value_enough}
+use Rattle.der_core_octets.proofs.ReadCases.{or_false, or_true}
 use Rattle.der_core_octets.proofs.GoingOn.{rest_more}
 
 pub refused : (t : Tag) (k : ErrorKind) (n : ℕ) (old : State) (s : Body) → Refuses n old k → Fails k (value_at (read_content_at old (nested s) t) n old.rest)

@@ -4,7 +4,6 @@ use Rattle.std.proofs.lemmas.Bool.Decides.{nat_tests}
 use Rattle.std.proofs.lemmas.List.{length-take}
 use mathlib.Core.Bool.{◌||◌}
 use Rattle.der_core_head.specs.Grammar.{slice_at}
-pub use Rattle.der_core_head.proofs.SliceCases.{slice_short, slice_ok, value_short, value_enough}
 
 -- no more octets than that
 pub slice_few : (n : ℕ) (w x r : List ℕ) → slice_at n w ≡ Ok (x, r) → length x ≤ n

@@ -5,4 +5,6 @@ pub mod Places
 pub mod Nesting
 pub mod Outputs
 pub mod Parts
-pub use Rattle.der_core_headers.specs as Headers
+pub mod Pieces
+pub mod Headers
+pub mod LoneLengths

@@ -9,7 +9,7 @@ use Rattle.der_core_head.specs.declared.tag.Tag.{Tag}
 use Rattle.der_core_head.specs.Octets.{◌>>=◌, Readings}
 use Rattle.der_core_head.specs.Heads.{head_at}
 use Rattle.der_core_head.specs.Grammar.{slice_at, kept}
-use Rattle.der_core_headers.specs.Fronts.{wanted_at}
+use Rattle.der_core_octets.specs.Headers.{wanted_at}
 
 -- the content of a part, which is an encoding behind that tag by DER
 unfoldable pub part_at : Tag → Readings (List ℕ)

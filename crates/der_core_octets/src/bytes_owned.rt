@@ -13,10 +13,10 @@ ghost use Rattle.der_core_head.specs.Lengths.{counted};
 ghost use Rattle.der_core_head.specs.Reading.{GivesNow, Reads};
 ghost use Rattle.der_core_octets.specs.Parts.{parts_at};
 
+use crate::Header;
 use crate::parts::join_by;
 use crate::reader::Reader;
 use der_core_head::{Error, ErrorKind, Length, Tag};
-use der_core_headers::Header;
 use std::alloc::{AllocError, Global};
 use std::cmp::Ordering;
 use std::convert::AsSlice;

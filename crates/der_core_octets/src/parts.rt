@@ -5,8 +5,8 @@ ghost use Rattle.der_core_head.specs.Fronts.{ReadsFront};
 ghost use Rattle.der_core_head.specs.Reading.{Gives};
 ghost use Rattle.der_core_octets.specs.Parts.{part_at, are_closed, joined, join_by};
 
+use crate::any_header_of_tag;
 use der_core_head::{EncodingRules, Error, ErrorKind, Tag};
-use der_core_headers::any_header_of_tag;
 use std::alloc::Global;
 
 /// The content of the part at the front of octets, and how many octets the part takes.

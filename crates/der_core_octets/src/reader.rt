@@ -15,16 +15,16 @@ ghost use Rattle.der_core_head.specs.Reading.{State, IsDer, Kept, ClosureReads, 
 ghost use Rattle.der_core_head.specs.Reading.{ReadsNow, GivesNow, Peeks, Opens, Closes, past};
 ghost use Rattle.der_core_head.specs.Reading.{broken, ruled, read_at, read_content_at};
 ghost use Rattle.der_core_head.specs.Fronts.{alone};
-ghost use Rattle.der_core_headers.specs.Fronts.{head_of, wanted_at};
+ghost use Rattle.der_core_octets.specs.Headers.{head_of, wanted_at};
 ghost use Rattle.der_core_octets.specs.Nesting.{IsNested, Answered, RefusesNested, IsEnclosed};
 ghost use Rattle.der_core_octets.specs.Nesting.{AnsweredIn, RefusesIn};
 ghost use Rattle.der_core_octets.specs.Places.{IsAt, encoding_at};
 
-use der_core_head::{EncodingRules, Error, ErrorKind, Length, Tag};
-use der_core_headers::{
+use crate::{
     Header, any_header_of_tag, header_by, plain_header_by_both, plain_header_of_tag,
     short_tag_by_both, tag_by,
 };
+use der_core_head::{EncodingRules, Error, ErrorKind, Length, Tag};
 use std::alloc::Global;
 
 /// What octets are read from: octets up to an end that can be set nearer, and a depth of ends.

@@ -1,7 +1,7 @@
 -- Octets of a content, and what a leaf reads of them.
 use Rattle.std.proofs.Common.{◌≡◌, ℕ, arith, Bool, true, false, List, length, take, drop, Result, Ok, Err, refl, sym, ap, ◌∙◌}
-use Rattle.std.proofs.lemmas.Bool.{cases_lt, le-ltb}
 use Rattle.std.proofs.Common.{inl, inr}
+use Rattle.std.proofs.lemmas.Bool.{cases_lt, le-ltb}
 use Rattle.der_core_head.specs.Limits.{length_max}
 use Rattle.der_core_head.specs.Heads.{Fits}
 use Rattle.der_core_head.specs.declared.error.Error.{Error}
@@ -19,7 +19,7 @@ use Rattle.der_core_values.specs.Memory.{GivesTaking}
 use Rattle.der_core_head.proofs.Results.{ok_is}
 use Rattle.der_core_octets.proofs.Nested.{broken_kept}
 use Rattle.der_core_octets.proofs.GoingOn.{kept_then}
-use Rattle.der_core_octets.proofs.ReadCases.{slice_ok, slice_short, value_enough, value_short}
+use Rattle.der_core_head.proofs.SliceCases.{slice_ok, slice_short, value_enough, value_short}
 
 leaf_then : {P : Type 0} (o : Result P ErrorKind) (r : List ℕ) → (leaf_at o >>= whole >>= λ y. Ok (y.0, r)) ≡ (o >>= kept r)
 leaf_then (Ok v) r = refl

@@ -9,7 +9,7 @@ use Rattle.der_core_head.specs.Bodies.{head_by}
 use Rattle.der_core_head.specs.Shapes.{Content, ContentValue, tagged}
 use Rattle.der_core_head.specs.Grammar.{value_at, tlv_at}
 use Rattle.der_core_head.specs.Reading.{State, Reads, ReadsNow, read_at, read_content_at}
-use Rattle.der_core_octets.specs.Headers.Fronts.{wanted_at}
+use Rattle.der_core_octets.specs.Headers.{wanted_at}
 use Rattle.der_core_octets.proofs.Nested.{broken_kept}
 use Rattle.der_core_octets.proofs.GoingOn.{reads_after, tlv_wanted}
 

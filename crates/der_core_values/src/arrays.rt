@@ -1,6 +1,5 @@
 //! SEQUENCE OF with so many values (X.690 8.10).
 
-ghost use Rattle.std.specs.Prelude.{◌≡◌};
 ghost use Rattle.der_core_values.specs.Both.{both_true};
 ghost use Rattle.der_core_head.specs.declared.tag.Tag.TheVariants.{Sequence};
 ghost use Rattle.der_core_head.specs.Shapes.{nested, exactly};
@@ -10,9 +9,10 @@ use crate::decode::{Decode, DecodeValue, FixedTag, Shaped, ShapedValue};
 use crate::elements::{ApartValue, AsRead, AsReadValue, Element, Member};
 use crate::encode::{Encode, EncodeValue};
 use crate::fields::{DecodeFields, Fields, read_fields};
+use crate::in_range::{InRange, InRangeValue};
+use crate::vec::list_in_range;
 use der_core_head::{Error, ErrorKind, Length, Tag};
-use der_core_octets::headers::Header;
-use der_core_octets::{Reader, Writer, sum_len};
+use der_core_octets::{Header, Reader, Writer, sum_len};
 use std::alloc::Global;
 
 impl<T, const N: usize> FixedTag for [T; N] {
@@ -98,5 +98,11 @@ impl<T: Encode, const N: usize> EncodeValue for [T; N] {
             value.encode(writer)?;
         }
         Ok(())
+    }
+}
+
+impl<T: InRange, const N: usize> InRangeValue for [T; N] {
+    fn value_in_range(&self) {
+        list_in_range(self.as_slice());
     }
 }

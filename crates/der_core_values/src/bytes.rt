@@ -12,8 +12,7 @@ use crate::leaf_ways::{AsOctets, Octets};
 use crate::leaves::{Leaf, Primitive};
 use crate::ways::Described;
 use der_core_head::{Error, Tag};
-use der_core_octets::headers::Header;
-use der_core_octets::{BytesOwned, BytesRef, Reader};
+use der_core_octets::{BytesOwned, BytesRef, Header, Reader};
 use std::alloc::Global;
 
 impl<'a> Described for BytesRef<'a> {

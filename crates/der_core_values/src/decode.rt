@@ -2,14 +2,13 @@
 
 ghost use Rattle.std.specs.Prelude.{◌≡◌};
 ghost use Rattle.der_core_head.specs.declared.tag.Tag.{Tag};
-ghost use Rattle.der_core_head.specs.Shapes.{Shape, Content, Value, ContentValue, tagged, optional};
+ghost use Rattle.der_core_head.specs.Shapes.{Shape, Content, Value, ContentValue, tagged};
 ghost use Rattle.der_core_head.specs.Shapes.{begins};
-ghost use Rattle.der_core_head.specs.Grammar.{value_at, plain_option};
+ghost use Rattle.der_core_head.specs.Grammar.{value_at};
 ghost use Rattle.der_core_head.specs.Reading.{Reads, read_at, read_content_at};
 
 use der_core_head::{Error, Tag, is_same_tag};
-use der_core_octets::Reader;
-use der_core_octets::headers::Header;
+use der_core_octets::{Header, Reader};
 use std::alloc::Global;
 
 /// A type whose values have one tag.
@@ -114,27 +113,5 @@ pub trait Choice: Shaped {
 impl<T: ShapedValue + FixedTag> Choice for T {
     fn can_decode(tag: Tag) -> bool {
         is_same_tag(T::tag(), tag)
-    }
-}
-
-impl<T: Shaped> Shaped for Option<T> {
-    ghost shape = { optional T.shape };
-
-    ghost plain = { plain_option T.plain };
-
-    ghost written = { plain_option T.written };
-}
-
-impl<'a, R: Reader<'a>, T: Decode<'a, R> + Choice> Decode<'a, R> for Option<T> {
-    #[tactic(auto, unfolding(der_core_head::specs::Grammar::opt_at))]
-    fn decode(alloc: Global, reader: &mut R) -> Result<Option<T>, Error> {
-        let Some(tag) = reader.next_tag_or_end()? else {
-            return Ok(None);
-        };
-        if T::can_decode(tag) {
-            Ok(Some(T::decode(alloc, reader)?))
-        } else {
-            Ok(None)
-        }
     }
 }

@@ -1,6 +1,5 @@
 //! Writing of values.
 
-ghost use Rattle.std.specs.Prelude.{◌≡◌};
 ghost use Rattle.der_core_head.specs.Reading.{GivesNow};
 ghost use Rattle.der_core_head.specs.Writing.{Writes, size, write, size_content, write_content};
 ghost use Rattle.der_core_octets.specs.Outputs.{Continues};
@@ -66,25 +65,5 @@ impl<T: EncodeValue + FixedTag> Encode for T {
         let len = self.value_len()?;
         encode_header(writer, T::tag(), len)?;
         self.encode_value(writer)
-    }
-}
-
-impl<T: Encode> Encode for Option<T> {
-    // Inlined, so that what is answered isn't moved.
-    #[inline(always)]
-    fn encoded_len(&self) -> Result<Length, Error> {
-        match self {
-            Some(value) => value.encoded_len(),
-            None => Ok(Length { value: 0 }),
-        }
-    }
-
-    // Inlined, so that what is answered isn't moved.
-    #[inline(always)]
-    fn encode<W: Writer>(&self, writer: &mut W) -> Result<(), Error> {
-        match self {
-            Some(value) => value.encode(writer),
-            None => Ok(()),
-        }
     }
 }

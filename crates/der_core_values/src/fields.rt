@@ -6,8 +6,7 @@ ghost use Rattle.der_core_head.specs.Grammar.{value_at};
 ghost use Rattle.der_core_head.specs.Reading.{Reads, read_body_at, read_content_at};
 
 use der_core_head::Error;
-use der_core_octets::Reader;
-use der_core_octets::headers::Header;
+use der_core_octets::{Header, Reader};
 use std::alloc::Global;
 
 /// The fields of a record or of a list, and what its values are.

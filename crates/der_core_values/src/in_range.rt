@@ -3,9 +3,6 @@
 //!
 //! Each is a law of the values of a type, and stands as the contract of a call that does nothing.
 
-ghost use Rattle.std.specs.Prelude.{◌≡◌};
-ghost use Rattle.std.specs.List.{AllByRecursion};
-ghost use Rattle.der_core_head.specs.Grammar.{plain_list};
 ghost use Rattle.der_core_head.specs.Octets.{IsOctets};
 ghost use Rattle.der_core_head.specs.Texts.{IsUtf8Text};
 ghost use Rattle.der_core_head.specs.Ranges.{IsInRange, IsContentInRange, IsBodyInRange};
@@ -13,7 +10,6 @@ ghost use Rattle.der_core_head.specs.Ranges.{IsInRange, IsContentInRange, IsBody
 use crate::decode::{FixedTag, Shaped, ShapedValue};
 use crate::fields::FieldRow;
 use der_core_head::number_of;
-use std::marker::PhantomData;
 
 /// A type whose values are in range.
 pub trait InRange: Shaped {
@@ -48,68 +44,10 @@ pub fn text_in_range(text: &str)
     octets_in_range(text.as_bytes());
 }
 
-/// The values of a list are in range.
-pub fn list_in_range<T: InRange>(values: &[T])
-    ensures { AllByRecursion (IsInRange T.shape) (plain_list T.written values.now) }
-{
-    for value in values {
-        value.in_range();
-    }
-}
-
 /// Behind one tag values are in range as their contents are.
 impl<T: InRangeValue + FixedTag> InRange for T {
     fn in_range(&self) {
         let _number = number_of(T::tag());
         self.value_in_range();
-    }
-}
-
-impl InRangeValue for bool {
-    fn value_in_range(&self) {}
-}
-
-impl InRangeValue for () {
-    fn value_in_range(&self) {}
-}
-
-impl<T: InRangeValue> InRangeValue for Box<T> {
-    fn value_in_range(&self) {
-        (**self).value_in_range();
-    }
-}
-
-impl<T: InRange> InRangeValue for Vec<T> {
-    fn value_in_range(&self) {
-        list_in_range(self.as_slice());
-    }
-}
-
-impl<T: InRange, const N: usize> InRangeValue for [T; N] {
-    fn value_in_range(&self) {
-        list_in_range(self.as_slice());
-    }
-}
-
-impl<T: InRange> InRange for Option<T> {
-    fn in_range(&self) {
-        if let Some(value) = self {
-            value.in_range();
-        }
-    }
-}
-
-impl<T> InRange for PhantomData<T> {
-    fn in_range(&self) {}
-}
-
-impl InRangeFields for () {
-    fn fields_in_range(&self) {}
-}
-
-impl<A: InRange, B: InRangeFields> InRangeFields for (A, B) {
-    fn fields_in_range(&self) {
-        self.0.in_range();
-        self.1.fields_in_range();
     }
 }

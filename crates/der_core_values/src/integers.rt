@@ -12,8 +12,7 @@ use crate::decode::FixedTag;
 use crate::leaves::{Leaf, Primitive, decode_leaf};
 use crate::ways::{AsReadWay, DecodeWay, Described, RangeWay, TagWay, Way};
 use der_core_head::{Error, Length, Tag};
-use der_core_octets::headers::Header;
-use der_core_octets::{Reader, Writer, integer_octets_of, signed_of, unsigned_of};
+use der_core_octets::{Header, Reader, Writer, integer_octets_of, signed_of, unsigned_of};
 use std::alloc::Global;
 use std::marker::PhantomData;
 

@@ -10,8 +10,7 @@ ghost use Rattle.der_core_octets.specs.Outputs.{Continues};
 use crate::leaves::{Leaf, Primitive, decode_leaf};
 use crate::ways::{AsReadWay, DecodeWay, RangeWay, Way};
 use der_core_head::{Error, Length};
-use der_core_octets::headers::Header;
-use der_core_octets::{Reader, Writer, slice_len};
+use der_core_octets::{Header, Reader, Writer, slice_len};
 use std::alloc::Global;
 
 /// A type whose values hold the octets of their content.

@@ -2,18 +2,14 @@
 
 ghost use Rattle.std.specs.Prelude.{◌≡◌, Bool, true, false, IfOk, IfErr, Err};
 ghost use Rattle.der_core_head.specs.Heads.{Fits};
-ghost use Rattle.der_core_head.specs.declared.tag.Tag.TheVariants.{Boolean, Null};
 ghost use Rattle.der_core_head.specs.Shapes.{leaf};
 ghost use Rattle.der_core_head.specs.Grammar.{value_at};
 ghost use Rattle.der_core_head.specs.Reading.{Reads, TakesContent, read_content_at};
 ghost use Rattle.der_core_values.specs.Memory.{GivesTaking};
-ghost use Rattle.der_core_head.specs.Leaves.{Leaf as LeafKind, LeafValue, leaf_read, boolean, null};
+ghost use Rattle.der_core_head.specs.Leaves.{Leaf as LeafKind, LeafValue, leaf_read};
 
-use crate::decode::{DecodeValue, FixedTag, ShapedValue};
-use crate::encode::EncodeValue;
-use der_core_head::{Error, ErrorKind, Length, Tag};
-use der_core_octets::headers::Header;
-use der_core_octets::{Reader, Writer};
+use der_core_head::{Error, Tag};
+use der_core_octets::{Header, Reader};
 use std::alloc::Global;
 
 /// A type whose content is no list of values.
@@ -77,107 +73,5 @@ pub fn decode_leaf<'a, R: Reader<'a>, T: Leaf<'a>>(
             reader.fail();
             Err(error)
         }
-    }
-}
-
-impl FixedTag for bool {
-    ghost fixed_tag = { Boolean };
-
-    fn tag() -> Tag {
-        Tag::Boolean
-    }
-}
-
-impl Primitive for bool {
-    ghost kind = { boolean };
-
-    ghost leaf_plain = { λ b. b };
-}
-
-/// `00` is false and `FF` true (X.690 8.2, 11.1).
-impl<'a> Leaf<'a> for bool {
-    ghost takes_memory = { false };
-
-    fn from_content(_alloc: Global, tag: Tag, octets: &'a [u8]) -> Result<bool, Error> {
-        match octets {
-            [0] => Ok(false),
-            [255] => Ok(true),
-            _ => Err(Error::from(ErrorKind::Noncanonical { tag })),
-        }
-    }
-}
-
-impl ShapedValue for bool {
-    ghost content = { leaf boolean };
-
-    ghost value_plain = { λ b. b };
-
-    ghost value_written = { λ b. b };
-}
-
-impl<'a, R: Reader<'a>> DecodeValue<'a, R> for bool {
-    fn decode_value(alloc: Global, reader: &mut R, header: Header) -> Result<bool, Error> {
-        decode_leaf(alloc, reader, header)
-    }
-}
-
-impl FixedTag for () {
-    ghost fixed_tag = { Null };
-
-    fn tag() -> Tag {
-        Tag::Null
-    }
-}
-
-impl Primitive for () {
-    ghost kind = { null };
-
-    ghost leaf_plain = { λ x. x };
-}
-
-/// No octets (X.690 8.8).
-impl<'a> Leaf<'a> for () {
-    ghost takes_memory = { false };
-
-    fn from_content(_alloc: Global, tag: Tag, octets: &'a [u8]) -> Result<(), Error> {
-        if octets.is_empty() {
-            Ok(())
-        } else {
-            Err(Error::from(ErrorKind::Noncanonical { tag }))
-        }
-    }
-}
-
-impl ShapedValue for () {
-    ghost content = { leaf null };
-
-    ghost value_plain = { λ x. x };
-
-    ghost value_written = { λ x. x };
-}
-
-impl<'a, R: Reader<'a>> DecodeValue<'a, R> for () {
-    fn decode_value(alloc: Global, reader: &mut R, header: Header) -> Result<(), Error> {
-        decode_leaf(alloc, reader, header)
-    }
-}
-
-impl EncodeValue for bool {
-    fn value_len(&self) -> Result<Length, Error> {
-        Ok(Length { value: 1 })
-    }
-
-    fn encode_value<W: Writer>(&self, writer: &mut W) -> Result<(), Error> {
-        writer.write_byte(if *self { 255 } else { 0 })
-    }
-}
-
-impl EncodeValue for () {
-    fn value_len(&self) -> Result<Length, Error> {
-        Ok(Length { value: 0 })
-    }
-
-    fn encode_value<W: Writer>(&self, writer: &mut W) -> Result<(), Error> {
-        writer.write(&[])
     }
 }

@@ -7,7 +7,6 @@ mod bytes;
 mod decode;
 pub mod describing;
 mod elements;
-mod empty;
 mod encode;
 mod fields;
 mod identifiers;
@@ -15,15 +14,12 @@ mod in_range;
 mod integers;
 mod leaf_ways;
 mod leaves;
-mod nothing;
 mod now;
 mod numbered;
 mod one_of_four;
 mod one_of_two;
 mod texts;
-mod tuples;
 mod ways;
-mod wrappers;
 mod wraps;
 
 pub use bytes::decode_octets;
@@ -33,11 +29,18 @@ pub use encode::{Encode, EncodeValue};
 pub use fields::{
     AsReadFields, DecodeFields, DecodeRow, FieldRow, Fields, FieldsView, read_fields,
 };
-pub use in_range::{
-    InRange, InRangeFields, InRangeValue, list_in_range, octets_in_range, text_in_range,
-};
+pub use in_range::{InRange, InRangeFields, InRangeValue, octets_in_range, text_in_range};
 pub use integers::Integer;
 pub use leaves::{Leaf, decode_leaf, read_content};
 pub use now::decode_leaf_of_tag;
 pub use one_of_four::{OneOf4, OneOf5, OneOf6, OneOf7, OneOf8, OneOf9};
 pub use one_of_two::{OneOf2, OneOf3};
+pub use vec::list_in_range;
+
+mod absent;
+mod boolean;
+mod boxes;
+mod options;
+mod pairs;
+mod unit;
+mod vec;

@@ -16,8 +16,7 @@ use crate::elements::{ApartValue, AsReadValue};
 use crate::encode::EncodeValue;
 use crate::in_range::InRangeValue;
 use der_core_head::{Error, Length, Tag};
-use der_core_octets::headers::Header;
-use der_core_octets::{Reader, Writer};
+use der_core_octets::{Header, Reader, Writer};
 use std::alloc::Global;
 
 /// What the values of a type are, which octets spell their contents, and how these are written.

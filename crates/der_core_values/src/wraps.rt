@@ -8,8 +8,7 @@ use crate::encode::EncodeValue;
 use crate::in_range::InRangeValue;
 use crate::ways::{AsReadWay, DecodeWay, RangeWay, TagWay, Way};
 use der_core_head::{Error, Length, Tag};
-use der_core_octets::headers::Header;
-use der_core_octets::{Reader, Writer};
+use der_core_octets::{Header, Reader, Writer};
 use std::alloc::Global;
 use std::marker::PhantomData;
 

@@ -17,7 +17,3 @@ pub use any::Any;
 pub use any_ref::AnyRef;
 
 // What they are converted with.
-pub use der_types_numbers as number_types;
-pub use der_types_text as text_types;
-pub use der_types_time as time_types;
-pub use der_types_values as value_types;

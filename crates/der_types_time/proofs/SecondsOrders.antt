@@ -9,7 +9,7 @@ use Rattle.jiff_core.proofs.CalendarLemmas.{day_count-lt_year, day_count-lt_mont
 use Rattle.jiff_core.proofs.SignedLemmas.{signed_arith}
 use Rattle.der_core_head.specs.Dates.{Civil, is_civil}
 use Rattle.der_core_head.proofs.DateLaws.{civil_ranges}
-use Rattle.der_core.proofs.HeadOrders.{nat_cmp-same}
+use Rattle.const_oid.proofs.OrderLaws.{nat_cmp-same}
 use Rattle.der_types_time.specs.Seconds.{days_of_years, days_of_months, unix_days, unix_seconds}
 use Rattle.der_types_time.specs.DateOrders.{civil_cmp}
 use Rattle.der_types_time.specs.DateTexts.{date_text, text_at}

@@ -1,3 +1,3 @@
 mod TypeBounds
 mod ValueEquality
-pub use Rattle.x509_cert_anchors.proofs.Names
+pub use Rattle.x509_cert_names.proofs as Names

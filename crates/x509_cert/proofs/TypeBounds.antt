@@ -5,7 +5,7 @@ use Rattle.der_core_head.specs.Bounds.{IsValidUnder, identifiers_of, AreBelow}
 use Rattle.der_core_head.specs.Shapes.{BodyValue, Value, IsValid, Spells, octets_of, sequence}
 use Rattle.der_core_head.proofs.Families.{spelled_exactly}
 use Rattle.x509_cert_anchors.specs.Grammar.{trust_anchor_choice}
-use Rattle.x509_cert_list_builders.specs.ListGrammar.{certificate_list_fields, cert_req}
+use Rattle.x509_cert_lists.specs.Grammar.{certificate_list_fields, cert_req}
 
 pub lists_exactly : (small large : ℕ) (limit : Option ℕ) (l : BodyValue (certificate_list_fields 0 None)) (w : List ℕ) → 40 ≤ small → small ≤ large
     → Spells (sequence (certificate_list_fields small limit)) l w

@@ -1,5 +1,5 @@
 //! Attributes (RFC 5280 appendix A.1).
 
-pub use x509_cert_list_builders::certificates::{
+pub use x509_cert_names::{
     Attribute, AttributeType, AttributeTypeAndValue, AttributeValue, Attributes,
 };

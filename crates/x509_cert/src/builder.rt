@@ -3,9 +3,9 @@
 
 pub mod profile;
 
-pub use x509_cert_list_builders::{
-    Builder, BuilderProfile, CertificateBuilder, CertificateType, CrlBuilder, DevId,
-    DomainValidated, Error, RequestBuilder, Root, SignError, Signer, Subordinate, Subscriber,
-    Tls12Options, TpmVersion, ca_certificate_naming, check_names_encoding, tcg_sv_tpm_12,
-    tcg_sv_tpm_20,
+pub use x509_cert_builders::{
+    Builder, BuilderProfile, CertificateBuilder, CertificateType, DevId, DomainValidated, Error,
+    Root, SignError, Signer, Subordinate, Subscriber, Tls12Options, TpmVersion,
+    ca_certificate_naming, check_names_encoding, tcg_sv_tpm_12, tcg_sv_tpm_20,
 };
+pub use x509_cert_list_builders::{CrlBuilder, RequestBuilder};

@@ -1,9 +1,9 @@
 //! Certificates and their profiles (RFC 5280 4.1).
 
-pub use x509_cert_list_builders::certificates::{
-    CertDigest, Certificate, CertificateInner, Profile, Raw, Rfc5280, TbsCertificate,
-    TbsCertificateInner, Version,
+pub use x509_cert_certificates::{
+    CertDigest, Certificate, CertificateInner, TbsCertificate, TbsCertificateInner,
 };
+pub use x509_cert_parts::{Profile, Raw, Rfc5280, Version};
 
 /// Certificates, each of which signs the next one (X.509 7.7, RFC 6066 10.1). Nothing says so of a
 /// value of this type: it is read and written as any list of certificates.

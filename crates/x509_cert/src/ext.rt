@@ -2,5 +2,5 @@
 
 pub mod pkix;
 
-pub use x509_cert_list_builders::certificates::{Extension, Extensions};
-pub use x509_cert_list_builders::types::{Criticality, ToExtension};
+pub use x509_cert_extensions::{Criticality, ToExtension};
+pub use x509_cert_parts::{Extension, Extensions};

@@ -19,8 +19,8 @@ ghost use Rattle.x509_cert_anchors.specs.Views as anchor_views;
 ghost use Rattle.x509_cert_extensions.specs.Reasons.{reason_number, reason_numbers};
 ghost use Rattle.x509_cert_general_names.specs.Grammar as names;
 ghost use Rattle.x509_cert_general_names.specs.Views as views;
-ghost use Rattle.x509_cert_list_builders.specs.ListGrammar.{certificate_list_fields, cert_req};
-ghost use Rattle.x509_cert_parts.specs.Parts as parts;
+ghost use Rattle.x509_cert_lists.specs.Grammar.{certificate_list_fields, cert_req};
+ghost use Rattle.x509_cert.specs.Parts as parts;
 ghost use Rattle.x509_cert_policies.specs.Grammar as policies;
 ghost use Rattle.x509_cert_policies.specs.Views.{policy_information_plain, policy_mapping_plain};
 
@@ -28,21 +28,25 @@ use crate::anchor::Version as AnchorVersion;
 use crate::*;
 use der_core::Shaped;
 use std::cmp::PartialEq;
-pub use x509_cert_anchors::laws::{
-    certificates_are_apart, dates_by_profile, equality_of_certificates_is_of_values,
-    equality_of_names_is_of_values, equality_of_parts_is_of_values, identifiers_stand_in_turn,
-    newly_read_certificates_hold_a_large_arc, newly_read_name_texts_hold_a_large_arc,
-    parts_are_apart, respelled_anchors_are_spelled, respelled_certificates_are_spelled,
-    respelled_dates_are_spelled, serial_numbers_by_profile, signed_part_stands_in_place,
-    wider_bounds_keep_certificates, wider_bounds_keep_chains, wider_bounds_keep_names,
-    wider_bounds_read_certificates_alike, wider_bounds_read_name_texts_alike,
+pub use x509_cert_anchors::laws::respelled_anchors_are_spelled;
+pub use x509_cert_certificates::laws::{
+    certificates_are_apart, equality_of_certificates_is_of_values, identifiers_stand_in_turn,
+    newly_read_certificates_hold_a_large_arc, respelled_certificates_are_spelled,
+    signed_part_stands_in_place, wider_bounds_keep_certificates, wider_bounds_keep_chains,
+    wider_bounds_read_certificates_alike,
 };
+pub use x509_cert_extensions::laws::extensions_are_of_their_types;
 pub use x509_cert_list_builders::laws::signed_part_stands_in_place as list_parts_stand_in_place;
-pub use x509_cert_list_builders::lists::laws::{
-    attributes_are_of_their_types, equality_of_lists_is_of_values,
+pub use x509_cert_lists::laws::{attributes_are_of_their_types, equality_of_lists_is_of_values};
+pub use x509_cert_names::laws::{
+    equality_of_names_is_of_values, newly_read_name_texts_hold_a_large_arc,
+    wider_bounds_keep_names, wider_bounds_read_name_texts_alike,
 };
-pub use x509_cert_list_builders::types::laws::extensions_are_of_their_types;
-pub use x509_cert_list_builders::types::timestamps::laws::{
+pub use x509_cert_parts::laws::{
+    dates_by_profile, equality_of_parts_is_of_values, parts_are_apart, respelled_dates_are_spelled,
+    serial_numbers_by_profile,
+};
+pub use x509_cert_timestamps::laws::{
     lists_are_read as timestamp_lists_are_read, spellings_are_read as timestamps_are_read,
 };
 

@@ -1,10 +1,10 @@
 //! Requests for certificates (RFC 2986).
 
 pub use x509_cert_list_builders::RequestBuilder;
-pub use x509_cert_list_builders::lists::request::Version;
-pub use x509_cert_list_builders::lists::{CertReq, CertReqInfo, ExtensionReq, TryFromExtensionReq};
+pub use x509_cert_lists::request::Version;
+pub use x509_cert_lists::{CertReq, CertReqInfo, ExtensionReq, TryFromExtensionReq};
 
 /// Attributes of requests (RFC 2985 5.4).
 pub mod attributes {
-    pub use x509_cert_list_builders::lists::{AsAttribute, ChallengePassword};
+    pub use x509_cert_lists::{AsAttribute, ChallengePassword};
 }

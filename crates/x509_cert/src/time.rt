@@ -1,3 +1,3 @@
 //! Dates of certificates (RFC 5280 4.1.2.5).
 
-pub use x509_cert_list_builders::certificates::{Time, Validity};
+pub use x509_cert_parts::{Time, Validity};

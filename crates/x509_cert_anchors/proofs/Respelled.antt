@@ -7,11 +7,13 @@ use Rattle.der_core_head.specs.Leaves.{utf8}
 use Rattle.der_core_head.specs.Shapes.{Shape, Body, Value, BodyValue, tagged, optional, defaulted, field, done, only, nested, sequence, explicit, octets_of, contents, body_octets, IsValid, IsContent, IsBody}
 use Rattle.der_core_head.specs.Tags.{context}
 use Rattle.der_core_head.proofs.Fits.{fits_contents}
-use Rattle.x509_cert_certificates.proofs.Passed.{tlv_shorter, tlv_fits, behind_same, before_same}
+use Rattle.x509_cert_parts.proofs.Shorter.{tlv_shorter, tlv_fits, behind_same, before_same}
 use Rattle.x509_cert_certificates.proofs.Respelled.{tbs_shorter, tbs_valid, certificate_fields_shorter, certificate_valid}
 use Rattle.x509_cert_certificates.specs.Certificates.{PlainCertificate, Tbs, certificate_fields, certificate, tbs_certificate, tbs, tbs_by, certificate_by}
-use Rattle.x509_cert_policies.specs.GeneralNames.{behind, inside}
-use Rattle.x509_cert_policies.specs.Parts.{name, public_key_info, octet_string, extensions}
+use Rattle.x509_cert_general_names.specs.Grammar.{inside}
+use Rattle.x509_cert_parts.specs.Grammar.{behind}
+use Rattle.x509_cert_names.specs.Names.{name}
+use Rattle.x509_cert_parts.specs.Grammar.{public_key_info, octet_string, extensions}
 use Rattle.x509_cert_anchors.specs.Grammar.{constraint_fields, cert_path_controls_fields, trust_anchor_info_fields, title_fields, trust_anchor_choice, anchor_version, first_version_octets, utf8_string, PlainControls, PlainInfo, PlainAnchor, cert_path_controls_by, trust_anchor_info_by, trust_anchor_by}
 
 -- a value behind a tag whose content is no longer than that of another

@@ -10,9 +10,11 @@ use Rattle.der_core_head.specs.Shapes.{Shape, Body, Value, BodyValue, tagged, le
 use Rattle.der_core_head.specs.Shapes.{optional, defaulted, field, done, many, sequence, explicit}
 use Rattle.x509_cert_certificates.specs.Certificates.{certificate_fields, certificate, tbs_certificate}
 use Rattle.x509_cert_certificates.specs.Certificates.{certificate_by, tbs_by}
-use Rattle.x509_cert_policies.specs.GeneralNames.{behind, inside, whole_number}
-use Rattle.x509_cert_policies.specs.GeneralNames.{name_constraints_fields}
-use Rattle.x509_cert_policies.specs.Parts.{name, octet_string, public_key_info, extensions}
+use Rattle.x509_cert_general_names.specs.Grammar.{inside}
+use Rattle.x509_cert_parts.specs.Grammar.{behind, whole_number}
+use Rattle.x509_cert_general_names.specs.Grammar.{name_constraints_fields}
+use Rattle.x509_cert_names.specs.Names.{name}
+use Rattle.x509_cert_parts.specs.Grammar.{octet_string, public_key_info, extensions}
 use Rattle.x509_cert_policies.specs.Grammar.{policy_information_fields}
 
 -- CertPolicyFlags ::= BIT STRING { inhibitPolicyMapping (0), requireExplicitPolicy (1),

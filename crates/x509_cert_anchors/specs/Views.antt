@@ -10,8 +10,9 @@ use Rattle.x509_cert_anchors.specs.declared.trust_anchor_choice.TrustAnchorChoic
     as anchors
 use Rattle.x509_cert_anchors.specs.declared.trust_anchor_info.TrustAnchorInfo.{TrustAnchorInfo}
 use Rattle.x509_cert_certificates.specs.Views.{certificate_plain, tbs_plain}
-use Rattle.x509_cert_policies.specs.GeneralNameViews.{name_constraints_plain}
-use Rattle.x509_cert_policies.specs.Parts.{name_plain, key_plain, extensions_plain}
+use Rattle.x509_cert_general_names.specs.Views.{name_constraints_plain}
+use Rattle.x509_cert_names.specs.Views.{name_plain}
+use Rattle.x509_cert_parts.specs.Views.{key_plain, extensions_plain}
 use Rattle.x509_cert_policies.specs.Views.{policy_information_plain}
 
 -- the number of an anchor's version

@@ -3,7 +3,7 @@
 ghost use Rattle.std.specs.Prelude.{pos, refl};
 ghost use Rattle.const_oid.specs.Bound.{Bound};
 ghost use Rattle.der_core_head.specs.Grammar.{plain_list, plain_option};
-ghost use Rattle.x509_cert_policies.specs.GeneralNameViews.{name_constraints_plain};
+ghost use Rattle.x509_cert_general_names.specs.Views.{name_constraints_plain};
 ghost use Rattle.x509_cert_policies.specs.Views.{policy_information_plain};
 ghost use Rattle.x509_cert_anchors.specs.Grammar.{cert_path_controls_fields, cert_path_controls_by};
 ghost use Rattle.x509_cert_anchors.specs.Grammar.{constraint_fields};
@@ -14,9 +14,11 @@ use der_core::describing::{AsRecord, DecodeRow, Described, FieldRow, RowUser, Ro
 use der_core::making::implicit_of;
 use der_core::{DecodeFields, Error, Fields, Reader, lend, row};
 use std::alloc::Global;
-use x509_cert_certificates::{CertificateInner, Name, Profile, Rfc5280};
+use x509_cert_certificates::CertificateInner;
+use x509_cert_general_names::NameConstraints;
+use x509_cert_names::Name;
+use x509_cert_parts::{Profile, Rfc5280};
 use x509_cert_policies::CertificatePolicies;
-use x509_cert_policies::general_names::NameConstraints;
 
 /// The name of a trust anchor, and what a path from it must meet (RFC 5914 2.5).
 ///

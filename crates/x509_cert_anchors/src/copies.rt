@@ -9,9 +9,10 @@ ghost use Rattle.x509_cert_anchors.specs.Views.{trust_anchor_plain};
 use crate::{CertPathControls, TrustAnchorChoice, TrustAnchorInfo};
 use der_core::making::{copies_of_option, copy_of_option};
 use std::alloc::{AllocError, Global};
-use x509_cert_certificates::{CertificateInner, Extension, Profile};
+use x509_cert_certificates::CertificateInner;
+use x509_cert_general_names::NameConstraints;
+use x509_cert_parts::{Extension, Profile};
 use x509_cert_policies::CertificatePolicies;
-use x509_cert_policies::general_names::NameConstraints;
 
 /// A copy of a text.
 fn copy_of_text(text: &String, alloc: Global) -> Result<String, AllocError>

@@ -13,4 +13,3 @@ pub use cert_path_controls::CertPathControls;
 pub use cert_policies::{CertPolicies, CertPolicyFlags};
 pub use trust_anchor_choice::TrustAnchorChoice;
 pub use trust_anchor_info::TrustAnchorInfo;
-pub use x509_cert_certificates as certificates;

@@ -11,7 +11,8 @@ use der_core::{
     Shaped, Tag, Writer, case,
 };
 use std::alloc::Global;
-use x509_cert_certificates::{CertificateInner, Profile, Rfc5280, TbsCertificateInner};
+use x509_cert_certificates::{CertificateInner, TbsCertificateInner};
+use x509_cert_parts::{Profile, Rfc5280};
 
 /// A trust anchor (RFC 5914 2).
 ///

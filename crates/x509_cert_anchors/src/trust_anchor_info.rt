@@ -9,8 +9,9 @@ use crate::anchor::Version;
 use crate::cert_path_controls::CertPathControls;
 use der_core::describing::{AsRecord, Described, RowUser, Rows};
 use der_core::{DecodeFields, Error, Fields, Reader, lend, read_row};
+use der_types_values::OctetString;
 use std::alloc::Global;
-use x509_cert_certificates::{Extensions, OctetString, Profile, Rfc5280, SubjectPublicKeyInfo};
+use x509_cert_parts::{Extensions, Profile, Rfc5280, SubjectPublicKeyInfo};
 
 /// A trust anchor by its key (RFC 5914 2).
 ///

@@ -2,7 +2,8 @@
 use Rattle.std.proofs.Common.{◌≡◌, List, [], ◌∷◌, ◌++◌, refl, ap}
 use Rattle.std.specs.List.{AllByRecursion}
 use Rattle.der_core_head.specs.Grammar.{plain_list}
-use Rattle.x509_cert_extensions.specs.Parts.{PlainExtension, listed as unlisted}
+use Rattle.x509_cert_parts.specs.Grammar.{PlainExtension}
+use Rattle.x509_cert_parts.specs.ExtensionSearch.{listed as unlisted}
 use Rattle.x509_cert_builders.specs.SignedParts.{listed}
 
 pub plain_joined : {A B : Type 0} (f : A → B) → (xs ys : List A) → plain_list f (xs ++ ys) ≡ plain_list f xs ++ plain_list f ys

@@ -3,7 +3,7 @@ use Rattle.std.proofs.Common.{◌≡◌, ℕ, List, Result, Ok, inl, ap, subst}
 use Rattle.const_oid.specs.Bound.{Bound}
 use Rattle.der_core_head.specs.declared.error.ErrorKind.{ErrorKind}
 use Rattle.der_core_head.specs.Octets.{◌>>=◌}
-use Rattle.x509_cert_extensions.specs.GeneralNameTypes.Modules.{PlainOther, module_held}
+use Rattle.x509_cert_general_names.specs.Modules.{PlainOther, module_held}
 use Rattle.x509_cert_builders.specs.Devices.{PlainGeneralName, module_name}
 use Rattle.x509_cert_builders.specs.Refusals.{FailsAs, IsWantOfMemory}
 use Rattle.x509_cert_builders.specs.declared.error.Error.{Error}

@@ -10,7 +10,7 @@ use Rattle.x509_cert_builders.specs.declared.error.Error.{Error}
 use Rattle.x509_cert_builders.specs.Naming.{TypeAndValue, types_of, name_types, type_behind, type_at, foreign_type, has_required, IsNamed, IsFirstFault, NamesAuthority}
 use Rattle.x509_cert_builders.specs.Refusals.{IsWantOfMemory}
 use Rattle.x509_cert_builders.specs.declared.error.Error.TheVariants as errors
-use Rattle.x509_cert_extensions.specs.Parts.{PlainName}
+use Rattle.x509_cert_names.specs.Names.{PlainName}
 
 chosen : (b c : Bool) (x t : List ℕ) (d e : Error) → (if b then Err d else if c then Ok x else Err e) ≡ Ok t → x ≡ t
 chosen b c x t d e h = grind (arith, nat_tests)

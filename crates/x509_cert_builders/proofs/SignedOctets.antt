@@ -12,7 +12,9 @@ use Rattle.der_core_head.specs.Ranges.{IsInRange}
 use Rattle.der_core_head.specs.Shapes.{IsBody, IsContent, IsValid, body_octets, contents, explicit, octets_of, defaulted}
 use Rattle.der_core_head.specs.Tags.{tag_octets}
 use Rattle.x509_cert_certificates.specs.Certificates.{Tbs, tbs_certificate}
-use Rattle.x509_cert_extensions.specs.Parts.{Algorithm, PlainExtension, PlainTime, algorithm_plain, extensions_plain, respelled, time, version}
+use Rattle.x509_cert_parts.specs.Grammar.{Algorithm, PlainExtension, PlainTime, time, version}
+use Rattle.x509_cert_parts.specs.Views.{algorithm_plain, extensions_plain}
+use Rattle.x509_cert_parts.specs.Respelling.{respelled}
 use Rattle.x509_cert_builders.specs.SignedParts.{IsPartInRange, PlainFields, has_any, part_shape, signed_part, version_of, written_part}
 use Rattle.x509_cert_builders.specs.States.{finalized_plain}
 use Rattle.x509_cert_builders.specs.declared.certificate_builder.Finalized.{Finalized}

@@ -12,7 +12,7 @@ use Rattle.der_core_head.specs.declared.error.Error.{Error as DerError}
 use Rattle.der_core_head.specs.declared.error.ErrorKind.TheVariants as kinds
 use Rattle.der_core_head.specs.Grammar.{plain_list}
 use Rattle.der_core_head.specs.Shapes.{IsValid}
-use Rattle.x509_cert_extensions.specs.Parts.{PlainName, type_and_value}
+use Rattle.x509_cert_names.specs.Names.{PlainName, type_and_value}
 use Rattle.x509_cert_builders.specs.Naming.{TypeAndValue}
 use Rattle.x509_cert_builders.specs.Refusals.{IsWantOfMemory}
 use Rattle.x509_cert_builders.specs.Subscribers.{AreShort, HasLongAttribute, KeepsDistinct, SameAttributes, all_stays, attributes_left, before, domain_subject, left_of, may_stay, stays}

@@ -5,7 +5,7 @@ use Rattle.std.specs.Prelude.{Err, IsOk, if◌then◌else◌}
 use Rattle.std.specs.List.{find, flat_map, list_any, list_all, position_or_len}
 use Rattle.const_oid.specs.Comparing.{owned_eq}
 use Rattle.der_core_head.specs.Shapes.{AnyValue}
-use Rattle.x509_cert_extensions.specs.Parts.{PlainName}
+use Rattle.x509_cert_names.specs.Names.{PlainName}
 use Rattle.x509_cert_builders.specs.declared.error.Error.{Error}
 use Rattle.x509_cert_builders.specs.declared.error.Error.TheVariants as errors
 use Rattle.x509_cert_builders.specs.Refusals.{IsWantOfMemory}

@@ -6,17 +6,16 @@ use Rattle.const_oid.specs.Comparing.{owned_eq}
 use Rattle.der_core_head.specs.declared.tag.Tag.TheVariants as tags
 use Rattle.der_core_head.specs.Leaves.{named}
 use Rattle.der_core_head.specs.Shapes.{Shape, Value, tagged, leaf, sequence, sequence_of}
-use Rattle.x509_cert_extensions.specs.ExtensionTypes as types
-use Rattle.x509_cert_extensions.specs.ExtensionTypes.{ExtensionType, identifier_of}
-use Rattle.x509_cert_extensions.specs.KeyIdentifiers.{key_identifier}
+use Rattle.x509_cert_parts.specs.ExtensionTypes as types
+use Rattle.x509_cert_parts.specs.ExtensionTypes.{ExtensionType, identifier_of}
+use Rattle.x509_cert_general_names.specs.KeyIdentifiers.{key_identifier}
 use Rattle.x509_cert_extensions.specs.Making.{extension_of}
 use Rattle.x509_cert_extensions.specs.NamedBits as bits
 use Rattle.x509_cert_extensions.specs.NamedBits.{KeyUse, bit_of}
-use Rattle.x509_cert_extensions.specs.Parts.{PublicKey, PlainExtension, algorithm_arcs}
-use Rattle.x509_cert_extensions.specs.Parts.{key_algorithm, object_identifier}
-use Rattle.x509_cert_extensions.specs.Parts.{octet_string}
-use Rattle.x509_cert_extensions.specs.GeneralNames.{authority_key_identifier_fields}
-use Rattle.x509_cert_extensions.specs.Policies.{basic_constraints_fields}
+use Rattle.x509_cert_parts.specs.Grammar.{PublicKey, PlainExtension, algorithm_arcs, key_algorithm}
+use Rattle.x509_cert_parts.specs.Grammar.{object_identifier, octet_string}
+use Rattle.x509_cert_general_names.specs.Grammar.{authority_key_identifier_fields}
+use Rattle.x509_cert_policies.specs.Grammar.{basic_constraints_fields}
 
 -- an extension of a type, whose content is the encoding of a value
 abbrev pub standard_extension : ExtensionType → Bool → (s : Shape) → Value s → PlainExtension

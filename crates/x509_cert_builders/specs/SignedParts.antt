@@ -7,10 +7,11 @@ use Rattle.der_core_head.specs.Shapes.{Shape, explicit, optional}
 use Rattle.x509_cert_certificates.specs.Certificates.{Tbs, raw_tbs_certificate, tbs_by}
 use Rattle.x509_cert_certificates.specs.Certificates.{tbs_inner_algorithm, tbs_issuer, tbs_validity}
 use Rattle.x509_cert_certificates.specs.Certificates.{tbs_subject, tbs_public_key, tbs_extensions}
-use Rattle.x509_cert_extensions.specs.Parts.{Algorithm, PublicKey, PlainExtension, PlainName}
-use Rattle.x509_cert_extensions.specs.Parts.{algorithm_identifier, extensions, name}
-use Rattle.x509_cert_extensions.specs.Parts.{listed as unlisted}
-use Rattle.x509_cert_extensions.specs.Parts.{PlainValidity, public_key_info, validity}
+use Rattle.x509_cert_parts.specs.Grammar.{Algorithm, PublicKey, PlainExtension}
+use Rattle.x509_cert_parts.specs.Grammar.{algorithm_identifier, extensions, PlainValidity}
+use Rattle.x509_cert_parts.specs.Grammar.{public_key_info, validity}
+use Rattle.x509_cert_names.specs.Names.{PlainName, name}
+use Rattle.x509_cert_parts.specs.ExtensionSearch.{listed as unlisted}
 
 -- what is settled of a certificate before it is signed
 pub record PlainFields : Type 0 where

@@ -4,10 +4,11 @@ ghost use Rattle.std.specs.Prelude.{◌≡◌, ◌⊎◌, ◌<◌, ◌++◌, ◌
 ghost use Rattle.std.specs.Prelude.{IfErr};
 ghost use Rattle.der_core_head.specs.Grammar.{plain_option};
 ghost use Rattle.der_core_head.specs.Shapes.{IsValid};
-ghost use Rattle.x509_cert_extensions.specs.ExtensionTypes.{id_ce};
-ghost use Rattle.x509_cert_extensions.specs.KeyIdentifiers.{key_identifier};
+ghost use Rattle.x509_cert_parts.specs.ExtensionTypes.{id_ce};
+ghost use Rattle.x509_cert_general_names.specs.KeyIdentifiers.{key_identifier};
 ghost use Rattle.x509_cert_extensions.specs.Making.{extension_of};
-ghost use Rattle.x509_cert_extensions.specs.Parts.{extensions_plain, key_lent, name_plain};
+ghost use Rattle.x509_cert_parts.specs.Views.{extensions_plain, key_lent};
+ghost use Rattle.x509_cert_names.specs.Views.{name_plain};
 ghost use Rattle.x509_cert_builders.specs.Profiles.{authority_key_extension, constraints_extension};
 ghost use Rattle.x509_cert_builders.specs.Profiles.{purposes_extension, subject_key_extension};
 ghost use Rattle.x509_cert_builders.specs.Profiles.{usage_extension};
@@ -19,10 +20,11 @@ use crate::uses::purposes_of;
 use der_core::Encode;
 use der_core::making::copies_of;
 use std::alloc::Global;
-use x509_cert_certificates::{Extension, Extensions, Name, SubjectPublicKeyInfoRef};
-use x509_cert_extensions::general_names::AuthorityKeyIdentifier;
-use x509_cert_extensions::policies::BasicConstraints;
 use x509_cert_extensions::{Criticality, KeyUsage, SubjectKeyIdentifier, ToExtension};
+use x509_cert_general_names::AuthorityKeyIdentifier;
+use x509_cert_names::Name;
+use x509_cert_parts::{Extension, Extensions, SubjectPublicKeyInfoRef};
+use x509_cert_policies::BasicConstraints;
 
 /// Adds the extension of a value, of this number below `id-ce`, with the criticality of its type.
 #[tactic(auto, using(crate::proofs::Lists::plain_pushed, crate::proofs::Faults::not_made))]

@@ -8,8 +8,8 @@ ghost use Rattle.der_core_head.specs.Shapes.{IsValid};
 ghost use Rattle.x509_cert_certificates.specs.Views.{certificate_plain, tbs_plain};
 ghost use Rattle.x509_cert_certificates.specs.Certificates.{outer_algorithm, signature_bits, tbs};
 ghost use Rattle.x509_cert_certificates.specs.Certificates.{tbs_certificate, tbs_public_key};
-ghost use Rattle.x509_cert_extensions.specs.Parts.{algorithm_plain, extensions_plain, key_plain};
-ghost use Rattle.x509_cert_extensions.specs.Parts.{validity_plain};
+ghost use Rattle.x509_cert_parts.specs.Views.{algorithm_plain, extensions_plain, key_plain};
+ghost use Rattle.x509_cert_parts.specs.Views.{validity_plain};
 ghost use Rattle.x509_cert_builders.specs.SignedParts.{bare_part, fields_of, part_shape};
 ghost use Rattle.x509_cert_builders.specs.SignedParts.{signed_part, written_part};
 ghost use Rattle.x509_cert_builders.specs.States.{algorithm_of_last, as_written, octets_in_place};
@@ -26,14 +26,16 @@ use crate::in_range::part_in_range;
 use crate::signed_part::{complete, lay_bare, take_extensions, written};
 use crate::signer::Signer;
 use der_core::ErrorKind;
+use der_types_values::BitString;
 use std::alloc::Global;
 use std::marker::Model;
 use x509_cert_certificates::laws::signed_part_stands_in_place;
-use x509_cert_certificates::{
-    AlgorithmIdentifier, BitString, Certificate, Extension, Extensions, SerialNumber,
-    SubjectPublicKeyInfo, TbsCertificate, Validity, Version,
-};
+use x509_cert_certificates::{Certificate, TbsCertificate};
 use x509_cert_extensions::ToExtension;
+use x509_cert_parts::{
+    AlgorithmIdentifier, Extension, Extensions, SerialNumber, SubjectPublicKeyInfo, Validity,
+    Version,
+};
 
 /// A builder of certificates (RFC 5280 4.1), whose names and extensions its profile tells.
 /// Extensions that are added stand before those of the profile.

@@ -5,8 +5,9 @@ ghost use Rattle.std.specs.List.{list_all};
 ghost use Rattle.std.specs.List.Sorted.{IsPermutation};
 ghost use Rattle.der_core.specs.Copies.{IsCopy};
 ghost use Rattle.der_core_head.specs.Grammar.{plain_list};
-ghost use Rattle.x509_cert_extensions.specs.GeneralNameViews.{general_name_plain};
-ghost use Rattle.x509_cert_extensions.specs.Parts.{name_plain, relative_plain};
+ghost use Rattle.x509_cert_general_names.specs.Views.{general_name_plain};
+ghost use Rattle.x509_cert_names.specs.Views.{name_plain};
+ghost use Rattle.x509_cert_names.specs.Pairs.{relative_plain};
 ghost use Rattle.x509_cert_builders.specs.Naming.{common_name, country, is_among};
 ghost use Rattle.x509_cert_builders.specs.Refusals.{IsWantOfMemory};
 ghost use Rattle.x509_cert_builders.specs.Subscribers.{HasLongAttribute, KeepsDistinct};
@@ -19,8 +20,8 @@ use crate::domain_validated::DomainValidated;
 use crate::error::Error;
 use const_oid::ObjectIdentifier;
 use std::alloc::{AllocError, Global};
-use x509_cert_certificates::{AttributeTypeAndValue, Name, RdnSequence, RelativeDistinguishedName};
-use x509_cert_extensions::general_names::GeneralNames;
+use x509_cert_general_names::GeneralNames;
+use x509_cert_names::{AttributeTypeAndValue, Name, RdnSequence, RelativeDistinguishedName};
 
 /// How it was found out who a subscriber is (CA/Browser Forum, Baseline Requirements 7.1.2.7.1).
 #[derive(Debug, Drop, PartialEq)]

@@ -4,8 +4,9 @@ ghost use Rattle.std.specs.Prelude.{◌≡◌, ◌⊎◌, ◌∷◌, ◌++◌, [
 ghost use Rattle.std.specs.Prelude.{IfErr, OnOk};
 ghost use Rattle.der_core_head.specs.Grammar.{plain_list, plain_option};
 ghost use Rattle.x509_cert_certificates.specs.Certificates.{tbs_subject};
-ghost use Rattle.x509_cert_extensions.specs.Parts.{extensions_plain, name_plain};
-ghost use Rattle.x509_cert_extensions.specs.GeneralNameViews.{general_name_plain};
+ghost use Rattle.x509_cert_parts.specs.Views.{extensions_plain};
+ghost use Rattle.x509_cert_names.specs.Views.{name_plain};
+ghost use Rattle.x509_cert_general_names.specs.Views.{general_name_plain};
 ghost use Rattle.x509_cert_builders.specs.Devices.{IsUnnameable, MayHave, MayNotHave};
 ghost use Rattle.x509_cert_builders.specs.Devices.{PlainGeneralName, alternatives};
 ghost use Rattle.x509_cert_builders.specs.Devices.{device_extensions, device_names, first_module};
@@ -19,14 +20,13 @@ use crate::error::Error;
 use crate::tpm_version::TpmVersion;
 use crate::uses::signing_usage;
 use der_core::ErrorKind;
+use der_types_values::OctetString;
 use std::alloc::Global;
-use x509_cert_certificates::{
-    Extensions, Name, OctetString, SubjectPublicKeyInfoRef, TbsCertificate,
-};
+use x509_cert_certificates::TbsCertificate;
 use x509_cert_extensions::SubjectAltName;
-use x509_cert_extensions::general_names::{
-    GeneralName, GeneralNames, HardwareModuleName, OtherName,
-};
+use x509_cert_general_names::{GeneralName, GeneralNames, HardwareModuleName, OtherName};
+use x509_cert_names::Name;
+use x509_cert_parts::{Extensions, SubjectPublicKeyInfoRef};
 
 /// The certificate of a device that has an identity of its own (IEEE 802.1AR 8).
 #[derive(Drop)]

@@ -6,11 +6,13 @@
 ghost use Rattle.der_core_head.specs.Grammar.{plain_option};
 ghost use Rattle.der_core_head.specs.Ranges.{IsInRange};
 ghost use Rattle.x509_cert_certificates.specs.Views.{tbs_plain};
-ghost use Rattle.x509_cert_extensions.specs.Parts.{extensions_plain, validity, validity_plain};
+ghost use Rattle.x509_cert_parts.specs.Views.{extensions_plain, validity_plain};
+ghost use Rattle.x509_cert_parts.specs.Grammar.{validity};
 ghost use Rattle.x509_cert_builders.specs.SignedParts.{IsPartInRange, extensions_field};
 
 use der_core::InRange;
-use x509_cert_certificates::{Extensions, TbsCertificate, Validity};
+use x509_cert_certificates::TbsCertificate;
+use x509_cert_parts::{Extensions, Validity};
 
 fn validity_in_range(dates: &Validity)
     ensures { IsInRange validity (validity_plain dates.now) }

@@ -42,5 +42,3 @@ pub use tls12_options::Tls12Options;
 pub use tpm_version::TpmVersion;
 
 // What they make, and of what.
-pub use x509_cert_certificates as certificates;
-pub use x509_cert_extensions as types;

@@ -2,7 +2,7 @@
 
 ghost use Rattle.std.specs.Prelude.{◌≡◌, Ok, Err, not, true, Option, Some, None, IfOk};
 ghost use Rattle.std.specs.List.{find};
-ghost use Rattle.x509_cert_extensions.specs.Parts.{name_plain};
+ghost use Rattle.x509_cert_names.specs.Views.{name_plain};
 ghost use Rattle.x509_cert_builders.specs.Naming.{authority_types, is_among, name_types};
 ghost use Rattle.x509_cert_builders.specs.Naming.{has_required, Names, NamesAuthority};
 
@@ -11,7 +11,7 @@ use crate::error::Error;
 use crate::types_before::TypesBefore;
 use const_oid::ObjectIdentifier;
 use std::alloc::Global;
-use x509_cert_certificates::Name;
+use x509_cert_names::Name;
 
 /// Whether a type is among these.
 fn is_among(types: &[ObjectIdentifier<39>], oid: &ObjectIdentifier<39>) -> bool

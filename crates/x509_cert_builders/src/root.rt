@@ -1,7 +1,7 @@
 //! Roots.
 
 ghost use Rattle.std.specs.Prelude.{◌≡◌, Ok, IfOk};
-ghost use Rattle.x509_cert_extensions.specs.Parts.{name_plain};
+ghost use Rattle.x509_cert_names.specs.Views.{name_plain};
 ghost use Rattle.x509_cert_builders.specs.Naming.{NamesAuthority};
 ghost use Rattle.x509_cert_builders.specs.Profiles.{root_extensions};
 
@@ -11,7 +11,9 @@ use crate::error::Error;
 use crate::naming::ca_certificate_naming;
 use crate::uses::authority_usage;
 use std::alloc::Global;
-use x509_cert_certificates::{Extensions, Name, SubjectPublicKeyInfoRef, TbsCertificate};
+use x509_cert_certificates::TbsCertificate;
+use x509_cert_names::Name;
+use x509_cert_parts::{Extensions, SubjectPublicKeyInfoRef};
 
 /// The certificate of an authority that signed it itself (CA/Browser Forum, Baseline Requirements
 /// 7.1.2.1).

@@ -7,8 +7,7 @@ ghost use Rattle.der_core_head.specs.Ranges.{IsInRange};
 ghost use Rattle.der_core_head.specs.Shapes.{IsValid, octets_of};
 ghost use Rattle.x509_cert_certificates.specs.Certificates.{tbs_certificate, tbs_inner_algorithm};
 ghost use Rattle.x509_cert_certificates.specs.Views.{tbs_plain};
-ghost use Rattle.x509_cert_extensions.specs.Parts.{algorithm_plain, extensions_plain};
-ghost use Rattle.x509_cert_extensions.specs.Parts.{version_number};
+ghost use Rattle.x509_cert_parts.specs.Views.{algorithm_plain, extensions_plain, version_number};
 ghost use Rattle.x509_cert_builders.specs.Refusals.{IsUnwritten, IsWantOfMemory};
 ghost use Rattle.x509_cert_builders.specs.SignedParts.{bare_part, extensions_in, fields_of};
 ghost use Rattle.x509_cert_builders.specs.SignedParts.{has_any, listed, part_shape, signed_part};
@@ -17,7 +16,8 @@ ghost use Rattle.x509_cert_builders.specs.SignedParts.{version_of, written_part}
 use crate::error::Error;
 use der_core::ToDer;
 use std::alloc::Global;
-use x509_cert_certificates::{AlgorithmIdentifier, Extensions, TbsCertificate, Version};
+use x509_cert_certificates::TbsCertificate;
+use x509_cert_parts::{AlgorithmIdentifier, Extensions, Version};
 
 /// Makes the part what a profile is handed: of version 3, by this algorithm, and without
 /// extensions. Unique identifiers are never made (RFC 5280 4.1.2.8).

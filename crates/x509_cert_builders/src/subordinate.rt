@@ -2,7 +2,7 @@
 
 ghost use Rattle.std.specs.Prelude.{Ok, pos};
 ghost use Rattle.der_core_head.specs.Grammar.{plain_option};
-ghost use Rattle.x509_cert_extensions.specs.Parts.{name_plain};
+ghost use Rattle.x509_cert_names.specs.Views.{name_plain};
 ghost use Rattle.x509_cert_builders.specs.Profiles.{subordinate_extensions};
 
 use crate::added_extensions::{
@@ -12,7 +12,9 @@ use crate::builder_profile::BuilderProfile;
 use crate::error::Error;
 use crate::uses::authority_usage;
 use std::alloc::Global;
-use x509_cert_certificates::{Extensions, Name, SubjectPublicKeyInfoRef, TbsCertificate};
+use x509_cert_certificates::TbsCertificate;
+use x509_cert_names::Name;
+use x509_cert_parts::{Extensions, SubjectPublicKeyInfoRef};
 
 /// The certificate of an authority whose key signs certificates of servers (CA/Browser Forum,
 /// Baseline Requirements 7.1.2.6).

@@ -7,8 +7,8 @@ ghost use Rattle.x509_cert_builders.specs.Refusals.{IsWantOfMemory};
 
 use crate::error::Error;
 use crate::identifiers::{client_auth, server_auth};
+use der_types_values::FlagSet;
 use std::alloc::Global;
-use x509_cert_certificates::FlagSet;
 use x509_cert_extensions::{ExtendedKeyUsage, KeyUsage, KeyUsages};
 
 /// What an authority's key is for: it signs certificates and lists, and maybe answers about the

@@ -5,10 +5,10 @@ use Rattle.std.specs.Option.{option_map_or}
 use Rattle.der_core_head.specs.BitStrings.{Bits}
 use Rattle.der_core_head.specs.Shapes.{AnyValue, any, optional, explicit}
 use Rattle.der_core_head.specs.Bounds.{identifiers_of}
-use Rattle.x509_cert_parts.specs.NameParts.{name, type_of, all_of}
+use Rattle.x509_cert_names.specs.Names.{name, type_of, all_of}
 use Rattle.x509_cert_parts.specs.Grammar.{Algorithm, PublicKey, PlainTime, PlainValidity, PlainExtension, algorithm_identifier, algorithm_arcs, public_key_info, key_algorithm, extension, extension_arcs, extensions, time, validity}
 use Rattle.x509_cert_certificates.specs.Bounds.{certificate_identifiers}
-use Rattle.x509_cert_parts.proofs.Names.NameBounds.{of_name}
+use Rattle.x509_cert_names.proofs.NameBounds.{of_name}
 use Rattle.x509_cert_certificates.specs.Certificates.{PlainCertificate, unique_identifier, inner_algorithm, issuer, subject, public_key, extensions_of, outer_algorithm, tbs, tbs_extensions, tbs_validity, tbs_issuer_unique_id, tbs_subject_unique_id}
 
 of_parameters : (v : Option AnyValue) → identifiers_of (optional any) v ≡ []

@@ -10,7 +10,7 @@ use Rattle.der_core_head.specs.Leaves.{bits}
 use Rattle.der_core_head.specs.Shapes.{Shape, Body, Value, BodyValue, tagged, leaf, optional}
 use Rattle.der_core_head.specs.Shapes.{field, done, sequence, explicit, octets_of, body_octets}
 use Rattle.der_core_head.specs.Tags.{context}
-use Rattle.x509_cert_parts.specs.NameParts.{PlainName, name}
+use Rattle.x509_cert_names.specs.Names.{PlainName, name}
 use Rattle.x509_cert_parts.specs.Grammar.{Algorithm, PublicKey, PlainValidity, PlainExtension}
 use Rattle.x509_cert_parts.specs.Grammar.{bit_string, algorithm_identifier, public_key_info}
 use Rattle.x509_cert_parts.specs.Grammar.{version_field, serial_number, validity, extensions}

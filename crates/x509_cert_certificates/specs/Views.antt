@@ -4,7 +4,7 @@ use Rattle.der_core_head.specs.Grammar.{plain_option}
 use Rattle.x509_cert_certificates.specs.Certificates.{Tbs, PlainCertificate}
 use Rattle.x509_cert_certificates.specs.declared.certificate.CertificateInner.{CertificateInner}
 use Rattle.x509_cert_certificates.specs.declared.tbs_certificate.TbsCertificateInner.{TbsCertificateInner}
-use Rattle.x509_cert_parts.specs.NameParts.{name_plain}
+use Rattle.x509_cert_names.specs.Views.{name_plain}
 use Rattle.x509_cert_parts.specs.Views.{version_number, validity_plain, algorithm_plain, key_plain}
 use Rattle.x509_cert_parts.specs.Views.{extensions_plain}
 

@@ -17,8 +17,9 @@ use crate::cert_digest::CertDigest;
 use crate::tbs_certificate::TbsCertificateInner;
 use der_core::describing::{AsRecord, Described, RowUser, Rows};
 use der_core::{DecodeFields, Error, Fields, FromDer, Reader, ToDer, lend, read_row};
+use der_types_values::BitString;
 use std::alloc::Global;
-use x509_cert_parts::{AlgorithmIdentifier, BitString, Profile, Rfc5280};
+use x509_cert_parts::{AlgorithmIdentifier, Profile, Rfc5280};
 
 /// A certificate (RFC 5280 4.1).
 ///

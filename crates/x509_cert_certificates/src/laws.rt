@@ -17,7 +17,7 @@ ghost use Rattle.der_core_head.specs.Shapes.{IsValid, Spells, octets_of};
 ghost use Rattle.der_core_head.specs.Spelling.{is_apart, are_enough};
 ghost use Rattle.x509_cert_parts.specs.Grammar.{not_before, not_after, algorithm_arcs};
 ghost use Rattle.x509_cert_parts.specs.Grammar.{key_algorithm, extension_arcs};
-ghost use Rattle.x509_cert_parts.specs.NameParts.{type_of, all_of};
+ghost use Rattle.x509_cert_names.specs.Names.{type_of, all_of};
 ghost use Rattle.x509_cert_parts.specs.Respelling.{is_early_generalized};
 ghost use Rattle.x509_cert_certificates.specs.Bounds.{certificate_identifiers, SpellsEach};
 ghost use Rattle.x509_cert_certificates.specs.Bounds.{OneHoldsLarge};
@@ -34,11 +34,6 @@ ghost use Rattle.x509_cert_certificates.specs.Views.{certificate_plain, tbs_plai
 use crate::certificate::CertificateInner;
 use crate::tbs_certificate::TbsCertificateInner;
 use std::cmp::PartialEq;
-pub use x509_cert_parts::laws::{
-    dates_by_profile, equality_of_names_is_of_values, equality_of_parts_is_of_values,
-    newly_read_name_texts_hold_a_large_arc, parts_are_apart, respelled_dates_are_spelled,
-    serial_numbers_by_profile, wider_bounds_keep_names, wider_bounds_read_name_texts_alike,
-};
 
 /// First tags keep the fields of a certificate apart, at eight levels or more.
 pub fn certificates_are_apart()

@@ -3,7 +3,7 @@
 ghost use Rattle.std.specs.Prelude.{◌≡◌, pos, refl};
 ghost use Rattle.const_oid.specs.Bound.{Bound};
 ghost use Rattle.der_core_head.specs.Grammar.{plain_option};
-ghost use Rattle.x509_cert_parts.specs.NameParts.{name_plain};
+ghost use Rattle.x509_cert_names.specs.Views.{name_plain};
 ghost use Rattle.x509_cert_parts.specs.Views.{version_number, validity_plain, algorithm_plain};
 ghost use Rattle.x509_cert_parts.specs.Views.{key_plain, extensions_plain};
 ghost use Rattle.der_core_head.specs.Reading.{Gives};
@@ -23,10 +23,12 @@ use der_core::{
     Decode, DecodeFields, EncodeFields, EncodeRef, Error, Explicit, Fields, FieldsOrd, Implicit,
     ImplicitRef, Length, Reader, SliceReader, Tag, WithDefault, Writer,
 };
+use der_types_values::BitString;
 use std::alloc::Global;
 use std::cmp::Ordering;
+use x509_cert_names::Name;
 use x509_cert_parts::{
-    AlgorithmIdentifier, BitString, Extensions, ExtensionsOf, Name, Profile, Rfc5280, SerialNumber,
+    AlgorithmIdentifier, Extensions, ExtensionsOf, Profile, Rfc5280, SerialNumber,
     SubjectPublicKeyInfo, Validity, Version, filter_extensions, get_extension,
 };
 

@@ -5,7 +5,7 @@ use Rattle.der_core_head.specs.declared.error.ErrorKind.TheVariants.{OutOfMemory
 use Rattle.der_core_head.specs.Reading.{Fails}
 use Rattle.der_core_head.specs.Shapes.{Shape, Value, IsValid, octets_of}
 use Rattle.der_core_head.specs.Writing.{write}
-use Rattle.x509_cert_policies.specs.Parts.{PlainExtension}
+use Rattle.x509_cert_parts.specs.Grammar.{PlainExtension}
 
 -- the extension of an identifier whose content is the encoding of a value
 abbrev pub extension_of : List ℕ → Bool → (s : Shape) → Value s → PlainExtension

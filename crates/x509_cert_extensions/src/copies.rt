@@ -2,10 +2,9 @@
 
 ghost use Rattle.der_core_head.specs.Grammar.{plain_list};
 ghost use Rattle.der_core.specs.Copies.{IsCopy};
-ghost use Rattle.x509_cert_policies.specs.GeneralNameViews.{access_description_plain};
-ghost use Rattle.x509_cert_policies.specs.GeneralNameViews.{distribution_point_plain};
-ghost use Rattle.x509_cert_policies.specs.GeneralNameViews.{general_name_plain};
-ghost use Rattle.x509_cert_policies.specs.Parts.{attribute_plain};
+ghost use Rattle.x509_cert_general_names.specs.Views.{access_description_plain};
+ghost use Rattle.x509_cert_general_names.specs.Views.{distribution_point_plain, general_name_plain};
+ghost use Rattle.x509_cert_names.specs.Views.{attribute_plain};
 
 use crate::{
     AuthorityInfoAccessSyntax, BaseCrlNumber, CrlDistributionPoints, CrlNumber, ExtendedKeyUsage,
@@ -14,8 +13,8 @@ use crate::{
 };
 use der_core::making::copies_of;
 use std::alloc::{AllocError, Global};
-use x509_cert_policies::general_names::{AccessDescription, DistributionPoint, GeneralName};
-use x509_cert_policies::parts::Attribute;
+use x509_cert_general_names::{AccessDescription, DistributionPoint, GeneralName};
+use x509_cert_names::Attribute;
 
 impl AuthorityInfoAccessSyntax {
     /// A copy. Want of memory is the only error.

@@ -1,17 +1,16 @@
 //! Criticality.
 
-ghost use Rattle.x509_cert_extensions.specs.ExtensionTypes as types;
-ghost use Rattle.x509_cert_extensions.specs.ExtensionTypes.{is_marked};
+ghost use Rattle.x509_cert_parts.specs.ExtensionTypes as types;
+ghost use Rattle.x509_cert_parts.specs.ExtensionTypes.{is_marked};
 
 use crate::{
     AuthorityInfoAccessSyntax, BaseCrlNumber, CrlDistributionPoints, CrlNumber, CrlReason,
     ExtendedKeyUsage, FreshestCrl, IssuerAltName, KeyUsage, SubjectAltName,
     SubjectDirectoryAttributes, SubjectInfoAccessSyntax, SubjectKeyIdentifier,
 };
-use x509_cert_policies::general_names::{
-    AuthorityKeyIdentifier, IssuingDistributionPoint, NameConstraints,
-};
-use x509_cert_policies::parts::{Extension, Name};
+use x509_cert_general_names::{AuthorityKeyIdentifier, IssuingDistributionPoint, NameConstraints};
+use x509_cert_names::Name;
+use x509_cert_parts::Extension;
 use x509_cert_policies::{
     BasicConstraints, CertificatePolicies, InhibitAnyPolicy, PolicyConstraints, PolicyMappings,
     PrivateKeyUsagePeriod,
@@ -22,8 +21,10 @@ use x509_cert_timestamps::SignedCertificateTimestampList;
 /// 5280 4.2).
 pub trait Criticality {
     ghost use Rattle.std.specs.Prelude.{◌≡◌, Bool, List};
-    ghost use Rattle.x509_cert_policies.specs.Parts.{PlainExtension, PlainName, extensions_plain};
-    ghost use Rattle.x509_cert_policies.specs.Parts.{name_plain};
+    ghost use Rattle.x509_cert_parts.specs.Grammar.{PlainExtension};
+    ghost use Rattle.x509_cert_names.specs.Names.{PlainName};
+    ghost use Rattle.x509_cert_parts.specs.Views.{extensions_plain};
+    ghost use Rattle.x509_cert_names.specs.Views.{name_plain};
 
     // Whether it is, of a subject and the extensions that are there.
     ghost is_critical: { Self → PlainName → List PlainExtension → Bool };
@@ -37,8 +38,8 @@ pub trait Criticality {
 /// What is marked by its type (RFC 5280 4.2, 5.2, 5.3; RFC 6962 3.3).
 pub trait Marked {
     ghost use Rattle.std.specs.Prelude.{◌≡◌};
-    ghost use Rattle.x509_cert_extensions.specs.ExtensionTypes.{ExtensionType, is_marked};
-    ghost use Rattle.x509_cert_extensions.specs.Parts.{name_plain};
+    ghost use Rattle.x509_cert_parts.specs.ExtensionTypes.{ExtensionType, is_marked};
+    ghost use Rattle.x509_cert_names.specs.Views.{name_plain};
 
     // The row of this type in the table.
     ghost extension_type: { ExtensionType };

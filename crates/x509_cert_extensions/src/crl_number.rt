@@ -7,8 +7,8 @@ ghost use Rattle.der_core_head.specs.Reading.{Gives};
 use der_core::describing::{AsField, Described, Ordered, Wraps};
 use der_core::making::integer_octets_of;
 use der_core::{Error, Leaf, Tag};
+use der_types_numbers::Uint;
 use std::alloc::Global;
-use x509_cert_policies::parts::Uint;
 
 /// The number of a list of revoked certificates (RFC 5280 5.2.3).
 ///
@@ -75,7 +75,7 @@ impl AsRef<Uint> for CrlNumber {
 
 impl AsMut<Uint> for CrlNumber {
     ghost use Rattle.std.specs.Borrow.{sem, Lends};
-    ghost use Rattle.x509_cert_policies.specs.Names.NumberTypes.contracts.uint.Uint.{the_row as inner_row};
+    ghost use Rattle.der_types_numbers.specs.contracts.uint.Uint.{the_row as inner_row};
     ghost use Rattle.x509_cert_extensions.specs.contracts.crl_number.CrlNumber.{the_row};
 
     fn as_mut(&mut self) -> &mut Uint

@@ -1,7 +1,7 @@
 //! ExtendedKeyUsage.
 
 ghost use Rattle.std.specs.Prelude.{◌≡◌};
-ghost use Rattle.x509_cert_policies.specs.Parts.{object_identifier};
+ghost use Rattle.x509_cert_parts.specs.Grammar.{object_identifier};
 
 use const_oid::ObjectIdentifier;
 use der_core::describing::{AsField, Described, Ordered, Wraps};
@@ -60,7 +60,7 @@ impl AsMut<Vec<ObjectIdentifier<39>>> for ExtendedKeyUsage {
     ghost use denote.Param.{number};
     ghost use Rattle.std.specs.Borrow.{sem, Lends};
     ghost use Rattle.const_oid.specs.contracts.object_identifier.ObjectIdentifier.{the_row as member_row};
-    ghost use Rattle.x509_cert_policies.specs.Names.Rows.{list_row};
+    ghost use Rattle.der_core.specs.Rows.{list_row};
     ghost use Rattle.x509_cert_extensions.specs.contracts.extended_key_usage.ExtendedKeyUsage.{the_row};
 
     fn as_mut(&mut self) -> &mut Vec<ObjectIdentifier<39>>

@@ -1,7 +1,7 @@
 //! The identifiers of extensions (RFC 5280 4.2, 5.2).
 
-ghost use Rattle.x509_cert_extensions.specs.ExtensionTypes as types;
-ghost use Rattle.x509_cert_extensions.specs.ExtensionTypes.{identifier_of};
+ghost use Rattle.x509_cert_parts.specs.ExtensionTypes as types;
+ghost use Rattle.x509_cert_parts.specs.ExtensionTypes.{identifier_of};
 
 use crate::{
     AuthorityInfoAccessSyntax, BaseCrlNumber, CrlDistributionPoints, CrlNumber, CrlReason,

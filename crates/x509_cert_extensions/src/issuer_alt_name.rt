@@ -1,11 +1,11 @@
 //! IssuerAltName.
 
 ghost use Rattle.std.specs.Prelude.{◌≡◌, []};
-ghost use Rattle.x509_cert_policies.specs.GeneralNames.{general_name};
+ghost use Rattle.x509_cert_general_names.specs.Grammar.{general_name};
 
 use der_core::describing::{AsField, Described, Ordered, Wraps};
 use std::alloc::Global;
-use x509_cert_policies::general_names::GeneralNames;
+use x509_cert_general_names::GeneralNames;
 
 /// Other names of an issuer (RFC 5280 4.2.1.7).
 ///
@@ -66,8 +66,8 @@ impl AsRef<GeneralNames> for IssuerAltName {
 
 impl AsMut<GeneralNames> for IssuerAltName {
     ghost use Rattle.std.specs.Borrow.{sem, Lends};
-    ghost use Rattle.x509_cert_policies.specs.Names.Rows.{list_row};
-    ghost use Rattle.x509_cert_policies.specs.GeneralNameTypes.contracts.general_name.GeneralName.{the_row as member_row};
+    ghost use Rattle.der_core.specs.Rows.{list_row};
+    ghost use Rattle.x509_cert_general_names.specs.contracts.general_name.GeneralName.{the_row as member_row};
     ghost use Rattle.x509_cert_extensions.specs.contracts.issuer_alt_name.IssuerAltName.{the_row};
 
     fn as_mut(&mut self) -> &mut GeneralNames

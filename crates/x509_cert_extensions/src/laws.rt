@@ -1,7 +1,7 @@
 //! The law of types of extensions: the contract of a function that does nothing.
 
-ghost use Rattle.x509_cert_extensions.specs.ExtensionTypes as types;
-ghost use Rattle.x509_cert_extensions.specs.ExtensionTypes.{IsOfType};
+ghost use Rattle.x509_cert_parts.specs.ExtensionTypes as types;
+ghost use Rattle.x509_cert_parts.specs.ExtensionTypes.{IsOfType};
 
 use crate::criticality::Criticality;
 use crate::{
@@ -10,9 +10,7 @@ use crate::{
     SubjectDirectoryAttributes, SubjectInfoAccessSyntax, SubjectKeyIdentifier,
 };
 use const_oid::AssociatedOid;
-use x509_cert_policies::general_names::{
-    AuthorityKeyIdentifier, IssuingDistributionPoint, NameConstraints,
-};
+use x509_cert_general_names::{AuthorityKeyIdentifier, IssuingDistributionPoint, NameConstraints};
 use x509_cert_policies::{
     BasicConstraints, CertificatePolicies, InhibitAnyPolicy, PolicyConstraints, PolicyMappings,
     PrivateKeyUsagePeriod,

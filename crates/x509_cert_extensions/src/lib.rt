@@ -18,7 +18,6 @@ mod subject_alt_name;
 mod subject_directory_attributes;
 mod subject_info_access;
 mod subject_key_identifier;
-pub mod timestamps;
 mod to_extension;
 
 pub use authority_info_access::AuthorityInfoAccessSyntax;
@@ -36,5 +35,3 @@ pub use subject_directory_attributes::SubjectDirectoryAttributes;
 pub use subject_info_access::SubjectInfoAccessSyntax;
 pub use subject_key_identifier::SubjectKeyIdentifier;
 pub use to_extension::ToExtension;
-pub use x509_cert_policies as policies;
-pub use x509_cert_policies::{general_names, parts};

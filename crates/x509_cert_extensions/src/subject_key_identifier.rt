@@ -3,14 +3,15 @@
 ghost use Rattle.std.specs.Prelude.{◌≡◌, IfOk, IfErr};
 ghost use Rattle.der_core_head.specs.declared.error.ErrorKind.TheVariants.{OutOfMemory};
 ghost use Rattle.der_core_head.specs.declared.tag.Tag.TheVariants.{OctetString};
-ghost use Rattle.x509_cert_extensions.specs.KeyIdentifiers.{key_identifier};
-ghost use Rattle.x509_cert_extensions.specs.Parts.{key_lent};
+ghost use Rattle.x509_cert_general_names.specs.KeyIdentifiers.{key_identifier};
+ghost use Rattle.x509_cert_parts.specs.Views.{key_lent};
 
 use der_core::Error;
 use der_core::describing::{AsField, Described, Ordered, Wraps};
+use der_types_values::OctetString;
 use std::alloc::Global;
-use x509_cert_policies::general_names::key_identifier_of;
-use x509_cert_policies::parts::{OctetString, SubjectPublicKeyInfoRef};
+use x509_cert_general_names::key_identifier_of;
+use x509_cert_parts::SubjectPublicKeyInfoRef;
 
 /// The identifier of a subject's key (RFC 5280 4.2.1.2).
 ///
@@ -79,7 +80,7 @@ impl AsRef<OctetString> for SubjectKeyIdentifier {
 
 impl AsMut<OctetString> for SubjectKeyIdentifier {
     ghost use Rattle.std.specs.Borrow.{sem, Lends};
-    ghost use Rattle.x509_cert_policies.specs.Names.ValueTypes.contracts.octet_string.OctetString.{the_row as inner_row};
+    ghost use Rattle.der_types_values.specs.contracts.octet_string.OctetString.{the_row as inner_row};
     ghost use Rattle.x509_cert_extensions.specs.contracts.subject_key_identifier.SubjectKeyIdentifier.{the_row};
 
     fn as_mut(&mut self) -> &mut OctetString

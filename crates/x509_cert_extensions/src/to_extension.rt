@@ -1,20 +1,24 @@
 //! ToExtension.
 
 ghost use Rattle.std.specs.Prelude.{◌≡◌, IfOk, IfErr};
-ghost use Rattle.x509_cert_policies.specs.Parts.{extension_plain};
+ghost use Rattle.x509_cert_parts.specs.Views.{extension_plain};
 ghost use Rattle.x509_cert_extensions.specs.Making.{extension_of, IsNotMade};
 
 use crate::criticality::Criticality;
 use const_oid::{AssociatedOid, ObjectIdentifier};
 use der_core::{Encode, Error, ToDer};
+use der_types_values::OctetString;
 use std::alloc::Global;
-use x509_cert_policies::parts::{Extension, Name, OctetString};
+use x509_cert_names::Name;
+use x509_cert_parts::Extension;
 
 /// What is made into an extension of a certificate or of a list (RFC 5280 4.2).
 pub trait ToExtension {
     ghost use Rattle.std.specs.Prelude.{◌≡◌, List, IfOk, IfErr};
-    ghost use Rattle.x509_cert_policies.specs.Parts.{PlainExtension, PlainName, extension_plain};
-    ghost use Rattle.x509_cert_policies.specs.Parts.{extensions_plain, name_plain};
+    ghost use Rattle.x509_cert_parts.specs.Grammar.{PlainExtension};
+    ghost use Rattle.x509_cert_names.specs.Names.{PlainName};
+    ghost use Rattle.x509_cert_parts.specs.Views.{extension_plain, extensions_plain};
+    ghost use Rattle.x509_cert_names.specs.Views.{name_plain};
 
     /// Why no extension is made.
     type Error: From<Error>;

@@ -10,22 +10,12 @@ use Rattle.der_core_head.specs.Shapes.{field, done, many, rising, nested, sequen
 use Rattle.der_core_head.specs.Shapes.{explicit}
 use Rattle.der_core_head.specs.Tags.{context}
 use Rattle.der_core_head.specs.Texts.{ascii}
-use Rattle.x509_cert_parts.specs.Parts.{name, type_and_value, directory_string}
-use Rattle.x509_cert_parts.specs.Parts.{object_identifier, octet_string}
-
--- An implicit tag on a leaf, and on a SEQUENCE or SET (X.690 8.14.3).
-abbrev pub behind : ℕ → Leaf → Shape
-behind n l = tagged (context false n) (leaf l)
+use Rattle.x509_cert_names.specs.Names.{name, type_and_value, directory_string}
+use Rattle.x509_cert_parts.specs.Grammar.{object_identifier, octet_string}
+use Rattle.x509_cert_parts.specs.Grammar.{behind, whole_number, number_of}
 
 abbrev pub inside : ℕ → Body → Shape
 inside n b = tagged (context true n) (nested b)
-
--- INTEGER (0..2^bits - 1)
-abbrev pub whole_number : ℕ → Leaf
-whole_number bits = integer (unsigned bits)
-
-abbrev pub number_of : ℕ → Shape
-number_of bits = tagged tags.Integer (leaf (whole_number bits))
 
 -- [n] IMPLICIT BOOLEAN DEFAULT FALSE
 abbrev pub false_behind : ℕ → Shape

@@ -1,7 +1,7 @@
 -- Identifiers of keys (RFC 5280 4.2.1.2).
 use Rattle.std.specs.Prelude.{ℕ, List}
 use Rattle.sha1.specs.Sha1.{sha1}
-use Rattle.x509_cert_parts.specs.Parts.{PublicKey, key_bits}
+use Rattle.x509_cert_parts.specs.Grammar.{PublicKey, key_bits}
 
 -- method (1): the SHA-1 digest of the octets of the key's bit string, without the count of unused
 -- bits

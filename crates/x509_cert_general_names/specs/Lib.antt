@@ -1,10 +1,6 @@
 pub mod Addresses
-pub mod ExtensionTypes
 pub mod Grammar
 pub mod KeyIdentifiers
 pub mod Modules
 pub mod NamedBits
 pub mod Views
-pub use Rattle.x509_cert_parts.specs.Parts
-pub use Rattle.x509_cert_parts.specs.Texts
-pub use Rattle.x509_cert_parts.specs.Names

@@ -3,7 +3,9 @@ use Rattle.std.specs.Prelude.{pos}
 use Rattle.std.proofs.Common.{inl, inr}
 use Rattle.der_core_head.specs.Grammar.{plain_option, plain_list}
 use Rattle.der_core_head.specs.Shapes.{Value, BodyValue}
-use Rattle.x509_cert_parts.specs.Parts.{directory_plain, name_plain, relative_plain}
+use Rattle.x509_cert_names.specs.DirectoryStrings.{directory_plain}
+use Rattle.x509_cert_names.specs.Views.{name_plain}
+use Rattle.x509_cert_names.specs.Pairs.{relative_plain}
 use Rattle.x509_cert_general_names.specs.Grammar.{other_name_fields, edi_party_name_fields}
 use Rattle.x509_cert_general_names.specs.Grammar.{general_name, authority_key_identifier_fields}
 use Rattle.x509_cert_general_names.specs.Grammar.{general_subtree_fields, name_constraints_fields}

@@ -12,8 +12,9 @@ use crate::general_name::GeneralNames;
 use crate::key_identifier::key_identifier_of;
 use der_core::describing::{AsRecord, Described, FieldsView, RowUser, Rows};
 use der_core::{DecodeFields, Error, Reader, lend, read_row};
+use der_types_values::OctetString;
 use std::alloc::Global;
-use x509_cert_parts::{OctetString, SerialNumber, SubjectPublicKeyInfoRef};
+use x509_cert_parts::{SerialNumber, SubjectPublicKeyInfoRef};
 
 /// The key under which a certificate or a list is signed (RFC 5280 4.2.1.1).
 ///

@@ -9,8 +9,10 @@ use crate::{
     NameConstraints, OtherName,
 };
 use der_core::making::{copies_of, copies_of_option, copy_of_option};
+use der_types_values::OctetString;
 use std::alloc::{AllocError, Global};
-use x509_cert_parts::{DirectoryString, OctetString, SerialNumber};
+use x509_cert_names::DirectoryString;
+use x509_cert_parts::SerialNumber;
 
 impl OtherName {
     /// A copy. Want of memory is the only error.

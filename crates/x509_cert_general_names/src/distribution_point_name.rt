@@ -12,7 +12,7 @@ use der_core::{
 };
 use std::alloc::Global;
 use std::cmp::Ordering;
-use x509_cert_parts::RelativeDistinguishedName;
+use x509_cert_names::RelativeDistinguishedName;
 
 /// The name of a place where a list is had (RFC 5280 4.2.1.13).
 ///

@@ -7,7 +7,7 @@ ghost use Rattle.x509_cert_general_names.specs.Views.{edi_party_name_plain};
 use der_core::describing::{AsRecord, Described, FieldsView, RowUser, Rows};
 use der_core::{DecodeFields, Error, Reader, lend, read_row};
 use std::alloc::Global;
-use x509_cert_parts::DirectoryString;
+use x509_cert_names::DirectoryString;
 
 /// The name of a party of electronic data interchange (RFC 5280 4.2.1.6).
 ///

@@ -16,10 +16,12 @@ use der_core::{
     AsRead, Choice, Decode, DerOrd, Element, Encode, EncodeRef, Error, Explicit, FirstTag,
     Implicit, ImplicitRef, Length, Member, OneOf8, Reader, Shaped, Tag, Writer, case,
 };
+use der_types_text::Ia5String;
+use der_types_values::OctetString;
 use std::alloc::{AllocError, Global};
 use std::cmp::Ordering;
 use std::net::IpAddr;
-use x509_cert_parts::{Ia5String, Name, OctetString};
+use x509_cert_names::Name;
 
 /// A name of one of the kinds that a certificate can give (RFC 5280 4.2.1.6). An address of X.400
 /// isn't read.

@@ -13,8 +13,8 @@ use crate::other_name::OtherName;
 use const_oid::{AssociatedOid, ObjectIdentifier};
 use der_core::describing::{AsRecord, Described, FieldsView, RowUser, Rows};
 use der_core::{DecodeFields, Error, Reader, lend, read_row};
+use der_types_values::OctetString;
 use std::alloc::Global;
-use x509_cert_parts::OctetString;
 
 /// The name of a module of hardware (RFC 4108 5). It is held as `OtherName`.
 ///

@@ -1,7 +1,7 @@
 //! The identifiers of extensions (RFC 5280 4.2.1, 5.2).
 
-ghost use Rattle.x509_cert_general_names.specs.ExtensionTypes as types;
-ghost use Rattle.x509_cert_general_names.specs.ExtensionTypes.{identifier_of};
+ghost use Rattle.x509_cert_parts.specs.ExtensionTypes as types;
+ghost use Rattle.x509_cert_parts.specs.ExtensionTypes.{identifier_of};
 ghost use Rattle.x509_cert_general_names.specs.Modules.{module_arcs};
 
 use crate::{

@@ -6,9 +6,10 @@ ghost use Rattle.x509_cert_parts.specs.Views.{key_lent};
 ghost use Rattle.x509_cert_general_names.specs.KeyIdentifiers.{key_identifier};
 
 use der_core::Error;
+use der_types_values::OctetString;
 use sha1::Sha1;
 use std::alloc::Global;
-use x509_cert_parts::{OctetString, SubjectPublicKeyInfoRef};
+use x509_cert_parts::SubjectPublicKeyInfoRef;
 
 /// The SHA-1 digest (FIPS 180-4) of the octets of the key's bit string, without the count of unused
 /// bits.

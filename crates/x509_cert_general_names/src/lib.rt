@@ -31,4 +31,3 @@ pub use key_identifier::key_identifier_of;
 pub use name_constraints::NameConstraints;
 pub use other_name::OtherName;
 pub use reason_flags::{ReasonFlags, Reasons};
-pub use x509_cert_parts as parts;

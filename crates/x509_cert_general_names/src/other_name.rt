@@ -11,8 +11,8 @@ use crate::hardware_module_name::HardwareModuleName;
 use const_oid::{AssociatedOid, ObjectIdentifier};
 use der_core::describing::{AsRecord, Described, FieldsView, RowUser, Rows};
 use der_core::{DecodeFields, Error, Reader, lend, read_row};
+use der_types_any::Any;
 use std::alloc::Global;
-use x509_cert_parts::Any;
 
 /// A name of a kind that an identifier tells (RFC 5280 4.2.1.6).
 ///

@@ -5,7 +5,7 @@ use Rattle.der_core_head.specs.declared.tag.Tag.TheVariants as tags
 use Rattle.der_core_head.specs.Heads.{head_octets}
 use Rattle.der_core_head.specs.Shapes.{Shape, Body, BodyValue, field, done, sequence, octets_of}
 use Rattle.der_core_head.specs.Shapes.{body_octets}
-use Rattle.x509_cert_builders.specs.Parts.{algorithm_identifier, bit_string}
+use Rattle.x509_cert_parts.specs.Grammar.{algorithm_identifier, bit_string}
 
 -- SIGNED{ToBeSigned} ::= SEQUENCE { toBeSigned ToBeSigned, algorithmIdentifier AlgorithmIdentifier,
 -- signature BIT STRING }, of whatever shape is to be signed

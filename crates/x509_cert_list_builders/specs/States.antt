@@ -1,9 +1,10 @@
 -- What contracts see of builders.
 use Rattle.std.specs.Prelude.{List, pos, Option, Some, None}
 use Rattle.der_core_head.specs.Grammar.{plain_list, plain_option}
-use Rattle.x509_cert_builders.specs.Parts.{Algorithm, PlainAttribute, PlainExtension, PlainName}
-use Rattle.x509_cert_builders.specs.Parts.{attribute_plain, extensions_plain, name_plain}
-use Rattle.x509_cert_builders.specs.Parts.{PlainTime, time_value}
+use Rattle.x509_cert_parts.specs.Grammar.{Algorithm, PlainExtension, PlainTime}
+use Rattle.x509_cert_names.specs.Names.{PlainAttribute, PlainName}
+use Rattle.x509_cert_names.specs.Views.{attribute_plain, name_plain}
+use Rattle.x509_cert_parts.specs.Views.{extensions_plain, time_value}
 use Rattle.x509_cert_lists.specs.Views.{cert_req_info_plain, revoked_cert_plain}
 use Rattle.x509_cert_lists.specs.Views.{tbs_cert_list_plain}
 use Rattle.x509_cert_list_builders.specs.Lists.{PlainEntry, PlainList}

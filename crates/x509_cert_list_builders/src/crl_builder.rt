@@ -8,11 +8,11 @@ ghost use Rattle.der_core_head.specs.declared.error.ErrorKind.TheVariants.{OutOf
 ghost use Rattle.der_core_head.specs.Grammar.{plain_list, plain_option};
 ghost use Rattle.der_core_head.specs.Reading.{Gives};
 ghost use Rattle.der_core_head.specs.Shapes.{IsValid};
-ghost use Rattle.x509_cert_builders.specs.CertificateViews.{tbs_plain};
-ghost use Rattle.x509_cert_builders.specs.Certificates.{tbs_subject};
-ghost use Rattle.x509_cert_builders.specs.Parts.{algorithm_plain, extensions_plain, key_plain};
-ghost use Rattle.x509_cert_builders.specs.Parts.{time_value};
-ghost use Rattle.x509_cert_builders.specs.GeneralNameViews.{authority_key_identifier_plain};
+ghost use Rattle.x509_cert_certificates.specs.Views.{tbs_plain};
+ghost use Rattle.x509_cert_certificates.specs.Certificates.{tbs_subject};
+ghost use Rattle.x509_cert_parts.specs.Views.{algorithm_plain, extensions_plain, key_plain};
+ghost use Rattle.x509_cert_parts.specs.Views.{time_value};
+ghost use Rattle.x509_cert_general_names.specs.Views.{authority_key_identifier_plain};
 ghost use Rattle.x509_cert_lists.specs.Views.{certificate_list_plain, revoked_cert_plain};
 ghost use Rattle.x509_cert_lists.specs.Views.{tbs_cert_list_plain};
 ghost use Rattle.x509_cert_builders.specs.Refusals.{IsUnwritten, IsWantOfMemory};
@@ -26,17 +26,19 @@ use crate::laws::signed_part_stands_in_place;
 use crate::writing::list_written;
 use der_core::ErrorKind;
 use der_core::making::{copies_of, copies_of_option};
+use der_types_values::BitString;
 use std::alloc::Global;
 use std::marker::Model;
-use x509_cert_builders::certificates::{
-    AlgorithmIdentifier, AlgorithmIdentifierRef, BitString, Certificate, Extension, Extensions,
-    Name, Profile, Rfc5280, SubjectPublicKeyInfo, SubjectPublicKeyInfoRef, TbsCertificate, Time,
-    Version,
-};
-use x509_cert_builders::types::general_names::AuthorityKeyIdentifier;
-use x509_cert_builders::types::{CrlNumber, ToExtension};
 use x509_cert_builders::{Builder, Error, Signer};
+use x509_cert_certificates::{Certificate, TbsCertificate};
+use x509_cert_extensions::{CrlNumber, ToExtension};
+use x509_cert_general_names::AuthorityKeyIdentifier;
 use x509_cert_lists::{CertificateList, RevokedCert, TbsCertList};
+use x509_cert_names::Name;
+use x509_cert_parts::{
+    AlgorithmIdentifier, AlgorithmIdentifierRef, Extension, Extensions, Profile, Rfc5280,
+    SubjectPublicKeyInfo, SubjectPublicKeyInfoRef, Time, Version,
+};
 
 /// A builder of revocation lists (RFC 5280 5.1). The list has version 2, a number, and the
 /// identifier of the key under which it is signed.

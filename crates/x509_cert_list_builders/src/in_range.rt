@@ -7,14 +7,14 @@ ghost use Rattle.std.specs.Prelude.{None};
 ghost use Rattle.std.specs.List.{AllByRecursion};
 ghost use Rattle.der_core_head.specs.Grammar.{plain_list, plain_option};
 ghost use Rattle.der_core_head.specs.Ranges.{IsInRange};
-ghost use Rattle.x509_cert_builders.specs.Parts.{extensions_plain};
+ghost use Rattle.x509_cert_parts.specs.Views.{extensions_plain};
 ghost use Rattle.x509_cert_lists.specs.Views.{revoked_cert_plain, tbs_cert_list_plain};
 ghost use Rattle.x509_cert_list_builders.specs.Lists.{entries_field, extensions_field, list_part};
 ghost use Rattle.x509_cert_list_builders.specs.Lists.{raw_entry};
 
 use der_core::InRange;
-use x509_cert_builders::certificates::{Extensions, Profile};
 use x509_cert_lists::{RevokedCert, TbsCertList};
+use x509_cert_parts::{Extensions, Profile};
 
 fn entry_in_range<P: Profile>(entry: &RevokedCert<P>)
     ensures { IsInRange raw_entry (revoked_cert_plain entry.now) }

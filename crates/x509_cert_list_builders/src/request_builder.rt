@@ -8,9 +8,9 @@ ghost use Rattle.der_core_head.specs.Grammar.{plain_option};
 ghost use Rattle.der_core_head.specs.Shapes.{IsValid};
 ghost use Rattle.x509_cert_lists.specs.Attributes.{any_of, attribute_of};
 ghost use Rattle.x509_cert_lists.specs.Grammar.{extension_req_attribute};
-ghost use Rattle.x509_cert_builders.specs.Parts.{PlainAttribute, algorithm_plain, attribute};
-ghost use Rattle.x509_cert_builders.specs.Parts.{attribute_plain, extensions_plain, key_plain};
-ghost use Rattle.x509_cert_builders.specs.Parts.{name_plain};
+ghost use Rattle.x509_cert_names.specs.Names.{PlainAttribute, attribute};
+ghost use Rattle.x509_cert_parts.specs.Views.{algorithm_plain, extensions_plain, key_plain};
+ghost use Rattle.x509_cert_names.specs.Views.{attribute_plain, name_plain};
 ghost use Rattle.x509_cert_lists.specs.Views.{cert_req_info_plain, cert_req_plain};
 ghost use Rattle.x509_cert_builders.specs.Refusals.{IsUnwritten, IsWantOfMemory, IsWantOfMemoryAs};
 ghost use Rattle.x509_cert_list_builders.specs.Requests.{HasNoAttribute, IsNotAdded, IsRequested};
@@ -21,15 +21,15 @@ use crate::laws::signed_part_stands_in_place;
 use crate::writing::written;
 use der_core::making::{copies_of, place_of};
 use der_core::{ErrorKind, InRange, StrictSetOf, ToDer};
+use der_types_values::BitString;
 use std::alloc::Global;
 use std::marker::Model;
-use x509_cert_builders::certificates::{
-    Attribute, BitString, Extension, Extensions, Name, SubjectPublicKeyInfo,
-};
-use x509_cert_builders::types::ToExtension;
 use x509_cert_builders::{Builder, Error, Signer};
+use x509_cert_extensions::ToExtension;
 use x509_cert_lists::request::Version;
 use x509_cert_lists::{AsAttribute, CertReq, CertReqInfo, ExtensionReq, TryFromExtensionReq};
+use x509_cert_names::{Attribute, Name};
+use x509_cert_parts::{Extension, Extensions, SubjectPublicKeyInfo};
 
 /// A builder of certification requests (RFC 2986). The extensions that are asked for stand in one
 /// attribute, which is made at each `finalize`.
@@ -47,7 +47,8 @@ pub struct RequestBuilder {
 impl Model for RequestBuilder {
     ghost use Rattle.const_oid.specs.Bound.{Bound};
     ghost use Rattle.der_core.specs.Placed.{AllValid};
-    ghost use Rattle.x509_cert_builders.specs.Parts.{attribute, attribute_plain};
+    ghost use Rattle.x509_cert_names.specs.Names.{attribute};
+    ghost use Rattle.x509_cert_names.specs.Views.{attribute_plain};
     ghost use Rattle.x509_cert_list_builders.specs.States.{RequestState, request_state};
 
     ghost Value = { RequestState };

@@ -10,8 +10,8 @@ use crate::in_range::list_in_range;
 use der_core::{Encode, InRange, ToDer};
 use std::alloc::Global;
 use x509_cert_builders::Error;
-use x509_cert_builders::certificates::Profile;
 use x509_cert_lists::TbsCertList;
+use x509_cert_parts::Profile;
 
 /// The octets of a value.
 pub(crate) fn written<T: Encode + InRange>(alloc: Global, value: &T) -> Result<Vec<u8>, Error>

@@ -6,7 +6,8 @@ use Rattle.der_core_head.specs.declared.error.ErrorKind.TheVariants as kinds
 use Rattle.der_core_head.specs.Octets.{◌>>=◌}
 use Rattle.der_core_head.specs.Shapes.{Shape, Value, AnyValue, tagged, any, either, optional}
 use Rattle.der_core_head.specs.Shapes.{defaulted, nothing}
-use Rattle.x509_cert_parts.specs.Parts.{written_as, PlainAttribute}
+use Rattle.der_types_any.specs.Contents.{written_as}
+use Rattle.x509_cert_names.specs.Names.{PlainAttribute}
 
 -- a value's tag and content, if a length can count its octets; a field that may be absent has none
 abbrev pub any_of : (s : Shape) → Value s → Result AnyValue ErrorKind

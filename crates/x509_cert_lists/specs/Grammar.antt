@@ -10,10 +10,11 @@ use Rattle.der_core_head.specs.Octets.{◌>>=◌}
 use Rattle.der_core_head.specs.Shapes.{Shape, Body, Content, tagged, leaf, optional, field, done}
 use Rattle.der_core_head.specs.Shapes.{many, rising, nested, sequence, sequence_of, explicit}
 use Rattle.der_core_head.specs.Tags.{context}
-use Rattle.x509_cert_parts.specs.Parts.{written_as, PlainAttribute, name, attribute}
-use Rattle.x509_cert_parts.specs.Parts.{PlainExtension, bit_string, algorithm_identifier}
-use Rattle.x509_cert_parts.specs.Parts.{public_key_info, version, serial_number, time}
-use Rattle.x509_cert_parts.specs.Parts.{extension, extensions}
+use Rattle.der_types_any.specs.Contents.{written_as}
+use Rattle.x509_cert_names.specs.Names.{PlainAttribute, name, attribute}
+use Rattle.x509_cert_parts.specs.Grammar.{PlainExtension, bit_string, algorithm_identifier}
+use Rattle.x509_cert_parts.specs.Grammar.{public_key_info, version, serial_number, time, extension}
+use Rattle.x509_cert_parts.specs.Grammar.{extensions}
 
 -- RevokedCert ::= SEQUENCE { userCertificate CertificateSerialNumber, revocationDate Time,
 --     crlEntryExtensions Extensions OPTIONAL } (5.1.2.6)

@@ -1,6 +1,3 @@
 pub mod Attributes
 pub mod Grammar
 pub mod Views
-pub use Rattle.x509_cert_parts.specs.Parts
-pub use Rattle.x509_cert_parts.specs.Texts
-pub use Rattle.x509_cert_parts.specs.Names

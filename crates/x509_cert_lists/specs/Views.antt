@@ -11,9 +11,9 @@ use Rattle.x509_cert_lists.specs.declared.certificate_list.CertificateList.{Cert
 use Rattle.x509_cert_lists.specs.declared.request.Version.{Version}
 use Rattle.x509_cert_lists.specs.declared.revoked_cert.RevokedCert.{RevokedCert}
 use Rattle.x509_cert_lists.specs.declared.tbs_cert_list.TbsCertList.{TbsCertList}
-use Rattle.x509_cert_parts.specs.Parts.{name_plain, attribute_plain, version_number}
-use Rattle.x509_cert_parts.specs.Parts.{time_value, algorithm_plain, key_plain}
-use Rattle.x509_cert_parts.specs.Parts.{extensions_plain}
+use Rattle.x509_cert_names.specs.Views.{name_plain, attribute_plain}
+use Rattle.x509_cert_parts.specs.Views.{version_number, time_value, algorithm_plain, key_plain}
+use Rattle.x509_cert_parts.specs.Views.{extensions_plain}
 
 abbrev pub revoked_cert_plain : {P : Type 0} → RevokedCert P
     → BodyValue (revoked_cert_fields 0 None)

@@ -12,8 +12,9 @@ ghost use Rattle.x509_cert_lists.specs.Views.{cert_req_plain};
 use crate::cert_req_info::CertReqInfo;
 use der_core::describing::{AsRecord, Described, FieldsView, RowUser, Rows};
 use der_core::{DecodeFields, Error, FromDer, Reader, lend, read_row};
+use der_types_values::BitString;
 use std::alloc::Global;
-use x509_cert_parts::{AlgorithmIdentifier, BitString};
+use x509_cert_parts::AlgorithmIdentifier;
 
 /// A request for a certificate (RFC 2986 4.2).
 ///

@@ -9,7 +9,8 @@ use crate::request::Version;
 use der_core::describing::{AsRecord, Described, FieldsView, RowUser, Rows};
 use der_core::{DecodeFields, Error, InRange, InRangeValue, Reader, lend, read_row};
 use std::alloc::Global;
-use x509_cert_parts::{Attributes, Name, SubjectPublicKeyInfo};
+use x509_cert_names::{Attributes, Name};
+use x509_cert_parts::SubjectPublicKeyInfo;
 
 /// The part of a certification request that is signed (RFC 2986 4.1). No attribute stands twice.
 ///

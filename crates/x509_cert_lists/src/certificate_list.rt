@@ -8,8 +8,9 @@ ghost use Rattle.x509_cert_lists.specs.Views.{certificate_list_plain};
 use crate::tbs_cert_list::TbsCertList;
 use der_core::describing::{AsRecord, Described, FieldsView, RowUser, Rows};
 use der_core::{DecodeFields, Error, Reader, lend, read_row};
+use der_types_values::BitString;
 use std::alloc::Global;
-use x509_cert_parts::{AlgorithmIdentifier, BitString, Profile, Rfc5280};
+use x509_cert_parts::{AlgorithmIdentifier, Profile, Rfc5280};
 
 /// A list of revoked certificates (RFC 5280 5.1).
 ///

@@ -2,7 +2,7 @@
 //! copied last, so that little is dropped where memory ends.
 
 ghost use Rattle.der_core.specs.Copies.{IsCopy};
-ghost use Rattle.x509_cert_parts.specs.Parts.{extensions_plain};
+ghost use Rattle.x509_cert_parts.specs.Views.{extensions_plain};
 ghost use Rattle.x509_cert_lists.specs.Views.{cert_req_info_plain, cert_req_plain};
 ghost use Rattle.x509_cert_lists.specs.Views.{certificate_list_plain, revoked_cert_plain};
 ghost use Rattle.x509_cert_lists.specs.Views.{tbs_cert_list_plain};
@@ -16,7 +16,8 @@ use crate::tbs_cert_list::TbsCertList;
 use der_core::StrictSetOf;
 use der_core::making::{copies_of, copies_of_option};
 use std::alloc::{AllocError, Global};
-use x509_cert_parts::{Attribute, Extension, Profile};
+use x509_cert_names::Attribute;
+use x509_cert_parts::{Extension, Profile};
 
 impl<P> RevokedCert<P> {
     /// A copy. Want of memory is the only error.

@@ -3,15 +3,18 @@
 ghost use Rattle.std.specs.Prelude.{◌≡◌, [], ◌∷◌};
 ghost use Rattle.const_oid.specs.Bound.{Bound};
 ghost use Rattle.der_core_head.specs.Reading.{Gives};
-ghost use Rattle.x509_cert_parts.specs.Parts.{attribute_plain, extensions_plain};
+ghost use Rattle.x509_cert_names.specs.Views.{attribute_plain};
+ghost use Rattle.x509_cert_parts.specs.Views.{extensions_plain};
 ghost use Rattle.x509_cert_lists.specs.Grammar.{extension_req_arcs};
 ghost use Rattle.x509_cert_lists.specs.Grammar.{extension_req_attribute};
 
 use const_oid::{AssociatedOid, ObjectIdentifier};
 use der_core::describing::{AsField, Described, Ordered, Wraps};
 use der_core::{Error, StrictSetOf};
+use der_types_any::Any;
 use std::alloc::Global;
-use x509_cert_parts::{Any, Attribute, Extension};
+use x509_cert_names::Attribute;
+use x509_cert_parts::Extension;
 
 /// The extensions that a certification request asks for, as the value of an attribute (RFC 2985
 /// 5.4.2). There may be none.
@@ -83,7 +86,7 @@ impl AsRef<Vec<Extension>> for ExtensionReq {
 
 impl AsMut<Vec<Extension>> for ExtensionReq {
     ghost use Rattle.std.specs.Borrow.{sem, Lends};
-    ghost use Rattle.x509_cert_parts.specs.Names.Rows.{list_row};
+    ghost use Rattle.der_core.specs.Rows.{list_row};
     ghost use Rattle.x509_cert_parts.specs.contracts.extension.Extension.{the_row as member_row};
     ghost use Rattle.x509_cert_lists.specs.contracts.extension_req.ExtensionReq.{the_row};
 

@@ -21,4 +21,3 @@ pub use challenge_password::ChallengePassword;
 pub use extension_req::{ExtensionReq, TryFromExtensionReq};
 pub use revoked_cert::RevokedCert;
 pub use tbs_cert_list::TbsCertList;
-pub use x509_cert_parts as parts;

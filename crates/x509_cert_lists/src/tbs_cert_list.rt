@@ -9,7 +9,8 @@ use crate::revoked_cert::RevokedCert;
 use der_core::describing::{AsRecord, Described, FieldsView, RowUser, Rows};
 use der_core::{DecodeFields, Error, Reader, lend, read_row};
 use std::alloc::Global;
-use x509_cert_parts::{AlgorithmIdentifier, Extensions, Name, Profile, Rfc5280, Time, Version};
+use x509_cert_names::Name;
+use x509_cert_parts::{AlgorithmIdentifier, Extensions, Profile, Rfc5280, Time, Version};
 
 /// The part of a revocation list that is signed (RFC 5280 5.1.2). Any version is read beside any
 /// fields, an empty list of certificates, and a list of no extensions. A list without a version

@@ -14,5 +14,3 @@ mod AloneLaws
 mod PlainSpelled
 mod SameOctets
 pub mod ValueEquality
-pub use Rattle.der_types_any.proofs.TimeTypes
-pub use Rattle.der_types_sets.proofs as SetTypes

@@ -1,16 +1,11 @@
 -- `==` of attributes and names is of their plain values: of identifiers by their octets, of any values by tag and content.
 use Rattle.std.proofs.Common.{◌≡◌, List, [], ◌∷◌, Bool, true, refl, ap, subst}
-use Rattle.std.specs.Prelude.{nat_eq, ◌&&◌}
-use Rattle.std.specs.Cmp.{nat_eq_equiv}
 use Rattle.std.specs.Cmp.Lexicographic.{pointwise, bytes_decides}
 use Rattle.const_oid.specs.Bound.{Bound}
 use Rattle.der_core.proofs.ValueEquality.{Alike, AlikeWithin, exact, leaves, behind, first, last, list, next, second, set}
 use Rattle.der_core_head.specs.Grammar.{plain_list}
 use Rattle.der_core_head.specs.Shapes.{AnyValue, any, rising}
-use Rattle.der_core_head.specs.Tags.{leading_octet, number_of}
-use Rattle.der_core_head.specs.declared.tag.Tag.{Tag}
-use Rattle.der_core_head.proofs.TagLaws.{same_tag-eq}
-use Rattle.der_types_any.specs.AnyOrders.{any_key}
+use Rattle.der_types_any.proofs.AnyEquality.{same_values, values}
 use Rattle.x509_cert_names.specs.DirectoryStrings.{directory_plain}
 use Rattle.x509_cert_names.specs.Names.{attribute, directory_string, type_and_value, relative_name, name}
 use Rattle.x509_cert_names.specs.Pairs.{pair_plain, relative_plain, same_pair}
@@ -21,25 +16,6 @@ use Rattle.x509_cert_names.specs.declared.attribute.Attribute.{Attribute}
 use Rattle.x509_cert_names.specs.declared.attribute_type_and_value.AttributeTypeAndValue.{AttributeTypeAndValue}
 use Rattle.x509_cert_names.specs.declared.directory_string.DirectoryString.{DirectoryString}
 use Rattle.x509_cert_names.specs.declared.directory_string.DirectoryString.TheVariants as strings
-
-both_alike : (t : Tag) → (nat_eq (leading_octet t) (leading_octet t) && nat_eq (number_of t) (number_of t)) ≡ true
-both_alike t i = nat_eq_equiv.refl (leading_octet t) i && nat_eq_equiv.refl (number_of t) i
-
-abbrev pub same_values : AnyValue → AnyValue → Bool
-same_values x y = pointwise nat_eq (any_key x) (any_key y)
-
--- values of one key are one value
-pub one_value : (x y : AnyValue) → same_values x y ≡ true → x ≡ y
-one_value x y e =
-    let keys : any_key x ≡ any_key y = (bytes_decides (any_key x) (any_key y)).0 e in
-    let leading : leading_octet x.tag ≡ leading_octet y.tag = cc in
-    let number : number_of x.tag ≡ number_of y.tag = cc in
-    let content : x.contents ≡ y.contents = cc in
-    let tag : x.tag ≡ y.tag = same_tag-eq x.tag y.tag (rw (leading, number) (both_alike y.tag)) in
-    λ i. record { tag = tag i; contents = content i }
-
-pub values : (x y : AnyValue) → Alike any (same_values x y) x y
-values x y = exact (one_value x y) (λ e. (bytes_decides (any_key x) (any_key y)).1 (ap any_key e))
 
 pub pairs : (a b : AttributeTypeAndValue) → Alike (type_and_value Bound) (same_pair a b) (pair_plain a) (pair_plain b)
 pairs a b = behind (next leaves (last (values a.value b.value)))

@@ -4,8 +4,7 @@ use Rattle.der_core_head.specs.Grammar.{plain_list}
 use Rattle.x509_cert_names.specs.Names.{PlainName, TypeAndValue, type_of, value_of}
 use Rattle.x509_cert_names.specs.Pairs.{relative_plain}
 use Rattle.x509_cert_names.specs.declared.attribute_type_and_value.AttributeTypeAndValue.{AttributeTypeAndValue}
-pub use Rattle.x509_cert_name_texts.specs.Answers.{GivesBy}
-pub use Rattle.x509_cert_names.specs.NameTexts.{ReadsName, name_printed}
+use Rattle.x509_cert_names.specs.NameTexts.{ReadsName, name_printed}
 
 -- an attribute of a name
 abbrev pub attribute_of : TypeAndValue → AttributeTypeAndValue

@@ -16,7 +16,7 @@ use der_core::{
     Member, OneOf4, Reader, Shaped, Tag, Writer,
 };
 use der_types_any::Any;
-use der_types_any::text_types::{BmpString, PrintableString, TeletexString};
+use der_types_text::{BmpString, PrintableString, TeletexString};
 use std::alloc::{AllocError, Global};
 use std::borrow::CowStr;
 use std::cmp::Ordering;

@@ -11,21 +11,21 @@ ghost use Rattle.der_core_head.specs.Shapes.{ascending, nested};
 ghost use Rattle.der_core_head.specs.Texts.{any_octet};
 ghost use Rattle.der_types_any.specs.Anys.{any_lent};
 ghost use Rattle.der_types_any.specs.Contents.{content_as, leaf_as};
-ghost use Rattle.der_types_any.specs.NumberTypes.Ints.{integer_lent, natural_lent};
-ghost use Rattle.der_types_any.specs.ValueTypes.BitStrings.{bits_lent};
-ghost use Rattle.der_types_any.specs.ValueTypes.OctetStrings.{octets_lent};
-ghost use Rattle.der_types_any.specs.ValueTypes.Sequences.{fields_lent};
+ghost use Rattle.der_types_numbers.specs.Ints.{integer_lent, natural_lent};
+ghost use Rattle.der_types_values.specs.BitStrings.{bits_lent};
+ghost use Rattle.der_types_values.specs.OctetStrings.{octets_lent};
+ghost use Rattle.der_types_values.specs.Sequences.{fields_lent};
 ghost use Rattle.der_types_sets.specs.Lent.{members_lent};
 
 use crate::from_any::FromAny;
 use const_oid::ObjectIdentifier;
 use der_core::{Decode, Error, Member, SliceReader};
-use der_types_any::number_types::{IntRef, UintRef};
-use der_types_any::text_types::{AsciiStringRef, AsciiType, GeneralStringRef, Utf8StringRef};
-use der_types_any::time_types::{DateTime, GeneralizedTime, UtcTime};
-use der_types_any::value_types::{BitStringRef, OctetStringRef, SequenceRef};
 use der_types_any::{Any, AnyRef};
+use der_types_numbers::{IntRef, UintRef};
 use der_types_sets::SetOfRef;
+use der_types_text::{AsciiStringRef, AsciiType, GeneralStringRef, Utf8StringRef};
+use der_types_time::{DateTime, GeneralizedTime, UtcTime};
+use der_types_values::{BitStringRef, OctetStringRef, SequenceRef};
 use std::alloc::Global;
 
 /// A text of a character string type whose characters are ASCII.

@@ -32,7 +32,7 @@ use der_core::{
     ApartValue, AsReadValue, DecodeValue, EncodeValue, Error, FixedTag, Header, InRangeValue,
     Length, Reader, ShapedValue, Tag, ValueOrd, Writer,
 };
-use der_types_any::text_types::{AsciiStringRef, AsciiType, Ia5StringRef, PrintableStringRef};
+use der_types_text::{AsciiStringRef, AsciiType, Ia5StringRef, PrintableStringRef};
 use std::alloc::{AllocError, Global};
 use std::cmp::Ordering;
 use std::fmt;

@@ -244,7 +244,7 @@ impl AsRef<Vec<RelativeDistinguishedName>> for RdnSequence {
 /// The list of relative names.
 impl AsMut<Vec<RelativeDistinguishedName>> for RdnSequence {
     ghost use Rattle.std.specs.Borrow.{sem, Lends};
-    ghost use Rattle.x509_cert_names.specs.Rows.{list_row};
+    ghost use Rattle.der_core.specs.Rows.{list_row};
     ghost use Rattle.x509_cert_names.specs.contracts.relative_distinguished_name.RelativeDistinguishedName.{the_row as member_row};
     ghost use Rattle.x509_cert_names.specs.contracts.rdn_sequence.RdnSequence.{the_row};
 

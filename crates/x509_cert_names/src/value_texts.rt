@@ -13,7 +13,7 @@ use crate::attribute_types as types;
 use der_core::making::encode_header;
 use der_core::{Error, FromDer, Length, SliceWriter, Tag};
 use der_types_any::Any;
-use der_types_any::text_types::{Ia5StringRef, PrintableStringRef, TeletexStringRef};
+use der_types_text::{Ia5StringRef, PrintableStringRef, TeletexStringRef};
 use std::alloc::Global;
 use std::fmt;
 use x509_cert_name_texts::{from_hex, undo_escapes, write_hex};

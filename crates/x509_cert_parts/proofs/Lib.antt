@@ -4,4 +4,3 @@ mod Fills
 pub mod ValueEquality
 pub mod OneKey
 pub mod Texts
-pub use Rattle.x509_cert_names.proofs as Names

@@ -1,7 +1,7 @@
 -- The parts of certificates (RFC 5280 4.1, 4.1.1.2, 4.1.2). A shape that holds an identifier takes
 -- the bound of arcs. A serial number takes the greatest number of content octets that its profile
 -- reads, if there is such a number.
-use Rattle.std.specs.Prelude.{ℕ, List, [], ◌∷◌, Bool, Option, Some, None}
+use Rattle.std.specs.Prelude.{ℕ, List, [], ◌∷◌, Bool, false, Option, Some, None}
 use Rattle.std.proofs.Common.{inl, inr}
 use Rattle.const_oid.specs.Bound.{max_size}
 use Rattle.der_core_head.specs.declared.tag.Tag.TheVariants as tags
@@ -13,6 +13,9 @@ use Rattle.der_core_head.specs.Leaves.{generalized_time}
 use Rattle.der_core_head.specs.Shapes.{Shape, Body, Value, BodyValue, AnyValue, tagged, any, leaf}
 use Rattle.der_core_head.specs.Shapes.{either, optional, defaulted, field, done, sequence}
 use Rattle.der_core_head.specs.Shapes.{sequence_of, explicit}
+use Rattle.der_core_head.specs.Integers.{unsigned}
+use Rattle.der_core_head.specs.Leaves.{Leaf}
+use Rattle.der_core_head.specs.Tags.{context}
 
 -- OBJECT IDENTIFIER, of at most 39 octets
 abbrev pub object_identifier : ℕ → Shape
@@ -147,3 +150,14 @@ is_critical e = e.1.0
 
 abbrev pub extension_octets : PlainExtension → List ℕ
 extension_octets e = e.1.1.0
+
+-- An implicit tag on a leaf, and on a SEQUENCE or SET (X.690 8.14.3).
+abbrev pub behind : ℕ → Leaf → Shape
+behind n l = tagged (context false n) (leaf l)
+
+-- INTEGER (0..2^width - 1)
+abbrev pub whole_number : ℕ → Leaf
+whole_number width = integer (unsigned width)
+
+abbrev pub number_of : ℕ → Shape
+number_of width = tagged tags.Integer (leaf (whole_number width))

@@ -7,7 +7,7 @@ use Rattle.der_core_head.specs.declared.error.ErrorKind.{ErrorKind}
 use Rattle.der_core_head.specs.declared.error.ErrorKind.TheVariants as kinds
 use Rattle.der_core_head.specs.Integers.{integer_octets}
 use Rattle.der_core_head.specs.Octets.{◌>>=◌}
-use Rattle.x509_cert_names.specs.NumberTypes.Numbers.{unsigned_number}
+use Rattle.der_types_numbers.specs.Numbers.{unsigned_number}
 use Rattle.x509_cert_parts.specs.declared.serial_number.SerialNumber.TheInside.{Inside}
 
 abbrev pub serial_kept : {P : Type 0} → Inside P → ℤ

@@ -4,9 +4,7 @@ use Rattle.std.proofs.Common.{inl, inr}
 use Rattle.der_core_head.specs.Integers.{integer_octets}
 use Rattle.x509_cert_parts.specs.Grammar.{PlainTime}
 use Rattle.x509_cert_parts.specs.SerialNumbers.{colon_pairs}
-pub use Rattle.x509_cert_names.specs.TimeTypes.DateTexts.{date_text}
-pub use Rattle.x509_cert_names.specs.PlainTexts.{GivesBy, ReadsName, SpellsName, name_printed}
-pub use Rattle.x509_cert_names.specs.PlainTexts.{name_text}
+use Rattle.der_types_time.specs.DateTexts.{date_text}
 
 -- the content octets of a serial number, as pairs of digits in base 16 with colons between them
 abbrev pub serial_text : ℤ → List ℕ

@@ -4,7 +4,7 @@ use Rattle.std.proofs.Common.{inr}
 use Rattle.der_core_head.specs.declared.error.Error.{Error}
 use Rattle.der_core_head.specs.declared.error.ErrorKind.TheVariants as kinds
 use Rattle.der_core_head.specs.Dates.{Civil, is_civil}
-use Rattle.x509_cert_names.specs.TimeTypes.DateTexts.{date_text}
+use Rattle.der_types_time.specs.DateTexts.{date_text}
 use Rattle.x509_cert_parts.specs.Grammar.{PlainTime}
 use Rattle.x509_cert_parts.specs.Respelling.{respelled}
 use Rattle.x509_cert_parts.specs.Views.{time_value, time_date}

@@ -3,8 +3,8 @@ use Rattle.std.specs.Prelude.{ℕ, List}
 use Rattle.std.proofs.Common.{inl, inr}
 use Rattle.der_core_head.specs.Dates.{Civil}
 use Rattle.der_core_head.specs.Grammar.{plain_option, plain_list}
-use Rattle.x509_cert_names.specs.Values.{any_lent}
-use Rattle.x509_cert_names.specs.ValueTypes.BitStrings.{bits_lent}
+use Rattle.der_types_any.specs.Anys.{any_lent}
+use Rattle.der_types_values.specs.BitStrings.{bits_lent}
 use Rattle.x509_cert_parts.specs.Grammar.{Algorithm, PublicKey, PlainExtension, PlainTime}
 use Rattle.x509_cert_parts.specs.Grammar.{PlainValidity}
 use Rattle.x509_cert_parts.specs.declared.algorithm_identifier.AlgorithmIdentifier.{AlgorithmIdentifier}

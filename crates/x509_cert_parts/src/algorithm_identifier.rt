@@ -12,8 +12,8 @@ use const_oid::ObjectIdentifier;
 use der_core::describing::{AsRecord, Described, FieldsView, RowUser, Rows};
 use der_core::making::copy_of_option;
 use der_core::{DecodeFields, Error, Reader, lend, read_row};
+use der_types_any::Any;
 use std::alloc::{AllocError, Global};
-use x509_cert_names::Any;
 
 /// An algorithm and its parameters (RFC 5280 4.1.1.2).
 ///

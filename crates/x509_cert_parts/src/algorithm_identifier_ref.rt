@@ -9,8 +9,8 @@ use crate::algorithm_identifier::AlgorithmIdentifier;
 use const_oid::ObjectIdentifier;
 use der_core::describing::{AsRecord, DecodeRow, Described, FieldsView, RowUser, Rows};
 use der_core::{DecodeFields, Error, Reader, lend, row};
+use der_types_any::AnyRef;
 use std::alloc::{AllocError, Global};
-use x509_cert_names::AnyRef;
 
 /// An algorithm and its parameters (RFC 5280 4.1.1.2), lent.
 ///

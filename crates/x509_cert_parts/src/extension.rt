@@ -9,8 +9,8 @@ ghost use Rattle.x509_cert_parts.specs.Views.{extension_plain};
 use const_oid::ObjectIdentifier;
 use der_core::describing::{AsRecord, Described, FieldsView, RowUser, Rows};
 use der_core::{DecodeFields, Error, Reader, lend, read_row};
+use der_types_values::OctetString;
 use std::alloc::{AllocError, Global};
-use x509_cert_names::value_types::OctetString;
 
 /// An extension of a certificate, whose content isn't looked into (RFC 5280 4.1, 4.2).
 ///

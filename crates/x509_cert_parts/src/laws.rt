@@ -28,10 +28,6 @@ use crate::time::Time;
 use crate::validity::Validity;
 use crate::version::Version;
 use std::cmp::PartialEq;
-pub use x509_cert_names::laws::{
-    equality_of_names_is_of_values, newly_read_name_texts_hold_a_large_arc,
-    wider_bounds_keep_names, wider_bounds_read_name_texts_alike,
-};
 
 /// First tags keep the fields of each part apart, at four levels or more.
 pub fn parts_are_apart()

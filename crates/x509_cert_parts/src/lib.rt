@@ -31,11 +31,3 @@ pub use subject_public_key_info_ref::SubjectPublicKeyInfoRef;
 pub use time::Time;
 pub use validity::Validity;
 pub use version::Version;
-pub use x509_cert_names::number_types::Uint;
-pub use x509_cert_names::time_types::{DateTime, GeneralizedTime, UtcTime};
-pub use x509_cert_names::value_types::{BitString, FlagSet, NamedBits, OctetString};
-pub use x509_cert_names::{
-    Any, AnyRef, Attribute, AttributeType, AttributeTypeAndValue, AttributeValue, Attributes,
-    DirectoryString, DistinguishedName, FromAny, Ia5String, Name, NameIter, RdnSequence,
-    RdnSequenceIter, RelativeDistinguishedName, SetOfIter, SetOfVec,
-};

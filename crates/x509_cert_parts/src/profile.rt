@@ -12,7 +12,7 @@ ghost use Rattle.x509_cert_parts.specs.Views.{time_value};
 use crate::serial_number::SerialNumber;
 use crate::time::Time;
 use der_core::{Error, ErrorKind, Tag};
-use x509_cert_names::time_types::UtcTime;
+use der_types_time::UtcTime;
 
 // The most content octets of a serial number that is read by RFC 5280.
 const MAX_SERIAL_OCTETS: usize = 21;

@@ -8,8 +8,8 @@ ghost use Rattle.der_core_head.specs.declared.tag.Tag.TheVariants.{Integer};
 ghost use Rattle.der_core_head.specs.Integers.{integer_of, integer_octets};
 ghost use Rattle.der_core_head.specs.Leaves.{integer};
 ghost use Rattle.der_core_head.specs.Reading.{Gives};
-ghost use Rattle.x509_cert_names.specs.NumberTypes.NumberOrders.{integer_cmp, integer_cmp_total};
-ghost use Rattle.x509_cert_names.specs.NumberTypes.NumberOrders.{integer_cmp_ties};
+ghost use Rattle.der_types_numbers.specs.NumberOrders.{integer_cmp, integer_cmp_total};
+ghost use Rattle.der_types_numbers.specs.NumberOrders.{integer_cmp_ties};
 ghost use Rattle.x509_cert_parts.specs.Drawing.{drawn_serial};
 ghost use Rattle.x509_cert_parts.specs.Grammar.{numbers_within};
 ghost use Rattle.x509_cert_parts.specs.SerialNumbers.{new_serial};
@@ -20,12 +20,12 @@ use crate::serial_text::write_octets;
 use der_core::describing::{AsLeaf, Described, EncodeLeaf, Primitive};
 use der_core::making::{integer_octets_of, value_cmp_by_contents};
 use der_core::{EncodeValue, Error, ErrorKind, FixedTag, Leaf, Length, Tag, ValueOrd, Writer};
+use der_types_numbers::{Int, Uint};
 use rand_core::CryptoRng;
 use std::alloc::{AllocError, Global};
 use std::cmp::Ordering;
 use std::fmt;
 use std::marker::{Model, PhantomData};
-use x509_cert_names::number_types::{Int, Uint};
 
 /// The serial number of a certificate (RFC 5280 4.1.2.2), of which the profile reads so many
 /// content octets. Numbers that are negative or zero are read too.

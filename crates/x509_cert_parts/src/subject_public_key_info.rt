@@ -10,8 +10,8 @@ use crate::algorithm_identifier::AlgorithmIdentifier;
 use crate::subject_public_key_info_ref::SubjectPublicKeyInfoRef;
 use der_core::describing::{AsRecord, Described, FieldsView, RowUser, Rows};
 use der_core::{DecodeFields, Error, Reader, lend, read_row};
+use der_types_values::BitString;
 use std::alloc::{AllocError, Global};
-use x509_cert_names::value_types::BitString;
 
 /// A public key and its algorithm (RFC 5280 4.1.2.7).
 ///

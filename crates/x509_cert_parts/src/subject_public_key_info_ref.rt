@@ -9,8 +9,8 @@ use crate::algorithm_identifier_ref::AlgorithmIdentifierRef;
 use crate::subject_public_key_info::SubjectPublicKeyInfo;
 use der_core::describing::{AsRecord, DecodeRow, Described, FieldsView, RowUser, Rows};
 use der_core::{DecodeFields, Error, Reader, lend, row};
+use der_types_values::BitStringRef;
 use std::alloc::{AllocError, Global};
-use x509_cert_names::value_types::BitStringRef;
 
 /// A public key and its algorithm (RFC 5280 4.1.2.7), lent.
 ///

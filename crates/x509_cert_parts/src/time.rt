@@ -3,7 +3,7 @@
 ghost use Rattle.std.specs.Prelude.{◌≡◌, ◌*◌, refl};
 ghost use Rattle.std.proofs.Common.{inr};
 ghost use Rattle.std.specs.Duration.{as_nanos};
-ghost use Rattle.x509_cert_names.specs.TimeTypes.Seconds.{unix_seconds};
+ghost use Rattle.der_types_time.specs.Seconds.{unix_seconds};
 ghost use Rattle.x509_cert_parts.specs.Grammar.{time};
 ghost use Rattle.x509_cert_parts.specs.Views.{time_value, time_date};
 
@@ -11,12 +11,12 @@ use der_core::{
     AsRead, Choice, Decode, DerOrd, Element, Encode, Error, FirstTag, Length, Member, OneOf2,
     Reader, Shaped, Tag, Writer,
 };
+use der_types_time::{DateTime, GeneralizedTime, UtcTime};
 use std::alloc::Global;
 use std::cmp::Ordering;
 use std::fmt;
 use std::str::FromStr;
 use std::time::Duration;
-use x509_cert_names::time_types::{DateTime, GeneralizedTime, UtcTime};
 
 /// A date in one of its two spellings (RFC 5280 4.1.2.5).
 ///
@@ -136,7 +136,7 @@ impl FirstTag for Time {
 /// The text `YYYY-MM-DDTHH:MM:SSZ` of the date.
 impl fmt::Display for Time {
     ghost use Rattle.std.specs.Prelude.{Some};
-    ghost use Rattle.x509_cert_names.specs.TimeTypes.DateTexts.{date_text};
+    ghost use Rattle.der_types_time.specs.DateTexts.{date_text};
 
     ghost output = { λ t. Some (date_text (time_date t)) };
 

@@ -4,7 +4,7 @@ ghost use Rattle.std.specs.Prelude.{◌≡◌, ◌+◌, ◌/◌, ◌≤◌, ◌�
 ghost use Rattle.std.specs.Duration.{as_nanos};
 ghost use Rattle.der_core_head.specs.declared.tag.Tag.TheVariants.{Sequence};
 ghost use Rattle.der_core_head.specs.Shapes.{nested};
-ghost use Rattle.x509_cert_names.specs.TimeTypes.Seconds.{last_second, unix_seconds};
+ghost use Rattle.der_types_time.specs.Seconds.{last_second, unix_seconds};
 ghost use Rattle.x509_cert_parts.specs.Grammar.{validity_fields};
 ghost use Rattle.x509_cert_parts.specs.Respelling.{validity_by};
 ghost use Rattle.x509_cert_parts.specs.Times.{time_of, without_end};
@@ -18,11 +18,11 @@ use der_core::{
     ApartValue, DecodeFields, DecodeValue, EncodeFields, EncodeValue, Error, ErrorKind, Fields,
     FieldsOrd, FixedTag, Header, Length, Reader, ShapedValue, Tag, ValueOrd, Writer,
 };
+use der_types_time::DateTime;
 use std::alloc::Global;
 use std::cmp::Ordering;
 use std::marker::PhantomData;
 use std::time::Duration;
-use x509_cert_names::time_types::DateTime;
 
 /// From when until when a certificate is valid, both dates included (RFC 5280 4.1.2.5). The profile
 /// says how the dates are written.

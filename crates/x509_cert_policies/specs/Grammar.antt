@@ -7,8 +7,8 @@ use Rattle.der_core_head.specs.Leaves.{integer, generalized_time, text, utf8}
 use Rattle.der_core_head.specs.Shapes.{Shape, Body, tagged, any, leaf, either, optional, field}
 use Rattle.der_core_head.specs.Shapes.{done, sequence, sequence_of}
 use Rattle.der_core_head.specs.Texts.{ascii}
-use Rattle.x509_cert_general_names.specs.Parts.{object_identifier, false_by_default}
-use Rattle.x509_cert_general_names.specs.Grammar.{behind, whole_number, number_of}
+use Rattle.x509_cert_parts.specs.Grammar.{object_identifier, false_by_default}
+use Rattle.x509_cert_parts.specs.Grammar.{behind, whole_number, number_of}
 
 -- BasicConstraints ::= SEQUENCE { cA BOOLEAN DEFAULT FALSE, pathLenConstraint INTEGER (0..255)
 --     OPTIONAL } (4.2.1.9)

@@ -55,7 +55,7 @@ impl AsRef<Vec<PolicyInformation>> for CertificatePolicies {
 
 impl AsMut<Vec<PolicyInformation>> for CertificatePolicies {
     ghost use Rattle.std.specs.Borrow.{sem, Lends};
-    ghost use Rattle.x509_cert_general_names.specs.Names.Rows.{list_row};
+    ghost use Rattle.der_core.specs.Rows.{list_row};
     ghost use Rattle.x509_cert_policies.specs.contracts.policy_information.PolicyInformation.{the_row as member_row};
     ghost use Rattle.x509_cert_policies.specs.contracts.certificate_policies.CertificatePolicies.{the_row};
 

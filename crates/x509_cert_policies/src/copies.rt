@@ -9,8 +9,9 @@ use crate::{
     PolicyQualifierInfo, UserNotice,
 };
 use der_core::making::{copies_of, copies_of_option, copy_of_option};
+use der_types_any::Any;
+use der_types_numbers::Uint;
 use std::alloc::{AllocError, Global};
-use x509_cert_general_names::parts::{Any, Uint};
 
 impl PolicyQualifierInfo {
     /// A copy. Want of memory is the only error.

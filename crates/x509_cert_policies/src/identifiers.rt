@@ -1,7 +1,7 @@
 //! The identifiers of extensions (RFC 5280 4.2.1; RFC 3280 4.2.1.4).
 
-ghost use Rattle.x509_cert_policies.specs.ExtensionTypes as types;
-ghost use Rattle.x509_cert_policies.specs.ExtensionTypes.{identifier_of};
+ghost use Rattle.x509_cert_parts.specs.ExtensionTypes as types;
+ghost use Rattle.x509_cert_parts.specs.ExtensionTypes.{identifier_of};
 
 use crate::{
     BasicConstraints, CertificatePolicies, InhibitAnyPolicy, PolicyConstraints, PolicyMappings,

@@ -28,5 +28,3 @@ pub use policy_mappings::PolicyMappings;
 pub use policy_qualifier_info::{CpsUri, PolicyQualifierInfo};
 pub use private_key_usage_period::PrivateKeyUsagePeriod;
 pub use user_notice::UserNotice;
-pub use x509_cert_general_names as general_names;
-pub use x509_cert_general_names::parts;

@@ -55,7 +55,7 @@ impl AsRef<Vec<PolicyMapping>> for PolicyMappings {
 
 impl AsMut<Vec<PolicyMapping>> for PolicyMappings {
     ghost use Rattle.std.specs.Borrow.{sem, Lends};
-    ghost use Rattle.x509_cert_general_names.specs.Names.Rows.{list_row};
+    ghost use Rattle.der_core.specs.Rows.{list_row};
     ghost use Rattle.x509_cert_policies.specs.contracts.policy_mapping.PolicyMapping.{the_row as member_row};
     ghost use Rattle.x509_cert_policies.specs.contracts.policy_mappings.PolicyMappings.{the_row};
 

@@ -8,8 +8,9 @@ ghost use Rattle.x509_cert_policies.specs.Views.{policy_qualifier_info_plain};
 use const_oid::ObjectIdentifier;
 use der_core::describing::{AsRecord, Described, FieldsView, RowUser, Rows};
 use der_core::{DecodeFields, Error, Reader, lend, read_row};
+use der_types_any::Any;
+use der_types_text::Ia5String;
 use std::alloc::Global;
-use x509_cert_general_names::parts::{Any, Ia5String};
 
 /// A qualifier of a policy (RFC 5280 4.2.1.4).
 ///

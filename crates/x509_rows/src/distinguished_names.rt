@@ -5,18 +5,16 @@ use crate::shown::{octets_of, written};
 use crate::{name_texts, relative_names};
 use const_oid::ObjectIdentifier;
 use der_core::{Encode, Error, FromDer};
+use der_types_numbers::{IntRef, UintRef};
+use der_types_sets::SetOfRef;
+use der_types_text::{GeneralStringRef, Ia5StringRef, PrintableStringRef, Utf8StringRef};
+use der_types_values::{BitStringRef, OctetStringRef, SequenceRef};
 use std::alloc::Global;
 use std::convert::AsStr;
 use x509_cert::{
     AnyRef, AttributeTypeAndValue, DateTime, DirectoryString, FromAny, GeneralizedTime, Name,
     UtcTime,
 };
-use x509_cert_names::SetOfRef;
-use x509_cert_names::number_types::{IntRef, UintRef};
-use x509_cert_names::text_types::{
-    GeneralStringRef, Ia5StringRef, PrintableStringRef, Utf8StringRef,
-};
-use x509_cert_names::value_types::{BitStringRef, OctetStringRef, SequenceRef};
 
 /// The answer to a question about names and relative names.
 pub fn answer(alloc: Global, word: &str, rest: &str) -> Result<String, Refusal> {

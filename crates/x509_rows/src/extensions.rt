@@ -3,9 +3,9 @@
 use crate::lists;
 use crate::questions::{
     Asked, Question, answer_of_content, answer_of_copied, answer_of_described, answer_of_list,
-    answer_of_ordered, answer_with_both, answer_with_debug, answer_with_debug_and_copy,
-    answer_with_default_and_copy, answer_with_field, answer_with_field_and_copy, answer_with_order,
-    answer_with_order_and_copy,
+    answer_of_ordered, answer_with_both, answer_with_copy, answer_with_debug,
+    answer_with_debug_and_copy, answer_with_default_and_copy, answer_with_field,
+    answer_with_field_and_copy, answer_with_order, answer_with_order_and_copy,
 };
 use crate::refusals::Refusal;
 use crate::shown::written;
@@ -157,7 +157,7 @@ fn answer_of_parts(alloc: Global, kind: &str, question: &Question<'_>) -> Result
         "PolicyInformation" => answer_of_described::<PolicyInformation>(alloc, question),
         "PolicyQualifierInfo" => answer_of_described::<PolicyQualifierInfo>(alloc, question),
         "PolicyMapping" => answer_of_described::<PolicyMapping>(alloc, question),
-        "CpsUri" => answer_of_copied(alloc, question, CpsUri::clone),
+        "CpsUri" => answer_with_copy(alloc, question, CpsUri::clone),
         "UserNotice" => answer_of_copied(alloc, question, UserNotice::clone),
         "NoticeReference" => answer_of_described::<NoticeReference>(alloc, question),
         "DisplayText" => answer_with_order::<DisplayText>(alloc, question),

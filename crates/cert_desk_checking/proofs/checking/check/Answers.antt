@@ -1,9 +1,9 @@
 use Rattle.std.proofs.Common.{sym, ap, ◌∙◌}
-use Rattle.cert_desk_checking.specs.declared.checked.Verdict.TheVariants as verdicts
+use Rattle.cert_desk_rules.specs.declared.checked.Verdict.TheVariants as verdicts
 use Rattle.cert_desk_checking.specs.Anchors.{terms_of}
-use Rattle.cert_desk_checking.specs.Verdicts.{asked}
+use Rattle.cert_desk_rules.specs.Verdicts.{asked}
 use Rattle.cert_desk_checking.proofs.Counts.{Rises-by, Rises-none}
-use Rattle.cert_desk_checking.proofs.OneChain.{fault_no_chain}
+use Rattle.cert_desk_bundle.proofs.OneChain.{fault_no_chain}
 use Rattle.cert_desk_checking.proofs.ChainLaws.{only_trusted, reads_chain, reads_fault, Asks-chain, Asks-fault, counted_by}
 use Rattle.cert_desk_checking.proofs.checking.check.Goals as goal
 use Rattle.const_oid.specs.Bound.{Bound}

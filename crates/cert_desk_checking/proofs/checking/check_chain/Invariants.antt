@@ -2,10 +2,10 @@
 use Rattle.std.proofs.Common.{◌≡◌, true}
 use Rattle.const_oid.specs.Bound.{Bound}
 use Rattle.cert_desk_checking.specs.Anchors.{terms_of}
-use Rattle.cert_desk_checking.specs.Chains.{joined}
-use Rattle.cert_desk_checking.specs.Findings.{IsRoom}
+use Rattle.cert_desk_bundle.specs.Chains.{joined}
+use Rattle.cert_desk_rules.specs.Findings.{IsRoom}
 use Rattle.cert_desk_checking.specs.Places.{IsIssuer, Rises}
-use Rattle.cert_desk_checking.specs.Verdicts.{all_kept_below, asked_below}
+use Rattle.cert_desk_rules.specs.Verdicts.{all_kept_below, asked_below}
 use Rattle.cert_desk_checking.proofs.checking.check_chain.Given as goal
 
 abbrev pub invariant-loop-place : goal.invariant-loop-place

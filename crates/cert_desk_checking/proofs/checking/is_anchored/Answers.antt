@@ -1,9 +1,9 @@
 use Rattle.std.proofs.Common.{sym, ap, ◌∙◌}
 use Rattle.const_oid.specs.Bound.{Bound}
-use Rattle.x509_cert_anchors.specs.CertificateViews.{certificate_plain}
+use Rattle.x509_cert_certificates.specs.Views.{certificate_plain}
 use Rattle.cert_desk_checking.specs.declared.anchor.Anchor.{Anchor}
 use Rattle.cert_desk_checking.specs.Anchors.{anchor_plain}
-use Rattle.cert_desk_checking.specs.Judging.{is_named}
+use Rattle.cert_desk_rules.specs.Judging.{is_named}
 use Rattle.cert_desk_checking.proofs.AnchorSteps.{any_yes, any_no, same_name_is}
 use Rattle.cert_desk_checking.proofs.checking.is_anchored.Goals as goal
 

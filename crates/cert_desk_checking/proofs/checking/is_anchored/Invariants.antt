@@ -2,9 +2,9 @@
 use Rattle.std.proofs.Common.{◌≡◌, map, drop}
 use Rattle.std.specs.List.{list_any}
 use Rattle.const_oid.specs.Bound.{Bound}
-use Rattle.x509_cert_anchors.specs.CertificateViews.{certificate_plain}
+use Rattle.x509_cert_certificates.specs.Views.{certificate_plain}
 use Rattle.cert_desk_checking.specs.Anchors.{anchor_plain}
-use Rattle.cert_desk_checking.specs.Judging.{is_named}
+use Rattle.cert_desk_rules.specs.Judging.{is_named}
 use Rattle.cert_desk_checking.proofs.checking.is_anchored.Given as goal
 
 abbrev pub invariant-loop-anchor : goal.invariant-loop-anchor

@@ -2,10 +2,10 @@
 use Rattle.std.proofs.Common.{◌≡◌, ℕ, ◌+◌, map, drop}
 use Rattle.std.specs.List.{list_any}
 use Rattle.const_oid.specs.Bound.{Bound}
-use Rattle.x509_cert_anchors.specs.CertificateViews.{certificate_plain}
+use Rattle.x509_cert_certificates.specs.Views.{certificate_plain}
 use Rattle.cert_desk_checking.specs.Anchors.{anchor_plain}
 use Rattle.cert_desk_checking.specs.Places.{signs, Rises}
-use Rattle.cert_desk_checking.specs.Verdicts.{asked_until}
+use Rattle.cert_desk_rules.specs.Verdicts.{asked_until}
 use Rattle.cert_desk_checking.proofs.checking.is_signed_by_anchor.Given as goal
 
 abbrev pub invariant-loop-anchor : goal.invariant-loop-anchor

@@ -1,18 +1,18 @@
 use Rattle.std.proofs.Common.{◌+◌, ◌&&◌, ◌||◌, not, List, refl, subst, sym, ◌∙◌, ap}
 use Rattle.std.specs.Option.{is_some}
 use Rattle.const_oid.specs.Bound.{Bound}
-use Rattle.x509_cert_extensions.specs.Parts.{PlainExtension}
-use Rattle.x509_cert_anchors.specs.CertificateViews.{certificate_plain}
-use Rattle.cert_desk_checking.specs.declared.rule.Rule.TheVariants as rules
+use Rattle.x509_cert_parts.specs.Grammar.{PlainExtension}
+use Rattle.x509_cert_certificates.specs.Views.{certificate_plain}
+use Rattle.cert_desk_rules.specs.declared.rule.Rule.TheVariants as rules
 use Rattle.cert_desk_checking.specs.Anchors.{terms_of}
-use Rattle.cert_desk_checking.specs.Findings.{IsRoom, add_place, found}
-use Rattle.cert_desk_checking.specs.Judging.{are_distinct}
-use Rattle.cert_desk_checking.specs.Paths.{counts, is_self_issued, is_within}
-use Rattle.cert_desk_checking.specs.Weighing.{may_take_memory}
-use Rattle.cert_desk_checking.proofs.Folds.{not_twice}
+use Rattle.cert_desk_rules.specs.Findings.{IsRoom, add_place, found}
+use Rattle.cert_desk_rules.specs.Judging.{are_distinct}
+use Rattle.cert_desk_rules.specs.Paths.{counts, is_self_issued, is_within}
+use Rattle.cert_desk_rules.specs.Weighing.{may_take_memory}
+use Rattle.cert_desk_rules.proofs.Folds.{not_twice}
 use Rattle.cert_desk_checking.proofs.KeptLaws.{counts-is, keeps_issuing, keeps_known, keeps_serving, keeps_well_formed, keeps_within, tests_say}
-use Rattle.cert_desk_checking.proofs.Outcomes.{OnErr-by}
-use Rattle.cert_desk_checking.proofs.PathLaws.{IsRoom-more, add_place_any, admits_any}
+use Rattle.cert_desk_io.proofs.Given.{OnErr-by}
+use Rattle.cert_desk_rules.proofs.PathLaws.{IsRoom-more, add_place_any, admits_any}
 use Rattle.cert_desk_checking.proofs.PlaceLaws.{keeps_at-is, linked_at}
 use Rattle.cert_desk_checking.proofs.checking.rules_kept.Goals as goal
 

@@ -1,9 +1,9 @@
 use Rattle.std.proofs.Common.{◌≡◌, ℕ, suc, ◌+◌, length, refl, sym, ◌∙◌, subst, arith}
 use Rattle.const_oid.specs.Bound.{Bound}
-use Rattle.x509_cert_anchors.specs.CertificateViews.{certificate_plain}
+use Rattle.x509_cert_certificates.specs.Views.{certificate_plain}
 use Rattle.cert_desk_checking.specs.declared.issuer.Issuer.TheVariants as issuers
 use Rattle.cert_desk_checking.specs.Anchors.{terms_of}
-use Rattle.cert_desk_checking.specs.Chains.{joined}
+use Rattle.cert_desk_bundle.specs.Chains.{joined}
 use Rattle.cert_desk_checking.specs.Places.{IsIssuer}
 use Rattle.cert_desk_checking.proofs.EachPlace.{SaysBefore, all_said, says-more}
 use Rattle.cert_desk_checking.proofs.Encodings.{signed_part-is}

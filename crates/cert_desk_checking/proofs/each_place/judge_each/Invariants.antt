@@ -2,8 +2,8 @@
 use Rattle.std.proofs.Common.{◌≡◌}
 use Rattle.const_oid.specs.Bound.{Bound}
 use Rattle.cert_desk_checking.specs.Anchors.{terms_of}
-use Rattle.cert_desk_checking.specs.Chains.{joined}
-use Rattle.cert_desk_checking.specs.Findings.{IsRoom}
+use Rattle.cert_desk_bundle.specs.Chains.{joined}
+use Rattle.cert_desk_rules.specs.Findings.{IsRoom}
 use Rattle.cert_desk_checking.specs.Places.{IsIssuer}
 use Rattle.cert_desk_checking.proofs.EachPlace.{SaysBefore}
 use Rattle.cert_desk_checking.proofs.each_place.judge_each.Given as goal

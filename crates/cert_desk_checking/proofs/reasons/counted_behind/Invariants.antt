@@ -1,7 +1,7 @@
 -- The path limit is counted up to here.
 use Rattle.std.proofs.Common.{◌≡◌, ◌≤◌, ◌+◌, ◌-◌}
 use Rattle.const_oid.specs.Bound.{Bound}
-use Rattle.cert_desk_checking.specs.Paths.{counted}
+use Rattle.cert_desk_rules.specs.Paths.{counted}
 use Rattle.cert_desk_checking.proofs.reasons.counted_behind.Given as goal
 
 abbrev pub invariant-loop-step : goal.invariant-loop-step

@@ -1,7 +1,7 @@
 -- The path lengths of the places so far are kept, and so many places count from here on.
 use Rattle.std.proofs.Common.{◌≡◌, ◌+◌, ◌-◌, true}
 use Rattle.const_oid.specs.Bound.{Bound}
-use Rattle.cert_desk_checking.specs.Paths.{counted, keep_lengths}
+use Rattle.cert_desk_rules.specs.Paths.{counted, keep_lengths}
 use Rattle.cert_desk_checking.proofs.reasons.exceeded_length.Given as goal
 
 abbrev pub invariant-loop-before : goal.invariant-loop-before

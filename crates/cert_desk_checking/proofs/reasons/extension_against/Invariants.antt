@@ -2,8 +2,8 @@
 use Rattle.std.proofs.Common.{◌≡◌, ◌<◌, ℕ, drop, false}
 use Rattle.std.specs.List.{list_any}
 use Rattle.const_oid.specs.Bound.{Bound}
-use Rattle.x509_cert_extensions.specs.Parts.{extensions_plain}
-use Rattle.cert_desk_checking.specs.Reasons.{is_against, is_at}
+use Rattle.x509_cert_parts.specs.Views.{extensions_plain}
+use Rattle.cert_desk_rules.specs.Reasons.{is_against, is_at}
 use Rattle.cert_desk_checking.proofs.reasons.extension_against.Given as goal
 
 abbrev pub invariant-loop-number : goal.invariant-loop-number

@@ -2,11 +2,11 @@ use Rattle.std.proofs.Common.{◌||◌, ap, not, inl, inr, refl, sym, ◌∙◌}
 use Rattle.std.specs.List.{list_any}
 use Rattle.std.proofs.lemmas.Bool.{or_left}
 use Rattle.const_oid.specs.Bound.{Bound}
-use Rattle.x509_cert_extensions.specs.Parts.{extensions_plain}
-use Rattle.cert_desk_checking.specs.declared.rule.Rule.TheVariants as rules
-use Rattle.cert_desk_checking.specs.Reasons.{is_against}
-use Rattle.cert_desk_checking.proofs.ExtensionLaws.{some-by}
-use Rattle.cert_desk_checking.proofs.FoundLaws.{found_ca}
+use Rattle.x509_cert_parts.specs.Views.{extensions_plain}
+use Rattle.cert_desk_rules.specs.declared.rule.Rule.TheVariants as rules
+use Rattle.cert_desk_rules.specs.Reasons.{is_against}
+use Rattle.cert_desk_rules.proofs.ExtensionLaws.{some-by}
+use Rattle.cert_desk_rules.proofs.FoundLaws.{found_ca}
 use Rattle.cert_desk_checking.proofs.reasons.lack_of_authority.Goals as goal
 
 pub returns-then-not-findings-clause-told : goal.returns-then-not-findings-clause-told

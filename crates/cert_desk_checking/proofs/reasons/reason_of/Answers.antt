@@ -1,13 +1,14 @@
 use Rattle.std.proofs.Common.{ℕ, List, not, ◌&&◌, ◌||◌, ap, sym, ◌∙◌}
 use Rattle.std.specs.List.{list_any}
 use Rattle.const_oid.specs.Bound.{Bound}
-use Rattle.x509_cert_extensions.specs.Parts.{PlainExtension, extensions_plain}
-use Rattle.x509_cert_anchors.specs.CertificateViews.{certificate_plain}
-use Rattle.cert_desk_checking.specs.declared.rule.Rule.{Rule}
-use Rattle.cert_desk_checking.specs.declared.rule.Rule.TheVariants as rules
-use Rattle.cert_desk_checking.specs.Judging.{keeps_at}
-use Rattle.cert_desk_checking.specs.Reasons.{has_no_authority, is_against, is_explained}
-use Rattle.cert_desk_checking.proofs.MemoryLaws.{wanted_at}
+use Rattle.x509_cert_parts.specs.Grammar.{PlainExtension}
+use Rattle.x509_cert_parts.specs.Views.{extensions_plain}
+use Rattle.x509_cert_certificates.specs.Views.{certificate_plain}
+use Rattle.cert_desk_rules.specs.declared.rule.Rule.{Rule}
+use Rattle.cert_desk_rules.specs.declared.rule.Rule.TheVariants as rules
+use Rattle.cert_desk_rules.specs.Judging.{keeps_at}
+use Rattle.cert_desk_rules.specs.Reasons.{has_no_authority, is_against, is_explained}
+use Rattle.cert_desk_rules.proofs.MemoryLaws.{wanted_at}
 use Rattle.cert_desk_checking.proofs.ReasonLaws.{broken-authority, broken-extension, length-explained, told-where}
 use Rattle.cert_desk_checking.proofs.reasons.reason_of.Goals as goal
 

@@ -1,10 +1,10 @@
 use Rattle.std.proofs.Common.{◌≡◌, ◌<◌, ◌+◌, ◌-◌, ◌∙◌, ℕ, IfSome, true, false, not, length, drop, take, refl, subst, sym, ap}
 use Rattle.std.proofs.lemmas.List.{take_rest}
 use Rattle.std.specs.Option.{is_some}
-use Rattle.x509_cert_extensions.specs.Parts.{extension_plain, extensions_plain}
-use Rattle.cert_desk_checking.specs.Judging.{are_distinct, has_twin}
-use Rattle.cert_desk_checking.specs.Reasons.{IsFirstAt, have_one_identifier}
-use Rattle.cert_desk_checking.proofs.ExtensionLaws.{twin_at}
+use Rattle.x509_cert_parts.specs.Views.{extension_plain, extensions_plain}
+use Rattle.cert_desk_rules.specs.Judging.{are_distinct, has_twin}
+use Rattle.cert_desk_rules.specs.Reasons.{IsFirstAt, have_one_identifier}
+use Rattle.cert_desk_rules.proofs.ExtensionLaws.{twin_at}
 use Rattle.cert_desk_checking.proofs.ReasonLaws.{first-twins, is-some-by}
 use Rattle.cert_desk_checking.proofs.reasons.twins_in.Goals as goal
 

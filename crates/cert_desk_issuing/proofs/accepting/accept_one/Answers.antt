@@ -1,6 +1,6 @@
 use Rattle.std.proofs.Common.{refl, string_bytes, subst}
 use Rattle.der_core_head.specs.Grammar.{plain_list}
-use Rattle.cert_desk_checking.specs.Parts.{name_plain}
+use Rattle.x509_cert_names.specs.Views.{name_plain}
 use Rattle.cert_desk_issuing.specs.PlainOrders.{HasNamesFor}
 use Rattle.cert_desk_issuing.proofs.accepting.accept_one.Goals as goal
 

@@ -2,7 +2,7 @@
 use Rattle.std.proofs.Common.{◌≡◌}
 use Rattle.std.specs.List.{list_all}
 use Rattle.x509_cert_builders.specs.Subscribers.{may_stay}
-use Rattle.cert_desk_checking.specs.Parts.{relative_plain}
+use Rattle.x509_cert_names.specs.Pairs.{relative_plain}
 use Rattle.cert_desk_issuing.proofs.accepting.all_may_stay.Given as goal
 
 abbrev pub invariant-loop-attribute : goal.invariant-loop-attribute

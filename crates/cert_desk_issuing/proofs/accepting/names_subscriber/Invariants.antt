@@ -1,7 +1,8 @@
 -- All relative names so far may stay: the answer is that of those that are left.
 use Rattle.std.proofs.Common.{◌≡◌}
 use Rattle.der_core_head.specs.Grammar.{plain_list}
-use Rattle.cert_desk_checking.specs.Parts.{relative_plain, name_plain}
+use Rattle.x509_cert_names.specs.Pairs.{relative_plain}
+use Rattle.x509_cert_names.specs.Views.{name_plain}
 use Rattle.cert_desk_issuing.specs.Acceptance.{names_subscriber}
 use Rattle.cert_desk_issuing.proofs.accepting.names_subscriber.Given as goal
 

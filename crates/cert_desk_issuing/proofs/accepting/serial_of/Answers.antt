@@ -1,5 +1,5 @@
 use Rattle.std.proofs.Common.{sym, ap, ◌∙◌}
-use Rattle.cert_desk_orders.specs.SerialNumbers.{new_serial}
+use Rattle.x509_cert_parts.specs.SerialNumbers.{new_serial}
 use Rattle.cert_desk_issuing.proofs.accepting.serial_of.Goals as goal
 
 pub returns-in_default : goal.returns-in_default

@@ -1,11 +1,11 @@
 use Rattle.std.proofs.Common.{sym, ◌∙◌, subst}
 use Rattle.der_core_head.specs.Grammar.{plain_list}
 use Rattle.cert_desk_issuing.specs.declared.issue_error.IssueError.{IssueError}
-use Rattle.cert_desk_checking.specs.CertificateViews.{certificate_plain}
+use Rattle.x509_cert_certificates.specs.Views.{certificate_plain}
 use Rattle.x509_cert_builders.specs.States.{as_written}
 use Rattle.cert_desk_issuing.specs.PlainOrders.{orders_plain}
 use Rattle.cert_desk_issuing.specs.Refusals.{Refuses}
-use Rattle.cert_desk_checking.proofs.Names.SetTypes.FewSteps.{length_plain_list}
+use Rattle.der_types_sets.proofs.FewSteps.{length_plain_list}
 use Rattle.cert_desk_issuing.proofs.IssuedFronts.{made_more, stopped}
 use Rattle.cert_desk_issuing.proofs.issuing.issue_all.Goals as goal
 

@@ -1,7 +1,7 @@
 -- So many certificates are issued.
 use Rattle.std.proofs.Common.{◌≡◌, length}
 use Rattle.der_core_head.specs.Grammar.{plain_list}
-use Rattle.cert_desk_checking.specs.CertificateViews.{certificate_plain}
+use Rattle.x509_cert_certificates.specs.Views.{certificate_plain}
 use Rattle.x509_cert_builders.specs.States.{as_written}
 use Rattle.cert_desk_issuing.specs.PlainOrders.{orders_plain}
 use Rattle.cert_desk_issuing.proofs.IssuedFronts.{IsFront}

@@ -7,8 +7,8 @@ use Rattle.der_core_head.specs.Shapes.{IsValid}
 use Rattle.der_core_head.proofs.WrittenValid.{written_valid}
 use Rattle.x509_cert_builders.specs.SignedParts.{part_shape}
 use Rattle.x509_cert_builders.specs.States.{part_for, as_written}
-use Rattle.cert_desk_checking.specs.Certificates.{Tbs, signature_bits, certificate}
-use Rattle.cert_desk_checking.specs.CertificateViews.{certificate_plain}
+use Rattle.x509_cert_certificates.specs.Certificates.{Tbs, signature_bits, certificate}
+use Rattle.x509_cert_certificates.specs.Views.{certificate_plain}
 use Rattle.cert_desk_issuing.specs.declared.stop.Stop.{Stop}
 use Rattle.cert_desk_issuing.specs.Refusals.{Stops}
 use Rattle.cert_desk_issuing.proofs.SignedParts.{made_of, not_built, unwritten}

@@ -1,5 +1,5 @@
 use Rattle.std.proofs.Common.{rules, ◌≡◌, ℕ, List, Bor, map, Ok}
-use Rattle.cert_desk_checking.specs.Answers.{answer_plain}
+use Rattle.cert_desk_rules.specs.Answers.{answer_plain}
 use Rattle.cert_tool_runs.specs.AnswerLines.{words_say}
 use Rattle.cert_tool_runs.specs.AnswerReading.{FailsBy}
 use Rattle.cert_tool_runs.proofs.WordsOfLine.{by_six}

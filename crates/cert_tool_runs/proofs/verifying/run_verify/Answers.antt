@@ -1,5 +1,5 @@
 use Rattle.std.proofs.Common.{map}
-use Rattle.cert_desk_checking.specs.Answers.{answer_plain}
+use Rattle.cert_desk_rules.specs.Answers.{answer_plain}
 use Rattle.cert_tool_runs.proofs.verifying.run_verify.Goals as goal
 
 pub returns-clause-judged : goal.returns-clause-judged

@@ -1,7 +1,7 @@
 use Rattle.std.proofs.Common.{drop, ap, sym, ◌∙◌, arith}
 use Rattle.der_core_head.specs.Bodies.{head_by}
 use Rattle.der_core_head.proofs.HeadLaws.{head_sound}
-use Rattle.der_core_headers.specs.Fronts.{head_of}
+use Rattle.der_core_octets.specs.Headers.{head_of}
 use Rattle.der_core_octets.proofs.reader.read_any_header.Goals as goal
 
 pub returns-in-Ok-clause-spelled : goal.returns-in-Ok-clause-spelled

@@ -1,5 +1,5 @@
 use Rattle.std.proofs.lemmas.Result.{err_from_is_err_and}
-use Rattle.der_core_octets.specs.Headers.Fronts.{head_of}
+use Rattle.der_core_octets.specs.Headers.{head_of}
 use Rattle.der_core_values.proofs.Headed.{head_refused, head_read}
 use Rattle.der_core_values.proofs.decode.decode_tagged.Goals as goal
 

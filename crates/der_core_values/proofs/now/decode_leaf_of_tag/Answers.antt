@@ -6,7 +6,7 @@ use Rattle.der_core_head.specs.declared.error.ErrorKind.{ErrorKind}
 use Rattle.der_core_head.specs.Shapes.{leaf}
 use Rattle.der_core_head.specs.Grammar.{value_at}
 use Rattle.der_core_head.specs.Reading.{State, read_content_at}
-use Rattle.der_core_octets.specs.Headers.Fronts.{head_of}
+use Rattle.der_core_octets.specs.Headers.{head_of}
 use Rattle.der_core_values.proofs.Headed.{headed, head_refused, head_read}
 use Rattle.der_core_values.proofs.now.decode_leaf_of_tag.Goals as goal
 

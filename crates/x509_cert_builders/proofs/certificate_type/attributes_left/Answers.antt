@@ -1,6 +1,6 @@
 use Rattle.std.proofs.Common.{◌≡◌, List, ◌∷◌, ◌++◌, sym, ap, ◌∙◌, subst}
 use Rattle.x509_cert_certificates.specs.declared.AttributeTypeAndValue.{AttributeTypeAndValue}
-use Rattle.x509_cert_extensions.specs.Parts.{relative_plain}
+use Rattle.x509_cert_names.specs.Pairs.{relative_plain}
 use Rattle.x509_cert_builders.specs.Subscribers.{KeepsDistinct, left_of}
 use Rattle.x509_cert_builders.proofs.Subjects.{distinct_same, left_same}
 use Rattle.x509_cert_builders.proofs.certificate_type.attributes_left.Goals as goal

@@ -1,5 +1,5 @@
 use Rattle.std.proofs.Common.{◌≡◌, ◌++◌}
-use Rattle.x509_cert_extensions.specs.Parts.{relative_plain}
+use Rattle.x509_cert_names.specs.Pairs.{relative_plain}
 use Rattle.x509_cert_builders.specs.Subscribers.{KeepsDistinct, left_of}
 use Rattle.x509_cert_builders.proofs.certificate_type.attributes_left.Given as goal
 

@@ -1,9 +1,10 @@
 use Rattle.std.proofs.Common.{◌≡◌, ℕ, List, ◌++◌, true, refl, sym, ap, ◌∙◌, []}
 use Rattle.std.proofs.lemmas.Slice.Eq.{bytes_eq-Decides}
 use Rattle.der_core_head.specs.BitStrings.{Bits}
-use Rattle.cert_desk_checking.specs.Parts.{PublicKey, key_bits, key_plain}
+use Rattle.x509_cert_parts.specs.Grammar.{PublicKey, key_bits}
+use Rattle.x509_cert_parts.specs.Views.{key_plain}
 use Rattle.sha2.specs.Sha256.{sha256}
-use Rattle.cert_desk_checking.proofs.DigestLaws.{yes_by_digest}
+use Rattle.cert_desk_rules.proofs.DigestLaws.{yes_by_digest}
 use Rattle.cert_desk_issuing.specs.DigestSigners.{digest_algorithm, IsDigestOf}
 use Rattle.cert_desk_issuing.proofs.digest_signer.DigestSignerSigner.sign.Goals as goal
 

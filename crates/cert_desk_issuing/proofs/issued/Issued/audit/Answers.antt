@@ -1,8 +1,8 @@
 use Rattle.std.proofs.Common.{ℕ, List, map, sym, ap, ◌∙◌, subst}
 use Rattle.cert_desk_checking.specs.Anchors.{anchor_plain}
-use Rattle.cert_desk_checking.specs.Judging.{Terms}
-use Rattle.cert_desk_checking.specs.Streams.{Reads}
-use Rattle.cert_desk_checking.specs.Verdicts.{IsCounted, IsVerdict, StopsAsking}
+use Rattle.cert_desk_rules.specs.Judging.{Terms}
+use Rattle.cert_desk_bundle.specs.Streams.{Reads}
+use Rattle.cert_desk_rules.specs.Verdicts.{IsCounted, IsVerdict, StopsAsking}
 use Rattle.cert_desk_issuing.specs.Laws.{root_anchors}
 use Rattle.cert_desk_issuing.proofs.Auditing.{asked_or_not, exactly, on_error, under_root}
 use Rattle.cert_desk_issuing.proofs.issued.Issued.audit.Goals as goal

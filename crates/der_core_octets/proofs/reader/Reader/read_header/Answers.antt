@@ -4,7 +4,7 @@ use Rattle.der_core_head.specs.Heads.{Head, head_at}
 use Rattle.der_core_head.specs.Bodies.{head_by}
 use Rattle.der_core_head.proofs.Results.{ok_is}
 use Rattle.der_core_head.proofs.HeadLaws.{head_sound, head_again}
-use Rattle.der_core_headers.specs.Fronts.{head_of}
+use Rattle.der_core_octets.specs.Headers.{head_of}
 use Rattle.der_core_octets.proofs.reader.Reader.read_header.Goals as goal
 
 pub returns-in-Some-clause-spelled : goal.returns-in-Some-clause-spelled

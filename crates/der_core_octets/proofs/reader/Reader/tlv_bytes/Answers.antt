@@ -1,7 +1,7 @@
 use Rattle.std.proofs.Common.{◌≡◌, ◌+◌, ℕ, List, Ok, Err, length, drop, refl, ap, sym, subst, ◌∙◌, arith}
 use Rattle.der_core_head.specs.declared.error.ErrorKind.{ErrorKind}
 use Rattle.der_core_head.specs.Bodies.{head_by}
-use Rattle.der_core_headers.specs.Fronts.{head_of}
+use Rattle.der_core_octets.specs.Headers.{head_of}
 use Rattle.der_core_octets.proofs.Encodings.{no_header, no_content, all_octets}
 use Rattle.der_core_octets.proofs.reader.Reader.tlv_bytes.Goals as goal
 

@@ -4,7 +4,7 @@ use Rattle.der_core_head.specs.declared.tag.Tag.{Tag}
 use Rattle.der_core_head.specs.Tags.{class_tag, number_of}
 use Rattle.der_core_head.specs.Shapes.{nested, only, tagged}
 use Rattle.der_core_head.specs.Reading.{Reads, read_at}
-use Rattle.der_core_octets.specs.Headers.Fronts.{head_of}
+use Rattle.der_core_octets.specs.Headers.{head_of}
 use Rattle.der_types_tagged.proofs.Numbers.{numbered_stops}
 use Rattle.der_types_tagged.proofs.class_field.ClassField.decode.Goals as goal
 

@@ -1,6 +1,6 @@
 use Rattle.const_oid.specs.Bound.{Bound}
 use Rattle.x509_cert_certificates.specs.Certificates.{from_validity}
-use Rattle.x509_cert_parts.proofs.Names.Rows.{written}
+use Rattle.x509_cert_names.proofs.Rows.{written}
 use Rattle.x509_cert_certificates.proofs.tbs_certificate.BehindRefEncodeFields.encode_fields.Goals as goal
 
 pub returns-clause-exact : goal.returns-clause-exact

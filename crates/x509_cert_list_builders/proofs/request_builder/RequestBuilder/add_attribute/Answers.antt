@@ -1,6 +1,7 @@
 use Rattle.std.proofs.Common.{List, ap}
 use Rattle.std.proofs.lemmas.Result.{err_from_is_err_and}
-use Rattle.x509_cert_builders.specs.Parts.{PlainAttribute, attribute_plain}
+use Rattle.x509_cert_names.specs.Names.{PlainAttribute}
+use Rattle.x509_cert_names.specs.Views.{attribute_plain}
 use Rattle.x509_cert_list_builders.specs.States.{RequestState, request_state}
 use Rattle.x509_cert_list_builders.proofs.RequestParts.{added_valid, not_placed, stands_for}
 use Rattle.x509_cert_list_builders.proofs.request_builder.RequestBuilder.add_attribute.Goals as goal

@@ -1,0 +1,11 @@
+pub mod Scans
+pub mod SeriesLaws
+pub mod SeriesReading
+pub mod WholeValues
+pub mod Readings
+pub mod OneChain
+pub mod FaultStays
+pub mod Inputs
+pub mod RestLaws
+pub mod LocationLaws
+pub mod BundleSteps

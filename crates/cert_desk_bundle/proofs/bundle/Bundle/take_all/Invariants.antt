@@ -1,0 +1,11 @@
+-- A front of the piece was taken, and what is left is shorter each time.
+use Rattle.std.proofs.Common.{length}
+use Rattle.const_oid.specs.Bound.{Bound}
+use Rattle.cert_desk_bundle.proofs.Readings.{Feeding}
+use Rattle.cert_desk_bundle.proofs.bundle.Bundle.take_all.Given as goal
+
+abbrev pub invariant-loop-left : goal.invariant-loop-left
+invariant-loop-left l = Feeding Bound l.fn.self l.piece l.left l.self
+
+abbrev pub decreases-loop-left : goal.decreases-loop-left
+decreases-loop-left l = length l.left

@@ -1,0 +1,13 @@
+-- The certificate at the front of octets, or why none is there.
+use Rattle.std.specs.Prelude.{ℕ, List, Result, Ok, Err, length, nat_lt, if◌then◌else◌}
+use Rattle.const_oid.specs.Bound.{Bound}
+use Rattle.der_core_head.specs.declared.error.ErrorKind.{ErrorKind}
+use Rattle.der_core_head.specs.declared.error.ErrorKind.TheVariants as kinds
+use Rattle.der_core_head.specs.Grammar.{read}
+use Rattle.der_core_head.specs.Limits.{length_max, levels_max}
+use Rattle.x509_cert_certificates.specs.Certificates.{PlainCertificate, raw_certificate}
+
+-- what reading a certificate at the front of octets gives, and the octets behind it
+abbrev pub first_certificate : List ℕ → Result (PlainCertificate × List ℕ) ErrorKind
+first_certificate octets = if nat_lt length_max (length octets) then Err kinds.Overflow
+    else read (raw_certificate Bound) levels_max octets

@@ -1,0 +1,11 @@
+pub mod Series
+pub mod Chains
+pub mod FaultNames
+pub mod Faults
+pub mod Streams
+pub mod Entries
+pub mod Headers
+pub mod Locations
+pub mod Rests
+pub mod Steps
+pub mod FirstFaults

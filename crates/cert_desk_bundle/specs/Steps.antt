@@ -1,0 +1,205 @@
+-- How a bundle changes.
+use Rattle.std.specs.Prelude.{◌≡◌, ◌≢◌, ℕ, ◌+◌, ◌≤◌, ◌<◌, ◌^◌, List, [], ◌++◌, length, take}
+use Rattle.cert_desk_io.specs.Devices.{Fails, source}
+use Rattle.x509_cert_certificates.specs.Certificates.{PlainCertificate, raw_certificate}
+use Rattle.cert_desk_bundle.specs.declared.bundle_error.BundleError.{BundleError}
+use Rattle.cert_desk_bundle.specs.declared.bundle_error.BundleError.TheVariants as errors
+use Rattle.cert_desk_bundle.specs.declared.bundle_error.ReadError.{ReadError}
+use Rattle.cert_desk_bundle.specs.declared.bundle_error.ReadError.TheVariants as reads
+use Rattle.cert_desk_bundle.specs.declared.fault_kind.FaultKind.{FaultKind}
+use Rattle.cert_desk_bundle.specs.declared.fault_kind.FaultKind.TheVariants as kinds
+use Rattle.cert_desk_bundle.specs.declared.standing.Standing.{Standing}
+use Rattle.cert_desk_bundle.specs.declared.standing.Standing.TheVariants as standings
+use Rattle.cert_desk_bundle.specs.Chains.{joined}
+use Rattle.cert_desk_bundle.specs.Faults.{IsFault}
+use Rattle.cert_desk_bundle.specs.Streams.{Kept, Reads, Begins}
+
+-- the octets that a bundle keeps
+abbrev pub kept_octets : ℕ → Kept → List ℕ
+kept_octets bound b = joined bound b.certificates ++ b.rest
+
+-- for every stream that the old bundle reads the new one reads it and these octets
+abbrev pub ReadsOn : ℕ → Kept → Kept → List ℕ → Type 0
+ReadsOn bound old new octets = (stream : List ℕ) → Reads bound old stream
+    → Reads bound new (stream ++ octets)
+
+-- the certificates stay, and others may follow
+abbrev pub Grows : Kept → Kept → Type 0
+Grows old new = (more : List PlainCertificate) × (new.certificates ≡ old.certificates ++ more)
+
+-- These octets are taken, and more may come.
+pub record Advances (bound : ℕ) (old new : Kept) (octets : List ℕ) : Type 0 where
+  pub is_open : new.standing ≡ standings.Open
+  pub limit : new.limit ≡ old.limit
+  pub grows : Grows old new
+  pub kept : kept_octets bound new ≡ kept_octets bound old ++ octets
+  pub fits : length (kept_octets bound new) < 2 ^ 64 + 5
+  pub reads : ReadsOn bound old new octets
+
+-- so many octets of a piece are taken
+pub record TakesFront (bound : ℕ) (old new : Kept) (piece : List ℕ) (count : ℕ) : Type 0 where
+  pub some : 0 < count
+  pub within : count ≤ length piece
+  pub advances : Advances bound old new (take count piece)
+
+-- why the octets that begin behind the certificates aren't taken
+abbrev pub StopsBy : ℕ → Kept → List ℕ → Standing → Type 0
+StopsBy bound old octets standings.Open = ⊥
+StopsBy bound old octets standings.Ended = ⊥
+StopsBy bound old octets (standings.Faulted kind) = (kind ≢ kinds.Truncated)
+    × IsFault (raw_certificate bound) old.limit (length (joined bound old.certificates)) kind octets
+StopsBy bound old octets standings.NoMemory = Unit {0}
+StopsBy bound old octets standings.NoDevice = ⊥
+
+pub record Stops (bound : ℕ) (old new : Kept) (octets : List ℕ) (standing : Standing) : Type 0 where
+  pub limit : new.limit ≡ old.limit
+  pub certificates : new.certificates ≡ old.certificates
+  pub why : StopsBy bound old octets standing
+
+-- a bundle that takes no further piece, and keeps nothing of a certificate that isn't whole
+abbrev pub stopped : Kept → Standing → Kept
+stopped b standing = record b { rest = []; standing = standing }
+
+-- where a fault stands: so many certificates and octets are before it
+pub record IsFoundAt (bound : ℕ) (b : Kept) (place offset : ℕ) (kind : FaultKind) : Type 0 where
+  pub standing : b.standing ≡ standings.Faulted kind
+  pub place_is : place ≡ length b.certificates
+  pub offset_is : offset ≡ length (joined bound b.certificates)
+
+-- how that is told
+abbrev pub error_of : ℕ → Kept → Standing → BundleError
+error_of bound b standings.Open = errors.OutOfMemory
+error_of bound b standings.Ended = errors.OutOfMemory
+error_of bound b (standings.Faulted kind) =
+    errors.Fault (length b.certificates) (length (joined bound b.certificates)) kind
+error_of bound b standings.NoMemory = errors.OutOfMemory
+error_of bound b standings.NoDevice = errors.OutOfMemory
+
+-- A piece has a fault, or what comes before it in the stream and it.
+pub record FeedsFault (bound : ℕ) (old new : Kept) (piece : List ℕ) (place offset : ℕ)
+    (kind : FaultKind) : Type 0 where
+  pub was_open : old.standing ≡ standings.Open
+  pub found : IsFoundAt bound new place offset kind
+  pub streams : kind ≢ kinds.Truncated
+  pub reads : ReadsOn bound old new piece
+
+-- There was no memory for a piece.
+pub record FeedsNone (bound : ℕ) (old new : Kept) (piece : List ℕ) : Type 0 where
+  pub was_open : old.standing ≡ standings.Open
+  pub standing : new.standing ≡ standings.NoMemory
+  pub begins : (stream : List ℕ) → Reads bound old stream
+      → Begins bound new.limit new.certificates (stream ++ piece)
+
+-- a bundle wasn't open, and nothing changed
+pub record IsShut (old new : Kept) : Type 0 where
+  pub was_shut : old.standing ≢ standings.Open
+  pub same : new ≡ old
+
+-- why a piece is refused
+abbrev pub RefusesPiece : ℕ → Kept → Kept → List ℕ → BundleError → Type 0
+RefusesPiece bound old new piece (errors.Fault place offset kind) =
+    FeedsFault bound old new piece place offset kind
+RefusesPiece bound old new piece errors.OutOfMemory = FeedsNone bound old new piece
+RefusesPiece bound old new piece errors.Failed = IsShut old new
+
+-- every stream that the old bundle reads the new one reads
+abbrev pub ReadsStill : ℕ → Kept → Kept → Type 0
+ReadsStill bound old new = (stream : List ℕ) → Reads bound old stream → Reads bound new stream
+
+-- The stream ends inside a certificate.
+pub record EndsInside (bound : ℕ) (old new : Kept) (place offset : ℕ) (kind : FaultKind) : Type 0
+  where
+    pub was_open : old.standing ≡ standings.Open
+    pub found : IsFoundAt bound new place offset kind
+    pub ends : kind ≡ kinds.Truncated
+    pub reads : ReadsStill bound old new
+
+abbrev pub HasFailed : Standing → Type 0
+HasFailed standings.Open = ⊥
+HasFailed standings.Ended = ⊥
+HasFailed (standings.Faulted kind) = Unit {0}
+HasFailed standings.NoMemory = Unit {0}
+HasFailed standings.NoDevice = Unit {0}
+
+-- a bundle had failed, and nothing changed
+pub record HadFailed (old new : Kept) : Type 0 where
+  pub failed : HasFailed old.standing
+  pub same : new ≡ old
+
+-- why a bundle doesn't end
+abbrev pub RefusesEnd : ℕ → Kept → Kept → BundleError → Type 0
+RefusesEnd bound old new (errors.Fault place offset kind) =
+    EndsInside bound old new place offset kind
+RefusesEnd bound old new errors.OutOfMemory = ⊥
+RefusesEnd bound old new errors.Failed = HadFailed old new
+
+-- Octets were taken, and for every stream that the old bundle reads the new one reads it and them.
+abbrev pub Takes : {State : Type 0} → (State → List ℕ → State → Type 0) → State → State → ℕ → Kept
+    → Kept → Type 0
+Takes takes from to bound old new = (octets : List ℕ) × takes from octets to
+    × ReadsOn bound old new octets
+
+-- the most octets that one read takes
+abbrev pub most_read : ℕ
+most_read = 4096
+
+-- All that was taken before the last read is read by a bundle that still takes pieces: no octet was
+-- asked for behind what stops it.
+pub record StopsAtOnce {State : Type 0} (takes : State → List ℕ → State → Type 0) (from to : State)
+    (bound : ℕ) (old : Kept) : Type 0 where
+  pub before : State
+  pub now : Kept
+  pub is_open : now.standing ≡ standings.Open
+  pub limit : now.limit ≡ old.limit
+  pub reads : Takes takes from before bound old now
+  pub piece : List ℕ
+  pub taken : takes before piece to
+  pub short : length piece ≤ most_read
+
+-- The last read failed, and no other: the certificates are those of the octets before it, of which
+-- a rest was dropped.
+pub record DeviceFails {State : Type 0} (takes : State → List ℕ → State → Type 0)
+    (is_ended : State → Type 0) (failures : State → ℕ) (from to : State) (bound : ℕ)
+    (old new : Kept) : Type 0 where
+  pub was_open : old.standing ≡ standings.Open
+  pub standing : new.standing ≡ standings.NoDevice
+  pub octets : List ℕ
+  pub failed : Fails (source takes is_ended failures from to) octets
+  pub rest : List ℕ
+  pub reads : ReadsOn bound old (record new { rest = rest; standing = standings.Open }) octets
+
+-- The stream has a fault, or ends inside a certificate. No read failed.
+pub record InputFaulty {State : Type 0} (takes : State → List ℕ → State → Type 0)
+    (is_ended : State → Type 0) (failures : State → ℕ) (from to : State) (bound : ℕ)
+    (old new : Kept) (place offset : ℕ) (kind : FaultKind) : Type 0 where
+  pub was_open : old.standing ≡ standings.Open
+  pub found : IsFoundAt bound new place offset kind
+  pub ends : kind ≡ kinds.Truncated → is_ended to
+  pub reads : Takes takes from to bound old new
+  pub stops : StopsAtOnce takes from to bound old
+  pub sound : failures to ≡ failures from
+
+-- There was no memory for what was taken. No read failed.
+pub record InputFitsNot {State : Type 0} (takes : State → List ℕ → State → Type 0)
+    (failures : State → ℕ) (from to : State) (bound : ℕ) (old new : Kept) : Type 0 where
+  pub was_open : old.standing ≡ standings.Open
+  pub standing : new.standing ≡ standings.NoMemory
+  pub octets : List ℕ
+  pub taken : takes from octets to
+  pub begins : (stream : List ℕ) → Reads bound old stream
+      → Begins bound new.limit new.certificates (stream ++ octets)
+  pub stops : StopsAtOnce takes from to bound old
+  pub sound : failures to ≡ failures from
+
+-- why an input isn't read to its end
+abbrev pub RefusesInput : {State : Type 0} → (State → List ℕ → State → Type 0) → (State → Type 0)
+    → (State → ℕ) → State → State → ℕ → Kept → Kept → ReadError → Type 0
+RefusesInput takes is_ended failures from to bound old new reads.Device =
+    DeviceFails takes is_ended failures from to bound old new
+RefusesInput takes is_ended failures from to bound old new
+    (reads.Bundle (errors.Fault place offset kind)) =
+    InputFaulty takes is_ended failures from to bound old new place offset kind
+RefusesInput takes is_ended failures from to bound old new (reads.Bundle errors.OutOfMemory) =
+    InputFitsNot takes failures from to bound old new
+RefusesInput takes is_ended failures from to bound old new (reads.Bundle errors.Failed) =
+    IsShut old new × (to ≡ from)

@@ -1,0 +1,38 @@
+-- What a reader of a stream of values has read, and what a bundle of certificates keeps.
+use Rattle.std.specs.Prelude.{ℕ, List, length}
+use Rattle.der_core_head.specs.Shapes.{Shape, Value}
+use Rattle.x509_cert_certificates.specs.Certificates.{PlainCertificate, raw_certificate}
+use Rattle.cert_desk_bundle.specs.declared.fault_kind.FaultKind.TheVariants as kinds
+use Rattle.cert_desk_bundle.specs.declared.standing.Standing.{Standing}
+use Rattle.cert_desk_bundle.specs.declared.standing.Standing.TheVariants as standings
+use Rattle.cert_desk_bundle.specs.Series.{Series, SeriesSplit, BeginsSeries, encodings}
+use Rattle.cert_desk_bundle.specs.Faults.{SeriesFault, NoneBefore}
+
+-- Whoever stands so, with these values and this rest, has read this stream. After want of memory or
+-- a failed device no stream is read.
+abbrev pub ReadsSeries : (s : Shape) → ℕ → Standing → List (Value s) → List ℕ → List ℕ → Type 0
+ReadsSeries s limit standings.Open vs rest stream = SeriesSplit s limit stream vs rest
+    × NoneBefore s limit (length (encodings s vs)) kinds.Truncated rest
+ReadsSeries s limit standings.Ended vs rest stream = Series s limit vs stream
+ReadsSeries s limit standings.NoMemory vs rest stream = ⊥
+ReadsSeries s limit standings.NoDevice vs rest stream = ⊥
+ReadsSeries s limit (standings.Faulted kind) vs rest stream = SeriesFault s limit stream vs kind
+
+pub record Kept : Type 0 where
+  pub limit : ℕ
+  pub certificates : List PlainCertificate
+  -- the octets of a certificate that isn't whole yet
+  pub rest : List ℕ
+  pub standing : Standing
+
+-- What a bundle keeps is what this stream gives.
+abbrev pub ReadsAs : ℕ → Standing → Kept → List ℕ → Type 0
+ReadsAs bound standing b stream =
+    ReadsSeries (raw_certificate bound) b.limit standing b.certificates b.rest stream
+
+abbrev pub Reads : ℕ → Kept → List ℕ → Type 0
+Reads bound b stream = ReadsAs bound b.standing b stream
+
+-- the certificates are a front of those with which this stream begins
+abbrev pub Begins : ℕ → ℕ → List PlainCertificate → List ℕ → Type 0
+Begins bound limit cs stream = BeginsSeries (raw_certificate bound) limit cs stream

@@ -1,9 +1,0 @@
-use Rattle.std.proofs.Common.{arith}
-use Rattle.x509_cert_extensions.specs.Parts.{extension_plain}
-use Rattle.cert_desk_checking.proofs.MemoryLaws.{one_takes}
-use Rattle.cert_desk_checking.proofs.Outcomes.{OnErr-by}
-use Rattle.cert_desk_checking.proofs.weighing.findings_of.Goals as goal
-
-pub returns-in_err-weight-clause-memory : goal.returns-in_err-weight-clause-memory
-returns-in_err-weight-clause-memory c =
-    OnErr-by _ _ (one_takes extension_plain c.args.extensions.now c.loop-extension.extension-index c.extension-item.result (omega (arith, c.loop-extension-test.true)) c.extension-item.is c.in_err-weight.ensures.memory)

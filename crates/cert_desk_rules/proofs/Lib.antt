@@ -1,0 +1,10 @@
+pub mod Folds
+pub mod FoundLaws
+pub mod PathLaws
+pub mod ExtensionLaws
+pub mod ConstraintLaws
+pub mod MemoryLaws
+pub mod RuleList
+pub mod DigestOctets
+pub mod DigestLaws
+pub mod AnswerOrder

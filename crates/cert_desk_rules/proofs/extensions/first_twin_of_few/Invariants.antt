@@ -1,0 +1,11 @@
+-- The extensions so far stand alone: the answer is that of those that are left.
+use Rattle.std.proofs.Common.{◌≡◌, ◌<◌, ℕ, drop, false}
+use Rattle.x509_cert_parts.specs.Views.{extensions_plain}
+use Rattle.cert_desk_rules.specs.Judging.{are_distinct, has_twin}
+use Rattle.cert_desk_rules.proofs.extensions.first_twin_of_few.Given as goal
+
+abbrev pub invariant-loop-place : goal.invariant-loop-place
+invariant-loop-place l = record {
+  none : (other : ℕ) → other < l.place → has_twin (extensions_plain l.extensions) other ≡ false;
+  rest : are_distinct (extensions_plain (drop l.place l.extensions)) ≡ are_distinct (extensions_plain l.extensions);
+}

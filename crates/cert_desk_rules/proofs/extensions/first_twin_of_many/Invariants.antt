@@ -1,0 +1,18 @@
+-- The set has the identifiers of the extensions so far, and the answer is that of these.
+use Rattle.std.proofs.Common.{◌≡◌, ◌<◌, ◌≤◌, ℕ, List, length, true, false, not, drop, IfSome}
+use Rattle.std.specs.BTreeSet.{contains}
+use Rattle.std.specs.List.{list_any}
+use Rattle.std.specs.Option.{is_some}
+use Rattle.const_oid.specs.Comparing.{owned_eq}
+use Rattle.const_oid.specs.Orders.{owned_cmp}
+use Rattle.x509_cert_parts.specs.Grammar.{extension_arcs}
+use Rattle.x509_cert_parts.specs.Views.{extensions_plain}
+use Rattle.cert_desk_rules.specs.Judging.{are_distinct, has_twin}
+use Rattle.cert_desk_rules.proofs.extensions.first_twin_of_many.Given as goal
+
+abbrev pub invariant-loop-place : goal.invariant-loop-place
+invariant-loop-place l = (not (is_some l.twin) ≡ are_distinct (extensions_plain (drop l.place l.extensions)))
+    × IfSome l.twin (λ place. place < length l.extensions)
+    × IfSome l.twin (λ place. has_twin (extensions_plain l.extensions) place ≡ true)
+    × IfSome l.twin (λ place. (other : ℕ) → l.place ≤ other → other < place → has_twin (extensions_plain l.extensions) other ≡ false)
+    × ((q : List ℕ) → contains owned_cmp l.behind q ≡ list_any (λ e. owned_eq q (extension_arcs e)) (extensions_plain (drop l.place l.extensions)))

@@ -1,0 +1,65 @@
+-- What a list of answers says, as a judge.
+use Rattle.std.specs.Prelude.{ℕ, List, [], ◌∷◌, Bool, ◌&&◌, bytes_eq, nat_eq}
+use Rattle.std.specs.declared.cmp.Ordering.{Ordering}
+use Rattle.std.specs.Ordering.{nat_cmp}
+use Rattle.std.specs.Cmp.Lexicographic.{pointwise, slice_cmp}
+use Rattle.std.specs.List.{list_any}
+use Rattle.std.specs.Option.{option_eq}
+use Rattle.const_oid.specs.Comparing.{owned_eq}
+use Rattle.der_core_head.specs.BitStrings.{Bits, bit_contents}
+use Rattle.der_core_head.specs.Shapes.{AnyValue}
+use Rattle.der_core_head.specs.Tags.{leading_octet, number_of}
+use Rattle.x509_cert_parts.specs.Grammar.{Algorithm, PublicKey, algorithm_arcs}
+use Rattle.x509_cert_parts.specs.Grammar.{algorithm_parameters, key_algorithm, key_bits}
+use Rattle.x509_cert_parts.specs.Views.{key_plain, algorithm_plain}
+use Rattle.cert_desk_rules.specs.Judging.{Answers}
+use Rattle.cert_desk_rules.specs.Questions.{Question}
+use Rattle.cert_desk_rules.specs.declared.answer.Answer.{Answer}
+
+abbrev pub answer_plain : Answer → Question
+answer_plain a =
+    record {
+      key = key_plain a.key;
+      algorithm = algorithm_plain a.algorithm;
+      signed = a.signed.items;
+      bits = a.bits;
+    }
+
+-- tag and content, as `==` of any values compares them
+abbrev pub any_key : AnyValue → List ℕ
+any_key a = leading_octet a.tag ∷ number_of a.tag ∷ a.contents
+
+abbrev pub same_any : AnyValue → AnyValue → Bool
+same_any a b = pointwise nat_eq (any_key a) (any_key b)
+
+abbrev pub same_algorithm : Algorithm → Algorithm → Bool
+same_algorithm a b = owned_eq (algorithm_arcs a) (algorithm_arcs b)
+    && option_eq same_any (algorithm_parameters a) (algorithm_parameters b)
+
+abbrev pub same_bits : Bits → Bits → Bool
+same_bits a b = pointwise nat_eq (bit_contents a) (bit_contents b)
+
+abbrev pub same_key : PublicKey → PublicKey → Bool
+same_key a b = same_algorithm (key_algorithm a) (key_algorithm b)
+    && same_bits (key_bits a) (key_bits b)
+
+-- a question of this key, this algorithm, these signed octets and these bits
+unfoldable pub is_about : PublicKey → Algorithm → List ℕ → Bits → Question → Bool
+is_about key algorithm signed bits q =
+    bytes_eq q.signed signed
+    && (same_bits q.bits bits && (same_algorithm q.algorithm algorithm && same_key q.key key))
+
+-- by what answers are put in order: the octets that are signed, the bits of the signature, and
+-- those of the key
+abbrev pub rank : PublicKey → List ℕ → Bits → List (List ℕ)
+rank key signed bits = signed ∷ bits.octets ∷ (key_bits key).octets ∷ []
+
+abbrev pub answer_rank : Answer → List (List ℕ)
+answer_rank a = rank (key_plain a.key) a.signed.items a.bits
+
+abbrev pub rank_cmp : List (List ℕ) → List (List ℕ) → Ordering
+rank_cmp = slice_cmp (slice_cmp nat_cmp)
+
+-- yes to what is listed, and to nothing else
+abbrev pub listed : List Question → Answers
+listed qs key algorithm signed bits = list_any (is_about key algorithm signed bits) qs

@@ -1,0 +1,46 @@
+-- The rules that certificates keep, each at its place.
+use Rattle.std.specs.Prelude.{◌≡◌, ◌<◌, ℕ, List, length, Bool, true, false, Option, Some, None}
+use Rattle.std.specs.Prelude.{slice_get}
+use Rattle.std.specs.Option.{option_map_or}
+use Rattle.x509_cert_certificates.specs.Certificates.{PlainCertificate}
+use Rattle.cert_desk_rules.specs.declared.kept_rules.KeptRules.{KeptRules}
+use Rattle.cert_desk_rules.specs.declared.rule.Rule.{Rule}
+use Rattle.cert_desk_rules.specs.declared.rule.Rule.TheVariants as rules
+use Rattle.cert_desk_rules.specs.Judging.{Terms, keeps_at, number}
+use Rattle.cert_desk_rules.specs.Verdicts.{Before}
+
+-- a new rule adds a line
+abbrev pub kept_by : KeptRules → Rule → Bool
+kept_by k rules.AlgorithmsDiffer = k.one_algorithm
+kept_by k rules.DuplicateExtension = k.distinct
+kept_by k rules.MalformedExtension = k.well_formed
+kept_by k rules.UnweighedCritical = k.known
+kept_by k rules.WrongIssuer = k.linked
+kept_by k rules.NotYetValid = k.begun
+kept_by k rules.Expired = k.lasting
+kept_by k rules.AgainstPurpose = k.serving
+kept_by k rules.NotAuthority = k.issuing
+kept_by k rules.PathTooLong = k.within_lengths
+kept_by k rules.WrongSignature = k.signed
+
+-- the first one that isn't kept
+abbrev pub IsFirstOf : KeptRules → Option Rule → Type 0
+IsFirstOf k None = (rule : Rule) → kept_by k rule ≡ true
+IsFirstOf k (Some rule) = (kept_by k rule ≡ false)
+    × ((other : Rule) → number other < number rule → kept_by k other ≡ true)
+
+-- the certificate at a place keeps a rule, as it was judged
+abbrev pub kept_at : List KeptRules → ℕ → Rule → Bool
+kept_at judged place rule = option_map_or (λ k. kept_by k rule) (slice_get judged place) true
+
+-- Of each certificate is said of each rule whether it keeps it at its place.
+pub record AreJudged (t : Terms) (cs : List PlainCertificate) (stream : List ℕ)
+    (judged : List KeptRules) : Type 0 where
+  pub each : length judged ≡ length cs
+  pub kept : (place : ℕ) (rule : Rule) → kept_at judged place rule ≡ keeps_at rule t cs stream place
+
+-- This rule is broken at this place, and no rule before.
+abbrev pub IsFirstBreach : List KeptRules → ℕ → Rule → Type 0
+IsFirstBreach judged place rule = (kept_at judged place rule ≡ false)
+    × ((other_place : ℕ) (other : Rule) → Before other_place other place rule
+    → kept_at judged other_place other ≡ true)

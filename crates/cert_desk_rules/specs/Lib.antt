@@ -1,0 +1,12 @@
+pub mod Weighing
+pub mod Paths
+pub mod Findings
+pub mod Judging
+pub mod Verdicts
+pub mod KeptRules
+pub mod Reasons
+pub mod Digests
+pub mod Questions
+pub mod Answers
+pub mod Judges
+pub mod RuleNames

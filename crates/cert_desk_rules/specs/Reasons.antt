@@ -1,0 +1,118 @@
+-- Why a certificate breaks a rule, where the rule alone leaves it open.
+use Rattle.std.specs.Prelude.{◌≡◌, ℕ, ◌<◌, ◌≤◌, ◌⊎◌, List, Bool, true, false, not, slice_get}
+use Rattle.std.specs.Bool.{⊤}
+use Rattle.std.specs.List.{list_any}
+use Rattle.std.specs.Option.{option_map_or}
+use Rattle.const_oid.specs.Comparing.{owned_eq}
+use Rattle.x509_cert_certificates.specs.Certificates.{PlainCertificate}
+use Rattle.x509_cert_parts.specs.Grammar.{PlainExtension, extension_arcs}
+use Rattle.cert_desk_rules.specs.declared.findings.Findings.{Findings}
+use Rattle.cert_desk_rules.specs.declared.reason.Reason.{Reason}
+use Rattle.cert_desk_rules.specs.declared.reason.Reason.TheVariants as reasons
+use Rattle.cert_desk_rules.specs.declared.rule.Rule.{Rule}
+use Rattle.cert_desk_rules.specs.declared.rule.Rule.TheVariants as rules
+use Rattle.cert_desk_rules.specs.Paths.{extensions_at, keeps_length}
+use Rattle.cert_desk_rules.specs.Weighing.{is_authority, is_malformed, is_unweighed_critical}
+use Rattle.cert_desk_rules.specs.Weighing.{may_certify, may_take_memory, serves, weigh}
+
+-- an extension breaks a rule by itself
+abbrev pub is_against : ℕ → List ℕ → Rule → PlainExtension → Bool
+is_against bound purpose rules.AlgorithmsDiffer e = false
+is_against bound purpose rules.DuplicateExtension e = false
+is_against bound purpose rules.MalformedExtension e = is_malformed (weigh bound e)
+is_against bound purpose rules.UnweighedCritical e = is_unweighed_critical bound e
+is_against bound purpose rules.WrongIssuer e = false
+is_against bound purpose rules.NotYetValid e = false
+is_against bound purpose rules.Expired e = false
+is_against bound purpose rules.AgainstPurpose e = not (serves purpose (weigh bound e))
+is_against bound purpose rules.NotAuthority e = not (may_certify (weigh bound e))
+is_against bound purpose rules.PathTooLong e = false
+is_against bound purpose rules.WrongSignature e = false
+
+-- whether an extension goes against a rule, by what was found in it
+abbrev pub goes_against : Findings → Rule → Bool
+goes_against f rules.AlgorithmsDiffer = false
+goes_against f rules.DuplicateExtension = false
+goes_against f rules.MalformedExtension = f.malformed
+goes_against f rules.UnweighedCritical = f.unweighed_critical
+goes_against f rules.WrongIssuer = false
+goes_against f rules.NotYetValid = false
+goes_against f rules.Expired = false
+goes_against f rules.AgainstPurpose = not f.serves
+goes_against f rules.NotAuthority = not f.certifies
+goes_against f rules.PathTooLong = false
+goes_against f rules.WrongSignature = false
+
+-- what stands at a number, counted from 0, is so
+abbrev pub is_at : {A : Type 0} → (A → Bool) → List A → ℕ → Bool
+is_at test xs number = option_map_or test (slice_get xs number) false
+
+-- what stands at a number, counted from 0, is so, and nothing before it
+abbrev pub IsFirstAt : {A : Type 0} → (A → Bool) → List A → ℕ → Type 0
+IsFirstAt test xs number = (is_at test xs number ≡ true)
+    × ((other : ℕ) → other < number → is_at test xs other ≡ false)
+
+abbrev pub have_one_identifier : PlainExtension → PlainExtension → Bool
+have_one_identifier e other = owned_eq (extension_arcs e) (extension_arcs other)
+
+-- the extensions of these numbers have one identifier
+abbrev pub are_twins : List PlainExtension → ℕ → ℕ → Bool
+are_twins es first second = is_at (λ e. is_at (have_one_identifier e) es second) es first
+
+-- the two of one identifier of which the first stands first, and then the second
+abbrev pub AreFirstTwins : List PlainExtension → ℕ → ℕ → Type 0
+AreFirstTwins es first second = (first < second) × (are_twins es first second ≡ true)
+    × ((one other : ℕ) → one < other → (one < first) ⊎ ((one ≡ first) × (other < second))
+    → are_twins es one other ≡ false)
+
+-- No extension makes the subject an authority.
+abbrev pub has_no_authority : ℕ → List PlainExtension → Bool
+has_no_authority bound es = not (list_any (λ e. is_authority (weigh bound e)) es)
+
+-- The reason holds of the certificate at a place, and breaks the rule.
+abbrev pub Explains : ℕ → List ℕ → List PlainCertificate → ℕ → Rule → Reason → Type 0
+Explains bound purpose cs place rule (reasons.Extension number) =
+    is_at (is_against bound purpose rule) (extensions_at cs place) number ≡ true
+Explains bound purpose cs place rule (reasons.Twins first second) =
+    (rule ≡ rules.DuplicateExtension) × (first < second)
+    × (are_twins (extensions_at cs place) first second ≡ true)
+Explains bound purpose cs place rule reasons.NoConstraints = (rule ≡ rules.NotAuthority)
+    × (has_no_authority bound (extensions_at cs place) ≡ true)
+Explains bound purpose cs place rule (reasons.PathLength before) =
+    (rule ≡ rules.PathTooLong) × (before < place) × (keeps_length bound cs before place ≡ false)
+
+-- The order of the reasons for one breach: extensions and places as they stand; two extensions of
+-- one identifier by the one that stands before, and then by the other; that there are no
+-- constraints comes before what an extension says.
+abbrev pub Precedes : Reason → Reason → Type 0
+Precedes (reasons.Extension one) (reasons.Extension other) = one < other
+Precedes (reasons.Twins first second) (reasons.Twins other_first other_second) =
+    (first < other_first) ⊎ ((first ≡ other_first) × (second < other_second))
+Precedes reasons.NoConstraints (reasons.Extension number) = ⊤
+Precedes (reasons.PathLength one) (reasons.PathLength other) = one < other
+Precedes _ _ = ⊥
+
+-- The reason holds, and none before it.
+abbrev pub ExplainsFirst : ℕ → List ℕ → List PlainCertificate → ℕ → Rule → Reason → Type 0
+ExplainsFirst bound purpose cs place rule reason =
+    Explains bound purpose cs place rule reason
+    × ((other : Reason) → Precedes other reason → ¬ Explains bound purpose cs place rule other)
+
+-- the rules of whose breach a reason can be told
+abbrev pub is_explained : Rule → Bool
+is_explained rules.AlgorithmsDiffer = false
+is_explained rules.DuplicateExtension = true
+is_explained rules.MalformedExtension = true
+is_explained rules.UnweighedCritical = true
+is_explained rules.WrongIssuer = false
+is_explained rules.NotYetValid = false
+is_explained rules.Expired = false
+is_explained rules.AgainstPurpose = true
+is_explained rules.NotAuthority = true
+is_explained rules.PathTooLong = true
+is_explained rules.WrongSignature = false
+
+-- judging the extensions of a place, no later than this one, may take memory
+abbrev pub SomeMayTakeMemory : List PlainCertificate → ℕ → Type 0
+SomeMayTakeMemory cs place = (other : ℕ) × (other ≤ place)
+    × (may_take_memory (extensions_at cs other) ≡ true)

@@ -1,0 +1,127 @@
+-- What the extensions say by which a chain is judged (RFC 5280 4.2.1.3, 4.2.1.6, 4.2.1.9,
+-- 4.2.1.12).
+use Rattle.std.specs.Prelude.{ℕ, List, [], ◌∷◌, Bool, true, false, Option, None, Result, Ok, Err}
+use Rattle.std.specs.Prelude.{if◌then◌else◌, ◌&&◌, ◌||◌, length, nat_lt}
+use Rattle.std.specs.Int.RustNames.{unsigned_abs}
+use Rattle.std.specs.List.{list_any}
+use Rattle.const_oid.specs.Comparing.{owned_eq}
+use Rattle.der_core_head.specs.declared.error.ErrorKind.{ErrorKind}
+use Rattle.der_core_head.specs.declared.tag.Tag.TheVariants as tags
+use Rattle.der_core_head.specs.Grammar.{plain_option, read_whole}
+use Rattle.der_core_head.specs.Leaves.{named}
+use Rattle.der_core_head.specs.Shapes.{Shape, BodyValue, Value, leaf, sequence, sequence_of, tagged}
+use Rattle.x509_cert_parts.specs.ExtensionTypes as types
+use Rattle.x509_cert_parts.specs.ExtensionTypes.{identifier_of}
+use Rattle.x509_cert_extensions.specs.NamedBits as bits
+use Rattle.x509_cert_extensions.specs.NamedBits.{bit_of, has_bit}
+use Rattle.x509_cert_parts.specs.Grammar.{PlainExtension, extension_arcs, extension_octets}
+use Rattle.x509_cert_parts.specs.Grammar.{is_critical, object_identifier}
+use Rattle.x509_cert_policies.specs.Grammar.{basic_constraints_fields}
+use Rattle.x509_cert_general_names.specs.Grammar.{general_name, general_names}
+
+-- KeyUsage ::= BIT STRING { digitalSignature (0), .. keyCertSign (5), .. decipherOnly (8) }
+--     (4.2.1.3)
+abbrev pub key_usage : Shape
+key_usage = tagged tags.BitString (leaf (named 9))
+
+-- SubjectAltName ::= GeneralNames (4.2.1.6)
+abbrev pub subject_alt_name : ℕ → Shape
+subject_alt_name bound = general_names bound
+
+-- BasicConstraints ::= SEQUENCE { cA BOOLEAN DEFAULT FALSE, pathLenConstraint INTEGER (0..255)
+--     OPTIONAL } (4.2.1.9)
+abbrev pub basic_constraints : Shape
+basic_constraints = sequence basic_constraints_fields
+
+-- cA as it is spelled: FALSE is the default (X.690 11.5)
+abbrev pub ca_octets : Bool → List ℕ
+ca_octets true = 1 ∷ 1 ∷ 255 ∷ []
+ca_octets false = []
+
+-- ExtKeyUsageSyntax ::= SEQUENCE OF KeyPurposeId (4.2.1.12)
+abbrev pub extended_key_usage : ℕ → Shape
+extended_key_usage bound = sequence_of (object_identifier bound)
+
+-- What an extension says. Neither the bound of arcs nor the profile changes what it is.
+pub data Meaning : Type 0 where
+  uses : ℕ → Meaning  -- of a key: a set of named bits
+  other_names : List (Value (general_name 0)) → Meaning  -- of the subject
+  -- whether the subject is an authority, and how long a path below it may be
+  constraints : Bool → Option ℕ → Meaning
+  purposes : List (List ℕ) → Meaning  -- of a key: identifiers
+  malformed : Meaning  -- of a kind that is weighed, and not one value of it
+  unweighed : Meaning  -- of another kind
+
+abbrev pub constraints_of : BodyValue basic_constraints_fields → Meaning
+constraints_of v = constraints v.0 (plain_option unsigned_abs v.1.0)
+
+-- what all of the octets spell, if they spell one value
+abbrev pub meaning_of : {P Q : Type 0} → (P → Meaning) → Result (P × Q) ErrorKind → Meaning
+meaning_of says (Ok read) = says read.0
+meaning_of says (Err fault) = malformed
+
+abbrev pub meaning_by : (s : Shape) → (Value s → Meaning) → List ℕ → Meaning
+meaning_by s says octets = meaning_of says (read_whole s octets)
+
+-- the kind is known by the identifier, wherever the extension stands, critical or not
+abbrev pub weigh_octets : ℕ → List ℕ → List ℕ → Meaning
+weigh_octets bound arcs octets =
+    if owned_eq arcs (identifier_of types.key_usage) then meaning_by key_usage uses octets
+    else if owned_eq arcs (identifier_of types.subject_alt_name)
+    then meaning_by (subject_alt_name bound) other_names octets
+    else if owned_eq arcs (identifier_of types.basic_constraints)
+    then meaning_by basic_constraints constraints_of octets
+    else if owned_eq arcs (identifier_of types.extended_key_usage)
+    then meaning_by (extended_key_usage bound) purposes octets
+    else unweighed
+
+abbrev pub weigh : ℕ → PlainExtension → Meaning
+weigh bound e = weigh_octets bound (extension_arcs e) (extension_octets e)
+
+-- the value of the extension is a list: other names of the subject, or purposes
+abbrev pub has_list : PlainExtension → Bool
+has_list e = owned_eq (extension_arcs e) (identifier_of types.subject_alt_name)
+    || owned_eq (extension_arcs e) (identifier_of types.extended_key_usage)
+
+-- Judging these extensions may take memory: for a list, or to compare more than 16 by a set of
+-- their identifiers.
+abbrev pub may_take_memory : List PlainExtension → Bool
+may_take_memory es = list_any has_list es || nat_lt 16 (length es)
+
+-- an extension of a weighed kind that isn't one value of it
+abbrev pub is_malformed : Meaning → Bool
+is_malformed malformed = true
+is_malformed _ = false
+
+abbrev pub is_unweighed : Meaning → Bool
+is_unweighed unweighed = true
+is_unweighed _ = false
+
+-- a critical extension of another kind (4.2)
+abbrev pub is_unweighed_critical : ℕ → PlainExtension → Bool
+is_unweighed_critical bound e = is_critical e && is_unweighed (weigh bound e)
+
+-- anyExtendedKeyUsage ::= { extKeyUsage 0 } (4.2.1.12)
+abbrev pub any_purpose : List ℕ
+any_purpose = 2 ∷ 5 ∷ 29 ∷ 37 ∷ 0 ∷ []
+
+-- purposes, where they are listed, name this one, or any (4.2.1.12)
+abbrev pub serves : List ℕ → Meaning → Bool
+serves purpose (purposes listed) =
+    list_any (λ one. owned_eq one purpose || owned_eq one any_purpose) listed
+serves purpose _ = true
+
+-- constraints that make the subject an authority (4.2.1.9)
+abbrev pub is_authority : Meaning → Bool
+is_authority (constraints ca path_length) = ca
+is_authority _ = false
+
+-- a key's uses, if they are listed, have the signing of certificates: keyCertSign (4.2.1.3)
+abbrev pub may_certify : Meaning → Bool
+may_certify (uses set) = has_bit (bit_of bits.key_cert_sign) set
+may_certify _ = true
+
+-- how many counted places may follow (4.2.1.9)
+abbrev pub path_length : Meaning → Option ℕ
+path_length (constraints ca n) = n
+path_length _ = None

@@ -1,0 +1,56 @@
+//! Answers of a verifier.
+ghost use Rattle.std.specs.Prelude.{◌≡◌};
+ghost use Rattle.x509_cert_parts.specs.Views.{key_plain, algorithm_plain};
+ghost use Rattle.cert_desk_rules.specs.Answers.{answer_plain, answer_rank, is_about, rank};
+ghost use Rattle.cert_desk_rules.specs.Answers.{rank_cmp};
+
+use der_types_values::BitString;
+use std::cmp::Ordering;
+use x509_cert_parts::{AlgorithmIdentifier, SubjectPublicKeyInfo};
+
+/// A signature that is right, as a verifier says: the key, the algorithm, the octets that are
+/// signed, and the bits.
+#[derive(Debug, Drop)]
+pub struct Answer {
+    /// The key.
+    pub key: SubjectPublicKeyInfo,
+    /// The algorithm.
+    pub algorithm: AlgorithmIdentifier,
+    /// The octets that are signed.
+    pub signed: Vec<u8>,
+    /// The bits of the signature.
+    pub bits: BitString,
+}
+
+impl Answer {
+    /// Whether it is about this signature.
+    #[tactic(auto, unfolding(crate::specs::Answers::is_about))]
+    pub fn is_about(
+        &self,
+        key: &SubjectPublicKeyInfo,
+        algorithm: &AlgorithmIdentifier,
+        signed: &[u8],
+        bits: &BitString,
+    ) -> bool
+        ensures { result ≡ is_about (key_plain key.now) (algorithm_plain algorithm.now)
+            signed.now bits.now (answer_plain self.now) }
+    {
+        self.signed.as_slice() == signed
+            && self.bits == *bits
+            && self.algorithm == *algorithm
+            && self.key == *key
+    }
+
+    // How it is ordered beside a signature: by the octets that are signed, then the bits of the
+    // signature, then those of the key.
+    pub fn ordering(&self, key: &SubjectPublicKeyInfo, signed: &[u8], bits: &BitString) -> Ordering
+        ensures { result ≡ rank_cmp (answer_rank self.now) (rank (key_plain key.now) signed.now
+            bits.now) }
+    {
+        let of_signed = self.signed.as_slice().cmp(signed);
+        let of_bits = self.bits.raw_bytes().cmp(bits.raw_bytes());
+        let key_bits = key.subject_public_key.raw_bytes();
+        let of_key = self.key.subject_public_key.raw_bytes().cmp(key_bits);
+        of_signed.then(of_bits.then(of_key))
+    }
+}

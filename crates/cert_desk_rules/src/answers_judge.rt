@@ -1,0 +1,48 @@
+//! A judge that says yes to what is listed.
+ghost use Rattle.std.specs.Prelude.{◌≡◌, map};
+ghost use Rattle.cert_desk_rules.specs.Answers.{answer_plain, listed};
+ghost use Rattle.cert_desk_rules.specs.Judges.{judge_answers, judge_questions};
+
+use crate::answer::Answer;
+use crate::answer_table::AnswerTable;
+use crate::signature_judge::SignatureJudge;
+use der_types_values::BitString;
+use x509_cert_parts::{AlgorithmIdentifier, SubjectPublicKeyInfo};
+
+/// A judge that says yes exactly to the signatures of a list, which a verifier outside made. It
+/// finds them by search.
+#[derive(Debug, Drop)]
+pub struct AnswersJudge {
+    answers: AnswerTable,
+    questions: u64,
+}
+
+impl AnswersJudge {
+    /// A judge that says yes to these, and wasn't asked yet.
+    pub fn new(answers: Vec<Answer>) -> AnswersJudge
+        ensures answers { judge_answers result ≡ listed (map answer_plain answers.items) }
+        ensures questions { judge_questions result ≡ 0 }
+    {
+        AnswersJudge {
+            answers: AnswerTable::new(answers),
+            questions: 0,
+        }
+    }
+}
+
+impl SignatureJudge for AnswersJudge {
+    ghost answers = { judge_answers };
+
+    ghost questions = { judge_questions };
+
+    fn accepts(
+        &mut self,
+        key: &SubjectPublicKeyInfo,
+        algorithm: &AlgorithmIdentifier,
+        signed: &[u8],
+        bits: &BitString,
+    ) -> bool {
+        self.questions = self.questions.saturating_add(1);
+        self.answers.has(key, algorithm, signed, bits)
+    }
+}

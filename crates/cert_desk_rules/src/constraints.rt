@@ -1,0 +1,57 @@
+//! Basic constraints, read without memory (RFC 5280 4.2.1.9).
+ghost use Rattle.std.specs.Prelude.{◌≡◌, ◌≢◌, ℕ, List, ◌∷◌, ◌++◌, false, length, IfSome, IfNone};
+ghost use Rattle.cert_desk_rules.specs.Findings.{weight_of};
+ghost use Rattle.cert_desk_rules.specs.Weighing.{basic_constraints, ca_octets, constraints_of};
+ghost use Rattle.cert_desk_rules.specs.Weighing.{meaning_by};
+
+use crate::weight::Weight;
+use der_core::making::leaf_from_der;
+use std::alloc::Global;
+
+// What basic constraints weigh. The only number in them is within eight bits, so their length is
+// one octet.
+pub fn weigh_constraints(alloc: Global, octets: &[u8]) -> Weight
+    ensures { (purpose : List ℕ)
+        → result ≡ weight_of purpose (meaning_by basic_constraints constraints_of octets.now) }
+{
+    let Some(fields) = fields_of(octets) else {
+        return Weight::Malformed;
+    };
+    let (ca, rest) = split_ca(fields);
+    if rest.is_empty() {
+        return Weight::Constraints { ca, path_len: None };
+    }
+    match leaf_from_der::<u8>(alloc, rest) {
+        Ok(most) => Weight::Constraints {
+            ca,
+            path_len: Some(most),
+        },
+        Err(_) => Weight::Malformed,
+    }
+}
+
+// The fields of a SEQUENCE whose length is one octet (X.690 8.1.3.4).
+fn fields_of(octets: &[u8]) -> Option<&[u8]>
+    ensures some { IfSome result (λ fields. octets.now ≡ 48 ∷ length fields.now ∷ fields.now) }
+    ensures none { IfNone result ((fields : List ℕ)
+        → octets.now ≢ 48 ∷ length fields ∷ fields) }
+{
+    let [0x30, len, fields @ ..] = octets else {
+        return None;
+    };
+    if fields.len() != usize::from(*len) {
+        return None;
+    }
+    Some(fields)
+}
+
+// cA, and the octets behind it.
+fn split_ca(fields: &[u8]) -> (bool, &[u8])
+    ensures split { fields.now ≡ ca_octets result.0 ++ result.1.now }
+    ensures spelled { result.0 ≡ false → (rest : List ℕ) → fields.now ≢ 1 ∷ 1 ∷ 255 ∷ rest }
+{
+    match fields.strip_prefix([1, 1, 0xff].as_slice()) {
+        Some(rest) => (true, rest),
+        None => (false, fields),
+    }
+}

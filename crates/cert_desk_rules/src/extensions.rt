@@ -1,0 +1,127 @@
+//! The extensions of a certificate, and their identifiers (RFC 5280 4.2).
+
+ghost use Rattle.std.specs.Prelude.{◌≡◌, ◌<◌, ℕ, length, true, false, not, nat_eq};
+ghost use Rattle.std.specs.Prelude.{IfOk, IfSome, OnErr};
+ghost use Rattle.std.specs.Option.{is_some, option_map_or};
+ghost use Rattle.const_oid.specs.Comparing.{owned_eq};
+ghost use Rattle.x509_cert_certificates.specs.Certificates.{extensions_of};
+ghost use Rattle.x509_cert_certificates.specs.Views.{certificate_plain};
+ghost use Rattle.x509_cert_parts.specs.ExtensionTypes.{id_ce};
+ghost use Rattle.x509_cert_parts.specs.Views.{extension_plain, extensions_plain};
+ghost use Rattle.cert_desk_rules.specs.Judging.{are_distinct, has_twin, is_alone};
+ghost use Rattle.cert_desk_rules.specs.Weighing.{may_take_memory};
+
+use const_oid::ObjectIdentifier;
+use std::alloc::{AllocError, Global};
+use std::collections::BTreeSet;
+use x509_cert_certificates::CertificateInner;
+use x509_cert_parts::{Extension, Raw};
+
+// Below 2.5.29 (RFC 5280 4.2.1.3, 4.2.1.6, 4.2.1.9, 4.2.1.12).
+pub const KEY_USAGE: u8 = 15;
+
+pub const SUBJECT_ALT_NAME: u8 = 17;
+
+pub const BASIC_CONSTRAINTS: u8 = 19;
+
+pub const EXT_KEY_USAGE: u8 = 37;
+
+// Up to so many extensions each is compared with each.
+const FEW: usize = 16;
+
+// The extensions, in their order. Where the field is absent there are none.
+pub fn extensions_of(certificate: &CertificateInner<Raw>) -> &[Extension]
+    ensures { extensions_plain result.now ≡ extensions_of (certificate_plain certificate.now) }
+{
+    match certificate.tbs_certificate().extensions() {
+        Some(extensions) => extensions.as_slice(),
+        None => &[],
+    }
+}
+
+// The first extension whose identifier one behind it has. It takes n log n comparisons, and memory
+// for more extensions than a few.
+pub fn first_twin(alloc: Global, extensions: &[Extension]) -> Result<Option<usize>, AllocError>
+    ensures distinct { IfOk result (λ twin. not (is_some twin)
+        ≡ are_distinct (extensions_plain extensions.now)) }
+    ensures within { IfOk result (λ twin. IfSome twin (λ place. place < length extensions.now)) }
+    ensures twin { IfOk result (λ twin. IfSome twin (λ place.
+        has_twin (extensions_plain extensions.now) place ≡ true)) }
+    ensures first { IfOk result (λ twin. IfSome twin (λ place. (other : ℕ) → other < place
+        → has_twin (extensions_plain extensions.now) other ≡ false)) }
+    ensures memory { OnErr result (may_take_memory (extensions_plain extensions.now) ≡ true) }
+{
+    if extensions.len() <= FEW {
+        return Ok(first_twin_of_few(extensions));
+    }
+    let twin = first_twin_of_many(alloc, extensions)?;
+    Ok(twin)
+}
+
+// The first twin, found from the last extension to the first by a set of the identifiers so far.
+fn first_twin_of_many(alloc: Global, extensions: &[Extension]) -> Result<Option<usize>, AllocError>
+    ensures distinct { IfOk result (λ twin. not (is_some twin)
+        ≡ are_distinct (extensions_plain extensions.now)) }
+    ensures within { IfOk result (λ twin. IfSome twin (λ place. place < length extensions.now)) }
+    ensures twin { IfOk result (λ twin. IfSome twin (λ place.
+        has_twin (extensions_plain extensions.now) place ≡ true)) }
+    ensures first { IfOk result (λ twin. IfSome twin (λ place. (other : ℕ) → other < place
+        → has_twin (extensions_plain extensions.now) other ≡ false)) }
+{
+    let mut behind = BTreeSet::new(alloc);
+    let mut twin = None;
+    for place in (0..extensions.len()).rev() {
+        if !behind.insert(extensions[place].extn_id)? {
+            twin = Some(place);
+        }
+    }
+    Ok(twin)
+}
+
+// The first twin, where each extension is compared with each: that takes no memory.
+fn first_twin_of_few(extensions: &[Extension]) -> Option<usize>
+    ensures distinct { not (is_some result) ≡ are_distinct (extensions_plain extensions.now) }
+    ensures within { IfSome result (λ place. place < length extensions.now) }
+    ensures twin { IfSome result (λ place. has_twin (extensions_plain extensions.now) place
+        ≡ true) }
+    ensures first { IfSome result (λ place. (other : ℕ) → other < place
+        → has_twin (extensions_plain extensions.now) other ≡ false) }
+{
+    for place in 0..extensions.len() {
+        if !is_alone(&extensions[place], &extensions[place + 1..]) {
+            return Some(place);
+        }
+    }
+    None
+}
+
+// Whether none of the others has the extension's identifier.
+fn is_alone(extension: &Extension, others: &[Extension]) -> bool
+    ensures { result ≡ is_alone (extension_plain extension.now) (extensions_plain others.now) }
+{
+    !others
+        .iter()
+        .any(|other| are_equal(&extension.extn_id, &other.extn_id))
+}
+
+// The number of an identifier below 2.5.29, where that is one octet.
+pub fn number_of(identifier: &ObjectIdentifier<39>) -> Option<u8>
+    ensures { (n : ℕ) → n < 128 → owned_eq identifier.now (id_ce n)
+        ≡ option_map_or (λ number. nat_eq number n) result false }
+{
+    let octets = identifier.as_bytes();
+    if octets.len() != 3 || octets[0] != 0x55 || octets[1] != 0x1d {
+        return None;
+    }
+    Some(octets[2])
+}
+
+// Whether two identifiers are equal. Their last octets are looked at first, since what stands in
+// one place mostly differs there.
+fn are_equal(one: &ObjectIdentifier<39>, other: &ObjectIdentifier<39>) -> bool
+    ensures { result ≡ owned_eq one.now other.now }
+{
+    let octets = one.as_bytes();
+    let others = other.as_bytes();
+    octets.last() == others.last() && octets == others
+}

@@ -1,0 +1,33 @@
+//! The rules that one place of a chain keeps, and who judges signatures.
+#![tactic(auto)]
+
+mod answer;
+mod answer_table;
+mod answers_judge;
+mod checked;
+mod constraints;
+mod digest_judge;
+mod extensions;
+mod findings;
+mod kept_rules;
+mod path_room;
+mod reason;
+mod rule;
+mod sha256_digest;
+mod signature_judge;
+mod weighing;
+mod weight;
+
+pub use answer::Answer;
+pub use answers_judge::AnswersJudge;
+pub use checked::{CheckError, Checked, Verdict};
+pub use digest_judge::DigestJudge;
+pub use extensions::{extensions_of, first_twin};
+pub use findings::Findings;
+pub use kept_rules::KeptRules;
+pub use path_room::PathRoom;
+pub use reason::Reason;
+pub use rule::Rule;
+pub use sha256_digest::Sha256Digest;
+pub use signature_judge::SignatureJudge;
+pub use weighing::findings_of;

@@ -1,0 +1,55 @@
+//! The rules of a chain.
+ghost use Rattle.std.specs.Prelude.{Some};
+ghost use Rattle.cert_desk_rules.specs.RuleNames.{rule_name};
+
+use std::fmt;
+
+/// The rule that a certificate of a chain breaks, in the order in which it is judged (RFC 5280
+/// 6.1).
+#[derive(Clone, Copy, Debug, PartialEq, Eq)]
+pub enum Rule {
+    /// The algorithm inside the signed part isn't the one outside (RFC 5280 4.1.1.2).
+    AlgorithmsDiffer,
+    /// Two extensions have one identifier (4.2).
+    DuplicateExtension,
+    /// An extension of a weighed kind isn't one value of its kind.
+    MalformedExtension,
+    /// A critical extension is of no weighed kind (4.2).
+    UnweighedCritical,
+    /// The issuer's octets aren't the subject's octets of the certificate before; of the first one,
+    /// they aren't those of any anchor's name (6.1.3 (a)(4)).
+    WrongIssuer,
+    /// The moment is before the validity (6.1.3 (a)(2)).
+    NotYetValid,
+    /// The moment is behind the validity (6.1.3 (a)(2)).
+    Expired,
+    /// The purpose isn't allowed (4.2.1.12).
+    AgainstPurpose,
+    /// The certificate isn't the last, and isn't an authority's (6.1.4 (k), (n)).
+    NotAuthority,
+    /// The path is longer than a certificate before allows (6.1.4 (l), (m)).
+    PathTooLong,
+    /// The signature over the signed part isn't the issuer's (6.1.3 (a)(1)).
+    WrongSignature,
+}
+
+impl fmt::Display for Rule {
+    ghost output = { λ rule. Some (rule_name rule) };
+
+    fn fmt<W: fmt::Write>(&self, f: &mut fmt::Formatter<W>) -> fmt::Result {
+        let name = match self {
+            Rule::AlgorithmsDiffer => "AlgorithmsDiffer",
+            Rule::DuplicateExtension => "DuplicateExtension",
+            Rule::MalformedExtension => "MalformedExtension",
+            Rule::UnweighedCritical => "UnweighedCritical",
+            Rule::WrongIssuer => "WrongIssuer",
+            Rule::NotYetValid => "NotYetValid",
+            Rule::Expired => "Expired",
+            Rule::AgainstPurpose => "AgainstPurpose",
+            Rule::NotAuthority => "NotAuthority",
+            Rule::PathTooLong => "PathTooLong",
+            Rule::WrongSignature => "WrongSignature",
+        };
+        f.write_str(name)
+    }
+}

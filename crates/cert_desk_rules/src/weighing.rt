@@ -1,0 +1,155 @@
+//! The extensions by which a chain is judged, read (RFC 5280 4.2.1.3, 4.2.1.6, 4.2.1.9, 4.2.1.12).
+ghost use Rattle.std.specs.Prelude.{◌≡◌, ◌≢◌, ℕ, List, true, IfOk, OnErr};
+ghost use Rattle.const_oid.specs.Bound.{Bound};
+ghost use Rattle.const_oid.specs.Comparing.{owned_eq};
+ghost use Rattle.der_core_head.specs.declared.error.ErrorKind.{ErrorKind};
+ghost use Rattle.x509_cert_parts.specs.Views.{extension_plain, extensions_plain};
+ghost use Rattle.cert_desk_rules.specs.Findings.{found, weight_of};
+ghost use Rattle.cert_desk_rules.specs.Weighing.{any_purpose, extended_key_usage, has_list};
+ghost use Rattle.cert_desk_rules.specs.Weighing.{key_usage, may_take_memory, meaning_by};
+ghost use Rattle.cert_desk_rules.specs.Weighing.{other_names, purposes, serves};
+ghost use Rattle.cert_desk_rules.specs.Weighing.{subject_alt_name, uses, weigh};
+
+use crate::constraints::weigh_constraints;
+use crate::extensions::{BASIC_CONSTRAINTS, EXT_KEY_USAGE, KEY_USAGE, SUBJECT_ALT_NAME, number_of};
+use crate::findings::Findings;
+use crate::weight::Weight;
+use const_oid::ObjectIdentifier;
+use der_core::making::{leaf_from_der, read_whole};
+use der_core::{Error, ErrorKind, Explicit, FromDer, Implicit, OneOf8};
+use der_types_text::Ia5StringRef;
+use der_types_values::{FlagSet, OctetStringRef};
+use std::alloc::{AllocError, Global};
+use x509_cert_extensions::{ExtendedKeyUsage, KeyUsage, KeyUsages};
+use x509_cert_general_names::{EdiPartyName, OtherName};
+use x509_cert_names::Name;
+use x509_cert_parts::Extension;
+
+// A name that the octets lend where it is a text or octets.
+type NameLent<'a> = OneOf8<
+    Implicit<OtherName, 0>,
+    Implicit<Ia5StringRef<'a>, 1>,
+    Implicit<Ia5StringRef<'a>, 2>,
+    Explicit<Name, 4>,
+    Implicit<EdiPartyName, 5>,
+    Implicit<Ia5StringRef<'a>, 6>,
+    Implicit<OctetStringRef<'a>, 7>,
+    Implicit<ObjectIdentifier<39>, 8>,
+>;
+
+/// What is found in the extensions of a certificate. Each is read once.
+///
+/// # Errors
+/// Want of memory.
+pub fn findings_of(
+    alloc: Global,
+    extensions: &[Extension],
+    purpose: &ObjectIdentifier<39>,
+) -> Result<Findings, AllocError>
+    ensures found { IfOk result
+        (λ findings. findings ≡ found Bound purpose.now (extensions_plain extensions.now)) }
+    ensures memory { OnErr result (may_take_memory (extensions_plain extensions.now) ≡ true) }
+{
+    let mut findings = Findings::none();
+    for extension in extensions {
+        let weight = weigh(alloc, extension, purpose)?;
+        findings.add(extension.critical, weight);
+    }
+    Ok(findings)
+}
+
+// What an extension weighs.
+fn weigh(
+    alloc: Global,
+    extension: &Extension,
+    purpose: &ObjectIdentifier<39>,
+) -> Result<Weight, AllocError>
+    ensures weight { IfOk result
+        (λ weight. weight ≡ weight_of purpose.now (weigh Bound (extension_plain extension.now))) }
+    ensures memory { OnErr result (has_list (extension_plain extension.now) ≡ true) }
+{
+    let octets = extension.extn_value.as_bytes();
+    let Some(number) = number_of(&extension.extn_id) else {
+        return Ok(Weight::Unweighed);
+    };
+    if number == KEY_USAGE {
+        return Ok(weigh_key_usage(alloc, octets));
+    }
+    if number == SUBJECT_ALT_NAME {
+        return weigh_names(alloc, octets);
+    }
+    if number == BASIC_CONSTRAINTS {
+        return Ok(weigh_constraints(alloc, octets));
+    }
+    if number == EXT_KEY_USAGE {
+        return weigh_purposes(alloc, octets, purpose);
+    }
+    Ok(Weight::Unweighed)
+}
+
+// What a key usage weighs. It takes no memory.
+fn weigh_key_usage(alloc: Global, octets: &[u8]) -> Weight
+    ensures { (purpose : List ℕ)
+        → result ≡ weight_of purpose (meaning_by key_usage uses octets.now) }
+{
+    match leaf_from_der::<FlagSet<KeyUsages>>(alloc, octets) {
+        Ok(usages) => Weight::KeyUsage {
+            certifies: KeyUsage(usages).key_cert_sign(),
+        },
+        Err(_) => Weight::Malformed,
+    }
+}
+
+// What other names of the subject weigh.
+fn weigh_names(alloc: Global, octets: &[u8]) -> Result<Weight, AllocError>
+    ensures { IfOk result (λ weight. (purpose : List ℕ)
+        → weight ≡ weight_of purpose (meaning_by (subject_alt_name Bound) other_names octets.now)) }
+{
+    match read_whole::<Vec<NameLent<'_>>>(alloc, octets) {
+        Ok(_) => Ok(Weight::AlternativeNames),
+        Err(error) => malformed(error),
+    }
+}
+
+// What purposes weigh.
+fn weigh_purposes(
+    alloc: Global,
+    octets: &[u8],
+    purpose: &ObjectIdentifier<39>,
+) -> Result<Weight, AllocError>
+    ensures { IfOk result
+        (λ weight. weight
+        ≡ weight_of purpose.now (meaning_by (extended_key_usage Bound) purposes octets.now)) }
+{
+    match ExtendedKeyUsage::from_der(alloc, octets) {
+        Ok(usage) => Ok(Weight::Purposes {
+            serves: is_listed(purpose, usage.0.as_slice()),
+        }),
+        Err(error) => malformed(error),
+    }
+}
+
+// Whether purposes name this one, or any.
+fn is_listed(purpose: &ObjectIdentifier<39>, listed: &[ObjectIdentifier<39>]) -> bool
+    ensures { result ≡ serves purpose.now (purposes listed.now) }
+{
+    listed.iter().any(|one| *one == *purpose || is_any(one))
+}
+
+// Whether it is the purpose that stands for any.
+fn is_any(purpose: &ObjectIdentifier<39>) -> bool
+    ensures { result ≡ owned_eq purpose.now any_purpose }
+{
+    purpose.as_bytes() == [0x55, 0x1d, 0x25, 0x00].as_slice()
+}
+
+// An extension that was refused is malformed, unless memory was wanting.
+fn malformed(error: Error) -> Result<Weight, AllocError>
+    ensures { IfOk result (λ weight. (weight ≡ Weight.Malformed)
+        × (error.kind ≢ ErrorKind.OutOfMemory)) }
+{
+    match error.kind {
+        ErrorKind::OutOfMemory => Err(AllocError),
+        _ => Ok(Weight::Malformed),
+    }
+}

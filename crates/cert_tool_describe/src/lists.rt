@@ -1,0 +1,98 @@
+//! Revocation lists (RFC 5280 5): their descriptions.
+
+use crate::algorithms::{add_algorithm, add_signature};
+use crate::contents::add_extensions;
+use crate::describe::Describe;
+use crate::description::add_kind;
+use crate::keys::add_digests;
+use crate::lines::Lines;
+use crate::values::add_name;
+use der_core::{Error, ErrorKind, FromDer};
+use std::alloc::Global;
+use x509_cert_extensions::{CrlNumber, CrlReason};
+use x509_cert_lists::{CertificateList, RevokedCert, TbsCertList};
+use x509_cert_parts::Raw;
+
+impl Describe for CrlNumber {
+    fn describe(&self, lines: &mut Lines) {
+        lines.row("number", "number");
+        lines.natural(self.0.as_bytes());
+    }
+}
+
+// The name of a reason (RFC 5280 5.3.1).
+fn reason_name(reason: CrlReason) -> &'static str {
+    match reason {
+        CrlReason::Unspecified => "unspecified",
+        CrlReason::KeyCompromise => "keyCompromise",
+        CrlReason::CaCompromise => "cACompromise",
+        CrlReason::AffiliationChanged => "affiliationChanged",
+        CrlReason::Superseded => "superseded",
+        CrlReason::CessationOfOperation => "cessationOfOperation",
+        CrlReason::CertificateHold => "certificateHold",
+        CrlReason::RemoveFromCRL => "removeFromCRL",
+        CrlReason::PrivilegeWithdrawn => "privilegeWithdrawn",
+        CrlReason::AaCompromise => "aACompromise",
+    }
+}
+
+impl Describe for CrlReason {
+    fn describe(&self, lines: &mut Lines) {
+        lines.row("", "reason");
+        lines.text(reason_name(*self));
+    }
+}
+
+// Adds the lines of an entry.
+fn add_entry(lines: &mut Lines, entry: &RevokedCert<Raw>) {
+    lines.entry("revoked");
+    lines.key("userCertificate");
+    lines.number(entry.serial_number.as_bytes());
+    lines.key("revocationDate");
+    lines.date(&entry.revocation_date);
+    if let Some(extensions) = &entry.crl_entry_extensions {
+        add_extensions(lines, "crlEntryExtensions", extensions.as_slice());
+    }
+    lines.close();
+}
+
+// Adds the lines of the signed part.
+fn add_signed(lines: &mut Lines, signed: &TbsCertList<Raw>) {
+    add_kind(lines, "list", signed.version);
+    add_algorithm(lines, "algorithm", "signature", &signed.signature);
+    add_name(lines, "issuer", "issuer", &signed.issuer);
+    lines.row("this-update", "thisUpdate");
+    lines.date(&signed.this_update);
+    if let Some(date) = &signed.next_update {
+        lines.row("next-update", "nextUpdate");
+        lines.date(date);
+    }
+    if let Some(extensions) = &signed.crl_extensions {
+        add_extensions(lines, "crlExtensions", extensions.as_slice());
+    }
+    if let Some(entries) = &signed.revoked_certificates {
+        lines.list("revokedCertificates");
+        for entry in entries {
+            add_entry(lines, entry);
+        }
+        lines.end_list();
+    }
+}
+
+// The list that octets spell.
+pub fn list_of(alloc: Global, octets: &[u8]) -> Result<CertificateList<Raw>, Error> {
+    FromDer::from_der(alloc, octets)
+}
+
+// Adds what a list says, and digests of its octets; answers why the octets are none, if they
+// aren't.
+pub fn add_list(lines: &mut Lines, octets: &[u8]) -> Option<ErrorKind> {
+    let list = match list_of(lines.alloc, octets) {
+        Ok(list) => list,
+        Err(error) => return Some(error.kind),
+    };
+    add_signed(lines, &list.tbs_cert_list);
+    add_signature(lines, &list.signature_algorithm, &list.signature);
+    add_digests(lines, ["list-sha1", "list-sha256"], octets);
+    None
+}

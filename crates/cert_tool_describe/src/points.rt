@@ -1,0 +1,190 @@
+//! Where more stands: distribution points, access, key identifiers, constraints on names (RFC 5280
+//! 4.2.1.1, 4.2.1.10, 4.2.1.13, 4.2.2).
+
+use crate::describe::Describe;
+use crate::general_names::{add_general_name, add_general_names};
+use crate::lines::Lines;
+use crate::uses::add_count;
+use x509_cert_extensions::{AuthorityInfoAccessSyntax, CrlDistributionPoints};
+use x509_cert_general_names::{
+    AuthorityKeyIdentifier, DistributionPoint, DistributionPointName, GeneralSubtree,
+    IssuingDistributionPoint, NameConstraints, ReasonFlags, Reasons,
+};
+
+// Adds the lines of a point's name.
+fn add_point_name(lines: &mut Lines, name: &DistributionPointName) {
+    match name {
+        DistributionPointName::FullName(listed) => {
+            add_general_names(lines, "", "fullName", listed.as_slice());
+        }
+        DistributionPointName::NameRelativeToCRLIssuer(relative) => {
+            lines.row("below the issuer", "nameRelativeToCRLIssuer");
+            lines.name_value(relative);
+        }
+    }
+}
+
+// Adds a line for each reason.
+fn add_reasons(lines: &mut Lines, key: &str, reasons: &ReasonFlags) {
+    lines.flags(
+        "for",
+        key,
+        &[
+            (reasons.contains(Reasons::Unused), "unused"),
+            (reasons.contains(Reasons::KeyCompromise), "keyCompromise"),
+            (reasons.contains(Reasons::CaCompromise), "cACompromise"),
+            (
+                reasons.contains(Reasons::AffiliationChanged),
+                "affiliationChanged",
+            ),
+            (reasons.contains(Reasons::Superseded), "superseded"),
+            (
+                reasons.contains(Reasons::CessationOfOperation),
+                "cessationOfOperation",
+            ),
+            (
+                reasons.contains(Reasons::CertificateHold),
+                "certificateHold",
+            ),
+            (
+                reasons.contains(Reasons::PrivilegeWithdrawn),
+                "privilegeWithdrawn",
+            ),
+            (reasons.contains(Reasons::AaCompromise), "aACompromise"),
+        ],
+    );
+}
+
+// Adds the lines of a point.
+fn add_point(lines: &mut Lines, point: &DistributionPoint) {
+    lines.entry("point");
+    if let Some(name) = &point.distribution_point {
+        add_point_name(lines, name);
+    }
+    if let Some(reasons) = &point.reasons {
+        add_reasons(lines, "reasons", reasons);
+    }
+    if let Some(issuer) = &point.crl_issuer {
+        add_general_names(lines, "issued by", "cRLIssuer", issuer.as_slice());
+    }
+    lines.close();
+}
+
+impl Describe for CrlDistributionPoints {
+    fn describe(&self, lines: &mut Lines) {
+        lines.list("points");
+        for point in &self.0 {
+            add_point(lines, point);
+        }
+        lines.end_list();
+    }
+}
+
+// Adds a line that says which certificates stand in a list, if it holds.
+fn add_scope(lines: &mut Lines, words: &str, key: &str, holds: bool) {
+    if holds {
+        lines.line();
+        lines.mark(words, key, holds);
+    }
+}
+
+impl Describe for IssuingDistributionPoint {
+    fn describe(&self, lines: &mut Lines) {
+        if let Some(name) = &self.distribution_point {
+            add_point_name(lines, name);
+        }
+        add_scope(
+            lines,
+            "certificates of users alone",
+            "onlyContainsUserCerts",
+            self.only_contains_user_certs,
+        );
+        add_scope(
+            lines,
+            "certificates of authorities alone",
+            "onlyContainsCACerts",
+            self.only_contains_ca_certs,
+        );
+        add_scope(
+            lines,
+            "certificates of attributes alone",
+            "onlyContainsAttributeCerts",
+            self.only_contains_attribute_certs,
+        );
+        add_scope(
+            lines,
+            "certificates of other issuers too",
+            "indirectCRL",
+            self.indirect_crl,
+        );
+        if let Some(reasons) = &self.only_some_reasons {
+            add_reasons(lines, "onlySomeReasons", reasons);
+        }
+    }
+}
+
+impl Describe for AuthorityInfoAccessSyntax {
+    fn describe(&self, lines: &mut Lines) {
+        lines.list("accesses");
+        for access in &self.0 {
+            lines.item("");
+            lines.brace();
+            lines.members_of(&access.access_method);
+            lines.key("accessLocation");
+            lines.brace();
+            add_general_name(lines, &access.access_location);
+            lines.end_brace();
+            lines.end_brace();
+        }
+        lines.end_list();
+    }
+}
+
+impl Describe for AuthorityKeyIdentifier {
+    fn describe(&self, lines: &mut Lines) {
+        if let Some(identifier) = &self.key_identifier {
+            lines.row("key", "keyIdentifier");
+            lines.octets(identifier.as_bytes());
+        }
+        if let Some(issuer) = &self.authority_cert_issuer {
+            add_general_names(lines, "issuer", "authorityCertIssuer", issuer.as_slice());
+        }
+        if let Some(serial) = &self.authority_cert_serial_number {
+            lines.row("serial", "authorityCertSerialNumber");
+            lines.number(serial.as_bytes());
+        }
+    }
+}
+
+// Adds the lines of a subtree, which a word begins.
+fn add_subtree(lines: &mut Lines, word: &str, tree: &GeneralSubtree) {
+    lines.item(word);
+    lines.brace();
+    add_general_name(lines, &tree.base);
+    if tree.minimum > 0 {
+        add_count(lines, "  from level", "minimum", u64::from(tree.minimum));
+    }
+    if let Some(level) = tree.maximum {
+        add_count(lines, "  to level", "maximum", u64::from(level));
+    }
+    lines.end_brace();
+}
+
+// Adds the lines of subtrees, if there are any.
+fn add_subtrees(lines: &mut Lines, word: &str, key: &str, trees: &Option<Vec<GeneralSubtree>>) {
+    if let Some(trees) = trees {
+        lines.list(key);
+        for tree in trees {
+            add_subtree(lines, word, tree);
+        }
+        lines.end_list();
+    }
+}
+
+impl Describe for NameConstraints {
+    fn describe(&self, lines: &mut Lines) {
+        let (permitted, excluded) = (&self.permitted_subtrees, &self.excluded_subtrees);
+        add_subtrees(lines, "permitted", "permittedSubtrees", permitted);
+        add_subtrees(lines, "excluded", "excludedSubtrees", excluded);
+    }
+}

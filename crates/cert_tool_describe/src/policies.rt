@@ -1,0 +1,190 @@
+//! Policies (RFC 5280 4.2.1.4, 4.2.1.5, 4.2.1.11, 4.2.1.14).
+
+use crate::describe::Describe;
+use crate::lines::Lines;
+use crate::uses::add_count;
+use crate::values::{add_value, values_in};
+use const_oid::ObjectIdentifier;
+use der_core::{ErrorKind, Tag};
+use der_types_any::Any;
+use der_types_numbers::Uint;
+use x509_cert_policies::{
+    CertificatePolicies, InhibitAnyPolicy, PolicyConstraints, PolicyInformation, PolicyMappings,
+    PolicyQualifierInfo,
+};
+
+// Adds the lines of the numbers of notices.
+fn add_numbers(lines: &mut Lines, numbers: &Any) {
+    match numbers.decode_as::<Vec<Uint>>(lines.alloc) {
+        Ok(numbers) => {
+            lines.list("noticeNumbers");
+            for number in &numbers {
+                lines.item("number");
+                lines.natural(number.as_bytes());
+            }
+            lines.end_list();
+        }
+        Err(error) => lines.malformed("malformed", error.kind),
+    }
+}
+
+// Adds a line for a text of a notice.
+fn add_notice_text(lines: &mut Lines, word: &str, key: &str, text: &Any) {
+    lines.row(word, key);
+    lines.brace();
+    add_value(lines, text);
+    lines.end_brace();
+}
+
+// Adds the lines of a part of a reference to notices: whose they are, or their numbers.
+fn add_reference_part(lines: &mut Lines, part: &Any) {
+    if part.tag() == Tag::Sequence {
+        add_numbers(lines, part);
+    } else {
+        add_notice_text(lines, "of", "organization", part);
+    }
+}
+
+// Adds that the parts of a notice, or of a reference to some, can't be read.
+fn add_no_parts(lines: &mut Lines, kind: ErrorKind) {
+    lines.comma();
+    lines.brace();
+    lines.malformed("malformed", kind);
+    lines.end_brace();
+}
+
+// Adds the lines of the parts of a reference to notices.
+fn add_reference(lines: &mut Lines, whole: &Any) {
+    match values_in(lines.alloc, whole) {
+        Ok(parts) => {
+            for part in &parts {
+                lines.comma();
+                lines.brace();
+                add_reference_part(lines, part);
+                lines.end_brace();
+            }
+        }
+        Err(error) => add_no_parts(lines, error.kind),
+    }
+}
+
+// Adds the lines of a part of a notice: where its text is found, or that text.
+fn add_notice_part(lines: &mut Lines, part: &Any) {
+    if part.tag() == Tag::Sequence {
+        lines.list("noticeRef");
+        add_reference(lines, part);
+        lines.end_list();
+    } else {
+        add_notice_text(lines, "text", "explicitText", part);
+    }
+}
+
+// Adds the lines of the parts of a notice.
+fn add_notice(lines: &mut Lines, whole: &Any) {
+    match values_in(lines.alloc, whole) {
+        Ok(parts) => {
+            for part in &parts {
+                lines.comma();
+                lines.brace();
+                add_notice_part(lines, part);
+                lines.end_brace();
+            }
+        }
+        Err(error) => add_no_parts(lines, error.kind),
+    }
+}
+
+// Adds the lines of a qualifier: a notice, or where the statement of practices stands.
+fn add_qualifier(lines: &mut Lines, qualifier: &PolicyQualifierInfo) {
+    lines.entry("");
+    lines.members_of(&qualifier.policy_qualifier_id);
+    if let Some(value) = &qualifier.qualifier {
+        if value.tag() == Tag::Sequence {
+            lines.list("notice");
+            add_notice(lines, value);
+            lines.end_list();
+        } else {
+            add_value(lines, value);
+        }
+    }
+    lines.close();
+}
+
+// Adds the lines of a policy.
+fn add_policy(lines: &mut Lines, policy: &PolicyInformation) {
+    lines.entry("");
+    lines.members_of(&policy.policy_identifier);
+    if let Some(qualifiers) = &policy.policy_qualifiers {
+        lines.list("qualifiers");
+        for qualifier in qualifiers {
+            add_qualifier(lines, qualifier);
+        }
+        lines.end_list();
+    }
+    lines.close();
+}
+
+impl Describe for CertificatePolicies {
+    fn describe(&self, lines: &mut Lines) {
+        lines.list("policies");
+        for policy in &self.0 {
+            add_policy(lines, policy);
+        }
+        lines.end_list();
+    }
+}
+
+// Adds a policy of a mapping.
+fn add_mapped(lines: &mut Lines, key: &str, policy: &ObjectIdentifier<39>) {
+    lines.key(key);
+    lines.brace();
+    lines.members_of(policy);
+    lines.end_brace();
+}
+
+impl Describe for PolicyMappings {
+    fn describe(&self, lines: &mut Lines) {
+        lines.list("mappings");
+        for mapping in &self.0 {
+            lines.entry("");
+            add_mapped(lines, "issuerDomainPolicy", &mapping.issuer_domain_policy);
+            lines.word("is");
+            add_mapped(lines, "subjectDomainPolicy", &mapping.subject_domain_policy);
+            lines.close();
+        }
+        lines.end_list();
+    }
+}
+
+impl Describe for PolicyConstraints {
+    fn describe(&self, lines: &mut Lines) {
+        if let Some(skipped) = self.require_explicit_policy {
+            let skipped = u64::from(skipped);
+            add_count(
+                lines,
+                "explicit policy behind",
+                "requireExplicitPolicy",
+                skipped,
+            );
+        }
+        if let Some(skipped) = self.inhibit_policy_mapping {
+            add_count(
+                lines,
+                "no mapping behind",
+                "inhibitPolicyMapping",
+                u64::from(skipped),
+            );
+        }
+    }
+}
+
+impl Describe for InhibitAnyPolicy {
+    fn describe(&self, lines: &mut Lines) {
+        add_count(
+            lines,
+            "not any policy behind",
+            "skipCerts",
+            u64::from(self.0),
+        );
+    }
+}

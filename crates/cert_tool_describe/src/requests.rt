@@ -1,0 +1,84 @@
+//! Descriptions of certification requests (RFC 2986).
+
+use crate::algorithms::add_signature;
+use crate::contents::add_extensions;
+use crate::description::add_kind;
+use crate::keys::{add_digests, add_key, add_key_digests};
+use crate::lines::Lines;
+use crate::values::{add_name, add_value};
+use const_oid::AssociatedOid;
+use der_core::ErrorKind;
+use der_types_any::Any;
+use x509_cert_lists::{CertReq, CertReqInfo, ExtensionReq};
+use x509_cert_names::Attribute;
+use x509_cert_parts::{Extensions, Version};
+
+// The extensions that a value asks for, if it is the one that asks.
+fn wanted_in(lines: &mut Lines, is_wanted: bool, value: &Any) -> Option<Extensions> {
+    if !is_wanted {
+        return None;
+    }
+    match value.decode_as::<Extensions>(lines.alloc) {
+        Ok(wanted) => Some(wanted),
+        Err(error) => {
+            lines.note(error.kind);
+            None
+        }
+    }
+}
+
+// Adds the lines of a value of an attribute.
+fn add_attribute_value(lines: &mut Lines, is_wanted: bool, value: &Any) {
+    match wanted_in(lines, is_wanted, value) {
+        Some(wanted) => {
+            lines.comma();
+            lines.brace();
+            add_extensions(lines, "extensions", wanted.as_slice());
+        }
+        None => {
+            lines.item("");
+            lines.brace();
+            add_value(lines, value);
+        }
+    }
+    lines.end_brace();
+}
+
+// Adds the lines of an attribute.
+fn add_attribute(lines: &mut Lines, attribute: &Attribute) {
+    lines.entry("attribute");
+    lines.members_of(&attribute.oid);
+    lines.list("values");
+    let is_wanted = attribute.oid == ExtensionReq::associated_oid();
+    for value in attribute.values.values.as_slice() {
+        add_attribute_value(lines, is_wanted, value);
+    }
+    lines.end_list();
+    lines.close();
+}
+
+// Adds the lines of what is asked for.
+fn add_info(lines: &mut Lines, info: &CertReqInfo) {
+    add_kind(lines, "request", Version::V1);
+    add_name(lines, "subject", "subject", &info.subject);
+    add_key(lines, &info.public_key);
+    lines.list("attributes");
+    for attribute in info.attributes.values.as_slice() {
+        add_attribute(lines, attribute);
+    }
+    lines.end_list();
+}
+
+// Adds what a request says, and digests of its octets and of its key; answers why the octets are
+// none, if they aren't.
+pub fn add_request(lines: &mut Lines, octets: &[u8]) -> Option<ErrorKind> {
+    let request = match CertReq::try_from_bytes(lines.alloc, octets) {
+        Ok(request) => request,
+        Err(error) => return Some(error.kind),
+    };
+    add_info(lines, &request.info);
+    add_signature(lines, &request.algorithm, &request.signature);
+    add_digests(lines, ["request-sha1", "request-sha256"], octets);
+    add_key_digests(lines, &request.info.public_key);
+    None
+}

@@ -1,0 +1,110 @@
+//! Timestamps of logs (RFC 6962 3.3).
+
+use crate::describe::Describe;
+use crate::lines::Lines;
+use der_core::ErrorKind;
+use x509_cert_timestamps::{
+    DigitallySigned, Error, HashAlgorithm, SerializedSct, SignatureAlgorithm,
+    SignedCertificateTimestamp, SignedCertificateTimestampList, TlsError,
+};
+
+// The name of a hash (RFC 5246 7.4.1.4.1, RFC 8422 5.1.3).
+fn hash_name(hash: &HashAlgorithm) -> &'static str {
+    match hash {
+        HashAlgorithm::None => "none",
+        HashAlgorithm::Md5 => "md5",
+        HashAlgorithm::Sha1 => "sha1",
+        HashAlgorithm::Sha224 => "sha224",
+        HashAlgorithm::Sha256 => "sha256",
+        HashAlgorithm::Sha384 => "sha384",
+        HashAlgorithm::Sha512 => "sha512",
+        HashAlgorithm::Intrinsic => "intrinsic",
+    }
+}
+
+// The name of what signs (RFC 5246 7.4.1.4.1, RFC 8422 5.1.3).
+fn signature_name(signature: &SignatureAlgorithm) -> &'static str {
+    match signature {
+        SignatureAlgorithm::Anonymous => "anonymous",
+        SignatureAlgorithm::Rsa => "rsa",
+        SignatureAlgorithm::Dsa => "dsa",
+        SignatureAlgorithm::Ecdsa => "ecdsa",
+        SignatureAlgorithm::Ed25519 => "ed25519",
+        SignatureAlgorithm::Ed448 => "ed448",
+    }
+}
+
+// Adds the line of a signature.
+fn add_signature(lines: &mut Lines, signed: &DigitallySigned) {
+    lines.row("signature", "hashAlgorithm");
+    lines.text(hash_name(&signed.algorithm.hash));
+    lines.key("signatureAlgorithm");
+    lines.text(signature_name(&signed.algorithm.signature));
+    lines.key("signature");
+    lines.octets(signed.signature.as_slice());
+}
+
+// Adds the line of a date, in milliseconds, if it is one, or of the milliseconds alone.
+fn add_date(lines: &mut Lines, timestamp: &SignedCertificateTimestamp) {
+    lines.line();
+    let mut left = timestamp.timestamp;
+    if let Ok(date) = timestamp.timestamp() {
+        lines.key("date");
+        lines.value(date);
+        lines.word("+");
+        left = timestamp.timestamp % 1000;
+    }
+    lines.key("milliseconds");
+    lines.count(left);
+    lines.word("ms");
+}
+
+// Adds the lines of a timestamp.
+fn add_timestamp(lines: &mut Lines, timestamp: &SignedCertificateTimestamp) {
+    lines.entry("log");
+    lines.key("logID");
+    lines.octets(timestamp.log_id.key_id.as_slice());
+    add_date(lines, timestamp);
+    if !timestamp.extensions.is_empty() {
+        lines.row("extensions", "extensions");
+        lines.octets(timestamp.extensions.as_slice());
+    }
+    add_signature(lines, &timestamp.signature);
+    lines.close();
+}
+
+// Adds that timestamps aren't what they should be.
+fn add_fault(lines: &mut Lines, error: Error) {
+    if let Error::Tls(TlsError::OutOfMemory) = error {
+        lines.fail();
+    }
+    lines.malformed("malformed", ErrorKind::Failed);
+}
+
+// Adds the lines of a timestamp as it is written.
+fn add_written(lines: &mut Lines, written: &SerializedSct) {
+    match written.parse_timestamp(lines.alloc) {
+        Ok(timestamp) => add_timestamp(lines, &timestamp),
+        Err(error) => {
+            lines.comma();
+            lines.brace();
+            add_fault(lines, error);
+            lines.end_brace();
+        }
+    }
+}
+
+impl Describe for SignedCertificateTimestampList {
+    fn describe(&self, lines: &mut Lines) {
+        match self.parse_timestamps(lines.alloc) {
+            Ok(listed) => {
+                lines.list("timestamps");
+                for written in &listed {
+                    add_written(lines, written);
+                }
+                lines.end_list();
+            }
+            Err(error) => add_fault(lines, error),
+        }
+    }
+}

@@ -1,0 +1,139 @@
+//! Values of any type: their texts, or their octets.
+
+use crate::lines::Lines;
+use der_core::{Error, Tag};
+use der_types_any::Any;
+use std::alloc::Global;
+use std::str;
+use x509_cert_names::{AttributeTypeAndValue, Name};
+
+// The character of two octets, if they are one (X.690 8.23.8).
+fn wide_letter(high: u8, low: u8) -> Option<char> {
+    char::from_u32(u32::from(high) * 256 + u32::from(low))
+}
+
+// Whether the octets of a BMPString are characters.
+fn is_wide(octets: &[u8]) -> bool {
+    for place in 0..octets.len() / 2 {
+        if wide_letter(octets[2 * place], octets[2 * place + 1]).is_none() {
+            return false;
+        }
+    }
+    octets.len() % 2 == 0
+}
+
+// Adds the text of a BMPString, of which two octets are a character. Those that aren't stand behind
+// `\u`, and so does an octet that is left.
+fn add_wide(lines: &mut Lines, octets: &[u8]) {
+    for place in 0..octets.len() / 2 {
+        let (high, low) = (octets[2 * place], octets[2 * place + 1]);
+        match wide_letter(high, low) {
+            Some(letter) => lines.letter(letter),
+            None => lines.pairs("\\u", &[high, low], None),
+        }
+    }
+    if octets.len() % 2 == 1 {
+        lines.pairs("\\u", &octets[octets.len() - 1..], None);
+    }
+}
+
+// Adds the text that octets spell in UTF-8, or each of them behind a backslash.
+fn add_narrow(lines: &mut Lines, octets: &[u8]) {
+    match str::from_utf8(octets) {
+        Ok(text) => lines.plain(text),
+        Err(_) => lines.pairs("\\", octets, Some(b'\\')),
+    }
+}
+
+// Whether values of a type are texts.
+fn is_string(tag: Tag) -> bool {
+    matches!(
+        tag,
+        Tag::BmpString
+            | Tag::Utf8String
+            | Tag::NumericString
+            | Tag::PrintableString
+            | Tag::TeletexString
+            | Tag::Ia5String
+            | Tag::VisibleString
+            | Tag::GeneralString
+    )
+}
+
+// Whether a text can be told as what it is: its octets spell characters.
+fn is_spelled(value: &Any) -> bool {
+    match value.tag() {
+        Tag::BmpString => is_wide(value.value()),
+        _ => str::from_utf8(value.value()).is_ok(),
+    }
+}
+
+// Adds the members of a value: its type, and its text if it is a string of characters, else its
+// octets.
+pub fn add_value(lines: &mut Lines, value: &Any) {
+    lines.key("type");
+    lines.value(value.tag());
+    if is_string(value.tag()) && (!lines.is_json || is_spelled(value)) {
+        lines.key("text");
+        lines.begin();
+        match value.tag() {
+            Tag::BmpString => add_wide(lines, value.value()),
+            _ => add_narrow(lines, value.value()),
+        }
+        lines.end();
+    } else {
+        lines.tail(", ");
+        lines.word("octets");
+        lines.key("octets");
+        lines.octets(value.value());
+    }
+}
+
+// The values that stand in a SEQUENCE.
+pub fn values_in(alloc: Global, value: &Any) -> Result<Vec<Any>, Error> {
+    value.decode_as(alloc)
+}
+
+// Whether the text of an attribute has its type by arcs, and its value by octets (RFC 4514 2.4):
+// the type has no short name there, or the value is no string that it spells.
+fn is_bare(text: &str) -> bool {
+    matches!(text.as_bytes(), [b'0'..=b'9', ..])
+}
+
+// Whether the line of a name tells less than a line of this attribute.
+fn is_told(lines: &mut Lines, attribute: &AttributeTypeAndValue) -> bool {
+    if lines.is_json {
+        return true;
+    }
+    match attribute.to_string(lines.alloc) {
+        Ok(text) => is_bare(text.as_str()),
+        Err(_) => {
+            lines.fail();
+            false
+        }
+    }
+}
+
+// Adds the members of a name: its text, and its attributes; of these those alone have a line that
+// the name's own line tells by arcs and octets.
+pub fn add_name_members(lines: &mut Lines, name: &Name) {
+    lines.key("text");
+    lines.name_value(name);
+    lines.list("attributes");
+    for attribute in name.iter() {
+        if is_told(lines, attribute) {
+            lines.entry("");
+            lines.members_of(&attribute.oid);
+            add_value(lines, &attribute.value);
+            lines.close();
+        }
+    }
+    lines.end_list();
+}
+
+// Adds the lines of a name.
+pub fn add_name(lines: &mut Lines, word: &str, key: &str, name: &Name) {
+    lines.node(word, key);
+    add_name_members(lines, name);
+    lines.close();
+}

@@ -1,0 +1,61 @@
+//! Descriptions of files.
+
+use crate::kind::Kind;
+use crate::refusal::explain_octets;
+use cert_desk_io::{ExitStatus, Output, answer, complain, tell_memory};
+use cert_tool_describe::{Lines, add_certificate, add_list, add_request};
+use der_core::ErrorKind;
+use std::alloc::{AllocError, Global};
+
+// Adds the lines of what these octets spell; answers why they spell no value of the kind, if they
+// don't.
+fn add_described(lines: &mut Lines, kind: Kind, octets: &[u8]) -> Option<ErrorKind> {
+    match kind {
+        Kind::Certificate => add_certificate(lines, octets),
+        Kind::List => add_list(lines, octets),
+        Kind::Request => add_request(lines, octets),
+    }
+}
+
+// The description of what these octets spell, if they spell a value of the kind.
+fn described(
+    alloc: Global,
+    kind: Kind,
+    octets: &[u8],
+    is_json: bool,
+) -> Result<Option<Vec<u8>>, AllocError> {
+    let mut lines = Lines::new(alloc, is_json);
+    match add_described(&mut lines, kind, octets) {
+        None => {
+            let text = lines.finish()?;
+            Ok(Some(text))
+        }
+        Some(ErrorKind::OutOfMemory) => Err(AllocError),
+        Some(_) => Ok(None),
+    }
+}
+
+// Tells why octets aren't of a kind.
+fn refuse<E: Output>(alloc: Global, kind: Kind, octets: &[u8], err: &mut E) -> ExitStatus {
+    match explain_octets(alloc, octets, kind, false) {
+        Ok(text) => complain(err, text.as_slice(), ExitStatus::Faulty),
+        Err(_) => tell_memory(err),
+    }
+}
+
+// Writes the description of what these octets spell to `out`, or to `err` why they aren't of the
+// kind, and answers the exit status.
+pub fn describe<O: Output, E: Output>(
+    alloc: Global,
+    kind: Kind,
+    octets: &[u8],
+    is_json: bool,
+    out: &mut O,
+    err: &mut E,
+) -> ExitStatus {
+    match described(alloc, kind, octets, is_json) {
+        Ok(Some(text)) => answer(out, err, text.as_slice(), ExitStatus::Done),
+        Ok(None) => refuse(alloc, kind, octets, err),
+        Err(_) => tell_memory(err),
+    }
+}

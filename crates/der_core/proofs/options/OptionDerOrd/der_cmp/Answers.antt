@@ -1,0 +1,9 @@
+use Rattle.std.proofs.Common.{ap}
+use Rattle.der_core_head.specs.Grammar.{plain_option}
+use Rattle.der_core.proofs.FirstTags.{some_order}
+use Rattle.der_core.proofs.options.OptionDerOrd.der_cmp.Goals as goal
+
+pub returns-in-Some-Some-clause-order : goal.returns-in-Some-Some-clause-order
+returns-in-Some-Some-clause-order g c =
+    some_order g.T.Shaped.shape _ _ (g.T.Shaped.written c.in-Some-Some.value) (g.T.Shaped.written c.in-Some-Some.other) c.der_cmp.result
+    (ap (plain_option g.T.Shaped.written) c.in-Some-Some.is-0) (ap (plain_option g.T.Shaped.written) c.in-Some-Some.is-1) c.der_cmp.ensures.order

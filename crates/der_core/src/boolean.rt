@@ -1,0 +1,22 @@
+//! Comparison of BOOLEAN values.
+
+ghost use Rattle.std.specs.Prelude.{true, Ok};
+
+use crate::by_ord::OrdIsValueOrd;
+use crate::order::ValueOrd;
+use der_core_head::Error;
+use std::cmp::Ordering;
+
+/// False, `00`, is below true, `FF` (X.690 11.1).
+impl ValueOrd for bool {
+    #[tactic(auto, using(crate::proofs::LeafOrders::bool_contents))]
+    fn value_cmp(&self, other: &Self) -> Result<Ordering, Error> {
+        Ok(self.cmp(other))
+    }
+}
+
+impl OrdIsValueOrd for bool {
+    ghost use Rattle.der_core.specs.OrdLaws.{bool_order};
+
+    ghost order = { bool_order };
+}

@@ -1,0 +1,26 @@
+//! Comparison of values behind a reference.
+
+use crate::order::{DerOrd, FirstTag, ValueOrd};
+use der_core_coding::{EncodeRef, EncodeValueRef};
+use der_core_head::{Error, Tag};
+use std::cmp::Ordering;
+
+/// The content of the value behind the reference.
+impl<'a, T: ValueOrd> ValueOrd for EncodeValueRef<'a, T> {
+    fn value_cmp(&self, other: &Self) -> Result<Ordering, Error> {
+        self.0.value_cmp(other.0)
+    }
+}
+
+/// The value behind the reference.
+impl<'a, T: DerOrd> DerOrd for EncodeRef<'a, T> {
+    fn der_cmp(&self, other: &Self) -> Result<Ordering, Error> {
+        self.0.der_cmp(other.0)
+    }
+}
+
+impl<'a, T: FirstTag> FirstTag for EncodeRef<'a, T> {
+    fn first_tag(&self) -> Option<Tag> {
+        self.0.first_tag()
+    }
+}

@@ -1,0 +1,31 @@
+//! Comparison of what may be left out.
+
+ghost use Rattle.std.specs.Prelude.{Ok};
+ghost use Rattle.der_core_head.specs.Shapes.{IsValid, octets_of};
+
+use crate::order::{DerOrd, FirstTag};
+use der_core_head::{Error, Tag};
+use std::cmp::Ordering;
+
+/// Nothing is below any encoding.
+impl<T: DerOrd> DerOrd for Option<T> {
+    #[tactic(auto, using(crate::proofs::FirstTags::option_orders))]
+    fn der_cmp(&self, other: &Self) -> Result<Ordering, Error> {
+        match (self, other) {
+            (Some(value), Some(other)) => value.der_cmp(other),
+            (Some(_), None) => Ok(Ordering::Greater),
+            (None, Some(_)) => Ok(Ordering::Less),
+            (None, None) => Ok(Ordering::Equal),
+        }
+    }
+}
+
+impl<T: FirstTag> FirstTag for Option<T> {
+    #[tactic(auto, unfolding(der_core_head::specs::Shapes::octets_of, der_core_head::specs::Shapes::IsValid))]
+    fn first_tag(&self) -> Option<Tag> {
+        match self {
+            Some(value) => value.first_tag(),
+            None => None,
+        }
+    }
+}

@@ -1,0 +1,22 @@
+//! Comparison of contents of no octets.
+
+ghost use Rattle.std.specs.Prelude.{Ok};
+
+use crate::by_ord::OrdIsValueOrd;
+use crate::order::ValueOrd;
+use der_core_head::Error;
+use std::cmp::Ordering;
+
+/// There is one content, of no octets.
+impl ValueOrd for () {
+    #[tactic(auto, using(crate::proofs::LeafOrders::null_contents))]
+    fn value_cmp(&self, _other: &Self) -> Result<Ordering, Error> {
+        Ok(Ordering::Equal)
+    }
+}
+
+impl OrdIsValueOrd for () {
+    ghost use Rattle.der_core.specs.OrdLaws.{null_order};
+
+    ghost order = { null_order };
+}

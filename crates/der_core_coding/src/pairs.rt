@@ -1,0 +1,65 @@
+//! Fields in a row: `(A, (B, (C, ())))`.
+
+ghost use Rattle.der_core_head.specs.Reading.{GivesNow};
+ghost use Rattle.der_core_head.specs.Writing.{Writes, size_body, write_body};
+ghost use Rattle.der_core_octets.specs.Outputs.{Continues};
+
+use der_core_head::{Error, Length};
+use der_core_octets::{Writer, sum_len};
+use der_core_values::{Encode, FieldRow};
+use std::marker::PhantomData;
+
+/// What is written as fields, one after the other.
+pub trait EncodeFields: FieldRow {
+    /// The number of octets of the fields.
+    ///
+    /// # Errors
+    /// `Overflow` from 2^32 on.
+    fn fields_len(&self) -> Result<Length, Error>
+        ensures { GivesNow (λ l. l.value) result
+            (size_body Self.fields (Self.fields_written self.now)) };
+
+    /// Writes the fields.
+    ///
+    /// # Errors
+    /// `Overflow` where a length passes 2^32 - 1, `SetOrdering` and `SetDuplicate` where a strict
+    /// set in a field doesn't rise (X.690 11.6), and those of the writer.
+    fn encode_fields<W: Writer>(&self, writer: &mut W) -> Result<(), Error>
+        ensures exact { Writes W.takes_memory (W.out writer.old) (W.out writer.new) result
+            (write_body Self.fields (Self.fields_written self.now)) }
+        ensures kept { Continues (W.out writer.old) (W.out writer.new) };
+}
+
+impl EncodeFields for () {
+    fn fields_len(&self) -> Result<Length, Error> {
+        Ok(Length { value: 0 })
+    }
+
+    fn encode_fields<W: Writer>(&self, _writer: &mut W) -> Result<(), Error> {
+        Ok(())
+    }
+}
+
+impl<A: Encode, B: EncodeFields> EncodeFields for (A, B) {
+    #[tactic(auto, unfolding(der_core_head::specs::Writing::both_len))]
+    fn fields_len(&self) -> Result<Length, Error> {
+        let first = self.0.encoded_len()?;
+        let others = self.1.fields_len()?;
+        sum_len(first, others)
+    }
+
+    fn encode_fields<W: Writer>(&self, writer: &mut W) -> Result<(), Error> {
+        self.0.encode(writer)?;
+        self.1.encode_fields(writer)
+    }
+}
+
+impl<T> EncodeFields for PhantomData<T> {
+    fn fields_len(&self) -> Result<Length, Error> {
+        Ok(Length { value: 0 })
+    }
+
+    fn encode_fields<W: Writer>(&self, _writer: &mut W) -> Result<(), Error> {
+        Ok(())
+    }
+}

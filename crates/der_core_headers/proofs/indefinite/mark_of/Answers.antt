@@ -1,6 +1,0 @@
-use Rattle.std.proofs.Common.{arith}
-use Rattle.der_core_headers.proofs.Levels.{mark-none}
-use Rattle.der_core_headers.proofs.indefinite.mark_of.Goals as goal
-
-pub returns-in_default : goal.returns-in_default
-returns-in_default c = rw c.from.ensures (mark-none c.args.octets.now (omega arith))

@@ -1,4 +1,0 @@
-use Rattle.der_core_headers.proofs.parse.length_of.Goals as goal
-
-pub returns-in-Some : goal.returns-in-Some
-returns-in-Some c = (c.in-Some.ensures.some c.args.tag, c.in-Some.ensures.within)

@@ -1,6 +1,0 @@
-use Rattle.std.proofs.Common.{sym}
-use Rattle.der_core_headers.proofs.LoneLaws.{other_fault}
-use Rattle.der_core_headers.proofs.parse.without_tag.Goals as goal
-
-pub returns-in_default : goal.returns-in_default
-returns-in_default c = sym (other_fault c.args.fault c.in_default.not-Length)

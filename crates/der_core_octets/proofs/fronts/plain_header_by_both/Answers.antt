@@ -1,0 +1,13 @@
+use Rattle.std.proofs.Common.{drop}
+use Rattle.der_core_head.specs.declared.encoding_rules.EncodingRules.TheVariants as encodings
+use Rattle.der_core_head.proofs.BodyLaws.{head_ber_more}
+use Rattle.der_core_octets.specs.Headers.{head_of}
+use Rattle.der_core_octets.proofs.fronts.plain_header_by_both.Goals as goal
+
+-- What DER reads, BER reads.
+pub returns-clause-front : goal.returns-clause-front
+returns-clause-front c encodings.Der = c.in_ok-front.ensures
+returns-clause-front c encodings.Ber =
+    let w = c.args.octets.now in
+    let h = head_of c.in_ok-front.front.0 in
+    (head_ber_more w h (drop c.in_ok-front.front.1 w) c.in_ok-front.ensures.0, c.in_ok-front.ensures.1)

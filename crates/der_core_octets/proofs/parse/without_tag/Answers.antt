@@ -1,0 +1,6 @@
+use Rattle.std.proofs.Common.{sym}
+use Rattle.der_core_octets.proofs.LoneLaws.{other_fault}
+use Rattle.der_core_octets.proofs.parse.without_tag.Goals as goal
+
+pub returns-in_default : goal.returns-in_default
+returns-in_default c = sym (other_fault c.args.fault c.in_default.not-Length)

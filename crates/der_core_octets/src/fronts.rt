@@ -1,0 +1,97 @@
+//! Tags and headers at the front of octets, by either encoding rules.
+
+ghost use Rattle.std.specs.Prelude.{◌≡◌, ◌≤◌, length, Ok, IfOk, IfSome};
+ghost use Rattle.der_core_head.specs.declared.encoding_rules.EncodingRules.{EncodingRules};
+ghost use Rattle.der_core_head.specs.Bodies.{head_by, tag_by};
+ghost use Rattle.der_core_head.specs.Fronts.{ReadsFront, alone};
+ghost use Rattle.der_core_octets.specs.Headers.{head_of, wanted_at};
+
+use crate::header::Header;
+use crate::indefinite::{header_ber_of, tag_ber_of};
+use crate::parse::{header_of, plain_header_of, short_header_of_tag};
+use der_core_head::{EncodingRules, Error, ErrorKind, Tag, is_same_tag, plain_tag_of, tag_of};
+
+/// The tag at the front of octets, and how many octets it takes.
+///
+/// # Errors
+/// Those of `tag_of`, and under BER those of `tag_ber_of`.
+pub fn tag_by(rules: EncodingRules, octets: &[u8]) -> Result<(Tag, usize), Error>
+    ensures front { ReadsFront (λ t. t) octets.now result (tag_by rules) }
+    ensures within { IfOk result (λ x. x.1 ≤ length octets.now) }
+{
+    match rules {
+        EncodingRules::Ber => tag_ber_of(octets),
+        EncodingRules::Der => tag_of(octets),
+    }
+}
+
+/// The tag at the front of octets, if it is spelled in one. It is the same by both rules.
+#[inline(always)]
+pub fn short_tag_by_both(octets: &[u8]) -> Option<Tag>
+    ensures { IfSome result
+        (λ t. (rules : EncodingRules) → alone (tag_by rules octets.now) ≡ Ok t) }
+{
+    let tag = plain_tag_of(octets)?;
+    Some(tag)
+}
+
+/// The header at the front of octets, and how many octets its tag and length take.
+///
+/// # Errors
+/// Those of `header_of`, and under BER those of `header_ber_of`.
+pub fn header_by(rules: EncodingRules, octets: &[u8]) -> Result<(Header, usize), Error>
+    ensures front { ReadsFront head_of octets.now result (head_by rules) }
+    ensures within { IfOk result (λ x. x.1 ≤ length octets.now) }
+{
+    match rules {
+        EncodingRules::Ber => header_ber_of(octets),
+        EncodingRules::Der => header_of(octets),
+    }
+}
+
+/// The header at the front of octets, and how many octets it takes, if its tag is spelled in one
+/// octet and its length in its shortest form. It is the same by both rules.
+#[inline(always)]
+pub fn plain_header_by_both(octets: &[u8]) -> Option<(Header, usize)>
+    ensures front { IfSome result
+        (λ x. (rules : EncodingRules) → ReadsFront head_of octets.now (Ok x) (head_by rules)) }
+    ensures within { IfSome result (λ x. x.1 ≤ length octets.now) }
+{
+    let front = plain_header_of(octets)?;
+    Some(front)
+}
+
+/// The header of a wanted tag at the front of octets, and how many octets it takes, if the tag is
+/// spelled in one octet. It is the same by both rules.
+#[inline(always)]
+pub fn plain_header_of_tag(tag: Tag, octets: &[u8]) -> Option<(Header, usize)>
+    ensures front { IfSome result
+        (λ x. (rules : EncodingRules)
+        → ReadsFront head_of octets.now (Ok x) (wanted_at tag (head_by rules))) }
+    ensures tag { IfSome result (λ x. x.0.tag ≡ tag) }
+    ensures within { IfSome result (λ x. x.1 ≤ length octets.now) }
+{
+    let front = short_header_of_tag(tag, octets)?;
+    Some(front)
+}
+
+/// The header of a wanted tag at the front of octets, and how many octets its tag and length take.
+///
+/// # Errors
+/// Those of `header_by`, and then `TagUnexpected` for another tag.
+#[tactic(auto, using(der_core_head::proofs::TagEquality::same), unfolding(crate::specs::Headers::wanted_at))]
+pub fn any_header_of_tag(
+    rules: EncodingRules,
+    tag: Tag,
+    octets: &[u8],
+) -> Result<(Header, usize), Error>
+    ensures front { ReadsFront head_of octets.now result (wanted_at tag (head_by rules)) }
+    ensures tag { IfOk result (λ x. x.0.tag ≡ tag) }
+    ensures within { IfOk result (λ x. x.1 ≤ length octets.now) }
+{
+    let (header, count) = header_by(rules, octets)?;
+    if !is_same_tag(header.tag, tag) {
+        return Err(Error::from(ErrorKind::TagUnexpected));
+    }
+    Ok((header, count))
+}

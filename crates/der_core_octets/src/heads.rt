@@ -1,0 +1,71 @@
+//! Lengths and headers at the front of octets, as the grammar spells them.
+
+ghost use Rattle.std.specs.Prelude.{◌≡◌, ◌++◌, ℕ, List, drop, Ok, IfOk};
+ghost use Rattle.der_core_head.specs.Limits.{IsLength};
+ghost use Rattle.der_core_head.specs.declared.tag.Tag.{Tag};
+ghost use Rattle.der_core_head.specs.Tags.{IsTag};
+ghost use Rattle.der_core_head.specs.Heads.{length_octets, head_octets, length_at, head_at};
+ghost use Rattle.der_core_head.specs.Fronts.{ReadsFront};
+ghost use Rattle.der_core_octets.specs.Headers.{head_of};
+ghost use Rattle.der_core_octets.specs.LoneLengths.{lone_length_at};
+
+use crate::header::Header;
+use crate::parse;
+use der_core_head::{Error, Length, Tag};
+
+/// The length at the front of octets behind a tag, and how many octets it takes (X.690 8.1.3,
+/// 10.1).
+///
+/// # Errors
+/// `Incomplete` where they run out, `IndefiniteLength` for the octet 80, `Overlength` for more than
+/// four octets of length, `Length` where fewer would do.
+pub fn length_of(tag: Tag, octets: &[u8]) -> Result<(Length, usize), Error>
+    // What is read is spelled so.
+    ensures spelled { IfOk result
+        (λ x. octets.now ≡ length_octets x.0.value ++ drop x.1 octets.now) }
+    // What is spelled so is read, whatever follows.
+    ensures only { (n : ℕ) (r : List ℕ) → IsLength n → octets.now ≡ length_octets n ++ r
+        → ReadsFront (λ l. l.value) octets.now result (λ _. Ok (n, r)) }
+    // Which fault it is.
+    ensures exact { ReadsFront (λ l. l.value) octets.now result (length_at tag) }
+{
+    parse::length_of(tag, octets)
+}
+
+/// The length at the front of octets, behind no tag, and how many octets it takes (X.690 8.1.3,
+/// 10.1).
+///
+/// # Errors
+/// `Incomplete` where they run out, `IndefiniteLength` for the octet 80, `Overlength` for more than
+/// four octets of length, and where fewer would do.
+pub fn lone_length_of(octets: &[u8]) -> Result<(Length, usize), Error>
+    // What is read is spelled so.
+    ensures spelled { IfOk result
+        (λ x. octets.now ≡ length_octets x.0.value ++ drop x.1 octets.now) }
+    // What is spelled so is read, whatever follows.
+    ensures only { (n : ℕ) (r : List ℕ) → IsLength n → octets.now ≡ length_octets n ++ r
+        → ReadsFront (λ l. l.value) octets.now result (λ _. Ok (n, r)) }
+    // Which fault it is.
+    ensures exact { ReadsFront (λ l. l.value) octets.now result lone_length_at }
+{
+    parse::lone_length_of(octets)
+}
+
+/// The header at the front of octets, and how many octets it takes (X.690 8.1.2, 8.1.3, 10.1).
+///
+/// # Errors
+/// Those of its tag, and then of its length.
+pub fn header_of(octets: &[u8]) -> Result<(Header, usize), Error>
+    // What is read is spelled so.
+    ensures spelled { IfOk result
+        (λ x. IsTag x.0.tag
+        × (octets.now ≡ head_octets x.0.tag x.0.length.value ++ drop x.1 octets.now)) }
+    // What is spelled so is read, whatever follows.
+    ensures only { (t : Tag) (n : ℕ) (r : List ℕ) → IsTag t → IsLength n
+        → octets.now ≡ head_octets t n ++ r
+        → ReadsFront head_of octets.now result (λ _. Ok (record { tag = t; len = n }, r)) }
+    // Which fault it is.
+    ensures exact { ReadsFront head_of octets.now result head_at }
+{
+    parse::header_of(octets)
+}

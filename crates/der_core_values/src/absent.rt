@@ -1,0 +1,79 @@
+//! A field of no octets, as `PhantomData`.
+
+ghost use Rattle.std.specs.Prelude.{refl};
+ghost use Rattle.der_core_head.specs.Shapes.{nothing, done};
+
+use crate::decode::{Choice, Decode, Shaped};
+use crate::elements::{AsRead, Member};
+use crate::encode::Encode;
+use crate::fields::{DecodeRow, FieldRow};
+use crate::in_range::InRange;
+use der_core_head::{Error, ErrorKind, Length, Tag};
+use der_core_octets::{Reader, Writer};
+use std::alloc::Global;
+use std::marker::PhantomData;
+
+/// No octets, whatever `T` is.
+impl<T> Shaped for PhantomData<T> {
+    ghost shape = { nothing };
+
+    ghost plain = { λ _. tt };
+
+    ghost written = { λ _. tt };
+}
+
+impl<T> Choice for PhantomData<T> {
+    fn can_decode(_tag: Tag) -> bool {
+        false
+    }
+}
+
+impl<T> Member for PhantomData<T> {
+    ghost apart = { refl };
+}
+
+impl<T> AsRead for PhantomData<T> {
+    ghost as_read = { λ _. refl };
+}
+
+/// Nothing is passed over.
+impl<'a, R: Reader<'a>, T> Decode<'a, R> for PhantomData<T> {
+    fn decode(_alloc: Global, reader: &mut R) -> Result<PhantomData<T>, Error> {
+        if reader.is_failed() {
+            return Err(Error::from(ErrorKind::Failed));
+        }
+        Ok(PhantomData)
+    }
+}
+
+impl<T> Encode for PhantomData<T> {
+    fn encoded_len(&self) -> Result<Length, Error> {
+        Ok(Length { value: 0 })
+    }
+
+    fn encode<W: Writer>(&self, _writer: &mut W) -> Result<(), Error> {
+        Ok(())
+    }
+}
+
+/// No fields.
+impl<T> FieldRow for PhantomData<T> {
+    ghost fields = { done };
+
+    ghost fields_plain = { λ _. tt };
+
+    ghost fields_written = { λ _. tt };
+}
+
+impl<'a, R: Reader<'a>, T> DecodeRow<'a, R> for PhantomData<T> {
+    fn decode_row(_alloc: Global, reader: &mut R) -> Result<PhantomData<T>, Error> {
+        if reader.is_failed() {
+            return Err(Error::from(ErrorKind::Failed));
+        }
+        Ok(PhantomData)
+    }
+}
+
+impl<T> InRange for PhantomData<T> {
+    fn in_range(&self) {}
+}

@@ -1,0 +1,120 @@
+//! SEQUENCE OF, as a list (X.690 8.10).
+
+ghost use Rattle.der_core_head.specs.declared.tag.Tag.TheVariants.{Sequence};
+ghost use Rattle.der_core_head.specs.Shapes.{nested, many};
+ghost use Rattle.der_core_head.specs.Grammar.{plain_list};
+ghost use Rattle.std.specs.List.{AllByRecursion};
+ghost use Rattle.der_core_head.specs.Ranges.{IsInRange};
+
+use crate::decode::{Decode, DecodeValue, FixedTag, Shaped, ShapedValue};
+use crate::elements::{ApartValue, AsRead, AsReadValue, Element, Member};
+use crate::encode::{Encode, EncodeValue};
+use crate::fields::{DecodeFields, Fields, read_fields};
+use crate::in_range::{InRange, InRangeValue};
+use der_core_head::{Error, ErrorKind, Length, Tag};
+use der_core_octets::{Header, Reader, Writer, sum_len};
+use std::alloc::Global;
+
+/// SEQUENCE OF (X.690 8.10).
+impl<T> FixedTag for Vec<T> {
+    ghost fixed_tag = { Sequence };
+
+    fn tag() -> Tag {
+        Tag::Sequence
+    }
+}
+
+impl<T: Shaped> Fields for Vec<T> {
+    ghost fields = { many T.shape };
+
+    ghost fields_plain = { λ v. plain_list T.plain v.items };
+
+    ghost fields_written = { λ v. plain_list T.written v.items };
+}
+
+impl<T: Shaped> ShapedValue for Vec<T> {
+    ghost content = { nested (many T.shape) };
+
+    ghost value_plain = { λ v. plain_list T.plain v.items };
+
+    ghost value_written = { λ v. plain_list T.written v.items };
+}
+
+impl<'a, R: Reader<'a>, T: Decode<'a, R>> DecodeFields<'a, R> for Vec<T> {
+    fn decode_fields(alloc: Global, reader: &mut R) -> Result<Vec<T>, Error> {
+        if reader.is_failed() {
+            return Err(Error::from(ErrorKind::Failed));
+        }
+        let mut values = Vec::new(alloc);
+        let len = reader.remaining_len().value;
+        for _ in 0..len {
+            if reader.is_finished() {
+                break;
+            }
+            let value = T::decode(alloc, reader)?;
+            match values.push(value) {
+                Ok(()) => {}
+                Err(error) => {
+                    reader.fail();
+                    return Err(Error::from(error));
+                }
+            }
+        }
+        if reader.is_finished() {
+            Ok(values)
+        } else {
+            reader.fail();
+            Err(Error::from(ErrorKind::TrailingData))
+        }
+    }
+}
+
+impl<'a, R: Reader<'a>, T: Decode<'a, R>> DecodeValue<'a, R> for Vec<T> {
+    fn decode_value(alloc: Global, reader: &mut R, header: Header) -> Result<Vec<T>, Error> {
+        read_fields(alloc, reader, header)
+    }
+}
+
+impl<T: Encode> EncodeValue for Vec<T> {
+    fn value_len(&self) -> Result<Length, Error> {
+        let mut len = Length { value: 0 };
+        for value in self {
+            len = sum_len(len, value.encoded_len()?)?;
+        }
+        Ok(len)
+    }
+
+    fn encode_value<W: Writer>(&self, writer: &mut W) -> Result<(), Error> {
+        for value in self {
+            value.encode(writer)?;
+        }
+        Ok(())
+    }
+}
+
+impl<T: Element + Member> ApartValue for Vec<T> {
+    ghost use Rattle.der_core_values.specs.Both.{both_true};
+
+    ghost apart_value = { both_true T.element T.apart };
+}
+
+impl<T: AsRead> AsReadValue for Vec<T> {
+    ghost use Rattle.der_core_values.specs.Same.{same_list};
+
+    ghost as_read_value = { λ v. same_list T.as_read v.items };
+}
+
+/// The values of a list are in range.
+pub fn list_in_range<T: InRange>(values: &[T])
+    ensures { AllByRecursion (IsInRange T.shape) (plain_list T.written values.now) }
+{
+    for value in values {
+        value.in_range();
+    }
+}
+
+impl<T: InRange> InRangeValue for Vec<T> {
+    fn value_in_range(&self) {
+        list_in_range(self.as_slice());
+    }
+}

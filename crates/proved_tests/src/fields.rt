@@ -1,0 +1,111 @@
+//! Fields behind tags of other classes, and any values: tags, lengths, loans and closures.
+
+ghost use Rattle.der_types_tagged.specs.Fields.{IsClass};
+
+use der_core::{Error, ErrorKind, FirstTag, Reader, Tag, TagMode, TagNumber, Tagged};
+use der_types_any::{Any, AnyRef};
+use der_types_tagged::{
+    Application, ApplicationRef, ClassField, ContextSpecific, Private, PrivateRef,
+};
+use std::alloc::Global;
+use std::test::Fail;
+
+/// A field of a class.
+fn field<const CLASS: u8>(tag_mode: TagMode, value: u32, content: u8) -> ClassField<u8, CLASS>
+    requires { IsClass CLASS }
+{
+    ClassField {
+        tag_number: TagNumber { value },
+        tag_mode,
+        value: content,
+    }
+}
+
+/// The tags of both modes, and the tags of which each class is.
+#[test]
+fn tags_of_fields(rt: HostRuntime) {
+    let number = TagNumber { value: 31 };
+    let context: ContextSpecific<u8> = field(TagMode::Explicit, 31, 5);
+    let application: Application<u8> = field(TagMode::Implicit, 31, 5);
+    let private: Private<u8> = field(TagMode::Explicit, 31, 5);
+    assert!(rt; context.tag() == number.context_specific(true));
+    assert!(rt; application.tag() == number.application(false));
+    assert!(rt; private.tag() == number.private(true));
+    assert!(rt; ContextSpecific::<u8>::can_decode(context.tag()));
+    assert!(rt; !ContextSpecific::<u8>::can_decode(Tag::Integer));
+    assert!(rt; Application::<u8>::can_decode(application.tag()));
+    assert!(rt; !Application::<u8>::can_decode(private.tag()));
+    assert!(rt; Private::<u8>::can_decode(private.tag()));
+    assert!(rt; !Private::<u8>::can_decode(context.tag()));
+}
+
+/// The tags of fields that are lent, and copies.
+#[test]
+fn tags_of_lent_fields(rt: HostRuntime) -> Result<(), Fail> {
+    let owned: Private<u8> = field(TagMode::Implicit, 3, 2);
+    let place: PrivateRef<u8> = owned.owned_to_ref();
+    assert!(rt; place.tag() == TagNumber { value: 3 }.private(false));
+    assert!(rt; place.ref_to_owned()? == owned && owned.clone()? == owned);
+    let application: Application<u8> = field(TagMode::Explicit, 0, 2);
+    let application: ApplicationRef<u8> = application.owned_to_ref();
+    assert!(rt; application.tag() == TagNumber { value: 0 }.application(true));
+    Ok(())
+}
+
+/// Whether both forms of any value tell the same.
+fn are_alike(alloc: Global, number: &Any, lent: AnyRef<'_>) -> Result<bool, Error> {
+    let same = number.to_ref() == lent && AnyRef::from(number) == lent;
+    let copies = lent.ref_to_owned(alloc)? == *number && number.clone(alloc)? == *number;
+    let parts = number.tag() == Tag::Integer && number.value() == lent.value();
+    let tags = number.first_tag() == Some(Tag::Integer) && number.header().length.value == 2;
+    Ok(same && copies && parts && tags)
+}
+
+#[test]
+fn any_values(rt: HostRuntime) -> Result<(), Fail> {
+    let alloc = rt.alloc();
+    let number = Any::new(Tag::Integer, [0, 200].to_vec(alloc)?)?;
+    let lent = AnyRef::new(Tag::Integer, &[0, 200])?;
+    assert!(rt; are_alike(alloc, &number, lent)?);
+    assert!(rt; Any::null(alloc).is_null() && AnyRef::NULL.is_null() && !lent.is_null());
+    assert!(rt; Any::null(alloc).owned_to_ref() == AnyRef::NULL);
+    Ok(())
+}
+
+/// Two octets of a content.
+fn two_octets(any: &Any) -> Result<(u8, u8), Error> {
+    any.sequence(|reader| {
+        let first = reader.read_byte()?;
+        let second = reader.read_byte()?;
+        Ok((first, second))
+    })
+}
+
+/// Two octets of a content, lent.
+fn two_lent_octets(any: AnyRef) -> Result<(u8, u8), Error> {
+    any.sequence(|reader| {
+        let first = reader.read_byte()?;
+        let second = reader.read_byte()?;
+        Ok((first, second))
+    })
+}
+
+/// Whether the two octets of a content are refused so.
+fn is_refused(any: AnyRef, kind: ErrorKind) -> bool {
+    match two_lent_octets(any) {
+        Ok(_) => false,
+        Err(error) => error.kind == kind,
+    }
+}
+
+#[test]
+fn closures(rt: HostRuntime) -> Result<(), Fail> {
+    let fields = Any::new(Tag::Sequence, [7, 8].to_vec(rt.alloc())?)?;
+    assert!(rt; two_octets(&fields)? == (7, 8));
+    assert!(rt; two_lent_octets(fields.to_ref())? == (7, 8));
+    let longer = AnyRef::new(Tag::Sequence, &[7, 8, 9])?;
+    assert!(rt; is_refused(longer, ErrorKind::TrailingData));
+    let set = AnyRef::new(Tag::Set, &[7, 8])?;
+    assert!(rt; is_refused(set, ErrorKind::TagUnexpected));
+    Ok(())
+}
