@@ -18,6 +18,7 @@ GROUPS = [
     ("der_types", "#d6f0e0", "typed values"),
     ("x509_cert", "#f6dce6", "certificates"),
     ("cert_desk", "#e6dff5", "chains"),
+    ("cert_tool", "#e3ecd9", "the tool"),
     ("", "#eeeeee", "programs of users"),
 ]
 WIDTH, BOX, HEIGHT, GAP, STEP = 1180, 182, 26, 12, 50
@@ -116,9 +117,9 @@ def variants(path, name):
 
 def verdict():
     """An octet's way from a device to a verdict: the calls, and what each may answer."""
-    faults = variants("cert_desk_checking/src/fault_kind.rt", "FaultKind")
-    rules = variants("cert_desk_checking/src/rule.rt", "Rule")
-    verdicts = variants("cert_desk_checking/src/checked.rt", "Verdict")
+    faults = variants("cert_desk_bundle/src/fault_kind.rt", "FaultKind")
+    rules = variants("cert_desk_rules/src/rule.rt", "Rule")
+    verdicts = variants("cert_desk_rules/src/checked.rt", "Verdict")
     statuses = variants("cert_desk_io/src/exit_status.rt", "ExitStatus")
     blue, red, grey, green = "#d9e8fb", "#f6dce6", "#eeeeee", "#d6f0e0"
     parts, y = [], 20

@@ -2,7 +2,7 @@
 
 use crate::builders::Manner;
 use crate::refusals::Refusal;
-use crate::{certificates, keys, lists, names, requests};
+use crate::{certificates, keys, names, requests, revocation_lists};
 use std::alloc::Global;
 use std::io;
 use std::io::Write;
@@ -26,7 +26,7 @@ fn answer_of(alloc: Global, line: &str) -> Result<String, Refusal> {
         "repeats" => return names::answer(alloc, true, rest),
         "authority" => return names::answer_of_authority(alloc, rest),
         "key" => return keys::answer(alloc, rest),
-        "list" => lists::answer(alloc, rest)?,
+        "list" => revocation_lists::answer(alloc, rest)?,
         "request" => requests::answer(alloc, rest)?,
         _ => certificates::answer(alloc, Manner::parse(word)?, rest)?,
     };

@@ -54,10 +54,10 @@ mod builders;
 mod certificates;
 mod digest_signer;
 mod keys;
-mod lists;
 mod names;
 mod refusals;
 mod requests;
+mod revocation_lists;
 mod words;
 
 use answers::answer;

@@ -6,14 +6,14 @@ use Rattle.cert_desk_bundle.specs.declared.bundle_error.BundleError.TheVariants 
 use Rattle.cert_desk_bundle.specs.declared.bundle_error.ReadError.TheVariants as reads
 use Rattle.cert_desk_bundle.specs.declared.standing.Standing.{Standing}
 use Rattle.cert_desk_bundle.specs.declared.standing.Standing.TheVariants as standings
-use Rattle.cert_desk_bundle.specs.Streams.{Kept, Reads, Begins}
-use Rattle.cert_desk_bundle.specs.Steps.{ReadsOn, ReadsStill, HasFailed, stopped, Takes, DeviceFails, StopsAtOnce, most_read, RefusesPiece, RefusesEnd, RefusesInput}
+use Rattle.cert_desk_bundle.specs.Streams.{Kept, Reads, AreFrontOf}
+use Rattle.cert_desk_bundle.specs.Steps.{ReadsExtended, ReadsUnchanged, HasFailed, stopped, Takes, DeviceFails, StopsAtOnce, most_read, RefusesPiece, RefusesEnd, RefusesInput}
 
 module _ {State : Type 0} (takes : State → List ℕ → State → Type 0)
     (in_turn : (a b c : State) (first second : List ℕ) → takes a first b → takes b second c → takes a (first ++ second) c)
     (from mid to : State) (bound : ℕ) (old now new : Kept) (before : Takes takes from mid bound old now) where
   -- a piece is read behind what was taken before
-  pub Takes-more : (piece : List ℕ) → takes mid piece to → ReadsOn bound now new piece → Takes takes from to bound old new
+  pub Takes-more : (piece : List ℕ) → takes mid piece to → ReadsExtended bound now new piece → Takes takes from to bound old new
   Takes-more piece taken on = (
     before.0 ++ piece,
     in_turn from mid to before.0 piece before.1 taken,
@@ -21,7 +21,7 @@ module _ {State : Type 0} (takes : State → List ℕ → State → Type 0)
   )
 
   -- nothing more is taken
-  pub Takes-still : takes mid [] to → ReadsStill bound now new → Takes takes from to bound old new
+  pub Takes-still : takes mid [] to → ReadsUnchanged bound now new → Takes takes from to bound old new
   Takes-still taken still = (
     before.0,
     subst (λ (x : List ℕ). takes from x to) (append-nil before.0) (in_turn from mid to before.0 [] before.1 taken),
@@ -73,7 +73,7 @@ module _ {State : Type 0} (takes : State → List ℕ → State → Type 0)
       standing = r.standing;
       octets = before.0 ++ piece;
       taken = in_turn from mid to before.0 piece before.1 taken;
-      begins = λ stream reads. subst (λ (x : List ℕ). Begins bound new.limit new.certificates x) (append_assoc stream before.0 piece) (r.begins (stream ++ before.0) (before.2 stream reads));
+      begins = λ stream reads. subst (λ (x : List ℕ). AreFrontOf bound new.limit new.certificates x) (append_assoc stream before.0 piece) (r.begins (stream ++ before.0) (before.2 stream reads));
       stops = stops piece taken short;
       sound = sound;
     }

@@ -10,7 +10,7 @@ use Rattle.cert_desk_bundle.specs.declared.standing.Standing.TheVariants as stan
 use Rattle.cert_desk_bundle.specs.Chains.{Stands, Chain, joined}
 use Rattle.cert_desk_bundle.specs.Faults.{Split}
 use Rattle.cert_desk_bundle.specs.Headers.{IsUnfinished}
-use Rattle.cert_desk_bundle.specs.Streams.{Kept, Reads, ReadsAs}
+use Rattle.cert_desk_bundle.specs.Streams.{Kept, Reads, ReadsUnder}
 use Rattle.cert_desk_bundle.specs.Steps.{kept_octets, Grows, Advances, TakesFront, StopsBy, Stops, stopped, error_of, RefusesPiece}
 use Rattle.cert_desk_bundle.proofs.Scans.{unfinished_none}
 use Rattle.cert_desk_bundle.proofs.SeriesLaws.{encodings-more, Series-more}
@@ -35,7 +35,7 @@ Reads-nil bound limit = reads_nothing (raw_certificate_fields bound) limit
 module _ (bound : ℕ) (old : Kept) (stream : List ℕ) where
   pub open_split : old.standing ≡ standings.Open → Reads bound old stream → Split bound old.limit stream old.certificates old.rest
   open_split e reads =
-      let r : ReadsAs bound standings.Open old stream = subst (λ (s : Standing). ReadsAs bound s old stream) e reads in
+      let r : ReadsUnder bound standings.Open old stream = subst (λ (s : Standing). ReadsUnder bound s old stream) e reads in
       r.0
 
   -- with more octets

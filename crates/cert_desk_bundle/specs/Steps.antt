@@ -12,15 +12,15 @@ use Rattle.cert_desk_bundle.specs.declared.standing.Standing.{Standing}
 use Rattle.cert_desk_bundle.specs.declared.standing.Standing.TheVariants as standings
 use Rattle.cert_desk_bundle.specs.Chains.{joined}
 use Rattle.cert_desk_bundle.specs.Faults.{IsFault}
-use Rattle.cert_desk_bundle.specs.Streams.{Kept, Reads, Begins}
+use Rattle.cert_desk_bundle.specs.Streams.{Kept, Reads, AreFrontOf}
 
 -- the octets that a bundle keeps
 abbrev pub kept_octets : ℕ → Kept → List ℕ
 kept_octets bound b = joined bound b.certificates ++ b.rest
 
 -- for every stream that the old bundle reads the new one reads it and these octets
-abbrev pub ReadsOn : ℕ → Kept → Kept → List ℕ → Type 0
-ReadsOn bound old new octets = (stream : List ℕ) → Reads bound old stream
+abbrev pub ReadsExtended : ℕ → Kept → Kept → List ℕ → Type 0
+ReadsExtended bound old new octets = (stream : List ℕ) → Reads bound old stream
     → Reads bound new (stream ++ octets)
 
 -- the certificates stay, and others may follow
@@ -34,7 +34,7 @@ pub record Advances (bound : ℕ) (old new : Kept) (octets : List ℕ) : Type 0 
   pub grows : Grows old new
   pub kept : kept_octets bound new ≡ kept_octets bound old ++ octets
   pub fits : length (kept_octets bound new) < 2 ^ 64 + 5
-  pub reads : ReadsOn bound old new octets
+  pub reads : ReadsExtended bound old new octets
 
 -- so many octets of a piece are taken
 pub record TakesFront (bound : ℕ) (old new : Kept) (piece : List ℕ) (count : ℕ) : Type 0 where
@@ -81,14 +81,14 @@ pub record FeedsFault (bound : ℕ) (old new : Kept) (piece : List ℕ) (place o
   pub was_open : old.standing ≡ standings.Open
   pub found : IsFoundAt bound new place offset kind
   pub streams : kind ≢ kinds.Truncated
-  pub reads : ReadsOn bound old new piece
+  pub reads : ReadsExtended bound old new piece
 
 -- There was no memory for a piece.
 pub record FeedsNone (bound : ℕ) (old new : Kept) (piece : List ℕ) : Type 0 where
   pub was_open : old.standing ≡ standings.Open
   pub standing : new.standing ≡ standings.NoMemory
   pub begins : (stream : List ℕ) → Reads bound old stream
-      → Begins bound new.limit new.certificates (stream ++ piece)
+      → AreFrontOf bound new.limit new.certificates (stream ++ piece)
 
 -- a bundle wasn't open, and nothing changed
 pub record IsShut (old new : Kept) : Type 0 where
@@ -103,8 +103,8 @@ RefusesPiece bound old new piece errors.OutOfMemory = FeedsNone bound old new pi
 RefusesPiece bound old new piece errors.Failed = IsShut old new
 
 -- every stream that the old bundle reads the new one reads
-abbrev pub ReadsStill : ℕ → Kept → Kept → Type 0
-ReadsStill bound old new = (stream : List ℕ) → Reads bound old stream → Reads bound new stream
+abbrev pub ReadsUnchanged : ℕ → Kept → Kept → Type 0
+ReadsUnchanged bound old new = (stream : List ℕ) → Reads bound old stream → Reads bound new stream
 
 -- The stream ends inside a certificate.
 pub record EndsInside (bound : ℕ) (old new : Kept) (place offset : ℕ) (kind : FaultKind) : Type 0
@@ -112,7 +112,7 @@ pub record EndsInside (bound : ℕ) (old new : Kept) (place offset : ℕ) (kind 
     pub was_open : old.standing ≡ standings.Open
     pub found : IsFoundAt bound new place offset kind
     pub ends : kind ≡ kinds.Truncated
-    pub reads : ReadsStill bound old new
+    pub reads : ReadsUnchanged bound old new
 
 abbrev pub HasFailed : Standing → Type 0
 HasFailed standings.Open = ⊥
@@ -137,7 +137,7 @@ RefusesEnd bound old new errors.Failed = HadFailed old new
 abbrev pub Takes : {State : Type 0} → (State → List ℕ → State → Type 0) → State → State → ℕ → Kept
     → Kept → Type 0
 Takes takes from to bound old new = (octets : List ℕ) × takes from octets to
-    × ReadsOn bound old new octets
+    × ReadsExtended bound old new octets
 
 -- the most octets that one read takes
 abbrev pub most_read : ℕ
@@ -166,7 +166,7 @@ pub record DeviceFails {State : Type 0} (takes : State → List ℕ → State �
   pub octets : List ℕ
   pub failed : Fails (source takes is_ended failures from to) octets
   pub rest : List ℕ
-  pub reads : ReadsOn bound old (record new { rest = rest; standing = standings.Open }) octets
+  pub reads : ReadsExtended bound old (record new { rest = rest; standing = standings.Open }) octets
 
 -- The stream has a fault, or ends inside a certificate. No read failed.
 pub record InputFaulty {State : Type 0} (takes : State → List ℕ → State → Type 0)
@@ -187,7 +187,7 @@ pub record InputFitsNot {State : Type 0} (takes : State → List ℕ → State �
   pub octets : List ℕ
   pub taken : takes from octets to
   pub begins : (stream : List ℕ) → Reads bound old stream
-      → Begins bound new.limit new.certificates (stream ++ octets)
+      → AreFrontOf bound new.limit new.certificates (stream ++ octets)
   pub stops : StopsAtOnce takes from to bound old
   pub sound : failures to ≡ failures from
 

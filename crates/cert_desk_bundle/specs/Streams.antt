@@ -26,13 +26,13 @@ pub record Kept : Type 0 where
   pub standing : Standing
 
 -- What a bundle keeps is what this stream gives.
-abbrev pub ReadsAs : ℕ → Standing → Kept → List ℕ → Type 0
-ReadsAs bound standing b stream =
+abbrev pub ReadsUnder : ℕ → Standing → Kept → List ℕ → Type 0
+ReadsUnder bound standing b stream =
     ReadsSeries (raw_certificate bound) b.limit standing b.certificates b.rest stream
 
 abbrev pub Reads : ℕ → Kept → List ℕ → Type 0
-Reads bound b stream = ReadsAs bound b.standing b stream
+Reads bound b stream = ReadsUnder bound b.standing b stream
 
 -- the certificates are a front of those with which this stream begins
-abbrev pub Begins : ℕ → ℕ → List PlainCertificate → List ℕ → Type 0
-Begins bound limit cs stream = BeginsSeries (raw_certificate bound) limit cs stream
+abbrev pub AreFrontOf : ℕ → ℕ → List PlainCertificate → List ℕ → Type 0
+AreFrontOf bound limit cs stream = BeginsSeries (raw_certificate bound) limit cs stream

@@ -5,7 +5,7 @@ ghost use Rattle.const_oid.specs.Bound.{Bound};
 ghost use Rattle.cert_desk_bundle.specs.Chains.{joined};
 ghost use Rattle.cert_desk_bundle.specs.Streams.{Reads};
 ghost use Rattle.cert_desk_bundle.specs.Entries.{IsEntry};
-ghost use Rattle.cert_desk_bundle.specs.Steps.{kept_octets, ReadsOn, ReadsStill, Grows, Takes};
+ghost use Rattle.cert_desk_bundle.specs.Steps.{kept_octets, ReadsExtended, ReadsUnchanged, Grows, Takes};
 ghost use Rattle.cert_desk_bundle.specs.Steps.{Advances, TakesFront, Stops, stopped, error_of};
 ghost use Rattle.cert_desk_bundle.specs.Steps.{RefusesPiece, RefusesEnd, HasFailed, RefusesInput};
 
@@ -134,7 +134,7 @@ impl Bundle {
         // A piece that is taken.
         ensures was_open { OnOk result (self.old.standing ≡ Standing.Open) }
         ensures is_open { OnOk result (self.new.standing ≡ Standing.Open) }
-        ensures reads { OnOk result (ReadsOn Bound self.old self.new piece.now) }
+        ensures reads { OnOk result (ReadsExtended Bound self.old self.new piece.now) }
         ensures kept { OnOk result (kept_octets Bound self.new ≡ kept_octets Bound self.old
             ++ piece.now) }
         ensures fits { OnOk result (length (kept_octets Bound self.new) < 2 ^ 64 + 5) }
@@ -165,7 +165,7 @@ impl Bundle {
         // A stream that is whole.
         ensures sound { OnOk result (¬ HasFailed self.old.standing) }
         ensures ended { OnOk result (self.new.standing ≡ Standing.Ended) }
-        ensures reads { OnOk result (ReadsStill Bound self.old self.new) }
+        ensures reads { OnOk result (ReadsUnchanged Bound self.old self.new) }
         ensures again { self.old.standing ≡ Standing.Ended → self.new ≡ self.old }
         // A stream that isn't.
         ensures refused { IfErr result (RefusesEnd Bound self.old self.new) }

@@ -11,7 +11,7 @@ use Rattle.cert_desk_bundle.specs.Chains.{Chain, joined}
 use Rattle.cert_desk_bundle.specs.Faults.{StreamFault}
 use Rattle.cert_desk_rules.specs.Judging.{Terms, keeps_at}
 use Rattle.cert_desk_rules.specs.Verdicts.{IsVerdict, Trusted, Asks, IsCounted, asked}
-use Rattle.cert_desk_bundle.specs.Streams.{Kept, Reads, ReadsAs}
+use Rattle.cert_desk_bundle.specs.Streams.{Kept, Reads, ReadsUnder}
 use Rattle.cert_desk_checking.specs.Places.{Rises}
 use Rattle.cert_desk_bundle.proofs.OneChain.{one_chain, fault_no_chain}
 use Rattle.cert_desk_checking.proofs.Encodings.{certificate_octets-first}
@@ -52,10 +52,10 @@ Asks-fault t limit cs stream kind h = record {
 
 -- what an ended bundle and a faulted one have read
 pub reads_chain : (bound : ℕ) (b : Kept) (stream : List ℕ) → standings.Ended ≡ b.standing → Reads bound b stream → Chain bound b.limit b.certificates stream
-reads_chain bound b stream e h = subst (λ s. ReadsAs bound s b stream) (sym e) h
+reads_chain bound b stream e h = subst (λ s. ReadsUnder bound s b stream) (sym e) h
 
 pub reads_fault : (bound : ℕ) (b : Kept) (stream : List ℕ) (kind : FaultKind) → standings.Faulted kind ≡ b.standing → Reads bound b stream → StreamFault bound b.limit stream b.certificates kind
-reads_fault bound b stream kind e h = subst (λ s. ReadsAs bound s b stream) (sym e) h
+reads_fault bound b stream kind e h = subst (λ s. ReadsUnder bound s b stream) (sym e) h
 
 capped_from_none : (cap n : ℕ) → max 0 (min (0 + n) cap) ≡ min n cap
 capped_from_none cap n = omega arith

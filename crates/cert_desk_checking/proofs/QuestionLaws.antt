@@ -14,12 +14,12 @@ use Rattle.cert_desk_bundle.specs.Entries.{IsEntry}
 use Rattle.cert_desk_rules.specs.Judging.{PlainAnchor, is_named}
 use Rattle.cert_desk_rules.specs.Questions.{Question, question}
 use Rattle.cert_desk_checking.proofs.Encodings.{signed_part-is}
-use Rattle.cert_desk_checking.specs.QuestionLines.{QuestionLine, anchor_lines, anchor_word, line_octets, lines_at, lines_octets, lines_of, spaced, written}
+use Rattle.cert_desk_checking.specs.QuestionLines.{QuestionLine, anchor_lines, anchor_word, line_octets, lines_at, lines_octets, lines_of, spaced, hex_encoding}
 use Rattle.cert_desk_checking.specs.Questioning.{anchor_line, entry_line, entry_lines, entry_question}
 
 -- what the parts of a line write is the question
 pub line_is : (place : ℕ) (anchor : Option ℕ) (q : Question) (a k m s b : List ℕ)
-    → a ≡ anchor_word anchor → k ≡ written (public_key_info Bound) q.key → m ≡ written (algorithm_identifier Bound) q.algorithm → s ≡ encode_lower q.signed → b ≡ written bit_string q.bits
+    → a ≡ anchor_word anchor → k ≡ hex_encoding (public_key_info Bound) q.key → m ≡ hex_encoding (algorithm_identifier Bound) q.algorithm → s ≡ encode_lower q.signed → b ≡ hex_encoding bit_string q.bits
     → spaced (decimal place) (spaced a (spaced k (spaced m (spaced s (b ++ codes "\n"))))) ≡ line_octets (record { place = place; anchor = anchor; question = q })
 line_is place anchor q a k m s b ha hk hm hs hb = rw (ha, hk, hm, hs, hb) refl
 

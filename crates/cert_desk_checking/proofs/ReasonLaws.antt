@@ -14,8 +14,8 @@ use Rattle.cert_desk_rules.specs.declared.reason.Reason.TheVariants as reasons
 use Rattle.cert_desk_rules.specs.declared.rule.Rule.{Rule}
 use Rattle.cert_desk_rules.specs.declared.rule.Rule.TheVariants as rules
 use Rattle.cert_desk_rules.specs.Findings.{found}
-use Rattle.cert_desk_rules.specs.Judging.{Terms, are_distinct, has_twin, keeps_at}
-use Rattle.cert_desk_rules.specs.Paths.{counted, counts, extensions_at, is_last, is_within, is_within_lengths, keep_lengths, keeps_length}
+use Rattle.cert_desk_rules.specs.Judging.{Terms, has_twin, keeps_at}
+use Rattle.cert_desk_rules.specs.Paths.{counted, counts, is_last, is_within, keep_lengths, keeps_length}
 use Rattle.cert_desk_rules.specs.Reasons.{AreFirstTwins, Explains, ExplainsFirst, IsFirstAt, Precedes, are_twins, goes_against, has_no_authority, have_one_identifier, is_against, is_at, is_explained}
 use Rattle.cert_desk_rules.specs.Weighing.{is_authority, may_certify, path_length, serves, weigh}
 use Rattle.cert_desk_rules.proofs.Folds.{and_yes, not_twice, or_no}
@@ -147,36 +147,8 @@ pub told-where : {A E : Type 0} {b : Bool} (F : Option A → Type 0) (r : Result
 told-where F (Ok o) h f = f o h
 told-where F (Err e) h f = tt
 
--- the first reason of each kind
+-- the first reason for a path that is too long
 module _ (bound : ℕ) (purpose : List ℕ) (cs : List PlainCertificate) (place : ℕ) where
-  pub first-extension : (rule : Rule) (number : ℕ) → (rule ≡ rules.NotAuthority → has_no_authority bound (extensions_at cs place) ≡ false)
-      → IsFirstAt (is_against bound purpose rule) (extensions_at cs place) number → ExplainsFirst bound purpose cs place rule (reasons.Extension number)
-  first-extension rule number has first = (first.0, none)
-    where
-      none : (other : Reason) → Precedes other (reasons.Extension number) → Explains bound purpose cs place rule other → ⊥
-      none (reasons.Extension n) before h = both_ways _ (first.1 n before) h
-      none (reasons.Twins one other) before h = absurd before
-      none reasons.NoConstraints before h = both_ways _ (has h.0) h.1
-      none (reasons.PathLength n) before h = absurd before
-
-  pub first-pair : (first second : ℕ) → AreFirstTwins (extensions_at cs place) first second → ExplainsFirst bound purpose cs place rules.DuplicateExtension (reasons.Twins first second)
-  first-pair first second twins = ((refl, twins.0, twins.1), none)
-    where
-      none : (other : Reason) → Precedes other (reasons.Twins first second) → Explains bound purpose cs place rules.DuplicateExtension other → ⊥
-      none (reasons.Extension n) before h = absurd before
-      none (reasons.Twins one other) before h = both_ways _ (twins.2 one other h.1 before) h.2
-      none reasons.NoConstraints before h = absurd before
-      none (reasons.PathLength n) before h = absurd before
-
-  pub first-lack : has_no_authority bound (extensions_at cs place) ≡ true → ExplainsFirst bound purpose cs place rules.NotAuthority reasons.NoConstraints
-  first-lack lacks = ((refl, lacks), none)
-    where
-      none : (other : Reason) → Precedes other reasons.NoConstraints → Explains bound purpose cs place rules.NotAuthority other → ⊥
-      none (reasons.Extension n) before h = absurd before
-      none (reasons.Twins one other) before h = absurd before
-      none reasons.NoConstraints before h = absurd before
-      none (reasons.PathLength n) before h = absurd before
-
   pub first-length : (before : ℕ) → before < place → keeps_length bound cs before place ≡ false → keep_lengths bound cs before place ≡ true
       → ExplainsFirst bound purpose cs place rules.PathTooLong (reasons.PathLength before)
   first-length before lt broken kept = ((refl, lt, broken), none)
@@ -199,9 +171,6 @@ length-explained bound purpose cs place rule (Err error) is h = tt
 
 -- where a rule of this kind is broken
 module _ (t : Terms) (cs : List PlainCertificate) (stream : List ℕ) (place : ℕ) (c : PlainCertificate) (at : slice_get cs place ≡ Some c) (bound : t.bound ≡ Bound) where
-  pub broken-twins : not (are_distinct (extensions_of c)) ≡ not (keeps_at rules.DuplicateExtension t cs stream place)
-  broken-twins = ap not (sym (keeps_at-is rules.DuplicateExtension t cs stream place c at))
-
   pub broken-malformed : list_any (is_against Bound t.purpose rules.MalformedExtension) (extensions_of c) ≡ not (keeps_at rules.MalformedExtension t cs stream place)
   broken-malformed =
       not_twice _ ∙ ap (λ (b : ℕ). not (not (list_any (is_against b t.purpose rules.MalformedExtension) (extensions_of c)))) (sym bound)
@@ -226,14 +195,6 @@ module _ (t : Terms) (cs : List PlainCertificate) (stream : List ℕ) (place : �
       ∙ ap (λ (b : ℕ). not (list_any (λ e. is_authority (weigh b e)) (extensions_of c) && list_all (λ e. may_certify (weigh b e)) (extensions_of c))) (sym bound)
       ∙ ap (λ b. not (b || (list_any (λ e. is_authority (weigh t.bound e)) (extensions_of c) && list_all (λ e. may_certify (weigh t.bound e)) (extensions_of c)))) (sym before)
       ∙ ap not (sym (keeps_at-is rules.NotAuthority t cs stream place c at))
-
-  pub kept-last : is_last cs place ≡ true → false ≡ not (keeps_at rules.NotAuthority t cs stream place)
-  kept-last last =
-      ap (λ b. not (b || (list_any (λ e. is_authority (weigh t.bound e)) (extensions_of c) && list_all (λ e. may_certify (weigh t.bound e)) (extensions_of c)))) (sym last)
-      ∙ ap not (sym (keeps_at-is rules.NotAuthority t cs stream place c at))
-
-  pub broken-length : not (is_within_lengths Bound cs place) ≡ not (keeps_at rules.PathTooLong t cs stream place)
-  broken-length = ap (λ (b : ℕ). not (is_within_lengths b cs place)) (sym bound) ∙ ap not (sym (keeps_at-is rules.PathTooLong t cs stream place c at))
 
   pub broken-extension : (rule : Rule) → (rule ≡ rules.MalformedExtension) ⊎ ((rule ≡ rules.UnweighedCritical) ⊎ (rule ≡ rules.AgainstPurpose))
       → list_any (is_against Bound t.purpose rule) (extensions_of c) ≡ (is_explained rule && not (keeps_at rule t cs stream place))

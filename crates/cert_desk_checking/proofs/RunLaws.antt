@@ -19,7 +19,7 @@ use Rattle.cert_desk_checking.specs.Reading.{MayGoOn, AsksNoMore, ReadFailed, Fe
 use Rattle.cert_desk_checking.specs.Runs.{IsReadFor, IsReadInVain, Judge, IsUnasked}
 use Rattle.cert_desk_bundle.specs.Series.{SeriesSplit, encodings}
 use Rattle.cert_desk_bundle.specs.Steps.{StopsAtOnce, Takes, RefusesInput}
-use Rattle.cert_desk_bundle.specs.Streams.{Kept, Reads, ReadsAs}
+use Rattle.cert_desk_bundle.specs.Streams.{Kept, Reads, ReadsUnder}
 use Rattle.cert_desk_rules.specs.Verdicts.{IsVerdict, StopsAsking}
 use Rattle.cert_desk_bundle.proofs.OneChain.{certificates_told, fault_no_chain}
 use Rattle.cert_desk_bundle.proofs.SeriesLaws.{one_split}
@@ -51,14 +51,14 @@ module _ (input : Device) (old new : Kept) (opened : old.standing ≡ standings.
   fed_under standing e h = subst (λ (s : Standing). FedUnder input new s) (sym e) h
 
   -- what is read by a bundle that still takes pieces
-  may_go_on : (now : Kept) → now.limit ≡ old.limit → (octets : List ℕ) → ReadsAs Bound standings.Open now octets → MayGoOn new.limit octets
+  may_go_on : (now : Kept) → now.limit ≡ old.limit → (octets : List ℕ) → ReadsUnder Bound standings.Open now octets → MayGoOn new.limit octets
   may_go_on now same octets reads = λ cs kind ne f.
       no_fault Bound now.limit now.certificates cs now.rest octets kind ne reads.0 reads.1
       (subst (λ (n : ℕ). StreamFault Bound n octets cs kind) (limit ∙ sym same) f)
 
   asks_no_more : StopsAtOnce input.moves input.old input.new Bound old → AsksNoMore input new.limit
   asks_no_more s =
-      let reads : ReadsAs Bound standings.Open s.now s.reads.0 = subst (λ (x : Standing). ReadsAs Bound x s.now s.reads.0) s.is_open (s.reads.2 [] empty) in
+      let reads : ReadsUnder Bound standings.Open s.now s.reads.0 = subst (λ (x : Standing). ReadsUnder Bound x s.now s.reads.0) s.is_open (s.reads.2 [] empty) in
       record {
         before = s.before;
         octets = s.reads.0;
@@ -120,7 +120,7 @@ module _ (input : Device) (b : Kept) where
         → (octets : List ℕ) × Moved input octets × Reads Bound b octets × Sound input × IsReadFor verdict input b.limit
     fed_reads verdict place offset standings.Open e h m d f v = absurd h
     fed_reads verdict place offset standings.Ended e h m d f v =
-        let chain : ReadsAs Bound standings.Ended b h.0 = subst (λ (s : Standing). ReadsAs Bound s b h.0) e h.2 in
+        let chain : ReadsUnder Bound standings.Ended b h.0 = subst (λ (s : Standing). ReadsUnder Bound s b h.0) e h.2 in
         (h.0, h.1, h.2, h.4, read_whole h.0 verdict chain (v h.0 h.2) h.3)
     fed_reads verdict place offset (standings.Faulted kind) e h m d f v =
         (h.0, h.1, h.2, h.5, subst (λ w. IsReadFor w input b.limit) (sym (f kind refl)) (h.3, h.4))

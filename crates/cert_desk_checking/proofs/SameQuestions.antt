@@ -17,7 +17,7 @@ use Rattle.der_core_head.proofs.TagLaws.{same_tag-eq}
 use Rattle.x509_cert_parts.specs.Grammar.{Algorithm, PublicKey, algorithm_arcs}
 use Rattle.x509_cert_parts.specs.Grammar.{algorithm_identifier, algorithm_parameters, key_algorithm}
 use Rattle.x509_cert_parts.specs.Grammar.{key_bits, public_key_info}
-use Rattle.cert_desk_rules.specs.Answers.{any_key, is_about, listed, same_algorithm, same_any, same_bits, same_key}
+use Rattle.cert_desk_rules.specs.Answers.{any_key, is_about, only_yes_to, same_algorithm, same_any, same_bits, same_key}
 use Rattle.cert_desk_rules.specs.Judging.{Answers}
 use Rattle.cert_desk_checking.specs.QuestionLines.{QuestionLine, questions_of_lines}
 use Rattle.cert_desk_rules.specs.Questions.{Question, answer_on}
@@ -195,11 +195,11 @@ module _ (answers : Answers) where
 
   -- the list of what it says yes to answers each line as it does
   pub listed_alike : (lines : List QuestionLine) → AllByRecursion (λ l. IsWritable l.question) lines
-      → AllByRecursion (λ l. answer_on answers l.question ≡ answer_on (listed (yes_to lines)) l.question) lines
+      → AllByRecursion (λ l. answer_on answers l.question ≡ answer_on (only_yes_to (yes_to lines)) l.question) lines
   listed_alike lines each = go lines each (each_among lines)
     where
       go : (some : List QuestionLine) → AllByRecursion (λ l. IsWritable l.question) some → AllByRecursion (λ l. Among l lines) some
-          → AllByRecursion (λ l. answer_on answers l.question ≡ answer_on (listed (yes_to lines)) l.question) some
+          → AllByRecursion (λ l. answer_on answers l.question ≡ answer_on (only_yes_to (yes_to lines)) l.question) some
       go [] h k = tt
       go (l ∷ more) h k =
           (same_tests (says l) (list_any (is_of l.question) (yes_to lines)) (answered l lines k.0) (was_yes l.question lines h.0 each), go more h.1 k.1)

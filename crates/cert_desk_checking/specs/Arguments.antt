@@ -3,7 +3,7 @@ use Rattle.std.specs.Prelude.{◌≡◌, ℕ, ◌≤◌, ◌<◌, ◌^◌, List,
 use Rattle.std.specs.Str.Parse.{IsNumeral, digits_value}
 use Rattle.const_oid.specs.Bound.{Bound, max_size}
 use Rattle.const_oid.specs.IdentifierOctets.{identifier_octets, IsIdentifier}
-use Rattle.const_oid.specs.TextFaults.{IsText}
+use Rattle.const_oid.specs.TextFaults.{IsDottedText}
 
 -- one or more decimal digits in ASCII, and the number that they write
 unfoldable pub IsNumber : ℕ → List ℕ → Type 0
@@ -22,7 +22,7 @@ pub record AskCheck (words : List (List ℕ)) (anchors stream : List ℕ) (momen
       ∷ limit_text ∷ []
   pub moment_is : IsNumber moment moment_text
   pub moment_fits : moment < 2 ^ 64
-  pub purpose_is : IsText purpose purpose_text
+  pub purpose_is : IsDottedText purpose purpose_text
   pub purpose_valid : IsIdentifier Bound purpose
   pub purpose_fits : length (identifier_octets purpose) ≤ max_size
   pub limit_is : IsNumber limit limit_text

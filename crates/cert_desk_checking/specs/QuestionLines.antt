@@ -18,8 +18,8 @@ pub record QuestionLine : Type 0 where
   pub question : Question
 
 -- the encoding of a value, in base 16
-abbrev pub written : (s : Shape) → Value s → List ℕ
-written s v = encode_lower (octets_of s v)
+abbrev pub hex_encoding : (s : Shape) → Value s → List ℕ
+hex_encoding s v = encode_lower (octets_of s v)
 
 -- a word, and what stands behind a blank
 abbrev pub spaced : List ℕ → List ℕ → List ℕ
@@ -35,10 +35,10 @@ abbrev pub line_octets : QuestionLine → List ℕ
 line_octets l =
     spaced (decimal l.place)
     (spaced (anchor_word l.anchor)
-    (spaced (written (public_key_info Bound) l.question.key)
-    (spaced (written (algorithm_identifier Bound) l.question.algorithm)
+    (spaced (hex_encoding (public_key_info Bound) l.question.key)
+    (spaced (hex_encoding (algorithm_identifier Bound) l.question.algorithm)
     (spaced (encode_lower l.question.signed)
-    (written bit_string l.question.bits ++ codes "\n")))))
+    (hex_encoding bit_string l.question.bits ++ codes "\n")))))
 
 -- the octets of lines, in turn
 abbrev pub lines_octets : List QuestionLine → List ℕ

@@ -9,7 +9,7 @@ use Rattle.cert_desk_bundle.specs.declared.standing.Standing.{Standing}
 use Rattle.cert_desk_bundle.specs.declared.standing.Standing.TheVariants as standings
 use Rattle.cert_desk_bundle.specs.Faults.{Split, StreamFault}
 use Rattle.cert_desk_bundle.specs.Steps.{most_read}
-use Rattle.cert_desk_bundle.specs.Streams.{Begins, Kept, Reads}
+use Rattle.cert_desk_bundle.specs.Streams.{AreFrontOf, Kept, Reads}
 
 -- octets with no fault but that they may end too early
 abbrev pub MayGoOn : ℕ → List ℕ → Type 0
@@ -42,7 +42,7 @@ FedUnder input b (standings.Faulted kind) =
     (octets : List ℕ) × Moved input octets × Reads Bound b octets
     × (kind ≡ kinds.Truncated → MetEnd input) × AsksNoMore input b.limit × Sound input
 FedUnder input b standings.NoMemory = (octets : List ℕ) × Moved input octets
-    × Begins Bound b.limit b.certificates octets × AsksNoMore input b.limit × Sound input
+    × AreFrontOf Bound b.limit b.certificates octets × AsksNoMore input b.limit × Sound input
 FedUnder input b standings.NoDevice =
     (octets : List ℕ) × Fails input octets × MayGoOn b.limit octets
     × ((rest : List ℕ) × Split Bound b.limit octets b.certificates rest)

@@ -9,7 +9,7 @@ use Rattle.cert_desk_checking.specs.Bounded.{identifiers_in}
 use Rattle.cert_desk_bundle.specs.Chains.{Chain}
 use Rattle.cert_desk_bundle.specs.Faults.{StreamFault}
 use Rattle.cert_desk_rules.specs.Judging.{Terms}
-use Rattle.cert_desk_bundle.specs.Streams.{Begins}
+use Rattle.cert_desk_bundle.specs.Streams.{AreFrontOf}
 use Rattle.cert_desk_rules.specs.Verdicts.{IsVerdict, Trusted, asked}
 
 -- A chain is the same chain under a wider bound.
@@ -54,5 +54,5 @@ WiderKeepsFaults =
     (small large limit : ℕ) (cs : List PlainCertificate) (kind : FaultKind) (stream : List ℕ)
     → small ≤ large → StreamFault small limit stream cs kind
     → StreamFault large limit stream cs kind
-    ⊎ ((c : PlainCertificate) × Begins large limit (cs ++ c ∷ []) stream
+    ⊎ ((c : PlainCertificate) × AreFrontOf large limit (cs ++ c ∷ []) stream
     × HoldsLarge small (identifiers_in c))

@@ -1,4 +1,5 @@
-//! Streams of certificates, read and judged.
+//! Trust anchors, the judgement of a chain under them, what its signatures ask, and runs over
+//! inputs and outputs.
 #![tactic(auto)]
 
 mod anchor;
@@ -10,11 +11,11 @@ mod checking;
 mod each_place;
 mod issuer;
 pub mod laws;
-mod lines;
 mod outcome;
 mod question_lines;
 mod reasons;
 mod running;
+mod verdict_lines;
 
 pub use anchor::Anchor;
 pub use anchor_error::AnchorError;
@@ -22,12 +23,8 @@ pub use anchor_fault::AnchorFault;
 pub use arguments::{Arguments, USAGE};
 pub use checking::{check, is_issued_by};
 pub use each_place::judge_each;
-pub use lines::{anchors_line, verdict_line};
 pub use outcome::Outcome;
 pub use question_lines::chain_lines;
 pub use reasons::reason_of;
-pub use running::{read_anchors, read_stream, run_check, status_of};
-
-// What the calls take and answer.
-
-// What all of these are made of.
+pub use running::{find_outcome, read_anchors, read_stream, run_check, status_of};
+pub use verdict_lines::{anchors_line, verdict_line};

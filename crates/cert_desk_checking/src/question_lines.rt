@@ -21,7 +21,7 @@ use std::alloc::{AllocError, Global};
 use x509_cert_parts::SubjectPublicKeyInfo;
 
 // The encoding of a value, in base 16.
-fn written<T: Encode>(alloc: Global, value: &T) -> Result<String, AllocError>
+fn hex_encoding_of<T: Encode>(alloc: Global, value: &T) -> Result<String, AllocError>
     ensures { IfOk result (λ text. string_bytes text
         ≡ encode_lower (octets_of T.shape (T.written value.now))) }
 {
@@ -55,10 +55,10 @@ fn add_line(
         ++ entry_line place anchor entry.now (key_plain key.now)) }
 {
     let anchor = anchor_word(alloc, anchor)?;
-    let key = written(alloc, key)?;
-    let algorithm = written(alloc, entry.certificate.signature_algorithm())?;
+    let key = hex_encoding_of(alloc, key)?;
+    let algorithm = hex_encoding_of(alloc, entry.certificate.signature_algorithm())?;
     let signed = hex::encode(alloc, entry.signed)?;
-    let bits = written(alloc, entry.certificate.signature())?;
+    let bits = hex_encoding_of(alloc, entry.certificate.signature())?;
     writeln!(text, "{place} {anchor} {key} {algorithm} {signed} {bits}")?;
     Ok(())
 }

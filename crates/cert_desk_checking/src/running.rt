@@ -12,8 +12,8 @@ use crate::anchor::Anchor;
 use crate::anchor_fault::AnchorFault;
 use crate::anchor_files::anchors_in;
 use crate::checking::check;
-use crate::lines::{anchors_line, verdict_line};
 use crate::outcome::Outcome;
+use crate::verdict_lines::{anchors_line, verdict_line};
 use cert_desk_bundle::Bundle;
 use cert_desk_io::{
     ExitStatus, Input, Output, ReadAllError, answer, complain, read_all, tell_device, tell_memory,
@@ -65,8 +65,9 @@ pub fn read_anchors<A: Input>(alloc: Global, input: &mut A) -> Result<Vec<Anchor
     }
 }
 
-// What is found in the inputs. The stream isn't read where the anchors are faulty.
-fn find_outcome<A: Input, S: Input, J: SignatureJudge>(
+/// What is found in inputs of anchors and of a stream. The stream isn't read where the anchors are
+/// faulty. `limit` is the greatest number of octets of a certificate.
+pub fn find_outcome<A: Input, S: Input, J: SignatureJudge>(
     alloc: Global,
     anchors: &mut A,
     stream: &mut S,

@@ -1,8 +1,8 @@
 -- What becomes of an orders file that was read whole.
-use Rattle.std.proofs.Common.{◌≡◌, ℕ, List, Some, inl, subst}
+use Rattle.std.proofs.Common.{◌≡◌, ℕ, List, inl, subst}
 use Rattle.cert_desk_io.specs.Devices.{Device}
 use Rattle.cert_desk_io.specs.Whole.{IsWhole, most_octets}
-use Rattle.cert_desk_orders.specs.OrdersFile.{SaysOrders, faulty_line}
+use Rattle.cert_desk_orders.specs.OrdersFile.{SaysOrders}
 use Rattle.cert_desk_orders.specs.declared.order.Order.{Order}
 use Rattle.cert_desk_issuing.specs.declared.outcome.Outcome.{Outcome}
 use Rattle.cert_desk_issuing.specs.declared.outcome.Outcome.TheVariants as outcomes
@@ -20,7 +20,3 @@ module _ (input : Device) (octets taken : List ℕ) (whole : IsWhole input most_
   pub FileBecomes-said : (orders lent : List Order) (outcome : Outcome) → SaysOrders taken orders → lent ≡ orders → OrdersBecome lent outcome → FileBecomes input outcome
   FileBecomes-said orders lent outcome says e h =
       becomes orders outcome (subst (λ o. SaysOrders o orders) same says) (subst (λ os. OrdersBecome os outcome) e h)
-
-  -- of one with a faulty line
-  pub FileBecomes-faulty : (line : ℕ) → faulty_line taken ≡ Some line → FileBecomes input (outcomes.BadLine line)
-  FileBecomes-faulty line e = inl (octets, whole, subst (λ o. faulty_line o ≡ Some line) same e)

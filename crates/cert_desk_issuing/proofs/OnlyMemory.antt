@@ -17,7 +17,7 @@ use Rattle.x509_cert_certificates.specs.Certificates.{Tbs, tbs_certificate}
 use Rattle.der_types_time.specs.Seconds.{unix_seconds}
 use Rattle.x509_cert_names.specs.PlainTexts.{SpellsName}
 use Rattle.cert_desk_orders.specs.declared.order.Order.{Order}
-use Rattle.x509_cert_builders.specs.declared.error.Error.{Error}
+use Rattle.x509_cert_builders.specs.declared.build_error.Error.{Error}
 use Rattle.x509_cert_names.proofs.OneName.{one_spelled, spelled_stands}
 use Rattle.der_types_time.proofs.SecondsOrders.{one_by_text}
 use Rattle.cert_desk_issuing.specs.Acceptance.{IsAccepted, IsAcceptedAt, IsKeyOf, IsNamedFor, IsTextOf, SpellDates, names_subscriber}

@@ -11,8 +11,8 @@ use Rattle.der_core_head.specs.Ranges.{IsInRange}
 use Rattle.der_core_head.specs.Shapes.{IsBody, IsContent, IsValid, body_octets, contents, octets_of}
 use Rattle.der_core_head.proofs.WrittenValid.{valid_in_range}
 use Rattle.x509_cert_builders.specs.Refusals.{IsUnsigned, IsWantOfMemory, HasNoEncoding, IsUnwritten}
-use Rattle.x509_cert_builders.specs.declared.error.Error.{Error as BuilderError}
-use Rattle.x509_cert_builders.specs.declared.error.Error.TheVariants as builders
+use Rattle.x509_cert_builders.specs.declared.build_error.Error.{Error as BuilderError}
+use Rattle.x509_cert_builders.specs.declared.build_error.Error.TheVariants as builders
 use Rattle.x509_cert_builders.specs.declared.sign_error.SignError.TheVariants as signers
 use Rattle.x509_cert_builders.specs.SignedParts.{bare_part, part_shape, signed_part, written_part}
 use Rattle.x509_cert_builders.specs.States.{CertificateState, part_for}

@@ -14,8 +14,8 @@ use Rattle.der_types_time.specs.DateTexts.{date_text}
 use Rattle.der_types_time.specs.Seconds.{unix_seconds}
 use Rattle.x509_cert_builders.specs.Naming.{NamesAuthority}
 use Rattle.x509_cert_builders.specs.Refusals.{IsWantOfMemory}
-use Rattle.x509_cert_builders.specs.declared.error.Error.{Error as BuilderError}
-use Rattle.x509_cert_builders.specs.declared.error.Error.TheVariants as builders
+use Rattle.x509_cert_builders.specs.declared.build_error.Error.{Error as BuilderError}
+use Rattle.x509_cert_builders.specs.declared.build_error.Error.TheVariants as builders
 use Rattle.x509_cert_builders.specs.declared.sign_error.SignError.TheVariants
     as signers
 use Rattle.x509_cert_certificates.specs.Certificates.{PlainCertificate, Tbs, certificate}

@@ -1,16 +1,13 @@
 //! Which orders are accepted.
 
-ghost use Rattle.std.specs.Prelude.{◌≡◌, ◌↔◌, ◌<◌, ◌^◌, ◌∷◌, [], true, false, string_bytes, nat_lt};
+ghost use Rattle.std.specs.Prelude.{◌≡◌, ◌↔◌, ◌<◌, ◌^◌, true, false, string_bytes, nat_lt};
 ghost use Rattle.std.specs.Prelude.{Option, None, Ok, IsTrue, IfOk, IfErr, IfSome, OnOk};
 ghost use Rattle.std.specs.List.{list_all};
 ghost use Rattle.const_oid.specs.Bound.{Bound};
 ghost use Rattle.der_core_head.specs.Grammar.{plain_list, plain_option};
 ghost use Rattle.der_core_head.specs.Ranges.{IsInRange};
 ghost use Rattle.x509_cert_builders.specs.Refusals.{IsWantOfMemory};
-ghost use Rattle.x509_cert_builders.specs.Naming.{common_name, country, is_among};
-ghost use Rattle.x509_cert_builders.specs.Subscribers.{may_stay};
 ghost use Rattle.x509_cert_parts.specs.Grammar.{PublicKey, time};
-ghost use Rattle.x509_cert_names.specs.Pairs.{relative_plain};
 ghost use Rattle.x509_cert_parts.specs.Times.{time_of};
 ghost use Rattle.x509_cert_parts.specs.Views.{key_plain, time_date, time_value, validity_plain};
 ghost use Rattle.x509_cert_names.specs.Views.{name_plain};
@@ -26,12 +23,11 @@ use crate::accepted::Accepted;
 use crate::fault::Fault;
 use crate::role::Role;
 use cert_desk_orders::Order;
-use const_oid::ObjectIdentifier;
 use der_core::{ErrorKind, InRange};
 use std::alloc::Global;
 use std::str::FromStr;
-use x509_cert_builders::{Error, ca_certificate_naming};
-use x509_cert_names::{Name, RelativeDistinguishedName};
+use x509_cert_builders::{Error, all_stay, ca_certificate_naming};
+use x509_cert_names::Name;
 use x509_cert_parts::{SerialNumber, SubjectPublicKeyInfo, Time, Validity};
 
 /// The name that the text of an order spells.
@@ -67,47 +63,12 @@ fn is_want_of_memory(error: &Error) -> bool
     }
 }
 
-/// `countryName`.
-fn country() -> ObjectIdentifier<39>
-    ensures { result ≡ country }
-{
-    // 2.5.4.6.
-    ObjectIdentifier::from_bytes_unwrap(&[0x55, 4, 6])
-}
-
-/// `commonName`.
-fn common_name() -> ObjectIdentifier<39>
-    ensures { result ≡ common_name }
-{
-    // 2.5.4.3.
-    ObjectIdentifier::from_bytes_unwrap(&[0x55, 4, 3])
-}
-
-/// Whether the name of a subscriber may have an attribute of this type.
-fn may_stay(oid: &ObjectIdentifier<39>) -> bool
-    ensures { result ≡ is_among (country ∷ common_name ∷ []) oid.now }
-{
-    country() == *oid || common_name() == *oid
-}
-
-/// Whether it may have a relative name.
-fn all_may_stay(relative: &RelativeDistinguishedName) -> bool
-    ensures { result ≡ list_all may_stay (relative_plain relative.now) }
-{
-    for attribute in relative.iter() {
-        if !may_stay(&attribute.oid) {
-            return false;
-        }
-    }
-    true
-}
-
 /// Whether a name is one of a subscriber.
 fn names_subscriber(subject: &Name) -> bool
     ensures { result ≡ names_subscriber (name_plain subject.now) }
 {
     for relative in subject.iter_rdn() {
-        if !all_may_stay(relative) {
+        if !all_stay(relative.as_slice()) {
             return false;
         }
     }

@@ -5,7 +5,7 @@ ghost use Rattle.std.specs.Prelude.{string_bytes};
 ghost use Rattle.der_core_head.specs.Grammar.{plain_list};
 ghost use Rattle.der_core_head.specs.Integers.{integer_octets};
 ghost use Rattle.x509_cert_builders.specs.States.{CertificateState, part_for};
-ghost use Rattle.x509_cert_builders.specs.declared.error.Error.{Error};
+ghost use Rattle.x509_cert_builders.specs.declared.build_error.Error.{Error};
 ghost use Rattle.x509_cert_certificates.specs.Certificates.{Tbs};
 ghost use Rattle.x509_cert_parts.specs.Views.{key_plain};
 ghost use Rattle.x509_cert_names.specs.Views.{name_plain};

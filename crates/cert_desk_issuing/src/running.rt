@@ -8,8 +8,8 @@ ghost use Rattle.cert_desk_issuing.specs.Runs.{IsTold};
 
 use crate::digest_signer::DigestSigner;
 use crate::issue_error::IssueError;
+use crate::issue_lines::{fault_line, refusal_line};
 use crate::issuing::issue;
-use crate::lines::{fault_line, refusal_line};
 use crate::outcome::Outcome;
 use cert_desk_io::{
     ExitStatus, Input, Output, ReadAllError, answer, complain, read_all, tell_device, tell_memory,

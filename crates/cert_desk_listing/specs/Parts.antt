@@ -9,9 +9,9 @@ use Rattle.x509_cert_names.specs.Names.{PlainName, PlainAttribute}
 use Rattle.x509_cert_parts.specs.Grammar.{PlainExtension, time}
 
 -- the members of a field; where it is absent there are none
-abbrev pub listed : {A : Type 0} → Option (List A) → List A
-listed None = []
-listed (Some xs) = xs
+abbrev pub members_in_field : {A : Type 0} → Option (List A) → List A
+members_in_field None = []
+members_in_field (Some xs) = xs
 
 -- a date and its spelling
 abbrev pub PlainTime : Type 0
@@ -28,7 +28,7 @@ abbrev pub not_after : PlainCertificate → PlainTime
 not_after c = (tbs_validity (tbs c)).1.0
 
 abbrev pub extensions_of : PlainCertificate → List PlainExtension
-extensions_of c = listed (tbs_extensions (tbs c))
+extensions_of c = members_in_field (tbs_extensions (tbs c))
 
 -- Revocation lists (RFC 5280 5.1), as they are read under `Raw`.
 abbrev pub raw_certificate_list : ℕ → Shape
@@ -50,10 +50,10 @@ abbrev pub next_update : PlainList → Option PlainTime
 next_update l = l.0.1.1.1.1.0
 
 abbrev pub revoked : PlainList → List PlainRevoked
-revoked l = listed l.0.1.1.1.1.1.0
+revoked l = members_in_field l.0.1.1.1.1.1.0
 
 abbrev pub list_extensions : PlainList → List PlainExtension
-list_extensions l = listed l.0.1.1.1.1.1.1.0
+list_extensions l = members_in_field l.0.1.1.1.1.1.1.0
 
 abbrev pub revoked_serial : PlainRevoked → ℤ
 revoked_serial r = r.0

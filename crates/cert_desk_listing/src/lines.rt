@@ -10,7 +10,7 @@ ghost use Rattle.x509_cert_parts.specs.Texts.{serial_text, time_text};
 ghost use Rattle.cert_desk_listing.specs.Listing.{alone, labelled, extension_line, extension_lines};
 ghost use Rattle.cert_desk_listing.specs.Listing.{next_update_line, revoked_line, revoked_lines};
 ghost use Rattle.cert_desk_listing.specs.Listing.{value_lines, attribute_lines};
-ghost use Rattle.cert_desk_listing.specs.Parts.{listed};
+ghost use Rattle.cert_desk_listing.specs.Parts.{members_in_field};
 
 use const_oid::AssociatedOid;
 use der_core::ErrorKind;
@@ -139,7 +139,8 @@ impl Lines {
     ) -> Result<(), AllocError>
         ensures { OnOk result (string_bytes self.new.text ≡ string_bytes self.old.text
             ++ revoked_lines
-            (listed (plain_option (λ v. plain_list revoked_cert_plain v.items) entries.now))) }
+            (members_in_field
+            (plain_option (λ v. plain_list revoked_cert_plain v.items) entries.now))) }
     {
         let Some(entries) = entries else {
             return Ok(());
@@ -155,7 +156,7 @@ impl Lines {
     ) -> Result<(), AllocError>
         ensures { OnOk result (string_bytes self.new.text ≡ string_bytes self.old.text
             ++ extension_lines
-            (listed (plain_option (λ v. extensions_plain v.items) extensions.now))) }
+            (members_in_field (plain_option (λ v. extensions_plain v.items) extensions.now))) }
     {
         let Some(extensions) = extensions else {
             return Ok(());

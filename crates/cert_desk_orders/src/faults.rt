@@ -5,7 +5,7 @@ ghost use Rattle.cert_desk_orders.specs.OrdersFile.{fits, first_faulty, is_fault
 ghost use Rattle.cert_desk_orders.specs.OrdersFile.{is_whole, order_fault, stands_alone, takes};
 
 use crate::line::{Line, stands};
-use crate::values::{key_of, length_of, octets_of};
+use crate::line_values::{key_of, length_of, octets_of};
 use std::alloc::{AllocError, Global};
 
 // Whether a word stands alone.

@@ -3,11 +3,11 @@
 
 mod faults;
 mod line;
+mod line_values;
 mod order;
 mod ordering;
 mod orders_error;
 mod orders_file;
-mod values;
 
 pub use order::Order;
 pub use orders_error::OrdersError;

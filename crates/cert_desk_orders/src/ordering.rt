@@ -8,8 +8,8 @@ ghost use Rattle.cert_desk_orders.specs.OrderReading.{lines_plain};
 ghost use Rattle.cert_desk_orders.specs.OrdersFile.{SayOrder, order_fault, value_of, values_of};
 
 use crate::line::{Line, stands, value_of};
+use crate::line_values;
 use crate::order::Order;
-use crate::values;
 use std::alloc::{AllocError, Global};
 use x509_cert_parts::SubjectPublicKeyInfo;
 
@@ -36,7 +36,7 @@ fn serial_of(alloc: Global, lines: &[Line<'_>]) -> Result<Vec<u8>, AllocError>
     let Some(value) = value_of(lines, "serial") else {
         unreachable!()
     };
-    let Some(serial) = values::octets_of(alloc, value)? else {
+    let Some(serial) = line_values::octets_of(alloc, value)? else {
         unreachable!()
     };
     Ok(serial)
@@ -52,7 +52,7 @@ fn key_of(alloc: Global, lines: &[Line<'_>]) -> Result<SubjectPublicKeyInfo, All
     let Some(value) = value_of(lines, "key") else {
         unreachable!()
     };
-    let Some(key) = values::key_of(alloc, value)? else {
+    let Some(key) = line_values::key_of(alloc, value)? else {
         unreachable!()
     };
     Ok(key)
@@ -65,7 +65,7 @@ fn length_of(lines: &[Line<'_>]) -> Option<u8>
     let Some(value) = value_of(lines, "path") else {
         return None;
     };
-    values::length_of(value)
+    line_values::length_of(value)
 }
 
 // The DNS names.

@@ -61,5 +61,5 @@ abbrev pub rank_cmp : List (List ℕ) → List (List ℕ) → Ordering
 rank_cmp = slice_cmp (slice_cmp nat_cmp)
 
 -- yes to what is listed, and to nothing else
-abbrev pub listed : List Question → Answers
-listed qs key algorithm signed bits = list_any (is_about key algorithm signed bits) qs
+abbrev pub only_yes_to : List Question → Answers
+only_yes_to qs key algorithm signed bits = list_any (is_about key algorithm signed bits) qs

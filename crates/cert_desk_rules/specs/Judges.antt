@@ -2,10 +2,10 @@
 use Rattle.std.specs.Prelude.{ℕ, map}
 use Rattle.cert_desk_rules.specs.Judging.{Answers}
 use Rattle.cert_desk_rules.specs.declared.answers_judge.AnswersJudge.{AnswersJudge}
-use Rattle.cert_desk_rules.specs.Answers.{answer_plain, listed}
+use Rattle.cert_desk_rules.specs.Answers.{answer_plain, only_yes_to}
 
 abbrev pub judge_answers : AnswersJudge → Answers
-judge_answers judge = listed (map answer_plain judge.answers.sorted.items)
+judge_answers judge = only_yes_to (map answer_plain judge.answers.sorted.items)
 
 abbrev pub judge_questions : AnswersJudge → ℕ
 judge_questions judge = judge.questions

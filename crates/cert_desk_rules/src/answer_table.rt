@@ -3,7 +3,7 @@ ghost use Rattle.std.specs.Prelude.{◌≡◌, map};
 ghost use Rattle.std.specs.List.{list_any};
 ghost use Rattle.std.specs.List.Sorted.{IsSortedByKey};
 ghost use Rattle.x509_cert_parts.specs.Views.{key_plain, algorithm_plain};
-ghost use Rattle.cert_desk_rules.specs.Answers.{answer_plain, answer_rank, is_about, listed};
+ghost use Rattle.cert_desk_rules.specs.Answers.{answer_plain, answer_rank, is_about, only_yes_to};
 ghost use Rattle.cert_desk_rules.specs.Answers.{rank_cmp};
 
 use crate::answer::Answer;
@@ -20,8 +20,8 @@ pub struct AnswerTable {
 impl AnswerTable {
     // A table of these answers.
     pub fn new(mut answers: Vec<Answer>) -> AnswerTable
-        ensures { listed (map answer_plain result.sorted.items)
-            ≡ listed (map answer_plain answers.items) }
+        ensures { only_yes_to (map answer_plain result.sorted.items)
+            ≡ only_yes_to (map answer_plain answers.items) }
     {
         answers.sort_unstable_by(|a, b| a.ordering(&b.key, b.signed.as_slice(), &b.bits));
         AnswerTable { sorted: answers }
@@ -35,7 +35,7 @@ impl AnswerTable {
         signed: &[u8],
         bits: &BitString,
     ) -> bool
-        ensures { result ≡ listed (map answer_plain self.now.sorted.items) (key_plain key.now)
+        ensures { result ≡ only_yes_to (map answer_plain self.now.sorted.items) (key_plain key.now)
             (algorithm_plain algorithm.now) signed.now bits.now }
     {
         let answers = self.sorted.as_slice();

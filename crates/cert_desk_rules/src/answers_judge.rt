@@ -1,6 +1,6 @@
 //! A judge that says yes to what is listed.
 ghost use Rattle.std.specs.Prelude.{◌≡◌, map};
-ghost use Rattle.cert_desk_rules.specs.Answers.{answer_plain, listed};
+ghost use Rattle.cert_desk_rules.specs.Answers.{answer_plain, only_yes_to};
 ghost use Rattle.cert_desk_rules.specs.Judges.{judge_answers, judge_questions};
 
 use crate::answer::Answer;
@@ -20,7 +20,7 @@ pub struct AnswersJudge {
 impl AnswersJudge {
     /// A judge that says yes to these, and wasn't asked yet.
     pub fn new(answers: Vec<Answer>) -> AnswersJudge
-        ensures answers { judge_answers result ≡ listed (map answer_plain answers.items) }
+        ensures answers { judge_answers result ≡ only_yes_to (map answer_plain answers.items) }
         ensures questions { judge_questions result ≡ 0 }
     {
         AnswersJudge {

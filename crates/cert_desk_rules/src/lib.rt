@@ -1,4 +1,5 @@
-//! The rules that one place of a chain keeps, and who judges signatures.
+//! The rules that one place of a chain keeps (RFC 5280 6.1), the reasons for which it doesn't, and
+//! who judges signatures.
 #![tactic(auto)]
 
 mod answer;

@@ -5,7 +5,7 @@ ghost use Rattle.std.specs.Prelude.{◌≤◌};
 use crate::bundles::limit_of;
 use crate::files::file_of;
 use crate::odd_signer::{OddSigner, Oddity};
-use crate::refusals::Refusal;
+use crate::refusal::Refusal;
 use crate::words::{Judged, key_of, number_of, octets_of, purpose_of};
 use cert_desk::{
     DigestJudge, DigestSigner, IssueError, Issued, Order, SubjectPublicKeyInfo, issue, orders_in,

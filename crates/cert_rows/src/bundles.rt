@@ -3,7 +3,7 @@
 ghost use Rattle.std.specs.Prelude.{◌≤◌, IfOk};
 
 use crate::cuts::verdict_on;
-use crate::refusals::Refusal;
+use crate::refusal::Refusal;
 use crate::schedules::Schedule;
 use crate::words::{Word, number_of, octets_of};
 use cert_desk::{Bundle, DigestJudge};

@@ -1,6 +1,6 @@
 //! Certificates and their parts.
 
-use crate::refusals::Refusal;
+use crate::refusal::Refusal;
 use crate::words::{Word, octets_of};
 use cert_desk::{BitString, CertificateInner, Raw, Time};
 use std::alloc::{AllocError, Global};

@@ -2,7 +2,7 @@
 
 use crate::bundles::limit_of;
 use crate::files::file_of;
-use crate::refusals::Refusal;
+use crate::refusal::Refusal;
 use crate::words::{number_of, purpose_of};
 use crate::{checks, issues, listings};
 use cert_desk::{Bundle, DigestJudge, FileKind};

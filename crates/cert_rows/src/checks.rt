@@ -4,7 +4,7 @@ ghost use Rattle.std.specs.Prelude.{◌≤◌};
 
 use crate::cuts;
 use crate::judges::{FixedJudge, KeyJudge, OctetsJudge};
-use crate::refusals::Refusal;
+use crate::refusal::Refusal;
 use crate::schedules::{Devices, Schedule};
 use crate::words::{list_of, octets_of, told};
 use cert_desk::{Arguments, DigestJudge, ExitStatus, SignatureJudge, USAGE, run_check};

@@ -4,7 +4,7 @@ ghost use Rattle.std.specs.Prelude.{◌<◌, ◌≤◌, length};
 
 use crate::bundles::{limit_of, write_standing};
 use crate::checks::{Asked, How, judged};
-use crate::refusals::Refusal;
+use crate::refusal::Refusal;
 use crate::words::{Judged, key_of, octets_of, purpose_of};
 use cert_desk::{Anchor, Bundle, BundleError, CheckError, DigestJudge, SignatureJudge, check};
 use der_core::FromDer;

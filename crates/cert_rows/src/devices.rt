@@ -1,6 +1,6 @@
 //! Devices in memory, call by call.
 
-use crate::refusals::Refusal;
+use crate::refusal::Refusal;
 use crate::schedules::Schedule;
 use crate::words::{Word, octets_of};
 use cert_desk_io::{Input, write_all};

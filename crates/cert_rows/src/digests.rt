@@ -1,6 +1,6 @@
 //! Bits of signers of digests, and digests of certificates.
 
-use crate::refusals::Refusal;
+use crate::refusal::Refusal;
 use crate::words::{key_of, octets_of};
 use cert_desk::{CertificateInner, DigestSigner, Raw, Sha256Digest, Signer};
 use der_core::Error;

@@ -1,6 +1,6 @@
 //! The texts of errors.
 
-use crate::refusals::Refusal;
+use crate::refusal::Refusal;
 use cert_desk::{
     AnchorError, BundleError, CheckError, DeviceError, FaultKind, ReadAllError, ReadError,
 };

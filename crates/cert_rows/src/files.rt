@@ -1,6 +1,6 @@
 //! Orders files on one line.
 
-use crate::refusals::Refusal;
+use crate::refusal::Refusal;
 use std::alloc::Global;
 
 /// The octets of a file: `0x` and base 16, or its lines, with a bar for each LF.

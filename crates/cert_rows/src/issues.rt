@@ -1,7 +1,7 @@
 //! Runs of `issue` over devices in memory.
 
 use crate::files::file_of;
-use crate::refusals::Refusal;
+use crate::refusal::Refusal;
 use crate::schedules::{Devices, Schedule};
 use cert_desk::{Order, orders_in, run_issue, run_orders};
 use std::alloc::Global;

@@ -1,6 +1,6 @@
 //! Listings of a value, by a run of `show` and by a call.
 
-use crate::refusals::Refusal;
+use crate::refusal::Refusal;
 use crate::schedules::{Devices, Schedule};
 use crate::words::{kind_of, octets_of, told};
 use cert_desk::{

@@ -46,7 +46,6 @@
 //! signers. What is refused is answered `refused KIND`, and `memory` where there is not enough.
 #![tactic(auto)]
 
-mod answers;
 mod audits;
 mod bundles;
 mod certificates;
@@ -62,13 +61,14 @@ mod judges;
 mod listings;
 mod odd_signer;
 mod plain_split;
+mod questions;
 mod readings;
-mod refusals;
+mod refusal;
 mod schedules;
 mod splits;
 mod words;
 
-use answers::answer;
+use questions::answer;
 use std::io;
 use std::io::{BufWriter, Write};
 

@@ -1,7 +1,7 @@
 //! What is read of orders files.
 
 use crate::files::file_of;
-use crate::refusals::Refusal;
+use crate::refusal::Refusal;
 use crate::words::Octets;
 use cert_desk::{Order, orders_in};
 use std::alloc::{AllocError, Global};

@@ -4,7 +4,7 @@ ghost use Rattle.std.specs.Prelude.{◌≡◌, nat_lt};
 ghost use Rattle.std.specs.List.{list_all};
 ghost use Rattle.cert_desk_io.specs.Pieces.{ArePieceSizes};
 
-use crate::refusals::Refusal;
+use crate::refusal::Refusal;
 use crate::words::number_of;
 use cert_desk_io::{MemoryInput, MemoryOutput};
 use std::alloc::Global;

@@ -2,7 +2,7 @@
 
 use crate::bundles::limit_of;
 use crate::plain_split::split;
-use crate::refusals::Refusal;
+use crate::refusal::Refusal;
 use crate::words::octets_of;
 use cert_desk::{Bundle, BundleError};
 use std::alloc::Global;

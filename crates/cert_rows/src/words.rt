@@ -1,6 +1,6 @@
 //! Octets, numbers, keys, purposes and kinds as words.
 
-use crate::refusals::Refusal;
+use crate::refusal::Refusal;
 use cert_desk::{Checked, FileKind, SubjectPublicKeyInfo, Verdict};
 use const_oid::ObjectIdentifier;
 use der_core::FromDer;

@@ -8,7 +8,7 @@ mod describing;
 mod extension_remarks;
 mod fault_words;
 mod faults;
-mod fields;
+mod inner_parts;
 mod kind;
 mod list_remarks;
 mod name_remarks;

@@ -1,6 +1,6 @@
 //! The way from a value down to a fault in it.
 
-use crate::fields::{Fields, Taken};
+use crate::inner_parts::{Fields, Taken};
 use crate::parts::Part;
 use der_core::{Error, ErrorKind, Tag, header_of};
 use std::alloc::{AllocError, Global};

@@ -16,12 +16,12 @@ use Rattle.hex.proofs.HexLemmas.{decode_of-encode_lower}
 use Rattle.const_oid.specs.Bound.{Bound}
 use Rattle.cert_desk_rules.specs.declared.checked.Verdict.{Verdict}
 use Rattle.cert_desk_checking.specs.AnchorFiles.{IsAnchorFile}
-use Rattle.cert_desk_rules.specs.Answers.{listed}
+use Rattle.cert_desk_rules.specs.Answers.{only_yes_to}
 use Rattle.x509_cert_certificates.specs.Certificates.{PlainCertificate}
 use Rattle.cert_desk_bundle.specs.Chains.{Chain}
 use Rattle.cert_desk_rules.specs.Judging.{Answers, PlainAnchor, Terms}
 use Rattle.x509_cert_parts.specs.Grammar.{algorithm_identifier, bit_string, public_key_info}
-use Rattle.cert_desk_checking.specs.QuestionLines.{QuestionLine, anchor_word, chain_lines, line_octets, lines_octets, questions_of_lines, spaced, written}
+use Rattle.cert_desk_checking.specs.QuestionLines.{QuestionLine, anchor_word, chain_lines, line_octets, lines_octets, questions_of_lines, spaced, hex_encoding}
 use Rattle.cert_desk_rules.specs.Questions.{Question, answer_on, under}
 use Rattle.cert_desk_rules.specs.Verdicts.{Asks, IsVerdict}
 use Rattle.cert_desk_checking.proofs.AskedValues.{IsWritable, file_keys, lines_writable}
@@ -39,13 +39,13 @@ use Rattle.cert_tool_runs.proofs.LineWords.{Above, IsWord, above_lower, anchor_i
 octets_back : (fault : LineFault) (w : List ℕ) → IsOctets w → octets_in fault (encode_lower w) ≡ Ok w
 octets_back fault w h = ap (octets_or fault) (decode_of-encode_lower w (bytes_are w h))
 
-value_back : (s : Shape) (fault text_fault : LineFault) (v : Value s) → is_apart s ≡ true → are_enough s 64 ≡ true → IsValid s v → value_of s fault (octets_in text_fault (written s v)) ≡ Ok v
+value_back : (s : Shape) (fault text_fault : LineFault) (v : Value s) → is_apart s ≡ true → are_enough s 64 ≡ true → IsValid s v → value_of s fault (octets_in text_fault (hex_encoding s v)) ≡ Ok v
 value_back s fault text_fault v apart enough h =
     ap (value_of s fault) (octets_back text_fault (octets_of s v) (octets_below s v h))
     ∙ ap (value_or fault) (whole_again s v (octets_of s v) apart enough (record { valid = h; octets = refl }))
 
 question_back : (q : Question) → IsWritable q
-    → question_in (written (public_key_info Bound) q.key) (written (algorithm_identifier Bound) q.algorithm) (encode_lower q.signed) (written bit_string q.bits) ≡ Ok q
+    → question_in (hex_encoding (public_key_info Bound) q.key) (hex_encoding (algorithm_identifier Bound) q.algorithm) (encode_lower q.signed) (hex_encoding bit_string q.bits) ≡ Ok q
 question_back q h =
     let key = value_back (public_key_info Bound) faults.NoKey faults.KeyNotBase16 q.key refl refl h.key in
     let algorithm = value_back (algorithm_identifier Bound) faults.NoAlgorithm faults.AlgorithmNotBase16 q.algorithm refl refl h.algorithm in
@@ -86,20 +86,20 @@ not_skipped (x ∷ w) rest h some = let first = h.0 in ne_eqb x 35 (λ e. omega 
 -- of a line
 abbrev body : QuestionLine → List ℕ
 body l =
-    words (decimal l.place) (anchor_word l.anchor) (written (public_key_info Bound) l.question.key) (written (algorithm_identifier Bound) l.question.algorithm)
-    (encode_lower l.question.signed) (written bit_string l.question.bits)
+    words (decimal l.place) (anchor_word l.anchor) (hex_encoding (public_key_info Bound) l.question.key) (hex_encoding (algorithm_identifier Bound) l.question.algorithm)
+    (encode_lower l.question.signed) (hex_encoding bit_string l.question.bits)
 
 module _ (l : QuestionLine) (h : IsWritable l.question) where
-  key_word : IsWord (written (public_key_info Bound) l.question.key)
+  key_word : IsWord (hex_encoding (public_key_info Bound) l.question.key)
   key_word = hex_word _ (octets_below (public_key_info Bound) l.question.key h.key)
 
-  algorithm_word : IsWord (written (algorithm_identifier Bound) l.question.algorithm)
+  algorithm_word : IsWord (hex_encoding (algorithm_identifier Bound) l.question.algorithm)
   algorithm_word = hex_word _ (octets_below (algorithm_identifier Bound) l.question.algorithm h.algorithm)
 
   signed_word : IsWord (encode_lower l.question.signed)
   signed_word = hex_word l.question.signed h.signed
 
-  bits_word : IsWord (written bit_string l.question.bits)
+  bits_word : IsWord (hex_encoding bit_string l.question.bits)
   bits_word = hex_word _ (octets_below bit_string l.question.bits h.bits)
 
   line_said : line_says (body l) ≡ Ok (Some l.question)
@@ -157,13 +157,13 @@ or_none (Err first) = []
 
 pub accepted_lines_judge_alike : (file : List ℕ) (t : Terms) (limit : ℕ) (cs : List PlainCertificate) (stream : List ℕ) (qs : List Question) (verdict : Verdict) (n : ℕ)
     → t.bound ≡ Bound → IsAnchorFile file t.anchors → Chain Bound limit cs stream → file_says (lines_octets (accepted_lines t.answers (chain_lines t.anchors cs stream))) ≡ Ok qs
-    → (IsVerdict t limit stream verdict → IsVerdict (under t (listed qs)) limit stream verdict) × (Asks t limit stream n → Asks (under t (listed qs)) limit stream n)
+    → (IsVerdict t limit stream verdict → IsVerdict (under t (only_yes_to qs)) limit stream verdict) × (Asks t limit stream n → Asks (under t (only_yes_to qs)) limit stream n)
 accepted_lines_judge_alike file t limit cs stream qs verdict n bound is chain says =
     let each = lines_writable t.anchors limit cs stream (file_keys file t.anchors is) chain in
     let lines = chain_lines t.anchors cs stream in
     let read = lines_read (accepted_lines t.answers lines) 0 (accepted_writable t.answers lines each) in
     let same : questions_of_lines (accepted_lines t.answers lines) ≡ qs = ap or_none (sym read ∙ says) in
-    judged_by_lines t (listed qs) limit stream verdict n bound (λ ds other.
+    judged_by_lines t (only_yes_to qs) limit stream verdict n bound (λ ds other.
     let one : ds ≡ cs = one_chain Bound limit ds cs stream (subst (λ b. Chain b limit ds stream) bound other) chain in
-    subst (λ ks. AllByRecursion (λ l. answer_on t.answers l.question ≡ answer_on (listed qs) l.question) (chain_lines t.anchors ks stream)) (sym one)
-    (subst (λ k. AllByRecursion (λ l. answer_on t.answers l.question ≡ answer_on (listed k) l.question) lines) same (listed_alike t.answers lines each)))
+    subst (λ ks. AllByRecursion (λ l. answer_on t.answers l.question ≡ answer_on (only_yes_to qs) l.question) (chain_lines t.anchors ks stream)) (sym one)
+    (subst (λ k. AllByRecursion (λ l. answer_on t.answers l.question ≡ answer_on (only_yes_to k) l.question) lines) same (listed_alike t.answers lines each)))

@@ -4,7 +4,7 @@ use Rattle.std.specs.List.{AllByRecursion}
 use Rattle.const_oid.specs.Bound.{Bound}
 use Rattle.cert_desk_rules.specs.declared.checked.Verdict.{Verdict}
 use Rattle.cert_desk_checking.specs.AnchorFiles.{IsAnchorFile}
-use Rattle.cert_desk_rules.specs.Answers.{listed}
+use Rattle.cert_desk_rules.specs.Answers.{only_yes_to}
 use Rattle.x509_cert_certificates.specs.Certificates.{PlainCertificate}
 use Rattle.cert_desk_bundle.specs.Chains.{Chain}
 use Rattle.cert_desk_rules.specs.Judging.{Answers, PlainAnchor, Terms}
@@ -37,5 +37,6 @@ AcceptedLinesJudgeAlike =
     → t.bound ≡ Bound → IsAnchorFile file t.anchors → Chain Bound limit cs stream
     → file_says (lines_octets (accepted_lines t.answers (chain_lines t.anchors cs stream)))
     ≡ Ok answers
-    → (IsVerdict t limit stream verdict → IsVerdict (under t (listed answers)) limit stream verdict)
-    × (Asks t limit stream n → Asks (under t (listed answers)) limit stream n)
+    → (IsVerdict t limit stream verdict
+    → IsVerdict (under t (only_yes_to answers)) limit stream verdict)
+    × (Asks t limit stream n → Asks (under t (only_yes_to answers)) limit stream n)

@@ -8,7 +8,7 @@ use Rattle.cert_desk_io.specs.NamedInputs.{Inputs, OfOpened}
 use Rattle.cert_desk_rules.specs.declared.answers_judge.AnswersJudge.{AnswersJudge}
 use Rattle.cert_desk_checking.specs.declared.outcome.Outcome.{Outcome}
 use Rattle.cert_desk_checking.specs.Anchors.{purpose_plain}
-use Rattle.cert_desk_rules.specs.Answers.{listed}
+use Rattle.cert_desk_rules.specs.Answers.{only_yes_to}
 use Rattle.cert_desk_rules.specs.Judges.{judge_answers, judge_questions}
 use Rattle.cert_desk_rules.specs.Questions.{Question}
 use Rattle.cert_desk_checking.specs.Runs.{IsOutcome, judging}
@@ -32,8 +32,8 @@ IsMeant moments.Now seconds = Unit {0}
 IsMeant (moments.Seconds n) seconds = seconds ≡ n
 
 -- an output until a state, behind which more may be told
-abbrev pub Begins : Device → (Device → Type 0) → Type 0
-Begins d Holds = (between : d.State) × Holds (record d { new = between })
+abbrev pub ToldFirst : Device → (Device → Type 0) → Type 0
+ToldFirst d Holds = (between : d.State) × Holds (record d { new = between })
 
 -- A chain is judged by answers, at these seconds: the answers are read, and the run is as `check`
 -- says under a judge that says yes to these alone; or there are none, which is told.
@@ -41,7 +41,7 @@ abbrev pub IsJudged : Device → Device → Device → Device → Device → ℕ
 IsJudged answers anchors stream out err seconds task answer =
     ((listing : List Question) × (old_judge : AnswersJudge) × (new_judge : AnswersJudge)
     × (outcome : Outcome) × AreAnswers answers (Ok listing)
-    × (judge_answers old_judge ≡ listed listing) × (judge_questions old_judge ≡ 0)
+    × (judge_answers old_judge ≡ only_yes_to listing) × (judge_questions old_judge ≡ 0)
     × IsOutcome anchors stream (judging judge_answers judge_questions old_judge new_judge)
     seconds (purpose_plain task.purpose) task.limit outcome
     × IsToldAs task.json out err outcome answer)
@@ -53,14 +53,14 @@ abbrev pub IsVerified : Inputs → Device → Device → Task → ExitStatus →
 IsVerified i out err task answer =
     OfOpened i task.answers.now (λ answers. OfOpened i task.anchors.now (λ anchors.
     OfOpened i task.file.now (λ stream. (seconds : ℕ) × IsMeant task.moment seconds
-    × Begins err (λ told. IsJudged answers anchors stream out told seconds task answer))))
+    × ToldFirst err (λ told. IsJudged answers anchors stream out told seconds task answer))))
 
 -- `questions`
 abbrev pub IsListedFor : Inputs → Device → Device → Task → ExitStatus → Type 0
 IsListedFor i out err task answer =
     OfOpened i task.anchors.now (λ anchors. OfOpened i task.file.now (λ stream.
     (found : Result (List ℕ) Outcome) × IsAsked anchors stream task.limit found
-    × Begins err (λ told. IsAskedTold out told found answer)))
+    × ToldFirst err (λ told. IsAskedTold out told found answer)))
 
 -- `split`
 abbrev pub IsSplitAt : Bool → Option ℕ → Device → Device → Kept → ExitStatus → Type 0
@@ -70,13 +70,13 @@ IsSplitAt json (Some place) out err kept answer = IsTaken out err kept place ans
 abbrev pub IsSplit : Inputs → Device → Device → Task → ExitStatus → Type 0
 IsSplit i out err task answer =
     OfOpened i task.file.now (λ stream. (kept : Kept) × FedWithin stream task.limit kept
-    × Begins err (λ told. IsSplitAt task.json task.place out told kept answer))
+    × ToldFirst err (λ told. IsSplitAt task.json task.place out told kept answer))
 
 -- `reverse`
 abbrev pub IsTurned : Inputs → Device → Device → Task → ExitStatus → Type 0
 IsTurned i out err task answer =
     OfOpened i task.file.now (λ stream. (kept : Kept) × FedWithin stream task.limit kept
-    × Begins err (λ told. IsReversed out told kept answer))
+    × ToldFirst err (λ told. IsReversed out told kept answer))
 
 -- a file isn't opened, or the clock not read
 abbrev pub IsStopped : Device → ExitStatus → Type 0

@@ -67,7 +67,7 @@ fn key_of(alloc: Global, text: &[u8]) -> Result<SubjectPublicKeyInfo, LineError>
     Ok(key)
 }
 
-// The algorithm, in the same way.
+// The algorithm whose encoding a text writes in base 16.
 fn algorithm_of(alloc: Global, text: &[u8]) -> Result<AlgorithmIdentifier, LineError>
     ensures read { IfOk result (λ algorithm. algorithm_in text.now
         ≡ Ok (algorithm_plain algorithm)) }
@@ -79,7 +79,7 @@ fn algorithm_of(alloc: Global, text: &[u8]) -> Result<AlgorithmIdentifier, LineE
     Ok(algorithm)
 }
 
-// The bits, in the same way.
+// The bits whose encoding a text writes in base 16.
 fn bits_of(alloc: Global, text: &[u8]) -> Result<BitString, LineError>
     ensures read { IfOk result (λ bits. bits_in text.now ≡ Ok bits) }
     ensures refused { IfErr result (FailsBy (bits_in text.now)) }

@@ -83,7 +83,7 @@ fn tell_unread<E: Output>(err: &mut E, standing: Standing) -> ExitStatus {
     }
 }
 
-// The stream that an input gives, in the same way.
+// The stream that an input gives; where it can't be read, that is told.
 fn stream_of<I: Input, E: Output>(
     alloc: Global,
     input: &mut I,

@@ -1,7 +1,6 @@
 //! Runs of `cert_tool`, over any inputs and outputs: what the signatures of a chain ask, chains
-//! judged by answers from outside, and streams taken apart; what certificates, revocation lists and
-//! requests say, for who reads them; why octets are none, and which rules the certificates of a
-//! chain break. And what the words of the program ask for.
+//! judged by answers from outside, which rules the certificates of a chain break, streams taken
+//! apart; and what the words of the program ask for.
 #![tactic(auto)]
 
 mod alike_names;
@@ -15,7 +14,6 @@ mod chains;
 mod each_certificate;
 mod explaining;
 mod files;
-mod finding;
 mod given;
 mod heard;
 mod help;

@@ -30,7 +30,7 @@ pub(crate) fn read_input<I: Input, E: Output>(
     }
 }
 
-// What a file of this name holds, in the same way.
+// What a file of this name holds; where it can't be read, that is told.
 fn read_file<I: Input + Drop, F: NamedInputs<I>, E: Output>(
     alloc: Global,
     files: &F,

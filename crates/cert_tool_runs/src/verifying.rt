@@ -7,17 +7,16 @@ ghost use Rattle.cert_desk_checking.specs.Anchors.{purpose_plain};
 ghost use Rattle.cert_desk_rules.specs.Questions.{Question};
 ghost use Rattle.cert_desk_checking.specs.Runs.{IsOutcome, judging};
 ghost use Rattle.cert_desk_rules.specs.declared.answers_judge.AnswersJudge.{AnswersJudge};
-ghost use Rattle.cert_desk_rules.specs.Answers.{answer_plain, listed};
+ghost use Rattle.cert_desk_rules.specs.Answers.{answer_plain, only_yes_to};
 ghost use Rattle.cert_desk_rules.specs.Judges.{judge_answers, judge_questions};
 ghost use Rattle.cert_tool_runs.specs.Verifying.{AreAnswers, IsNoneTold, IsToldAs, wrong_line};
 ghost use Rattle.cert_tool_runs.specs.Verifying.{verdict_json, verdict_text};
 
 use crate::answer_lines::answers_in;
-use crate::finding::find_outcome;
 use crate::line_fault::LineFault;
 use crate::no_answers::NoAnswers;
 use crate::stopping::tell_stop;
-use cert_desk_checking::{Outcome, status_of, verdict_line};
+use cert_desk_checking::{Outcome, find_outcome, status_of, verdict_line};
 use cert_desk_io::{
     ExitStatus, Input, Output, ReadAllError, answer, complain, read_all, tell_device, tell_memory,
 };
@@ -157,7 +156,7 @@ pub fn run_verify<N: Input, A: Input, S: Input, O: Output, E: Output>(
     ensures judged { IfOk result (λ status. (listing : List Question) × (old_judge : AnswersJudge)
         × (new_judge : AnswersJudge) × (outcome : Outcome)
         × AreAnswers (source N.takes N.is_ended N.failures answers.old answers.new) (Ok listing)
-        × (judge_answers old_judge ≡ listed listing)
+        × (judge_answers old_judge ≡ only_yes_to listing)
         × (judge_questions old_judge ≡ 0)
         × IsOutcome (source A.takes A.is_ended A.failures anchors.old anchors.new)
         (source S.takes S.is_ended S.failures stream.old stream.new)

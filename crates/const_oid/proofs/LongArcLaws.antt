@@ -24,13 +24,13 @@ scaled-more a (suc few) zero le = absurd (omega arith)
 scaled-more a (suc few) (suc more) le = omega (arith, scaled-more a few more (omega arith))
 
 -- what the first octet of an arc and so many more give: at least its digit and digits 0
-pub record Begins (first more value : ℕ) : Type 0 where
+pub record BeginsArc (first more value : ℕ) : Type 0 where
   pub marked : 128 < first
   pub octet : first < 256
   pub above : scaled (first - 128) more ≤ value
   pub below : value < scaled (first - 127) more
 
-begins_first : (first : ℕ) → 128 < first → first < 256 → Begins first 0 (0 * 128 + first % 128)
+begins_first : (first : ℕ) → 128 < first → first < 256 → BeginsArc first 0 (0 * 128 + first % 128)
 begins_first first marked octet = record {
   marked = marked;
   octet = octet;
@@ -38,7 +38,7 @@ begins_first first marked octet = record {
   below = omega arith;
 }
 
-begins_more : (first more value o : ℕ) → Begins first more value → Begins first (suc more) (value * 128 + o % 128)
+begins_more : (first more value o : ℕ) → BeginsArc first more value → BeginsArc first (suc more) (value * 128 + o % 128)
 begins_more first more value o b = record {
   marked = b.marked;
   octet = b.octet;
@@ -50,13 +50,13 @@ begins_more first more value o b = record {
 abbrev pub IsMost : (first most : ℕ) → Type 0
 IsMost first most = ((131 < first) × (most ≡ 18)) ⊎ ((first ≤ 131) × (most ≡ 19))
 
-begins_within : (first most more value : ℕ) → Begins first more value → IsMost first most → more < most → value < Bound
+begins_within : (first most more value : ℕ) → BeginsArc first more value → IsMost first most → more < most → value < Bound
 begins_within first most more value b (inl m) l =
     omega (arith, b.below, scaled-le (first - 127) 128 more (omega (arith, b.octet)), scaled-more 128 more 17 (omega (arith, m.1)), Bound-is)
 begins_within first most more value b (inr m) l =
     omega (arith, b.below, scaled-le (first - 127) 4 more (omega (arith, m.0)), scaled-more 4 more 18 (omega (arith, m.1)), Bound-is)
 
-begins_past : (first most more value : ℕ) → Begins first more value → IsMost first most → most ≤ more → Bound ≤ value
+begins_past : (first most more value : ℕ) → BeginsArc first more value → IsMost first most → most ≤ more → Bound ≤ value
 begins_past first most more value b (inl m) l =
     omega (arith, b.above, scaled-le 4 (first - 128) more (omega (arith, m.0)), scaled-more 4 18 more (omega (arith, m.1)), Bound-is)
 begins_past first most more value b (inr m) l =
@@ -67,7 +67,7 @@ pub record IsInside (w : List ℕ) (here value : ℕ) : Type 0 where
   pub read : read_arcs Bound 0 w ≡ read_arcs Bound value (drop here w)
   pub some : 0 < value
   pub octets : take here w ≡ begun value
-  pub begins : Begins (get_or w 0 0) (here - 1) value
+  pub begins : BeginsArc (get_or w 0 0) (here - 1) value
 
 pub inside_first : (w : List ℕ) → 0 < length w → 128 ≤ get_or w 0 0 → (get_or w 0 0 ≡ 128 → ⊥) → get_or w 0 0 < 256 → IsInside w 1 (0 * 128 + get_or w 0 0 % 128)
 unfolding begun
@@ -79,10 +79,10 @@ inside_first w l mark some octet = record {
 }
 
 -- what one octet more gives
-one_more : (w : List ℕ) (i value : ℕ) → IsInside w i value → 0 < i → Begins (get_or w 0 0) i (value * 128 + get_or w i 0 % 128)
+one_more : (w : List ℕ) (i value : ℕ) → IsInside w i value → 0 < i → BeginsArc (get_or w 0 0) i (value * 128 + get_or w i 0 % 128)
 one_more w i value s l =
     let same : suc (i - 1) ≡ i = omega arith in
-    subst (λ n. Begins (get_or w 0 0) n (value * 128 + get_or w i 0 % 128)) same (begins_more (get_or w 0 0) (i - 1) value (get_or w i 0) s.begins)
+    subst (λ n. BeginsArc (get_or w 0 0) n (value * 128 + get_or w i 0 % 128)) same (begins_more (get_or w 0 0) (i - 1) value (get_or w i 0) s.begins)
 
 pub inside_ends : (w : List ℕ) (i value most : ℕ) → IsInside w i value → 0 < i → i < length w → IsMost (get_or w 0 0) most → i < most → get_or w i 0 < 128
     → (arc : ℕ) × (arc < Bound) × (take (i + 1) w ≡ arc_octets arc)
@@ -103,7 +103,7 @@ inside_goes w i value most s some l m few mark octet =
           ∙ read_arcs-more Bound value (get_or w i 0) (drop (i + 1) w) free (begins_within (get_or w 0 0) most i (value * 128 + get_or w i 0 % 128) more m few) mark;
       some = omega (arith, s.some);
       octets = take_more w i 0 l ∙ ap (λ t. t ++ (get_or w i 0 ∷ [])) s.octets ∙ sym (begun-push value (get_or w i 0) free mark octet);
-      begins = subst (λ n. Begins (get_or w 0 0) n (value * 128 + get_or w i 0 % 128)) place more;
+      begins = subst (λ n. BeginsArc (get_or w 0 0) n (value * 128 + get_or w i 0 % 128)) place more;
     }
 
 pub inside_past : (w : List ℕ) (i value most : ℕ) → IsInside w i value → 0 < i → i < length w → IsMost (get_or w 0 0) most → most ≤ i → read_arcs Bound 0 w ≡ Err errors.ArcTooBig

@@ -6,28 +6,28 @@ use Rattle.std.proofs.lemmas.List.{drop-replicate, take_more}
 use Rattle.std.proofs.Math.Seq.{take-append_seam, drop-append-add}
 use Rattle.const_oid.specs.Arcs.{SpellsIdentifier, arcs_of}
 use Rattle.const_oid.specs.IdentifierOctets.{identifier_octets, IsIdentifier, arc_octets}
-use Rattle.const_oid.specs.PackedOctets.{before, unmarked_front, IsPacked}
+use Rattle.const_oid.specs.PackedOctets.{octet_in_front, unmarked_front, IsPacked}
 use Rattle.const_oid.proofs.ParentLaws.{Last, root, more, last_of, arc_parts}
 
 -- one octet more, without a mark
 pub front-low : (w : List ℕ) (o : ℕ) → o < 128 → unmarked_front (w ++ (o ∷ [])) ≡ w ++ (o ∷ [])
 unfolding unmarked_front
-front-low [] o l = rw (lt-ltb o 128 l, before) refl
-front-low (x ∷ []) o l = ap (before x) (front-low [] o l)
-front-low (x ∷ y ∷ w) o l = ap (before x) (front-low (y ∷ w) o l)
+front-low [] o l = rw (lt-ltb o 128 l, octet_in_front) refl
+front-low (x ∷ []) o l = ap (octet_in_front x) (front-low [] o l)
+front-low (x ∷ y ∷ w) o l = ap (octet_in_front x) (front-low (y ∷ w) o l)
 
 -- one octet more, with a mark
 pub front-marked : (w : List ℕ) (o : ℕ) → 128 ≤ o → unmarked_front (w ++ (o ∷ [])) ≡ unmarked_front w
 unfolding unmarked_front
-front-marked [] o l = rw (le-ltb o 128 l, before) refl
-front-marked (x ∷ w) o l = ap (before x) (front-marked w o l)
+front-marked [] o l = rw (le-ltb o 128 l, octet_in_front) refl
+front-marked (x ∷ w) o l = ap (octet_in_front x) (front-marked w o l)
 
 -- marks at the end
 pub front-marks : (w ds : List ℕ) → unmarked_front (w ++ map (λ d. 128 + d) ds) ≡ unmarked_front w
 unfolding unmarked_front
 front-marks [] [] = refl
-front-marks [] (d ∷ ds) = ap (before (128 + d)) (front-marks [] ds) ∙ rw (le-ltb (128 + d) 128 (omega arith), before) refl
-front-marks (x ∷ w) ds = ap (before x) (front-marks w ds)
+front-marks [] (d ∷ ds) = ap (octet_in_front (128 + d)) (front-marks [] ds) ∙ rw (le-ltb (128 + d) 128 (omega arith), octet_in_front) refl
+front-marks (x ∷ w) ds = ap (octet_in_front x) (front-marks w ds)
 
 front-padded : (w : List ℕ) (k : ℕ) → unmarked_front (w ++ replicate k 128) ≡ unmarked_front w
 front-padded w k = ap (λ t. unmarked_front (w ++ t)) (marks k) ∙ front-marks w (replicate k 0)
@@ -87,7 +87,7 @@ unfolding unmarked_front
 front-within [] = omega arith
 front-within (o ∷ w) = by (unmarked_front w) (front-within w)
   where
-    by : (v : List ℕ) → length v ≤ length w → length (before o v) ≤ suc (length w)
+    by : (v : List ℕ) → length v ≤ length w → length (octet_in_front o v) ≤ suc (length w)
     by [] l = grind (arith, nat_tests)
     by (x ∷ v) l = omega arith
 

@@ -12,7 +12,7 @@ use Rattle.const_oid.specs.ArcLists.{add_arc, whole_arcs, and_then, gather}
 use Rattle.const_oid.specs.TextReading.{with_digit, early_dot, and_value, text_arcs, read_text}
 use Rattle.const_oid.specs.DottedText.{decimal, dot_decimal, dotted}
 use Rattle.const_oid.specs.ArcFaults.{IsFaultless}
-use Rattle.const_oid.specs.TextFaults.{IsDecimal, AreDecimals, IsText, with_dots, IsBegun, IsOpenText, at_end, at_dot, IsTextFault, no_text, first_dot, no_digit, repeated_dot, trailing_dot, too_big, arc, one_arc}
+use Rattle.const_oid.specs.TextFaults.{IsDecimal, AreDecimals, IsDottedText, with_dots, IsBegun, IsOpenText, at_end, at_dot, IsTextFault, no_text, first_dot, no_digit, repeated_dot, trailing_dot, too_big, arc, one_arc}
 use Rattle.const_oid.proofs.DigitLaws.{digits-Digits}
 use Rattle.const_oid.proofs.DottedLaws.{decimal-one, decimal-more}
 use Rattle.const_oid.proofs.TextLaws.{digit_read, no_digit_read, past_read, Digit, no, past, within, digit, text-digit, text-early, text-trailing, text-dot, text-none, text-last}
@@ -115,7 +115,7 @@ no_pieces (x ∷ pieces) all = absurd all
 open_none : (bound capacity : ℕ) (front : List ℕ) → IsOpenText bound capacity front [] None → front ≡ []
 open_none bound capacity front o = o.spelled ∙ ap (λ t. t ++ o.last) (no_pieces o.pieces o.decimals) ∙ o.begins
 
-open_text : (bound capacity : ℕ) (front arcs : List ℕ) (a : ℕ) → IsOpenText bound capacity front arcs (Some a) → IsText (arcs ++ (a ∷ [])) front
+open_text : (bound capacity : ℕ) (front arcs : List ℕ) (a : ℕ) → IsOpenText bound capacity front arcs (Some a) → IsDottedText (arcs ++ (a ∷ [])) front
 open_text bound capacity front arcs a o = record {
   pieces = o.pieces ++ (o.last ∷ []);
   decimals = AreDecimals-push arcs o.pieces a o.last o.decimals o.begins.0;
@@ -127,7 +127,7 @@ open_text bound capacity front arcs a o = record {
 -- the arcs that a text spells, which are an identifier within the capacity, or the text's fault
 abbrev pub Judged : (bound capacity : ℕ) → List ℕ → Result (List ℕ) Error → Type 0
 Judged bound capacity text r =
-    MatchResult r (λ arcs. IsText arcs text × IsIdentifier bound arcs × (length (identifier_octets arcs) ≤ capacity)) (λ e. IsTextFault bound capacity text e)
+    MatchResult r (λ arcs. IsDottedText arcs text × IsIdentifier bound arcs × (length (identifier_octets arcs) ≤ capacity)) (λ e. IsTextFault bound capacity text e)
 
 -- the text behind a front: where no arc has begun, and some are there, it goes on
 abbrev pub GoesOn : (arcs : List ℕ) → Option ℕ → List ℕ → Type 0
@@ -210,7 +210,7 @@ pub text_fault_found : (bound capacity : ℕ) (w : List ℕ) (e : Error) → rea
 text_fault_found bound capacity w e err = judged bound capacity w (Err e) (sym err)
 
 -- what is read of a text is spelled by it, and is an identifier
-pub text_sound : (bound capacity : ℕ) (w arcs : List ℕ) → read_text bound capacity w ≡ Ok arcs → IsText arcs w × IsIdentifier bound arcs × (length (identifier_octets arcs) ≤ capacity)
+pub text_sound : (bound capacity : ℕ) (w arcs : List ℕ) → read_text bound capacity w ≡ Ok arcs → IsDottedText arcs w × IsIdentifier bound arcs × (length (identifier_octets arcs) ≤ capacity)
 text_sound bound capacity w arcs ok = judged bound capacity w (Ok arcs) (sym ok)
 
 -- Behind a front without a fault, what follows is read
@@ -351,11 +351,11 @@ joined_gathered bound capacity before (a ∷ b ∷ arcs) (x ∷ y ∷ pieces) d 
     ∙ sym (gather-cons capacity before a (b ∷ arcs))
 joined_gathered bound capacity before _ _ d all some = absurd d.1
 
-pub text_gathered : (bound capacity : ℕ) (w arcs : List ℕ) → IsText arcs w → AllByRecursion (λ n. n < bound) arcs → 0 < length arcs → read_text bound capacity w ≡ gather capacity [] arcs
+pub text_gathered : (bound capacity : ℕ) (w arcs : List ℕ) → IsDottedText arcs w → AllByRecursion (λ n. n < bound) arcs → 0 < length arcs → read_text bound capacity w ≡ gather capacity [] arcs
 text_gathered bound capacity w arcs t all some = ap (read_text bound capacity) t.joined ∙ joined_gathered bound capacity [] arcs t.pieces t.decimals all some
 
 -- a text that spells an identifier within the capacity is read as it
-pub text_read : (bound capacity : ℕ) (w arcs : List ℕ) → 40 ≤ bound → IsText arcs w → IsIdentifier bound arcs → length (identifier_octets arcs) ≤ capacity → read_text bound capacity w ≡ Ok arcs
+pub text_read : (bound capacity : ℕ) (w arcs : List ℕ) → 40 ≤ bound → IsDottedText arcs w → IsIdentifier bound arcs → length (identifier_octets arcs) ≤ capacity → read_text bound capacity w ≡ Ok arcs
 text_read bound capacity w arcs large t id fits =
     text_gathered bound capacity w arcs t (all_below bound arcs large id) (omega (arith, identifier-many bound arcs id)) ∙ identifier_gathered bound capacity arcs id fits
 
@@ -372,7 +372,7 @@ text_fault-not_overflow bound capacity w e (too_big front rest arcs begun d whol
 text_fault-not_overflow bound capacity w e (one_arc a o small) h = cc
 
 pub answer_ok : (bound capacity : ℕ) (w : List ℕ) (r : Result (List ℕ) Error) → r ≡ read_text bound capacity w
-    → IfOk r (λ arcs. IsText arcs w × IsIdentifier bound arcs × (length (identifier_octets arcs) ≤ capacity))
+    → IfOk r (λ arcs. IsDottedText arcs w × IsIdentifier bound arcs × (length (identifier_octets arcs) ≤ capacity))
 answer_ok bound capacity w (Ok arcs) e = judged bound capacity w (Ok arcs) e
 answer_ok bound capacity w (Err x) e = tt
 
@@ -391,7 +391,7 @@ unfolding dot_decimal
 joined-decimals a [] = append-nil (decimal a)
 joined-decimals a (b ∷ arcs) = ap (λ t. decimal a ++ (46 ∷ t)) (joined-decimals b arcs)
 
-pub dotted_text : (arcs : List ℕ) → IsText arcs (dotted arcs)
+pub dotted_text : (arcs : List ℕ) → IsDottedText arcs (dotted arcs)
 unfolding dotted
 dotted_text [] = record { pieces = []; decimals = tt; joined = refl }
 dotted_text (a ∷ arcs) = record { pieces = map decimal (a ∷ arcs); decimals = decimals-are (a ∷ arcs); joined = joined-decimals a arcs }

@@ -4,14 +4,14 @@ use Rattle.std.specs.Prelude.{◌≡◌, ℕ, ◌-◌, ◌≤◌, true, false, l
 use Rattle.std.specs.Prelude.{replicate}
 
 -- an octet in front of others; with none behind it, it stays where it has no mark
-abbrev pub before : ℕ → List ℕ → List ℕ
-before o [] = elim (ltb o 128) [ true ↦ o ∷ [] | false ↦ [] ]
-before o (x ∷ w) = o ∷ x ∷ w
+abbrev pub octet_in_front : ℕ → List ℕ → List ℕ
+octet_in_front o [] = elim (ltb o 128) [ true ↦ o ∷ [] | false ↦ [] ]
+octet_in_front o (x ∷ w) = o ∷ x ∷ w
 
 -- the octets up to the last one without a mark
 unfoldable pub unmarked_front : List ℕ → List ℕ
 unmarked_front [] = []
-unmarked_front (o ∷ w) = before o (unmarked_front w)
+unmarked_front (o ∷ w) = octet_in_front o (unmarked_front w)
 
 -- the array holds them, with the octet 80 in each place behind, and counts them up to 255
 pub record IsPacked (size : ℕ) (bytes : List ℕ) (count : ℕ) : Type 0 where

@@ -20,7 +20,7 @@ AreDecimals (a ∷ arcs) (piece ∷ pieces) = IsDecimal a piece × AreDecimals a
 AreDecimals _ _ = ⊥
 
 -- a text that spells arcs: they stand in decimal, joined by dots
-pub record IsText (arcs text : List ℕ) : Type 0 where
+pub record IsDottedText (arcs text : List ℕ) : Type 0 where
   pub pieces : List (List ℕ)
   pub decimals : AreDecimals arcs pieces
   pub joined : text ≡ join_with_byte 46 pieces

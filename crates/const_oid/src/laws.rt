@@ -20,7 +20,7 @@ ghost use Rattle.std.specs.Ordering.{nat_cmp};
 ghost use Rattle.std.specs.Hash as fed;
 ghost use Rattle.const_oid.specs.References.{reference_arcs};
 ghost use Rattle.const_oid.specs.ArcFaults.{IsArcsFault};
-ghost use Rattle.const_oid.specs.TextFaults.{IsText, IsTextFault};
+ghost use Rattle.const_oid.specs.TextFaults.{IsDottedText, IsTextFault};
 ghost use Rattle.std.specs.List.{AllByRecursion};
 
 use crate::ObjectIdentifierRef;
@@ -251,13 +251,14 @@ pub fn are_equal_borrowed(a: &ObjectIdentifierRef<'_>, b: &ObjectIdentifierRef<'
 /// within the capacity.
 pub fn read_texts_are_spelled()
     ensures { (bound capacity : ℕ) (w arcs : List ℕ) → read_text bound capacity w ≡ Ok arcs
-        → IsText arcs w × IsIdentifier bound arcs × (length (identifier_octets arcs) ≤ capacity) }
+        → IsDottedText arcs w × IsIdentifier bound arcs
+        × (length (identifier_octets arcs) ≤ capacity) }
 {}
 
 /// A text that spells an identifier is read as it, where its octets are within the capacity. The
 /// bound lets each second arc pass.
 pub fn spelled_texts_are_read()
-    ensures { (bound capacity : ℕ) (w arcs : List ℕ) → 40 ≤ bound → IsText arcs w
+    ensures { (bound capacity : ℕ) (w arcs : List ℕ) → 40 ≤ bound → IsDottedText arcs w
         → IsIdentifier bound arcs → length (identifier_octets arcs) ≤ capacity
         → read_text bound capacity w ≡ Ok arcs }
 {}
@@ -265,13 +266,13 @@ pub fn spelled_texts_are_read()
 /// The dotted text of some arcs spells them.
 #[tactic(auto, using(crate::proofs::TextFaultLaws::dotted_text))]
 pub fn printed_texts_spell_their_arcs()
-    ensures { (arcs : List ℕ) → IsText arcs (dotted arcs) }
+    ensures { (arcs : List ℕ) → IsDottedText arcs (dotted arcs) }
 {}
 
 /// A text that spells arcs below the bound is read as these arcs are gathered one after another.
 #[tactic(auto, using(crate::proofs::TextFaultLaws::text_gathered))]
 pub fn spelled_texts_are_judged_as_arcs()
-    ensures { (bound capacity : ℕ) (w arcs : List ℕ) → IsText arcs w
+    ensures { (bound capacity : ℕ) (w arcs : List ℕ) → IsDottedText arcs w
         → AllByRecursion (λ n. n < bound) arcs → 0 < length arcs
         → read_text bound capacity w ≡ gather capacity [] arcs }
 {}

@@ -280,7 +280,7 @@ impl<const MAX_SIZE: usize> Hash for ObjectIdentifier<MAX_SIZE> {
 impl ObjectIdentifier<39> {
     ghost use Rattle.std.specs.Prelude.{◌≢◌, ◌^◌};
     ghost use Rattle.const_oid.specs.TextReading.{read_text};
-    ghost use Rattle.const_oid.specs.TextFaults.{IsText, IsTextFault};
+    ghost use Rattle.const_oid.specs.TextFaults.{IsDottedText, IsTextFault};
 
     /// The greatest number of octets.
     pub const MAX_SIZE: usize = 39;
@@ -289,9 +289,9 @@ impl ObjectIdentifier<39> {
     /// front of an arc are read.
     pub fn new(s: &str) -> Result<Self>
         ensures read { result ≡ read_text Bound max_size s.now }
-        ensures ok { IfOk result (λ arcs. IsText arcs s.now × IsIdentifier Bound arcs
+        ensures ok { IfOk result (λ arcs. IsDottedText arcs s.now × IsIdentifier Bound arcs
             × (length (identifier_octets arcs) ≤ max_size)) }
-        ensures spelled { (arcs : List ℕ) → IsText arcs s.now → IsIdentifier Bound arcs
+        ensures spelled { (arcs : List ℕ) → IsDottedText arcs s.now → IsIdentifier Bound arcs
             → length (identifier_octets arcs) ≤ max_size
             → result ≡ Ok arcs }
         ensures fault { IfErr result (λ e. IsTextFault Bound max_size s.now e) }
@@ -383,7 +383,7 @@ impl FromStr for ObjectIdentifier<39> {
     ghost use Rattle.std.specs.Prelude.{◌≡◌, ◌≢◌};
     ghost use Rattle.const_oid.specs.Bound.{Bound, max_size};
     ghost use Rattle.const_oid.specs.TextReading.{read_text};
-    ghost use Rattle.const_oid.specs.TextFaults.{IsText, IsTextFault};
+    ghost use Rattle.const_oid.specs.TextFaults.{IsDottedText, IsTextFault};
 
     type Err = Error;
 
@@ -391,9 +391,9 @@ impl FromStr for ObjectIdentifier<39> {
 
     fn from_str(s: &str) -> Result<Self>
         ensures read { result ≡ read_text Bound max_size s.now }
-        ensures ok { IfOk result (λ arcs. IsText arcs s.now × IsIdentifier Bound arcs
+        ensures ok { IfOk result (λ arcs. IsDottedText arcs s.now × IsIdentifier Bound arcs
             × (length (identifier_octets arcs) ≤ max_size)) }
-        ensures spelled { (arcs : List ℕ) → IsText arcs s.now → IsIdentifier Bound arcs
+        ensures spelled { (arcs : List ℕ) → IsDottedText arcs s.now → IsIdentifier Bound arcs
             → length (identifier_octets arcs) ≤ max_size
             → result ≡ Ok arcs }
         ensures fault { IfErr result (λ e. IsTextFault Bound max_size s.now e) }

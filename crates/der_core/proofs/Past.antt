@@ -8,11 +8,11 @@ use Rattle.std.proofs.lemmas.Cmp.{nat_list_cmp_total}
 use Rattle.der_core_head.specs.Grammar.{plain_list}
 use Rattle.der_core_head.specs.Shapes.{Shape, Value, octets_of, AllRising}
 use Rattle.der_core.specs.Orders.{octets_cmp, encodings_cmp}
-use Rattle.der_core.specs.Placed.{is_equal, is_less, put, placed, stands_among}
+use Rattle.der_core.specs.Placed.{is_equal, is_less, put_in_front, placed, stands_among}
 
 -- so many stand in front of it, and it goes among the others
 abbrev pub IsPast : {A P : Type 0} → (A → P) → (P → P → Bool) → P → List A → ℕ → Type 0
-IsPast f g x xs i = put g x (plain_list f xs) ≡ plain_list f (take i xs) ++ put g x (plain_list f (drop i xs))
+IsPast f g x xs i = put_in_front g x (plain_list f xs) ≡ plain_list f (take i xs) ++ put_in_front g x (plain_list f (drop i xs))
 
 -- A set that rises, with one more at its place, whose encoding isn't there.
 
@@ -45,4 +45,4 @@ placed_rises s v [] rises none = tt
 placed_rises s v (w ∷ ws) rises none = first s v w ws (encodings_cmp s v w) refl rises none
 
 pub still_rises : (s : Shape) (v : Value s) (ws new : List (Value s)) → new ≡ placed s v ws → stands_among s v ws ≡ false → Rises s ws → Rises s new
-still_rises s v ws new put none rises = subst (Rises s) (sym put) (placed_rises s v ws rises none)
+still_rises s v ws new is none rises = subst (Rises s) (sym is) (placed_rises s v ws rises none)

@@ -28,13 +28,14 @@ abbrev pub is_same : (s : Shape) → Value s → Value s → Bool
 is_same s v w = is_equal (encodings_cmp s v w)
 
 -- one more in a list, in front of the first before which it goes
-abbrev pub put : {P : Type 0} → (P → P → Bool) → P → List P → List P
-put goes_before x [] = x ∷ []
-put goes_before x (y ∷ left) = if goes_before x y then x ∷ y ∷ left else y ∷ put goes_before x left
+abbrev pub put_in_front : {P : Type 0} → (P → P → Bool) → P → List P → List P
+put_in_front goes_before x [] = x ∷ []
+put_in_front goes_before x (y ∷ left) =
+    if goes_before x y then x ∷ y ∷ left else y ∷ put_in_front goes_before x left
 
 -- a value among others, in front of the first whose encoding is above its own (X.690 11.6)
 abbrev pub placed : (s : Shape) → Value s → List (Value s) → List (Value s)
-placed s v others = put (is_below s) v others
+placed s v others = put_in_front (is_below s) v others
 
 -- whether one of the others has its encoding
 abbrev pub stands_among : (s : Shape) → Value s → List (Value s) → Bool

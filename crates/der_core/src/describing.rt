@@ -7,8 +7,8 @@
 //! - `AsOctets`, a content whose octets a value holds: `FixedTag`, `Primitive`, `Leaf`, `Octets`.
 //! - `AsLeaf`, another content that is no list of values: `FixedTag`, `Primitive`, `Leaf`,
 //!   `EncodeLeaf`.
-//! - `AsInteger`, a whole number of at most 128 bits: `Integer`, or `Numbered` where each value has a
-//!   number of eight bits; `AsEnumerated`, such a number behind the tag ENUMERATED.
+//! - `AsInteger`, a whole number of at most 128 bits: `Integer`, or `Numbered` where each value has
+//!   a number of eight bits; `AsEnumerated`, such a number behind the tag ENUMERATED.
 //!
 //! A record is compared field after field; another type says `Ordered`, or has an order of its own.
 //! Where the way doesn't know that values are in range, the type says it (`InRangeValue`).

@@ -18,9 +18,9 @@ fn integer_cmp<T: Integer>(a: &T, b: &T) -> Ordering
     ensures { result ≡ octets_cmp (integer_octets (T.number a.now))
         (integer_octets (T.number b.now)) }
 {
-    let (negative, number) = a.magnitude();
+    let (negative, number) = a.sign_and_bits();
     let (octets, start) = integer_octets_of(negative, number);
-    let (other_negative, other_number) = b.magnitude();
+    let (other_negative, other_number) = b.sign_and_bits();
     let (other_octets, other_start) = integer_octets_of(other_negative, other_number);
     octets[start..].cmp(&other_octets[other_start..])
 }

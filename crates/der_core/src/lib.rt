@@ -2,22 +2,32 @@
 //! compared, the order of encodings, and sets in that order (X.690 11.6).
 #![tactic(auto)]
 
+mod absent;
 mod arrays;
+mod boolean;
+mod boxes;
 mod by_ord;
 mod choices;
 mod contents;
 mod copies;
 pub mod describing;
+mod encode_ref;
+mod explicit;
 mod headers;
+mod implicit;
 mod iterators;
 pub mod laws;
 mod leaves;
 mod lists;
 pub mod making;
+mod options;
 mod order;
+mod pairs;
 mod placing;
 mod records;
 mod strict_set_of;
+mod unit;
+mod with_default;
 mod wrappers;
 
 pub use by_ord::{OrdIsValueOrd, der_cmp_by_ord, value_cmp_by_ord, value_cmp_is_ord};
@@ -46,14 +56,3 @@ pub use iterators::{iter_cmp, iter_cmp_owned};
 pub use order::{DerOrd, FirstTag, ValueOrd};
 pub use pairs::FieldsOrd;
 pub use strict_set_of::StrictSetOf;
-
-mod absent;
-mod boolean;
-mod boxes;
-mod encode_ref;
-mod explicit;
-mod implicit;
-mod options;
-mod pairs;
-mod unit;
-mod with_default;

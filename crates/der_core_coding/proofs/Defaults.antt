@@ -18,7 +18,7 @@ use Rattle.der_core_head.specs.Shapes.{Content, ContentValue, leaf, nested, only
 use Rattle.der_core_head.specs.Spelling.{is_content_apart, are_content_enough}
 use Rattle.der_core_head.specs.Tags.{context, tag_octets, number_octets, number_of, IsTag}
 use Rattle.der_core_head.proofs.Complete.{complete_element}
-use Rattle.der_core_octets.specs.Numbers.{signed_number}
+use Rattle.der_core_octets.specs.Numbers.{with_sign}
 use Rattle.der_core_coding.specs.Defaults.{short_tlv}
 
 -- Lengths
@@ -155,11 +155,11 @@ positive_same r n =
     same_from_decides (nat_eq n 0) (bytes_eq octets (0 ∷ [])) (Decides-eqb n 0)
     (Decides-like (bytes_eq octets (0 ∷ [])) (λ e. cc (octets_alone r (pos n) e)) (λ e. zero_content r (pos n) (ap pos e)) (bytes_eq-Decides octets (0 ∷ [])))
 
-pub positive_zero : (r : Numbers) (z : ℤ) (negative : Bool) (n : ℕ) → z ≡ signed_number negative n → negative ≡ false
+pub positive_zero : (r : Numbers) (z : ℤ) (negative : Bool) (n : ℕ) → z ≡ with_sign negative n → negative ≡ false
     → nat_eq n 0 ≡ bytes_eq (contents (leaf (integer r)) z) (0 ∷ [])
 positive_zero r z negative n e h = rw (e, h) (positive_same r n)
 
-pub negative_zero : (r : Numbers) (z : ℤ) (negative : Bool) (n : ℕ) → z ≡ signed_number negative n → negative ≡ true
+pub negative_zero : (r : Numbers) (z : ℤ) (negative : Bool) (n : ℕ) → z ≡ with_sign negative n → negative ≡ true
     → not negative ≡ bytes_eq (contents (leaf (integer r)) z) (0 ∷ [])
 negative_zero r z false n e h = absurd (cc h)
 negative_zero r z true n e h =

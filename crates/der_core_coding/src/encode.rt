@@ -15,7 +15,7 @@ use der_core_values::Encode;
 use std::alloc::Global;
 
 /// The octets that writing a value gives, in a vector made for that many.
-fn written<T: Encode>(alloc: Global, value: &T) -> Result<Vec<u8>, Error>
+fn encoded<T: Encode>(alloc: Global, value: &T) -> Result<Vec<u8>, Error>
     ensures { Gives (λ v. record { written = v.items; room = None; failed = false }) result
         (write T.shape (T.written value.now)
         (record { written = []; room = None; failed = false })) }
@@ -80,7 +80,7 @@ pub trait ToDer: Encode {
             result (write Self.shape (Self.written self.now)
             (record { written = []; room = None; failed = false })) }
     {
-        written(alloc, self)
+        encoded(alloc, self)
     }
 
     /// Writes the value to the front of a slice, and lends what was written. No memory is taken.

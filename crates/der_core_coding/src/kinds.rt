@@ -137,7 +137,7 @@ pub fn is_zero<T: Integer>(value: &T) -> bool
         → contents (leaf (integer T.numbers)) (T.number value.now) ≡ 0 ∷ [] }
     ensures valid { IsContent (leaf (integer T.numbers)) (T.number value.now) }
 {
-    let (negative, number) = value.magnitude();
+    let (negative, number) = value.sign_and_bits();
     !negative && number == 0
 }
 

@@ -4,7 +4,11 @@
 
 mod behind;
 mod encode;
+mod encode_ref;
+mod explicit;
+mod implicit;
 mod kinds;
+mod pairs;
 mod reading;
 mod set_of;
 mod slice_reader;
@@ -15,6 +19,7 @@ mod tagged;
 mod tagged_fields;
 mod tagging;
 mod whole;
+mod with_default;
 
 pub use behind::{encode_behind, len_behind};
 pub use encode::ToDer;
@@ -34,9 +39,3 @@ pub use tagged_fields::{explicit_of, explicit_ref, implicit_of, implicit_ref};
 pub use tagging::{encode_explicit, encode_implicit};
 pub use whole::{FromDer, leaf_from_der, read_whole};
 pub use with_default::WithDefault;
-
-mod encode_ref;
-mod explicit;
-mod implicit;
-mod pairs;
-mod with_default;

@@ -50,14 +50,14 @@ tlv_first t c = (length_octets (length c) ++ c, append_assoc (tag_octets t) (len
 abbrev pub StandsFirst : (Tag → Bool) → List ℕ → Type 0
 StandsFirst first b = (t : Tag) × (w : List ℕ) × (b ≡ tag_octets t ++ w) × IsTag t × (first t ≡ true)
 
-abbrev pub Begins : Shape → List ℕ → Type 0
-Begins s b = StandsFirst (begins s) b
+abbrev pub BeginsShape : Shape → List ℕ → Type 0
+BeginsShape s b = StandsFirst (begins s) b
 
 -- as they do where more octets follow
 pub first_more : (first : Tag → Bool) (b r : List ℕ) → StandsFirst first b → StandsFirst first (b ++ r)
 first_more first b r f = (f.0, f.1 ++ r, ap (λ (x : List ℕ). x ++ r) f.2 ∙ append_assoc (tag_octets f.0) f.1 r, f.3, f.4)
 
-pub element_first : (s : Shape) (v : Value s) → is_element s ≡ true → IsValid s v → Begins s (octets_of s v)
+pub element_first : (s : Shape) (v : Value s) → is_element s ≡ true → IsValid s v → BeginsShape s (octets_of s v)
 unfolding octets_of IsValid
 element_first (tagged t c) v e h = let f = tlv_first t (contents c v) in (t, f.0, f.1, h.1, same_tag-refl t)
 element_first any v e h = let f = tlv_first v.tag v.contents in (v.tag, f.0, f.1, h.1, refl)
@@ -77,7 +77,7 @@ element_some s v e h =
     (t.0, t.1 ++ f.1, f.2 ∙ ap (λ (x : List ℕ). x ++ f.1) t.2)
 
 -- a field's octets are none, or begin as its shape may
-pub field_first : (s : Shape) (v : Value s) → is_apart s ≡ true → IsValid s v → ((octets_of s v ≡ []) × (is_element s ≡ false)) ⊎ Begins s (octets_of s v)
+pub field_first : (s : Shape) (v : Value s) → is_apart s ≡ true → IsValid s v → ((octets_of s v ≡ []) × (is_element s ≡ false)) ⊎ BeginsShape s (octets_of s v)
 unfolding octets_of IsValid unless
 field_first (tagged t c) v a h = inr (element_first (tagged t c) v refl h)
 field_first any v a h = inr (element_first any v refl h)
@@ -87,7 +87,7 @@ field_first (optional s) (Some v) a h = inr (element_first s v (and_parts (is_el
 field_first nothing v a h = inl (refl, refl)
 field_first (defaulted s d) v a h = go (bytes_eq (octets_of s v) d)
   where
-    go : (b : Bool) → ((unless b (octets_of s v) ≡ []) × (is_element (defaulted s d) ≡ false)) ⊎ Begins s (unless b (octets_of s v))
+    go : (b : Bool) → ((unless b (octets_of s v) ≡ []) × (is_element (defaulted s d) ≡ false)) ⊎ BeginsShape s (unless b (octets_of s v))
     go true = inl (refl, refl)
     go false = inr (element_first s v (and_parts (is_element s) (is_apart s) (and_parts (is_element s && is_apart s) _ a).0).0 h)
 
@@ -264,7 +264,7 @@ none_behind : {P : Type 0} (how : Step) (o : P → List ℕ) (xs : List P) → B
 none_behind how o [] = tt
 none_behind how o (x ∷ xs) = tt
 
-default_again : (s : Shape) (d : List ℕ) (room : ℕ) (v : Value s) (r : List ℕ) (b : Bool) → bytes_eq (octets_of s v) d ≡ b → StopsBefore (begins s) r → Begins s (octets_of s v)
+default_again : (s : Shape) (d : List ℕ) (room : ℕ) (v : Value s) (r : List ℕ) (b : Bool) → bytes_eq (octets_of s v) d ≡ b → StopsBefore (begins s) r → BeginsShape s (octets_of s v)
     → read s room (octets_of s v ++ r) ≡ Ok (v, r) → read s 64 (octets_of s v ++ []) ≡ Ok (v, [])
     → default_at encodings.Der (begins s) (read s 64 d) (λ v. bytes_eq (octets_of s v) d) (read s room) (unless b (octets_of s v) ++ r) ≡ Ok (v, r)
 unfolding unless

@@ -87,8 +87,8 @@ sequence b = tagged tags.Sequence (nested b)
 abbrev pub sequence_of : Shape → Shape
 sequence_of s = tagged tags.Sequence (nested (many s))
 
-abbrev pub set_of : Shape → Shape
-set_of s = tagged tags.Set (nested (rising s))
+abbrev pub strict_set_of : Shape → Shape
+strict_set_of s = tagged tags.Set (nested (rising s))
 
 abbrev pub explicit : ℕ → Shape → Shape
 explicit n s = tagged (context true n) (nested (only s))

@@ -88,7 +88,7 @@ pub fn short_tag_of(octet: u8) -> Option<Tag>
 
 /// The tag at the front of octets, if it is spelled in one.
 #[inline(always)]
-pub fn plain_tag_of(octets: &[u8]) -> Option<Tag>
+pub fn short_tag_at(octets: &[u8]) -> Option<Tag>
     ensures { IfSome result (λ t. tag_at octets.now ≡ Ok (t, drop 1 octets.now)) }
 {
     let [first, ..] = octets else {

@@ -10,7 +10,7 @@ use Rattle.der_core_head.specs.declared.error.ErrorKind.TheVariants as kinds
 use Rattle.der_core_head.specs.declared.tag.Tag.{Tag}
 use Rattle.der_core_head.specs.Integers.{positive, integer_octets, unsigned, signed, is_redundant, integer_of, shortest_integer, integer_read}
 use Rattle.std.proofs.lemmas.Int.Digits.{number_after_ge}
-use Rattle.der_core_octets.specs.Numbers.{signed_number, turn, turned}
+use Rattle.der_core_octets.specs.Numbers.{with_sign, turn, turned}
 use Rattle.const_oid.specs.Digits.{digits}
 use Rattle.const_oid.proofs.DigitLaws.{digits-Digits, digits-one, digits-more}
 use Rattle.std.proofs.Common.{zero, suc, ◌/◌, ◌%◌, ◌++◌, append_assoc}
@@ -33,7 +33,7 @@ magnitude_large b n i w h large =
 
 -- the number of the octets, by the first one
 pub shortest_is : (t : Tag) (w : List ℕ) (d : ℕ) → slice_get w 0 ≡ Some d → is_redundant w ≡ false
-    → shortest_integer t w ≡ Ok (signed_number (leb 128 d) (number_from_digits 256 (turned (leb 128 d) w)))
+    → shortest_integer t w ≡ Ok (with_sign (leb 128 d) (number_from_digits 256 (turned (leb 128 d) w)))
 unfolding shortest_integer integer_of
 shortest_is t [] d e h = absurd cc
 shortest_is t (a ∷ w) d e h = grind (arith, nat_tests)
@@ -42,7 +42,7 @@ shortest_is t (a ∷ w) d e h = grind (arith, nat_tests)
 pub unsigned_large : (k : ℕ) (t : Tag) (w : List ℕ) (n : ℕ) → shortest_integer t w ≡ Ok (pos n) → k ≤ 128 → 2 ^ 128 ≤ n → integer_read (unsigned k) t w ≡ Err (kinds.Length t)
 unsigned_large k t w n e le large = rw (e, le-ltb n (2 ^ k) (omega (arith, pow_mono {i = k} {j = 128} le))) refl
 
-pub signed_large : (k : ℕ) (t : Tag) (w : List ℕ) (b : Bool) (n : ℕ) → shortest_integer t w ≡ Ok (signed_number b n) → k ≤ 128 → 2 ^ 128 ≤ n → integer_read (signed k) t w ≡ Err (kinds.Length t)
+pub signed_large : (k : ℕ) (t : Tag) (w : List ℕ) (b : Bool) (n : ℕ) → shortest_integer t w ≡ Ok (with_sign b n) → k ≤ 128 → 2 ^ 128 ≤ n → integer_read (signed k) t w ≡ Err (kinds.Length t)
 signed_large k t w true n e le large = rw (e, le-ltb n (2 ^ (k - 1)) (omega (arith, pow_mono {i = k - 1} {j = 128} (omega arith)))) refl
 signed_large k t w false n e le large = rw (e, le-ltb n (2 ^ (k - 1)) (omega (arith, pow_mono {i = k - 1} {j = 128} (omega arith)))) refl
 
@@ -79,7 +79,7 @@ place_some n (suc k) l h = omega arith
 
 -- the content of a number, from its digits
 
-content_is : (b : Bool) (n : ℕ) → integer_octets (signed_number b n) ≡ turned b (positive (digits 256 n))
+content_is : (b : Bool) (n : ℕ) → integer_octets (with_sign b n) ≡ turned b (positive (digits 256 n))
 unfolding integer_octets
 content_is true n = refl
 content_is false n = refl
@@ -110,9 +110,9 @@ high b left w (d ∷ ds) all l h e =
     zero_first true u = refl
     zero_first false u = refl
 
-pub integer_low : (b : Bool) (n left : ℕ) (w : List ℕ) → left < 128 → turned b (digits 256 left) ++ w ≡ turned b (digits 256 n) → turn b left ∷ w ≡ integer_octets (signed_number b n)
+pub integer_low : (b : Bool) (n left : ℕ) (w : List ℕ) → left < 128 → turned b (digits 256 left) ++ w ≡ turned b (digits 256 n) → turn b left ∷ w ≡ integer_octets (with_sign b n)
 integer_low b n left w l e = low b left w (digits 256 n) (digits-Digits 256 n (omega arith)).below l (from_first b n left w (omega arith) e) ∙ sym (content_is b n)
 
 pub integer_high : (b : Bool) (n left : ℕ) (w : List ℕ) → 128 ≤ left → left < 256 → turned b (digits 256 left) ++ w ≡ turned b (digits 256 n)
-    → turn b 0 ∷ turn b left ∷ w ≡ integer_octets (signed_number b n)
+    → turn b 0 ∷ turn b left ∷ w ≡ integer_octets (with_sign b n)
 integer_high b n left w l h e = high b left w (digits 256 n) (digits-Digits 256 n (omega arith)).below l h (from_first b n left w h e) ∙ sym (content_is b n)

@@ -6,9 +6,9 @@ use Rattle.der_core_head.specs.declared.tag.Tag.{Tag}
 use Rattle.der_core_head.specs.Integers.{complement, shortest_integer}
 
 -- n, or -(n + 1)
-abbrev pub signed_number : Bool → ℕ → ℤ
-signed_number false n = pos n
-signed_number true n = negsuc n
+abbrev pub with_sign : Bool → ℕ → ℤ
+with_sign false n = pos n
+with_sign true n = negsuc n
 
 -- an octet with each bit turned, or not
 abbrev pub turn : Bool → ℕ → ℕ
@@ -26,6 +26,6 @@ IsMagnitude n None = 2 ^ 128 ≤ n
 
 -- What was answered is the number that a content spells, whatever its size, or its fault.
 abbrev pub IsWholeNumber : Tag → List ℕ → Result (Bool × Option ℕ) Error → Type 0
-IsWholeNumber t w (Ok x) = (n : ℕ) × (shortest_integer t w ≡ Ok (signed_number x.0 n))
+IsWholeNumber t w (Ok x) = (n : ℕ) × (shortest_integer t w ≡ Ok (with_sign x.0 n))
     × IsMagnitude n x.1
 IsWholeNumber t w (Err e) = shortest_integer t w ≡ Err e.kind

@@ -8,8 +8,8 @@ ghost use Rattle.der_core_octets.specs.Headers.{head_of, wanted_at};
 
 use crate::header::Header;
 use crate::indefinite::{header_ber_of, tag_ber_of};
-use crate::parse::{header_of, plain_header_of, short_header_of_tag};
-use der_core_head::{EncodingRules, Error, ErrorKind, Tag, is_same_tag, plain_tag_of, tag_of};
+use crate::parse::{header_of, short_header_of, short_header_of_tag};
+use der_core_head::{EncodingRules, Error, ErrorKind, Tag, is_same_tag, short_tag_at, tag_of};
 
 /// The tag at the front of octets, and how many octets it takes.
 ///
@@ -31,7 +31,7 @@ pub fn short_tag_by_both(octets: &[u8]) -> Option<Tag>
     ensures { IfSome result
         (λ t. (rules : EncodingRules) → alone (tag_by rules octets.now) ≡ Ok t) }
 {
-    let tag = plain_tag_of(octets)?;
+    let tag = short_tag_at(octets)?;
     Some(tag)
 }
 
@@ -52,19 +52,19 @@ pub fn header_by(rules: EncodingRules, octets: &[u8]) -> Result<(Header, usize),
 /// The header at the front of octets, and how many octets it takes, if its tag is spelled in one
 /// octet and its length in its shortest form. It is the same by both rules.
 #[inline(always)]
-pub fn plain_header_by_both(octets: &[u8]) -> Option<(Header, usize)>
+pub fn short_header_by_both(octets: &[u8]) -> Option<(Header, usize)>
     ensures front { IfSome result
         (λ x. (rules : EncodingRules) → ReadsFront head_of octets.now (Ok x) (head_by rules)) }
     ensures within { IfSome result (λ x. x.1 ≤ length octets.now) }
 {
-    let front = plain_header_of(octets)?;
+    let front = short_header_of(octets)?;
     Some(front)
 }
 
 /// The header of a wanted tag at the front of octets, and how many octets it takes, if the tag is
 /// spelled in one octet. It is the same by both rules.
 #[inline(always)]
-pub fn plain_header_of_tag(tag: Tag, octets: &[u8]) -> Option<(Header, usize)>
+pub fn short_header_of_tag_by_both(tag: Tag, octets: &[u8]) -> Option<(Header, usize)>
     ensures front { IfSome result
         (λ x. (rules : EncodingRules)
         → ReadsFront head_of octets.now (Ok x) (wanted_at tag (head_by rules))) }

@@ -5,7 +5,7 @@ ghost use Rattle.std.specs.Int.Digits.{number_from_digits};
 ghost use Rattle.der_core_head.specs.Integers.{unsigned, signed, is_redundant, integer_octets};
 ghost use Rattle.der_core_head.specs.Integers.{integer_read};
 ghost use Rattle.der_core_head.specs.Reading.{GivesNow};
-ghost use Rattle.der_core_octets.specs.Numbers.{signed_number, turn, turned, IsMagnitude};
+ghost use Rattle.der_core_octets.specs.Numbers.{with_sign, turn, turned, IsMagnitude};
 ghost use Rattle.der_core_octets.specs.Numbers.{IsWholeNumber};
 
 use der_core_head::{Error, ErrorKind, Tag};
@@ -30,7 +30,7 @@ fn magnitude_of(octets: &[u8], negative: bool) -> Option<u128>
 }
 
 /// Whether the first nine bits are equal (8.3.2).
-fn is_redundant(octets: &[u8]) -> bool
+pub fn has_redundant_octet(octets: &[u8]) -> bool
     ensures { result ≡ is_redundant octets.now }
 {
     match octets {
@@ -52,7 +52,7 @@ fn whole_number_of(tag: Tag, octets: &[u8]) -> Result<(bool, Option<u128>), Erro
         return Err(Error::from(ErrorKind::Length { tag }));
     };
     let negative = *first >= 128;
-    if is_redundant(octets) {
+    if has_redundant_octet(octets) {
         return Err(Error::from(ErrorKind::Noncanonical { tag }));
     }
     Ok((negative, magnitude_of(octets, negative)))
@@ -97,7 +97,7 @@ pub fn unsigned_of(tag: Tag, octets: &[u8], bits: u32) -> Result<u128, Error>
 pub fn signed_of(tag: Tag, octets: &[u8], bits: u32) -> Result<(bool, u128), Error>
     requires low { 0 < bits }
     requires high { bits ≤ 128 }
-    ensures exact { GivesNow (λ x. signed_number x.0 x.1) result
+    ensures exact { GivesNow (λ x. with_sign x.0 x.1) result
         (integer_read (signed bits) tag octets.now) }
     ensures small { IfOk result (λ x. x.1 < 2 ^ (bits - 1)) }
 {
@@ -114,7 +114,7 @@ pub fn signed_of(tag: Tag, octets: &[u8], bits: u32) -> Result<(bool, u128), Err
 /// The content of a number n, or of -(n + 1) where it is negative: the last octets of the array,
 /// from a place on.
 pub fn integer_octets_of(negative: bool, number: u128) -> ([u8; 17], usize)
-    ensures octets { drop result.1 result.0 ≡ integer_octets (signed_number negative number) }
+    ensures octets { drop result.1 result.0 ≡ integer_octets (with_sign negative number) }
     ensures some { result.1 < 17 }
 {
     let mut octets = [0; 17];

@@ -141,7 +141,7 @@ fn length_fault(tag: Tag, octets: &[u8]) -> ErrorKind
 /// Most headers are so, and the loops that read them have no call for it.
 #[inline(always)]
 #[tactic(auto, unfolding(der_core_head::specs::Heads::head_at))]
-pub fn plain_header_of(octets: &[u8]) -> Option<(Header, usize)>
+pub fn short_header_of(octets: &[u8]) -> Option<(Header, usize)>
     ensures { IfSome result (λ x. ReadsFront head_of octets.now (Ok x) head_at) }
 {
     let [first, rest @ ..] = octets else {
@@ -177,7 +177,7 @@ pub fn short_header_of_tag(tag: Tag, octets: &[u8]) -> Option<(Header, usize)>
 pub fn header_of(octets: &[u8]) -> Result<(Header, usize), Error>
     ensures { ReadsFront head_of octets.now result head_at }
 {
-    match plain_header_of(octets) {
+    match short_header_of(octets) {
         Some((header, count)) => Ok((header, count)),
         None => {
             let (header, count) = any_header_of(octets)?;

@@ -21,7 +21,7 @@ ghost use Rattle.der_core_octets.specs.Nesting.{AnsweredIn, RefusesIn};
 ghost use Rattle.der_core_octets.specs.Places.{IsAt, encoding_at};
 
 use crate::{
-    Header, any_header_of_tag, header_by, plain_header_by_both, plain_header_of_tag,
+    Header, any_header_of_tag, header_by, short_header_by_both, short_header_of_tag_by_both,
     short_tag_by_both, tag_by,
 };
 use der_core_head::{EncodingRules, Error, ErrorKind, Length, Tag};
@@ -172,7 +172,7 @@ pub trait Reader<'r>: Drop {
     {
         if !self.is_failed() {
             let octets = self.remaining();
-            if let Some((header, len)) = plain_header_by_both(octets) {
+            if let Some((header, len)) = short_header_by_both(octets) {
                 self.skip(len);
                 return Ok(header);
             }
@@ -192,7 +192,7 @@ pub trait Reader<'r>: Drop {
         ensures tag { IfOk result (λ h. h.tag ≡ tag) }
     {
         if !self.is_failed() {
-            if let Some((header, len)) = plain_header_of_tag(tag, self.remaining()) {
+            if let Some((header, len)) = short_header_of_tag_by_both(tag, self.remaining()) {
                 self.skip(len);
                 return Ok(header);
             }

@@ -6,7 +6,7 @@ ghost use Rattle.der_core_head.specs.Shapes.{leaf};
 ghost use Rattle.der_core_head.specs.Integers.{Numbers, IsNumber, unsigned, signed, integer_read};
 ghost use Rattle.der_core_head.specs.Leaves.{integer};
 ghost use Rattle.der_core_head.specs.Reading.{GivesNow};
-ghost use Rattle.der_core_octets.specs.Numbers.{signed_number};
+ghost use Rattle.der_core_octets.specs.Numbers.{with_sign};
 
 use crate::decode::FixedTag;
 use crate::leaves::{Leaf, Primitive, decode_leaf};
@@ -32,8 +32,8 @@ pub trait Integer: Drop {
         ensures { GivesNow number result (integer_read numbers tag octets.now) };
 
     /// Whether it is negative, and the number n that it is, or of which it is -(n + 1).
-    fn magnitude(&self) -> (bool, u128)
-        ensures value { number self.now ≡ signed_number result.0 result.1 }
+    fn sign_and_bits(&self) -> (bool, u128)
+        ensures value { number self.now ≡ with_sign result.0 result.1 }
         // The type has it.
         ensures has { IsNumber numbers (number self.now) };
 }
@@ -91,7 +91,7 @@ impl<T: Integer, K> Way<T> for AsInteger<K> {
     ghost written_by = { T.number };
 
     fn len_by(value: &T) -> Result<Length, Error> {
-        let (negative, number) = value.magnitude();
+        let (negative, number) = value.sign_and_bits();
         let (_, start) = integer_octets_of(negative, number);
         Ok(Length {
             value: (17 - start) as u32,
@@ -99,7 +99,7 @@ impl<T: Integer, K> Way<T> for AsInteger<K> {
     }
 
     fn encode_by<W: Writer>(value: &T, writer: &mut W) -> Result<(), Error> {
-        let (negative, number) = value.magnitude();
+        let (negative, number) = value.sign_and_bits();
         let (octets, start) = integer_octets_of(negative, number);
         writer.write(&octets[start..])
     }
@@ -127,7 +127,7 @@ impl<'a, R: Reader<'a>, T: Integer, K> DecodeWay<'a, R, T> for AsInteger<K> {
 
 impl<T: Integer, K> RangeWay<T> for AsInteger<K> {
     fn range_by(value: &T) {
-        let _magnitude = value.magnitude();
+        let _bits = value.sign_and_bits();
     }
 }
 
@@ -145,7 +145,7 @@ impl Integer for u8 {
         Ok(number as u8)
     }
 
-    fn magnitude(&self) -> (bool, u128) {
+    fn sign_and_bits(&self) -> (bool, u128) {
         (false, u128::from(*self))
     }
 }
@@ -164,7 +164,7 @@ impl Integer for u16 {
         Ok(number as u16)
     }
 
-    fn magnitude(&self) -> (bool, u128) {
+    fn sign_and_bits(&self) -> (bool, u128) {
         (false, u128::from(*self))
     }
 }
@@ -183,7 +183,7 @@ impl Integer for u32 {
         Ok(number as u32)
     }
 
-    fn magnitude(&self) -> (bool, u128) {
+    fn sign_and_bits(&self) -> (bool, u128) {
         (false, u128::from(*self))
     }
 }
@@ -202,7 +202,7 @@ impl Integer for u64 {
         Ok(number as u64)
     }
 
-    fn magnitude(&self) -> (bool, u128) {
+    fn sign_and_bits(&self) -> (bool, u128) {
         (false, u128::from(*self))
     }
 }
@@ -221,7 +221,7 @@ impl Integer for u128 {
         Ok(number)
     }
 
-    fn magnitude(&self) -> (bool, u128) {
+    fn sign_and_bits(&self) -> (bool, u128) {
         (false, *self)
     }
 }
@@ -241,7 +241,7 @@ impl Integer for i8 {
         Ok(if negative { -1 - number } else { number })
     }
 
-    fn magnitude(&self) -> (bool, u128) {
+    fn sign_and_bits(&self) -> (bool, u128) {
         let number = *self;
         if number < 0 {
             (true, (-1 - number) as u128)
@@ -266,7 +266,7 @@ impl Integer for i16 {
         Ok(if negative { -1 - number } else { number })
     }
 
-    fn magnitude(&self) -> (bool, u128) {
+    fn sign_and_bits(&self) -> (bool, u128) {
         let number = *self;
         if number < 0 {
             (true, (-1 - number) as u128)
@@ -291,7 +291,7 @@ impl Integer for i32 {
         Ok(if negative { -1 - number } else { number })
     }
 
-    fn magnitude(&self) -> (bool, u128) {
+    fn sign_and_bits(&self) -> (bool, u128) {
         let number = *self;
         if number < 0 {
             (true, (-1 - number) as u128)
@@ -316,7 +316,7 @@ impl Integer for i64 {
         Ok(if negative { -1 - number } else { number })
     }
 
-    fn magnitude(&self) -> (bool, u128) {
+    fn sign_and_bits(&self) -> (bool, u128) {
         let number = *self;
         if number < 0 {
             (true, (-1 - number) as u128)
@@ -341,7 +341,7 @@ impl Integer for i128 {
         Ok(if negative { -1 - number } else { number })
     }
 
-    fn magnitude(&self) -> (bool, u128) {
+    fn sign_and_bits(&self) -> (bool, u128) {
         let number = *self;
         if number < 0 {
             (true, (-1 - number) as u128)

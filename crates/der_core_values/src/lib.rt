@@ -2,7 +2,10 @@
 //! and written.
 #![tactic(auto)]
 
+mod absent;
 mod arrays;
+mod boolean;
+mod boxes;
 mod bytes;
 mod decode;
 pub mod describing;
@@ -18,7 +21,11 @@ mod now;
 mod numbered;
 mod one_of_four;
 mod one_of_two;
+mod options;
+mod pairs;
 mod texts;
+mod unit;
+mod vec;
 mod ways;
 mod wraps;
 
@@ -36,11 +43,3 @@ pub use now::decode_leaf_of_tag;
 pub use one_of_four::{OneOf4, OneOf5, OneOf6, OneOf7, OneOf8, OneOf9};
 pub use one_of_two::{OneOf2, OneOf3};
 pub use vec::list_in_range;
-
-mod absent;
-mod boolean;
-mod boxes;
-mod options;
-mod pairs;
-mod unit;
-mod vec;

@@ -58,7 +58,7 @@ impl<T: Numbered> Integer for T {
     }
 
     #[tactic(auto, using(crate::proofs::NamedNumbers::listed))]
-    fn magnitude(&self) -> (bool, u128) {
+    fn sign_and_bits(&self) -> (bool, u128) {
         (false, u128::from(self.to_number()))
     }
 }

@@ -25,7 +25,7 @@ impl Integer for Small {
         Ok(Small(number as u8))
     }
 
-    fn magnitude(&self) -> (bool, u128) {
+    fn sign_and_bits(&self) -> (bool, u128) {
         (false, u128::from(self.0))
     }
 }

@@ -12,7 +12,7 @@ use Rattle.der_core_head.specs.Shapes.{AnyValue, Content, ContentValue}
 use Rattle.der_core_head.specs.Grammar.{read_content_by, whole}
 use Rattle.der_core_head.specs.Writing.{write_content}
 use Rattle.der_core_head.specs.Fronts.{alone}
-use Rattle.der_types_numbers.specs.Numbers.{counted}
+use Rattle.der_types_numbers.specs.Numbers.{if_countable}
 
 -- the value of a type that any value is read as by given rules, where the tag is that of the type,
 -- or the fault
@@ -32,8 +32,8 @@ leaf_as t l a = if same_tag a.tag t then leaf_read l a.tag a.contents else Err k
 -- a value's tag and the content that is written
 unfoldable pub written_as : Tag → (c : Content) → ContentValue c → Result AnyValue ErrorKind
 written_as t c v = write_content c v (record { written = []; room = None; failed = false })
-    >>= λ o. counted o.written (record { tag = t; contents = o.written })
+    >>= λ o. if_countable o.written (record { tag = t; contents = o.written })
 
 -- a tag and a content, if a length can count its octets
 unfoldable pub any_from : Tag → List ℕ → Result AnyValue ErrorKind
-any_from t w = counted w (record { tag = t; contents = w })
+any_from t w = if_countable w (record { tag = t; contents = w })

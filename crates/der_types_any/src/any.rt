@@ -97,7 +97,7 @@ impl Any {
     ///
     /// # Errors
     /// `Overflow` where a length passes 2^32 - 1, or `OutOfMemory`.
-    #[tactic(auto, unfolding(crate::specs::Contents::written_as, der_types_numbers::specs::Numbers::counted))]
+    #[tactic(auto, unfolding(crate::specs::Contents::written_as, der_types_numbers::specs::Numbers::if_countable))]
     pub fn encode_from<T: EncodeValue + FixedTag>(alloc: Global, value: &T) -> Result<Any, Error>
         ensures { Gives (λ a. a) result
             (written_as T.fixed_tag T.content (T.value_written value.now)) }

@@ -2,11 +2,11 @@
 #![tactic(auto)]
 
 mod any;
+mod any_in_range;
 mod any_ref;
 mod conversions;
 mod dates;
 mod elements;
-mod in_range;
 pub mod laws;
 mod numbers;
 mod octets;

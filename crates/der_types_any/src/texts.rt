@@ -159,7 +159,7 @@ impl<'a> TryFrom<&'a str> for AnyRef<'a> {
 
     ghost try_from_gives = { λ x r. GivesNow any_lent r (any_from tags.Utf8String x.now) };
 
-    #[tactic(auto, unfolding(crate::specs::Contents::any_from, der_types_numbers::specs::Numbers::counted))]
+    #[tactic(auto, unfolding(crate::specs::Contents::any_from, der_types_numbers::specs::Numbers::if_countable))]
     fn try_from(text: &'a str) -> Result<AnyRef<'a>, Error> {
         AnyRef::new(Tag::Utf8String, text.as_bytes())
     }

@@ -9,18 +9,18 @@ use Rattle.der_core_head.specs.declared.tag.Tag.TheVariants.{Integer}
 use Rattle.der_core_head.specs.Integers.{integer_of, integer_octets}
 
 -- a number, if its content has no more octets than a length can count
-unfoldable pub counted : {A : Type 0} → List ℕ → A → Result A ErrorKind
-counted content n = if nat_lt length_max (length content) then Err kinds.Overflow else Ok n
+unfoldable pub if_countable : {A : Type 0} → List ℕ → A → Result A ErrorKind
+if_countable content n = if nat_lt length_max (length content) then Err kinds.Overflow else Ok n
 
 -- the number that octets spell in two's complement, the fewest or more
 unfoldable pub signed_number : List ℕ → Result ℤ ErrorKind
 signed_number [] = Err (kinds.Length Integer)
-signed_number (d ∷ ds) = counted (integer_octets (integer_of (d ∷ ds))) (integer_of (d ∷ ds))
+signed_number (d ∷ ds) = if_countable (integer_octets (integer_of (d ∷ ds))) (integer_of (d ∷ ds))
 
 -- the number of octets that are digits in base 256, with leading zeros or without
 unfoldable pub unsigned_number : List ℕ → Result ℕ ErrorKind
 unsigned_number [] = Err (kinds.Length Integer)
-unsigned_number (d ∷ ds) = counted (integer_octets (pos (number_from_digits 256 (d ∷ ds))))
+unsigned_number (d ∷ ds) = if_countable (integer_octets (pos (number_from_digits 256 (d ∷ ds))))
     (number_from_digits 256 (d ∷ ds))
 
 -- a leading zero that isn't the only digit

@@ -11,22 +11,10 @@ ghost use Rattle.der_core_head.specs.Writing.{Writes, put, fit_len};
 ghost use Rattle.der_types_numbers.specs.Numbers.{has_leading_zero, is_first_bit_set};
 ghost use Rattle.der_core_octets.specs.Outputs.{Continues};
 
-use der_core::making::encode_behind;
+use der_core::making::{encode_behind, has_redundant_octet};
 use der_core::{Error, ErrorKind, Length, Writer};
 use std::alloc::{AllocError, Global};
 use std::cmp::Ordering;
-
-/// Whether the first nine bits are all zeros or all ones.
-pub fn has_redundant_octet(octets: &[u8]) -> bool
-    ensures { result ≡ is_redundant octets.now }
-{
-    match octets {
-        [first, second, ..] => {
-            (*first == 0 && *second < 128) || (*first == 255 && !(*second < 128))
-        }
-        _ => false,
-    }
-}
 
 /// The fewest octets of the same number in two's complement.
 #[tactic(auto, using(crate::proofs::Shorter::shorter))]

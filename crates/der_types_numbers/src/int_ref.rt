@@ -15,9 +15,10 @@ ghost use Rattle.der_types_numbers.specs.NumberOrders.{integer_cmp, integer_cmp_
 ghost use Rattle.der_types_numbers.specs.NumberOrders.{integer_cmp_ties};
 ghost use Rattle.der_types_numbers.specs.Numbers.{signed_number};
 
-use crate::fewest::{fewest_signed, has_redundant_octet, sized_cmp};
+use crate::fewest::{fewest_signed, sized_cmp};
 use crate::int::Int;
 use der_core::describing::{AsOctets, Described, Octets, Ordered, Primitive};
+use der_core::making::has_redundant_octet;
 use der_core::{Error, ErrorKind, FixedTag, Leaf, Length, Tag};
 use std::alloc::{AllocError, Global};
 use std::cmp::Ordering;
@@ -41,7 +42,7 @@ impl<'a> IntRef<'a> {
     ///
     /// # Errors
     /// `Length` for no octets; `Overflow` where 2^32 octets or more are left.
-    #[tactic(auto, unfolding(crate::specs::Numbers::signed_number, crate::specs::Numbers::counted))]
+    #[tactic(auto, unfolding(crate::specs::Numbers::signed_number, crate::specs::Numbers::if_countable))]
     pub fn new(bytes: &'a [u8]) -> Result<IntRef<'a>, Error>
         ensures { GivesNow integer_lent result (signed_number bytes.now) }
     {

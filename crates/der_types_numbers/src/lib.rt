@@ -2,10 +2,10 @@
 #![tactic(auto)]
 
 mod fewest;
-mod in_range;
 mod int;
 mod int_ref;
 pub mod laws;
+mod numbers_in_range;
 mod ordering;
 mod uint;
 mod uint_ref;

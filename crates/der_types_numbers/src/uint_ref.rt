@@ -19,11 +19,11 @@ ghost use Rattle.der_types_numbers.specs.NumberOrders.{digits_ties};
 ghost use Rattle.der_types_numbers.specs.Numbers.{unsigned_number};
 
 use crate::fewest::{
-    begins_with_one_bit, content_len, encode_natural, fewest_unsigned, fit, has_redundant_octet,
-    sized_cmp,
+    begins_with_one_bit, content_len, encode_natural, fewest_unsigned, fit, sized_cmp,
 };
 use crate::uint::Uint;
 use der_core::describing::{AsLeaf, Described, EncodeLeaf, Primitive};
+use der_core::making::has_redundant_octet;
 use der_core::{Error, ErrorKind, FixedTag, Leaf, Length, Tag, Writer};
 use std::alloc::{AllocError, Global};
 use std::cmp::Ordering;
@@ -49,7 +49,7 @@ impl<'a> UintRef<'a> {
     ///
     /// # Errors
     /// `Length` for no octets; `Overflow` where the content would have 2^32 octets or more.
-    #[tactic(auto, unfolding(crate::specs::Numbers::unsigned_number, crate::specs::Numbers::counted))]
+    #[tactic(auto, unfolding(crate::specs::Numbers::unsigned_number, crate::specs::Numbers::if_countable))]
     pub fn new(bytes: &'a [u8]) -> Result<UintRef<'a>, Error>
         ensures { GivesNow natural_lent result (unsigned_number bytes.now) }
     {

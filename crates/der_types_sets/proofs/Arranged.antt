@@ -24,8 +24,9 @@ use Rattle.der_core_head.specs.declared.error.ErrorKind.TheVariants as kinds
 use Rattle.der_core_head.specs.Shapes.{Shape, Value, IsValid, octets_of}
 use Rattle.der_core_head.proofs.BoundLaws.{front_all, back_all}
 use Rattle.der_core.specs.Orders.{octets_cmp}
-use Rattle.der_types_sets.specs.Sets.{Ascends, NotAbove, AllValid, IsPlace, IsArranged, StopsBehind, StopsIn, TooLong, IsOutOfOrder}
-use Rattle.der_types_sets.specs.Rearranged.{member_at, members_at, AscendsAt, encoding_at, KeepsPlaces}
+use Rattle.der_core.specs.Placed.{AllValid}
+use Rattle.der_types_sets.specs.Sets.{Ascends, NotAbove, IsPlace, IsArranged, StopsBehind, StopsIn, TooLong, IsOutOfOrder}
+use Rattle.der_types_sets.specs.Rearranged.{member_at, members_at, AscendsAt, member_encoding, KeepsPlaces}
 use Rattle.der_types_sets.proofs.Arrangements.{less_on, turned}
 use Rattle.der_types_sets.proofs.SetSteps.{last_is, valid_at}
 
@@ -233,7 +234,7 @@ module _ {A : Type 0} (s : Shape) (f : A → Value s) where
         same = subst (λ (u : List A). IsPermutation u ys) (sym (in_turn x xs)) (subst (λ (u : List A). IsPermutation (map at range) u) (sym (are x)) moved);
         equals = λ valid b.
             let test : A → Bool = λ y. bytes_eq (octets_of s (f y)) b in
-            ap (filter test) (are x) ∙ kept_map at test places ∙ ap (map at) (same_kept (encoding_at s f all) b range places (stable valid)) ∙ sym (kept_map at test range) ∙ ap (filter test) (sym (in_turn x xs));
+            ap (filter test) (are x) ∙ kept_map at test places ∙ ap (map at) (same_kept (member_encoding s f all) b range places (stable valid)) ∙ sym (kept_map at test range) ∙ ap (filter test) (sym (in_turn x xs));
       }
 
   pub ascend_more : (xs : List A) (places : List ℕ) (end : ℕ) (x y : A) → 0 < end → end < length places → AscendsAt s f xs places end → ((d : A) → x ≡ get_or xs (get_or places (end - 1) 0) d) → ((d : A) → y ≡ get_or xs (get_or places end 0) d)

@@ -12,7 +12,8 @@ use Rattle.std.proofs.lemmas.List.Sorted.{sum_by-IsPermutation}
 use Rattle.der_core_head.specs.Shapes.{Shape, Value, octets_of}
 use Rattle.der_core.specs.Orders.{octets_cmp}
 use Rattle.der_core.proofs.OrderLaws.{octets_cmp-equal}
-use Rattle.der_types_sets.specs.Sets.{Ascends, AllValid}
+use Rattle.der_core.specs.Placed.{AllValid}
+use Rattle.der_types_sets.specs.Sets.{Ascends}
 
 pub turned : (a b : List ℕ) (r : Ordering) → octets_cmp a b ≡ r → octets_cmp b a ≡ ordering_reverse r
 turned a b r e = nat_list_cmp_total.antisymm b a ∙ ap ordering_reverse e

@@ -8,11 +8,11 @@ use Rattle.der_core_head.specs.Shapes.{Shape, Value}
 use Rattle.der_types_sets.specs.Sets.{StopsAt, StopsIn, Gains}
 
 -- what was given begins with these items
-record Begins {S A : Type 0} (steps : S → Option A → S → Type 0) (s : S) (front : List A) (x : A) : Type 0 where
+record GaveFirst {S A : Type 0} (steps : S → Option A → S → Type 0) (s : S) (front : List A) (x : A) : Type 0 where
   rest : S
   gave : YieldsThen steps s front (Some x) rest
 
-begins : {S A : Type 0} (steps : S → Option A → S → Type 0) (s t : S) (front : List A) (x : A) (back : List A) → Yields steps s (front ++ x ∷ back) t → Begins steps s front x
+begins : {S A : Type 0} (steps : S → Option A → S → Type 0) (s t : S) (front : List A) (x : A) (back : List A) → Yields steps s (front ++ x ∷ back) t → GaveFirst steps s front x
 begins steps s t [] x back h = record { rest = h.0; gave = (s, refl, h.1) }
 begins steps s t (y ∷ ys) x back h =
     let b = begins steps h.0 t ys x back h.2 in
@@ -22,7 +22,7 @@ module _ {U T A : Type 0} (s : Shape) (f : A → Value s) (becomes : U → T →
   moved : (P : List A → List A → Type 0) → P now came → P old xs
   moved P h = subst (λ (u : List A). P u xs) same (subst (P now) are h)
 
-  front_of : (e : Error) (h : StopsIn s f old xs new e) → Begins steps it h.front h.refused
+  front_of : (e : Error) (h : StopsIn s f old xs new e) → GaveFirst steps it h.front h.refused
   front_of e h = begins steps it t h.front h.refused h.back (subst (λ (u : List A). Yields steps it u t) h.are gave)
 
   -- items that were gathered, of which one was refused then

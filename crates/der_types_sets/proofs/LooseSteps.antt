@@ -26,7 +26,8 @@ use Rattle.der_core_head.proofs.Sound.{value_sound, many_sound, sound}
 use Rattle.der_core_head.proofs.Complete.{complete_content}
 use Rattle.der_core_head.proofs.OneEncoding.{one_body}
 use Rattle.der_core_values.specs.Both.{both_true}
-use Rattle.der_types_sets.specs.Sets.{Ascends, AllValid, Loose, SpellsLoosely, TooLong}
+use Rattle.der_core.specs.Placed.{AllValid}
+use Rattle.der_types_sets.specs.Sets.{Ascends, Loose, SpellsLoosely, TooLong}
 use Rattle.der_types_sets.proofs.Arrangements.{one_arrangement}
 use Rattle.der_types_sets.proofs.Arranged.{valid_moved}
 

@@ -14,7 +14,8 @@ use Rattle.std.proofs.lemmas.List.Sorted.{All-permutation, IsPermutation-trans, 
 use Rattle.der_core_head.specs.declared.error.Error.{Error}
 use Rattle.der_core_head.specs.Shapes.{Shape, Value, IsValid, octets_of}
 use Rattle.der_core.specs.Orders.{octets_cmp, encodings_cmp}
-use Rattle.der_types_sets.specs.Sets.{NotAbove, IsBelow, Ascends, AllValid, Behind, Before, IsPlace, TooLong, IsBelowLast}
+use Rattle.der_core.specs.Placed.{AllValid}
+use Rattle.der_types_sets.specs.Sets.{NotAbove, IsBelow, Ascends, Behind, Before, IsPlace, TooLong, IsBelowLast}
 
 below_not_above : {A : Type 0} (s : Shape) (f : A → Value s) (x y : A) → IsBelow s f x y → NotAbove s f x y
 below_not_above s f x y below v w greater = absurd (cc (below v w, greater))

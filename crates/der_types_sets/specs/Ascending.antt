@@ -5,7 +5,7 @@ use Rattle.std.specs.Prelude.{Err}
 use Rattle.der_core_head.specs.declared.error.ErrorKind.{ErrorKind}
 use Rattle.der_core_head.specs.Octets.{Readings}
 use Rattle.der_core_head.specs.Shapes.{Shape, Value, octets_of, AllAscending}
-use Rattle.der_types_sets.specs.Sets.{AllValid}
+use Rattle.der_core.specs.Placed.{AllValid}
 
 -- The octets join the encodings of the members, of which none is below the one before it.
 pub record JoinsAscending (s : Shape) (members : List (Value s)) (octets : List ℕ) : Type 0 where

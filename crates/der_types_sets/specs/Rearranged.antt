@@ -22,12 +22,12 @@ AscendsAt {A} s f xs places end =
     end
 
 -- the encoding of the member at a place; that of the first one where there is none
-abbrev pub encoding_at : {A : Type 0} (s : Shape) → (A → Value s) → List A → ℕ → List ℕ
-encoding_at s f [] place = []
-encoding_at s f (x ∷ xs) place = octets_of s (f (member_at (x ∷ xs) x place))
+abbrev pub member_encoding : {A : Type 0} (s : Shape) → (A → Value s) → List A → ℕ → List ℕ
+member_encoding s f [] place = []
+member_encoding s f (x ∷ xs) place = octets_of s (f (member_at (x ∷ xs) x place))
 
 -- whether the encoding at a place is below that at another
 abbrev pub KeepsPlaces : {A : Type 0} (s : Shape) → (A → Value s) → List A → List ℕ → Type 0
 KeepsPlaces s f xs places =
-    IsStableBy (λ p q. is_lt (octets_cmp (encoding_at s f xs p) (encoding_at s f xs q)))
+    IsStableBy (λ p q. is_lt (octets_cmp (member_encoding s f xs p) (member_encoding s f xs q)))
     (range_with_len 0 (length xs)) places

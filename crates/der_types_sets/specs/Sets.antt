@@ -3,7 +3,7 @@ use Rattle.std.specs.Prelude.{◌≡◌, ◌≢◌, ℕ, suc, ◌-◌, ◌<◌, 
 use Rattle.std.specs.Prelude.{slice_index_or, flat_map, bytes_eq, ⊤, ◌⊎◌, Option, Some, Result, Ok}
 use Rattle.std.specs.Prelude.{Err, true, false}
 use Rattle.std.specs.Iterator.{YieldsThen}
-use Rattle.std.specs.List.{AllByRecursion, insert, filter}
+use Rattle.std.specs.List.{insert, filter}
 use Rattle.std.specs.List.Sorted.{IsPermutation}
 use Rattle.std.specs.declared.cmp.Ordering.TheVariants.{Less, Greater}
 use Rattle.der_core_head.specs.declared.error.Error.{Error}
@@ -15,6 +15,7 @@ use Rattle.der_core_head.specs.Reading.{State, IsBer, IsRest, Kept, Fails}
 use Rattle.der_core_head.specs.Shapes.{Shape, Value, tagged, nested, many, Spells, IsValid}
 use Rattle.der_core_head.specs.Shapes.{octets_of}
 use Rattle.der_core.specs.Orders.{octets_cmp}
+use Rattle.der_core.specs.Placed.{AllValid}
 
 -- the encoding of x is not above that of y, where both have one
 abbrev pub NotAbove : {A : Type 0} (s : Shape) → (A → Value s) → A → A → Type 0
@@ -31,10 +32,6 @@ abbrev pub Ascends : {A : Type 0} (s : Shape) → (A → Value s) → List A →
 Ascends s f [] = ⊤
 Ascends s f (x ∷ []) = ⊤
 Ascends s f (x ∷ y ∷ xs) = NotAbove s f x y × Ascends s f (y ∷ xs)
-
--- each has an encoding
-abbrev pub AllValid : {A : Type 0} (s : Shape) → (A → Value s) → List A → Type 0
-AllValid s f xs = AllByRecursion (λ x. IsValid s (f x)) xs
 
 -- The octets join the encodings in any order, and the members are their ascending arrangement.
 pub record Loose (s : Shape) (members : List (Value s)) (octets : List ℕ) : Type 0 where

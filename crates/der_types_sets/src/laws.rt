@@ -8,7 +8,8 @@ ghost use Rattle.der_core_head.specs.Shapes.{Shape, Value, nested, many, body_oc
 ghost use Rattle.der_core_head.specs.Grammar.{plain_list, plain_option};
 ghost use Rattle.der_core.specs.Orders.{contents_cmp};
 ghost use Rattle.der_types_sets.specs.Lent.{Lent, IsLent, members_lent};
-ghost use Rattle.der_types_sets.specs.Sets.{Ascends, AllValid};
+ghost use Rattle.der_core.specs.Placed.{AllValid};
+ghost use Rattle.der_types_sets.specs.Sets.{Ascends};
 
 use der_core::Shaped;
 

@@ -3,7 +3,6 @@
 
 mod any_order;
 mod ascending;
-mod in_range;
 mod iter;
 mod joined;
 pub mod laws;
@@ -15,6 +14,7 @@ mod set_of;
 mod set_of_ref;
 mod set_of_ref_iter;
 mod set_of_vec;
+mod sets_in_range;
 mod sorting;
 
 pub use iter::{SequenceOfIter, SetOfIter};

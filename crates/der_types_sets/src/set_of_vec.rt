@@ -20,7 +20,8 @@ ghost use Rattle.std.specs.Hash.{items_Alike};
 ghost use Rattle.der_types_sets.specs.Lent.{members_lent};
 ghost use Rattle.der_types_sets.specs.Sets.{Ascends, Loose, ReadsArranged, SpellsLoosely};
 ghost use Rattle.der_types_sets.specs.Sets.{IsRefusal, TooLong, IsBelowLast, IsPutAtPlace};
-ghost use Rattle.der_types_sets.specs.Sets.{KeepsEquals, AllValid, Gains, StopsAt, StopsIn};
+ghost use Rattle.der_core.specs.Placed.{AllValid};
+ghost use Rattle.der_types_sets.specs.Sets.{KeepsEquals, Gains, StopsAt, StopsIn};
 ghost use Rattle.std.specs.Iterator.{IsFinite, ExtendsWithItems, Drains};
 
 use crate::any_order::AnyOrder;

@@ -8,8 +8,9 @@ ghost use Rattle.std.specs.List.Sorted.{IsPermutation};
 ghost use Rattle.std.specs.Vec.{vec_len, vec_capacity};
 ghost use Rattle.der_core_head.specs.Shapes.{IsValid};
 ghost use Rattle.der_core.specs.Orders.{octets_cmp, encodings_cmp};
-ghost use Rattle.der_types_sets.specs.Sets.{AllValid, Ascends, IsArranged, StopsBehind};
-ghost use Rattle.der_types_sets.specs.Rearranged.{member_at, members_at, AscendsAt, encoding_at};
+ghost use Rattle.der_core.specs.Placed.{AllValid};
+ghost use Rattle.der_types_sets.specs.Sets.{Ascends, IsArranged, StopsBehind};
+ghost use Rattle.der_types_sets.specs.Rearranged.{member_at, members_at, AscendsAt, member_encoding};
 ghost use Rattle.der_types_sets.specs.Rearranged.{KeepsPlaces};
 
 use crate::places::{arrange_from, check_ascending};
@@ -43,8 +44,8 @@ fn at<'m, T>(members: &'m [T], place: usize, other: &'m T) -> &'m T
 /// which none stands it is that of the first member.
 fn order_at<T: DerOrd + Member>(members: &[T], place: usize, other: usize) -> Ordering
     ensures { AllValid T.shape T.written members.now
-        → result ≡ octets_cmp (encoding_at T.shape T.written members.now place)
-        (encoding_at T.shape T.written members.now other) }
+        → result ≡ octets_cmp (member_encoding T.shape T.written members.now place)
+        (member_encoding T.shape T.written members.now other) }
 {
     let [first, ..] = members else {
         return Ordering::Equal;

@@ -5,9 +5,9 @@ use Rattle.std.proofs.lemmas.Bool.{eqb-true}
 use Rattle.std.proofs.lemmas.Option.{option_and_then_some, cond_some}
 use Rattle.der_core_head.specs.Dates.{Civil, is_civil, two_at}
 use Rattle.der_core_head.proofs.DateLaws.{two_at-again, two_at-sound, civil_ranges, zulu-sound, zulu-again}
-use Rattle.der_types_time.specs.DateTexts.{date_text, mark_at, text_at}
+use Rattle.der_types_time.specs.DateTexts.{date_text, behind_mark, text_at}
 
-mark_at-sound : (m : ℕ) (w r : List ℕ) → mark_at m w ≡ Some r → w ≡ m ∷ r
+mark_at-sound : (m : ℕ) (w r : List ℕ) → behind_mark m w ≡ Some r → w ≡ m ∷ r
 mark_at-sound m [] r e = absurd cc
 mark_at-sound m (o ∷ w) r e =
     let parts = cond_some (o == m) w r e in
@@ -18,15 +18,15 @@ unfolding text_at date_text
 text_at-sound w c e =
     option_and_then_some _ (two_at w) c e (λ century e1 e.
     option_and_then_some _ (two_at century.1) c e (λ year e2 e.
-    option_and_then_some _ (mark_at 45 year.1) c e (λ r1 m1 e.
+    option_and_then_some _ (behind_mark 45 year.1) c e (λ r1 m1 e.
     option_and_then_some _ (two_at r1) c e (λ month e3 e.
-    option_and_then_some _ (mark_at 45 month.1) c e (λ r2 m2 e.
+    option_and_then_some _ (behind_mark 45 month.1) c e (λ r2 m2 e.
     option_and_then_some _ (two_at r2) c e (λ day e4 e.
-    option_and_then_some _ (mark_at 84 day.1) c e (λ r3 m3 e.
+    option_and_then_some _ (behind_mark 84 day.1) c e (λ r3 m3 e.
     option_and_then_some _ (two_at r3) c e (λ hour e5 e.
-    option_and_then_some _ (mark_at 58 hour.1) c e (λ r4 m4 e.
+    option_and_then_some _ (behind_mark 58 hour.1) c e (λ r4 m4 e.
     option_and_then_some _ (two_at r4) c e (λ minute e6 e.
-    option_and_then_some _ (mark_at 58 minute.1) c e (λ r5 m5 e.
+    option_and_then_some _ (behind_mark 58 minute.1) c e (λ r5 m5 e.
     option_and_then_some _ (two_at r5) c e (λ second e7 e.
     let date : Civil = record { year = 100 * century.0 + year.0; month = month.0; day = day.0; hour = hour.0; minute = minute.0; second = second.0 } in
     let last = zulu-sound date second.1 c e in

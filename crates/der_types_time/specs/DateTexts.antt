@@ -29,9 +29,9 @@ ReadsDate text (Err e) = (e.kind ≡ kinds.DateTime)
     × ((c : Civil) → is_civil c ≡ true → text ≢ date_text c)
 
 -- the octets behind a mark
-abbrev pub mark_at : ℕ → List ℕ → Option (List ℕ)
-mark_at m [] = None
-mark_at m (o ∷ w) = if o == m then Some w else None
+abbrev pub behind_mark : ℕ → List ℕ → Option (List ℕ)
+behind_mark m [] = None
+behind_mark m (o ∷ w) = if o == m then Some w else None
 
 -- reading of the time behind a day, number by number
 abbrev pub time_at : ℕ → ℕ → ℕ → List ℕ → Option Civil
@@ -48,7 +48,7 @@ time_at year month day w =
       minute = minute.0;
       second = second.0;
     }) second.1)
-    (two_at r5)) (mark_at 58 minute.1)) (two_at r4)) (mark_at 58 hour.1)) (two_at w)
+    (two_at r5)) (behind_mark 58 minute.1)) (two_at r4)) (behind_mark 58 hour.1)) (two_at w)
 
 -- reading of a day and the time behind it, number by number
 unfoldable pub text_at : List ℕ → Option Civil
@@ -58,5 +58,6 @@ text_at w =
     (λ year. option_and_then
     (λ r1. option_and_then (λ month. option_and_then (λ r2. option_and_then (λ day.
     option_and_then (λ r3. time_at (100 * century.0 + year.0) month.0 day.0 r3)
-    (mark_at 84 day.1)) (two_at r2)) (mark_at 45 month.1)) (two_at r1)) (mark_at 45 year.1))
+    (behind_mark 84 day.1)) (two_at r2)) (behind_mark 45 month.1)) (two_at r1))
+    (behind_mark 45 year.1))
     (two_at century.1)) (two_at w)

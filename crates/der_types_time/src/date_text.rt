@@ -2,7 +2,7 @@
 
 ghost use Rattle.std.specs.Prelude.{◌≡◌, ◌<◌, ◌≤◌, ◌↔◌, IsTrue, IfSome, option_map};
 ghost use Rattle.der_core_head.specs.Dates.{digit_at, two_at, civil_at, two_digits};
-ghost use Rattle.der_types_time.specs.DateTexts.{mark_at, time_at, text_at, date_text};
+ghost use Rattle.der_types_time.specs.DateTexts.{behind_mark, time_at, text_at, date_text};
 ghost use Rattle.der_core_head.specs.declared.tag.Tag.{Tag as AnyTag};
 
 use crate::date_time::DateTime;
@@ -82,7 +82,7 @@ pub(crate) fn two_digits(number: u8) -> [u8; 2]
 
 /// The octets behind a mark.
 fn behind(octets: &[u8], mark: u8) -> Option<&[u8]>
-    ensures { option_map (λ rest. rest.now) result ≡ mark_at mark octets.now }
+    ensures { option_map (λ rest. rest.now) result ≡ behind_mark mark octets.now }
 {
     let [first, rest @ ..] = octets else {
         return None;

@@ -3,8 +3,8 @@
 
 mod date_text;
 mod date_time;
+mod dates_in_range;
 mod generalized_time;
-mod in_range;
 pub mod laws;
 mod utc_time;
 

@@ -7,7 +7,7 @@ pub use Rattle.x509_cert_names.specs.Names.{type_and_value, attribute, directory
 pub use Rattle.x509_cert_names.specs.Pairs.{relative_plain}
 pub use Rattle.x509_cert_names.specs.Views.{name_plain, attribute_plain}
 pub use Rattle.x509_cert_parts.specs.ExtensionSearch.{of_identifier, only_one, value_in}
-pub use Rattle.x509_cert_parts.specs.ExtensionSearch.{value_if, only_value, listed}
+pub use Rattle.x509_cert_parts.specs.ExtensionSearch.{value_if, only_value, extensions_in_field}
 pub use Rattle.x509_cert_parts.specs.Grammar.{object_identifier, octet_string, false_by_default}
 pub use Rattle.x509_cert_parts.specs.Grammar.{Algorithm, PublicKey, PlainExtension, PlainTime}
 pub use Rattle.x509_cert_parts.specs.Grammar.{civil_of, algorithm_identifier, public_key_info}

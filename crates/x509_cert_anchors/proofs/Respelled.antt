@@ -11,10 +11,10 @@ use Rattle.x509_cert_parts.proofs.Shorter.{tlv_shorter, tlv_fits, behind_same, b
 use Rattle.x509_cert_certificates.proofs.Respelled.{tbs_shorter, tbs_valid, certificate_fields_shorter, certificate_valid}
 use Rattle.x509_cert_certificates.specs.Certificates.{PlainCertificate, Tbs, certificate_fields, certificate, tbs_certificate, tbs, tbs_by, certificate_by}
 use Rattle.x509_cert_general_names.specs.Grammar.{inside}
-use Rattle.x509_cert_parts.specs.Grammar.{behind}
+use Rattle.x509_cert_parts.specs.Grammar.{implicit_leaf}
 use Rattle.x509_cert_names.specs.Names.{name}
 use Rattle.x509_cert_parts.specs.Grammar.{public_key_info, octet_string, extensions}
-use Rattle.x509_cert_anchors.specs.Grammar.{constraint_fields, cert_path_controls_fields, trust_anchor_info_fields, title_fields, trust_anchor_choice, anchor_version, first_version_octets, utf8_string, PlainControls, PlainInfo, PlainAnchor, cert_path_controls_by, trust_anchor_info_by, trust_anchor_by}
+use Rattle.x509_cert_anchors.specs.Grammar.{constraint_fields, cert_path_controls_fields, trust_anchor_info_fields, title_fields, trust_anchor_choice, anchor_version, first_anchor_version_octets, utf8_string, PlainControls, PlainInfo, PlainAnchor, cert_path_controls_by, trust_anchor_info_by, trust_anchor_by}
 
 -- a value behind a tag whose content is no longer than that of another
 module _ (t : Tag) (b : Body) (new old : BodyValue b) (le : length (body_octets b new) ≤ length (body_octets b old)) where
@@ -79,7 +79,7 @@ module _ (bound : ℕ) (limit : Option ℕ) (r : Bool) where
 
   -- the fields of an anchor from one on
   abbrev behind_path : Body
-  behind_path = field (optional (explicit 1 (extensions bound))) (field (optional (behind 2 utf8)) done)
+  behind_path = field (optional (explicit 1 (extensions bound))) (field (optional (implicit_leaf 2 utf8)) done)
 
   abbrev from_title : Body
   from_title = title_fields bound limit
@@ -95,7 +95,7 @@ module _ (bound : ℕ) (limit : Option ℕ) (r : Bool) where
   unfolding IsBody
   info_shorter i h =
       let new = trust_anchor_info_by r i in
-      behind_same (defaulted anchor_version first_version_octets) from_key i.0 new.1 i.1
+      behind_same (defaulted anchor_version first_anchor_version_octets) from_key i.0 new.1 i.1
       (behind_same (public_key_info bound) from_identifier i.1.0 new.1.1 i.1.1
       (behind_same octet_string from_title i.1.1.0 new.1.1.1 i.1.1.1
       (behind_same (optional utf8_string) (field path behind_path) i.1.1.1.0 new.1.1.1.1 i.1.1.1.1

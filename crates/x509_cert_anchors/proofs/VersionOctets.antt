@@ -6,13 +6,13 @@ use Rattle.der_core_head.specs.Heads.{tlv, head_octets, length_octets}
 use Rattle.der_core_head.specs.Integers.{integer_octets}
 use Rattle.der_core_head.specs.Shapes.{octets_of, contents, IsValid, IsContent}
 use Rattle.der_core_head.specs.Tags.{tag_octets}
-use Rattle.x509_cert_anchors.specs.Grammar.{anchor_version, first_version_octets}
+use Rattle.x509_cert_anchors.specs.Grammar.{anchor_version, first_anchor_version_octets}
 
 one : integer_octets (pos 1) ≡ 1 ∷ []
 unfolding integer_octets
 one = rw (digits-one 256 1 (omega arith)) refl
 
-pub one_octets : octets_of anchor_version (pos 1) ≡ first_version_octets
+pub one_octets : octets_of anchor_version (pos 1) ≡ first_anchor_version_octets
 unfolding octets_of contents tlv head_octets length_octets tag_octets
 one_octets = rw one refl
 

@@ -11,7 +11,7 @@ use Rattle.der_core_head.specs.Shapes.{optional, defaulted, field, done, many, s
 use Rattle.x509_cert_certificates.specs.Certificates.{certificate_fields, certificate, tbs_certificate}
 use Rattle.x509_cert_certificates.specs.Certificates.{certificate_by, tbs_by}
 use Rattle.x509_cert_general_names.specs.Grammar.{inside}
-use Rattle.x509_cert_parts.specs.Grammar.{behind, whole_number}
+use Rattle.x509_cert_parts.specs.Grammar.{implicit_leaf, whole_number}
 use Rattle.x509_cert_general_names.specs.Grammar.{name_constraints_fields}
 use Rattle.x509_cert_names.specs.Names.{name}
 use Rattle.x509_cert_parts.specs.Grammar.{octet_string, public_key_info, extensions}
@@ -36,9 +36,9 @@ policy_flags =
 abbrev pub constraint_fields : ℕ → Body
 constraint_fields bound =
     field (optional (inside 1 (many (sequence (policy_information_fields bound)))))
-    (field (optional (behind 2 (named flag_count)))
+    (field (optional (implicit_leaf 2 (named flag_count)))
     (field (optional (inside 3 (name_constraints_fields bound)))
-    (field (optional (behind 4 (whole_number 32))) done)))
+    (field (optional (implicit_leaf 4 (whole_number 32))) done)))
 
 abbrev pub cert_path_controls_fields : ℕ → Option ℕ → Body
 cert_path_controls_fields bound limit =
@@ -53,8 +53,8 @@ abbrev pub anchor_version : Shape
 anchor_version = tagged tags.Integer (leaf (integer (among anchor_numbers)))
 
 -- the octets of v1, which never stand
-abbrev pub first_version_octets : List ℕ
-first_version_octets = 2 ∷ 1 ∷ 1 ∷ []
+abbrev pub first_anchor_version_octets : List ℕ
+first_anchor_version_octets = 2 ∷ 1 ∷ 1 ∷ []
 
 -- UTF8String
 abbrev pub utf8_string : Shape
@@ -69,11 +69,12 @@ abbrev pub title_fields : ℕ → Option ℕ → Body
 title_fields bound limit =
     field (optional utf8_string)
     (field (optional (sequence (cert_path_controls_fields bound limit)))
-    (field (optional (explicit 1 (extensions bound))) (field (optional (behind 2 utf8)) done)))
+    (field (optional (explicit 1 (extensions bound)))
+    (field (optional (implicit_leaf 2 utf8)) done)))
 
 abbrev pub trust_anchor_info_fields : ℕ → Option ℕ → Body
 trust_anchor_info_fields bound limit =
-    field (defaulted anchor_version first_version_octets)
+    field (defaulted anchor_version first_anchor_version_octets)
     (field (public_key_info bound) (field octet_string (title_fields bound limit)))
 
 -- TrustAnchorChoice ::= CHOICE { certificate Certificate, tbsCert [1] EXPLICIT TBSCertificate,

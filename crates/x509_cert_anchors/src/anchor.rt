@@ -1,7 +1,7 @@
 //! The versions of trust anchors.
 
 ghost use Rattle.std.specs.Prelude.{◌≡◌, refl};
-ghost use Rattle.x509_cert_anchors.specs.Grammar.{anchor_numbers, first_version_octets};
+ghost use Rattle.x509_cert_anchors.specs.Grammar.{anchor_numbers, first_anchor_version_octets};
 ghost use Rattle.x509_cert_anchors.specs.Views.{anchor_number};
 
 use der_core::DefaultValue;
@@ -47,7 +47,7 @@ impl Ordered for Version {}
 
 /// `V1`.
 impl DefaultValue for Version {
-    ghost default_octets = { first_version_octets };
+    ghost default_octets = { first_anchor_version_octets };
 
     #[tactic(auto, unfolding(der_core_head::specs::Grammar::tlv_at, der_core_head::specs::Heads::head_at, der_core_head::specs::Tags::tag_at, der_core_head::specs::Tags::universal_tag, der_core_head::specs::Heads::length_at, der_core_head::specs::Grammar::value_at, der_core_head::specs::Integers::shortest_integer, der_core_head::specs::Integers::integer_of))]
     fn default_value() -> Version {

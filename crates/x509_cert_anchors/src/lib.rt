@@ -2,9 +2,9 @@
 #![tactic(auto)]
 
 pub mod anchor;
+mod anchor_copies;
 mod cert_path_controls;
 mod cert_policies;
-mod copies;
 pub mod laws;
 mod trust_anchor_choice;
 mod trust_anchor_info;

@@ -3,8 +3,8 @@ use Rattle.std.proofs.Common.{◌≡◌, List, [], ◌∷◌, ◌++◌, refl, ap
 use Rattle.std.specs.List.{AllByRecursion}
 use Rattle.der_core_head.specs.Grammar.{plain_list}
 use Rattle.x509_cert_parts.specs.Grammar.{PlainExtension}
-use Rattle.x509_cert_parts.specs.ExtensionSearch.{listed as unlisted}
-use Rattle.x509_cert_builders.specs.SignedParts.{listed}
+use Rattle.x509_cert_parts.specs.ExtensionSearch.{extensions_in_field}
+use Rattle.x509_cert_builders.specs.SignedParts.{extensions_if_any}
 
 pub plain_joined : {A B : Type 0} (f : A → B) → (xs ys : List A) → plain_list f (xs ++ ys) ≡ plain_list f xs ++ plain_list f ys
 plain_joined f [] ys = refl
@@ -25,6 +25,6 @@ all_parts V (x ∷ xs) ys h =
     let both = all_parts V xs ys h.1 in
     ((h.0, both.0), both.1)
 
-pub listed_back : (es : List PlainExtension) → unlisted (listed es) ≡ es
-listed_back [] = refl
-listed_back (e ∷ more) = refl
+pub field_back : (es : List PlainExtension) → extensions_in_field (extensions_if_any es) ≡ es
+field_back [] = refl
+field_back (e ∷ more) = refl

@@ -6,8 +6,8 @@ use Rattle.der_core_head.specs.Octets.{◌>>=◌}
 use Rattle.x509_cert_general_names.specs.Modules.{PlainOther, module_held}
 use Rattle.x509_cert_builders.specs.Devices.{PlainGeneralName, module_name}
 use Rattle.x509_cert_builders.specs.Refusals.{FailsAs, IsWantOfMemory}
-use Rattle.x509_cert_builders.specs.declared.error.Error.{Error}
-use Rattle.x509_cert_builders.specs.declared.error.Error.TheVariants as errors
+use Rattle.x509_cert_builders.specs.declared.build_error.Error.{Error}
+use Rattle.x509_cert_builders.specs.declared.build_error.Error.TheVariants as errors
 
 abbrev as_general : Result PlainOther ErrorKind → Result PlainGeneralName ErrorKind
 as_general r = r >>= λ n. Ok (inl n)

@@ -6,10 +6,10 @@ use Rattle.std.proofs.lemmas.List.{append-nil, get_or_at, take_at}
 use Rattle.std.proofs.lemmas.List.Concat.{flat_map-append}
 use Rattle.std.specs.Prelude.{get_or, IsOk, if◌then◌else◌}
 use Rattle.std.specs.Result.{is_ok}
-use Rattle.x509_cert_builders.specs.declared.error.Error.{Error}
+use Rattle.x509_cert_builders.specs.declared.build_error.Error.{Error}
 use Rattle.x509_cert_builders.specs.Naming.{TypeAndValue, types_of, name_types, type_behind, type_at, foreign_type, has_required, IsNamed, IsFirstFault, NamesAuthority}
 use Rattle.x509_cert_builders.specs.Refusals.{IsWantOfMemory}
-use Rattle.x509_cert_builders.specs.declared.error.Error.TheVariants as errors
+use Rattle.x509_cert_builders.specs.declared.build_error.Error.TheVariants as errors
 use Rattle.x509_cert_names.specs.Names.{PlainName}
 
 chosen : (b c : Bool) (x t : List ℕ) (d e : Error) → (if b then Err d else if c then Ok x else Err e) ≡ Ok t → x ≡ t

@@ -15,9 +15,9 @@ use Rattle.der_core_head.specs.Shapes.{IsValid}
 use Rattle.x509_cert_names.specs.Names.{PlainName, type_and_value}
 use Rattle.x509_cert_builders.specs.Naming.{TypeAndValue}
 use Rattle.x509_cert_builders.specs.Refusals.{IsWantOfMemory}
-use Rattle.x509_cert_builders.specs.Subscribers.{AreShort, HasLongAttribute, KeepsDistinct, SameAttributes, all_stays, attributes_left, before, domain_subject, left_of, may_stay, stays}
-use Rattle.x509_cert_builders.specs.declared.error.Error.{Error}
-use Rattle.x509_cert_builders.specs.declared.error.Error.TheVariants as errors
+use Rattle.x509_cert_builders.specs.Subscribers.{AreShort, HasLongAttribute, KeepsDistinct, SameAttributes, all_stays, attributes_left, relative_in_front, domain_subject, left_of, may_stay, stays}
+use Rattle.x509_cert_builders.specs.declared.build_error.Error.{Error}
+use Rattle.x509_cert_builders.specs.declared.build_error.Error.TheVariants as errors
 use Rattle.x509_cert_builders.proofs.Lists.{all_parts, all_plain}
 
 plain_map : {A B : Type 0} (f : A → B) (xs : List A) → map f xs ≡ plain_list f xs
@@ -68,11 +68,11 @@ pub left_whole : (r s : List TypeAndValue) → list_all may_stay r ≡ true → 
 left_whole r s e same = subst (λ w. IsPermutation w s) (same ∙ sym (left_whole_same r e)) (IsPermutation-refl s)
 
 -- a relative name of which nothing is left, and one of which something is
-nothing : (l : List TypeAndValue) (m : PlainName) → length l ≡ 0 → before l m ≡ m
+nothing : (l : List TypeAndValue) (m : PlainName) → length l ≡ 0 → relative_in_front l m ≡ m
 nothing [] m e = refl
 nothing (a ∷ l) m e = absurd cc
 
-something : (l s : List TypeAndValue) (m rest : PlainName) → IsPermutation l s → (length l ≡ 0 → ⊥) → SameAttributes m rest → SameAttributes (before l m) (s ∷ rest)
+something : (l s : List TypeAndValue) (m rest : PlainName) → IsPermutation l s → (length l ≡ 0 → ⊥) → SameAttributes m rest → SameAttributes (relative_in_front l m) (s ∷ rest)
 something [] s m rest p e h = absurd (e refl)
 something (a ∷ l) s m rest p e h = (p, h)
 

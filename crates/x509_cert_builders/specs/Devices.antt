@@ -20,7 +20,7 @@ use Rattle.x509_cert_parts.specs.ExtensionTypes as types
 use Rattle.x509_cert_builders.specs.Profiles.{authority_key_extension, digital_signature}
 use Rattle.x509_cert_builders.specs.Profiles.{standard_extension, usage_extension}
 use Rattle.x509_cert_builders.specs.Refusals.{FailsAs, IsUnwritten}
-use Rattle.x509_cert_builders.specs.declared.error.Error.{Error}
+use Rattle.x509_cert_builders.specs.declared.build_error.Error.{Error}
 use Rattle.x509_cert_builders.specs.declared.dev_id.DevId.{DevId}
 use Rattle.x509_cert_builders.specs.declared.tpm_version.TpmVersion.{TpmVersion}
 use Rattle.x509_cert_builders.specs.declared.tpm_version.TpmVersion.TheVariants as versions

@@ -5,9 +5,10 @@ use Rattle.std.specs.Prelude.{Err, IsOk, if◌then◌else◌}
 use Rattle.std.specs.List.{find, flat_map, list_any, list_all, position_or_len}
 use Rattle.const_oid.specs.Comparing.{owned_eq}
 use Rattle.der_core_head.specs.Shapes.{AnyValue}
+use Rattle.x509_cert_name_texts.specs.Keys.{pilot, x520}
 use Rattle.x509_cert_names.specs.Names.{PlainName}
-use Rattle.x509_cert_builders.specs.declared.error.Error.{Error}
-use Rattle.x509_cert_builders.specs.declared.error.Error.TheVariants as errors
+use Rattle.x509_cert_builders.specs.declared.build_error.Error.{Error}
+use Rattle.x509_cert_builders.specs.declared.build_error.Error.TheVariants as errors
 use Rattle.x509_cert_builders.specs.Refusals.{IsWantOfMemory}
 
 -- an attribute: the arcs of its type, and its value
@@ -22,12 +23,8 @@ types_of r = map (λ (a : TypeAndValue). a.0) r
 abbrev pub name_types : PlainName → List (List ℕ)
 name_types n = flat_map types_of n
 
--- arcs below 2.5.4
-abbrev pub x520 : ℕ → List ℕ
-x520 n = 2 ∷ 5 ∷ 4 ∷ n ∷ []
-
 abbrev pub domain_component : List ℕ
-domain_component = 0 ∷ 9 ∷ 2342 ∷ 19200300 ∷ 100 ∷ 1 ∷ 25 ∷ []
+domain_component = pilot 25
 
 abbrev pub country : List ℕ
 country = x520 6

@@ -6,8 +6,8 @@ use Rattle.der_core_head.specs.declared.error.ErrorKind.TheVariants as kinds
 use Rattle.der_core_head.specs.Reading.{Fails}
 use Rattle.der_core_head.specs.Shapes.{IsValid, Shape, Value}
 use Rattle.der_core_head.specs.Writing.{write}
-use Rattle.x509_cert_builders.specs.declared.error.Error.{Error}
-use Rattle.x509_cert_builders.specs.declared.error.Error.TheVariants as errors
+use Rattle.x509_cert_builders.specs.declared.build_error.Error.{Error}
+use Rattle.x509_cert_builders.specs.declared.build_error.Error.TheVariants as errors
 use Rattle.x509_cert_builders.specs.declared.sign_error.SignError.TheVariants as signers
 
 -- a fault in DER of this kind

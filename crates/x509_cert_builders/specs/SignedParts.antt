@@ -11,7 +11,7 @@ use Rattle.x509_cert_parts.specs.Grammar.{Algorithm, PublicKey, PlainExtension}
 use Rattle.x509_cert_parts.specs.Grammar.{algorithm_identifier, extensions, PlainValidity}
 use Rattle.x509_cert_parts.specs.Grammar.{public_key_info, validity}
 use Rattle.x509_cert_names.specs.Names.{PlainName, name}
-use Rattle.x509_cert_parts.specs.ExtensionSearch.{listed as unlisted}
+use Rattle.x509_cert_parts.specs.ExtensionSearch.{extensions_in_field}
 
 -- what is settled of a certificate before it is signed
 pub record PlainFields : Type 0 where
@@ -55,17 +55,17 @@ has_any [] = false
 has_any (e ∷ more) = true
 
 -- the extensions, where there is one (4.1.2.9: SIZE (1..MAX))
-abbrev pub listed : List PlainExtension → Option (List PlainExtension)
-listed [] = None
-listed (e ∷ more) = Some (e ∷ more)
+abbrev pub extensions_if_any : List PlainExtension → Option (List PlainExtension)
+extensions_if_any [] = None
+extensions_if_any (e ∷ more) = Some (e ∷ more)
 
 -- the extensions of a part; none where the field is absent
 abbrev pub extensions_in : Tbs → List PlainExtension
-extensions_in t = unlisted (tbs_extensions t)
+extensions_in t = extensions_in_field (tbs_extensions t)
 
 -- version 3 where there are extensions, else version 1 (4.1.2.1)
 abbrev pub signed_part : PlainFields → Algorithm → List PlainExtension → Tbs
-signed_part f a extensions = tbs_of (has_any extensions) f a (listed extensions)
+signed_part f a extensions = tbs_of (has_any extensions) f a (extensions_if_any extensions)
 
 -- the shape of a part, whatever serial numbers are read
 abbrev pub part_shape : Shape
@@ -79,8 +79,8 @@ written_part t = tbs_by true t
 abbrev pub extensions_field : Shape
 extensions_field = optional (explicit 3 (extensions Bound))
 
--- The parts of a part are in their ranges; of version, serial number and unique identifiers nothing
--- is said.
+-- The parts of what is signed are in their ranges; of version, serial number and unique
+-- identifiers nothing is said.
 pub record IsPartInRange (t : Tbs) : Type 0 where
   pub algorithm : IsInRange (algorithm_identifier Bound) (tbs_inner_algorithm t)
   pub issuer : IsInRange (name Bound) (tbs_issuer t)

@@ -16,8 +16,8 @@ use Rattle.x509_cert_builders.specs.Refusals.{IsOfKind}
 use Rattle.x509_cert_builders.specs.Naming.{TypeAndValue, common_name, country, is_among}
 use Rattle.x509_cert_builders.specs.declared.certificate_type.CertificateType.{CertificateType}
 use Rattle.x509_cert_builders.specs.declared.domain_validated.DomainValidated.{DomainValidated}
-use Rattle.x509_cert_builders.specs.declared.error.Error.{Error}
-use Rattle.x509_cert_builders.specs.declared.error.Error.TheVariants as errors
+use Rattle.x509_cert_builders.specs.declared.build_error.Error.{Error}
+use Rattle.x509_cert_builders.specs.declared.build_error.Error.TheVariants as errors
 use Rattle.x509_cert_builders.specs.declared.certificate_type.CertificateType.TheVariants as types
 
 -- the subject of a kind of subscriber; other kinds than the first aren't made
@@ -61,14 +61,14 @@ left_of [] = []
 left_of (a ∷ more) = if may_stay a then a ∷ left_of more else left_of more
 
 -- the relative names of which something is left, behind those that stand behind
-abbrev pub before : List TypeAndValue → PlainName → PlainName
-before [] more = more
-before (a ∷ r) more = (a ∷ r) ∷ more
+abbrev pub relative_in_front : List TypeAndValue → PlainName → PlainName
+relative_in_front [] more = more
+relative_in_front (a ∷ r) more = (a ∷ r) ∷ more
 
 -- what is left of a name, relative name by relative name
 abbrev pub domain_subject : PlainName → PlainName
 domain_subject [] = []
-domain_subject (r ∷ more) = before (left_of r) (domain_subject more)
+domain_subject (r ∷ more) = relative_in_front (left_of r) (domain_subject more)
 
 -- the attributes that are left of a name
 abbrev pub attributes_left : PlainName → List TypeAndValue

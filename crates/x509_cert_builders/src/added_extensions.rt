@@ -14,7 +14,7 @@ ghost use Rattle.x509_cert_builders.specs.Profiles.{purposes_extension, subject_
 ghost use Rattle.x509_cert_builders.specs.Profiles.{usage_extension};
 ghost use Rattle.x509_cert_builders.specs.Refusals.{IsUnwritten, IsWantOfMemory};
 
-use crate::error::Error;
+use crate::build_error::Error;
 use crate::identifiers::x500;
 use crate::uses::purposes_of;
 use der_core::Encode;

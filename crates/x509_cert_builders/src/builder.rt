@@ -1,6 +1,6 @@
 //! Builders.
 
-use crate::error::Error;
+use crate::build_error::Error;
 use crate::signer::Signer;
 use der_types_values::BitString;
 use rand_core::CryptoRng;
@@ -14,7 +14,7 @@ pub trait Builder: Sized + Drop {
     ghost use Rattle.der_core_head.specs.Shapes.{Shape, Value, octets_of};
     ghost use Rattle.x509_cert_parts.specs.Grammar.{Algorithm, PublicKey};
     ghost use Rattle.x509_cert_builders.specs.Refusals.{IsFailed, IsUnsigned, IsWantOfMemory};
-    ghost use Rattle.x509_cert_builders.specs.declared.error.Error.{Error};
+    ghost use Rattle.x509_cert_builders.specs.declared.build_error.Error.{Error};
 
     /// What is made.
     type Output;

@@ -1,6 +1,6 @@
 //! Profiles of certificates.
 
-use crate::error::Error;
+use crate::build_error::Error;
 use std::alloc::Global;
 use x509_cert_certificates::TbsCertificate;
 use x509_cert_names::Name;
@@ -12,7 +12,7 @@ use x509_cert_parts::{Extensions, SubjectPublicKeyInfoRef};
 /// in.
 pub trait BuilderProfile {
     ghost use Rattle.std.specs.Prelude.{◌≡◌, ◌⊎◌, List, Result, Ok, Err, IfOk, IfErr};
-    ghost use Rattle.x509_cert_builders.specs.declared.error.Error.{Error};
+    ghost use Rattle.x509_cert_builders.specs.declared.build_error.Error.{Error};
     ghost use Rattle.x509_cert_builders.specs.Refusals.{IsWantOfMemory};
     ghost use Rattle.x509_cert_certificates.specs.Certificates.{Tbs};
     ghost use Rattle.x509_cert_certificates.specs.Views.{tbs_plain};

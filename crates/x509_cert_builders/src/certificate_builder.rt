@@ -18,11 +18,11 @@ ghost use Rattle.x509_cert_builders.specs.Refusals.{IsFailed, IsUnwritten, IsWan
 ghost use Rattle.x509_cert_builders.specs.Refusals.{IsWantOfMemoryAs};
 
 use crate::added_extensions::joined;
+use crate::build_error::Error;
 use crate::builder::Builder;
 use crate::builder_profile::BuilderProfile;
-use crate::error::Error;
 use crate::identifiers::no_algorithm;
-use crate::in_range::part_in_range;
+use crate::signed_in_range::part_in_range;
 use crate::signed_part::{complete, lay_bare, take_extensions, written};
 use crate::signer::Signer;
 use der_core::ErrorKind;
@@ -236,7 +236,7 @@ impl<P: BuilderProfile + Drop> Builder for CertificateBuilder<P> {
 
     ghost bits = { λ c. signature_bits (certificate_plain c) };
 
-    #[tactic(auto, using(crate::proofs::Lists::listed_back))]
+    #[tactic(auto, using(crate::proofs::Lists::field_back))]
     fn finalize<S: Signer>(&mut self, alloc: Global, signer: &S) -> Result<Vec<u8>, Error> {
         let added = self.extensions.as_slice();
         make_whole(alloc, &self.profile, &mut self.part, added, signer)?;

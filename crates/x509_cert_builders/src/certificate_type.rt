@@ -15,13 +15,14 @@ ghost use Rattle.x509_cert_builders.specs.Subscribers.{SameAttributes, all_stays
 ghost use Rattle.x509_cert_builders.specs.Subscribers.{domain_subject, left_of, may_stay};
 ghost use Rattle.x509_cert_builders.specs.Subscribers.{type_domains, type_plain, type_subject};
 
-use crate::attribute_types as types;
+use crate::build_error::Error;
 use crate::domain_validated::DomainValidated;
-use crate::error::Error;
 use const_oid::ObjectIdentifier;
 use std::alloc::{AllocError, Global};
 use x509_cert_general_names::GeneralNames;
-use x509_cert_names::{AttributeTypeAndValue, Name, RdnSequence, RelativeDistinguishedName};
+use x509_cert_names::{
+    AttributeTypeAndValue, Name, RdnSequence, RelativeDistinguishedName, attribute_types as types,
+};
 
 /// How it was found out who a subscriber is (CA/Browser Forum, Baseline Requirements 7.1.2.7.1).
 #[derive(Debug, Drop, PartialEq)]
@@ -44,8 +45,9 @@ fn may_stay(oid: &ObjectIdentifier<39>) -> bool
     *oid == types::country() || *oid == types::common_name()
 }
 
-/// Whether all of these attributes stay.
-fn all_stay(attributes: &[AttributeTypeAndValue]) -> bool
+/// Whether the subject of a subscriber whose domains were validated may have all of these
+/// attributes.
+pub fn all_stay(attributes: &[AttributeTypeAndValue]) -> bool
     ensures { result ≡ list_all may_stay (relative_plain attributes.now) }
 {
     for attribute in attributes {

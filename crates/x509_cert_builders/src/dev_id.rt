@@ -15,8 +15,8 @@ ghost use Rattle.x509_cert_builders.specs.Devices.{version_arcs};
 ghost use Rattle.x509_cert_builders.specs.Refusals.{FailsAs, IsWantOfMemory};
 
 use crate::added_extensions::{add, add_authority, add_usage};
+use crate::build_error::Error;
 use crate::builder_profile::BuilderProfile;
-use crate::error::Error;
 use crate::tpm_version::TpmVersion;
 use crate::uses::signing_usage;
 use der_core::ErrorKind;

@@ -3,18 +3,18 @@
 
 mod added_extensions;
 mod attribute_types;
+mod build_error;
 mod builder;
 mod builder_profile;
 mod certificate_builder;
 mod certificate_type;
 mod dev_id;
 mod domain_validated;
-mod error;
 mod identifiers;
-mod in_range;
 mod naming;
 mod root;
 mod sign_error;
+mod signed_in_range;
 mod signed_part;
 mod signer;
 mod subordinate;
@@ -24,13 +24,13 @@ mod tpm_version;
 mod types_before;
 mod uses;
 
+pub use build_error::Error;
 pub use builder::Builder;
 pub use builder_profile::BuilderProfile;
 pub use certificate_builder::CertificateBuilder;
-pub use certificate_type::CertificateType;
+pub use certificate_type::{CertificateType, all_stay};
 pub use dev_id::DevId;
 pub use domain_validated::DomainValidated;
-pub use error::Error;
 pub use identifiers::{tcg_sv_tpm_12, tcg_sv_tpm_20};
 pub use naming::{ca_certificate_naming, check_names_encoding};
 pub use root::Root;

@@ -6,12 +6,12 @@ ghost use Rattle.x509_cert_names.specs.Views.{name_plain};
 ghost use Rattle.x509_cert_builders.specs.Naming.{authority_types, is_among, name_types};
 ghost use Rattle.x509_cert_builders.specs.Naming.{has_required, Names, NamesAuthority};
 
-use crate::attribute_types as types;
-use crate::error::Error;
+use crate::attribute_types::authority_types;
+use crate::build_error::Error;
 use crate::types_before::TypesBefore;
 use const_oid::ObjectIdentifier;
 use std::alloc::Global;
-use x509_cert_names::Name;
+use x509_cert_names::{Name, attribute_types as types};
 
 /// Whether a type is among these.
 fn is_among(types: &[ObjectIdentifier<39>], oid: &ObjectIdentifier<39>) -> bool
@@ -96,7 +96,7 @@ pub fn ca_certificate_naming(alloc: Global, subject: &Name) -> Result<(), Error>
     ensures { NamesAuthority (name_plain subject.now) result }
 {
     let found = types_of(alloc, subject, false)?;
-    match foreign_type(&types::authority_types(), found.as_slice()) {
+    match foreign_type(&authority_types(), found.as_slice()) {
         Some(oid) => return Err(Error::InvalidAttribute { oid }),
         None => {}
     }

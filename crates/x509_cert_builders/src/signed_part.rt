@@ -10,10 +10,10 @@ ghost use Rattle.x509_cert_certificates.specs.Views.{tbs_plain};
 ghost use Rattle.x509_cert_parts.specs.Views.{algorithm_plain, extensions_plain, version_number};
 ghost use Rattle.x509_cert_builders.specs.Refusals.{IsUnwritten, IsWantOfMemory};
 ghost use Rattle.x509_cert_builders.specs.SignedParts.{bare_part, extensions_in, fields_of};
-ghost use Rattle.x509_cert_builders.specs.SignedParts.{has_any, listed, part_shape, signed_part};
+ghost use Rattle.x509_cert_builders.specs.SignedParts.{has_any, extensions_if_any, part_shape, signed_part};
 ghost use Rattle.x509_cert_builders.specs.SignedParts.{version_of, written_part};
 
-use crate::error::Error;
+use crate::build_error::Error;
 use der_core::ToDer;
 use std::alloc::Global;
 use x509_cert_certificates::TbsCertificate;
@@ -35,7 +35,7 @@ pub(crate) fn lay_bare(part: &mut TbsCertificate, algorithm: AlgorithmIdentifier
 /// The extensions, where there is one (4.1.2.9).
 fn listed(extensions: Extensions) -> Option<Extensions>
     ensures { plain_option (λ v. extensions_plain v.items) result
-        ≡ listed (extensions_plain extensions.items) }
+        ≡ extensions_if_any (extensions_plain extensions.items) }
 {
     if extensions.is_empty() {
         return None;

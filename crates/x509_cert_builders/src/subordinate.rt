@@ -8,8 +8,8 @@ ghost use Rattle.x509_cert_builders.specs.Profiles.{subordinate_extensions};
 use crate::added_extensions::{
     add_authority, add_constraints, add_identifier, add_purposes, add_usage,
 };
+use crate::build_error::Error;
 use crate::builder_profile::BuilderProfile;
-use crate::error::Error;
 use crate::uses::authority_usage;
 use std::alloc::Global;
 use x509_cert_certificates::TbsCertificate;

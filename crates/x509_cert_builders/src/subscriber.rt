@@ -7,9 +7,9 @@ ghost use Rattle.x509_cert_builders.specs.Profiles.{subscriber_extensions, subsc
 ghost use Rattle.x509_cert_builders.specs.Subscribers.{type_subject};
 
 use crate::added_extensions::{add_authority, add_constraints, add_purposes, add_usage};
+use crate::build_error::Error;
 use crate::builder_profile::BuilderProfile;
 use crate::certificate_type::CertificateType;
-use crate::error::Error;
 use crate::identifiers::{elliptic_curve_key, rsa_encryption};
 use crate::tls12_options::Tls12Options;
 use der_types_values::FlagSet;

@@ -10,7 +10,7 @@ ghost use Rattle.x509_cert_builders.specs.Naming.{type_behind};
 ghost use Rattle.x509_cert_builders.specs.TypeSets.{HasTypes, IsLeastRank};
 
 use crate::attribute_types::ordered_types;
-use crate::error::Error;
+use crate::build_error::Error;
 use const_oid::ObjectIdentifier;
 use std::alloc::{AllocError, Global};
 use std::collections::BTreeSet;

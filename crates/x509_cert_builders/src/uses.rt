@@ -5,7 +5,7 @@ ghost use Rattle.der_core_head.specs.Grammar.{plain_list};
 ghost use Rattle.x509_cert_builders.specs.Profiles.{authority_uses, digital_signature, purposes};
 ghost use Rattle.x509_cert_builders.specs.Refusals.{IsWantOfMemory};
 
-use crate::error::Error;
+use crate::build_error::Error;
 use crate::identifiers::{client_auth, server_auth};
 use der_types_values::FlagSet;
 use std::alloc::Global;

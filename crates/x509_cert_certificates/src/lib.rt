@@ -3,7 +3,7 @@
 
 mod cert_digest;
 mod certificate;
-mod copies;
+mod certificate_copies;
 pub mod laws;
 mod tbs_certificate;
 

@@ -7,7 +7,7 @@ ghost use Rattle.x509_cert_names.specs.Views.{name_plain};
 ghost use Rattle.x509_cert_parts.specs.Views.{version_number, validity_plain, algorithm_plain};
 ghost use Rattle.x509_cert_parts.specs.Views.{key_plain, extensions_plain};
 ghost use Rattle.der_core_head.specs.Reading.{Gives};
-ghost use Rattle.x509_cert_parts.specs.ExtensionSearch.{only_value, listed};
+ghost use Rattle.x509_cert_parts.specs.ExtensionSearch.{only_value, extensions_in_field};
 ghost use Rattle.x509_cert_certificates.specs.Certificates.{tbs_fields, from_validity, tbs_by};
 ghost use Rattle.x509_cert_certificates.specs.Certificates.{tbs_version, tbs_from_validity};
 ghost use Rattle.x509_cert_certificates.specs.Certificates.{tbs_serial, tbs_inner_algorithm};
@@ -329,7 +329,8 @@ impl<P> TbsCertificateInner<P> {
         alloc: Global,
     ) -> Result<Option<(bool, T)>, Error>
         ensures { Gives (plain_option (λ x. (x.0, T.plain x.1))) result
-            (only_value T.shape T.oid_arcs (listed (tbs_extensions (tbs_plain self.now)))) }
+            (only_value T.shape T.oid_arcs
+            (extensions_in_field (tbs_extensions (tbs_plain self.now)))) }
     {
         match &self.extensions {
             Some(extensions) => get_extension(alloc, extensions.as_slice()),
@@ -340,7 +341,8 @@ impl<P> TbsCertificateInner<P> {
     /// The values of all extensions of the identifier of `T`, each with whether it is critical, in
     /// their order.
     pub fn filter_extensions<'a, T: AssociatedOid>(&'a self, alloc: Global) -> ExtensionsOf<'a, T>
-        ensures { extensions_plain result.left.now ≡ listed (tbs_extensions (tbs_plain self.now)) }
+        ensures { extensions_plain result.left.now
+            ≡ extensions_in_field (tbs_extensions (tbs_plain self.now)) }
     {
         match &self.extensions {
             Some(extensions) => filter_extensions(alloc, extensions.as_slice()),

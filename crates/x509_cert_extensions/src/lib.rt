@@ -3,14 +3,14 @@
 
 mod authority_info_access;
 mod base_crl_number;
-mod copies;
 mod criticality;
 mod crl_distribution_points;
 mod crl_number;
 mod crl_reason;
 mod extended_key_usage;
+mod extension_copies;
+mod extension_identifiers;
 mod freshest_crl;
-mod identifiers;
 mod issuer_alt_name;
 mod key_usage;
 pub mod laws;

@@ -12,14 +12,14 @@ use Rattle.der_core_head.specs.Tags.{context}
 use Rattle.der_core_head.specs.Texts.{ascii}
 use Rattle.x509_cert_names.specs.Names.{name, type_and_value, directory_string}
 use Rattle.x509_cert_parts.specs.Grammar.{object_identifier, octet_string}
-use Rattle.x509_cert_parts.specs.Grammar.{behind, whole_number, number_of}
+use Rattle.x509_cert_parts.specs.Grammar.{implicit_leaf, whole_number, number_of}
 
 abbrev pub inside : ℕ → Body → Shape
 inside n b = tagged (context true n) (nested b)
 
 -- [n] IMPLICIT BOOLEAN DEFAULT FALSE
 abbrev pub false_behind : ℕ → Shape
-false_behind n = defaulted (behind n boolean) ((128 + n) ∷ 1 ∷ 0 ∷ [])
+false_behind n = defaulted (implicit_leaf n boolean) ((128 + n) ∷ 1 ∷ 0 ∷ [])
 
 -- OtherName ::= SEQUENCE { type-id OBJECT IDENTIFIER, value [0] EXPLICIT ANY DEFINED BY type-id }
 abbrev pub other_name_fields : ℕ → Body
@@ -37,12 +37,12 @@ edi_party_name_fields =
 abbrev pub general_name : ℕ → Shape
 general_name bound =
     either (inside 0 (other_name_fields bound))
-    (either (behind 1 (text ascii))
-    (either (behind 2 (text ascii))
+    (either (implicit_leaf 1 (text ascii))
+    (either (implicit_leaf 2 (text ascii))
     (either (explicit 4 (name bound))
     (either (inside 5 edi_party_name_fields)
-    (either (behind 6 (text ascii))
-    (either (behind 7 octets) (behind 8 (identifier bound max_size))))))))
+    (either (implicit_leaf 6 (text ascii))
+    (either (implicit_leaf 7 octets) (implicit_leaf 8 (identifier bound max_size))))))))
 
 -- GeneralNames ::= SEQUENCE OF GeneralName
 abbrev pub general_names : ℕ → Shape
@@ -53,17 +53,17 @@ general_names bound = sequence_of (general_name bound)
 --     authorityCertSerialNumber [2] CertificateSerialNumber OPTIONAL } (4.2.1.1)
 abbrev pub authority_key_identifier_fields : ℕ → Body
 authority_key_identifier_fields bound =
-    field (optional (behind 0 octets))
+    field (optional (implicit_leaf 0 octets))
     (field (optional (inside 1 (many (general_name bound))))
-    (field (optional (behind 2 (integer (within 21)))) done))
+    (field (optional (implicit_leaf 2 (integer (within 21)))) done))
 
 -- GeneralSubtree ::= SEQUENCE { base GeneralName, minimum [0] INTEGER DEFAULT 0, maximum [1]
 --     INTEGER OPTIONAL } (4.2.1.10)
 abbrev pub general_subtree_fields : ℕ → Body
 general_subtree_fields bound =
     field (general_name bound)
-    (field (defaulted (behind 0 (whole_number 32)) (128 ∷ 1 ∷ 0 ∷ []))
-    (field (optional (behind 1 (whole_number 32))) done))
+    (field (defaulted (implicit_leaf 0 (whole_number 32)) (128 ∷ 1 ∷ 0 ∷ []))
+    (field (optional (implicit_leaf 1 (whole_number 32))) done))
 
 -- NameConstraints ::= SEQUENCE { permittedSubtrees [0] GeneralSubtrees OPTIONAL, excludedSubtrees
 --     [1] GeneralSubtrees OPTIONAL } (4.2.1.10)
@@ -88,7 +88,7 @@ reasons = named 9
 abbrev pub distribution_point_fields : ℕ → Body
 distribution_point_fields bound =
     field (optional (explicit 0 (distribution_point_name bound)))
-    (field (optional (behind 1 reasons))
+    (field (optional (implicit_leaf 1 reasons))
     (field (optional (inside 2 (many (general_name bound)))) done))
 
 -- IssuingDistributionPoint ::= SEQUENCE { distributionPoint [0] DistributionPointName OPTIONAL,
@@ -101,7 +101,7 @@ issuing_distribution_point_fields bound =
     field (optional (explicit 0 (distribution_point_name bound)))
     (field (false_behind 1)
     (field (false_behind 2)
-    (field (optional (behind 3 reasons))
+    (field (optional (implicit_leaf 3 reasons))
     (field (false_behind 4) (field (false_behind 5) done)))))
 
 -- AccessDescription ::= SEQUENCE { accessMethod OBJECT IDENTIFIER, accessLocation GeneralName }

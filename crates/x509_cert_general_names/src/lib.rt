@@ -4,14 +4,14 @@
 
 mod access_description;
 mod authority_key_identifier;
-mod copies;
 mod distribution_point;
 mod distribution_point_name;
 mod edi_party_name;
+mod extension_identifiers;
 mod general_name;
+mod general_name_copies;
 mod general_subtree;
 mod hardware_module_name;
-mod identifiers;
 mod issuing_distribution_point;
 mod key_identifier;
 mod name_constraints;

@@ -9,14 +9,14 @@ use Rattle.der_core_head.specs.declared.error.ErrorKind.TheVariants as kinds
 use Rattle.der_core_head.specs.Grammar.{plain_list}
 use Rattle.der_core_head.specs.Reading.{Fails}
 use Rattle.der_core_head.specs.Shapes.{IsValid}
-use Rattle.der_core.specs.Placed.{IsNotPlaced, is_below, placed, put, stands_among}
+use Rattle.der_core.specs.Placed.{IsNotPlaced, is_below, placed, put_in_front, stands_among}
 use Rattle.x509_cert_lists.specs.Grammar.{extension_req_attribute}
 use Rattle.x509_cert_names.specs.Names.{PlainAttribute, PlainName, attribute}
 use Rattle.x509_cert_parts.specs.Grammar.{PlainExtension, PublicKey}
 use Rattle.x509_cert_list_builders.specs.Requests.{HasNoAttribute, IsNotAdded, PlainInfo, request_of, with_request}
 use Rattle.x509_cert_builders.specs.Refusals.{IsWantOfMemory}
-use Rattle.x509_cert_builders.specs.declared.error.Error.{Error}
-use Rattle.x509_cert_builders.specs.declared.error.Error.TheVariants as errors
+use Rattle.x509_cert_builders.specs.declared.build_error.Error.{Error}
+use Rattle.x509_cert_builders.specs.declared.build_error.Error.TheVariants as errors
 use Rattle.x509_cert_builders.proofs.Faults.{or_memory}
 use Rattle.x509_cert_builders.proofs.Lists.{all_plain}
 
@@ -74,10 +74,10 @@ stands_for r b a others c made is e =
     ap (λ (z : PlainAttribute). stands_among (attribute Bound) z others) (ap (λ (q : Result PlainAttribute ErrorKind). held q a) (sym e ∙ made)) ∙ is
 
 -- one more among values that all have an encoding
-put_valid : {P : Type 0} (V : P → Type 0) (g : P → P → Bool) (x : P) (ys : List P) → V x → AllByRecursion V ys → AllByRecursion V (put g x ys)
+put_valid : {P : Type 0} (V : P → Type 0) (g : P → P → Bool) (x : P) (ys : List P) → V x → AllByRecursion V ys → AllByRecursion V (put_in_front g x ys)
 put_valid V g x [] v all = (v, all)
 put_valid V g x (y ∷ ys) v all =
-    elim (g x y) as (λ b. AllByRecursion V (if b then x ∷ y ∷ ys else y ∷ put g x ys)) [ true ↦ (v, all) | false ↦ (all.0, put_valid V g x ys v all.1) ]
+    elim (g x y) as (λ b. AllByRecursion V (if b then x ∷ y ∷ ys else y ∷ put_in_front g x ys)) [ true ↦ (v, all) | false ↦ (all.0, put_valid V g x ys v all.1) ]
 
 pub added_valid : {A : Type 0} (f : A → PlainAttribute) (xs new : List A) (x : A) → AllAttributes f xs → IsValidAttribute (f x)
     → plain_list f new ≡ placed (attribute Bound) (f x) (plain_list f xs) → AllAttributes f new

@@ -15,7 +15,7 @@ use Rattle.x509_cert_lists.specs.Grammar.{revoked_cert_fields, tbs_cert_list_fie
 use Rattle.x509_cert_parts.specs.ExtensionTypes as types
 use Rattle.x509_cert_parts.specs.ExtensionTypes.{identifier_of}
 use Rattle.x509_cert_parts.specs.Grammar.{PlainExtension, PublicKey, key_bits, extensions}
-use Rattle.x509_cert_parts.specs.ExtensionSearch.{only_value, listed}
+use Rattle.x509_cert_parts.specs.ExtensionSearch.{only_value, extensions_in_field}
 use Rattle.x509_cert_general_names.specs.Grammar.{authority_key_identifier_fields}
 use Rattle.x509_cert_builders.specs.Profiles.{standard_extension}
 use Rattle.x509_cert_builders.specs.Refusals.{HasNoEncoding}
@@ -61,7 +61,7 @@ given_or_made k (Some found) = found.1
 abbrev pub issuing_key : Tbs → Result PlainAuthority ErrorKind
 issuing_key t =
     only_value authority_key (identifier_of types.authority_key_identifier)
-    (listed (tbs_extensions t))
+    (extensions_in_field (tbs_extensions t))
     >>= λ (found : Option (Bool × PlainAuthority)). Ok (given_or_made (tbs_public_key t) found)
 
 -- CRLNumber ::= INTEGER (0..MAX) (5.2.3)

@@ -2,9 +2,9 @@
 #![tactic(auto)]
 
 mod crl_builder;
-mod in_range;
 pub mod laws;
 mod request_builder;
+mod signed_list_in_range;
 mod writing;
 
 pub use crl_builder::CrlBuilder;

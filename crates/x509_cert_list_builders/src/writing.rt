@@ -6,7 +6,7 @@ ghost use Rattle.x509_cert_builders.specs.Refusals.{IsUnwritten, IsWantOfMemory}
 ghost use Rattle.x509_cert_lists.specs.Views.{tbs_cert_list_plain};
 ghost use Rattle.x509_cert_list_builders.specs.Lists.{list_part};
 
-use crate::in_range::list_in_range;
+use crate::signed_list_in_range::list_in_range;
 use der_core::{Encode, InRange, ToDer};
 use std::alloc::Global;
 use x509_cert_builders::Error;

@@ -6,7 +6,7 @@ use Rattle.std.proofs.lemmas.List.{reverse-append, get_or-take, length-take-le, 
 use Rattle.std.specs.Str.{IsUtf8}
 use Rattle.std.proofs.lemmas.Str.{IsUtf8-drop, IsCharBoundary-after_ascii}
 use borrow.Author.Count.{below_more}
-use Rattle.x509_cert_name_texts.specs.Pieces.{backslashes, Counts, HasNone, IsFirstPiece, before, ReadsPieces}
+use Rattle.x509_cert_name_texts.specs.Pieces.{backslashes, Counts, HasNone, IsFirstPiece, in_front_of, ReadsPieces}
 
 -- an escape is open behind these octets
 abbrev pub is_escaped : List ℕ → Bool
@@ -51,7 +51,7 @@ abbrev pub all_before : {A E : Type 0} → List A → Result (List A) E → Resu
 all_before values (Ok more) = Ok (values ++ more)
 all_before values (Err e) = Err e
 
-pub all_before-push : {A E : Type 0} (values : List A) (a : A) (r : Result (List A) E) → all_before values (before a r) ≡ all_before (values ++ (a ∷ [])) r
+pub all_before-push : {A E : Type 0} (values : List A) (a : A) (r : Result (List A) E) → all_before values (in_front_of a r) ≡ all_before (values ++ (a ∷ [])) r
 all_before-push values a (Ok more) = ap (λ v. Ok v) (sym (append_assoc values (a ∷ []) more))
 all_before-push values a (Err e) = refl
 
@@ -69,7 +69,7 @@ pub continues_more : {A E : Type 0} (separator : ℕ) (reads : List ℕ → Resu
     → Continues separator reads text (values ++ (a ∷ [])) rest
 continues_more {A} {E} separator reads text left piece rest values a so_far first read r h =
     let P = λ (x : Result (List A) E). ReadsPieces separator reads text x in
-    subst P (all_before-push values a r) (so_far (before a r) (ReadsPieces.more left piece rest a r first read h))
+    subst P (all_before-push values a r) (so_far (in_front_of a r) (ReadsPieces.more left piece rest a r first read h))
 
 -- what a test that was met tells
 found : (p q : Bool) → (p && not q) ≡ true → (p ≡ true) × (q ≡ false)

@@ -24,9 +24,9 @@ IsFirstPiece separator text piece (Some rest) = (text ≡ piece ++ (separator �
     × HasNone separator piece × Counts piece
 
 -- a value in front of those that are read behind it
-abbrev pub before : {A E : Type 0} → A → Result (List A) E → Result (List A) E
-before a (Ok values) = Ok (a ∷ values)
-before a (Err e) = Err e
+abbrev pub in_front_of : {A E : Type 0} → A → Result (List A) E → Result (List A) E
+in_front_of a (Ok values) = Ok (a ∷ values)
+in_front_of a (Err e) = Err e
 
 -- The pieces of a text are read from the left, up to the first that is refused.
 pub data ReadsPieces {A E : Type 0} (separator : ℕ) (reads : List ℕ → Result A E → Type 0) : List ℕ
@@ -35,7 +35,7 @@ pub data ReadsPieces {A E : Type 0} (separator : ℕ) (reads : List ℕ → Resu
       → ReadsPieces separator reads text (Ok (a ∷ []))
   more : (text piece rest : List ℕ) (a : A) (r : Result (List A) E)
       → IsFirstPiece separator text piece (Some rest) → reads piece (Ok a)
-      → ReadsPieces separator reads rest r → ReadsPieces separator reads text (before a r)
+      → ReadsPieces separator reads rest r → ReadsPieces separator reads text (in_front_of a r)
   refused : (text piece : List ℕ) (left : Option (List ℕ)) (e : E)
       → IsFirstPiece separator text piece left → reads piece (Err e)
       → ReadsPieces separator reads text (Err e)

@@ -11,7 +11,7 @@ use Rattle.der_core_head.specs.declared.error.ErrorKind.{ErrorKind}
 use Rattle.der_core_head.specs.declared.tag.Tag.TheVariants as tags
 use Rattle.der_core_head.specs.Grammar.{plain_list}
 use Rattle.der_core_head.specs.Shapes.{IsBody, IsContent, IsValid}
-use Rattle.der_types_sets.specs.Sets.{AllValid}
+use Rattle.der_core.specs.Placed.{AllValid}
 use Rattle.der_types_sets.proofs.Arranged.{valid_moved}
 use Rattle.der_types_sets.proofs.LentOwned.{plain-append}
 use Rattle.der_types_sets.proofs.LooseSteps.{ascends-plain, one_set, permutation-plain}

@@ -3,7 +3,7 @@ use Rattle.std.proofs.Common.{◌≡◌, ℕ, ◌<◌, ◌≤◌, List, [], ◌�
 use Rattle.std.specs.Prelude.{⊤}
 use Rattle.std.proofs.lemmas.Bool.{cases_lt}
 use Rattle.const_oid.proofs.DigitLaws.{split-same_length}
-use Rattle.x509_cert_name_texts.specs.Pieces.{Counts, HasNone, IsFirstPiece, before, ReadsPieces}
+use Rattle.x509_cert_name_texts.specs.Pieces.{Counts, HasNone, IsFirstPiece, in_front_of, ReadsPieces}
 
 inside : (p r q w : List ℕ) (separator : ℕ) → p ++ (separator ∷ r) ≡ q ++ w → length p < length q → (get_or q (length p) 0 ≡ separator) × (take (length p) q ≡ p)
 inside [] r [] w separator e lt = absurd (omega (arith, lt))
@@ -66,12 +66,12 @@ module _ {A E : Type 0} (separator : ℕ) (reads : List ℕ → Result A E → T
   Agree (Ok xs) (Err e) = AnyOdd xs
   Agree (Err e) r = ⊤
 
-  both : (a b : A) (r s : Result (List A) E) → Same a b → Agree r s → Agree (before a r) (before b s)
+  both : (a b : A) (r s : Result (List A) E) → Same a b → Agree r s → Agree (in_front_of a r) (in_front_of b s)
   both a b (Ok xs) (Ok ys) h k = (h, k)
   both a b (Ok xs) (Err e) h k = inr k
   both a b (Err e) s h k = tt
 
-  odd_first : (a : A) (r : Result (List A) E) (e : E) → Odd a → Agree (before a r) (Err e)
+  odd_first : (a : A) (r : Result (List A) E) (e : E) → Odd a → Agree (in_front_of a r) (Err e)
   odd_first a (Ok xs) e h = inl h
   odd_first a (Err d) e h = tt
 

@@ -10,7 +10,7 @@ use Rattle.der_core_head.specs.Shapes.{AnyValue}
 use Rattle.der_core_head.specs.declared.tag.Tag.{Tag}
 use Rattle.x509_cert_name_texts.specs.Escapes.{escaped, hex_digits, in_hex}
 use Rattle.x509_cert_name_texts.specs.Keys.{key_of}
-use Rattle.x509_cert_names.specs.NameTexts.{behind, joined_by, relative_printed, name_printed}
+use Rattle.x509_cert_names.specs.NameTexts.{printed_behind, joined_by, relative_printed, name_printed}
 use Rattle.x509_cert_names.specs.ValueTexts.{text_of, encoding_of, printed_by, attribute_printed}
 use Rattle.x509_cert_names.specs.declared.attribute_type_and_value.AttributeTypeAndValue.{AttributeTypeAndValue}
 
@@ -27,14 +27,14 @@ reversed : (n before : List (List AttributeTypeAndValue)) (last : List Attribute
 reversed n before last e = ap reverse e ∙ reverse-append before (last ∷ [])
 
 pub names_printed : (n before : List (List AttributeTypeAndValue)) (last : List AttributeTypeAndValue) → n ≡ before ++ (last ∷ [])
-    → relative_printed last ++ flat_map (behind 44 relative_printed) (reverse before) ≡ name_printed n
+    → relative_printed last ++ flat_map (printed_behind 44 relative_printed) (reverse before) ≡ name_printed n
 names_printed n before last e = sym (ap (joined_by 44 relative_printed) (reversed n before last e))
 
 pub last_printed : (left before : List (List AttributeTypeAndValue)) (last : List AttributeTypeAndValue) → left ≡ before ++ (last ∷ [])
-    → behind 44 relative_printed last ++ flat_map (behind 44 relative_printed) (reverse before) ≡ flat_map (behind 44 relative_printed) (reverse left)
-last_printed left before last e = sym (ap (flat_map (behind 44 relative_printed)) (reversed left before last e))
+    → printed_behind 44 relative_printed last ++ flat_map (printed_behind 44 relative_printed) (reverse before) ≡ flat_map (printed_behind 44 relative_printed) (reverse left)
+last_printed left before last e = sym (ap (flat_map (printed_behind 44 relative_printed)) (reversed left before last e))
 
-pub end_printed : (left : List (List AttributeTypeAndValue)) (t : List ℕ) → length left ≡ 0 → t ≡ t ++ flat_map (behind 44 relative_printed) (reverse left)
+pub end_printed : (left : List (List AttributeTypeAndValue)) (t : List ℕ) → length left ≡ 0 → t ≡ t ++ flat_map (printed_behind 44 relative_printed) (reverse left)
 end_printed [] t e = sym (append-nil t)
 end_printed (r ∷ left) t e = absurd (omega arith)
 

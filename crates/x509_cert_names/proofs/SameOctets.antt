@@ -22,7 +22,8 @@ use Rattle.der_core_head.specs.Shapes.{AllRising, octets_of, contents, body_octe
 use Rattle.der_core_head.specs.declared.tag.Tag.TheVariants as tags
 use Rattle.der_core_head.proofs.OneEncoding.{one_value}
 use Rattle.der_core_head.proofs.Fits.{fits_contents}
-use Rattle.der_types_sets.specs.Sets.{AllValid, Ascends, TooLong}
+use Rattle.der_core.specs.Placed.{AllValid}
+use Rattle.der_types_sets.specs.Sets.{Ascends, TooLong}
 use Rattle.x509_cert_names.specs.Names.{TypeAndValue, PlainName, type_and_value, relative_name, name, name_octets}
 use Rattle.x509_cert_names.specs.Ordered.{DifferInTurn, IsOrdered}
 use Rattle.x509_cert_names.specs.Pairs.{pair_plain, same_pair, relative_plain}

@@ -15,7 +15,7 @@ use Rattle.der_core_head.proofs.Families.{Family, valid_narrow}
 use Rattle.der_core_head.proofs.Results.{bind_ok, ok_is}
 use Rattle.der_types_sets.specs.Sets.{Ascends, NotAbove}
 use Rattle.x509_cert_name_texts.specs.Keys.{key_arcs}
-use Rattle.x509_cert_name_texts.specs.Pieces.{IsFirstPiece, ReadsPieces, before, key_and_value}
+use Rattle.x509_cert_name_texts.specs.Pieces.{IsFirstPiece, ReadsPieces, in_front_of, key_and_value}
 use Rattle.x509_cert_names.specs.Names.{PlainName, TypeAndValue, type_and_value, name, type_of, all_of}
 use Rattle.x509_cert_names.specs.NameTexts.{ReadsAttribute, ReadsName, ReadsRelative}
 use Rattle.x509_cert_names.specs.Pairs.{pair_plain, relative_plain}
@@ -35,7 +35,7 @@ module _ {A E : Type 0} (separator : ℕ) (reads : List ℕ → Result A E → T
   Have (Ok xs) = AllByRecursion P xs
   Have (Err e) = ⊤
 
-  have_more : (a : A) (r : Result (List A) E) → P a → Have r → Have (before a r)
+  have_more : (a : A) (r : Result (List A) E) → P a → Have r → Have (in_front_of a r)
   have_more a (Ok xs) p h = (p, h)
   have_more a (Err e) p h = tt
 
@@ -49,7 +49,7 @@ module _ {A E : Type 0} (separator : ℕ) (reads : List ℕ → Result A E → T
     Again text (Ok xs) = AllByRecursion P xs → ReadsPieces separator again text (Ok xs)
     Again text (Err e) = ⊤
 
-    again_more : (text p rest : List ℕ) (a : A) (r : Result (List A) E) → IsFirstPiece separator text p (Some rest) → reads p (Ok a) → Again rest r → Again text (before a r)
+    again_more : (text p rest : List ℕ) (a : A) (r : Result (List A) E) → IsFirstPiece separator text p (Some rest) → reads p (Ok a) → Again rest r → Again text (in_front_of a r)
     again_more text p rest a (Ok xs) f h n = λ all. ReadsPieces.more text p rest a (Ok xs) f (each p a h all.0) (n all.1)
     again_more text p rest a (Err e) f h n = tt
 

@@ -7,7 +7,8 @@ use Rattle.der_core_head.specs.declared.error.ErrorKind.{ErrorKind}
 use Rattle.der_core_head.specs.declared.error.ErrorKind.TheVariants as kinds
 use Rattle.der_core_head.specs.Shapes.{Shape, Value, octets_of}
 use Rattle.der_core_head.specs.Writing.{write}
-use Rattle.der_types_sets.specs.Sets.{Ascends, AllValid}
+use Rattle.der_core.specs.Placed.{AllValid}
+use Rattle.der_types_sets.specs.Sets.{Ascends}
 use Rattle.x509_cert_name_texts.specs.Pieces.{ReadsPieces}
 use Rattle.x509_cert_names.specs.Names.{type_and_value}
 use Rattle.x509_cert_names.specs.Pairs.{pair_plain, same_pair}
@@ -47,13 +48,13 @@ pub data ReadsName (bound : ℕ) (text : List ℕ) : Result (List (List Attribut
       → ReadsName bound text (Err e)
 
 -- a value as it is printed behind a separator
-abbrev pub behind : {A : Type 0} → ℕ → (A → List ℕ) → A → List ℕ
-behind separator print a = separator ∷ print a
+abbrev pub printed_behind : {A : Type 0} → ℕ → (A → List ℕ) → A → List ℕ
+printed_behind separator print a = separator ∷ print a
 
 -- values as they are printed, with a separator between them
 abbrev pub joined_by : {A : Type 0} → ℕ → (A → List ℕ) → List A → List ℕ
 joined_by separator print [] = []
-joined_by separator print (a ∷ rest) = print a ++ flat_map (behind separator print) rest
+joined_by separator print (a ∷ rest) = print a ++ flat_map (printed_behind separator print) rest
 
 -- a relative name as it is printed: its attributes between +
 abbrev pub relative_printed : List AttributeTypeAndValue → List ℕ

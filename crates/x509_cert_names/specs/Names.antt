@@ -6,7 +6,7 @@ use Rattle.der_core_head.specs.declared.tag.Tag.TheVariants as tags
 use Rattle.der_core_head.specs.Leaves.{identifier, text, utf8, bmp}
 use Rattle.der_core_head.specs.Texts.{printable, ascii}
 use Rattle.der_core_head.specs.Shapes.{Shape, Body, Value, AnyValue, tagged, any, leaf, either}
-use Rattle.der_core_head.specs.Shapes.{field, done, sequence, sequence_of, set_of, octets_of}
+use Rattle.der_core_head.specs.Shapes.{field, done, sequence, sequence_of, strict_set_of, octets_of}
 
 -- AttributeType ::= OBJECT IDENTIFIER, of at most 39 octets
 abbrev pub attribute_type : ℕ → Shape
@@ -15,7 +15,7 @@ attribute_type bound = tagged tags.ObjectIdentifier (leaf (identifier bound max_
 -- Attribute ::= SEQUENCE { type AttributeType, values SET OF AttributeValue }, where AttributeValue
 --     ::= ANY
 abbrev pub attribute_fields : ℕ → Body
-attribute_fields bound = field (attribute_type bound) (field (set_of any) done)
+attribute_fields bound = field (attribute_type bound) (field (strict_set_of any) done)
 
 abbrev pub attribute : ℕ → Shape
 attribute bound = sequence (attribute_fields bound)
@@ -29,7 +29,7 @@ type_and_value bound = sequence (type_and_value_fields bound)
 
 -- RelativeDistinguishedName ::= SET OF AttributeTypeAndValue
 abbrev pub relative_name : ℕ → Shape
-relative_name bound = set_of (type_and_value bound)
+relative_name bound = strict_set_of (type_and_value bound)
 
 -- Name ::= CHOICE { rdnSequence RDNSequence }, RDNSequence ::= SEQUENCE OF
 --     RelativeDistinguishedName

@@ -6,7 +6,7 @@ ghost use Rattle.x509_cert_name_texts.specs.Keys.{x520, pilot, email_address};
 use const_oid::ObjectIdentifier;
 
 /// The type of a common name.
-pub(crate) fn common_name() -> ObjectIdentifier<39>
+pub fn common_name() -> ObjectIdentifier<39>
     ensures { result ≡ x520 3 }
 {
     // 2.5.4.3.
@@ -14,7 +14,7 @@ pub(crate) fn common_name() -> ObjectIdentifier<39>
 }
 
 /// The type of a country.
-pub(crate) fn country() -> ObjectIdentifier<39>
+pub fn country() -> ObjectIdentifier<39>
     ensures { result ≡ x520 6 }
 {
     // 2.5.4.6.
@@ -38,7 +38,7 @@ pub(crate) fn state_or_province() -> ObjectIdentifier<39>
 }
 
 /// The type of an organization.
-pub(crate) fn organization() -> ObjectIdentifier<39>
+pub fn organization() -> ObjectIdentifier<39>
     ensures { result ≡ x520 10 }
 {
     // 2.5.4.10.
@@ -70,7 +70,7 @@ pub(crate) fn serial_number() -> ObjectIdentifier<39>
 }
 
 /// The type of a domain's component.
-pub(crate) fn domain_component() -> ObjectIdentifier<39>
+pub fn domain_component() -> ObjectIdentifier<39>
     ensures { result ≡ pilot 25 }
 {
     // 0.9.2342.19200300.100.1.25.

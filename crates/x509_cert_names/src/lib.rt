@@ -5,7 +5,7 @@
 mod attribute;
 mod attribute_set;
 mod attribute_type_and_value;
-mod attribute_types;
+pub mod attribute_types;
 mod directory_string;
 mod from_any;
 pub mod laws;

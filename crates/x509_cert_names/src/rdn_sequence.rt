@@ -10,7 +10,7 @@ ghost use Rattle.der_core_head.specs.Shapes.{octets_of};
 ghost use Rattle.der_core.specs.Copies.{IsCopy};
 ghost use Rattle.x509_cert_name_texts.specs.Answers.{GivesBy};
 ghost use Rattle.x509_cert_names.specs.NameTexts.{ReadsName, ReadsEncoding, relative_printed};
-ghost use Rattle.x509_cert_names.specs.NameTexts.{name_printed, behind};
+ghost use Rattle.x509_cert_names.specs.NameTexts.{name_printed, printed_behind};
 ghost use Rattle.x509_cert_names.specs.Names.{name};
 ghost use Rattle.x509_cert_names.specs.declared.attribute_type_and_value.AttributeTypeAndValue.{AttributeTypeAndValue};
 ghost use Rattle.x509_cert_names.specs.Pairs.{relative_plain};
@@ -190,7 +190,8 @@ fn write_next<W: fmt::Write>(
     name: &RelativeDistinguishedName,
     f: &mut fmt::Formatter<W>,
 ) -> fmt::Result
-    ensures { WritesOnOk W.write_str_gives f.old result (behind 44 relative_printed name.now)
+    ensures { WritesOnOk W.write_str_gives f.old result
+        (printed_behind 44 relative_printed name.now)
         f.new }
 {
     write!(f, ",{name}")
@@ -202,7 +203,7 @@ fn write_before<W: fmt::Write>(
     f: &mut fmt::Formatter<W>,
 ) -> fmt::Result
     ensures { WritesOnOk W.write_str_gives f.old result
-        (flat_map (behind 44 relative_printed) (reverse names.now)) f.new }
+        (flat_map (printed_behind 44 relative_printed) (reverse names.now)) f.new }
 {
     let mut left = names;
     while let Some((last, before)) = left.split_last() {

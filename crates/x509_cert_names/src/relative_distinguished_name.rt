@@ -11,9 +11,10 @@ ghost use Rattle.std.specs.List.Sorted.{IsPermutation};
 ghost use Rattle.const_oid.specs.Bound.{Bound};
 ghost use Rattle.der_core_head.specs.declared.tag.Tag.TheVariants.{Set};
 ghost use Rattle.der_core_head.specs.Shapes.{nested, rising};
-ghost use Rattle.der_types_sets.specs.Sets.{AllValid, Ascends, IsRefusal, TooLong};
+ghost use Rattle.der_core.specs.Placed.{AllValid};
+ghost use Rattle.der_types_sets.specs.Sets.{Ascends, IsRefusal, TooLong};
 ghost use Rattle.x509_cert_name_texts.specs.Answers.{GivesBy};
-ghost use Rattle.x509_cert_names.specs.NameTexts.{ReadsRelative, relative_printed, behind};
+ghost use Rattle.x509_cert_names.specs.NameTexts.{ReadsRelative, relative_printed, printed_behind};
 ghost use Rattle.x509_cert_names.specs.ValueTexts.{attribute_printed};
 ghost use Rattle.x509_cert_names.specs.Names.{type_and_value};
 ghost use Rattle.x509_cert_names.specs.Ordered.{DifferInTurn, IsOrdered};
@@ -360,7 +361,8 @@ fn write_next<W: fmt::Write>(
     attribute: &AttributeTypeAndValue,
     f: &mut fmt::Formatter<W>,
 ) -> fmt::Result
-    ensures { WritesOnOk W.write_str_gives f.old result (behind 43 attribute_printed attribute.now)
+    ensures { WritesOnOk W.write_str_gives f.old result
+        (printed_behind 43 attribute_printed attribute.now)
         f.new }
 {
     write!(f, "+{attribute}")
@@ -372,7 +374,7 @@ fn write_later<W: fmt::Write>(
     f: &mut fmt::Formatter<W>,
 ) -> fmt::Result
     ensures { WritesOnOk W.write_str_gives f.old result
-        (flat_map (behind 43 attribute_printed) attributes.now) f.new }
+        (flat_map (printed_behind 43 attribute_printed) attributes.now) f.new }
 {
     for attribute in attributes {
         write_next(attribute, f)?;

@@ -45,9 +45,9 @@ with_first None = []
 with_first (Some (e, left)) = e ∷ left
 
 -- the extensions of a field; where it is absent there are none
-abbrev pub listed : Option (List PlainExtension) → List PlainExtension
-listed None = []
-listed (Some es) = es
+abbrev pub extensions_in_field : Option (List PlainExtension) → List PlainExtension
+extensions_in_field None = []
+extensions_in_field (Some es) = es
 
 -- A call gave the value of the first extension that was left, and left the others, or there was
 -- none.

@@ -152,8 +152,8 @@ abbrev pub extension_octets : PlainExtension → List ℕ
 extension_octets e = e.1.1.0
 
 -- An implicit tag on a leaf, and on a SEQUENCE or SET (X.690 8.14.3).
-abbrev pub behind : ℕ → Leaf → Shape
-behind n l = tagged (context false n) (leaf l)
+abbrev pub implicit_leaf : ℕ → Leaf → Shape
+implicit_leaf n l = tagged (context false n) (leaf l)
 
 -- INTEGER (0..2^width - 1)
 abbrev pub whole_number : ℕ → Leaf

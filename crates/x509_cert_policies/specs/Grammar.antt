@@ -8,7 +8,7 @@ use Rattle.der_core_head.specs.Shapes.{Shape, Body, tagged, any, leaf, either, o
 use Rattle.der_core_head.specs.Shapes.{done, sequence, sequence_of}
 use Rattle.der_core_head.specs.Texts.{ascii}
 use Rattle.x509_cert_parts.specs.Grammar.{object_identifier, false_by_default}
-use Rattle.x509_cert_parts.specs.Grammar.{behind, whole_number, number_of}
+use Rattle.x509_cert_parts.specs.Grammar.{implicit_leaf, whole_number, number_of}
 
 -- BasicConstraints ::= SEQUENCE { cA BOOLEAN DEFAULT FALSE, pathLenConstraint INTEGER (0..255)
 --     OPTIONAL } (4.2.1.9)
@@ -19,8 +19,8 @@ basic_constraints_fields = field false_by_default (field (optional (number_of 8)
 --     inhibitPolicyMapping [1] SkipCerts OPTIONAL } (4.2.1.11)
 abbrev pub policy_constraints_fields : Body
 policy_constraints_fields =
-    field (optional (behind 0 (whole_number 32)))
-    (field (optional (behind 1 (whole_number 32))) done)
+    field (optional (implicit_leaf 0 (whole_number 32)))
+    (field (optional (implicit_leaf 1 (whole_number 32))) done)
 
 -- PolicyMapping ::= SEQUENCE { issuerDomainPolicy CertPolicyId, subjectDomainPolicy CertPolicyId }
 --     (4.2.1.5)
@@ -62,4 +62,5 @@ user_notice_fields =
 --     GeneralizedTime OPTIONAL } (RFC 3280 4.2.1.4)
 abbrev pub private_key_usage_period_fields : Body
 private_key_usage_period_fields =
-    field (optional (behind 0 generalized_time)) (field (optional (behind 1 generalized_time)) done)
+    field (optional (implicit_leaf 0 generalized_time))
+    (field (optional (implicit_leaf 1 generalized_time)) done)

@@ -3,12 +3,12 @@
 
 mod basic_constraints;
 mod certificate_policies;
-mod copies;
 mod display_text;
-mod identifiers;
+mod extension_identifiers;
 mod inhibit_any_policy;
 mod notice_reference;
 mod policy_constraints;
+mod policy_copies;
 mod policy_information;
 mod policy_mapping;
 mod policy_mappings;

@@ -1,7 +1,7 @@
 -- Lists of timestamps (RFC 6962 3.3): a vector that holds vectors, one after another.
 use Rattle.std.specs.Prelude.{◌≡◌, ◌≢◌, ◌⊎◌, ℕ, List, [], ◌∷◌, ◌++◌, flat_map, All}
-use Rattle.x509_cert_timestamps.specs.declared.error.Error.{Error}
-use Rattle.x509_cert_timestamps.specs.declared.error.Error.TheVariants.{Der, Tls}
+use Rattle.x509_cert_timestamps.specs.declared.timestamp_error.Error.{Error}
+use Rattle.x509_cert_timestamps.specs.declared.timestamp_error.Error.TheVariants.{Der, Tls}
 use Rattle.x509_cert_timestamps.specs.declared.serialized_sct.SerializedSct.{SerializedSct}
 use Rattle.x509_cert_timestamps.specs.declared.tls_error.TlsError.{TlsError}
 use Rattle.x509_cert_timestamps.specs.declared.tls_error.TlsError.TheVariants.{InvalidVectorLength}

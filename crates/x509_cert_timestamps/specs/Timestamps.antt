@@ -10,14 +10,14 @@ use Rattle.x509_cert_timestamps.specs.declared.signed_certificate_timestamp.Sign
 abbrev pub algorithm_form : Form
 algorithm_form = pair (named hash_numbers) (named signature_numbers)
 
-abbrev pub algorithm_plain : SignatureAndHashAlgorithm → Plain algorithm_form
-algorithm_plain a = (hash_number a.hash, signature_number a.signature)
+abbrev pub algorithms_plain : SignatureAndHashAlgorithm → Plain algorithm_form
+algorithms_plain a = (hash_number a.hash, signature_number a.signature)
 
 abbrev pub signed_form : Form
 signed_form = pair algorithm_form vector
 
 abbrev pub signed_plain : DigitallySigned → Plain signed_form
-signed_plain s = (algorithm_plain s.algorithm, s.signature.items)
+signed_plain s = (algorithms_plain s.algorithm, s.signature.items)
 
 abbrev pub timestamp_form : Form
 timestamp_form =

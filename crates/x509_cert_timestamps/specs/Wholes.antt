@@ -1,6 +1,6 @@
 -- A timestamp that is all of the octets.
 use Rattle.std.specs.Prelude.{◌≡◌, ◌⊎◌, ℕ, List}
-use Rattle.x509_cert_timestamps.specs.declared.error.Error.{Error}
+use Rattle.x509_cert_timestamps.specs.declared.timestamp_error.Error.{Error}
 use Rattle.x509_cert_timestamps.specs.declared.tls_error.TlsError.TheVariants.{OutOfMemory}
 use Rattle.x509_cert_timestamps.specs.Forms.{RefusesWhole}
 use Rattle.x509_cert_timestamps.specs.Lists.{OfTls}

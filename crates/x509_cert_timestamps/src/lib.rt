@@ -3,7 +3,6 @@
 #![tactic(auto)]
 
 mod digitally_signed;
-mod error;
 mod hash_algorithm;
 mod identifier;
 pub mod laws;
@@ -15,13 +14,13 @@ mod signature_algorithm;
 mod signature_and_hash_algorithm;
 mod signed_certificate_timestamp;
 mod signed_certificate_timestamp_list;
+mod timestamp_error;
 mod tls_error;
 mod tls_value;
 mod vectors;
 mod version;
 
 pub use digitally_signed::DigitallySigned;
-pub use error::Error;
 pub use hash_algorithm::HashAlgorithm;
 pub use log_id::LogId;
 pub use serialized_sct::SerializedSct;
@@ -29,6 +28,7 @@ pub use signature_algorithm::SignatureAlgorithm;
 pub use signature_and_hash_algorithm::SignatureAndHashAlgorithm;
 pub use signed_certificate_timestamp::SignedCertificateTimestamp;
 pub use signed_certificate_timestamp_list::SignedCertificateTimestampList;
+pub use timestamp_error::Error;
 pub use tls_error::TlsError;
 pub use tls_value::TlsValue;
 pub use version::Version;

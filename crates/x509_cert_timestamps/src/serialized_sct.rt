@@ -5,8 +5,8 @@ ghost use Rattle.x509_cert_timestamps.specs.Forms.{vector, IsValue, octets, Spel
 ghost use Rattle.x509_cert_timestamps.specs.Timestamps.{timestamp_form, timestamp_plain};
 ghost use Rattle.x509_cert_timestamps.specs.Wholes.{ReadsNoTimestamp};
 
-use crate::error::Error;
 use crate::signed_certificate_timestamp::SignedCertificateTimestamp;
+use crate::timestamp_error::Error;
 use crate::tls_error::TlsError;
 use crate::tls_value::TlsValue;
 use crate::vectors::{append_vector, read_vector, vector_len};

@@ -1,6 +1,6 @@
 //! SignatureAndHashAlgorithm.
 
-ghost use Rattle.x509_cert_timestamps.specs.Timestamps.{algorithm_form, algorithm_plain};
+ghost use Rattle.x509_cert_timestamps.specs.Timestamps.{algorithm_form, algorithms_plain};
 
 use crate::hash_algorithm::HashAlgorithm;
 use crate::signature_algorithm::SignatureAlgorithm;
@@ -27,7 +27,7 @@ pub struct SignatureAndHashAlgorithm {
 impl TlsValue for SignatureAndHashAlgorithm {
     ghost form = { algorithm_form };
 
-    ghost plain = { algorithm_plain };
+    ghost plain = { algorithms_plain };
 
     fn tls_deserialize_bytes(
         alloc: Global,

@@ -5,8 +5,8 @@ ghost use Rattle.der_core_head.specs.declared.tag.Tag.TheVariants.{OctetString};
 ghost use Rattle.x509_cert_timestamps.specs.Lists.{IsMember, sct_octets, SpellsList, ReadsNoList};
 ghost use Rattle.x509_cert_timestamps.specs.Lists.{MakesNoList, ReadsNoMembers, MakesNoMembers};
 
-use crate::error::Error;
 use crate::serialized_sct::SerializedSct;
+use crate::timestamp_error::Error;
 use crate::tls_error::TlsError;
 use crate::tls_value::TlsValue;
 use crate::vectors::{append_vector, split_vector};

@@ -1,7 +1,6 @@
 //! Questions and their answers.
 
 use crate::drawn::{drawn, generated};
-use crate::lists::{value_placed, values_of};
 use crate::made::{digest_of, made_of};
 use crate::names::names_of;
 use crate::questions::{
@@ -9,6 +8,7 @@ use crate::questions::{
     asked_by,
 };
 use crate::refusals::Refusal;
+use crate::requests_and_names::{value_placed, values_of};
 use crate::shown::octets_of;
 use crate::tls_values::rewritten;
 use crate::whole_extensions::{certificate_of, usages_of};

@@ -1,6 +1,5 @@
 //! Questions about contents of extensions, and about what stands in them.
 
-use crate::lists;
 use crate::questions::{
     Asked, Question, answer_of_content, answer_of_copied, answer_of_described, answer_of_list,
     answer_of_ordered, answer_with_both, answer_with_copy, answer_with_debug,
@@ -8,6 +7,7 @@ use crate::questions::{
     answer_with_field_and_copy, answer_with_order, answer_with_order_and_copy,
 };
 use crate::refusals::Refusal;
+use crate::requests_and_names;
 use crate::shown::written;
 use const_oid::ObjectIdentifier;
 use std::alloc::Global;
@@ -161,6 +161,6 @@ fn answer_of_parts(alloc: Global, kind: &str, question: &Question<'_>) -> Result
         "UserNotice" => answer_of_copied(alloc, question, UserNotice::clone),
         "NoticeReference" => answer_of_described::<NoticeReference>(alloc, question),
         "DisplayText" => answer_with_order::<DisplayText>(alloc, question),
-        _ => lists::answer(alloc, kind, question),
+        _ => requests_and_names::answer(alloc, kind, question),
     }
 }

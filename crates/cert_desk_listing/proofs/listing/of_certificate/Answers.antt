@@ -3,7 +3,7 @@ use Rattle.x509_cert_certificates.specs.Certificates.{tbs_issuer, tbs_subject, t
 use Rattle.x509_cert_names.specs.Views.{name_plain}
 use Rattle.x509_cert_parts.specs.Views.{extensions_plain, time_value}
 use Rattle.x509_cert_certificates.specs.Views.{certificate_plain}
-use Rattle.cert_desk_listing.specs.Parts.{listed}
+use Rattle.cert_desk_listing.specs.Parts.{members_in_field}
 use Rattle.cert_desk_listing.proofs.Gathered.{certificate_gathered}
 use Rattle.cert_desk_listing.proofs.listing.of_certificate.Goals as goal
 
@@ -19,7 +19,7 @@ returns g c =
     (ap (λ v. v.0) validity)
     (ap (λ v. v.1.0) validity)
     (c.subject.ensures ∙ ap tbs_subject signed)
-    (ap extensions_plain c.as_slice.ensures.value ∙ ap listed (c.in-Some.ensures ∙ ap (λ t. t.1.1.1.1.1.1.1.1.1.0) signed))
+    (ap extensions_plain c.as_slice.ensures.value ∙ ap members_in_field (c.in-Some.ensures ∙ ap (λ t. t.1.1.1.1.1.1.1.1.1.0) signed))
     (string_bytes c.in_ok-lines.lines.text) (string_bytes c.serial.new.self.text) (string_bytes c.name.new.self.text) (string_bytes c.date.new.self.text)
     (string_bytes c.date-2.new.self.text) (string_bytes c.name-2.new.self.text) (string_bytes c.extensions-2.new.self.text)
     c.in_ok-lines.ensures c.in_ok-serial.ensures c.in_ok-name.ensures c.in_ok-date.ensures c.in_ok-date-2.ensures c.in_ok-name-2.ensures c.in_ok-extensions.ensures
@@ -36,7 +36,7 @@ returns-in_default g c =
     (ap (λ v. v.0) validity)
     (ap (λ v. v.1.0) validity)
     (c.subject.ensures ∙ ap tbs_subject signed)
-    (ap listed (c.in_default.ensures ∙ ap (λ t. t.1.1.1.1.1.1.1.1.1.0) signed))
+    (ap members_in_field (c.in_default.ensures ∙ ap (λ t. t.1.1.1.1.1.1.1.1.1.0) signed))
     (string_bytes c.in_ok-lines.lines.text) (string_bytes c.serial.new.self.text) (string_bytes c.name.new.self.text) (string_bytes c.date.new.self.text)
     (string_bytes c.date-2.new.self.text) (string_bytes c.name-2.new.self.text) (string_bytes c.name-2.new.self.text)
     c.in_ok-lines.ensures c.in_ok-serial.ensures c.in_ok-name.ensures c.in_ok-date.ensures c.in_ok-date-2.ensures c.in_ok-name-2.ensures (sym (append-nil (string_bytes c.name-2.new.self.text)))

@@ -8,5 +8,5 @@ use Rattle.der_core_octets.proofs.integers.whole_number_of.Goals as goal
 pub returns : goal.returns
 returns c =
     let first : slice_get c.args.octets.now 0 ≡ Some c.in-Some.first.now = cc c.in-Some.ensures.value in
-    let some : is_redundant c.args.octets.now ≡ false = sym c.is_redundant.ensures ∙ c.if-is_redundant.false in
+    let some : is_redundant c.args.octets.now ≡ false = sym c.has_redundant_octet.ensures ∙ c.if-has_redundant_octet.false in
     (number_from_digits 256 (turned (leb 128 c.in-Some.first.now) c.args.octets.now), shortest_is c.args.tag c.args.octets.now c.in-Some.first.now first some, c.magnitude_of.ensures)

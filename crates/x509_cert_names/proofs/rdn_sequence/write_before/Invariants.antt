@@ -1,7 +1,7 @@
 use Rattle.std.proofs.Common.{◌≡◌, List, ℕ, ◌++◌, length, reverse}
 use Rattle.std.specs.Fmt.{HasWritten, IsPlainFormatter}
 use Rattle.std.specs.List.{flat_map}
-use Rattle.x509_cert_names.specs.NameTexts.{behind, relative_printed}
+use Rattle.x509_cert_names.specs.NameTexts.{printed_behind, relative_printed}
 use Rattle.x509_cert_names.proofs.rdn_sequence.write_before.Given as goal
 
 -- what was written, and what is left to write, are all
@@ -9,7 +9,7 @@ abbrev pub invariant-loop-last : goal.invariant-loop-last
 invariant-loop-last g l =
     IsPlainFormatter l.initial.f
     → (text : List ℕ) × HasWritten g.W.Write.write_str_gives l.initial.f text l.f
-    × (text ++ flat_map (behind 44 relative_printed) (reverse l.left) ≡ flat_map (behind 44 relative_printed) (reverse l.initial.left))
+    × (text ++ flat_map (printed_behind 44 relative_printed) (reverse l.left) ≡ flat_map (printed_behind 44 relative_printed) (reverse l.initial.left))
 
 abbrev pub decreases-loop-last : goal.decreases-loop-last
 decreases-loop-last g l = length l.left

@@ -1,6 +1,6 @@
 use Rattle.std.proofs.Common.{drop}
 use Rattle.const_oid.specs.Bound.{Bound}
-use Rattle.der_types_sets.specs.Sets.{AllValid}
+use Rattle.der_core.specs.Placed.{AllValid}
 use Rattle.x509_cert_names.specs.Names.{type_and_value}
 use Rattle.x509_cert_names.specs.Pairs.{pair_plain}
 use Rattle.x509_cert_names.proofs.relative_distinguished_name.have_encodings.Given as goal

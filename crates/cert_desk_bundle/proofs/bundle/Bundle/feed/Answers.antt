@@ -2,7 +2,7 @@
 use Rattle.std.proofs.Common.{◌≡◌, ◌++◌, ◌<◌, ℕ, length, refl, subst, arith, length-append}
 use Rattle.const_oid.specs.Bound.{Bound}
 use Rattle.cert_desk_bundle.specs.Locations.{kept_of}
-use Rattle.cert_desk_bundle.specs.Steps.{ReadsOn}
+use Rattle.cert_desk_bundle.specs.Steps.{ReadsExtended}
 use Rattle.cert_desk_bundle.specs.Streams.{Kept}
 use Rattle.cert_desk_bundle.proofs.BundleSteps.{takes_all}
 use Rattle.cert_desk_bundle.proofs.RestLaws.{taken_short}
@@ -29,5 +29,5 @@ returns-then-keep-clause-reads c =
     let k = c.if-keep.ensures in
     let piece = c.args.piece.now in
     let taken = taken_short b.limit b.end b.rest c.keep.new.self piece i.awaits (k.some refl) (omega (arith, k.fewer)) (k.kept refl) c.keep.ensures.wanted in
-    subst (λ (old : Kept). ReadsOn Bound old (record (kept_of b) { rest = c.keep.new.self.octets.items }) piece) c.self.view_is
+    subst (λ (old : Kept). ReadsExtended Bound old (record (kept_of b) { rest = c.keep.new.self.octets.items }) piece) c.self.view_is
     (takes_all b i c.in-Open.is piece c.keep.new.self (length piece) refl taken).reads

@@ -2,7 +2,7 @@ use Rattle.std.proofs.Common.{drop}
 use Rattle.der_core_head.specs.declared.encoding_rules.EncodingRules.TheVariants as encodings
 use Rattle.der_core_head.proofs.BodyLaws.{head_ber_more}
 use Rattle.der_core_octets.specs.Headers.{head_of}
-use Rattle.der_core_octets.proofs.fronts.plain_header_by_both.Goals as goal
+use Rattle.der_core_octets.proofs.fronts.short_header_by_both.Goals as goal
 
 -- What DER reads, BER reads.
 pub returns-clause-front : goal.returns-clause-front

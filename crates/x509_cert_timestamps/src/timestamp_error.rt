@@ -1,7 +1,7 @@
 //! Why a list of timestamps, or a timestamp in it, could not be read or made.
 
 ghost use Rattle.std.specs.Prelude.{◌≡◌};
-ghost use Rattle.x509_cert_timestamps.specs.declared.error.Error.TheVariants.{Der, Tls};
+ghost use Rattle.x509_cert_timestamps.specs.declared.timestamp_error.Error.TheVariants.{Der, Tls};
 
 use crate::tls_error::TlsError;
 

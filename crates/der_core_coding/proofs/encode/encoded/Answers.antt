@@ -1,7 +1,7 @@
 use Rattle.std.proofs.Common.{[]}
 use Rattle.std.proofs.lemmas.Result.{err_from_is_err_and}
 use Rattle.der_core_head.proofs.Written.{out, unsized}
-use Rattle.der_core_coding.proofs.encode.written.Goals as goal
+use Rattle.der_core_coding.proofs.encode.encoded.Goals as goal
 
 pub returns-in_err-len : goal.returns-in_err-len
 returns-in_err-len g c =

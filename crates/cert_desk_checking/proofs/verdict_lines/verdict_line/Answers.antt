@@ -1,5 +1,5 @@
 use Rattle.std.proofs.Common.{rules, append_assoc}
-use Rattle.cert_desk_checking.proofs.lines.verdict_line.Goals as goal
+use Rattle.cert_desk_checking.proofs.verdict_lines.verdict_line.Goals as goal
 
 pub returns-in-Refused : goal.returns-in-Refused
 returns-in-Refused c = rw c.in-Refused.is (search (rules, append_assoc))

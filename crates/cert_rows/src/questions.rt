@@ -1,6 +1,6 @@
 //! Questions and their answers.
 
-use crate::refusals::Refusal;
+use crate::refusal::Refusal;
 use crate::{
     audits, bundles, certificates, chains, checks, cuts, devices, digests, errors, issues,
     listings, readings, splits,

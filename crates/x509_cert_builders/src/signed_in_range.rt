@@ -30,7 +30,7 @@ fn field_in_range(made: &Option<Extensions>)
     }
 }
 
-/// The parts of a part are.
+/// The parts of what is signed are in their ranges.
 pub(crate) fn part_in_range(part: &TbsCertificate)
     ensures { IsPartInRange (tbs_plain part.now) }
 {
