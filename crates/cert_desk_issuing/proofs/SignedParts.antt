@@ -14,7 +14,8 @@ use Rattle.x509_cert_builders.specs.Refusals.{IsUnsigned, IsWantOfMemory, HasNoE
 use Rattle.x509_cert_builders.specs.declared.build_error.Error.{Error as BuilderError}
 use Rattle.x509_cert_builders.specs.declared.build_error.Error.TheVariants as builders
 use Rattle.x509_cert_builders.specs.declared.sign_error.SignError.TheVariants as signers
-use Rattle.x509_cert_builders.specs.SignedParts.{bare_part, part_shape, signed_part, written_part}
+use Rattle.x509_cert_certificates.specs.Assembling.{bare_part, signed_part}
+use Rattle.x509_cert_builders.specs.SignedParts.{part_shape, written_part}
 use Rattle.x509_cert_builders.specs.States.{CertificateState, part_for}
 use Rattle.x509_cert_parts.specs.Grammar.{Algorithm, PlainExtension, PublicKey}
 use Rattle.x509_cert_parts.specs.Grammar.{algorithm_identifier, bit_string, PlainValidity}

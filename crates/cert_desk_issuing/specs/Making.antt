@@ -5,7 +5,7 @@ use Rattle.der_core_head.specs.BitStrings.{Bits}
 use Rattle.der_core_head.specs.Limits.{length_max}
 use Rattle.der_core_head.specs.Grammar.{plain_list}
 use Rattle.der_core_head.specs.Shapes.{IsValid}
-use Rattle.x509_cert_builders.specs.SignedParts.{PlainFields}
+use Rattle.x509_cert_certificates.specs.Assembling.{PlainFields}
 use Rattle.x509_cert_builders.specs.States.{as_written}
 use Rattle.x509_cert_builders.specs.declared.build_error.Error.{Error}
 use Rattle.x509_cert_parts.specs.Grammar.{Algorithm, PlainExtension, PublicKey}

@@ -132,8 +132,8 @@ fn made_by<P: BuilderProfile + Drop, S: Signer>(
         result }
 {
     let certificate = builder.build(alloc, signer)?;
-    certificate.signature_algorithm.in_range();
-    certificate.signature.in_range();
+    certificate.signature_algorithm().in_range();
+    certificate.signature().in_range();
     let octets = certificate.to_der(alloc)?;
     Ok(Made {
         certificate,

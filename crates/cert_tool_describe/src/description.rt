@@ -23,7 +23,7 @@ pub fn add_kind(lines: &mut Lines, kind: &str, version: Version) {
 }
 
 // Adds an identifier of issuer or subject, if it stands there.
-fn add_unique(lines: &mut Lines, word: &str, key: &str, id: Option<&BitString>) {
+fn add_unique(lines: &mut Lines, word: &str, key: &str, id: &Option<BitString>) {
     if let Some(id) = id {
         lines.row(word, key);
         lines.octets(id.raw_bytes());

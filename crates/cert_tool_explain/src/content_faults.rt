@@ -62,7 +62,7 @@ fn timestamp_fault(alloc: Global, listed: &[SerializedSct]) -> Option<Error> {
 // Why octets aren't a list of timestamps, if they aren't.
 fn timestamps_fault(alloc: Global, octets: &[u8]) -> Option<Error> {
     let list = match leaf_from_der::<OctetString>(alloc, octets) {
-        Ok(list) => SignedCertificateTimestampList(list),
+        Ok(list) => SignedCertificateTimestampList::from(list),
         Err(error) => return Some(error),
     };
     match list.parse_timestamps(alloc) {

@@ -32,7 +32,7 @@ fn are_characters<T: AsciiType>(octets: &[u8]) -> bool
 #[derive_where(PartialEq, Eq, PartialOrd, Ord, Hash)]
 pub struct AsciiStringRef<'a, T: AsciiType> {
     /// The characters.
-    pub text: &'a str,
+    pub(crate) text: &'a str,
     pub(crate) kind: PhantomData<T>,
     ghost within: { AreWithin T.repertoire text.now },
     ghost short: { Fits text.now },

@@ -20,7 +20,7 @@ use std::convert::AsSlice;
 #[derive(Clone, Copy, Debug, PartialEq, Eq, PartialOrd, Ord, Hash)]
 pub struct GeneralStringRef<'a> {
     /// The octets.
-    pub bytes: &'a [u8],
+    bytes: &'a [u8],
     ghost short: { Fits bytes.now },
 }
 

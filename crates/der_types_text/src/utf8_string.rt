@@ -24,7 +24,7 @@ use std::fmt;
 #[derive(Clone, Copy, PartialEq, Eq, PartialOrd, Ord, Hash)]
 pub struct Utf8StringRef<'a> {
     /// The characters.
-    pub text: &'a str,
+    text: &'a str,
     ghost short: { Fits text.now },
 }
 

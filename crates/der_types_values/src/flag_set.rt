@@ -45,7 +45,7 @@ pub trait NamedBits: Flags + Copy {
 #[derive(Debug)]
 pub struct FlagSet<F: NamedBits> {
     /// The bits, of which each has a name.
-    pub flags: F,
+    flags: F,
     ghost named: { F.set_of flags < 2 ^ F.names },
 }
 

@@ -4,7 +4,7 @@ use Rattle.std.specs.List.{AllByRecursion}
 use Rattle.der_core_head.specs.Grammar.{plain_list}
 use Rattle.x509_cert_parts.specs.Grammar.{PlainExtension}
 use Rattle.x509_cert_parts.specs.ExtensionSearch.{extensions_in_field}
-use Rattle.x509_cert_builders.specs.SignedParts.{extensions_if_any}
+use Rattle.x509_cert_certificates.specs.Assembling.{extensions_if_any}
 
 pub plain_joined : {A B : Type 0} (f : A → B) → (xs ys : List A) → plain_list f (xs ++ ys) ≡ plain_list f xs ++ plain_list f ys
 plain_joined f [] ys = refl

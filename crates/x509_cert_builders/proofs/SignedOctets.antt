@@ -15,7 +15,8 @@ use Rattle.x509_cert_certificates.specs.Certificates.{Tbs, tbs_certificate}
 use Rattle.x509_cert_parts.specs.Grammar.{Algorithm, PlainExtension, PlainTime, time, version}
 use Rattle.x509_cert_parts.specs.Views.{algorithm_plain, extensions_plain}
 use Rattle.x509_cert_parts.specs.Respelling.{respelled}
-use Rattle.x509_cert_builders.specs.SignedParts.{IsPartInRange, PlainFields, has_any, part_shape, signed_part, version_of, written_part}
+use Rattle.x509_cert_certificates.specs.Assembling.{PlainFields, has_any, signed_part, version_of}
+use Rattle.x509_cert_builders.specs.SignedParts.{IsPartInRange, part_shape, written_part}
 use Rattle.x509_cert_builders.specs.States.{finalized_plain}
 use Rattle.x509_cert_builders.specs.declared.certificate_builder.Finalized.{Finalized}
 

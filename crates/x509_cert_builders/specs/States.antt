@@ -8,7 +8,7 @@ use Rattle.x509_cert_certificates.specs.Certificates.{tbs_inner_algorithm}
 use Rattle.x509_cert_certificates.specs.Views.{tbs_plain}
 use Rattle.x509_cert_parts.specs.Grammar.{Algorithm, PlainExtension, PublicKey}
 use Rattle.x509_cert_parts.specs.Views.{algorithm_plain, extensions_plain}
-use Rattle.x509_cert_builders.specs.SignedParts.{PlainFields, bare_part, fields_of, signed_part}
+use Rattle.x509_cert_certificates.specs.Assembling.{PlainFields, bare_part, fields_of, signed_part}
 use Rattle.x509_cert_builders.specs.SignedParts.{written_part}
 use Rattle.x509_cert_builders.specs.declared.certificate_builder.CertificateBuilder.TheInside.{Inside}
 use Rattle.x509_cert_builders.specs.declared.certificate_builder.Finalized.{Finalized}

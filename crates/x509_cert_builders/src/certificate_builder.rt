@@ -10,8 +10,10 @@ ghost use Rattle.x509_cert_certificates.specs.Certificates.{outer_algorithm, sig
 ghost use Rattle.x509_cert_certificates.specs.Certificates.{tbs_certificate, tbs_public_key};
 ghost use Rattle.x509_cert_parts.specs.Views.{algorithm_plain, extensions_plain, key_plain};
 ghost use Rattle.x509_cert_parts.specs.Views.{validity_plain};
-ghost use Rattle.x509_cert_builders.specs.SignedParts.{bare_part, fields_of, part_shape};
-ghost use Rattle.x509_cert_builders.specs.SignedParts.{signed_part, written_part};
+ghost use Rattle.x509_cert_certificates.specs.Assembling.{bare_part, fields_of};
+ghost use Rattle.x509_cert_builders.specs.SignedParts.{part_shape};
+ghost use Rattle.x509_cert_certificates.specs.Assembling.{signed_part};
+ghost use Rattle.x509_cert_builders.specs.SignedParts.{written_part};
 ghost use Rattle.x509_cert_builders.specs.States.{algorithm_of_last, as_written, octets_in_place};
 ghost use Rattle.x509_cert_builders.specs.States.{part_for};
 ghost use Rattle.x509_cert_builders.specs.Refusals.{IsFailed, IsUnwritten, IsWantOfMemory};
@@ -23,18 +25,20 @@ use crate::builder::Builder;
 use crate::builder_profile::BuilderProfile;
 use crate::identifiers::no_algorithm;
 use crate::signed_in_range::part_in_range;
-use crate::signed_part::{complete, lay_bare, take_extensions, written};
+use crate::signed_part::written;
 use crate::signer::Signer;
 use der_core::ErrorKind;
 use der_types_values::BitString;
 use std::alloc::Global;
 use std::marker::Model;
+use x509_cert_certificates::assembling::{
+    bare_part, certificate_of, complete, lay_bare, take_extensions,
+};
 use x509_cert_certificates::laws::signed_part_stands_in_place;
 use x509_cert_certificates::{Certificate, TbsCertificate};
 use x509_cert_extensions::ToExtension;
 use x509_cert_parts::{
     AlgorithmIdentifier, Extension, Extensions, SerialNumber, SubjectPublicKeyInfo, Validity,
-    Version,
 };
 
 /// A builder of certificates (RFC 5280 4.1), whose names and extensions its profile tells.
@@ -96,18 +100,14 @@ impl<P: BuilderProfile + Drop> CertificateBuilder<P> {
     {
         let subject = profile.get_subject(alloc)?;
         let issuer = profile.get_issuer(alloc, &subject)?;
-        let part = TbsCertificate {
-            version: Version::V3,
+        let part = bare_part(
             serial_number,
-            signature: no_algorithm(),
+            no_algorithm(),
             issuer,
             validity,
             subject,
             subject_public_key_info,
-            issuer_unique_id: None,
-            subject_unique_id: None,
-            extensions: None,
-        };
+        );
         Ok(CertificateBuilder {
             profile,
             part,
@@ -135,7 +135,7 @@ impl<P: BuilderProfile + Drop> CertificateBuilder<P> {
         ensures refused { IfErr result (λ e. E.refused extension e
             ⊎ IsWantOfMemoryAs E.Error.from_gives e) }
     {
-        let made = extension.to_extension(alloc, &self.part.subject, self.extensions.as_slice())?;
+        let made = extension.to_extension(alloc, self.part.subject(), self.extensions.as_slice())?;
         match self.extensions.push(made) {
             Ok(()) => Ok(()),
             Err(error) => Err(E::Error::from(der_core::Error::from(error))),
@@ -156,7 +156,7 @@ fn profiled<P: BuilderProfile, S: Signer>(
         (tbs_plain part.now)) }
     ensures refused { IfErr result (λ e. IsWantOfMemory e ⊎ P.refuses profile.now e) }
 {
-    let key = part.subject_public_key_info.owned_to_ref();
+    let key = part.subject_public_key_info().owned_to_ref();
     let issuer_key = signer.key_info().owned_to_ref();
     let more = profile.build_extensions(alloc, &key, &issuer_key, part)?;
     Ok(more)
@@ -264,10 +264,6 @@ impl<P: BuilderProfile + Drop> Builder for CertificateBuilder<P> {
         } = self;
         let signature_algorithm = put_back(alloc, &mut part, finalized)?;
         signed_part_stands_in_place();
-        Ok(Certificate {
-            tbs_certificate: part,
-            signature_algorithm,
-            signature,
-        })
+        Ok(certificate_of(part, signature_algorithm, signature))
     }
 }

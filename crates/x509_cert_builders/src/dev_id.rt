@@ -191,7 +191,7 @@ impl BuilderProfile for DevId {
         issuer_spk: &SubjectPublicKeyInfoRef<'b>,
         tbs: &TbsCertificate,
     ) -> Result<Extensions, Error> {
-        let subject = &tbs.subject;
+        let subject = tbs.subject();
         let mut extensions = Vec::with_capacity(alloc, 3)?;
         add_authority(alloc, &mut extensions, subject, issuer_spk)?;
         add_usage(alloc, &mut extensions, subject, signing_usage())?;

@@ -67,7 +67,7 @@ impl BuilderProfile for Root {
         _issuer_spk: &SubjectPublicKeyInfoRef<'b>,
         tbs: &TbsCertificate,
     ) -> Result<Extensions, Error> {
-        let subject = &tbs.subject;
+        let subject = tbs.subject();
         let mut extensions = Vec::with_capacity(alloc, 4)?;
         add_authority(alloc, &mut extensions, subject, spk)?;
         add_constraints(alloc, &mut extensions, subject, true, None)?;

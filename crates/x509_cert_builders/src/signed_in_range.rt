@@ -21,8 +21,8 @@ fn validity_in_range(dates: &Validity)
     dates.not_after.in_range();
 }
 
-fn field_in_range(made: &Option<Extensions>)
-    ensures { IsInRange extensions_field (plain_option (λ e. extensions_plain e.items) made.now) }
+fn field_in_range(made: Option<&Extensions>)
+    ensures { IsInRange extensions_field (plain_option (λ e. extensions_plain e.now.items) made) }
 {
     match made {
         Some(extensions) => extensions.in_range(),
@@ -34,10 +34,10 @@ fn field_in_range(made: &Option<Extensions>)
 pub(crate) fn part_in_range(part: &TbsCertificate)
     ensures { IsPartInRange (tbs_plain part.now) }
 {
-    part.signature.in_range();
-    part.issuer.in_range();
-    validity_in_range(&part.validity);
-    part.subject.in_range();
-    part.subject_public_key_info.in_range();
-    field_in_range(&part.extensions);
+    part.signature().in_range();
+    part.issuer().in_range();
+    validity_in_range(part.validity());
+    part.subject().in_range();
+    part.subject_public_key_info().in_range();
+    field_in_range(part.extensions());
 }

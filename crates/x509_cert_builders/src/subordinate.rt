@@ -58,7 +58,7 @@ impl BuilderProfile for Subordinate {
         issuer_spk: &SubjectPublicKeyInfoRef<'b>,
         tbs: &TbsCertificate,
     ) -> Result<Extensions, Error> {
-        let subject = &tbs.subject;
+        let subject = tbs.subject();
         let mut extensions = Vec::with_capacity(alloc, 5)?;
         add_authority(alloc, &mut extensions, subject, issuer_spk)?;
         add_constraints(

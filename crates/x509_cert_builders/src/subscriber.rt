@@ -101,7 +101,7 @@ impl BuilderProfile for Subscriber {
         issuer_spk: &SubjectPublicKeyInfoRef<'b>,
         tbs: &TbsCertificate,
     ) -> Result<Extensions, Error> {
-        let subject = &tbs.subject;
+        let subject = tbs.subject();
         let mut extensions = Vec::with_capacity(alloc, 4)?;
         add_authority(alloc, &mut extensions, subject, issuer_spk)?;
         add_purposes(alloc, &mut extensions, subject, self.client_auth)?;

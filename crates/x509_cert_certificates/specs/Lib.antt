@@ -1,3 +1,4 @@
 pub mod Certificates
 pub mod Bounds
 pub mod Views
+pub mod Assembling

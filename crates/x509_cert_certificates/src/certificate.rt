@@ -33,11 +33,11 @@ use x509_cert_parts::{AlgorithmIdentifier, Profile, Rfc5280};
 #[derive_where(Debug, PartialEq, Eq)]
 pub struct CertificateInner<P = Rfc5280> {
     /// What is signed.
-    pub tbs_certificate: TbsCertificateInner<P>,
+    pub(crate) tbs_certificate: TbsCertificateInner<P>,
     /// The algorithm by which it is signed.
-    pub signature_algorithm: AlgorithmIdentifier,
+    pub(crate) signature_algorithm: AlgorithmIdentifier,
     /// The issuer's signature of the octets of what is signed.
-    pub signature: BitString,
+    pub(crate) signature: BitString,
 }
 
 /// A certificate by the profile of RFC 5280.

@@ -1,6 +1,7 @@
 //! Certificates (RFC 5280 4.1).
 #![tactic(auto)]
 
+pub mod assembling;
 mod cert_digest;
 mod certificate;
 mod certificate_copies;

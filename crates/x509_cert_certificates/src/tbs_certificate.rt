@@ -52,25 +52,25 @@ use x509_cert_parts::{
 #[derive_where(Debug, PartialEq, Eq)]
 pub struct TbsCertificateInner<P = Rfc5280> {
     /// The version, which says which fields it may have.
-    pub version: Version,
+    pub(crate) version: Version,
     /// The number, which an issuer gives once.
-    pub serial_number: SerialNumber<P>,
+    pub(crate) serial_number: SerialNumber<P>,
     /// The algorithm by which it is signed, the same as outside the signed part.
-    pub signature: AlgorithmIdentifier,
+    pub(crate) signature: AlgorithmIdentifier,
     /// The name of who signs it.
-    pub issuer: Name,
+    pub(crate) issuer: Name,
     /// From when until when it is valid.
-    pub validity: Validity<P>,
+    pub(crate) validity: Validity<P>,
     /// The name of whom the key belongs to.
-    pub subject: Name,
+    pub(crate) subject: Name,
     /// The key that is certified.
-    pub subject_public_key_info: SubjectPublicKeyInfo,
+    pub(crate) subject_public_key_info: SubjectPublicKeyInfo,
     /// Bits that tell the issuer from others of the name.
-    pub issuer_unique_id: Option<BitString>,
+    pub(crate) issuer_unique_id: Option<BitString>,
     /// Bits that tell the subject from others of the name.
-    pub subject_unique_id: Option<BitString>,
+    pub(crate) subject_unique_id: Option<BitString>,
     /// What else is said of it.
-    pub extensions: Option<Extensions>,
+    pub(crate) extensions: Option<Extensions>,
 }
 
 /// The signed part by the profile of RFC 5280.
@@ -297,17 +297,17 @@ impl<P> TbsCertificateInner<P> {
     }
 
     /// What tells issuers of one name apart (RFC 5280 4.1.2.8).
-    pub fn issuer_unique_id(&self) -> Option<&BitString>
-        ensures { plain_option (λ r. r.now) result ≡ tbs_issuer_unique_id (tbs_plain self.now) }
+    pub fn issuer_unique_id(&self) -> &Option<BitString>
+        ensures { result.now ≡ tbs_issuer_unique_id (tbs_plain self.now) }
     {
-        self.issuer_unique_id.as_ref()
+        &self.issuer_unique_id
     }
 
     /// What tells subjects of one name apart (RFC 5280 4.1.2.8).
-    pub fn subject_unique_id(&self) -> Option<&BitString>
-        ensures { plain_option (λ r. r.now) result ≡ tbs_subject_unique_id (tbs_plain self.now) }
+    pub fn subject_unique_id(&self) -> &Option<BitString>
+        ensures { result.now ≡ tbs_subject_unique_id (tbs_plain self.now) }
     {
-        self.subject_unique_id.as_ref()
+        &self.subject_unique_id
     }
 
     /// The extensions, in their order (RFC 5280 4.2).

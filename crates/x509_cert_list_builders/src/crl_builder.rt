@@ -8,8 +8,8 @@ ghost use Rattle.der_core_head.specs.declared.error.ErrorKind.TheVariants.{OutOf
 ghost use Rattle.der_core_head.specs.Grammar.{plain_list, plain_option};
 ghost use Rattle.der_core_head.specs.Reading.{Gives};
 ghost use Rattle.der_core_head.specs.Shapes.{IsValid};
-ghost use Rattle.x509_cert_certificates.specs.Views.{tbs_plain};
-ghost use Rattle.x509_cert_certificates.specs.Certificates.{tbs_subject};
+ghost use Rattle.x509_cert_certificates.specs.Views.{certificate_plain, tbs_plain};
+ghost use Rattle.x509_cert_certificates.specs.Certificates.{tbs, tbs_subject};
 ghost use Rattle.x509_cert_parts.specs.Views.{algorithm_plain, extensions_plain, key_plain};
 ghost use Rattle.x509_cert_parts.specs.Views.{time_value};
 ghost use Rattle.x509_cert_general_names.specs.Views.{authority_key_identifier_plain};
@@ -88,7 +88,7 @@ fn issuing_key(
 {
     let found = issuer.get_extension::<AuthorityKeyIdentifier>(alloc)?;
     let Some((_, identifier)) = found else {
-        let identifier = identifier_of(alloc, &issuer.subject_public_key_info)?;
+        let identifier = identifier_of(alloc, issuer.subject_public_key_info())?;
         return Ok(identifier);
     };
     Ok(identifier)
@@ -108,8 +108,8 @@ fn own_extensions(
         ⊎ HasNoExtensions number.now.0 (issuing_key (tbs_plain issuer.now)) e.kind) }
 {
     let key = issuing_key(alloc, issuer)?;
-    let number = number.to_extension(alloc, &issuer.subject, &[])?;
-    let authority = (&key).to_extension(alloc, &issuer.subject, &[])?;
+    let number = number.to_extension(alloc, issuer.subject(), &[])?;
+    let authority = (&key).to_extension(alloc, issuer.subject(), &[])?;
     let extensions = Vec::from_array(alloc, [number, authority])?;
     Ok(extensions)
 }
@@ -131,8 +131,8 @@ impl<P: Profile> CrlBuilder<P> {
         this_update: Time,
     ) -> Result<CrlBuilder<P>, der_core::Error>
         ensures made { IfOk result (λ b. (key : PlainAuthority)
-            × (issuing_key (tbs_plain issuer.now.tbs_certificate) ≡ Ok key) × (b ≡ record {
-              issuer = tbs_subject (tbs_plain issuer.now.tbs_certificate);
+            × (issuing_key (tbs (certificate_plain issuer.now)) ≡ Ok key) × (b ≡ record {
+              issuer = tbs_subject (tbs (certificate_plain issuer.now));
               this_update = time_value this_update;
               next_update = None;
               revoked = None;
@@ -140,12 +140,12 @@ impl<P: Profile> CrlBuilder<P> {
               finalized = None;
             })) }
         ensures refused { IfErr result (λ e. (e.kind ≡ OutOfMemory)
-            ⊎ HasNoExtensions crl_number.0 (issuing_key (tbs_plain issuer.now.tbs_certificate))
+            ⊎ HasNoExtensions crl_number.0 (issuing_key (tbs (certificate_plain issuer.now)))
             e.kind) }
     {
-        let tbs = &issuer.tbs_certificate;
+        let tbs = issuer.tbs_certificate();
         let crl_extensions = own_extensions(alloc, tbs, &crl_number)?;
-        let issuer = tbs.subject.clone(alloc)?;
+        let issuer = tbs.subject().clone(alloc)?;
         Ok(CrlBuilder {
             issuer,
             this_update,

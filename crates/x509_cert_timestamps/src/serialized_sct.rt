@@ -22,7 +22,7 @@ use std::alloc::Global;
 #[derive(Debug, Drop, PartialEq)]
 pub struct SerializedSct {
     /// The octets.
-    pub data: Vec<u8>,
+    data: Vec<u8>,
 }
 
 impl SerializedSct {

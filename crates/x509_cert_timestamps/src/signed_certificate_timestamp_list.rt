@@ -26,7 +26,7 @@ use std::alloc::Global;
 ///
 /// The empty list is read and written too.
 #[derive(Debug, Drop, PartialEq)]
-pub struct SignedCertificateTimestampList(pub OctetString);
+pub struct SignedCertificateTimestampList(OctetString);
 
 /// Puts the members of a list behind one another.
 fn append_members(alloc: Global, serialized_scts: &[SerializedSct]) -> Result<Vec<u8>, TlsError>

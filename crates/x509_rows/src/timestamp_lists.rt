@@ -5,7 +5,7 @@ use crate::shown::{Dashed, dashed_octets_of, written};
 use der_core::FromDer;
 use std::alloc::Global;
 use std::fmt::Write;
-use x509_cert::timestamps::{SerializedSct, SignedCertificateTimestampList};
+use x509_cert::timestamps::{SerializedSct, SignedCertificateTimestampList, TlsError, TlsValue};
 
 /// The octets of each timestamp of the list that octets spell.
 pub fn members_of(alloc: Global, octets: &str) -> Result<String, Refusal> {
@@ -22,9 +22,30 @@ fn members_in(alloc: Global, members: &[SerializedSct]) -> Result<String, Refusa
         if !text.is_empty() {
             text.push(' ')?;
         }
-        write!(text, "{}", Dashed(member.data.as_slice()))?;
+        write!(text, "{}", Dashed(member_octets(alloc, member)?.as_slice()))?;
     }
     Ok(text)
+}
+
+/// The octets of a member of a list, which stand behind two octets that count them.
+fn member_octets(alloc: Global, member: &SerializedSct) -> Result<Vec<u8>, Refusal> {
+    let counted = member.tls_serialize(alloc)?;
+    match counted.as_slice() {
+        [_, _, octets @ ..] => Ok(octets.to_vec(alloc)?),
+        _ => Err(Refusal::Length),
+    }
+}
+
+/// The member of a list of these octets: they are read behind two octets that count them.
+pub fn member_of(alloc: Global, octets: &str) -> Result<SerializedSct, Refusal> {
+    let octets = dashed_octets_of(alloc, octets)?;
+    let Ok(len) = u16::try_from(octets.len()) else {
+        return Err(Refusal::Tls(TlsError::InvalidVectorLength));
+    };
+    let mut counted = len.to_be_bytes().to_vec(alloc)?;
+    counted.extend_from_slice(octets.as_slice())?;
+    let (member, _) = SerializedSct::tls_deserialize_bytes(alloc, counted.as_slice())?;
+    Ok(member)
 }
 
 /// What is written of the list of the timestamps that these octets spell, each read and written
@@ -39,8 +60,7 @@ pub fn list_read(alloc: Global, members: &str) -> Result<String, Refusal> {
 
 /// The timestamp that octets spell, read and written again.
 fn read_again(alloc: Global, octets: &str) -> Result<SerializedSct, Refusal> {
-    let data = dashed_octets_of(alloc, octets)?;
-    let timestamp = SerializedSct { data }.parse_timestamp(alloc)?;
+    let timestamp = member_of(alloc, octets)?.parse_timestamp(alloc)?;
     Ok(SerializedSct::new(alloc, timestamp)?)
 }
 
@@ -48,8 +68,7 @@ fn read_again(alloc: Global, octets: &str) -> Result<SerializedSct, Refusal> {
 pub fn list_of(alloc: Global, members: &str) -> Result<String, Refusal> {
     let mut timestamps = Vec::new(alloc);
     for octets in members.split_whitespace() {
-        let data = dashed_octets_of(alloc, octets)?;
-        timestamps.push(SerializedSct { data })?;
+        timestamps.push(member_of(alloc, octets)?)?;
     }
     list_written(alloc, timestamps.as_slice())
 }

@@ -1,14 +1,11 @@
 //! Timestamps and their dates.
 
 use crate::refusals::Refusal;
-use crate::shown::{Dashed, dashed_octets_of, shown};
-use crate::timestamp_lists::{list_of, list_read, members_of};
-use crate::tls_values::{length_of, length_of_list};
+use crate::shown::{Dashed, shown};
+use crate::timestamp_lists::{list_of, list_read, member_of, members_of};
+use crate::tls_values::{blank_timestamp, length_of, length_of_list};
 use std::alloc::Global;
-use x509_cert::timestamps::{
-    DigitallySigned, HashAlgorithm, LogId, SerializedSct, SignatureAlgorithm,
-    SignatureAndHashAlgorithm, SignedCertificateTimestamp, Version,
-};
+use x509_cert::timestamps::SignedCertificateTimestamp;
 
 /// The answer to a question about timestamps.
 pub fn answer(alloc: Global, word: &str, rest: &str) -> Result<String, Refusal> {
@@ -25,8 +22,7 @@ pub fn answer(alloc: Global, word: &str, rest: &str) -> Result<String, Refusal> 
 
 /// The parts of the timestamp that octets spell.
 fn parts_of(alloc: Global, octets: &str) -> Result<String, Refusal> {
-    let data = dashed_octets_of(alloc, octets)?;
-    let timestamp = SerializedSct { data }.parse_timestamp(alloc)?;
+    let timestamp = member_of(alloc, octets)?.parse_timestamp(alloc)?;
     parts_in(alloc, &timestamp)
 }
 
@@ -47,18 +43,6 @@ fn parts_in(alloc: Global, timestamp: &SignedCertificateTimestamp) -> Result<Str
 
 /// The date of a timestamp of so many milliseconds, which has nothing else in it.
 fn date_of(alloc: Global, milliseconds: &str) -> Result<String, Refusal> {
-    let timestamp = SignedCertificateTimestamp {
-        version: Version::V1,
-        log_id: LogId { key_id: [0; 32] },
-        timestamp: milliseconds.parse()?,
-        extensions: Vec::new(alloc),
-        signature: DigitallySigned {
-            algorithm: SignatureAndHashAlgorithm {
-                hash: HashAlgorithm::None,
-                signature: SignatureAlgorithm::Anonymous,
-            },
-            signature: Vec::new(alloc),
-        },
-    };
+    let timestamp = blank_timestamp(alloc, milliseconds.parse()?, Vec::new(alloc));
     shown(alloc, timestamp.timestamp()?)
 }

@@ -49,8 +49,30 @@ pub fn length_of_list(alloc: Global, count: &str) -> Result<String, Refusal> {
     shown(alloc, list.to_der(alloc)?.len())
 }
 
-/// A timestamp of so many octets, all zero.
+/// A timestamp of so many octets, all zero, of which 47 stand beside its extensions.
 fn timestamp_of(alloc: Global, count: &str) -> Result<SerializedSct, Refusal> {
-    let data = vec![in alloc; 0u8; count.parse()?]?;
-    Ok(SerializedSct { data })
+    let count: usize = count.parse()?;
+    let extensions = vec![in alloc; 0u8; count.saturating_sub(47)]?;
+    Ok(SerializedSct::new(alloc, blank_timestamp(alloc, 0, extensions))?)
+}
+
+/// A timestamp of so many milliseconds with these extensions, and nothing else in it.
+pub fn blank_timestamp(
+    alloc: Global,
+    timestamp: u64,
+    extensions: Vec<u8>,
+) -> SignedCertificateTimestamp {
+    SignedCertificateTimestamp {
+        version: Version::V1,
+        log_id: LogId { key_id: [0; 32] },
+        timestamp,
+        extensions,
+        signature: DigitallySigned {
+            algorithm: SignatureAndHashAlgorithm {
+                hash: HashAlgorithm::None,
+                signature: SignatureAlgorithm::Anonymous,
+            },
+            signature: Vec::new(alloc),
+        },
+    }
 }

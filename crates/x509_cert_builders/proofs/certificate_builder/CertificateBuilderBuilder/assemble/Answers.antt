@@ -1,7 +1,7 @@
 use Rattle.const_oid.specs.Bound.{Bound}
 use Rattle.x509_cert_certificates.specs.Views.{tbs_plain}
 use Rattle.x509_cert_parts.specs.Views.{algorithm_plain}
-use Rattle.x509_cert_builders.specs.SignedParts.{fields_of}
+use Rattle.x509_cert_certificates.specs.Assembling.{fields_of}
 use Rattle.x509_cert_builders.specs.States.{as_written}
 use Rattle.x509_cert_builders.proofs.SignedOctets.{put_back}
 use Rattle.x509_cert_builders.proofs.certificate_builder.CertificateBuilderBuilder.assemble.Goals as goal
