@@ -5,7 +5,8 @@ ghost use Rattle.const_oid.specs.Bound.{Bound};
 ghost use Rattle.cert_desk_bundle.specs.Chains.{joined};
 ghost use Rattle.cert_desk_bundle.specs.Streams.{Reads};
 ghost use Rattle.cert_desk_bundle.specs.Entries.{IsEntry};
-ghost use Rattle.cert_desk_bundle.specs.Steps.{kept_octets, ReadsExtended, ReadsUnchanged, Grows, Takes};
+ghost use Rattle.cert_desk_bundle.specs.Steps.{kept_octets, ReadsExtended, ReadsUnchanged, Grows};
+ghost use Rattle.cert_desk_bundle.specs.Steps.{Takes};
 ghost use Rattle.cert_desk_bundle.specs.Steps.{Advances, TakesFront, Stops, stopped, error_of};
 ghost use Rattle.cert_desk_bundle.specs.Steps.{RefusesPiece, RefusesEnd, HasFailed, RefusesInput};
 

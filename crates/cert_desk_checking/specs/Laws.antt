@@ -17,8 +17,7 @@ use Rattle.cert_desk_bundle.specs.Faults.{SeriesFault, StreamFault}
 use Rattle.cert_desk_rules.specs.Judging.{PlainAnchor, Answers, Terms}
 use Rattle.cert_desk_rules.specs.KeptRules.{AreJudged, IsFirstBreach, kept_at}
 use Rattle.cert_desk_checking.specs.QuestionLines.{chain_lines, lines_at, questions_of_lines}
-use Rattle.cert_desk_rules.specs.Questions.{AnswerAlike, answer_on, questions_at}
-use Rattle.cert_desk_rules.specs.Questions.{under}
+use Rattle.cert_desk_rules.specs.Questions.{AnswerAlike, answer_on, questions_at, under}
 use Rattle.cert_desk_bundle.specs.Series.{IsUnambiguous, Series}
 use Rattle.cert_desk_rules.specs.Verdicts.{IsVerdict, Asks}
 

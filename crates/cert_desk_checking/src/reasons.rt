@@ -1,6 +1,6 @@
 //! Reasons of breaches, found on demand.
-ghost use Rattle.std.specs.Prelude.{◌≡◌, ◌<◌, ◌≤◌, ◌+◌, ◌-◌, List, ℕ, true, false, ◌⊎◌, length, not};
-ghost use Rattle.std.specs.Prelude.{IfSome, IfOk, OnErr, ◌&&◌, ◌||◌};
+ghost use Rattle.std.specs.Prelude.{◌≡◌, ◌<◌, ◌≤◌, ◌+◌, ◌-◌, List, ℕ, true, false, ◌⊎◌, length};
+ghost use Rattle.std.specs.Prelude.{not, IfSome, IfOk, OnErr, ◌&&◌, ◌||◌};
 ghost use Rattle.std.specs.List.{list_any};
 ghost use Rattle.std.specs.Option.{is_some};
 ghost use Rattle.const_oid.specs.Bound.{Bound};
@@ -9,9 +9,8 @@ ghost use Rattle.cert_desk_rules.specs.Judging.{Terms, are_distinct, is_alone, k
 ghost use Rattle.cert_desk_rules.specs.Paths.{counted, counts, extensions_at, is_last};
 ghost use Rattle.cert_desk_rules.specs.Paths.{is_within_lengths, keep_lengths, keeps_length};
 ghost use Rattle.cert_desk_rules.specs.Reasons.{AreFirstTwins, ExplainsFirst, IsFirstAt};
-ghost use Rattle.cert_desk_rules.specs.Reasons.{SomeMayTakeMemory, goes_against};
-ghost use Rattle.cert_desk_rules.specs.Reasons.{has_no_authority, have_one_identifier};
-ghost use Rattle.cert_desk_rules.specs.Reasons.{is_against, is_explained};
+ghost use Rattle.cert_desk_rules.specs.Reasons.{SomeMayTakeMemory, goes_against, has_no_authority};
+ghost use Rattle.cert_desk_rules.specs.Reasons.{have_one_identifier, is_against, is_explained};
 ghost use Rattle.cert_desk_rules.specs.Weighing.{may_take_memory};
 
 use crate::checking::is_self_issued;

@@ -1,7 +1,6 @@
 -- The parts of values, by the shapes by which they are read: the tags that each may have, whether
 -- it may be left out, and what is inside it.
-use Rattle.std.specs.Prelude.{ℕ, List, [], ◌∷◌, ◌++◌, Bool, true, false}
-use Rattle.std.specs.Prelude.{Option, Some, None, codes}
+use Rattle.std.specs.Prelude.{ℕ, List, [], ◌∷◌, ◌++◌, Bool, true, false, Option, Some, None, codes}
 use Rattle.std.specs.Borrow.{Bor}
 use Rattle.const_oid.specs.Bound.{Bound}
 use Rattle.der_core_head.specs.Shapes.{Shape, Content, Body, tagged, any, either, optional}
@@ -11,10 +10,9 @@ use Rattle.der_core_head.specs.Tags.{leading_octet}
 use Rattle.x509_cert_names.specs.Names.{name, type_and_value, attribute, directory_string}
 use Rattle.x509_cert_names.specs.Names.{relative_name}
 use Rattle.x509_cert_parts.specs.Grammar.{object_identifier, algorithm_identifier, public_key_info}
-use Rattle.x509_cert_parts.specs.Grammar.{version, validity, time, extension, extensions}
+use Rattle.x509_cert_parts.specs.Grammar.{version, validity, time, extension, extensions, number_of}
 use Rattle.x509_cert_certificates.specs.Certificates.{certificate, tbs_certificate}
 use Rattle.x509_cert_general_names.specs.Grammar.{general_name, general_names}
-use Rattle.x509_cert_parts.specs.Grammar.{number_of}
 use Rattle.x509_cert_general_names.specs.Grammar.{other_name_fields, edi_party_name_fields}
 use Rattle.x509_cert_general_names.specs.Grammar.{authority_key_identifier_fields}
 use Rattle.x509_cert_general_names.specs.Grammar.{general_subtree_fields, name_constraints_fields}

@@ -1,7 +1,7 @@
 -- What the words of `cert_tool` ask for.
-use Rattle.std.specs.Prelude.{◌≡◌, ◌≢◌, ℕ, ◌≤◌, ◌<◌, ◌^◌, ◌⊎◌, List, [], Bool, true, false, ◌&&◌, ◌||◌}
-use Rattle.std.specs.Prelude.{codes, bytes_eq, is_ok, is_some, unwrap_or, if◌then◌else◌, IsSome, IsTrue}
-use Rattle.std.specs.Prelude.{Option, Some, None, option_map, Ok, Err}
+use Rattle.std.specs.Prelude.{◌≡◌, ◌≢◌, ℕ, ◌≤◌, ◌<◌, ◌^◌, ◌⊎◌, List, [], Bool, true, false, ◌&&◌}
+use Rattle.std.specs.Prelude.{◌||◌, codes, bytes_eq, is_ok, is_some, unwrap_or, if◌then◌else◌}
+use Rattle.std.specs.Prelude.{IsSome, IsTrue, Option, Some, None, option_map, Ok, Err}
 use Rattle.std.specs.Borrow.{Bor}
 use Rattle.const_oid.specs.Bound.{Bound, max_size}
 use Rattle.const_oid.specs.TextReading.{read_text}

@@ -1,9 +1,8 @@
 //! The words behind the program's name.
 ghost use Rattle.std.specs.Prelude.{◌≡◌, map, option_map, Ok};
 ghost use Rattle.cert_tool_runs.specs.Words.{key_of, value_of, with_value, with_word, is_option};
-ghost use Rattle.cert_tool_runs.specs.Words.{stands_alone};
-ghost use Rattle.cert_tool_runs.specs.Words.{step, given_in, given_plain, given_read, ended_by};
-ghost use Rattle.cert_tool_runs.specs.Words.{nothing_given, read_on};
+ghost use Rattle.cert_tool_runs.specs.Words.{stands_alone, step, given_in, given_plain, given_read};
+ghost use Rattle.cert_tool_runs.specs.Words.{ended_by, nothing_given, read_on};
 
 /// An option.
 #[derive(Clone, Copy)]

@@ -37,10 +37,7 @@ fn read_file<I: Input + Drop, F: NamedInputs<I>, E: Output>(
     name: &str,
     err: &mut E,
 ) -> Result<Vec<u8>, ExitStatus> {
-    let mut input = match open(alloc, files, name, err) {
-        Ok(input) => input,
-        Err(status) => return Err(status),
-    };
+    let mut input = open(alloc, files, name, err)?;
     let octets = read_input(alloc, &mut input, err);
     tell_failure(alloc, files, &input, name, err);
     octets

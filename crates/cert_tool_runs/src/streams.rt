@@ -5,8 +5,7 @@ ghost use Rattle.cert_desk_io.specs.Devices.{sink, source};
 ghost use Rattle.cert_desk_io.specs.NamedInputs.{inputs};
 ghost use Rattle.cert_desk_bundle.specs.Streams.{Kept};
 ghost use Rattle.cert_tool_runs.specs.Stops.{FedWithin};
-ghost use Rattle.cert_tool_runs.specs.TaskRuns.{IsSplitAt, IsSplit, IsTurned};
-ghost use Rattle.cert_tool_runs.specs.TaskRuns.{IsStopped};
+ghost use Rattle.cert_tool_runs.specs.TaskRuns.{IsSplitAt, IsSplit, IsTurned, IsStopped};
 
 use crate::each_certificate::run_describe;
 use crate::files::{open, tell_failure};

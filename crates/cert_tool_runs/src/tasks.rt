@@ -3,8 +3,7 @@
 ghost use Rattle.std.specs.Prelude.{◌≡◌, ◌≤◌, IfOk, IfErr, OnOk, map};
 ghost use Rattle.cert_tool_runs.specs.Words.{given_plain};
 ghost use Rattle.cert_tool_runs.specs.Tasks.{kind_of, of_word, of_described, of_explained};
-ghost use Rattle.cert_tool_runs.specs.Tasks.{of_words};
-ghost use Rattle.cert_tool_runs.specs.Tasks.{judges, asks, reads_stream, need_of, Keeps};
+ghost use Rattle.cert_tool_runs.specs.Tasks.{of_words, judges, asks, reads_stream, need_of, Keeps};
 ghost use Rattle.cert_tool_runs.specs.Tasks.{KeepsAll, IsTask, IsAmiss, AsksFor, IsMisuse};
 ghost use Rattle.cert_tool_runs.specs.Tasks.{is_standard, shares_input, IsPlace, IsNoValue};
 ghost use Rattle.cert_tool_runs.specs.Tasks.{command_in, plain_command, tells, is_octets_in_json};

@@ -12,7 +12,7 @@ pub use der_core_coding::{
 };
 pub use der_core_head::{header_len, is_constructed, is_same_tag, leading_octet_of, number_of};
 pub use der_core_octets::{
-    encode_header, has_redundant_octet, integer_octets_of, signed_of, slice_len, sum_len,
+    encode_header, fit_len, has_redundant_octet, integer_octets_of, signed_of, slice_len, sum_len,
     unsigned_of,
 };
 pub use der_core_values::{

@@ -5,9 +5,8 @@ ghost use Rattle.std.specs.Ordering.{nat_cmp};
 ghost use Rattle.std.specs.Cmp.Lexicographic.{slice_cmp};
 ghost use Rattle.der_core_head.specs.Shapes.{above, rising};
 ghost use Rattle.der_core_head.specs.Grammar.{plain_list, follows_last};
-ghost use Rattle.der_core_head.specs.Reading.{Reads, IsDer, read_body_at};
+ghost use Rattle.der_core_head.specs.Reading.{Reads, IsDer, read_body_at, Gives};
 ghost use Rattle.der_core_octets.specs.Fronts.{octets_at};
-ghost use Rattle.der_core_head.specs.Reading.{Gives};
 
 use crate::sliced::decode_sliced;
 use der_core_head::{EncodingRules, Error, ErrorKind, Length};

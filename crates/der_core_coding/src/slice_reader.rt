@@ -1,7 +1,6 @@
 //! The reader of a slice.
 
-ghost use Rattle.std.specs.Prelude.{◌≡◌, ◌≤◌, ◌<◌, length, [], false, IfOk, IfErr, IsSomeAnd};
-ghost use Rattle.std.specs.Prelude.{⊤};
+ghost use Rattle.std.specs.Prelude.{◌≡◌, ◌≤◌, ◌<◌, length, [], false, IfOk, IfErr, IsSomeAnd, ⊤};
 ghost use Rattle.der_core_head.specs.Limits.{length_max, levels_max};
 ghost use Rattle.der_core_head.specs.Heads.{Fits};
 ghost use Rattle.der_core_head.specs.declared.encoding_rules.EncodingRules.TheVariants.{Der};

@@ -106,6 +106,19 @@ pub fn encode_header<W: Writer>(writer: &mut W, tag: Tag, len: Length) -> Result
     encode_length(writer, len)
 }
 
+/// A number of octets.
+///
+/// # Errors
+/// `Overflow` from 2^32 on.
+pub fn fit_len(len: usize) -> Result<Length, Error>
+    ensures { GivesNow (λ l. l.value) result (fit_len len) }
+{
+    match u32::try_from(len) {
+        Ok(value) => Ok(Length { value }),
+        Err(_) => Err(Error::from(ErrorKind::Overflow)),
+    }
+}
+
 /// The number of octets of a slice.
 ///
 /// # Errors
@@ -113,8 +126,6 @@ pub fn encode_header<W: Writer>(writer: &mut W, tag: Tag, len: Length) -> Result
 pub fn slice_len(octets: &[u8]) -> Result<Length, Error>
     ensures { GivesNow (λ l. l.value) result (fit_len (length octets.now)) }
 {
-    match u32::try_from(octets.len()) {
-        Ok(value) => Ok(Length { value }),
-        Err(_) => Err(Error::from(ErrorKind::Overflow)),
-    }
+    let len = fit_len(octets.len())?;
+    Ok(len)
 }

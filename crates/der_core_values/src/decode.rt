@@ -2,8 +2,7 @@
 
 ghost use Rattle.std.specs.Prelude.{◌≡◌};
 ghost use Rattle.der_core_head.specs.declared.tag.Tag.{Tag};
-ghost use Rattle.der_core_head.specs.Shapes.{Shape, Content, Value, ContentValue, tagged};
-ghost use Rattle.der_core_head.specs.Shapes.{begins};
+ghost use Rattle.der_core_head.specs.Shapes.{Shape, Content, Value, ContentValue, tagged, begins};
 ghost use Rattle.der_core_head.specs.Grammar.{value_at};
 ghost use Rattle.der_core_head.specs.Reading.{Reads, read_at, read_content_at};
 

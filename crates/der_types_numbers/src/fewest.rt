@@ -6,13 +6,12 @@ ghost use Rattle.std.specs.List.{cons_option};
 ghost use Rattle.const_oid.specs.Digits.{digits};
 ghost use Rattle.const_oid.specs.Orders as orders;
 ghost use Rattle.der_core_head.specs.Integers.{integer_of, integer_octets, is_redundant};
-ghost use Rattle.der_core_head.specs.Reading.{GivesNow};
-ghost use Rattle.der_core_head.specs.Writing.{Writes, put, fit_len};
+ghost use Rattle.der_core_head.specs.Writing.{Writes, put};
 ghost use Rattle.der_types_numbers.specs.Numbers.{has_leading_zero, is_first_bit_set};
 ghost use Rattle.der_core_octets.specs.Outputs.{Continues};
 
 use der_core::making::{encode_behind, has_redundant_octet};
-use der_core::{Error, ErrorKind, Length, Writer};
+use der_core::{Error, Writer};
 use std::alloc::{AllocError, Global};
 use std::cmp::Ordering;
 
@@ -127,19 +126,6 @@ pub fn encode_natural<W: Writer>(writer: &mut W, octets: &[u8]) -> Result<(), Er
         return encode_behind(writer, 0, octets);
     }
     writer.write(octets)
-}
-
-/// A number of octets.
-///
-/// # Errors
-/// `Overflow` from 2^32 on.
-pub fn fit(len: usize) -> Result<Length, Error>
-    ensures { GivesNow (λ l. l.value) result (fit_len len) }
-{
-    match u32::try_from(len) {
-        Ok(value) => Ok(Length { value }),
-        Err(_) => Err(Error::from(ErrorKind::Overflow)),
-    }
 }
 
 /// The order of the number of octets, and then of the octets.

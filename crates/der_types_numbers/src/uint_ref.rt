@@ -1,7 +1,6 @@
 //! INTEGER of any size that isn't negative, borrowed.
 
-ghost use Rattle.std.specs.Prelude.{◌≡◌, ◌<◌, ◌+◌, ℕ, pos, length, nat_eq, true, false, Some};
-ghost use Rattle.std.specs.Prelude.{IfOk};
+ghost use Rattle.std.specs.Prelude.{◌≡◌, ◌<◌, ◌+◌, ℕ, pos, length, nat_eq, true, false, Some, IfOk};
 ghost use Rattle.std.proofs.Common.{refl, ap};
 ghost use Rattle.std.specs.Cmp.{po, partial_equiv_from_equiv, on_equiv, on_per, on_total};
 ghost use Rattle.std.specs.Cmp.{nat_cmp_total};
@@ -18,12 +17,10 @@ ghost use Rattle.der_core_head.specs.Reading.{GivesNow};
 ghost use Rattle.der_types_numbers.specs.NumberOrders.{digits_ties};
 ghost use Rattle.der_types_numbers.specs.Numbers.{unsigned_number};
 
-use crate::fewest::{
-    begins_with_one_bit, content_len, encode_natural, fewest_unsigned, fit, sized_cmp,
-};
+use crate::fewest::{begins_with_one_bit, content_len, encode_natural, fewest_unsigned, sized_cmp};
 use crate::uint::Uint;
 use der_core::describing::{AsLeaf, Described, EncodeLeaf, Primitive};
-use der_core::making::has_redundant_octet;
+use der_core::making::{fit_len, has_redundant_octet};
 use der_core::{Error, ErrorKind, FixedTag, Leaf, Length, Tag, Writer};
 use std::alloc::{AllocError, Global};
 use std::cmp::Ordering;
@@ -252,7 +249,7 @@ impl<'a> Leaf<'a> for UintRef<'a> {
 
 impl<'a> EncodeLeaf for UintRef<'a> {
     fn leaf_len(&self) -> Result<Length, Error> {
-        fit(content_len(self.bytes))
+        fit_len(content_len(self.bytes))
     }
 
     fn encode_leaf<W: Writer>(&self, writer: &mut W) -> Result<(), Error> {

@@ -1,7 +1,6 @@
 -- Sets that are kept as they stand: members that ascend, of which none is below the one before it
 -- (X.690 8.12, 11.6).
-use Rattle.std.specs.Prelude.{◌≡◌, ℕ, zero, suc, List, [], ◌∷◌, length, flat_map, Result, Ok}
-use Rattle.std.specs.Prelude.{Err}
+use Rattle.std.specs.Prelude.{◌≡◌, ℕ, zero, suc, List, [], ◌∷◌, length, flat_map, Result, Ok, Err}
 use Rattle.der_core_head.specs.declared.error.ErrorKind.{ErrorKind}
 use Rattle.der_core_head.specs.Octets.{Readings}
 use Rattle.der_core_head.specs.Shapes.{Shape, Value, octets_of, AllAscending}

@@ -10,8 +10,8 @@ ghost use Rattle.der_core_head.specs.Shapes.{IsValid};
 ghost use Rattle.der_core.specs.Orders.{octets_cmp, encodings_cmp};
 ghost use Rattle.der_core.specs.Placed.{AllValid};
 ghost use Rattle.der_types_sets.specs.Sets.{Ascends, IsArranged, StopsBehind};
-ghost use Rattle.der_types_sets.specs.Rearranged.{member_at, members_at, AscendsAt, member_encoding};
-ghost use Rattle.der_types_sets.specs.Rearranged.{KeepsPlaces};
+ghost use Rattle.der_types_sets.specs.Rearranged.{member_at, members_at, AscendsAt};
+ghost use Rattle.der_types_sets.specs.Rearranged.{member_encoding, KeepsPlaces};
 
 use crate::places::{arrange_from, check_ascending};
 use der_core::{DerOrd, Error, Member};

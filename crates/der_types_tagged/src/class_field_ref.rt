@@ -5,8 +5,7 @@ ghost use Rattle.der_core_head.specs.declared.tag_mode.TagMode.TheVariants.{Expl
 ghost use Rattle.der_core_head.specs.Shapes.{nested, only, tagged, IsValid, octets_of};
 ghost use Rattle.der_core_head.specs.Reading.{Gives, GivesNow};
 ghost use Rattle.der_core_head.specs.Writing.{Writes, size, size_content, write, write_content};
-ghost use Rattle.der_types_tagged.specs.Fields.{field_tag, explicit_field, implicit_field};
-ghost use Rattle.der_types_tagged.specs.Fields.{IsClass};
+ghost use Rattle.der_types_tagged.specs.Fields.{field_tag, explicit_field, implicit_field, IsClass};
 ghost use Rattle.der_core_octets.specs.Outputs.{Continues};
 
 use crate::class_field::ClassField;

@@ -1,6 +1,5 @@
 -- Texts of a repertoire, and making one of octets (X.680 41).
-use Rattle.std.specs.Prelude.{◌≡◌, ◌<◌, ℕ, List, length, true, Result, Err, nat_lt}
-use Rattle.std.specs.Prelude.{if◌then◌else◌}
+use Rattle.std.specs.Prelude.{◌≡◌, ◌<◌, ℕ, List, length, true, Result, Err, nat_lt, if◌then◌else◌}
 use Rattle.std.specs.List.{list_all}
 use Rattle.std.proofs.lemmas.Bool.{ltb-true}
 use Rattle.der_core_head.specs.Limits.{length_max}

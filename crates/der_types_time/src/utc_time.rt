@@ -1,7 +1,7 @@
 //! UTCTime.
 
-ghost use Rattle.std.specs.Prelude.{◌≡◌, ◌+◌, ◌*◌, ◌/◌, ◌<◌, ◌≤◌, ◌↔◌, Ok, IsOk, IfOk, IfErr, OnErr};
-ghost use Rattle.std.specs.Prelude.{false};
+ghost use Rattle.std.specs.Prelude.{◌≡◌, ◌+◌, ◌*◌, ◌/◌, ◌<◌, ◌≤◌, ◌↔◌, Ok, IsOk, IfOk, IfErr};
+ghost use Rattle.std.specs.Prelude.{OnErr, false};
 ghost use Rattle.std.specs.Duration.{as_nanos};
 ghost use Rattle.der_core_head.specs.Dates.{IsUtc, utc_octets};
 ghost use Rattle.der_core_head.specs.declared.tag.Tag.TheVariants.{UtcTime as UtcTimeTag};

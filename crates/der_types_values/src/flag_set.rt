@@ -7,8 +7,7 @@ ghost use Rattle.std.specs.Int.RustNames.{bit_and, bit_or};
 ghost use Rattle.bitflags.specs.Sets.{known_bits};
 ghost use Rattle.der_core_head.specs.declared.tag.Tag.TheVariants.{BitString};
 ghost use Rattle.der_core_head.specs.Leaves.{named};
-ghost use Rattle.der_core_head.specs.NamedBits.{ends_in_one, spelled_set, named_octets};
-ghost use Rattle.der_core_head.specs.NamedBits.{named_read};
+ghost use Rattle.der_core_head.specs.NamedBits.{ends_in_one, spelled_set, named_octets, named_read};
 ghost use Rattle.der_core_head.specs.Reading.{GivesNow};
 
 use bitflags::Flags;

@@ -3,8 +3,8 @@ use Rattle.std.specs.Prelude.{ℕ, List, ◌++◌, take, drop, Option, Some, Non
 use Rattle.const_oid.specs.Bound.{Bound}
 use Rattle.der_core_head.specs.Grammar.{plain_option}
 use Rattle.x509_cert_certificates.specs.Certificates.{PlainCertificate, Tbs, certificate_by}
-use Rattle.x509_cert_certificates.specs.Certificates.{certificate_octets, signed_start, signed_length}
-use Rattle.x509_cert_certificates.specs.Certificates.{tbs_inner_algorithm}
+use Rattle.x509_cert_certificates.specs.Certificates.{certificate_octets, signed_start}
+use Rattle.x509_cert_certificates.specs.Certificates.{signed_length, tbs_inner_algorithm}
 use Rattle.x509_cert_certificates.specs.Views.{tbs_plain}
 use Rattle.x509_cert_parts.specs.Grammar.{Algorithm, PlainExtension, PublicKey}
 use Rattle.x509_cert_parts.specs.Views.{algorithm_plain, extensions_plain}
@@ -54,7 +54,7 @@ abbrev pub as_written : PlainCertificate → PlainCertificate
 as_written c = certificate_by true c
 
 -- the octets at the place of the signed part in what is written of a certificate
-abbrev pub octets_in_place : PlainCertificate → List ℕ
-octets_in_place c =
+abbrev pub certificate_octets_in_place : PlainCertificate → List ℕ
+certificate_octets_in_place c =
     let w = as_written c in
     take (signed_length Bound w) (drop (signed_start Bound w) (certificate_octets Bound w))

@@ -1,7 +1,7 @@
 //! Extensions, one after the other.
 
-ghost use Rattle.std.specs.Prelude.{◌≡◌, ◌⊎◌, ◌<◌, ◌++◌, ◌∷◌, [], false, pos, Some, None, OnOk, IfOk};
-ghost use Rattle.std.specs.Prelude.{IfErr};
+ghost use Rattle.std.specs.Prelude.{◌≡◌, ◌⊎◌, ◌<◌, ◌++◌, ◌∷◌, [], false, pos, Some, None, OnOk};
+ghost use Rattle.std.specs.Prelude.{IfOk, IfErr};
 ghost use Rattle.der_core_head.specs.Grammar.{plain_option};
 ghost use Rattle.der_core_head.specs.Shapes.{IsValid};
 ghost use Rattle.x509_cert_parts.specs.ExtensionTypes.{id_ce};
@@ -52,7 +52,7 @@ pub(crate) fn add<T: Encode + Criticality>(
 }
 
 /// The identifier of a key: the digest of its octets (RFC 5280 4.2.1.2, method 1).
-fn identifier_of<'a>(
+fn subject_identifier_of<'a>(
     alloc: Global,
     key: &SubjectPublicKeyInfoRef<'a>,
 ) -> Result<SubjectKeyIdentifier, Error>
@@ -75,7 +75,7 @@ pub(crate) fn add_authority<'a>(
         ++ authority_key_extension (key_lent key.now) ∷ []) }
     ensures refused { IfErr result IsWantOfMemory }
 {
-    let identifier = identifier_of(alloc, key)?;
+    let identifier = subject_identifier_of(alloc, key)?;
     let authority = AuthorityKeyIdentifier {
         key_identifier: Some(identifier.0),
         authority_cert_issuer: None,
@@ -98,7 +98,7 @@ pub(crate) fn add_identifier<'a>(
         ++ subject_key_extension (key_lent key.now) ∷ []) }
     ensures refused { IfErr result IsWantOfMemory }
 {
-    let identifier = identifier_of(alloc, key)?;
+    let identifier = subject_identifier_of(alloc, key)?;
     add(alloc, extensions, subject, 14, &identifier)?;
     Ok(())
 }

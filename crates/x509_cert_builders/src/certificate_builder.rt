@@ -10,12 +10,11 @@ ghost use Rattle.x509_cert_certificates.specs.Certificates.{outer_algorithm, sig
 ghost use Rattle.x509_cert_certificates.specs.Certificates.{tbs_certificate, tbs_public_key};
 ghost use Rattle.x509_cert_parts.specs.Views.{algorithm_plain, extensions_plain, key_plain};
 ghost use Rattle.x509_cert_parts.specs.Views.{validity_plain};
-ghost use Rattle.x509_cert_certificates.specs.Assembling.{bare_part, fields_of};
-ghost use Rattle.x509_cert_builders.specs.SignedParts.{part_shape};
-ghost use Rattle.x509_cert_certificates.specs.Assembling.{signed_part};
-ghost use Rattle.x509_cert_builders.specs.SignedParts.{written_part};
-ghost use Rattle.x509_cert_builders.specs.States.{algorithm_of_last, as_written, octets_in_place};
-ghost use Rattle.x509_cert_builders.specs.States.{part_for};
+ghost use Rattle.x509_cert_certificates.specs.Assembling.{bare_part, fields_of, signed_part};
+ghost use Rattle.x509_cert_parts.specs.SerialNumbers.{serial_octets_max};
+ghost use Rattle.x509_cert_builders.specs.SignedParts.{part_shape, written_part};
+ghost use Rattle.x509_cert_builders.specs.States.{algorithm_of_last, as_written};
+ghost use Rattle.x509_cert_builders.specs.States.{certificate_octets_in_place, part_for};
 ghost use Rattle.x509_cert_builders.specs.Refusals.{IsFailed, IsUnwritten, IsWantOfMemory};
 ghost use Rattle.x509_cert_builders.specs.Refusals.{IsWantOfMemoryAs};
 
@@ -221,7 +220,8 @@ impl<P: BuilderProfile + Drop> Builder for CertificateBuilder<P> {
 
     // The profile refuses, or a length passes what can be counted.
     ghost faults = { λ b key algorithm e. P.refuses b.profile e
-        ⊎ IsUnwritten (tbs_certificate Bound (Some 21)) (part_for P.extensions b key algorithm) e };
+        ⊎ IsUnwritten (tbs_certificate Bound (Some serial_octets_max))
+        (part_for P.extensions b key algorithm) e };
 
     ghost finalized = { λ b. plain_option written_part b.finalized };
 
@@ -230,7 +230,7 @@ impl<P: BuilderProfile + Drop> Builder for CertificateBuilder<P> {
 
     ghost signed_part = { λ c. tbs (as_written (certificate_plain c)) };
 
-    ghost signed_octets = { λ c. octets_in_place (certificate_plain c) };
+    ghost signed_octets = { λ c. certificate_octets_in_place (certificate_plain c) };
 
     ghost outer_algorithm = { λ c. outer_algorithm (certificate_plain c) };
 

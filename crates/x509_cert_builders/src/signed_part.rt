@@ -6,6 +6,7 @@ ghost use Rattle.der_core_head.specs.Ranges.{IsInRange};
 ghost use Rattle.der_core_head.specs.Shapes.{IsValid, octets_of};
 ghost use Rattle.x509_cert_certificates.specs.Certificates.{tbs_certificate};
 ghost use Rattle.x509_cert_certificates.specs.Views.{tbs_plain};
+ghost use Rattle.x509_cert_parts.specs.SerialNumbers.{serial_octets_max};
 ghost use Rattle.x509_cert_builders.specs.Refusals.{IsUnwritten, IsWantOfMemory};
 ghost use Rattle.x509_cert_builders.specs.SignedParts.{part_shape, written_part};
 
@@ -21,7 +22,7 @@ pub(crate) fn written(alloc: Global, part: &TbsCertificate) -> Result<Vec<u8>, E
     ensures valid { IfOk result (λ _. IsInRange part_shape (written_part (tbs_plain part.now))
         → IsValid part_shape (written_part (tbs_plain part.now))) }
     ensures refused { IfErr result
-        (λ e. IsWantOfMemory e ⊎ IsUnwritten (tbs_certificate Bound (Some 21))
+        (λ e. IsWantOfMemory e ⊎ IsUnwritten (tbs_certificate Bound (Some serial_octets_max))
         (written_part (tbs_plain part.now)) e) }
 {
     let octets = part.to_der(alloc)?;

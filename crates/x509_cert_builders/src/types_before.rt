@@ -1,12 +1,10 @@
 //! The types of a name, up to some place in it.
 
-ghost use Rattle.std.specs.Prelude.{◌≡◌, ◌<◌, ◌≤◌, ℕ, List, [], ◌∷◌, ◌++◌, IfOk, length};
-ghost use Rattle.std.specs.Prelude.{Ok, Err};
+ghost use Rattle.std.specs.Prelude.{◌≡◌, ◌<◌, ◌≤◌, ℕ, List, [], ◌∷◌, ◌++◌, IfOk, length, Ok, Err};
 ghost use Rattle.std.specs.List.{list_all, position_or_len};
 ghost use Rattle.const_oid.specs.Comparing.{owned_eq};
 ghost use Rattle.x509_cert_names.specs.Pairs.{relative_plain};
-ghost use Rattle.x509_cert_builders.specs.Naming.{ordered_types, is_among, may_follow};
-ghost use Rattle.x509_cert_builders.specs.Naming.{type_behind};
+ghost use Rattle.x509_cert_builders.specs.Naming.{ordered_types, is_among, may_follow, type_behind};
 ghost use Rattle.x509_cert_builders.specs.TypeSets.{HasTypes, IsLeastRank};
 
 use crate::attribute_types::ordered_types;

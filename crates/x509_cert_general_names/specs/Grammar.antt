@@ -13,6 +13,7 @@ use Rattle.der_core_head.specs.Texts.{ascii}
 use Rattle.x509_cert_names.specs.Names.{name, type_and_value, directory_string}
 use Rattle.x509_cert_parts.specs.Grammar.{object_identifier, octet_string}
 use Rattle.x509_cert_parts.specs.Grammar.{implicit_leaf, whole_number, number_of}
+use Rattle.x509_cert_parts.specs.SerialNumbers.{serial_octets_max}
 
 abbrev pub inside : ℕ → Body → Shape
 inside n b = tagged (context true n) (nested b)
@@ -55,7 +56,7 @@ abbrev pub authority_key_identifier_fields : ℕ → Body
 authority_key_identifier_fields bound =
     field (optional (implicit_leaf 0 octets))
     (field (optional (inside 1 (many (general_name bound))))
-    (field (optional (implicit_leaf 2 (integer (within 21)))) done))
+    (field (optional (implicit_leaf 2 (integer (within serial_octets_max)))) done))
 
 -- GeneralSubtree ::= SEQUENCE { base GeneralName, minimum [0] INTEGER DEFAULT 0, maximum [1]
 --     INTEGER OPTIONAL } (4.2.1.10)

@@ -40,9 +40,9 @@ list_of b a =
     (pos 1, (a, (b.issuer, (b.this_update, (b.next_update, (b.revoked, (Some b.extensions, tt)))))))
 
 -- the algorithm of the part that was made last, or where there is none this one
-abbrev pub algorithm_of_last : Option PlainList → Algorithm → Algorithm
-algorithm_of_last None a = a
-algorithm_of_last (Some t) a = t.1.0
+abbrev pub list_algorithm_of_last : Option PlainList → Algorithm → Algorithm
+list_algorithm_of_last None a = a
+list_algorithm_of_last (Some t) a = t.1.0
 
 -- a builder of requests: whose key it is, the extensions that are asked for, the other attributes
 -- in ascending order, and the part that was made last, if there is one

@@ -20,7 +20,7 @@ ghost use Rattle.x509_cert_list_builders.specs.Lists.{HasNoExtensions, PlainAuth
 ghost use Rattle.x509_cert_list_builders.specs.Lists.{given_or_made, issuing_key, key_extension};
 ghost use Rattle.x509_cert_list_builders.specs.Lists.{list_part, number_extension};
 ghost use Rattle.x509_cert_list_builders.specs.Signed.{octets_in_place};
-ghost use Rattle.x509_cert_list_builders.specs.States.{algorithm_of_last, list_of};
+ghost use Rattle.x509_cert_list_builders.specs.States.{list_algorithm_of_last, list_of};
 
 use crate::laws::signed_part_stands_in_place;
 use crate::writing::list_written;
@@ -63,7 +63,7 @@ impl<P> Model for CrlBuilder<P> {
 }
 
 /// The identifier of a key alone.
-fn identifier_of(
+fn authority_identifier_of(
     alloc: Global,
     key: &SubjectPublicKeyInfo,
 ) -> Result<AuthorityKeyIdentifier, der_core::Error>
@@ -88,7 +88,7 @@ fn issuing_key(
 {
     let found = issuer.get_extension::<AuthorityKeyIdentifier>(alloc)?;
     let Some((_, identifier)) = found else {
-        let identifier = identifier_of(alloc, issuer.subject_public_key_info())?;
+        let identifier = authority_identifier_of(alloc, issuer.subject_public_key_info())?;
         return Ok(identifier);
     };
     Ok(identifier)
@@ -254,7 +254,7 @@ impl<P: Profile> Builder for CrlBuilder<P> {
     ghost finalized = { λ b. b.finalized };
 
     // A list bears the algorithm of its signed part (RFC 5280 5.1.1.2).
-    ghost algorithm_for = { λ b a. algorithm_of_last b.finalized a };
+    ghost algorithm_for = { λ b a. list_algorithm_of_last b.finalized a };
 
     ghost signed_part = { λ c. tbs_cert_list_plain c.tbs_cert_list };
 

@@ -7,14 +7,12 @@ use Rattle.const_oid.specs.Bound.{max_size}
 use Rattle.der_core_head.specs.declared.tag.Tag.TheVariants as tags
 use Rattle.der_core_head.specs.BitStrings.{Bits}
 use Rattle.der_core_head.specs.Dates.{Civil}
-use Rattle.der_core_head.specs.Integers.{Numbers, every, within, among}
+use Rattle.der_core_head.specs.Integers.{Numbers, every, within, among, unsigned}
 use Rattle.der_core_head.specs.Leaves.{boolean, integer, bits, octets, identifier, utc_time}
-use Rattle.der_core_head.specs.Leaves.{generalized_time}
+use Rattle.der_core_head.specs.Leaves.{generalized_time, Leaf}
 use Rattle.der_core_head.specs.Shapes.{Shape, Body, Value, BodyValue, AnyValue, tagged, any, leaf}
 use Rattle.der_core_head.specs.Shapes.{either, optional, defaulted, field, done, sequence}
 use Rattle.der_core_head.specs.Shapes.{sequence_of, explicit}
-use Rattle.der_core_head.specs.Integers.{unsigned}
-use Rattle.der_core_head.specs.Leaves.{Leaf}
 use Rattle.der_core_head.specs.Tags.{context}
 
 -- OBJECT IDENTIFIER, of at most 39 octets
