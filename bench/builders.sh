@@ -3,7 +3,7 @@
 # and digests a key: instructions, by the difference of 101 rounds and one; the digests of keys are
 # left out of what `finalize` costs (bench/README.md).
 . "$(dirname "$0")/program.sh"
-build builders certificate_builds 'x509_cert_builders der_core const_oid'
+build builders certificate_builds 'x509_cert der_core const_oid'
 
 # costs MODE PROFILE: what a round costs
 costs() {

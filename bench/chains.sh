@@ -4,7 +4,7 @@
 # (libmbedtls-dev) without its digest and signature: instructions a chain, by the difference of 101
 # rounds and one, reading left out (bench/README.md).
 . "$(dirname "$0")/program.sh"
-build chains chain_judged 'cert_desk_checking x509_cert const_oid'
+build chains chain_judged 'cert_desk x509_cert const_oid'
 
 cd "$work"
 gcc -O2 -o mbedtls "$top/bench/chains/mbedtls.c" -lmbedx509 -lmbedcrypto

@@ -6,7 +6,7 @@
 # certificate is examples/trusted.der, of 133 octets; an argument names a file of another one.
 . "$(dirname "$0")/program.sh"
 certificate=$(realpath "${1:-$top/examples/trusted.der}")
-build pieces piece_reads 'cert_desk_checking x509_cert der_core'
+build pieces piece_reads 'cert_desk x509_cert der_core'
 
 cd "$work"
 for _ in $(seq 5000); do cat "$certificate"; done >half.der

@@ -10,7 +10,7 @@ build roots root_reads 'x509_cert der_core'
 reads=$program
 build roots_used root_uses 'x509_cert der_core'
 uses=$program
-build roots_checked root_checks 'cert_desk_checking x509_cert der_core const_oid'
+build roots_checked root_checks 'cert_desk x509_cert der_core const_oid'
 checks=$program
 
 for root in /usr/share/ca-certificates/mozilla/*.crt; do

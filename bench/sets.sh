@@ -2,7 +2,7 @@
 # Counts the instructions that one member costs of a set that is filled with 1,000 and with 10,000
 # numbers: each below the one before it, or scattered (bench/README.md).
 . "$(dirname "$0")/program.sh"
-build sets filled_sets 'der_types_sets der_core der_core_head'
+build sets filled_sets 'der_types der_core'
 
 for order in falling scattered; do
     for call in from_vec from_iter extend; do

@@ -3,7 +3,7 @@
 # which prints the same parts: instructions, the mean of a certificate, with the reading of it, and
 # without (bench/README.md).
 . "$(dirname "$0")/program.sh"
-build show root_listings 'cert_desk_listing x509_cert_certificates cert_desk_io der_core'
+build show root_listings 'cert_desk der_core'
 
 for root in /usr/share/ca-certificates/mozilla/*.crt; do
     openssl x509 -in "$root" -outform DER

@@ -37,7 +37,7 @@ impl DigestSigner {
 
 impl Signer for DigestSigner {
     ghost use Rattle.std.specs.Prelude.{◌≡◌, ⊤, length};
-    ghost use Rattle.der_core_head.specs.Octets.{IsOctets};
+    ghost use Rattle.x509_cert.specs.Octets.{IsOctets};
     ghost use Rattle.x509_cert.specs.Parts.{algorithm_plain, key_plain};
 
     ghost public_key = { λ s. key_plain s.key };

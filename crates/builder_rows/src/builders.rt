@@ -5,7 +5,7 @@ use crate::refusals::Refusal;
 use rand_chacha::ChaCha20Rng;
 use rand_core::SeedableRng;
 use std::alloc::Global;
-use x509_cert_builders::{Builder, Signer};
+use x509_cert::builder::{Builder, Signer};
 
 /// How a builder is used.
 #[derive(Clone, Copy)]

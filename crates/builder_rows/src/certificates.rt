@@ -5,17 +5,13 @@ use crate::refusals::Refusal;
 use crate::words::{Words, extension_of, key_of, octets_of, time_of};
 use const_oid::ObjectIdentifier;
 use der_core::{FromDer, ToDer};
-use der_types_values::OctetString;
 use std::alloc::Global;
 use std::str::FromStr;
-use x509_cert_builders::{
+use x509_cert::builder::{
     BuilderProfile, CertificateBuilder, CertificateType, DevId, Root, Subordinate, Subscriber,
     Tls12Options, TpmVersion,
 };
-use x509_cert_certificates::Certificate;
-use x509_cert_general_names::GeneralNames;
-use x509_cert_names::Name;
-use x509_cert_parts::{SerialNumber, Validity};
+use x509_cert::{Certificate, GeneralNames, Name, OctetString, SerialNumber, Validity};
 
 impl<P: BuilderProfile + Drop> Change for CertificateBuilder<P> {
     fn change(&mut self, alloc: Global, word: &str) -> Result<(), Refusal> {

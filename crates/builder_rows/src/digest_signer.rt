@@ -3,11 +3,10 @@
 use crate::refusals::Refusal;
 use crate::words::key_of;
 use const_oid::ObjectIdentifier;
-use der_types_values::BitString;
 use sha2::{Digest, Sha256};
 use std::alloc::Global;
-use x509_cert_builders::{SignError, Signer};
-use x509_cert_parts::{AlgorithmIdentifier, SubjectPublicKeyInfo};
+use x509_cert::builder::{SignError, Signer};
+use x509_cert::{AlgorithmIdentifier, BitString, SubjectPublicKeyInfo};
 
 /// A signer whose bits are the SHA-256 digest of its key's octets and the signed ones. It protects
 /// nothing.
@@ -40,7 +39,7 @@ impl DigestSigner {
 
 impl Signer for DigestSigner {
     ghost use Rattle.std.specs.Prelude.{◌≡◌, true, ⊤};
-    ghost use Rattle.x509_cert_parts.specs.Views.{algorithm_plain, key_plain};
+    ghost use Rattle.x509_cert.specs.Parts.{algorithm_plain, key_plain};
 
     ghost public_key = { λ s. key_plain s.key };
 

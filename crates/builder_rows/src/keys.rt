@@ -4,9 +4,10 @@ use crate::refusals::Refusal;
 use crate::words::key_of;
 use der_core::ToDer;
 use std::alloc::Global;
-use x509_cert_extensions::SubjectKeyIdentifier;
-use x509_cert_general_names::AuthorityKeyIdentifier;
-use x509_cert_parts::{AlgorithmIdentifierRef, SubjectPublicKeyInfo, SubjectPublicKeyInfoRef};
+use x509_cert::{
+    AlgorithmIdentifierRef, AuthorityKeyIdentifier, SubjectKeyIdentifier, SubjectPublicKeyInfo,
+    SubjectPublicKeyInfoRef,
+};
 
 /// The identifier of a key, and the encoding of the authority key identifier.
 pub fn answer(alloc: Global, word: &str) -> Result<String, Refusal> {

@@ -2,8 +2,8 @@
 
 use crate::refusals::Refusal;
 use std::alloc::Global;
-use x509_cert_builders::{ca_certificate_naming, check_names_encoding};
-use x509_cert_names::Name;
+use x509_cert::Name;
+use x509_cert::builder::{ca_certificate_naming, check_names_encoding};
 
 /// Whether a name keeps the rules of all names.
 pub fn answer(alloc: Global, repeats: bool, text: &str) -> Result<String, Refusal> {

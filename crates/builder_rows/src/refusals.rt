@@ -4,7 +4,7 @@ use der_core::ErrorKind;
 use hex::FromHexError;
 use std::alloc::{AllocError, AllocFailed};
 use std::fmt;
-use x509_cert_builders::{Error, SignError};
+use x509_cert::builder::{Error, SignError};
 
 /// Why a question has no other answer.
 #[derive(Drop)]

@@ -5,9 +5,8 @@ use crate::refusals::Refusal;
 use crate::words::{Words, extension_of, octets_of};
 use der_core::{FromDer, ToDer};
 use std::alloc::Global;
-use x509_cert_list_builders::RequestBuilder;
-use x509_cert_lists::{CertReq, ChallengePassword};
-use x509_cert_names::DirectoryString;
+use x509_cert::builder::RequestBuilder;
+use x509_cert::{CertReq, ChallengePassword, DirectoryString};
 
 impl Change for RequestBuilder {
     fn change(&mut self, alloc: Global, word: &str) -> Result<(), Refusal> {

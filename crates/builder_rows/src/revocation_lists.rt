@@ -6,11 +6,8 @@ use crate::words::{Words, octets_of, time_of};
 use der_core::{FromDer, ToDer};
 use std::alloc::Global;
 use std::str::FromStr;
-use x509_cert_certificates::Certificate;
-use x509_cert_extensions::CrlNumber;
-use x509_cert_list_builders::CrlBuilder;
-use x509_cert_lists::{CertificateList, RevokedCert};
-use x509_cert_parts::Time;
+use x509_cert::builder::CrlBuilder;
+use x509_cert::{Certificate, CertificateList, CrlNumber, RevokedCert, Time};
 
 /// The entry of a list that is the encoding of these octets.
 fn entry_of(alloc: Global, word: &str) -> Result<RevokedCert, Refusal> {

@@ -4,8 +4,7 @@ use crate::refusals::Refusal;
 use der_core::FromDer;
 use std::alloc::Global;
 use std::str::FromStr;
-use x509_cert_names::Name;
-use x509_cert_parts::{Extension, SubjectPublicKeyInfo, Time};
+use x509_cert::{Extension, Name, SubjectPublicKeyInfo, Time};
 
 /// The words of a line, one after the other.
 #[derive(Clone, Copy)]

@@ -6,8 +6,7 @@ use crate::cuts::verdict_on;
 use crate::refusal::Refusal;
 use crate::schedules::Schedule;
 use crate::words::{Word, number_of, octets_of};
-use cert_desk::{Bundle, DigestJudge};
-use cert_desk_io::MemoryInput;
+use cert_desk::{Bundle, DigestJudge, MemoryInput};
 use std::alloc::Global;
 use std::fmt::Write;
 

@@ -3,7 +3,7 @@
 use crate::refusal::Refusal;
 use crate::schedules::Schedule;
 use crate::words::{Word, octets_of};
-use cert_desk_io::{Input, write_all};
+use cert_desk::{Input, write_all};
 use std::alloc::{AllocError, Global};
 use std::fmt::Write;
 

@@ -4,10 +4,9 @@ use crate::refusal::Refusal;
 use crate::schedules::{Devices, Schedule};
 use crate::words::{kind_of, octets_of, told};
 use cert_desk::{
-    CertReq, CertificateInner, CertificateList, FileKind, Raw, ShowError, run_show,
+    CertReq, CertificateInner, CertificateList, FileKind, MemoryOutput, Raw, ShowError, run_show,
     show_certificate, show_list, show_request,
 };
-use cert_desk_io::MemoryOutput;
 use der_core::FromDer;
 use std::alloc::Global;
 use std::str;

@@ -9,10 +9,9 @@ ghost use Rattle.x509_cert_certificates.specs.Views.{certificate_plain};
 ghost use Rattle.cert_desk_bundle.specs.Faults.{Split};
 ghost use Rattle.cert_rows.specs.SplitFronts.{IsFirst};
 
+use cert_desk::{CertificateInner, Raw};
 use der_core::ErrorKind;
 use std::alloc::{AllocError, Global};
-use x509_cert_certificates::CertificateInner;
-use x509_cert_parts::Raw;
 
 /// The certificate that begins the octets and has at most `limit` of them, with its number of
 /// octets.

@@ -6,7 +6,7 @@ ghost use Rattle.cert_desk_io.specs.Pieces.{ArePieceSizes};
 
 use crate::refusal::Refusal;
 use crate::words::number_of;
-use cert_desk_io::{MemoryInput, MemoryOutput};
+use cert_desk::{MemoryInput, MemoryOutput};
 use std::alloc::Global;
 
 /// The sizes of the first pieces, and which call fails, 1 for the first.

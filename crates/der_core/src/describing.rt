@@ -16,7 +16,7 @@
 pub use crate::order::{OrderWay, Ordered};
 pub use crate::records::{AsRecord, RowUser, Rows};
 pub use der_core_values::describing::{
-    AsEnumerated, AsField, AsInteger, AsLeaf, AsOctets, Described, EncodeLeaf, Numbered, Octets,
-    Primitive, Wraps,
+    AsEnumerated, AsField, AsInteger, AsLeaf, AsOctets, DecodeWay, Described, EncodeLeaf, Numbered,
+    Octets, Primitive, TagWay, Wraps,
 };
 pub use der_core_values::{DecodeRow, FieldRow, FieldsView};

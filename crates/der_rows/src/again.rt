@@ -4,7 +4,7 @@ use crate::refusals::Refusal;
 use crate::shown::written;
 use crate::small::Small;
 use der_core::{Error, ErrorKind, FromDer};
-use der_types_sets::SetOfVec;
+use der_types::SetOfVec;
 use std::alloc::Global;
 
 /// What is written of the set that these members fill, as the word asks.

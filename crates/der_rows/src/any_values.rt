@@ -4,13 +4,12 @@ use crate::leaves;
 use crate::questions::{Asked, Question, answer_as};
 use crate::refusals::Refusal;
 use crate::shown::{named, written_in};
-use der_core::describing::Described;
+use der_core::describing::{DecodeWay, Described};
 use der_core::{Encode, EncodeValue, EncodingRules, Error, FixedTag, FromDer, SliceReader};
-use der_core_values::describing::DecodeWay;
-use der_types_any::{Any, AnyRef};
-use der_types_numbers::IntRef;
-use der_types_text::{GeneralStringRef, PrintableStringRef, Utf8StringRef};
-use der_types_values::{Null, OctetStringRef, SequenceRef};
+use der_types::{
+    Any, AnyRef, GeneralStringRef, IntRef, Null, OctetStringRef, PrintableStringRef, SequenceRef,
+    Utf8StringRef,
+};
 use std::alloc::Global;
 
 /// The answer of a type that this page names.

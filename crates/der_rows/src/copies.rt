@@ -6,16 +6,13 @@ use crate::refusals::Refusal;
 use crate::shown::{joined, shown, written, written_in};
 use crate::small::Small;
 use crate::{contents, fields};
-use der_core::describing::Described;
+use der_core::describing::{DecodeWay, Described};
 use der_core::{Decode, Encode, EncodingRules, FixedTag, FromDer, SliceReader};
-use der_core_values::describing::DecodeWay;
-use der_types_any::{Any, AnyRef};
-use der_types_numbers::{Int, IntRef, Uint, UintRef};
-use der_types_sets::{SequenceOf, SetOf, SetOfRef, SetOfVec};
-use der_types_text::{
-    BmpString, PrintableString, PrintableStringRef, TeletexString, TeletexStringRef, Utf8StringRef,
+use der_types::{
+    Any, AnyRef, BitString, BitStringRef, BmpString, FlagSet, Int, IntRef, OctetString,
+    OctetStringRef, PrintableString, PrintableStringRef, SequenceOf, SetOf, SetOfRef, SetOfVec,
+    TeletexString, TeletexStringRef, Uint, UintRef, Utf8StringRef,
 };
-use der_types_values::{BitString, BitStringRef, FlagSet, OctetString, OctetStringRef};
 use std::alloc::{AllocError, Global};
 
 /// A value of which a copy is made that owns its octets.

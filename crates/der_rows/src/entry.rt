@@ -1,4 +1,4 @@
-//! The example of the guide for users: a type of one's own.
+//! A record with an optional field, one behind a tag, and a set.
 
 ghost use Rattle.std.specs.Prelude.{refl};
 
@@ -7,10 +7,7 @@ use der_core::{
     DecodeFields, Error, Fields, Implicit, InRange, InRangeValue, Reader, StrictSetOf, lend,
     read_row,
 };
-use der_types_numbers::Uint;
-use der_types_text::PrintableString;
-use der_types_time::UtcTime;
-use der_types_values::BitString;
+use der_types::{BitString, PrintableString, Uint, UtcTime};
 use std::alloc::Global;
 
 /// ```text

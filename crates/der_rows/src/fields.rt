@@ -2,7 +2,7 @@
 
 ghost use Rattle.std.specs.Prelude.{◌≡◌, IfOk, IfSome};
 ghost use Rattle.der_core_head.specs.declared.tag_mode.TagMode.TheVariants as modes;
-ghost use Rattle.der_types_tagged.specs.Fields.{IsClass};
+ghost use Rattle.der_types.specs.ClassFields.{IsClass};
 
 use crate::entry::Entry;
 use crate::questions::{Asked, Question, answer_of_value};
@@ -14,9 +14,9 @@ use der_core::{
     Decode, DecodeValue, EncodeValue, Error, Explicit, FixedTag, Implicit, Reader, SliceReader,
     TagMode, TagNumber, WithDefault,
 };
-use der_types_any::AnyRef;
-use der_types_tagged::{ClassField, ContextSpecific, ContextSpecificRef};
-use der_types_values::{BitString, OctetStringRef};
+use der_types::{
+    AnyRef, BitString, ClassField, ContextSpecific, ContextSpecificRef, OctetStringRef,
+};
 use std::alloc::{AllocError, Global};
 
 /// A field of each kind.

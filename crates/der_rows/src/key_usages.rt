@@ -7,7 +7,7 @@ use crate::questions::{Asked, Question, answer_with_contents};
 use crate::refusals::Refusal;
 use bitflags::{Flag, Flags};
 use der_core::FromDer;
-use der_types_values::{FlagSet, NamedBits};
+use der_types::{FlagSet, NamedBits};
 use std::alloc::{AllocError, Global};
 
 /// Key usages, the first in the lowest bit.

@@ -10,9 +10,10 @@ use crate::{key_usages, texts};
 use const_oid::ObjectIdentifier;
 use der_core::making::leaf_from_der;
 use der_core::{EncodeValue, Explicit, FixedTag, FromDer, Implicit, Leaf};
-use der_types_numbers::{Int, IntRef, Uint, UintRef};
-use der_types_text::PrintableString;
-use der_types_values::{BitString, BitStringRef, Null, OctetString, OctetStringRef, SequenceRef};
+use der_types::{
+    BitString, BitStringRef, Int, IntRef, Null, OctetString, OctetStringRef, PrintableString,
+    SequenceRef, Uint, UintRef,
+};
 use std::alloc::Global;
 
 /// The answer of a type that this page names, or one behind it.

@@ -11,8 +11,7 @@ use der_core::{
     EncodingRules, Error, FixedTag, FromDer, Header, InRange, Member, Reader, SliceReader, Tag,
     ValueOrd,
 };
-use der_types_sets::{SequenceOf, SetOf, SetOfRef, SetOfVec};
-use der_types_values::{FlagSet, OctetStringRef};
+use der_types::{FlagSet, OctetStringRef, SequenceOf, SetOf, SetOfRef, SetOfVec};
 use std::alloc::Global;
 use std::hash::Hash;
 

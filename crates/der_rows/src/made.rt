@@ -6,13 +6,11 @@ use crate::shown::{front_of, octets_of, written, written_in};
 use crate::times::seconds_of;
 use der_core::describing::Described;
 use der_core::{Error, FixedTag};
-use der_types_numbers::{Int, IntRef, Uint, UintRef};
-use der_types_text::{
-    BmpString, GeneralStringRef, Ia5String, Ia5StringRef, PrintableString, PrintableStringRef,
-    Utf8StringRef,
+use der_types::{
+    BitString, BitStringRef, BmpString, DateTime, GeneralStringRef, GeneralizedTime, Ia5String,
+    Ia5StringRef, Int, IntRef, OctetString, OctetStringRef, PrintableString, PrintableStringRef,
+    SequenceRef, Uint, UintRef, UtcTime, Utf8StringRef,
 };
-use der_types_time::{DateTime, GeneralizedTime, UtcTime};
-use der_types_values::{BitString, BitStringRef, OctetString, OctetStringRef, SequenceRef};
 use std::alloc::Global;
 use std::time::Duration;
 

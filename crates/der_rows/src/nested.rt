@@ -11,7 +11,7 @@ use der_core::{
     ApartValue, DecodeValue, EncodeValue, Explicit, FixedTag, Implicit, InRangeValue, SliceReader,
     StrictSetOf, ValueOrd, WithDefault,
 };
-use der_types_values::OctetStringRef;
+use der_types::OctetStringRef;
 use std::alloc::Global;
 use std::marker::PhantomData;
 

@@ -5,13 +5,12 @@ use crate::refusals::Refusal;
 use crate::shown::{
     debugged, hex_of, joined, name_of, named, or_refusal, printed, written, written_in,
 };
-use der_core::describing::{OrderWay, Ordered};
+use der_core::describing::{DecodeWay, OrderWay, Ordered};
 use der_core::{
     Decode, DecodeValue, DerOrd, Encode, EncodeValue, EncodingRules, Error, FixedTag, FromDer,
     SliceReader, ValueOrd,
 };
-use der_core_values::describing::DecodeWay;
-use der_types_any::{Any, AnyRef};
+use der_types::{Any, AnyRef};
 use std::alloc::Global;
 use std::fmt::{Debug, Display};
 use std::hash::{DefaultHasher, Hash, Hasher};

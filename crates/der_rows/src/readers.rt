@@ -8,7 +8,7 @@ use der_core::{
     BytesOwned, Class, Decode, Element, EncodingRules, Error, ErrorKind, Length, Member, Reader,
     Reading, SliceReader, Tag, TagMode, TagNumber, decode_octets, peek_matches,
 };
-use der_types_sets::SetOfRef;
+use der_types::SetOfRef;
 use std::alloc::Global;
 use std::marker::PhantomData;
 

@@ -1,7 +1,7 @@
 //! Sequences of fields.
 
 ghost use Rattle.der_core_head.specs.declared.tag.Tag.TheVariants.{Sequence};
-ghost use Rattle.der_core_head.specs.Shapes.{nested};
+ghost use Rattle.der_types.specs.Shapes.{nested};
 
 use crate::questions::{Question, answer_of_plain, answer_of_value, answer_with_debug};
 use crate::refusals::Refusal;

@@ -1,7 +1,7 @@
 //! A type of whole numbers from 0 to 255, of one's own.
 
 ghost use Rattle.std.specs.Prelude.{pos};
-ghost use Rattle.der_core_head.specs.Integers.{unsigned};
+ghost use Rattle.der_types.specs.Integers.{unsigned};
 
 use der_core::describing::{AsInteger, Described, Ordered};
 use der_core::making::unsigned_of;

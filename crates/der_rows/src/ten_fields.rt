@@ -1,6 +1,6 @@
 //! A record of ten fields, of all that a field can be.
 
-ghost use Rattle.der_core_values.specs.declared.one_of_two.OneOf2.TheVariants as cases;
+ghost use Rattle.std.proofs.Common.{inl, inr};
 ghost use Rattle.der_rows.specs.declared.ten_fields.NumberOrText.TheVariants as choices;
 
 use crate::questions::{Asked, Question};
@@ -29,11 +29,15 @@ type Cases = OneOf2<u8, String>;
 impl Shaped for NumberOrText {
     ghost shape = { ⟦<Cases as Shaped>⟧.shape };
 
-    ghost plain = { λ x. ⟦<Cases as Shaped>⟧.plain
-        (elim x [ choices.Number n ↦ cases.First n | choices.Text t ↦ cases.Second t ]) };
+    ghost plain = { λ x. elim x [
+      | choices.Number n ↦ inl (⟦<u8 as Shaped>⟧.plain n)
+      | choices.Text t ↦ inr (⟦<String as Shaped>⟧.plain t)
+    ] };
 
-    ghost written = { λ x. ⟦<Cases as Shaped>⟧.written
-        (elim x [ choices.Number n ↦ cases.First n | choices.Text t ↦ cases.Second t ]) };
+    ghost written = { λ x. elim x [
+      | choices.Number n ↦ inl (⟦<u8 as Shaped>⟧.written n)
+      | choices.Text t ↦ inr (⟦<String as Shaped>⟧.written t)
+    ] };
 }
 
 impl Choice for NumberOrText {

@@ -3,7 +3,7 @@
 use crate::questions::{Question, answer_of_lent, answer_of_lent_text, answer_with_text};
 use crate::refusals::Refusal;
 use crate::times;
-use der_types_text::{
+use der_types::{
     BmpString, GeneralStringRef, Ia5String, Ia5StringRef, PrintableString, PrintableStringRef,
     TeletexString, TeletexStringRef, Utf8StringRef, VideotexStringRef,
 };

@@ -4,10 +4,9 @@ use crate::nested;
 use crate::questions::{Asked, Question, answer_of_lent};
 use crate::refusals::Refusal;
 use crate::shown::{printed, shown};
-use der_core::describing::Described;
+use der_core::describing::{DecodeWay, Described};
 use der_core::{Error, FixedTag, FromDer, SliceReader};
-use der_core_values::describing::DecodeWay;
-use der_types_time::{DateTime, GeneralizedTime, UtcTime};
+use der_types::{DateTime, GeneralizedTime, UtcTime};
 use std::alloc::Global;
 
 /// The answer of a type that this page names, or one behind it.

@@ -5,12 +5,11 @@ use der_core::{
     ApartValue, AsRead, AsReadValue, Decode, DecodeValue, DerOrd, Encode, EncodeValue, Error,
     FixedTag, InRange, InRangeValue, Member, SliceReader, StrictSetOf, ToDer, ValueOrd,
 };
-use der_types_any::{Any, AnyRef};
-use der_types_numbers::{Int, IntRef, Uint, UintRef};
-use der_types_sets::SetOfVec;
-use der_types_text::{BmpString, GeneralStringRef, Ia5StringRef, PrintableString, Utf8StringRef};
-use der_types_time::{DateTime, GeneralizedTime, UtcTime};
-use der_types_values::{BitString, BitStringRef, Null, OctetString, SequenceRef};
+use der_types::{
+    Any, AnyRef, BitString, BitStringRef, BmpString, DateTime, GeneralStringRef, GeneralizedTime,
+    Ia5StringRef, Int, IntRef, Null, OctetString, PrintableString, SequenceRef, SetOfVec, Uint,
+    UintRef, UtcTime, Utf8StringRef,
+};
 use std::alloc::Global;
 use std::test::Fail;
 

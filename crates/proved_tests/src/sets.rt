@@ -5,7 +5,7 @@
 //! (`again`, `copy`, `member`), where `audit/rows` refuses each request in turn.
 
 use der_core::{Decode, Encode, EncodeValue, Error, ErrorKind, FromDer, Member, SliceReader};
-use der_types_sets::{SequenceOf, SetOf, SetOfRef, SetOfVec};
+use der_types::{SequenceOf, SetOf, SetOfRef, SetOfVec};
 use std::alloc::Global;
 use std::cmp::Ordering;
 use std::convert::AsSlice;

@@ -1,11 +1,10 @@
 //! Fields behind tags of other classes, and any values: tags, lengths, loans and closures.
 
-ghost use Rattle.der_types_tagged.specs.Fields.{IsClass};
+ghost use Rattle.der_types.specs.ClassFields.{IsClass};
 
 use der_core::{Error, ErrorKind, FirstTag, Reader, Tag, TagMode, TagNumber, Tagged};
-use der_types_any::{Any, AnyRef};
-use der_types_tagged::{
-    Application, ApplicationRef, ClassField, ContextSpecific, Private, PrivateRef,
+use der_types::{
+    Any, AnyRef, Application, ApplicationRef, ClassField, ContextSpecific, Private, PrivateRef,
 };
 use std::alloc::Global;
 use std::test::Fail;

@@ -1,8 +1,10 @@
 //! Character strings and dates: their forms, and what they print.
 
 use der_core::Error;
-use der_types_text::{BmpString, GeneralStringRef, Ia5String, Ia5StringRef, Utf8StringRef};
-use der_types_time::{DateTime, GeneralizedTime, UtcTime, const_contains_u8};
+use der_types::{
+    BmpString, DateTime, GeneralStringRef, GeneralizedTime, Ia5String, Ia5StringRef, UtcTime,
+    Utf8StringRef, const_contains_u8,
+};
 use std::alloc::{AllocError, Global};
 use std::convert::{AsSlice, AsStr};
 use std::test::Fail;

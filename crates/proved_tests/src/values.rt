@@ -1,10 +1,9 @@
 //! Numbers, octet strings and bit strings: both forms of each, and bits in turn.
 
 use der_core::{Error, Tag};
-use der_types_numbers::{AsIntRef, AsUintRef, Int, IntRef, Uint, UintRef};
-use der_types_values::{
-    AllowedLenBitString, AsBitStringRef, BitString, BitStringRef, OctetString, OctetStringRef,
-    SequenceRef,
+use der_types::{
+    AllowedLenBitString, AsBitStringRef, AsIntRef, AsUintRef, BitString, BitStringRef, Int, IntRef,
+    OctetString, OctetStringRef, SequenceRef, Uint, UintRef,
 };
 use std::alloc::Global;
 use std::test::Fail;

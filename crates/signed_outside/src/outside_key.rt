@@ -2,10 +2,9 @@
 
 use const_oid::ObjectIdentifier;
 use der_core::{Error, FromDer, ToDer};
-use der_types_numbers::Uint;
 use std::alloc::Global;
 use x509_cert::builder::{SignError, Signer};
-use x509_cert::{AlgorithmIdentifier, Any, BitString, SubjectPublicKeyInfo};
+use x509_cert::{AlgorithmIdentifier, Any, BitString, SubjectPublicKeyInfo, Uint};
 
 /// A key that signs in another program or in a device. A builder is told the key and its algorithm;
 /// no bits are asked of it here.

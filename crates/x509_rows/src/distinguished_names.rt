@@ -5,10 +5,10 @@ use crate::shown::{octets_of, written};
 use crate::{name_texts, relative_names};
 use const_oid::ObjectIdentifier;
 use der_core::{Encode, Error, FromDer};
-use der_types_numbers::{IntRef, UintRef};
-use der_types_sets::SetOfRef;
-use der_types_text::{GeneralStringRef, Ia5StringRef, PrintableStringRef, Utf8StringRef};
-use der_types_values::{BitStringRef, OctetStringRef, SequenceRef};
+use der_types::{
+    BitStringRef, GeneralStringRef, Ia5StringRef, IntRef, OctetStringRef, PrintableStringRef,
+    SequenceRef, SetOfRef, UintRef, Utf8StringRef,
+};
 use std::alloc::Global;
 use std::convert::AsStr;
 use x509_cert::{

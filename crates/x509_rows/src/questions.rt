@@ -8,11 +8,10 @@ use crate::refusals::Refusal;
 use crate::shown::{hex_of, joined, or_refusal, written, written_in};
 use crate::whole_extensions::got;
 use const_oid::AssociatedOid;
-use der_core::describing::{Described, OrderWay, Ordered};
+use der_core::describing::{DecodeWay, Described, OrderWay, Ordered, TagWay};
 use der_core::{
     Decode, DecodeValue, DerOrd, Encode, EncodeValue, Error, FixedTag, FromDer, SliceReader,
 };
-use der_core_values::describing::{DecodeWay, TagWay};
 use std::alloc::{AllocError, Global};
 use std::cmp::Ordering;
 use std::fmt::Debug;
