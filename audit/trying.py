@@ -1,0 +1,256 @@
+"""How the scripts beside this file try a wrong body: an edit of a crate, in a copy of it.
+
+The functions that the edit changes, with what they call, are checked over the libraries below the
+crate; what was proved for one edit of a crate is kept for the next ones.
+"""
+
+import concurrent.futures
+import os
+import pathlib
+import re
+import shutil
+import subprocess
+import sys
+import tempfile
+
+HERE = pathlib.Path(__file__).resolve().parent
+TOP = HERE.parent
+KIT = pathlib.Path(shutil.which("rt")).resolve().parents[1]
+sys.path.insert(0, str(TOP / "tools"))
+
+import sources
+
+SIDE_BY_SIDE = int(os.environ.get("SIDE_BY_SIDE", "4"))
+LINE = re.compile(r"(?:note: )?(?:\./)?(?P<path>(?:src|proofs)/\S+?):(?P<line>\d+):\d+: ")
+HEADER = re.compile(r"(?:unsafe )?(?:impl\b|(?:pub(?:\(\w+\))? )?trait\b)")
+FUNCTION = re.compile(r"( *)(?:pub(?:\(\w+\))? )?(?:final )?(?:const )?(?:unsafe )?fn (\w+)")
+# What a proof file says whose names an edit took away, which tells nothing of the contract.
+NAMES = re.compile(r".*(has no field|is not in scope|has no `|was not admitted|\(nearest: )")
+
+
+def crate_of(edit):
+    """The crate that an edit changes: its own of `must-fail/`, and that of its folder here."""
+    return edit.parent.parent.name if edit.parent.name == "must-fail" else edit.parent.name
+
+
+def pairs_of(edit):
+    """The file, the old and the new text of each change of an edit."""
+    file = old = ""
+    for line in edit.read_text().splitlines():
+        word, _, text = line.partition(": ")
+        if word == "file":
+            file = text
+        elif word == "old":
+            old = text
+        elif word == "new":
+            yield file, old, text
+
+
+def applied(edit, folder):
+    """Makes the edit in a copy; the file and the line of each change, or why it can't be made."""
+    places = []
+    for file, old, new in pairs_of(edit):
+        path = folder / file
+        text = path.read_text() if path.exists() else ""
+        if text.count(old) != 1:
+            return [], f"stands {text.count(old)} times in {file}: {old}"
+        path.write_text(text.replace(old, new))
+        places.append((file, text[: text.index(old)].count("\n")))
+    return places, None
+
+
+def named(kind, parameters):
+    """The name that the checker has for a type: `Option`, `Tuple2`, `RefSliceU8`, `Any`."""
+    kind = re.sub(r"'\w+ ?", "", kind).strip()
+    for sign, name in (("&mut ", "RefMut"), ("&", "Ref")):
+        if kind.startswith(sign):
+            return name + named(kind.removeprefix(sign), parameters)
+    if kind.startswith("("):
+        parts = split_at_commas(kind[1:-1])
+        return f"Tuple{len(parts)}" if parts else "Unit"
+    if kind.startswith("["):
+        array = ";" in kind
+        return "Array" if array else "Slice" + named(kind[1:-1], parameters)
+    head, _, arguments = kind.partition("<")
+    head = head.split("::")[-1]
+    if head in parameters:
+        return "Any"
+    told = [it for it in split_at_commas(arguments.removesuffix(">")) if it not in parameters]
+    return head[:1].upper() + head[1:] + "".join(named(it, parameters) for it in told)
+
+
+def split_at_commas(text):
+    """The parts of a text between commas that stand in no brackets."""
+    parts, depth, part = [], 0, ""
+    for char in text:
+        depth += {"<": 1, "(": 1, "[": 1, ">": -1, ")": -1, "]": -1}.get(char, 0)
+        if char == "," and depth == 0:
+            parts.append(part)
+            part = ""
+        else:
+            part += char
+    return [it.strip() for it in (*parts, part) if it.strip() and not it.strip().startswith("'")]
+
+
+def owner(header):
+    """The name that the checker has for what an `impl` or a trait states."""
+    header = re.sub(r"\bwhere\b.*", "", header).rstrip("{ ").strip()
+    trait = re.match(r"(?:pub(?:\(\w+\))? )?trait (\w+)", header)
+    if trait:
+        return trait[1]
+    body, parameters = header.partition("impl")[2].strip(), ""
+    if body.startswith("<"):
+        depth = 0
+        for at, char in enumerate(body):
+            depth += {"<": 1, ">": -1}.get(char, 0) if body[at - 1 : at + 1] != "->" else 0
+            if depth == 0:
+                parameters, body = body[1:at], body[at + 1 :].strip()
+                break
+    parameters = [it.split(":")[0].split()[-1] for it in split_at_commas(parameters)]
+    stated, _, target = body.partition(" for ")
+    if target:
+        return named(target, parameters) + named(stated, parameters)
+    plain, whole = named(stated.partition("<")[0], parameters), named(stated, parameters)
+    return plain if plain == whole else f"{plain}+{whole.removeprefix(plain)}"
+
+
+def function_at(crate, file, number):
+    """The function, as the checker names it, that has a line of a file; or the file's module."""
+    module = pathlib.PurePath(file).relative_to("src").with_suffix("").parts
+    module = [it for it in module if it not in ("lib", "main")]
+    lines = (crate / file).read_text().splitlines()
+    begins = lines[number].strip().startswith(("#[", "//"))
+    for at in range(number, len(lines)) if begins else range(number, -1, -1):
+        found = FUNCTION.match(lines[at])
+        if found and (begins or f"{found[1]}}}" not in lines[at:number]):
+            break
+    else:
+        return "::".join(module)
+    if not found[1]:
+        return "::".join((*module, found[2]))
+    first = next((n for n in range(at, -1, -1) if HEADER.match(lines[n])), None)
+    if first is None:
+        return "::".join(module)
+    last = next(n for n in range(first, len(lines)) if lines[n].rstrip().endswith(("{", "}")))
+    header = " ".join(line.strip() for line in lines[first : last + 1])
+    return "::".join((*module, owner(header), found[2]))
+
+
+def command_for(crate, built):
+    """The words of a check of a crate in its folder, over the libraries that are built."""
+    libraries = sources.dependencies()
+    root = "src/lib.rt" if (TOP / "crates" / crate / "src/lib.rt").exists() else "src/main.rt"
+    words = [f"{KIT}/bin/rattle", "check", "--crate-name", crate, root, "--jobs", "1"]
+    words += ["--antt-project", f"{KIT}/rattle/logic/antt-project.json"]
+    words += ["--logic-built", f"{KIT}/logic_built", "-L", f"dependency={KIT}/rlibs"]
+    for name in ("std", *libraries[crate]):
+        own = name in libraries
+        folder = built / "crates" / name / "out/rlib" if own else KIT / "rlibs"
+        words += ["--extern", f"{name}={folder}/{name}.rlib"]
+    for name in sources.closure(libraries[crate]):
+        words += ["-L", f"dependency={built}/crates/{name}/out/rlib"]
+    return words + (["--links", f"{crate}="] if root.endswith("main.rt") else [])
+
+
+def checked(words, copy, functions):
+    """What a check of these functions says, by lines; None where it knows no such function."""
+    only = [word for name in functions if name for word in ("--only", name)]
+    ran = subprocess.run([*words, *only], cwd=copy, text=True, capture_output=True)
+    told = (ran.stdout + ran.stderr).splitlines()
+    return None if any("has no function `" in line for line in told) else told
+
+
+def goals_left(copy, told):
+    """By function, its goals that aren't proved."""
+    goals = {}
+    for line in told:
+        place = LINE.match(line)
+        if not place or NAMES.match(line):
+            continue
+        path = pathlib.PurePath(place["path"])
+        if path.parts[0] == "proofs":
+            function, goal = "::".join(path.parts[1:-1]), re.search(r"error: `([\w-]+)`", line)
+        else:
+            function = function_at(copy, path, int(place["line"]) - 1)
+            goal = re.search(r"\(`([\w-]+)`\)", line)
+        if goal:
+            goals.setdefault(function, []).append(goal[1])
+    return goals
+
+
+def clause_of(goals):
+    """What refuses an edit: the function and its clause, or what a call in it requires."""
+    path, left = next(iter(goals.items()))
+    *around, name = path.split("::")
+    function = "::".join([*(it for it in around if it[0].isupper()), name])
+    clause = next(filter(None, (re.search(r"-clause-(\w+)$", goal) for goal in left)), None)
+    required = next(filter(None, (re.match(r"(\w+)-requires", goal) for goal in left)), None)
+    if clause:
+        return f"`{function}`: `{clause[1]}`"
+    return f"`{function}`: what `{required[1]}` requires" if required else f"`{function}`"
+
+
+def tried(edit, copy, words, function):
+    """What refuses an edit of the crate in this copy, and else None with what is wrong."""
+    places, wrong = applied(edit, copy)
+    if wrong:
+        return None, f"BAD EDIT: {wrong}"
+    changed = {function_at(copy, *place) for place in places if place[0].startswith("src/")}
+    modules = {name.split("::")[0] for name in changed}
+    ways = [(function,)] if function else []
+    ways += [tuple(sorted(changed)), tuple(sorted(modules)), ()]
+    for functions in dict.fromkeys(ways):
+        told = checked(words, copy, functions)
+        if told is None:
+            continue
+        if not any(line.startswith("fn ") for line in told):
+            fault = next((line for line in told if "error" in line), "nothing was said")
+            return None, f"BAD EDIT: {fault[:200]}"
+        goals = goals_left(copy, told)
+        if goals:
+            return clause_of(goals), None
+    return None, "NOT REFUSED"
+
+
+def tried_in(crate, asked, built):
+    """By edit, what refuses it: the edits of one crate, one behind the other."""
+    words, found = command_for(crate, built), {}
+    with tempfile.TemporaryDirectory() as folder:
+        room = pathlib.Path(folder)
+        for edit, function in asked:
+            copy = room / "crate"
+            left = shutil.ignore_patterns("out", "must-fail", "data")
+            shutil.copytree(TOP / "crates" / crate, copy, ignore=left)
+            kept = ["--incremental", str(room / "kept")]
+            found[edit], wrong = tried(edit, copy, words + kept, function)
+            told = wrong or f"refused: {found[edit]}"
+            print(f"{crate}/{edit.name}: {told}", flush=True)
+            shutil.rmtree(copy)
+    return found
+
+
+def build_below(crates):
+    """Builds the libraries below these crates that aren't built."""
+    libraries = sources.dependencies()
+    for name in sources.closure([it for crate in crates for it in libraries[crate]]):
+        subprocess.run(["rt", "lib"], cwd=TOP / "crates" / name, check=True, capture_output=True)
+
+
+def tried_all(asked, built):
+    """By edit, what refuses it, or None: several crates side by side.
+
+    Of each edit that is asked for comes the name of a function too that is tried first, or None.
+    The libraries are those of a checkout that has them built, or None: then of this one.
+    """
+    by_crate = {}
+    for edit, function in asked:
+        by_crate.setdefault(crate_of(edit), []).append((edit, function))
+    if built is None:
+        build_below(by_crate)
+    longest = sorted(by_crate, key=lambda crate: -len(by_crate[crate]))
+    found = {}
+    with concurrent.futures.ThreadPoolExecutor(SIDE_BY_SIDE) as pool:
+        tries = [pool.submit(tried_in, crate, by_crate[crate], built or TOP) for crate in longest]
+        for done in tries:
+            found.update(done.result())
+    return found
