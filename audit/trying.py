@@ -1,7 +1,9 @@
-"""How the scripts beside this file try a wrong body: an edit of a crate, in a copy of it.
+"""How the scripts beside this file try wrong bodies: edits of a crate, in a copy of it.
 
-The functions that the edit changes, with what they call, are checked over the libraries below the
-crate; what was proved for one edit of a crate is kept for the next ones.
+The functions that an edit changes, with what they call, are checked over the libraries below the
+crate; what was proved for one copy of a crate is kept for the next ones. Edits that change
+different functions are tried in one copy. One that isn't refused there is tried alone, at last with
+the whole crate.
 """
 
 import concurrent.futures
@@ -114,10 +116,14 @@ def owner(header):
     return plain if plain == whole else f"{plain}+{whole.removeprefix(plain)}"
 
 
-def function_at(crate, file, number):
-    """The function, as the checker names it, that has a line of a file; or the file's module."""
+def module_of(file):
+    """The names of the modules of a file."""
     module = pathlib.PurePath(file).relative_to("src").with_suffix("").parts
-    module = [it for it in module if it not in ("lib", "main")]
+    return [it for it in module if it not in ("lib", "main")]
+
+
+def function_at(crate, file, number):
+    """The function, as the checker names it, that has a line of a file; None outside of any."""
     lines = (crate / file).read_text().splitlines()
     begins = lines[number].strip().startswith(("#[", "//"))
     for at in range(number, len(lines)) if begins else range(number, -1, -1):
@@ -125,15 +131,15 @@ def function_at(crate, file, number):
         if found and (begins or f"{found[1]}}}" not in lines[at:number]):
             break
     else:
-        return "::".join(module)
+        return None
     if not found[1]:
-        return "::".join((*module, found[2]))
+        return "::".join((*module_of(file), found[2]))
     first = next((n for n in range(at, -1, -1) if HEADER.match(lines[n])), None)
     if first is None:
-        return "::".join(module)
+        return None
     last = next(n for n in range(first, len(lines)) if lines[n].rstrip().endswith(("{", "}")))
     header = " ".join(line.strip() for line in lines[first : last + 1])
-    return "::".join((*module, owner(header), found[2]))
+    return "::".join((*module_of(file), owner(header), found[2]))
 
 
 def command_for(crate, built):
@@ -152,14 +158,6 @@ def command_for(crate, built):
     return words + (["--links", f"{crate}="] if root.endswith("main.rt") else [])
 
 
-def checked(words, copy, functions):
-    """What a check of these functions says, by lines; None where it knows no such function."""
-    only = [word for name in functions if name for word in ("--only", name)]
-    ran = subprocess.run([*words, *only], cwd=copy, text=True, capture_output=True)
-    told = (ran.stdout + ran.stderr).splitlines()
-    return None if any("has no function `" in line for line in told) else told
-
-
 def goals_left(copy, told):
     """By function, its goals that aren't proved."""
     goals = {}
@@ -173,14 +171,13 @@ def goals_left(copy, told):
         else:
             function = function_at(copy, path, int(place["line"]) - 1)
             goal = re.search(r"\(`([\w-]+)`\)", line)
-        if goal:
+        if goal and function:
             goals.setdefault(function, []).append(goal[1])
     return goals
 
 
-def clause_of(goals):
-    """What refuses an edit: the function and its clause, or what a call in it requires."""
-    path, left = next(iter(goals.items()))
+def clause_of(path, left):
+    """What refuses an edit, by the goals that a function leaves: its clause, or a call's."""
     *around, name = path.split("::")
     function = "::".join([*(it for it in around if it[0].isupper()), name])
     clause = next(filter(None, (re.search(r"-clause-(\w+)$", goal) for goal in left)), None)
@@ -190,42 +187,97 @@ def clause_of(goals):
     return f"`{function}`: what `{required[1]}` requires" if required else f"`{function}`"
 
 
-def tried(edit, copy, words, function):
-    """What refuses an edit of the crate in this copy, and else None with what is wrong."""
-    places, wrong = applied(edit, copy)
-    if wrong:
-        return None, f"BAD EDIT: {wrong}"
-    changed = {function_at(copy, *place) for place in places if place[0].startswith("src/")}
-    modules = {name.split("::")[0] for name in changed}
-    ways = [(function,)] if function else []
-    ways += [tuple(sorted(changed)), tuple(sorted(modules)), ()]
-    for functions in dict.fromkeys(ways):
-        told = checked(words, copy, functions)
-        if told is None:
-            continue
-        if not any(line.startswith("fn ") for line in told):
-            fault = next((line for line in told if "error" in line), "nothing was said")
-            return None, f"BAD EDIT: {fault[:200]}"
-        goals = goals_left(copy, told)
-        if goals:
-            return clause_of(goals), None
-    return None, "NOT REFUSED"
+class Trial:
+    """What is tried of a crate: checks of a copy of it, over what earlier ones kept."""
+
+    def __init__(self, crate, room, built):
+        self.source, self.copy = TOP / "crates" / crate, room / "crate"
+        self.words = [*command_for(crate, built), "--incremental", str(room / "kept")]
+
+    def renew(self):
+        """Takes the crate as it stands."""
+        shutil.rmtree(self.copy, ignore_errors=True)
+        left = shutil.ignore_patterns("out", "must-fail", "data")
+        shutil.copytree(self.source, self.copy, ignore=left)
+
+    def changed(self, edit):
+        """The functions that an edit changes; None where it changes something else, or can't be."""
+        self.renew()
+        places, wrong = applied(edit, self.copy)
+        found = {place[0][:4] == "src/" and function_at(self.copy, *place) for place in places}
+        return None if wrong or not all(found) else found
+
+    def goals(self, functions):
+        """By function, the goals that are left; or a fault of the text, or an unknown function."""
+        only = [word for name in functions for word in ("--only", name)]
+        ran = subprocess.run([*self.words, *only], cwd=self.copy, text=True, capture_output=True)
+        told = (ran.stdout + ran.stderr).splitlines()
+        if any(line.startswith("fn ") for line in told):
+            return goals_left(self.copy, told), None
+        return {}, next((line for line in told if "error" in line), "nothing was said")
+
+    def together(self, edits):
+        """Which of these edits are refused, each in functions of its own."""
+        changed = {edit: self.changed(edit) for edit in edits}
+        self.renew()
+        if any(applied(edit, self.copy)[1] for edit in edits):
+            goals, fault = {}, "an edit hides another one's text"
+        else:
+            goals, fault = self.goals(sorted(set().union(*changed.values())))
+        if fault and len(edits) > 1:
+            half = len(edits) // 2
+            return self.together(edits[:half]) | self.together(edits[half:])
+        left = {edit: next((it for it in changed[edit] if it in goals), None) for edit in edits}
+        return {edit: clause_of(it, goals[it]) for edit, it in left.items() if it}
+
+    def alone(self, edit, function):
+        """What refuses an edit, or else None and what is wrong."""
+        self.renew()
+        places, wrong = applied(edit, self.copy)
+        if wrong:
+            return None, f"BAD EDIT: {wrong}"
+        files = {file for file, _ in places if file.startswith("src/")}
+        changed = {function_at(self.copy, *place) for place in places if place[0] in files}
+        modules = {"::".join(module_of(file)) for file in files} - {""}
+        ways = [(function,)] if function else []
+        ways += [tuple(sorted(changed - {None})), tuple(sorted(modules)), ()]
+        for functions in dict.fromkeys(it for it in ways if it or it == ways[-1]):
+            goals, fault = self.goals(functions)
+            if fault and "has no function" not in fault:
+                return None, f"BAD EDIT: {fault[:200]}"
+            if goals:
+                return clause_of(*next(iter(goals.items()))), None
+        return None, "NOT REFUSED"
+
+
+def batches(trial, edits):
+    """Edits that change different functions, side by side; those that change else are left out."""
+    found = []
+    for edit in edits:
+        changed = trial.changed(edit)
+        if changed:
+            batch = next((it for it in found if not it[0] & changed), None)
+            if batch is None:
+                batch = (set(), [])
+                found.append(batch)
+            batch[0].update(changed)
+            batch[1].append(edit)
+    return [batch for _, batch in found if len(batch) > 1]
 
 
 def tried_in(crate, asked, built):
-    """By edit, what refuses it: the edits of one crate, one behind the other."""
-    words, found = command_for(crate, built), {}
+    """By edit of a crate, what refuses it, or None."""
     with tempfile.TemporaryDirectory() as folder:
-        room = pathlib.Path(folder)
+        trial, found = Trial(crate, pathlib.Path(folder), built), {}
+        for batch in batches(trial, [edit for edit, _ in asked]):
+            found.update(trial.together(batch))
+        for edit, clause in found.items():
+            print(f"{crate}/{edit.name}: refused: {clause}", flush=True)
         for edit, function in asked:
-            copy = room / "crate"
-            left = shutil.ignore_patterns("out", "must-fail", "data")
-            shutil.copytree(TOP / "crates" / crate, copy, ignore=left)
-            kept = ["--incremental", str(room / "kept")]
-            found[edit], wrong = tried(edit, copy, words + kept, function)
-            told = wrong or f"refused: {found[edit]}"
-            print(f"{crate}/{edit.name}: {told}", flush=True)
-            shutil.rmtree(copy)
+            if edit not in found:
+                found[edit], wrong = trial.alone(edit, function)
+                told = wrong or f"refused: {found[edit]}"
+                print(f"{crate}/{edit.name}: {told}", flush=True)
     return found
 
 

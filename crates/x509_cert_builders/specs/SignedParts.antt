@@ -1,4 +1,5 @@
 -- What a builder of certificates signs (RFC 5280 4.1.2).
+use Rattle.std.specs.Prelude.{true}
 use Rattle.const_oid.specs.Bound.{Bound}
 use Rattle.der_core_head.specs.Ranges.{IsInRange}
 use Rattle.der_core_head.specs.Shapes.{Shape, explicit, optional}

@@ -2,13 +2,16 @@ use Rattle.std.proofs.Common.{◌≤◌, ℕ, List, length, sym, ◌∙◌, subs
 use Rattle.std.proofs.lemmas.Result.{err_from_is_err_and}
 use Rattle.const_oid.specs.Bound.{Bound}
 use Rattle.std.specs.Prelude.{Some}
+use Rattle.der_core_head.specs.BitStrings.{Bits}
 use Rattle.der_core_head.specs.Integers.{integer_octets}
+use Rattle.der_core_head.specs.Ranges.{IsInRange}
 use Rattle.der_core_head.specs.Shapes.{IsValid}
 use Rattle.der_core_head.proofs.WrittenValid.{written_valid}
 use Rattle.x509_cert_builders.specs.SignedParts.{part_shape}
 use Rattle.x509_cert_builders.specs.States.{part_for, as_written}
 use Rattle.x509_cert_certificates.specs.Certificates.{Tbs, signature_bits, certificate}
 use Rattle.x509_cert_certificates.specs.Views.{certificate_plain}
+use Rattle.x509_cert_parts.specs.Grammar.{Algorithm, algorithm_identifier, bit_string}
 use Rattle.cert_desk_issuing.specs.declared.stop.Stop.{Stop}
 use Rattle.cert_desk_issuing.specs.Refusals.{Stops}
 use Rattle.cert_desk_issuing.proofs.SignedParts.{made_of, not_built, unwritten}
@@ -36,9 +39,10 @@ returns-in_err-octets g c = λ role dns t same.
     let made = as_written (certificate_plain x.certificate) in
     let given = subst (λ (w : List ℕ). signs w (signature_bits made)) x.ensures.octets x.ensures.signed in
     let short = subst (λ (u : Tbs). length (integer_octets u.1.0) ≤ 20) same c.requires.serial in
+    let bits = subst (λ (b : Bits). IsInRange bit_string b) c.signature.ensures c.in_range-2.ensures in
     let p = err_from_is_err_and c.from_residual-in_err-octets.result c.from_residual-in_err-octets.ensures.1 in
     rw p.1 (subst (λ (y : Stop). Stops may_refuse signs a role dns t y) (sym p.2)
-    (unwritten a signs made t (x.ensures.part ∙ same) short may_refuse role dns _ c.in_err-octets.field-0.0.kind x.ensures.algorithm given c.in_range-2.ensures c.in_err-octets.ensures.spelled))
+    (unwritten a signs made t (x.ensures.part ∙ same) short may_refuse role dns _ c.in_err-octets.field-0.0.kind x.ensures.algorithm given bits c.in_err-octets.ensures.spelled))
 
 pub returns : goal.returns
 returns g c = λ role dns t same.
@@ -50,5 +54,7 @@ returns g c = λ role dns t same.
     let given = subst (λ (w : List ℕ). signs w (signature_bits made)) x.ensures.octets x.ensures.signed in
     let short = subst (λ (u : Tbs). length (integer_octets u.1.0) ≤ 20) same c.requires.serial in
     let valid = subst (λ (u : Tbs). IsValid part_shape u) same x.ensures.valid in
-    made_of a signs made t (x.ensures.part ∙ same) short c.in_ok-octets.octets.items x.ensures.algorithm given valid c.in_range.ensures c.in_range-2.ensures c.in_ok-octets.ensures.octets.0
+    let algorithm = subst (λ (b : Algorithm). IsInRange (algorithm_identifier Bound) b) c.signature_algorithm.ensures c.in_range.ensures in
+    let bits = subst (λ (b : Bits). IsInRange bit_string b) c.signature.ensures c.in_range-2.ensures in
+    made_of a signs made t (x.ensures.part ∙ same) short c.in_ok-octets.octets.items x.ensures.algorithm given valid algorithm bits c.in_ok-octets.ensures.octets.0
     (λ h. written_valid (certificate Bound (Some 21)) made _ _ c.in_ok-octets.ensures.exact h)

@@ -1,5 +1,5 @@
 use Rattle.std.proofs.Common.{◌≡◌, List, ◌∷◌, ◌++◌, sym, ap, ◌∙◌, subst}
-use Rattle.x509_cert_certificates.specs.declared.AttributeTypeAndValue.{AttributeTypeAndValue}
+use Rattle.x509_cert_names.specs.declared.attribute_type_and_value.AttributeTypeAndValue.{AttributeTypeAndValue}
 use Rattle.x509_cert_names.specs.Pairs.{relative_plain}
 use Rattle.x509_cert_builders.specs.Subscribers.{KeepsDistinct, left_of}
 use Rattle.x509_cert_builders.proofs.Subjects.{distinct_same, left_same}
