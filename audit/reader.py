@@ -2,7 +2,7 @@
 request or a key, and which lines of an orders file are faulty.
 
 It is written from X.690, RFC 5280 4.1 and 5.1, RFC 2986 4 and what docs/ENCODING.md and
-docs/ORDERS.md say, in plain Python, and knows nothing of the crates."""
+docs/CLI.md say, in plain Python, and knows nothing of the crates."""
 
 import datetime
 

@@ -669,10 +669,10 @@ for place, serial, issuer, subject, shown in [
     ask(f"show {place} {three}", f'0 "{head}{HEAD}subject {subject}\\n{shown}" ""')
 say()
 
-# The page of orders, docs/ORDERS.md.
+# The page of orders, docs/tables/ORDERS.md.
 say(
-    "The page of orders (docs/ORDERS.md): the root alone, and with a server's certificate; faulty "
-    "lines; refused orders."
+    "The page of orders (docs/tables/ORDERS.md): the root alone, and with a server's certificate; "
+    "faulty lines; refused orders."
 )
 issues([ROOT])
 issues([ROOT, LEAF])

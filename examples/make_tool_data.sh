@@ -11,8 +11,8 @@ cd "$2"
 work=$(mktemp -d)
 trap 'rm -rf "$work"' EXIT
 
-# the streams of docs/REFUSALS.md, by what they are refused for
-python3 - "$here/../docs/REFUSALS.md" <<'PY'
+# the streams of docs/tables/REFUSALS.md, by what they are refused for
+python3 - "$here/../docs/tables/REFUSALS.md" <<'PY'
 import re, sys
 page = open(sys.argv[1]).read()
 streams = re.findall(r"\*\*`(\w+)`\*\*.*?```text\n(.*?)```", page, re.S)

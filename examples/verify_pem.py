@@ -11,7 +11,7 @@ now and serverAuth, where nothing is said.
 It turns the chain round, has `cert_tool questions` say what its signatures ask, `answer.py` answer,
 and `cert_tool verify` judge; of a chain that isn't trusted it prints what `cert_tool explain chain`
 says. The status is that of `cert_tool verify`: 0 where the chain is trusted, 1 where it breaks a
-rule, others as docs/TOOL.md says; 3 where CHAIN holds roots alone, 4 also where a file holds no
+rule, others as docs/CLI.md says; 3 where CHAIN holds roots alone, 4 also where a file holds no
 certificate in PEM, and 5 where a file or a program is missing.
 """
 

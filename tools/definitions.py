@@ -1,7 +1,7 @@
 #!/usr/bin/env python3
 """Which definitions a reader has to trust, and for which claim.
 
-    tools/definitions.py            writes docs/DEFINITIONS.md from the sources
+    tools/definitions.py            writes docs/tables/DEFINITIONS.md from the sources
     tools/definitions.py --check    writes nothing; its status is 1 where that page is out of date,
                                     or an import names no definition
     tools/definitions.py CALL..     each definition that the contract of a call rests on
@@ -16,7 +16,7 @@ import sys
 import sources
 import wrap
 
-PAGE = sources.TOP / "docs" / "DEFINITIONS.md"
+PAGE = sources.TOP / "docs" / "tables" / "DEFINITIONS.md"
 SHOWN = 4
 
 # What is claimed most often, in the words of a user, and the call whose contract says it.
@@ -161,7 +161,7 @@ def page():
                 )
                 names = (n if c == crate else f"{c}: {n}" for c, n in through)
                 by = f"through {shown(names)}" if through else "proofs alone, or private calls"
-            link = f"[`{file.name}`](../crates/{crate}/specs/{file.name}.antt)"
+            link = f"[`{file.name}`](../../crates/{crate}/specs/{file.name}.antt)"
             says = first_sentence(file.head)
             lines.append(
                 f"| {link} | {len(file.lines)} | {len(kept)} | {says} | {file.sections} | {by} |"
@@ -223,7 +223,8 @@ def main(words):
             print("imports that name no definition:", *lost, sep="\n", file=sys.stderr)
             return 1
         if PAGE.read_text() != page():
-            print("docs/DEFINITIONS.md is out of date: run tools/definitions.py", file=sys.stderr)
+            told = "docs/tables/DEFINITIONS.md is out of date: run tools/definitions.py"
+            print(told, file=sys.stderr)
             return 1
         return 0
     if words:
