@@ -228,20 +228,35 @@ fn of_rest() -> Names {
     &OF_REST
 }
 
-// The name of an identifier of these octets, if it is well known.
-pub fn known_name(octets: &[u8]) -> Option<&'static str> {
-    for names in &[
-        of_keys(),
-        of_extensions(),
-        of_uses(),
-        of_attributes(),
-        of_rest(),
-    ] {
-        for (known, name) in *names {
-            if *known == octets {
-                return Some(*name);
-            }
+// The name that a table has for an identifier of these octets.
+fn name_in(names: Names, octets: &[u8]) -> Option<&'static str> {
+    for (known, name) in names {
+        if *known == octets {
+            return Some(*name);
         }
     }
     None
+}
+
+// The name of an identifier of these octets, if it is well known. Those below 2.5.29 and 2.5.4
+// stand in one table each.
+pub fn known_name(octets: &[u8]) -> Option<&'static str> {
+    match octets {
+        [0x55, 29, ..] => name_in(of_extensions(), octets),
+        [0x55, 4, ..] => name_in(of_attributes(), octets),
+        _ => {
+            for names in &[
+                of_keys(),
+                of_extensions(),
+                of_uses(),
+                of_attributes(),
+                of_rest(),
+            ] {
+                if let Some(name) = name_in(*names, octets) {
+                    return Some(name);
+                }
+            }
+            None
+        }
+    }
 }

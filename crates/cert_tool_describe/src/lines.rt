@@ -267,8 +267,8 @@ impl Lines {
         self.push(behind);
     }
 
-    // Adds such a text: what isn't printable stands as `\XX` on a line, for each octet of UTF-8.
-    fn printed(&mut self, text: &str) {
+    // Adds such a text that was printed: what isn't printable stands as `\XX` on a line, for each octet of UTF-8.
+    pub fn printed(&mut self, text: &str) {
         if is_plain(text.as_bytes()) || (!self.is_json && is_ascii_printable(text.as_bytes())) {
             self.push(text);
         } else {
@@ -334,20 +334,43 @@ impl Lines {
 
     // Adds an octet in base 16.
     fn pair(&mut self, octet: u8) {
-        self.add_one(DIGITS[usize::from(octet >> 4)]);
-        self.add_one(DIGITS[usize::from(octet & 15)]);
+        let [high, low] = pair_of(octet);
+        self.add_one(high);
+        self.add_one(low);
+    }
+
+    // Adds octets in base 16, with nothing between them.
+    fn joined_pairs(&mut self, octets: &[u8]) {
+        let (groups, rest) = octets.as_chunks::<16>();
+        for group in groups {
+            self.add(&pairs_of(group));
+        }
+        for octet in rest {
+            self.pair(*octet);
+        }
+    }
+
+    // Adds octets in base 16, each behind this.
+    fn pairs_behind(&mut self, octets: &[u8], separator: u8) {
+        let (groups, rest) = octets.as_chunks::<16>();
+        for group in groups {
+            self.add(&separated_pairs_of(group, separator));
+        }
+        for octet in rest {
+            self.add_one(separator);
+            self.pair(*octet);
+        }
     }
 
     // Adds octets in base 16, with this between them, if anything.
     pub fn pairs(&mut self, before: &str, octets: &[u8], separator: Option<u8>) {
         self.push(before);
-        let mut between = None;
-        for octet in octets {
-            if let Some(separator) = between {
-                self.add_one(separator);
+        match (separator, octets) {
+            (Some(separator), [first, rest @ ..]) => {
+                self.pair(*first);
+                self.pairs_behind(rest, separator);
             }
-            self.pair(*octet);
-            between = separator;
+            (_, octets) => self.joined_pairs(octets),
         }
     }
 
@@ -522,6 +545,36 @@ impl Lines {
         self.text(finding);
         self.close();
     }
+}
+
+// The digits of an octet.
+fn pair_of(octet: u8) -> [u8; 2] {
+    [
+        DIGITS[usize::from(octet >> 4)],
+        DIGITS[usize::from(octet & 15)],
+    ]
+}
+
+// The digits of sixteen octets.
+fn pairs_of(octets: &[u8; 16]) -> [u8; 32] {
+    let mut text = [0; 32];
+    for place in 0..16 {
+        let [high, low] = pair_of(octets[place]);
+        text[2 * place] = high;
+        text[2 * place + 1] = low;
+    }
+    text
+}
+
+// The digits of sixteen octets, each behind this.
+fn separated_pairs_of(octets: &[u8; 16], separator: u8) -> [u8; 48] {
+    let mut text = [separator; 48];
+    for place in 0..16 {
+        let [high, low] = pair_of(octets[place]);
+        text[3 * place + 1] = high;
+        text[3 * place + 2] = low;
+    }
+    text
 }
 
 // Whether octets are printable characters of ASCII.

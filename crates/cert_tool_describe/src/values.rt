@@ -114,12 +114,9 @@ fn is_told(lines: &mut Lines, attribute: &AttributeTypeAndValue) -> bool {
     }
 }
 
-// Adds the members of a name: its text, and its attributes; of these those alone have a line that
-// the name's own line tells by arcs and octets.
-pub fn add_name_members(lines: &mut Lines, name: &Name) {
-    lines.key("text");
-    lines.name_value(name);
-    lines.list("attributes");
+// Adds the attributes of a name; on lines those alone that the name's own line tells by arcs and
+// octets.
+fn add_attributes(lines: &mut Lines, name: &Name) {
     for attribute in name.iter() {
         if is_told(lines, attribute) {
             lines.entry("");
@@ -127,6 +124,26 @@ pub fn add_name_members(lines: &mut Lines, name: &Name) {
             add_value(lines, &attribute.value);
             lines.close();
         }
+    }
+}
+
+// Adds the members of a name: its text, and its attributes. Octets stand behind `#` in the text
+// (RFC 4514 2.4), so without one it tells them all.
+pub fn add_name_members(lines: &mut Lines, name: &Name) {
+    let text = match name.to_string(lines.alloc) {
+        Ok(text) => text,
+        Err(_) => {
+            lines.fail();
+            return;
+        }
+    };
+    lines.key("text");
+    lines.begin();
+    lines.printed(text.as_str());
+    lines.end();
+    lines.list("attributes");
+    if lines.is_json || text.as_bytes().contains(&b'#') {
+        add_attributes(lines, name);
     }
     lines.end_list();
 }

@@ -1,6 +1,8 @@
--- The words behind the program's name: options, the value behind each, and the words between them.
+-- The words behind the program's name: options, the value of each, and the words between them.
 use Rattle.std.specs.Prelude.{ℕ, List, [], ◌∷◌, Bool, true, false, codes, bytes_eq, take, is_some}
+use Rattle.std.specs.Prelude.{◌==◌}
 use Rattle.std.specs.Prelude.{Option, Some, None, option_map, Result, Ok, Err, if◌then◌else◌}
+use Rattle.std.specs.List.{after_first, before_first}
 use Rattle.cert_tool_runs.specs.declared.given.Key.{Key}
 use Rattle.cert_tool_runs.specs.declared.given.Key.TheVariants as keys
 use Rattle.cert_tool_runs.specs.declared.given.Given.{Given}
@@ -23,6 +25,17 @@ key_of word =
 abbrev pub stands_alone : Key → Bool
 stands_alone keys.Json = true
 stands_alone _ = false
+
+-- an option that has a value
+abbrev pub if_valued : Option Key → Option Key
+if_valued (Some key) = if stands_alone key then None else Some key
+if_valued None = None
+
+unfoldable pub valued_key : List ℕ → Option Key
+valued_key name = if_valued (key_of name)
+
+abbrev pub is_equals : ℕ → Bool
+is_equals octet = octet == 61
 
 -- What words give: the first three that are neither options nor values, the value of each option,
 -- and the option whose value comes next.
@@ -73,7 +86,8 @@ with_value keys.Limit text g = record g { limit = Some text; awaited = None }
 with_value keys.Place text g = record g { place = Some text; awaited = None }
 with_value keys.Json text g = record g { json = Some text; awaited = None }
 
--- how words are wrong: no such option, an option twice, an option without a value, a word too many
+-- how words are wrong: no such option, or one that has no value, with one; an option twice; an
+-- option without its value; a word too many
 pub data PlainFault : Type 0 where
   unknown : List ℕ → PlainFault
   twice : Key → PlainFault
@@ -92,13 +106,20 @@ with_word (Some first) (Some second) (Some third) word g = Err (surplus word)
 abbrev pub is_option : List ℕ → Bool
 is_option word = bytes_eq (take 2 word) (codes "--")
 
+-- with a word that is an option, `=` and its value, or no option
+abbrev pub with_pair : Option Key → List ℕ → PlainGiven → Result PlainGiven PlainFault
+with_pair (Some key) word g =
+    if is_some (value_of key g) then Err (twice key)
+    else Ok (with_value key (after_first is_equals word) g)
+with_pair None word g =
+    if is_option word then Err (unknown word) else with_word g.first g.second g.third word g
+
 abbrev pub with_key : Option Key → List ℕ → PlainGiven → Result PlainGiven PlainFault
 with_key (Some key) word g =
     if is_some (value_of key g) then Err (twice key)
     else if stands_alone key then Ok (with_value key word g)
     else Ok (record g { awaited = Some key })
-with_key None word g =
-    if is_option word then Err (unknown word) else with_word g.first g.second g.third word g
+with_key None word g = with_pair (valued_key (before_first is_equals word)) word g
 
 -- what words give with one more
 abbrev pub step_by : Option Key → PlainGiven → List ℕ → Result PlainGiven PlainFault

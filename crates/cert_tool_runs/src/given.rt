@@ -1,8 +1,10 @@
 //! The words behind the program's name.
 ghost use Rattle.std.specs.Prelude.{◌≡◌, map, option_map, Ok};
+ghost use Rattle.std.specs.List.{after_first, before_first};
 ghost use Rattle.cert_tool_runs.specs.Words.{key_of, value_of, with_value, with_word, is_option};
-ghost use Rattle.cert_tool_runs.specs.Words.{stands_alone, step, given_in, given_plain, given_read};
-ghost use Rattle.cert_tool_runs.specs.Words.{ended_by, nothing_given, read_on};
+ghost use Rattle.cert_tool_runs.specs.Words.{stands_alone, valued_key, is_equals, with_pair, step};
+ghost use Rattle.cert_tool_runs.specs.Words.{given_in, given_plain, given_read, ended_by};
+ghost use Rattle.cert_tool_runs.specs.Words.{nothing_given, read_on};
 
 /// An option.
 #[derive(Clone, Copy)]
@@ -26,11 +28,11 @@ pub enum Key {
 /// What is wrong with a word.
 #[derive(Clone, Copy)]
 pub enum WordFault<'a> {
-    /// There is no such option.
+    /// There is no such option, or it is one that has no value, with one.
     Unknown(&'a str),
     /// The option is given twice.
     Twice(Key),
-    /// The option is the last word.
+    /// The option is the last word, and wants a value.
     NoValue(Key),
     /// Three words before this one are neither options nor values.
     Surplus(&'a str),
@@ -74,6 +76,32 @@ fn stands_alone(key: Key) -> bool
     ensures { result ≡ stands_alone key }
 {
     matches!(key, Key::Json)
+}
+
+// The option of a name, if it has a value.
+#[tactic(auto, unfolding(crate::specs::Words::valued_key))]
+fn valued_key(name: &str) -> Option<Key>
+    ensures { result ≡ valued_key name.now }
+{
+    let Some(key) = key_of(name) else {
+        return None;
+    };
+    if stands_alone(key) {
+        return None;
+    }
+    Some(key)
+}
+
+// What stands in front of the first `=` of a word, and what stands behind it. Where there is none,
+// nothing stands behind it.
+fn parts_of(word: &str) -> (&str, &str)
+    ensures name { result.0.now ≡ before_first is_equals word.now }
+    ensures value { result.1.now ≡ after_first is_equals word.now }
+{
+    match word.split_once('=') {
+        Some((name, value)) => (name, value),
+        None => (word, ""),
+    }
 }
 
 // Whether a word begins as options do.
@@ -190,6 +218,24 @@ impl<'a> Given<'a> {
         Err(WordFault::Surplus(word))
     }
 
+    // With a word that is an option, `=` and its value, or no option.
+    fn with_pair(&self, word: &'a str) -> Result<Given<'a>, WordFault<'a>>
+        ensures { given_read result ≡ with_pair (valued_key (before_first is_equals word.now))
+            word.now (given_plain self.now) }
+    {
+        let (name, value) = parts_of(word);
+        if let Some(key) = valued_key(name) {
+            if self.value_of(key).is_some() {
+                return Err(WordFault::Twice(key));
+            }
+            return Ok(self.with_value(key, value));
+        }
+        if is_option(word) {
+            return Err(WordFault::Unknown(word));
+        }
+        self.with_word(word)
+    }
+
     // With one word more.
     fn step(&self, word: &'a str) -> Result<Given<'a>, WordFault<'a>>
         ensures { given_read result ≡ step (given_plain self.now) word.now }
@@ -209,10 +255,7 @@ impl<'a> Given<'a> {
                 ..*self
             });
         }
-        if is_option(word) {
-            return Err(WordFault::Unknown(word));
-        }
-        self.with_word(word)
+        self.with_pair(word)
     }
 
     // With no word more.

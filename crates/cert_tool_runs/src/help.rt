@@ -79,9 +79,10 @@ pub(crate) const ARGUMENTS: &str =
 STREAM     a file of certificates in DER, one behind the other, the one that an anchor signed first
 --limit    the most octets that a certificate of STREAM may have, from 6 to 4294967295; else 65536
 --json     one document of JSON in place of lines
-The file - is standard input. The status is 0 where what was asked for is written, of a chain where
-it is trusted, 1 where it is refused, 2 where octets are faulty, 3 where there are none, 4 where
-words, anchors or answers are, 5 where a file or device fails, 6 where memory is wanting.
+The value of an option may stand behind = too, as in --limit=4096. The file - is standard input.
+The status is 0 where what was asked for is written, of a chain where it is trusted, 1 where it is
+refused, 2 where octets are faulty, 3 where there are none, 4 where words, anchors or answers are,
+5 where a file or device fails, 6 where memory is wanting.
 ";
 
 // What is said of the command that these words name, or of all.

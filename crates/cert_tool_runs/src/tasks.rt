@@ -354,8 +354,8 @@ fn task_of<'a>(command: Command, file: &'a str, given: &Given<'a>) -> Result<Tas
 impl<'a> Task<'a> {
     /// What these words ask for, of those behind the program's name.
     ///
-    /// Options stand anywhere, each with its value behind it. Where they are left out `--at` is
-    /// `now`, `--purpose` is `serverAuth`, and `--limit` is 65536.
+    /// Options stand anywhere, each with its value behind it, or behind `=` in the same word. Where
+    /// they are left out `--at` is `now`, `--purpose` is `serverAuth`, and `--limit` is 65536.
     ///
     /// # Errors
     ///

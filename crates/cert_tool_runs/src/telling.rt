@@ -51,8 +51,8 @@ fn values_of(key: Key) -> &'static str {
 // What is wrong with options, values and other words, in one line.
 fn fault_line(alloc: Global, fault: WordFault<'_>) -> Result<String, AllocError> {
     match fault {
-        WordFault::Unknown(word) if word.contains('=') => {
-            format!(in alloc; "{word:?}: a value stands behind its option, as in --limit 4096\n")
+        WordFault::Unknown(word) if word.starts_with("--json=") => {
+            format!(in alloc; "{word:?}: --json stands without a value\n")
         }
         WordFault::Unknown(word) => format!(in alloc; "there is no option {word:?}\n"),
         WordFault::Twice(key) => format!(in alloc; "{} is given twice\n", word_of(key)),
