@@ -1,8 +1,9 @@
 #!/usr/bin/env bash
-# What cert_tool costs beside cert_desk, in instructions of whole runs: `describe` and `show` of the
-# roots of ca-certificates, `verify` and `check` of a chain of four that `issue` makes of the orders
-# of examples/ and of one authority more. Both programs have to be built.
-# usage: bench/tool.sh [FOLDER], where FOLDER has both programs; without it they are those of `out/`
+# What cert_tool costs beside cert_desk, in instructions of whole runs, and of these less a run of
+# the same program that finds a wrong word: `describe` and `show` of the roots of ca-certificates,
+# `verify` and `check` of a chain of four that `issue` makes of the orders of examples/ and of one
+# authority more. Both programs have to be built. usage: bench/tool.sh [FOLDER], where FOLDER has
+# both programs; without it they are those of `out/`
 set -euo pipefail
 top=$(cd "$(dirname "$0")/.." && pwd)
 work=$(mktemp -d)
@@ -19,6 +20,8 @@ ratio() { awk -v many="$1" -v few="$2" 'BEGIN { printf "%.2f", many / few }'; }
 
 desk=${1-$top/crates/cert_desk_program/out}/cert_desk_program
 tool=${1-$top/crates/cert_tool/out}/cert_tool
+tool_start=$(instructions "$tool" nothing)
+desk_start=$(instructions "$desk" nothing)
 described=0 shown=0 count=0
 for file in /usr/share/ca-certificates/mozilla/*.crt; do
     openssl x509 -in "$file" -outform DER -out "$work/root.der"
@@ -28,6 +31,9 @@ for file in /usr/share/ca-certificates/mozilla/*.crt; do
 done
 echo "describe: $((described / count)) instructions a root, show: $((shown / count));" \
     "$count roots: $(ratio $described $shown)"
+described=$((described / count - tool_start)) shown=$((shown / count - desk_start))
+echo "less a run that finds a wrong word ($tool_start, $desk_start):" \
+    "$described, $shown: $(ratio $described $shown)"
 
 # the second order once more, without its path length
 awk 'BEGIN { RS = ""; ORS = "\n\n" }
@@ -49,3 +55,5 @@ checks=("$work/anchor" "$work/stream" 1790000000 1.3.6.1.5.5.7.3.1 4096)
 verified=$(instructions "$tool" verify "${words[@]}")
 checked=$(instructions "$desk" check "${checks[@]}")
 echo "verify: $verified instructions, check: $checked: $(ratio "$verified" "$checked")"
+verified=$((verified - tool_start)) checked=$((checked - desk_start))
+echo "less that: $verified, $checked: $(ratio $verified $checked)"

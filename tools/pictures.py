@@ -21,7 +21,7 @@ GROUPS = [
     ("cert_tool", "#e3ecd9", "the tool"),
     ("", "#eeeeee", "programs of users"),
 ]
-WIDTH, BOX, HEIGHT, GAP, STEP = 1180, 182, 26, 12, 50
+BOX, HEIGHT, GAP, STEP = 182, 26, 12, 50
 
 
 def group_of(name):
@@ -83,6 +83,7 @@ def crates():
     for name in named:
         rows.setdefault(level[name], []).append(name)
     top = max(rows)
+    width = max(len(own) for own in rows.values()) * (BOX + GAP) + GAP
     place = {}
     for at in sorted(rows):
         own = sorted(
@@ -90,7 +91,7 @@ def crates():
             key=lambda n: sum(place[d][0] for d in direct[n]) / len(direct[n]) if direct[n] else 0,
         )
         total = len(own) * BOX + (len(own) - 1) * GAP
-        x = (WIDTH - total) / 2
+        x = (width - total) / 2
         for name in own:
             place[name] = (x, 40 + (top - at) * STEP)
             x += BOX + GAP
@@ -102,10 +103,10 @@ def crates():
         boxes.append(box(x, y, BOX, HEIGHT, name, group_of(name)[1]))
     legend, x = [], 10
     for _, fill, words in GROUPS:
-        width = 20 + 7 * len(words)
-        legend.append(box(x, 6, width, 20, words, fill))
-        x += width + 8
-    return svg(WIDTH, 40 + (top + 1) * STEP, lines + boxes + legend)
+        size = 20 + 7 * len(words)
+        legend.append(box(x, 6, size, 20, words, fill))
+        x += size + 8
+    return svg(width, 40 + (top + 1) * STEP, lines + boxes + legend)
 
 
 def variants(path, name):

@@ -29,26 +29,36 @@ def rows(page=CALLS):
             yield number, crate, cells
 
 
+def paths_of(crate, files):
+    """The files that a row names, each with its crate."""
+    for token in CODE.findall(files):
+        if token.endswith(".rt"):
+            yield crate, token
+        else:
+            crate = token
+
+
+def named_by(crate, cells, calls):
+    """The names of calls in a row, each with the public calls that it has in the row's files."""
+    here = [c for path in paths_of(crate, cells[3]) for c in calls.get(path, []) if c.public]
+    for name in CODE.findall(cells[0]):
+        owner, _, last = name.rpartition("::")
+        of = [call for call in here if call.name == last]
+        yield name, [call for call in of if call.owner == owner] or of
+
+
 def row_faults(number, crate, cells, calls, named):
     """What a row names that isn't there; the calls that it names are added to `named`."""
     what, _, clauses, files = cells
-    paths, owner, found = [], crate, []
-    for token in CODE.findall(files):
-        if token.endswith(".rt"):
-            paths.append((owner, token))
-        else:
-            owner = token
-    here = [call for path in paths for call in calls.get(path, []) if call.public]
-    for path in paths:
+    for path in paths_of(crate, files):
         if path not in calls and not (sources.CRATES / path[0] / "src" / path[1]).exists():
             yield f"{number}: no file {path[0]}/src/{path[1]}"
-    for name in CODE.findall(what):
-        of = [call for call in here if call.name == name.split("::")[-1]]
+    known = set()
+    for name, of in named_by(crate, cells, calls):
         if not of:
             yield f"{number}: no call {name} in {files}"
-        found += of
         named.update((call.crate, call.title) for call in of)
-    known = {name for call in found for _, name in call.clauses}
+        known.update(clause for call in of for _, clause in call.clauses)
     for name in CODE.findall(clauses):
         if name not in known:
             yield f"{number}: no clause {name} of {what}"
@@ -68,11 +78,16 @@ def page_faults(page, calls, named):
                 yield f"no law {name}"
 
 
-def main(words):
+def by_file(code):
+    """The calls of each file."""
     calls = {}
-    for source in sources.sources():
-        for call in source.calls:
-            calls.setdefault((call.crate, source.name), []).append(call)
+    for source in code:
+        calls.setdefault((source.crate, source.name), []).extend(source.calls)
+    return calls
+
+
+def main(words):
+    calls = by_file(sources.sources())
     named = set()
     faults = [
         f"{page.relative_to(sources.TOP)}: {fault}"

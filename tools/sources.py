@@ -20,16 +20,19 @@ SIGNATURE = re.compile(
 USE = re.compile(r"use Rattle\.([a-z0-9_]+\.specs(?:\.\w+)*)")
 CASE = re.compile(r"  (\w+) :")
 BLOCK = re.compile(r"(?P<opened>abbrev |unfoldable )?(?:mutual|module \S+.*)$")
+FUNCTION = re.compile(
+    r"^(    )?(pub )?(?:pub\(\w+\) )?(?:final )?(?:const )?(?:unsafe )?fn (\w+)"
+)
 STANDARD = r"X\.\d{3}|RFC \d{4}|IEEE 802\.1AR|CA/Browser Forum, Baseline Requirements"
 PART = r"\d+(?:\.\d+)*(?: \([a-z]+\)(?: \(\d\))?)?"
 SECTION = re.compile(rf"({STANDARD})((?:,? (?:and |to )?{PART})*)")
 BARE = re.compile(r"\((\d+(?:\.\d+)+(?:, \d+(?:\.\d+)+)*)\)")
 
 
-def dependencies():
+def dependencies(path=None):
     """Each crate of crates.txt and the libraries that its line names, in the order of the file."""
     crates = {}
-    for line in (TOP / "crates.txt").read_text().splitlines():
+    for line in (path or TOP / "crates.txt").read_text().splitlines():
         line = line.split("#")[0].strip()
         if line:
             name, _, libraries = line.partition(":")
@@ -280,7 +283,7 @@ class Source:
                 owner = stated = None
             else:
                 ghost = re.match(r"^    ghost ([\w_]+) ?=", line) if owner else None
-                match = re.match(r"^(    )?(pub )?(?:final )?(?:const )?(?:unsafe )?fn (\w+)", line)
+                match = FUNCTION.match(line)
                 if ghost:
                     call = Call(self.crate, self.name, owner, f"ghost {ghost[1]}", at + 1)
                     depth = 0

@@ -16,6 +16,7 @@ import shutil
 import subprocess
 import sys
 
+import released
 import sources
 
 PARTS = ["src", "specs", "proofs"]
@@ -84,6 +85,9 @@ def take(names, folder, again, edits):
 
 
 def main(words):
+    release = None
+    if words[:1] == ["--release"]:
+        release, words = "".join(words[1:2]), words[2:]
     flags = {word for word in words if word.startswith("--")}
     names = [word for word in words if word not in flags]
     crates = sources.dependencies()
@@ -97,6 +101,8 @@ def main(words):
         print("\n".join(lines_of(names).values()))
         return 0
     take(names, folder, "--again" in flags, "--edits" in flags)
+    if release:
+        print("{} of {} libraries laid".format(*released.lay(release, folder)))
     return 0
 
 

@@ -1,12 +1,15 @@
 #!/usr/bin/env bash
 # Tries tools/take.py: a new repository takes a crate, has one program that uses it, and runs that.
-#   tools/take_test.sh [--check] [NAME..]    NAME: identifiers, der, certificates, chains (all four)
+#   tools/take_test.sh [--check] [--release RELEASE] [NAME..]
+#       NAME: identifiers, der, certificates, chains (all four)
 # It runs each program before any proof (`rt try`), and with --check proves it, with all below it,
-# too.
+# too; over the libraries of a release, if one is named.
 set -euo pipefail
 top=$(cd "$(dirname "$0")/.." && pwd)
 check=
 if [ "${1-}" = --check ]; then check=1; shift; fi
+release=()
+if [ "${1-}" = --release ]; then release=(--release "$2"); shift 2; fi
 [ $# -gt 0 ] || set -- identifiers der certificates chains
 work=$(mktemp -d)
 trap 'rm -rf "$work"' EXIT
@@ -27,7 +30,7 @@ for name; do
     mkdir -p "$new"
     (cd "$new" && git init -q)
     # shellcheck disable=SC2086
-    "$top/tools/take.py" $crates "$new"
+    "$top/tools/take.py" "${release[@]}" $crates "$new"
     mkdir -p "$new/crates/first/src"
     cp "$source" "$new/crates/first/src/main.rt"
     echo "first: $crates" >>"$new/crates.txt"

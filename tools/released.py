@@ -1,0 +1,301 @@
+"""What `release`, `unpack`, `confirm` and `prove`, beside this file, and take.py share.
+
+A release is a folder:
+
+  PROVED              the kit (`rt version`), the version and the commit; of each library and
+                      program the stamp of its sources, and the sum of what the gate built of it
+  SUMS                the SHA-256 sum of each other file, as `sha256sum -c SUMS` reads it
+  libraries.tar.zst   NAME/NAME.rlib of each library, the lowest first
+  programs/NAME       as LLVM built them
+
+A stamp is the kit's own sum of a crate's texts, of those below it, and of the kit. The sum of a
+library is that of the lines which `sha256sum` prints of its files, in the order of their paths:
+
+  cd crates/const_oid/out/rlib/const_oid.rlib
+  find * -type f | LC_ALL=C sort | xargs sha256sum | sha256sum
+"""
+
+import contextlib
+import functools
+import hashlib
+import importlib.machinery
+import importlib.util
+import os
+import pathlib
+import re
+import shutil
+import subprocess
+import sys
+import tarfile
+import tempfile
+import time
+import typing
+
+import sources
+
+LIBRARIES = "libraries.tar.zst"
+PROGRAMS = ["cert_desk_program", "cert_tool"]
+# What is alike in one library stands in those above it again: so far back zstd looks for it.
+WINDOW = "--long=30"
+
+
+class Crate(typing.NamedTuple):
+    """What stands in PROVED of a crate: `library` or `program`, its stamp, its sum."""
+
+    kind: str
+    stamp: str
+    sum: str
+
+
+class Proved(typing.NamedTuple):
+    kit: str
+    version: str
+    commit: str
+    crates: dict
+
+
+def stop(why):
+    sys.exit(f"{pathlib.Path(sys.argv[0]).name}: {why}")
+
+
+def asked(*words, folder=sources.TOP):
+    """What a command prints; nothing where it fails."""
+    ran = subprocess.run(words, cwd=folder, capture_output=True, text=True)
+    return ran.stdout.strip() if ran.returncode == 0 else ""
+
+
+def stamps(folder):
+    """The stamp of each crate in the repository of a folder, as the kit makes it."""
+    sys.dont_write_bytecode = True
+    rt = shutil.which("rt") or stop("there is no `rt`: the kit is not at hand")
+    path = pathlib.Path(rt).resolve().parent / "rtlib.py"
+    loader = importlib.machinery.SourceFileLoader("rtlib", str(path))
+    rtlib = importlib.util.module_from_spec(importlib.util.spec_from_loader("rtlib", loader))
+    sys.modules["rtlib"] = rtlib
+    loader.exec_module(rtlib)
+    for name in ("below", "stamp"):
+        setattr(rtlib.Crate, name, functools.cache(getattr(rtlib.Crate, name)))
+    return {crate.name: crate.stamp() for crate in rtlib.crates_below(os.path.realpath(folder))}
+
+
+def copied(source, target=None):
+    """The sum of what an opened file has, which is written to another one, if there is one."""
+    digest = hashlib.sha256()
+    while piece := source.read(1 << 20):
+        digest.update(piece)
+        if target:
+            target.write(piece)
+    return digest.hexdigest()
+
+
+def sum_of(path):
+    with open(path, "rb") as file:
+        return copied(file)
+
+
+def listing(folder):
+    """The sum of each file of a folder, by its path there."""
+    files = (path for path in pathlib.Path(folder).rglob("*") if path.is_file())
+    return {str(path.relative_to(folder)): sum_of(path) for path in files}
+
+
+def lines(sums):
+    """What `sha256sum` prints of files, in the order of their paths."""
+    return "".join(f"{digest}  {path}\n" for path, digest in sorted(sums.items()))
+
+
+def sum_of_all(sums):
+    return hashlib.sha256(lines(sums).encode()).hexdigest()
+
+
+def written(proved):
+    rows = [f"kit {proved.kit}", f"version {proved.version}", f"commit {proved.commit}"]
+    rows += [f"{it.kind} {name} {it.stamp} {it.sum}" for name, it in proved.crates.items()]
+    return "\n".join(rows) + "\n"
+
+
+def read(release):
+    """PROVED of a release; it stops at the first file that hasn't the sum of SUMS."""
+    release = pathlib.Path(release)
+    if not (release / "SUMS").is_file():
+        stop(f"{release} is no release: it has no file SUMS")
+    wanted = {}
+    for row in (release / "SUMS").read_text(errors="replace").splitlines():
+        digest, _, path = row.partition("  ")
+        wanted[path] = digest
+    there = listing(release)
+    there.pop("SUMS")
+    for path in sorted(wanted.keys() | there.keys()):
+        if path not in there:
+            stop(f"{path}: SUMS names it, and it is not there")
+        if path not in wanted:
+            stop(f"{path}: SUMS has no line for it")
+        if there[path] != wanted[path]:
+            stop(f"{path}: its sum is {there[path]}, in SUMS it is {wanted[path] or 'none'}")
+    heads, crates = {}, {}
+    for row in (release / "PROVED").read_text().splitlines():
+        word, _, rest = row.partition(" ")
+        if word in ("library", "program"):
+            name, stamp, built = rest.split()
+            crates[name] = Crate(word, stamp, built)
+        else:
+            heads[word] = rest
+    return Proved(heads["kit"], heads["version"], heads["commit"], crates)
+
+
+def same_kit(proved):
+    """Stops where the kit at hand isn't the one that proved a release."""
+    here = asked("rt", "version")
+    if here != proved.kit:
+        stop(f"'{proved.kit}' proved this, the kit at hand is '{here}': prove anew, by tools/prove")
+
+
+def zstd():
+    return shutil.which("zstd") or stop("there is no zstd, which packs and unpacks libraries")
+
+
+def packed(path, libraries):
+    """Packs libraries, by their names, so that the same files give the same octets."""
+    words = [zstd(), "-q", "-f", "-3", WINDOW, "-T1", "-o", str(path)]
+    how = {"mode": "w|", "format": tarfile.GNU_FORMAT, "bufsize": 1 << 20}
+    with (
+        contextlib.suppress(BrokenPipeError),
+        subprocess.Popen(words, stdin=subprocess.PIPE) as ran,
+        tarfile.open(fileobj=ran.stdin, **how) as tar,
+    ):
+        for name, folder in libraries.items():
+            for file in sorted(it for it in folder.rglob("*") if it.is_file()):
+                member = tarfile.TarInfo(f"{name}/{name}.rlib/{file.relative_to(folder)}")
+                member.size = file.stat().st_size
+                with open(file, "rb") as opened:
+                    tar.addfile(member, opened)
+    if ran.returncode:
+        stop("zstd ended before all was packed")
+
+
+def unpacked(release, names, place):
+    """Unpacks these libraries of a release, each into the folder that `place` has for its name.
+
+    Gives the name of each that is whole, and the sums of its files."""
+    words = [zstd(), "-q", "-d", "-c", WINDOW, str(pathlib.Path(release) / LIBRARIES)]
+    now, sums = None, {}
+    try:
+        with (
+            subprocess.Popen(words, stdout=subprocess.PIPE) as ran,
+            tarfile.open(fileobj=ran.stdout, mode="r|", bufsize=1 << 20) as tar,
+        ):
+            for name, path, file in members(tar):
+                if name != now and now in names:
+                    yield now, sums
+                now, sums = name, sums if name == now else {}
+                if name in names:
+                    target = place(name) / f"{name}.rlib" / path
+                    target.parent.mkdir(parents=True, exist_ok=True)
+                    with open(target, "wb") as opened:
+                        sums[path] = copied(file, opened)
+            if now in names:
+                yield now, sums
+    except tarfile.ReadError:
+        stop(f"{LIBRARIES} cannot be read")
+
+
+def members(tar):
+    """Each file of packed libraries: the name of its library, its path there, what it has."""
+    for member in tar:
+        name, _, path = member.name.partition("/")
+        inside = path.removeprefix(f"{name}.rlib/")
+        if not member.isfile() or inside == path or ".." in path.split("/"):
+            stop(f"{LIBRARIES} has {member.name}, which is no file of a library")
+        yield name, inside, tar.extractfile(member)
+
+
+def lay(release, folder):
+    """Lays the libraries of a release where `rt` looks for them in a folder's repository.
+
+    Says what differs. Gives how many were laid, and how many of the release the folder has."""
+    proved = read(release)
+    same_kit(proved)
+    crates, here = pathlib.Path(folder) / "crates", stamps(folder)
+    below = sources.dependencies(pathlib.Path(folder) / "crates.txt")
+    there = [name for name, it in proved.crates.items() if it.kind == "library" and name in here]
+    left = {name for name in there if here[name] == proved.crates[name].stamp}
+    others = set(there) - left
+    for name in there:
+        if name in others and not others.intersection(below[name]):
+            above = sum(name in sources.closure([it], below) for it in others) - 1
+            told = f"rt proves it anew, and {above} above it"
+            print(f"{name}: its texts are not those of the release: {told}")
+    for name in below:
+        # What was built over another library than the one that is laid is of no use.
+        if left.intersection(sources.closure([name], below)):
+            shutil.rmtree(place(crates, name), ignore_errors=True)
+    laid = len(left)
+    for name, sums in unpacked(release, frozenset(left), functools.partial(place, crates)):
+        if sum_of_all(sums) != proved.crates[name].sum:
+            stop(f"{name}: what {LIBRARIES} has of it has not the sum of PROVED")
+        (place(crates, name) / "stamp").write_text(proved.crates[name].stamp)
+        left.remove(name)
+    if left:
+        stop(f"{min(left)}: {LIBRARIES} does not have it")
+    return laid, len(there)
+
+
+def place(crates, name):
+    """Where `rt` looks for a built library."""
+    return crates / name / "out/rlib"
+
+
+class Clock:
+    """The minutes so far, and an estimate of those that are left.
+
+    It is by the processor minutes that the gate took of each crate (bench/gate.txt, as
+    bench/gate.sh prints them), and by the lines of one that has no row there."""
+
+    def __init__(self, crates):
+        self.began = self.last = time.time()
+        table = sources.TOP / "bench/gate.txt"
+        rows = re.findall(r"^(\w+) +(\d+\.\d)", table.read_text() if table.exists() else "", re.M)
+        told = {name: float(minutes) for name, minutes in rows}
+        self.left = {name: told.get(name) or length_of(name) / 700 for name in crates}
+        # Four processors take some half of the minutes of one; what takes seconds was built before.
+        self.seconds, self.done = 30, 1
+
+    def ended(self, name):
+        now, minutes = time.time(), self.left.pop(name)
+        if now - self.last > 5:
+            self.seconds, self.done = self.seconds + now - self.last, self.done + minutes
+        self.last = now
+
+    def told(self):
+        minutes = (time.time() - self.began) / 60
+        left = sum(self.left.values()) * self.seconds / self.done / 60
+        return f"{minutes:.0f} min, about {left:.0f} left"
+
+
+def length_of(name):
+    """The lines of the texts of a crate."""
+    folders = (sources.CRATES / name / part for part in ("src", "specs", "proofs"))
+    files = (path for folder in folders for path in folder.rglob("*") if path.is_file())
+    return sum(path.read_bytes().count(b"\n") for path in files)
+
+
+def gate(folder, crates, *words):
+    """Runs `rt ci` in a clone, with a line for each crate that it has proved."""
+    log = tempfile.mkstemp(prefix="gate-", suffix=".log")[1]
+    print(f"the log of the gate is {log}")
+    clock, last = Clock(crates), ""
+    how = {"stdin": subprocess.DEVNULL, "stdout": subprocess.PIPE, "stderr": subprocess.STDOUT}
+    how |= {"cwd": folder, "text": True}
+    with open(log, "w") as opened, subprocess.Popen(["rt", "ci", *words], **how) as ran:
+        for line in ran.stdout:
+            print(line, end="", file=opened, flush=True)
+            last = line.strip() or last
+            done = re.match(r"rt: (\w+) (proved$|is kept|NOT PROVED)", line)
+            if done and done[1] in clock.left:
+                clock.ended(done[1])
+                number = len(crates) - len(clock.left)
+                told = f"{number} of {len(crates)}  {done[1]} {done[2]}"
+                print(f"{told}, {clock.told()}", flush=True)
+    print(last)
+    if ran.returncode or not re.fullmatch(r"\d+ passed, 0 failed", last):
+        stop("the gate did not pass")
