@@ -3,4 +3,3 @@ pub mod WordsOfLine
 pub mod SplitLaws
 pub mod LineWords
 pub mod KeptLines
-mod JsonSteps

@@ -6,7 +6,6 @@ pub mod AnswerReading
 pub mod Stops
 pub mod Asking
 pub mod Verifying
-pub mod JsonTexts
 pub mod Splitting
 pub mod TaskRuns
 pub mod Laws

@@ -10,11 +10,8 @@ use Rattle.cert_desk_io.specs.Telling.{IsAnswer, IsComplaint, IsMemoryTold}
 use Rattle.cert_desk_checking.specs.declared.outcome.Outcome.{Outcome}
 use Rattle.const_oid.specs.Bound.{Bound}
 use Rattle.x509_cert_certificates.specs.Certificates.{PlainCertificate, certificate_octets}
-use Rattle.x509_cert_certificates.specs.Certificates.{subject}
-use Rattle.x509_cert_names.specs.PlainTexts.{name_text}
 use Rattle.cert_desk_bundle.specs.Chains.{offset_at}
 use Rattle.cert_desk_bundle.specs.Streams.{Kept}
-use Rattle.cert_tool_runs.specs.JsonTexts.{escaped_text, place_object}
 use Rattle.cert_tool_runs.specs.Stops.{IsStopTold, stop_of}
 
 -- where the certificate c at a place stands
@@ -35,8 +32,9 @@ place_lines cs = places_below cs (length cs)
 -- where the certificates stand as JSON (RFC 8259): an array of objects
 abbrev pub place_json : List PlainCertificate → ℕ → PlainCertificate → List ℕ
 place_json cs place c =
-    place_object place (offset_at Bound cs place) (length (certificate_octets Bound c))
-    (escaped_text (name_text (subject c)))
+    codes "{\"place\":" ++ decimal place ++ codes ",\"offset\":"
+    ++ decimal (offset_at Bound cs place) ++ codes ",\"length\":"
+    ++ decimal (length (certificate_octets Bound c)) ++ codes "}"
 
 abbrev pub comma_before : ℕ → List ℕ
 comma_before place = if place == 0 then [] else codes ","

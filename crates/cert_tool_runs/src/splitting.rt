@@ -1,27 +1,18 @@
 //! Runs that take streams apart.
 
-ghost use Rattle.std.specs.Prelude.{◌≡◌, ◌≤◌, IfOk, length, string_bytes, true};
-ghost use Rattle.x509_cert_certificates.specs.Certificates.{subject};
-ghost use Rattle.x509_cert_certificates.specs.Views.{certificate_plain};
-ghost use Rattle.x509_cert_names.specs.PlainTexts.{name_text};
-ghost use Rattle.x509_cert_names.specs.Views.{name_plain};
+ghost use Rattle.std.specs.Prelude.{◌≡◌, ◌≤◌, IfOk, string_bytes, true};
 ghost use Rattle.cert_desk_io.specs.Devices.{sink, source};
 ghost use Rattle.cert_desk_bundle.specs.Streams.{Kept};
-ghost use Rattle.cert_tool_runs.specs.JsonTexts.{escaped_text, place_object};
 ghost use Rattle.cert_tool_runs.specs.Splitting.{IsListed, IsReversed, IsTaken, comma_before};
 ghost use Rattle.cert_tool_runs.specs.Splitting.{place_lines, places_text, reversed};
 ghost use Rattle.cert_tool_runs.specs.Stops.{FedWithin};
 
-use crate::json_texts::{escaped_text, place_object};
 use crate::stopping::tell_stop;
 use crate::stream_fault::stop_of;
-use cert_desk_bundle::{Bundle, Entry};
+use cert_desk_bundle::Bundle;
 use cert_desk_checking::read_stream;
 use cert_desk_io::{ExitStatus, Input, Output, answer, complain, tell_memory};
 use std::alloc::{AllocError, Global};
-use x509_cert_certificates::CertificateInner;
-use x509_cert_names::Name;
-use x509_cert_parts::Raw;
 
 // A line for each certificate: its place, where it begins, and how many octets it has.
 fn list_of(alloc: Global, bundle: &Bundle) -> Result<String, AllocError>
@@ -43,36 +34,6 @@ fn comma_before(place: usize) -> &'static str
     if place == 0 { "" } else { "," }
 }
 
-// The text of a name (RFC 4514).
-fn name_text(alloc: Global, name: &Name) -> Result<String, AllocError>
-    ensures { IfOk result (λ text. string_bytes text ≡ name_text (name_plain name.now)) }
-{
-    let text = name.to_string(alloc)?;
-    Ok(text)
-}
-
-// The text of a certificate's subject, as it stands in a string of JSON.
-fn subject_of(alloc: Global, certificate: &CertificateInner<Raw>) -> Result<String, AllocError>
-    ensures { IfOk result (λ text. string_bytes text
-        ≡ escaped_text (name_text (subject (certificate_plain certificate.now)))) }
-{
-    let name = name_text(alloc, certificate.tbs_certificate().subject())?;
-    let text = escaped_text(alloc, name.as_str())?;
-    Ok(text)
-}
-
-// Where a certificate stands, and whose it is, as an object.
-fn object_of(alloc: Global, place: usize, entry: &Entry<'_>) -> Result<String, AllocError>
-    ensures { IfOk result (λ text. string_bytes text
-        ≡ place_object place entry.now.offset (length entry.now.octets.now)
-        (escaped_text (name_text (subject (certificate_plain entry.now.certificate.now))))) }
-{
-    let subject = subject_of(alloc, entry.certificate)?;
-    let len = entry.octets.len();
-    let text = place_object(alloc, place, entry.offset, len, subject.as_str())?;
-    Ok(text)
-}
-
 // Where the certificates stand as JSON: an array of objects.
 fn json_of(alloc: Global, bundle: &Bundle) -> Result<String, AllocError>
     ensures { IfOk result (λ text. string_bytes text ≡ places_text true bundle.now.certificates) }
@@ -81,10 +42,12 @@ fn json_of(alloc: Global, bundle: &Bundle) -> Result<String, AllocError>
     text.push_str("[")?;
     for place in 0..bundle.len() {
         let entry = bundle.get(place).unwrap();
-        let object = object_of(alloc, place, &entry)?;
-        let object = object.as_str();
+        let (offset, len) = (entry.offset, entry.octets.len());
         let comma = comma_before(place);
-        write!(text, "{comma}{object}")?;
+        write!(
+            text,
+            "{comma}{{\"place\":{place},\"offset\":{offset},\"length\":{len}}}"
+        )?;
     }
     text.push_str("]\n")?;
     Ok(text)
@@ -115,8 +78,7 @@ fn text_of(alloc: Global, bundle: &Bundle, json: bool) -> Result<String, AllocEr
 }
 
 /// Writes where each certificate of a stream stands, a line each: `PLACE OFFSET LENGTH`, in
-/// decimal. As JSON that is an array of objects, with the members `place`, `offset`, `length` and
-/// `subject`, the text of the name (RFC 4514).
+/// decimal. As JSON that is an array of objects, with the members `place`, `offset` and `length`.
 ///
 /// The certificates before a fault are listed too, and then the fault is told on the error output.
 pub fn run_list<S: Input, O: Output, E: Output>(

@@ -10,10 +10,12 @@ mod devices;
 #[cfg(test)]
 mod members;
 #[cfg(test)]
+mod one;
+#[cfg(test)]
 mod sets;
 #[cfg(test)]
-mod tagged_fields;
+mod strings;
 #[cfg(test)]
-mod texts;
+mod tagged_fields;
 #[cfg(test)]
 mod values;
