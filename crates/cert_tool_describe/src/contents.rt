@@ -59,7 +59,7 @@ where
     }
 }
 
-// Adds the lines of a content that is a record, or that it isn't one.
+// Adds the lines of a content that is a record or a named number, or that it isn't one.
 fn add_record<'a, T: DecodeValue<'a, SliceReader<'a>> + FixedTag + Describe>(
     lines: &mut Lines,
     octets: &'a [u8],
@@ -90,7 +90,7 @@ fn add_standard(lines: &mut Lines, number: u8, octets: &[u8]) {
         19 => add_record::<BasicConstraints>(lines, octets),
         // of a list, of the list that it adds to
         20 | 27 => add_leaf::<Uint, CrlNumber>(lines, octets),
-        21 => add_leaf::<CrlReason, CrlReason>(lines, octets),
+        21 => add_record::<CrlReason>(lines, octets),
         24 => add_leaf::<GeneralizedTime, GeneralizedTime>(lines, octets),
         28 => add_record::<IssuingDistributionPoint>(lines, octets),
         30 => add_record::<NameConstraints>(lines, octets),

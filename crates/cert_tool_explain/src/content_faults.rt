@@ -30,7 +30,7 @@ fn leaf_fault<'a, T: Leaf<'a> + FixedTag>(alloc: Global, octets: &'a [u8]) -> Op
     leaf_from_der::<T>(alloc, octets).err()
 }
 
-// Why octets aren't one list or record, if they aren't.
+// Why octets aren't one list, record or named number, if they aren't.
 fn value_fault<'a, T: DecodeValue<'a, SliceReader<'a>> + FixedTag>(
     alloc: Global,
     octets: &'a [u8],
@@ -90,7 +90,7 @@ pub fn content_fault(alloc: Global, extension: &Extension) -> Option<Error> {
         17 | 18 | 29 => value_fault::<Vec<GeneralName>>(alloc, octets),
         19 => value_fault::<BasicConstraints>(alloc, octets),
         20 | 27 => leaf_fault::<Uint>(alloc, octets),
-        21 => leaf_fault::<CrlReason>(alloc, octets),
+        21 => value_fault::<CrlReason>(alloc, octets),
         24 => leaf_fault::<GeneralizedTime>(alloc, octets),
         28 => value_fault::<IssuingDistributionPoint>(alloc, octets),
         30 => value_fault::<NameConstraints>(alloc, octets),

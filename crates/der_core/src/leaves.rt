@@ -9,7 +9,7 @@ use const_oid::ObjectIdentifier;
 use der_core_head::Error;
 use der_core_octets::{BytesOwned, BytesRef, StringOwned, StringRef, integer_octets_of};
 use der_core_values::Integer;
-use der_core_values::describing::{AsInteger, AsOctets, Octets};
+use der_core_values::describing::{AsInteger, AsNumbered, AsOctets, Numbered, Octets};
 use std::cmp::Ordering;
 
 /// The order of the contents of two whole numbers (X.690 8.3). It isn't that of the numbers: 127 is
@@ -25,10 +25,17 @@ fn integer_cmp<T: Integer>(a: &T, b: &T) -> Ordering
     octets[start..].cmp(&other_octets[other_start..])
 }
 
-impl<T: Integer, K> OrderWay<T> for AsInteger<K> {
+impl<T: Integer> OrderWay<T> for AsInteger {
     #[tactic(auto, using(crate::proofs::LeafOrders::leaf_contents))]
     fn cmp_by(value: &T, other: &T) -> Result<Ordering, Error> {
         Ok(integer_cmp(value, other))
+    }
+}
+
+impl<T: Numbered, K> OrderWay<T> for AsNumbered<K> {
+    #[tactic(auto, using(crate::proofs::LeafOrders::leaf_contents))]
+    fn cmp_by(value: &T, other: &T) -> Result<Ordering, Error> {
+        Ok(integer_cmp(&value.to_number(), &other.to_number()))
     }
 }
 

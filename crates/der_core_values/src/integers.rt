@@ -8,13 +8,11 @@ ghost use Rattle.der_core_head.specs.Leaves.{integer};
 ghost use Rattle.der_core_head.specs.Reading.{GivesNow};
 ghost use Rattle.der_core_octets.specs.Numbers.{with_sign};
 
-use crate::decode::FixedTag;
 use crate::leaves::{Leaf, Primitive, decode_leaf};
 use crate::ways::{AsReadWay, DecodeWay, Described, RangeWay, TagWay, Way};
 use der_core_head::{Error, Length, Tag};
 use der_core_octets::{Header, Reader, Writer, integer_octets_of, signed_of, unsigned_of};
 use std::alloc::Global;
-use std::marker::PhantomData;
 
 /// A type of whole numbers.
 pub trait Integer: Drop {
@@ -52,38 +50,10 @@ impl<'a, T: Integer> Leaf<'a> for T {
     }
 }
 
-/// The tag INTEGER.
-pub struct IntegerTag;
+/// As an INTEGER: two's complement in the fewest octets (X.690 8.3).
+pub struct AsInteger;
 
-impl FixedTag for IntegerTag {
-    ghost fixed_tag = { tags.Integer };
-
-    fn tag() -> Tag {
-        Tag::Integer
-    }
-}
-
-/// The tag ENUMERATED.
-pub struct EnumeratedTag;
-
-impl FixedTag for EnumeratedTag {
-    ghost fixed_tag = { tags.Enumerated };
-
-    fn tag() -> Tag {
-        Tag::Enumerated
-    }
-}
-
-/// As an INTEGER: two's complement in the fewest octets (X.690 8.3); or behind the tag of `K`, as
-/// an ENUMERATED (8.4).
-pub struct AsInteger<K = IntegerTag> {
-    tag: PhantomData<K>,
-}
-
-/// As an ENUMERATED (X.690 8.4).
-pub type AsEnumerated = AsInteger<EnumeratedTag>;
-
-impl<T: Integer, K> Way<T> for AsInteger<K> {
+impl<T: Integer> Way<T> for AsInteger {
     ghost content_by = { leaf (integer T.numbers) };
 
     ghost plain_by = { T.number };
@@ -107,25 +77,25 @@ impl<T: Integer, K> Way<T> for AsInteger<K> {
     ghost apart_by = { refl };
 }
 
-impl<T, K: FixedTag> TagWay<T> for AsInteger<K> {
-    ghost tag_by = { K.fixed_tag };
+impl<T> TagWay<T> for AsInteger {
+    ghost tag_by = { tags.Integer };
 
     fn tag_of() -> Tag {
-        K::tag()
+        Tag::Integer
     }
 }
 
-impl<T: Integer, K> AsReadWay<T> for AsInteger<K> {
+impl<T: Integer> AsReadWay<T> for AsInteger {
     ghost as_read_by = { λ _. refl };
 }
 
-impl<'a, R: Reader<'a>, T: Integer, K> DecodeWay<'a, R, T> for AsInteger<K> {
+impl<'a, R: Reader<'a>, T: Integer> DecodeWay<'a, R, T> for AsInteger {
     fn decode_by(alloc: Global, reader: &mut R, header: Header) -> Result<T, Error> {
         decode_leaf(alloc, reader, header)
     }
 }
 
-impl<T: Integer, K> RangeWay<T> for AsInteger<K> {
+impl<T: Integer> RangeWay<T> for AsInteger {
     fn range_by(value: &T) {
         let _bits = value.sign_and_bits();
     }

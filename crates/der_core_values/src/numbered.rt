@@ -1,17 +1,25 @@
 //! Types of named numbers, as an enumeration has (X.680 19.5, 20.1).
 
-ghost use Rattle.std.specs.Prelude.{◌≡◌, ◌≢◌, ◌==◌, ℕ, List, true, pos, IfSome, IfNone};
+ghost use Rattle.std.specs.Prelude.{◌≡◌, ◌≢◌, ◌==◌, ℕ, List, true, pos, IfSome, IfNone, refl};
 ghost use Rattle.std.specs.List.{AllByRecursion, list_any};
+ghost use Rattle.der_core_head.specs.declared.tag.Tag.TheVariants as tags;
 ghost use Rattle.der_core_head.specs.Integers.{among, integer_read};
+ghost use Rattle.der_core_head.specs.Leaves.{integer};
+ghost use Rattle.der_core_head.specs.Shapes.{leaf};
 ghost use Rattle.der_core_head.specs.Reading.{GivesNow};
 ghost use Rattle.der_core_values.specs.Numbered.{are_octets};
 
-use crate::integers::Integer;
-use der_core_head::{Error, ErrorKind, Tag};
-use der_core_octets::unsigned_of;
+use crate::decode::FixedTag;
+use crate::integers::{AsInteger, Integer};
+use crate::leaves::decode_leaf;
+use crate::ways::{AsReadWay, DecodeWay, RangeWay, TagWay, Way};
+use der_core_head::{Error, ErrorKind, Length, Tag};
+use der_core_octets::{Header, Reader, Writer, unsigned_of};
+use std::alloc::Global;
+use std::marker::PhantomData;
 
-/// A type each of whose values has a number of eight bits. It has `Integer`: any other number is
-/// refused as `Value`.
+/// A type each of whose values has a number of eight bits. It is coded by `AsNumbered`: any other
+/// number is refused as `Value`.
 pub trait Numbered: Drop {
     /// The numbers that values have.
     ghost known_numbers: { List ℕ };
@@ -35,19 +43,25 @@ pub trait Numbered: Drop {
     ghost few: { are_octets known_numbers ≡ true };
 }
 
-impl<T: Numbered> Integer for T {
+// A value, as the whole number that it has.
+#[derive(Drop)]
+struct NumberOf<T: Numbered> {
+    value: T,
+}
+
+impl<T: Numbered> Integer for NumberOf<T> {
     ghost numbers = { among T.known_numbers };
 
-    ghost number = { λ v. pos (T.known_number v) };
+    ghost number = { λ n. pos (T.known_number n.value) };
 
     #[tactic(auto, using(crate::proofs::NamedNumbers::unlisted))]
-    fn from_integer(tag: Tag, octets: &[u8]) -> Result<T, Error> {
+    fn from_integer(tag: Tag, octets: &[u8]) -> Result<NumberOf<T>, Error> {
         if octets.is_empty() {
             return Err(Error::from(ErrorKind::Length { tag }));
         }
         match unsigned_of(tag, octets, 8) {
             Ok(number) => match T::from_number(number as u8) {
-                Some(value) => Ok(value),
+                Some(value) => Ok(NumberOf { value }),
                 None => Err(Error::from(ErrorKind::Value { tag })),
             },
             Err(error) => match error.kind {
@@ -59,6 +73,80 @@ impl<T: Numbered> Integer for T {
 
     #[tactic(auto, using(crate::proofs::NamedNumbers::listed))]
     fn sign_and_bits(&self) -> (bool, u128) {
-        (false, u128::from(self.to_number()))
+        (false, u128::from(self.value.to_number()))
+    }
+}
+
+/// The tag INTEGER.
+pub struct IntegerTag;
+
+impl FixedTag for IntegerTag {
+    ghost fixed_tag = { tags.Integer };
+
+    fn tag() -> Tag {
+        Tag::Integer
+    }
+}
+
+/// The tag ENUMERATED.
+pub struct EnumeratedTag;
+
+impl FixedTag for EnumeratedTag {
+    ghost fixed_tag = { tags.Enumerated };
+
+    fn tag() -> Tag {
+        Tag::Enumerated
+    }
+}
+
+/// As the INTEGER that the number of a value is; or behind the tag of `K`, as an ENUMERATED.
+pub struct AsNumbered<K = IntegerTag> {
+    tag: PhantomData<K>,
+}
+
+/// As an ENUMERATED (X.690 8.4).
+pub type AsEnumerated = AsNumbered<EnumeratedTag>;
+
+impl<T: Numbered, K> Way<T> for AsNumbered<K> {
+    ghost content_by = { leaf (integer (among T.known_numbers)) };
+
+    ghost plain_by = { λ v. pos (T.known_number v) };
+
+    ghost written_by = { λ v. pos (T.known_number v) };
+
+    fn len_by(value: &T) -> Result<Length, Error> {
+        <AsInteger as Way<u8>>::len_by(&value.to_number())
+    }
+
+    fn encode_by<W: Writer>(value: &T, writer: &mut W) -> Result<(), Error> {
+        <AsInteger as Way<u8>>::encode_by(&value.to_number(), writer)
+    }
+
+    ghost apart_by = { refl };
+}
+
+impl<T, K: FixedTag> TagWay<T> for AsNumbered<K> {
+    ghost tag_by = { K.fixed_tag };
+
+    fn tag_of() -> Tag {
+        K::tag()
+    }
+}
+
+impl<T: Numbered, K> AsReadWay<T> for AsNumbered<K> {
+    ghost as_read_by = { λ _. refl };
+}
+
+impl<'a, R: Reader<'a>, T: Numbered, K> DecodeWay<'a, R, T> for AsNumbered<K> {
+    fn decode_by(alloc: Global, reader: &mut R, header: Header) -> Result<T, Error> {
+        let number: NumberOf<T> = decode_leaf(alloc, reader, header)?;
+        Ok(number.value)
+    }
+}
+
+impl<T: Numbered, K> RangeWay<T> for AsNumbered<K> {
+    #[tactic(auto, using(crate::proofs::NamedNumbers::listed))]
+    fn range_by(value: &T) {
+        let _number = value.to_number();
     }
 }

@@ -28,7 +28,7 @@ type LentFields<'a, T> = (SetOfRef<'a, T>, (Option<SetOfRef<'a, T>>, (T, ())));
 pub fn answer(alloc: Global, kind: &str, question: &Question<'_>) -> Result<String, Refusal> {
     match kind {
         "Small" => answer_with_contents::<Small>(alloc, question),
-        "SetOfVec<u16>" => answer_of_set_read::<u16>(alloc, question),
+        "SetOfVec<u16>" => answer_of_members_read::<SetOfVec<u16>>(alloc, question),
         "SetOf<Small,2>" => answer_of_set::<SetOf<Small, 2>>(alloc, question),
         "SequenceOf<Small,2>" => answer_with_contents::<SequenceOf<Small, 2>>(alloc, question),
         "SequenceOf<Small,0>" => answer_of_value::<SequenceOf<Small, 0>>(alloc, question),
@@ -121,15 +121,6 @@ fn answer_of_members_read<'a, T: Members<'a> + Encode + Drop>(
         _ => return Err(Refusal::Unread),
     };
     written_in(alloc, T::read(alloc, question.first, rules))
-}
-
-/// The answer of a set of these members that is read and written. A function that names a set of
-/// `u16` gets no proof, and so the set is named here, as one of any members.
-fn answer_of_set_read<
-    'a,
-    T: AsRead + Decode<'a, SliceReader<'a>> + DerOrd + Encode + Member + Drop,
->(alloc: Global, question: &Question<'a>) -> Result<String, Refusal> {
-    answer_of_members_read::<SetOfVec<T>>(alloc, question)
 }
 
 /// The answer of a set, which is compared, and has an order of its own.

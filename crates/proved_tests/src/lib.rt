@@ -10,8 +10,6 @@ mod devices;
 #[cfg(test)]
 mod members;
 #[cfg(test)]
-mod one;
-#[cfg(test)]
 mod sets;
 #[cfg(test)]
 mod strings;

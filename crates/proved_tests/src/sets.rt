@@ -1,11 +1,9 @@
-//! Sets and lists of bounded room: states after refusals, and iterators. The members of sets are
-//! records: a function that names a set of whole numbers gets no proof.
+//! Sets and lists of bounded room: states after refusals, and iterators.
 //!
 //! What a test asks stands in functions over what it lends, so that a value that has to be dropped
 //! is held by a function that seldom returns early. Want of memory is met by the rows of `der_rows`
 //! (`again`, `copy`, `member`), where `audit/rows` refuses each request in turn.
 
-use crate::one::{One, record};
 use der_core::{Decode, Encode, EncodeValue, Error, ErrorKind, FromDer, Member, SliceReader};
 use der_types::{SequenceOf, SetOf, SetOfRef, SetOfVec};
 use std::alloc::Global;
@@ -81,19 +79,19 @@ fn lists(rt: HostRuntime) -> Result<(), Fail> {
 
 /// Whether a set takes members in any order, and a refused one leaves it; 200 has two octets of
 /// content, and stands behind 5.
-fn is_extended(set: &mut SetOfVec<One>) -> Result<bool, Error> {
+fn is_extended(set: &mut SetOfVec<u8>) -> Result<bool, Error> {
     let was_empty = set.is_empty();
-    set.extend([record(5), record(200)])?;
-    set.extend([record(5), record(1)])?;
-    let refused = is_refused(set.insert_ordered(record(5)), ErrorKind::SetOrdering);
-    let members = set.as_slice() == [record(1), record(5), record(5), record(200)].as_slice();
-    set.insert_ordered(record(201))?;
-    let last = set.get(4).copied() == Some(record(201)) && set.get(5).is_none();
+    set.extend([5, 200])?;
+    set.extend([5, 1])?;
+    let refused = is_refused(set.insert_ordered(5), ErrorKind::SetOrdering);
+    let members = set.as_slice() == [1, 5, 5, 200].as_slice();
+    set.insert_ordered(201)?;
+    let last = set.get(4).copied() == Some(201) && set.get(5).is_none();
     Ok(was_empty && refused && members && last && set.len() == 5)
 }
 
 /// Whether two sets are the same, by each comparison.
-fn are_same(set: &SetOfVec<One>, same: &SetOfVec<One>) -> bool {
+fn are_same(set: &SetOfVec<u8>, same: &SetOfVec<u8>) -> bool {
     let order = set.partial_cmp(same) == Some(Ordering::Equal);
     set == same && order && AsSlice::as_slice(set) == same.as_slice()
 }
@@ -101,7 +99,7 @@ fn are_same(set: &SetOfVec<One>, same: &SetOfVec<One>) -> bool {
 #[test]
 fn sets(rt: HostRuntime) -> Result<(), Fail> {
     let alloc = rt.alloc();
-    let mut set = SetOfVec::<One>::default(alloc);
+    let mut set = SetOfVec::<u8>::default(alloc);
     assert!(rt; is_extended(&mut set)?);
     let same = SetOfVec::from_iter(alloc, set.clone(alloc)?.into_vec())?;
     assert!(rt; are_same(&set, &same));
@@ -109,30 +107,30 @@ fn sets(rt: HostRuntime) -> Result<(), Fail> {
 }
 
 /// A set with room for three.
-type Three = SetOf<One, 3>;
+type Three = SetOf<u8, 3>;
 
 /// Whether a set of bounded room takes 5, 1 and 5, and refused members leave it.
 fn is_inserted(set: &mut Three) -> Result<bool, Error> {
     let was_empty = set.is_empty();
-    set.insert(record(5))?;
-    set.insert(record(1))?;
-    let falls = is_refused(set.insert_ordered(record(4)), ErrorKind::SetOrdering);
-    set.insert_ordered(record(5))?;
-    let full = is_refused(set.insert(record(9)), ErrorKind::Overlength);
-    let full_behind = is_refused(set.insert_ordered(record(9)), ErrorKind::Overlength);
-    let first = set.get(0).copied() == Some(record(1));
+    set.insert(5)?;
+    set.insert(1)?;
+    let falls = is_refused(set.insert_ordered(4), ErrorKind::SetOrdering);
+    set.insert_ordered(5)?;
+    let full = is_refused(set.insert(9), ErrorKind::Overlength);
+    let full_behind = is_refused(set.insert_ordered(9), ErrorKind::Overlength);
+    let first = set.get(0).copied() == Some(1);
     Ok(was_empty && falls && full && full_behind && first && set.len() == 3)
 }
 
 /// Whether the iterator of a set gives 1, and has two more.
 fn gives_first(set: &Three) -> bool {
     let mut members = set.iter();
-    members.next().copied() == Some(record(1)) && members.size_hint() == (2, Some(2))
+    members.next().copied() == Some(1) && members.size_hint() == (2, Some(2))
 }
 
 /// Whether a set equals the one that is made of its members, and its copy.
 fn is_same(set: &Three) -> Result<bool, Error> {
-    let same = SetOf::try_from([record(5), record(1), record(5)])?;
+    let same = SetOf::try_from([5, 1, 5])?;
     let order = set.partial_cmp(&same) == Some(Ordering::Equal);
     Ok(same == *set && order && same.clone()? == *set)
 }
@@ -144,24 +142,24 @@ fn sets_of_bounded_room(rt: HostRuntime) -> Result<(), Fail> {
     assert!(rt; gives_first(&set));
     assert!(rt; is_same(&set)?);
     assert!(rt; AsSlice::as_slice(&set) == set.as_slice());
-    assert!(rt; set.into_inner().as_slice() == [record(1), record(5), record(5)].as_slice());
+    assert!(rt; set.into_inner().as_slice() == [1, 5, 5].as_slice());
     Ok(())
 }
 
 /// Whether the iterator of a borrowed set gives these, and has no more.
-fn gives(alloc: Global, set: &SetOfRef<'_, One>, numbers: &[u8]) -> Result<bool, Error> {
+fn gives(alloc: Global, set: &SetOfRef<'_, u8>, numbers: &[u8]) -> Result<bool, Error> {
     let mut members = set.iter(alloc);
     let mut are_these = members.size_hint() == (numbers.len(), Some(numbers.len()));
     for number in numbers {
-        are_these = are_these && members.next() == Some(Ok(record(*number)));
+        are_these = are_these && members.next() == Some(Ok(*number));
     }
     Ok(are_these && members.next().is_none() && members.len() == 0)
 }
 
 /// Whether a borrowed set has 1, 1 and 2: equal members are kept.
-fn has_three(alloc: Global, set: &SetOfRef<'_, One>) -> Result<bool, Error> {
-    let lens = set.len() == 3 && set.value_len()?.value == 15 && set.encoded_len()?.value == 17;
-    let last = set.get(alloc, 2)? == Some(record(2)) && set.get(alloc, 3)?.is_none();
+fn has_three(alloc: Global, set: &SetOfRef<'_, u8>) -> Result<bool, Error> {
+    let lens = set.len() == 3 && set.value_len()?.value == 9 && set.encoded_len()?.value == 11;
+    let last = set.get(alloc, 2)? == Some(2) && set.get(alloc, 3)?.is_none();
     Ok(lens && last && gives(alloc, set, &[1, 1, 2])?)
 }
 
@@ -169,12 +167,9 @@ fn has_three(alloc: Global, set: &SetOfRef<'_, One>) -> Result<bool, Error> {
 #[test]
 fn borrowed_sets(rt: HostRuntime) -> Result<(), Fail> {
     let alloc = rt.alloc();
-    let octets = lent::<One>(
-        alloc,
-        b"\x31\x0f\x30\x03\x02\x01\x01\x30\x03\x02\x01\x01\x30\x03\x02\x01\x02",
-    )?;
+    let octets = lent::<u8>(alloc, b"\x31\x09\x02\x01\x01\x02\x01\x01\x02\x01\x02")?;
     let owned = octets.ref_to_owned(alloc)?;
-    assert!(rt; owned.as_slice() == [record(1), record(1), record(2)].as_slice());
+    assert!(rt; owned.as_slice() == [1, 1, 2].as_slice());
     assert!(rt; has_three(alloc, &octets.clone()?)?);
     assert!(rt; has_three(alloc, &owned.owned_to_ref())?);
     assert!(rt; SetOfRef::from(&octets).ref_to_owned(alloc)? == owned);
@@ -185,8 +180,8 @@ fn borrowed_sets(rt: HostRuntime) -> Result<(), Fail> {
 #[test]
 fn members_of_borrowed_sets(rt: HostRuntime) -> Result<(), Fail> {
     let alloc = rt.alloc();
-    assert!(rt; lent::<One>(alloc, b"\x31\x00")?.is_empty());
-    let few = SetOf::<One, 2>::try_from([record(9), record(8)])?;
-    assert!(rt; few.owned_to_ref().get(alloc, 0)? == Some(record(8)));
+    assert!(rt; lent::<u8>(alloc, b"\x31\x00")?.is_empty());
+    let few = SetOf::<u8, 2>::try_from([9, 8])?;
+    assert!(rt; few.owned_to_ref().get(alloc, 0)? == Some(8));
     Ok(())
 }

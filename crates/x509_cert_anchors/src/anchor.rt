@@ -5,7 +5,7 @@ ghost use Rattle.x509_cert_anchors.specs.Grammar.{anchor_numbers, first_anchor_v
 ghost use Rattle.x509_cert_anchors.specs.Views.{anchor_number};
 
 use der_core::DefaultValue;
-use der_core::describing::{AsInteger, Described, Numbered, Ordered};
+use der_core::describing::{AsNumbered, Described, Numbered, Ordered};
 
 /// The version of a trust anchor (RFC 5914 2.1), which is absent where it is `V1`.
 ///
@@ -20,7 +20,7 @@ pub enum Version {
 }
 
 impl Described for Version {
-    type By = AsInteger;
+    type By = AsNumbered;
 }
 
 /// Any other number is refused as `Value`.

@@ -4,7 +4,7 @@ ghost use Rattle.std.specs.Prelude.{◌≡◌, refl};
 ghost use Rattle.x509_cert_lists.specs.Grammar.{request_numbers};
 ghost use Rattle.x509_cert_lists.specs.Views.{request_number};
 
-use der_core::describing::{AsInteger, Described, Numbered, Ordered};
+use der_core::describing::{AsNumbered, Described, Numbered, Ordered};
 
 /// The version of a certification request (RFC 2986 4.1).
 ///
@@ -19,7 +19,7 @@ pub enum Version {
 }
 
 impl Described for Version {
-    type By = AsInteger;
+    type By = AsNumbered;
 }
 
 /// Any other number is refused as `Value`.

@@ -5,7 +5,7 @@ ghost use Rattle.x509_cert_parts.specs.Grammar.{version_numbers};
 ghost use Rattle.x509_cert_parts.specs.Views.{version_number};
 
 use der_core::DefaultContent;
-use der_core::describing::{AsInteger, Described, Numbered, Ordered};
+use der_core::describing::{AsNumbered, Described, Numbered, Ordered};
 use der_core::making::is_zero;
 
 /// The version of a certificate (RFC 5280 4.1.2.1).
@@ -25,7 +25,7 @@ pub enum Version {
 }
 
 impl Described for Version {
-    type By = AsInteger;
+    type By = AsNumbered;
 }
 
 /// Any other number is refused as `Value`.
@@ -61,13 +61,15 @@ impl DefaultContent for Version {
 
     ghost enough = { λ _. refl };
 
+    #[tactic(auto, unfolding(der_core_head::specs::Shapes::contents, der_core_head::specs::Shapes::IsContent))]
     fn default_content() -> Version {
         let version = Version::V1;
-        let _zero = is_zero(&version);
+        let _zero = is_zero(&version.to_number());
         version
     }
 
+    #[tactic(auto, unfolding(der_core_head::specs::Shapes::contents, der_core_head::specs::Shapes::IsContent))]
     fn is_default_content(&self) -> bool {
-        is_zero(self)
+        is_zero(&self.to_number())
     }
 }

@@ -4,7 +4,7 @@ use crate::refusals::Refusal;
 use crate::shown::{octets_of, written};
 use crate::{name_texts, relative_names};
 use const_oid::ObjectIdentifier;
-use der_core::{Decode, Encode, Error, FromDer, InRange, Member, SliceReader};
+use der_core::{Encode, Error, FromDer};
 use der_types::{
     BitStringRef, GeneralStringRef, Ia5StringRef, IntRef, OctetStringRef, PrintableStringRef,
     SequenceRef, SetOfRef, UintRef, Utf8StringRef,
@@ -133,7 +133,7 @@ fn by_oid_in(
         "OctetStringRef" => written_of::<OctetStringRef>(alloc, name, oid),
         "PrintableStringRef" => written_of::<PrintableStringRef>(alloc, name, oid),
         "SequenceRef" => written_of::<SequenceRef>(alloc, name, oid),
-        "SetOfRef<u8>" => set_written_of::<u8>(alloc, name, oid),
+        "SetOfRef<u8>" => written_of::<SetOfRef<u8>>(alloc, name, oid),
         "UintRef" => written_of::<UintRef>(alloc, name, oid),
         "UtcTime" => written_of::<UtcTime>(alloc, name, oid),
         "Utf8StringRef" => written_of::<Utf8StringRef>(alloc, name, oid),
@@ -153,16 +153,6 @@ fn written_of<'a, T: FromAny<'a> + Encode + Drop>(
         Some(value) => written(alloc, &value),
         None => or_none(alloc, None),
     }
-}
-
-/// What the first attribute is read as: a set of these members. A function that names a set of `u8`
-/// gets no proof, and so the set is named here, as one of any members.
-fn set_written_of<'a, T: Decode<'a, SliceReader<'a>> + Encode + InRange + Member + 'a>(
-    alloc: Global,
-    name: &'a Name,
-    oid: ObjectIdentifier<39>,
-) -> Result<String, Refusal> {
-    written_of::<SetOfRef<T>>(alloc, name, oid)
 }
 
 /// A text, or the word for none.

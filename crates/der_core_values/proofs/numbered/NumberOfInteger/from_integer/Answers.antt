@@ -2,7 +2,7 @@ use Rattle.std.proofs.Common.{◌≡◌, ap, ◌∙◌, Ok, Err, length, rules, 
 use Rattle.der_core_head.specs.declared.error.ErrorKind.{ErrorKind}
 use Rattle.der_core_head.specs.Integers.{among}
 use Rattle.der_core_values.proofs.NamedNumbers.{empty, past, octets_alone, known, unlisted}
-use Rattle.der_core_values.proofs.numbered.AnyInteger.from_integer.Goals as goal
+use Rattle.der_core_values.proofs.numbered.NumberOfInteger.from_integer.Goals as goal
 
 pub returns-then-is_empty : goal.returns-then-is_empty
 returns-then-is_empty g c =
