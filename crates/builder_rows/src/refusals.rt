@@ -11,7 +11,7 @@ use x509_cert::builder::{Error, SignError};
 pub enum Refusal {
     /// The question is none.
     Unread,
-    /// Want of memory.
+    /// Out of memory.
     Memory,
     /// What was made first isn't made again, or a call that found no memory changed something.
     Changed,

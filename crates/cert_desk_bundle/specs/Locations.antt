@@ -40,7 +40,7 @@ pub record IsPlacedAt (offset : ℕ) (octets : List ℕ) (l : Located) : Type 0 
   pub header : l.header ≡ signed_start Bound (plain_of l)
   pub signed : l.signed ≡ signed_length Bound (plain_of l)
 
--- why there is none: want of memory, or no certificate has these octets
+-- why there is none: out of memory, or no certificate has these octets
 abbrev pub IsUnread : List ℕ → Standing → Type 0
 IsUnread octets standing = (standing ≡ standings.NoMemory)
     ⊎ ((standing ≡ standings.Faulted kinds.Malformed)

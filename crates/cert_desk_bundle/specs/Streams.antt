@@ -8,7 +8,7 @@ use Rattle.cert_desk_bundle.specs.declared.standing.Standing.TheVariants as stan
 use Rattle.cert_desk_bundle.specs.Series.{Series, SeriesSplit, BeginsSeries, encodings}
 use Rattle.cert_desk_bundle.specs.Faults.{SeriesFault, NoneBefore}
 
--- Whoever stands so, with these values and this rest, has read this stream. After want of memory or
+-- Whoever stands so, with these values and this rest, has read this stream. After out of memory or
 -- a failed device no stream is read.
 abbrev pub ReadsSeries : (s : Shape) → ℕ → Standing → List (Value s) → List ℕ → List ℕ → Type 0
 ReadsSeries s limit standings.Open vs rest stream = SeriesSplit s limit stream vs rest

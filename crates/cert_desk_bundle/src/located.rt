@@ -10,7 +10,7 @@ use std::alloc::Global;
 use x509_cert_certificates::CertificateInner;
 use x509_cert_parts::Raw;
 
-// A certificate, its octets, and where it stands.
+/// A certificate, its octets, and where it stands.
 #[derive(Drop)]
 pub struct Located {
     pub offset: u64,

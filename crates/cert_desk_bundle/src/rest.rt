@@ -12,7 +12,7 @@ use std::mem;
 // Room for so many octets is taken at first.
 const FIRST_ROOM: usize = 256;
 
-// The octets of a certificate that isn't whole yet.
+/// The octets of a certificate that isn't whole yet.
 #[derive(Drop)]
 pub struct Rest {
     pub octets: Vec<u8>,

@@ -31,7 +31,7 @@ pub record AsksNoMore (input : Device) (limit : ℕ) : Type 0 where
 abbrev pub ReadFailed : Device → ℕ → Type 0
 ReadFailed input limit = (octets : List ℕ) × Fails input octets × MayGoOn limit octets
 
--- A new bundle was fed what an input gave: to its end, to a fault, to want of memory, or to a
+-- A new bundle was fed what an input gave: to its end, to a fault, to out of memory, or to a
 -- failure. No read failed but in the last of these. Where memory was wanting the certificates are a
 -- front of those with which the octets begin, and where a read failed they are all of these.
 abbrev pub FedUnder : Device → Kept → Standing → Type 0

@@ -50,9 +50,10 @@ use x509_cert_parts::{Raw, SubjectPublicKeyInfo};
 ///
 /// # Errors
 ///
-/// `Device` where a device had failed the bundle; `OutOfMemory` where want of memory had, or where
-/// a certificate's extensions found none, which may take it: then the judge was asked about the
-/// certificates before, which keep every rule. Of a stream that isn't whole the judge isn't asked.
+/// `Device` where a device had failed the bundle; `OutOfMemory` where a lack of memory had, or
+/// where a certificate's extensions found none, which may take it: then the judge was asked about
+/// the certificates before, which keep every rule. Of a stream that isn't whole the judge isn't
+/// asked.
 pub fn check<J: SignatureJudge>(
     alloc: Global,
     bundle: &Bundle,

@@ -1,4 +1,4 @@
--- Orders of which a chain is issued, want of memory aside.
+-- Orders of which a chain is issued, out of memory aside.
 use Rattle.std.specs.Prelude.{◌≡◌, ℕ, ◌<◌, List, length, map, None, Some, slice_get}
 use Rattle.const_oid.specs.Bound.{Bound}
 use Rattle.der_core_head.specs.BitStrings.{Bits, IsBits}
@@ -50,7 +50,7 @@ module _ {S : Type 0} (key : S → PublicKey) (algorithm : S → Algorithm)
     pub each : (place : ℕ) → place < length asked
         → IsIssuableAt algorithm signs may_refuse asked signers place
 
-  -- For such orders none of the reasons holds, but want of memory.
+  -- For such orders none of the reasons holds, but out of memory.
   abbrev pub IssuableIsIssued : Type 0
   IssuableIsIssued = (orders : List Order) (signers : List S) (e : IssueError)
       → AreIssuable orders signers → Refuses key algorithm signs may_refuse orders signers e

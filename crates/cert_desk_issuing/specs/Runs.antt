@@ -33,7 +33,7 @@ abbrev pub signing_keys : List Order → List PublicKey
 signing_keys orders = map key_of (take (signers_for (length orders)) orders)
 
 -- What becomes of orders whose own keys sign, each by digests: a chain that holds them, or why
--- there is none. No such signer refuses, want of memory isn't told as a refusal, and orders that
+-- there is none. No such signer refuses, out of memory isn't told as a refusal, and orders that
 -- are accepted and whose lengths fit aren't refused.
 abbrev pub OrdersBecome : List Order → Outcome → Type 0
 OrdersBecome orders (outcomes.Issued issued) =

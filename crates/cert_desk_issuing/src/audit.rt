@@ -33,7 +33,7 @@ impl Issued {
     /// within the limit, and the judge says yes to each signature under the ordered key.
     ///
     /// # Errors
-    /// Want of memory. The judge wasn't asked, or was about the certificates before some place,
+    /// Out of memory. The judge wasn't asked, or was about the certificates before some place,
     /// which keep every rule.
     pub fn audit<J: SignatureJudge>(
         &self,

@@ -23,7 +23,7 @@ pub(crate) enum Fault {
     DnsName,
     /// The signer has another key.
     KeyMismatch,
-    /// Want of memory.
+    /// Out of memory.
     OutOfMemory,
 }
 

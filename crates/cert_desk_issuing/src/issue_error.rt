@@ -40,7 +40,7 @@ pub enum IssueError {
     /// A length passes 2^32 - 1.
     #[error("order {place}: too long")]
     TooLong { place: usize },
-    /// Want of memory, of this call or of a signer.
+    /// Out of memory, of this call or of a signer.
     #[error("out of memory")]
     OutOfMemory,
 }

@@ -47,7 +47,7 @@ pub(crate) fn add_names<P: BuilderProfile + Drop>(
     requires subject { builder.old.fields.subject ≡ name_plain accepted.now.subject }
     ensures added { OnOk result (builder.new
         ≡ record builder.old { added = names_for role (accepted_plain accepted.now) }) }
-    // Want of memory, or a length passes.
+    // Out of memory, or a length passes.
     ensures stops { IfErr result (λ s. (s ≡ Stop.OutOfMemory) ⊎ ((s ≡ Stop.TooLong)
         × (CanName role (plain_list string_bytes accepted.now.order.now.dns.items) → ⊥))) }
 {

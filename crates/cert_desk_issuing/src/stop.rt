@@ -16,7 +16,7 @@ pub(crate) enum Stop {
     Refused,
     /// A length passes 2^32 - 1.
     TooLong,
-    /// Want of memory.
+    /// Out of memory.
     OutOfMemory,
 }
 
@@ -44,7 +44,7 @@ impl From<Error> for Stop {
     }
 }
 
-/// A profile was right, so what isn't want of memory and no refusal of the signer is a length.
+/// A profile was right, so what isn't out of memory and no refusal of the signer is a length.
 impl From<BuilderError> for Stop {
     ghost from_gives = { λ e s. s ≡ stop_of e };
 

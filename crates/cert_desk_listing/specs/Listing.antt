@@ -1,4 +1,4 @@
--- Listings of certificates, revocation lists and requests, line by line.
+-- Listings of certificates, CRLs and requests, line by line.
 use Rattle.std.specs.Prelude.{ℕ, List, [], ◌++◌, codes, Option, Some, None, Result, Ok, Err}
 use Rattle.std.specs.Prelude.{if◌then◌else◌}
 use Rattle.std.specs.List.{flat_map}
@@ -62,7 +62,7 @@ revoked_line r =
 abbrev pub revoked_lines : List PlainRevoked → List ℕ
 revoked_lines rs = flat_map revoked_line rs
 
--- of a revocation list
+-- of a CRL
 unfoldable pub list_lines : PlainList → List ℕ
 list_lines l =
     alone (codes "list")
@@ -88,7 +88,7 @@ attribute_lines a =
     ++ (if owned_eq (attribute_arcs a) extension_req_arcs
     then flat_map value_lines (attribute_values a) else [])
 
--- of a certification request
+-- of a CSR
 unfoldable pub request_lines : PlainRequest → List ℕ
 request_lines r =
     alone (codes "request")

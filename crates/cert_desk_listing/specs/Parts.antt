@@ -30,7 +30,7 @@ not_after c = (tbs_validity (tbs c)).1.0
 abbrev pub extensions_of : PlainCertificate → List PlainExtension
 extensions_of c = members_in_field (tbs_extensions (tbs c))
 
--- Revocation lists (RFC 5280 5.1), as they are read under `Raw`.
+-- CRLs (RFC 5280 5.1), as they are read under `Raw`.
 abbrev pub raw_certificate_list : ℕ → Shape
 raw_certificate_list bound = sequence (certificate_list_fields bound None)
 

@@ -8,9 +8,9 @@ ghost use Rattle.cert_desk_listing.specs.Kinds.{kind_word};
 pub enum FileKind {
     /// A certificate.
     Certificate,
-    /// A revocation list.
+    /// A CRL.
     List,
-    /// A certification request.
+    /// A CSR.
     Request,
 }
 

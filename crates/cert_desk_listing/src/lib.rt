@@ -1,4 +1,4 @@
-//! Listings: what certificates, revocation lists and requests say, line by line.
+//! Listings: what certificates, CRLs and requests say, line by line.
 #![tactic(auto)]
 
 mod file_kind;

@@ -110,7 +110,7 @@ impl Lines {
         Ok(())
     }
 
-    /// An entry of a revocation list.
+    /// An entry of a CRL.
     fn entry<P>(&mut self, entry: &RevokedCert<P>) -> Result<(), AllocError>
         ensures { OnOk result (string_bytes self.new.text ≡ string_bytes self.old.text
             ++ revoked_line (revoked_cert_plain entry.now)) }
@@ -121,7 +121,7 @@ impl Lines {
         Ok(())
     }
 
-    /// Entries of a revocation list, in their order.
+    /// Entries of a CRL, in their order.
     fn entries<P>(&mut self, entries: &[RevokedCert<P>]) -> Result<(), AllocError>
         ensures { OnOk result (string_bytes self.new.text ≡ string_bytes self.old.text
             ++ revoked_lines (plain_list revoked_cert_plain entries.now)) }
@@ -132,7 +132,7 @@ impl Lines {
         Ok(())
     }
 
-    /// The entries of a revocation list, if there are any.
+    /// The entries of a CRL, if there are any.
     pub(crate) fn any_entries<P>(
         &mut self,
         entries: &Option<Vec<RevokedCert<P>>>,
@@ -149,7 +149,7 @@ impl Lines {
         Ok(())
     }
 
-    /// The extensions of a revocation list, if there are any.
+    /// The extensions of a CRL, if there are any.
     pub(crate) fn any_extensions(
         &mut self,
         extensions: &Option<Extensions>,

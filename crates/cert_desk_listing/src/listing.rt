@@ -37,7 +37,7 @@ pub(crate) fn of_certificate<P: Profile>(
     Ok(lines)
 }
 
-/// The lines of a revocation list.
+/// The lines of a CRL.
 pub(crate) fn of_list<P: Profile>(
     alloc: Global,
     list: &CertificateList<P>,
@@ -55,7 +55,7 @@ pub(crate) fn of_list<P: Profile>(
     Ok(lines)
 }
 
-/// The lines of a certification request.
+/// The lines of a CSR.
 pub(crate) fn of_request(alloc: Global, request: &CertReq) -> Result<Lines, AllocError>
     ensures { IfOk result
         (λ lines. string_bytes lines.text ≡ request_lines (cert_req_plain request.now)) }
@@ -107,7 +107,7 @@ pub fn show_certificate<P: Profile, O: Output>(
     Ok(())
 }
 
-/// Writes the listing of a revocation list: `list`, `issuer`, `this-update`, `next-update` where it
+/// Writes the listing of a CRL: `list`, `issuer`, `this-update`, `next-update` where it
 /// is said, `revoked SERIAL DATE` for each entry, and the extensions of the list as those of a
 /// certificate.
 ///
@@ -130,7 +130,7 @@ pub fn show_list<P: Profile, O: Output>(
     Ok(())
 }
 
-/// Writes the listing of a certification request: `request`, `subject`, `attribute` for each
+/// Writes the listing of a CSR: `request`, `subject`, `attribute` for each
 /// attribute, and behind that of a request for extensions (1.2.840.113549.1.9.14) the extensions of
 /// each value that is read as extensions, as those of a certificate.
 ///

@@ -40,7 +40,7 @@ fn certificate_in(alloc: Global, octets: &[u8]) -> Finding
     }
 }
 
-// Reads a revocation list, all of the octets.
+// Reads a CRL, all of the octets.
 fn list_of(alloc: Global, octets: &[u8]) -> Result<CertificateList<Raw>, Error>
     ensures spelled { IfOk result
         (λ l. Spells (raw_certificate_list Bound) (certificate_list_plain l) octets.now) }
@@ -50,7 +50,7 @@ fn list_of(alloc: Global, octets: &[u8]) -> Result<CertificateList<Raw>, Error>
     CertificateList::<Raw>::from_der(alloc, octets)
 }
 
-// The revocation list that these octets spell.
+// The CRL that these octets spell.
 fn list_in(alloc: Global, octets: &[u8]) -> Finding
     ensures { IsRead kinds.List octets.now result }
 {
@@ -68,7 +68,7 @@ fn list_in(alloc: Global, octets: &[u8]) -> Finding
     }
 }
 
-// The certification request that these octets spell.
+// The CSR that these octets spell.
 fn request_in(alloc: Global, octets: &[u8]) -> Finding
     ensures { IsRead kinds.Request octets.now result }
 {

@@ -41,8 +41,8 @@ impl Answer {
             && self.key == *key
     }
 
-    // How it is ordered beside a signature: by the octets that are signed, then the bits of the
-    // signature, then those of the key.
+    /// How it is ordered beside a signature: by the octets that are signed, then the bits of the
+    /// signature, then those of the key.
     pub fn ordering(&self, key: &SubjectPublicKeyInfo, signed: &[u8], bits: &BitString) -> Ordering
         ensures { result ≡ rank_cmp (answer_rank self.now) (rank (key_plain key.now) signed.now
             bits.now) }

@@ -10,7 +10,7 @@ use crate::answer::Answer;
 use der_types_values::BitString;
 use x509_cert_parts::{AlgorithmIdentifier, SubjectPublicKeyInfo};
 
-// Answers in their order.
+/// Answers in their order.
 #[derive(Debug, Drop)]
 pub struct AnswerTable {
     sorted: Vec<Answer>,

@@ -17,19 +17,22 @@ use std::collections::BTreeSet;
 use x509_cert_certificates::CertificateInner;
 use x509_cert_parts::{Extension, Raw};
 
-// Below 2.5.29 (RFC 5280 4.2.1.3, 4.2.1.6, 4.2.1.9, 4.2.1.12).
+/// The last arc of keyUsage, below 2.5.29 (RFC 5280 4.2.1.3).
 pub const KEY_USAGE: u8 = 15;
 
+/// That of subjectAltName (4.2.1.6).
 pub const SUBJECT_ALT_NAME: u8 = 17;
 
+/// That of basicConstraints (4.2.1.9).
 pub const BASIC_CONSTRAINTS: u8 = 19;
 
+/// That of extKeyUsage (4.2.1.12).
 pub const EXT_KEY_USAGE: u8 = 37;
 
 // Up to so many extensions each is compared with each.
 const FEW: usize = 16;
 
-// The extensions, in their order. Where the field is absent there are none.
+/// The extensions, in their order. Where the field is absent there are none.
 pub fn extensions_of(certificate: &CertificateInner<Raw>) -> &[Extension]
     ensures { extensions_plain result.now ≡ extensions_of (certificate_plain certificate.now) }
 {
@@ -39,8 +42,8 @@ pub fn extensions_of(certificate: &CertificateInner<Raw>) -> &[Extension]
     }
 }
 
-// The first extension whose identifier one behind it has. It takes n log n comparisons, and memory
-// for more extensions than a few.
+/// The first extension whose identifier one behind it has. It takes n log n comparisons, and memory
+/// for more extensions than a few.
 pub fn first_twin(alloc: Global, extensions: &[Extension]) -> Result<Option<usize>, AllocError>
     ensures distinct { IfOk result (λ twin. not (is_some twin)
         ≡ are_distinct (extensions_plain extensions.now)) }

@@ -40,7 +40,7 @@ type NameLent<'a> = OneOf8<
 /// What is found in the extensions of a certificate. Each is read once.
 ///
 /// # Errors
-/// Want of memory.
+/// Out of memory.
 pub fn findings_of(
     alloc: Global,
     extensions: &[Extension],

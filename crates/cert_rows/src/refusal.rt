@@ -12,7 +12,7 @@ use std::str::Utf8Error;
 pub enum Refusal {
     /// The question is none.
     Unread,
-    /// Want of memory.
+    /// Out of memory.
     Memory,
     /// A call that found no memory changed something.
     Changed,

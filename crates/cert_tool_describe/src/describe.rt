@@ -2,7 +2,7 @@
 
 use crate::lines::Lines;
 
-// The content of an extension, or a key.
+/// The content of an extension, or a key.
 pub trait Describe {
     // Adds its lines.
     fn describe(&self, lines: &mut Lines);

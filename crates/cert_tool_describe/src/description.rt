@@ -57,8 +57,8 @@ fn add_signed(lines: &mut Lines, signed: &TbsCertificateInner<Raw>) {
     }
 }
 
-// Adds what a certificate says, and digests of its octets and of its key; answers why the octets
-// are none, if they aren't.
+/// Adds what a certificate says, and digests of its octets and of its key; answers why the octets
+/// are none, if they aren't.
 pub fn add_certificate(lines: &mut Lines, octets: &[u8]) -> Option<ErrorKind> {
     let certificate = match CertificateInner::<Raw>::from_der(lines.alloc, octets) {
         Ok(certificate) => certificate,

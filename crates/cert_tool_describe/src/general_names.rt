@@ -79,7 +79,7 @@ fn begin_members(lines: &mut Lines, word: &str, key: &str) {
     lines.open();
 }
 
-// Adds a name of any kind, as the member of that kind.
+/// Adds a name of any kind, as the member of that kind.
 pub fn add_general_name(lines: &mut Lines, name: &GeneralName) {
     match name {
         GeneralName::Rfc822Name(address) => {

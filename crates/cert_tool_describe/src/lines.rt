@@ -12,12 +12,12 @@ use x509_cert_parts::Time;
 // The digits in base 16.
 const DIGITS: [u8; 16] = *b"0123456789ABCDEF";
 
-// A text that is added to, part by part. Where there is no memory for something, that is noted, and
-// `finish` is refused; so what adds to it has no error of its own.
-//
-// As lines, parts stand behind a margin, and values behind words, with a blank between them. As
-// JSON, what stands between `open` and `close` are the members of an object, each begun by its key,
-// and between `list` and `end_list` the items of an array. The document is one object.
+/// A text that is added to, part by part. Where there is no memory for something, that is noted,
+/// and `finish` is refused; so what adds to it has no error of its own.
+///
+/// As lines, parts stand behind a margin, and values behind words, with a blank between them. As
+/// JSON, what stands between `open` and `close` are the members of an object, each begun by its
+/// key, and between `list` and `end_list` the items of an array. The document is one object.
 #[derive(Drop)]
 pub struct Lines {
     pub alloc: Global,
@@ -33,7 +33,7 @@ pub struct Lines {
 }
 
 impl Lines {
-    // No lines yet, or the beginning of a document.
+    /// No lines yet, or the beginning of a document.
     pub fn new(alloc: Global, is_json: bool) -> Lines {
         let mut lines = Lines {
             alloc,
@@ -49,7 +49,7 @@ impl Lines {
         lines
     }
 
-    // The text of all lines, or the document.
+    /// The text of all lines, or the document.
     pub fn finish(mut self) -> Result<Vec<u8>, AllocError> {
         if self.is_json {
             self.add(b"}\n");
@@ -62,12 +62,12 @@ impl Lines {
         Ok(self.text)
     }
 
-    // Notes that there was no memory for something.
+    /// Notes that there was no memory for something.
     pub fn fail(&mut self) {
         self.has_failed = true;
     }
 
-    // Notes it, if that is why something couldn't be read.
+    /// Notes it, if that is why something couldn't be read.
     pub fn note(&mut self, kind: ErrorKind) {
         if kind == ErrorKind::OutOfMemory {
             self.has_failed = true;
@@ -96,7 +96,7 @@ impl Lines {
         self.is_first = false;
     }
 
-    // Begins a line.
+    /// Begins a line.
     pub fn line(&mut self) {
         if self.is_json {
             return;
@@ -110,7 +110,7 @@ impl Lines {
         self.is_first = true;
     }
 
-    // Adds a word to a line, if it is one.
+    /// Adds a word to a line, if it is one.
     pub fn word(&mut self, word: &str) {
         if !self.is_json && !word.is_empty() {
             self.part(b' ');
@@ -118,7 +118,7 @@ impl Lines {
         }
     }
 
-    // Adds to a line what stands right behind what is there, and before the next part.
+    /// Adds to a line what stands right behind what is there, and before the next part.
     pub fn tail(&mut self, tail: &str) {
         if !self.is_json {
             self.add(tail.as_bytes());
@@ -126,7 +126,7 @@ impl Lines {
         }
     }
 
-    // Begins a member of an object.
+    /// Begins a member of an object.
     pub fn key(&mut self, key: &str) {
         if self.is_json {
             self.part(b',');
@@ -136,28 +136,28 @@ impl Lines {
         }
     }
 
-    // Begins a member on a line of its own, which a word begins.
+    /// Begins a member on a line of its own, which a word begins.
     pub fn row(&mut self, word: &str, key: &str) {
         self.line();
         self.word(word);
         self.key(key);
     }
 
-    // Begins an item of an array on a line of its own, which a word begins.
+    /// Begins an item of an array on a line of its own, which a word begins.
     pub fn item(&mut self, word: &str) {
         self.comma();
         self.line();
         self.word(word);
     }
 
-    // Begins an item of an array, whose lines are those of its members.
+    /// Begins an item of an array, whose lines are those of its members.
     pub fn comma(&mut self) {
         if self.is_json {
             self.part(b',');
         }
     }
 
-    // Begins an object: the lines of its members stand where they stood.
+    /// Begins an object: the lines of its members stand where they stood.
     pub fn brace(&mut self) {
         if self.is_json {
             self.add_one(b'{');
@@ -165,7 +165,7 @@ impl Lines {
         }
     }
 
-    // Ends such an object.
+    /// Ends such an object.
     pub fn end_brace(&mut self) {
         if self.is_json {
             self.add_one(b'}');
@@ -173,31 +173,31 @@ impl Lines {
         }
     }
 
-    // Begins an object: the lines of its members stand deeper.
+    /// Begins an object: the lines of its members stand deeper.
     pub fn open(&mut self) {
         self.depth = self.depth.saturating_add(1);
         self.brace();
     }
 
-    // Ends such an object.
+    /// Ends such an object.
     pub fn close(&mut self) {
         self.depth = self.depth.saturating_sub(1);
         self.end_brace();
     }
 
-    // Begins a member that is an object, on a line of its own.
+    /// Begins a member that is an object, on a line of its own.
     pub fn node(&mut self, word: &str, key: &str) {
         self.row(word, key);
         self.open();
     }
 
-    // Begins an item that is an object, on a line of its own.
+    /// Begins an item that is an object, on a line of its own.
     pub fn entry(&mut self, word: &str) {
         self.item(word);
         self.open();
     }
 
-    // Begins a member that is an array.
+    /// Begins a member that is an array.
     pub fn list(&mut self, key: &str) {
         if self.is_json {
             self.key(key);
@@ -206,7 +206,7 @@ impl Lines {
         }
     }
 
-    // Ends an array.
+    /// Ends an array.
     pub fn end_list(&mut self) {
         if self.is_json {
             self.add_one(b']');
@@ -214,7 +214,7 @@ impl Lines {
         }
     }
 
-    // Begins a value that is a text.
+    /// Begins a value that is a text.
     pub fn begin(&mut self) {
         if self.is_json {
             self.add_one(b'"');
@@ -223,19 +223,19 @@ impl Lines {
         }
     }
 
-    // Ends a value that is a text.
+    /// Ends a value that is a text.
     pub fn end(&mut self) {
         if self.is_json {
             self.add_one(b'"');
         }
     }
 
-    // Adds a part of a text in which nothing has to be escaped.
+    /// Adds a part of a text in which nothing has to be escaped.
     pub fn push(&mut self, part: &str) {
         self.add(part.as_bytes());
     }
 
-    // Adds a part of a text as it prints itself; nothing in it has to be escaped.
+    /// Adds a part of a text as it prints itself; nothing in it has to be escaped.
     pub fn show<D: fmt::Display + Drop>(&mut self, before: &str, value: D, behind: &str) {
         self.push(before);
         if write!(self.text, "{value}").is_err() {
@@ -244,7 +244,7 @@ impl Lines {
         self.push(behind);
     }
 
-    // Adds an identifier to a text, with its name if it has one.
+    /// Adds an identifier to a text, with its name if it has one.
     pub fn identifier(&mut self, before: &str, identifier: &ObjectIdentifier<39>, behind: &str) {
         self.push(before);
         match known_name(identifier.as_bytes()) {
@@ -257,7 +257,7 @@ impl Lines {
         self.push(behind);
     }
 
-    // Adds a name to a text, or a part of one (RFC 4514), in which a backslash is an escape.
+    /// Adds a name to a text, or a part of one (RFC 4514), in which a backslash is an escape.
     pub fn name<D: fmt::Display>(&mut self, before: &str, name: &D, behind: &str) {
         self.push(before);
         match name.to_string(self.alloc) {
@@ -267,7 +267,8 @@ impl Lines {
         self.push(behind);
     }
 
-    // Adds such a text that was printed: what isn't printable stands as `\XX` on a line, for each octet of UTF-8.
+    // Adds such a text that was printed: what isn't printable stands as `\XX` on a line, for each
+    // octet of UTF-8.
     pub fn printed(&mut self, text: &str) {
         if is_plain(text.as_bytes()) || (!self.is_json && is_ascii_printable(text.as_bytes())) {
             self.push(text);
@@ -278,7 +279,8 @@ impl Lines {
         }
     }
 
-    // Adds a text of a file, on a line with the backslash escaped too: no two texts are alike then.
+    /// Adds a text of a file, on a line with the backslash escaped too: no two texts are alike
+    /// then.
     pub fn plain(&mut self, text: &str) {
         if is_plain(text.as_bytes()) {
             self.push(text);
@@ -289,7 +291,7 @@ impl Lines {
         }
     }
 
-    // Adds a character of such a text.
+    /// Adds a character of such a text.
     pub fn letter(&mut self, letter: char) {
         if letter == '\\' && !self.is_json {
             self.push("\\5C");
@@ -362,7 +364,7 @@ impl Lines {
         }
     }
 
-    // Adds octets in base 16, with this between them, if anything.
+    /// Adds octets in base 16, with this between them, if anything.
     pub fn pairs(&mut self, before: &str, octets: &[u8], separator: Option<u8>) {
         self.push(before);
         match (separator, octets) {
@@ -374,21 +376,21 @@ impl Lines {
         }
     }
 
-    // Adds a value that is a text of the program's own.
+    /// Adds a value that is a text of the program's own.
     pub fn text(&mut self, text: &str) {
         self.begin();
         self.push(text);
         self.end();
     }
 
-    // Adds a value as it prints itself.
+    /// Adds a value as it prints itself.
     pub fn value<D: fmt::Display + Drop>(&mut self, value: D) {
         self.begin();
         self.show("", value, "");
         self.end();
     }
 
-    // Adds a number in decimal.
+    /// Adds a number in decimal.
     pub fn count(&mut self, count: u64) {
         if !self.is_json {
             self.part(b' ');
@@ -396,7 +398,7 @@ impl Lines {
         self.show("", count, "");
     }
 
-    // Adds whether something holds.
+    /// Adds whether something holds.
     pub fn truth(&mut self, holds: bool) {
         if self.is_json {
             self.push(if holds { "true" } else { "false" });
@@ -405,7 +407,7 @@ impl Lines {
         }
     }
 
-    // Adds a member that tells whether something holds: these words, where it does.
+    /// Adds a member that tells whether something holds: these words, where it does.
     pub fn mark(&mut self, words: &str, key: &str, holds: bool) {
         self.key(key);
         if self.is_json {
@@ -415,19 +417,19 @@ impl Lines {
         }
     }
 
-    // Adds that a content isn't what it should be.
+    /// Adds that a content isn't what it should be.
     pub fn malformed(&mut self, key: &str, kind: ErrorKind) {
         self.note(kind);
         self.line();
         self.mark("malformed", key, true);
     }
 
-    // Adds a date.
+    /// Adds a date.
     pub fn date(&mut self, date: &Time) {
         self.value(date);
     }
 
-    // Adds an octet of a value that begins at an offset of a file.
+    /// Adds an octet of a value that begins at an offset of a file.
     pub fn place(&mut self, offset: u64, octet: u64) {
         self.word("octet");
         if self.is_json || offset > 0 {
@@ -439,7 +441,7 @@ impl Lines {
         self.count(octet);
     }
 
-    // Adds the members of an identifier: itself, and its name if it has one.
+    /// Adds the members of an identifier: itself, and its name if it has one.
     pub fn members_of(&mut self, identifier: &ObjectIdentifier<39>) {
         if self.is_json {
             self.key("id");
@@ -454,36 +456,36 @@ impl Lines {
         }
     }
 
-    // Adds a text of a file.
+    /// Adds a text of a file.
     pub fn plain_value(&mut self, text: &str) {
         self.begin();
         self.plain(text);
         self.end();
     }
 
-    // Adds the text of a name, or of a part of one.
+    /// Adds the text of a name, or of a part of one.
     pub fn name_value<D: fmt::Display>(&mut self, name: &D) {
         self.begin();
         self.name("", name, "");
         self.end();
     }
 
-    // Adds octets in base 16, with a colon between them.
+    /// Adds octets in base 16, with a colon between them.
     pub fn octets(&mut self, octets: &[u8]) {
         self.begin();
         self.pairs("", octets, Some(b':'));
         self.end();
     }
 
-    // Adds a number in base 16, of its octets, behind `0x`.
+    /// Adds a number in base 16, of its octets, behind `0x`.
     pub fn natural(&mut self, octets: &[u8]) {
         self.begin();
         self.pairs("0x", octets, None);
         self.end();
     }
 
-    // Adds a number in base 16, of the octets of an INTEGER: as OpenSSL prints it, without a zero
-    // octet in front, and below zero the amount behind a sign.
+    /// Adds a number in base 16, of the octets of an INTEGER: as OpenSSL prints it, without a zero
+    /// octet in front, and below zero the amount behind a sign.
     pub fn number(&mut self, octets: &[u8]) {
         match octets {
             [0, rest @ ..] if !rest.is_empty() => self.natural(rest),
@@ -516,7 +518,7 @@ impl Lines {
         }
     }
 
-    // Adds an array of those that hold of these, a line each, which a word begins.
+    /// Adds an array of those that hold of these, a line each, which a word begins.
     pub fn flags(&mut self, word: &str, key: &str, flags: &[(bool, &str)]) {
         self.list(key);
         for (holds, name) in flags {
@@ -528,7 +530,7 @@ impl Lines {
         self.end_list();
     }
 
-    // Adds the section that says so, if one does.
+    /// Adds the section that says so, if one does.
     pub fn section(&mut self, section: &str) {
         if self.is_json && !section.is_empty() {
             self.key("section");
@@ -538,7 +540,7 @@ impl Lines {
         }
     }
 
-    // Adds an item that says this.
+    /// Adds an item that says this.
     pub fn finding(&mut self, finding: &str) {
         self.entry("");
         self.key("finding");

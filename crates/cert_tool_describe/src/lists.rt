@@ -1,4 +1,4 @@
-//! Revocation lists (RFC 5280 5): their descriptions.
+//! CRLs (RFC 5280 5): their descriptions.
 
 use crate::algorithms::{add_algorithm, add_signature};
 use crate::contents::add_extensions;
@@ -79,13 +79,13 @@ fn add_signed(lines: &mut Lines, signed: &TbsCertList<Raw>) {
     }
 }
 
-// The list that octets spell.
+/// The list that octets spell.
 pub fn list_of(alloc: Global, octets: &[u8]) -> Result<CertificateList<Raw>, Error> {
     FromDer::from_der(alloc, octets)
 }
 
-// Adds what a list says, and digests of its octets; answers why the octets are none, if they
-// aren't.
+/// Adds what a list says, and digests of its octets; answers why the octets are none, if they
+/// aren't.
 pub fn add_list(lines: &mut Lines, octets: &[u8]) -> Option<ErrorKind> {
     let list = match list_of(lines.alloc, octets) {
         Ok(list) => list,

@@ -1,4 +1,4 @@
-//! Descriptions of certification requests (RFC 2986).
+//! Descriptions of CSRs (RFC 2986).
 
 use crate::algorithms::add_signature;
 use crate::contents::add_extensions;
@@ -69,8 +69,8 @@ fn add_info(lines: &mut Lines, info: &CertReqInfo) {
     lines.end_list();
 }
 
-// Adds what a request says, and digests of its octets and of its key; answers why the octets are
-// none, if they aren't.
+/// Adds what a request says, and digests of its octets and of its key; answers why the octets are
+/// none, if they aren't.
 pub fn add_request(lines: &mut Lines, octets: &[u8]) -> Option<ErrorKind> {
     let request = match CertReq::try_from_bytes(lines.alloc, octets) {
         Ok(request) => request,

@@ -258,7 +258,7 @@ fn add_key_remarks(lines: &mut Lines, facts: &Facts) {
     );
 }
 
-// Adds what a certificate must not be, though it is read and no rule of a chain forbids it.
+/// Adds what a certificate must not be, though it is read and no rule of a chain forbids it.
 pub fn add_certificate_remarks(lines: &mut Lines, signed: &TbsCertificateInner<Raw>) {
     let mut facts = Facts::new();
     for extension in extensions_of(signed) {

@@ -79,7 +79,7 @@ fn has_timestamps(extension: &Extension) -> bool {
     )
 }
 
-// Why the content of an extension isn't one value of its kind, if it isn't, and the kind is known.
+/// Why the content of an extension isn't one value of its kind, if it isn't, and the kind is known.
 pub fn content_fault(alloc: Global, extension: &Extension) -> Option<Error> {
     let octets = extension.extn_value.as_bytes();
     match number_of(extension) {
@@ -134,8 +134,8 @@ fn root_of(number: u16) -> &'static [Part] {
     }
 }
 
-// Adds that the content of an extension isn't one value of its kind, and why, to a text; answers
-// the section that says so.
+/// Adds that the content of an extension isn't one value of its kind, and why, to a text; answers
+/// the section that says so.
 pub fn add_content_fault(lines: &mut Lines, extension: &Extension, error: &Error) -> &'static str {
     lines.identifier("", &extension.extn_id, " isn't one value of its kind: ");
     let octets = extension.extn_value.as_bytes();

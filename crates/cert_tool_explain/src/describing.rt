@@ -43,8 +43,8 @@ fn refuse<E: Output>(alloc: Global, kind: Kind, octets: &[u8], err: &mut E) -> E
     }
 }
 
-// Writes the description of what these octets spell to `out`, or to `err` why they aren't of the
-// kind, and answers the exit status.
+/// Writes the description of what these octets spell to `out`, or to `err` why they aren't of the
+/// kind, and answers the exit status.
 pub fn describe<O: Output, E: Output>(
     alloc: Global,
     kind: Kind,

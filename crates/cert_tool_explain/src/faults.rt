@@ -225,7 +225,7 @@ fn is_first_of_several(octets: &[u8], error: &Error) -> bool {
     }
 }
 
-// Adds what is wrong with a value that begins at an offset of a file, and the way down to it.
+/// Adds what is wrong with a value that begins at an offset of a file, and the way down to it.
 pub fn add_fault(lines: &mut Lines, octets: &[u8], offset: u64, kind: Node, error: &Error) {
     if octets.is_empty() {
         lines.finding("the file is empty");

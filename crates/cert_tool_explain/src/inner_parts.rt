@@ -2,8 +2,8 @@
 
 use crate::parts::{Node, Part, is_list, parts_of};
 
-// What stands where a part may: its name, and of a choice that of the one which stands, either of
-// which may be empty; and what is inside it.
+/// What stands where a part may: its name, and of a choice that of the one which stands, either of
+/// which may be empty; and what is inside it.
 #[derive(Clone, Copy)]
 pub struct Taken {
     pub name: &'static str,
@@ -37,7 +37,7 @@ fn part_taken(part: &Part, first: u8) -> Option<Taken> {
     }
 }
 
-// The parts that may stand at a place, and behind it.
+/// The parts that may stand at a place, and behind it.
 #[derive(Clone, Copy)]
 pub struct Fields {
     parts: &'static [Part],

@@ -5,8 +5,8 @@
 pub enum Kind {
     /// A certificate.
     Certificate,
-    /// A revocation list.
+    /// A CRL.
     List,
-    /// A certification request.
+    /// A CSR.
     Request,
 }

@@ -1,4 +1,4 @@
-//! What revocation lists must be beyond DER (RFC 5280 5): each that isn't so, as a remark.
+//! What CRLs must be beyond DER (RFC 5280 5): each that isn't so, as a remark.
 
 use crate::attribute_remarks::add_attribute_remarks;
 use crate::certificate_remarks::add_malformed_remarks;

@@ -7,8 +7,8 @@
 ghost use Rattle.std.specs.Prelude.{◌≡◌, map};
 ghost use Rattle.cert_tool_explain.specs.Parts.{inside_of, parts_in, names_of, is_many, part_plain};
 
-// What is inside a value; `Leaf` where no parts are that have names. Behind an explicit tag is one
-// part, and of a choice one part stands.
+/// What is inside a value; `Leaf` where no parts are that have names. Behind an explicit tag is one
+/// part, and of a choice one part stands.
 #[derive(Clone, Copy)]
 pub enum Node {
     Certificate,
@@ -72,8 +72,8 @@ pub enum Node {
     Leaf,
 }
 
-// A part: the first octet of its tag, none where any tag may stand or one of a choice; whether it
-// may be left out; its name; and what is inside it.
+/// A part: the first octet of its tag, none where any tag may stand or one of a choice; whether it
+/// may be left out; its name; and what is inside it.
 pub type Part = (Option<u8>, bool, &'static str, Node);
 
 const CERTIFICATE: [Part; 3] = [

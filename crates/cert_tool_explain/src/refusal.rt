@@ -31,8 +31,8 @@ fn without_mark(octets: &[u8]) -> &[u8] {
     }
 }
 
-// Whether octets are PEM (RFC 7468), of which nothing is read here: a line of theirs begins it, and
-// what stands before is text too.
+/// Whether octets are PEM (RFC 7468), of which nothing is read here: a line of theirs begins it,
+/// and what stands before is text too.
 pub fn is_pem(octets: &[u8]) -> bool {
     let mut rest = without_mark(octets);
     let mut begins_line = true;
@@ -51,7 +51,8 @@ pub fn is_pem(octets: &[u8]) -> bool {
     false
 }
 
-// Adds what is wrong with a certificate that begins at an offset of a file, and the way down to it.
+/// Adds what is wrong with a certificate that begins at an offset of a file, and the way down to
+/// it.
 pub fn add_certificate_fault(lines: &mut Lines, octets: &[u8], offset: u64, error: &Error) {
     add_fault(lines, octets, offset, Node::Certificate, error);
 }
@@ -119,9 +120,9 @@ fn add_findings(lines: &mut Lines, octets: &[u8], kind: Kind) {
     }
 }
 
-// Why octets aren't of a kind: the first fault, the octet where it stands, and the parts around it,
-// from the outermost on. Of octets that are of the kind it says so, and what RFC 5280 asks for
-// beyond that.
+/// Why octets aren't of a kind: the first fault, the octet where it stands, and the parts around
+/// it, from the outermost on. Of octets that are of the kind it says so, and what RFC 5280 asks for
+/// beyond that.
 pub fn explain_octets(
     alloc: Global,
     octets: &[u8],

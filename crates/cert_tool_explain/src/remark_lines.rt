@@ -5,10 +5,10 @@ use std::alloc::Global;
 use std::collections::BTreeMap;
 use x509_cert_parts::{Extension, Time};
 
-// A remark: whether it is made, and the section that says so.
+/// A remark: whether it is made, and the section that says so.
 pub type Remark = (bool, &'static str, &'static str);
 
-// Begins a remark.
+/// Begins a remark.
 pub fn begin_remark(lines: &mut Lines) {
     lines.entry("remark:");
     lines.key("remark");
@@ -21,7 +21,7 @@ pub fn end_text(lines: &mut Lines, section: &str) {
     lines.section(section);
 }
 
-// Ends it.
+/// Ends it.
 pub fn end_remark(lines: &mut Lines, section: &str) {
     end_text(lines, section);
     lines.close();
@@ -85,7 +85,7 @@ pub fn add_serial_remarks(lines: &mut Lines, serial: &[u8]) {
     );
 }
 
-// Texts of octets that were seen.
+/// Texts of octets that were seen.
 #[derive(Drop)]
 pub struct Seen {
     texts: BTreeMap<Vec<u8>, ()>,

@@ -5,7 +5,7 @@ use crate::parts::Part;
 use der_core::{Error, ErrorKind, Tag, header_of};
 use std::alloc::{AllocError, Global};
 
-// A value among others that stand one behind the other.
+/// A value among others that stand one behind the other.
 #[derive(Clone, Copy)]
 pub struct Value {
     // Where it begins, and where its content begins and ends.
@@ -89,7 +89,7 @@ pub fn is_followed(octets: &[u8], place: usize) -> bool {
     }
 }
 
-// A value that stands where it may.
+/// A value that stands where it may.
 #[derive(Clone, Copy)]
 pub struct Step {
     pub taken: Taken,
@@ -197,7 +197,7 @@ fn find(octets: &[u8], start: usize, fields: Fields, sought: Sought) -> Found {
     Found::Between(at, fields)
 }
 
-// The way down to a fault.
+/// The way down to a fault.
 #[derive(Drop)]
 pub struct Way {
     // The values around it, from the outermost on.

@@ -8,7 +8,7 @@ use Rattle.cert_tool_runs.specs.declared.no_answers.NoAnswers.{NoAnswers}
 use Rattle.cert_tool_runs.specs.declared.no_answers.NoAnswers.TheVariants as reasons
 use Rattle.cert_tool_runs.specs.AnswerLines.{file_says, line_says}
 
--- what is read fails by the fault of an error, unless that is want of memory
+-- what is read fails by the fault of an error, unless that is out of memory
 abbrev pub FailsBy : {A : Type 0} → Result A LineFault → LineError → Type 0
 FailsBy read (errors.Fault fault) = read ≡ Err fault
 FailsBy read errors.OutOfMemory = Unit {0}

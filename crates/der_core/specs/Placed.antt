@@ -46,7 +46,7 @@ abbrev pub AllValid : {A : Type 0} (s : Shape) → (A → Value s) → List A �
 AllValid s f xs = AllByRecursion (λ x. IsValid s (f x)) xs
 
 -- why a member isn't placed among others: its encoding stands there, or not all have an encoding,
--- as where one has 2^32 octets or more; or want of memory
+-- as where one has 2^32 octets or more; or out of memory
 abbrev pub IsNotPlaced : {A : Type 0} (s : Shape) → (A → Value s) → A → List A → Error → Type 0
 IsNotPlaced s f x others e =
     (e.kind ≡ kinds.OutOfMemory)

@@ -9,7 +9,7 @@ use std::alloc::{AllocError, Global};
 /// Copies of the members of a list, each made by `copy`.
 ///
 /// # Errors
-/// Want of memory.
+/// Out of memory.
 pub fn copies_of<T: Shaped + Drop, F: Fn(&T, Global) -> Result<T, AllocError>>(
     alloc: Global,
     members: &[T],
@@ -31,7 +31,7 @@ pub fn copies_of<T: Shaped + Drop, F: Fn(&T, Global) -> Result<T, AllocError>>(
 /// A copy of what stands, made by `copy`, where something does.
 ///
 /// # Errors
-/// Want of memory.
+/// Out of memory.
 pub fn copy_of_option<T: Shaped + Drop, F: Fn(&T, Global) -> Result<T, AllocError>>(
     alloc: Global,
     value: &Option<T>,
@@ -51,7 +51,7 @@ pub fn copy_of_option<T: Shaped + Drop, F: Fn(&T, Global) -> Result<T, AllocErro
 /// Copies of the members of a list, each made by `copy`, where there is a list.
 ///
 /// # Errors
-/// Want of memory.
+/// Out of memory.
 pub fn copies_of_option<T: Shaped + Drop, F: Fn(&T, Global) -> Result<T, AllocError>>(
     alloc: Global,
     members: &Option<Vec<T>>,

@@ -103,7 +103,7 @@ pub trait FromDer<'a>: Decode<'a, SliceReader<'a>> {
         ensures only { (v : Value Self.shape) → is_apart Self.shape ≡ true
             → are_enough Self.shape levels_max ≡ true
             → Spells Self.shape v bytes.now → Gives Self.plain result (Ok v) }
-        // What is refused for another reason than want of memory is spelled by no value.
+        // What is refused for another reason than out of memory is spelled by no value.
         ensures refused { is_apart Self.shape ≡ true → are_enough Self.shape levels_max ≡ true
             → IfErr result (λ e. e.kind ≢ OutOfMemory
             → (v : Value Self.shape) → Spells Self.shape v bytes.now → ⊥) }

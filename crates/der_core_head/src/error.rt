@@ -38,7 +38,7 @@ pub enum ErrorKind {
     /// An object identifier to which the caller's protocol gives no meaning. No call of these
     /// crates answers it.
     OidUnknown,
-    /// Want of memory.
+    /// Out of memory.
     OutOfMemory,
     /// A sum past the greatest length, or a difference below zero.
     Overflow,
@@ -118,7 +118,7 @@ impl Error {
         ErrorKind::Incomplete.at(actual_len)
     }
 
-    /// The error with a place in the input, where it has none. Want of memory has none.
+    /// The error with a place in the input, where it has none. Out of memory has none.
     ///
     /// It isn't inlined, so that a value that was read isn't moved in the pieces of an error.
     #[inline(never)]

@@ -87,7 +87,7 @@ impl BytesOwned {
     /// A copy.
     ///
     /// # Errors
-    /// Want of memory.
+    /// Out of memory.
     pub fn clone(&self, alloc: Global) -> Result<BytesOwned, AllocError>
         ensures { IfOk result (λ copy. copy ≡ self.now) }
     {

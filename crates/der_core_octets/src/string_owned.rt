@@ -72,7 +72,7 @@ impl StringOwned {
     /// A copy.
     ///
     /// # Errors
-    /// Want of memory.
+    /// Out of memory.
     pub fn clone(&self, alloc: Global) -> Result<StringOwned, AllocError>
         ensures { IfOk result (λ copy. copy ≡ self.now) }
     {

@@ -12,7 +12,7 @@ use std::num::ParseIntError;
 pub enum Refusal {
     /// The question is none, or of no type that is known.
     Unread,
-    /// Want of memory.
+    /// Out of memory.
     Memory,
     /// A call that found no memory changed something.
     Changed,

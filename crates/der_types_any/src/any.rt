@@ -121,7 +121,7 @@ impl Any {
     /// A copy.
     ///
     /// # Errors
-    /// Want of memory.
+    /// Out of memory.
     pub fn clone(&self, alloc: Global) -> Result<Any, AllocError>
         ensures { IfOk result (λ a. a ≡ self.now) }
     {

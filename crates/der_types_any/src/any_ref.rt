@@ -211,7 +211,7 @@ impl<'a> AnyRef<'a> {
     /// A copy of the value that owns its octets.
     ///
     /// # Errors
-    /// Want of memory.
+    /// Out of memory.
     pub fn ref_to_owned(&self, alloc: Global) -> Result<Any, AllocError>
         ensures { IfOk result (λ a. a ≡ any_lent self.now) }
     {

@@ -47,7 +47,7 @@ impl Octets {
     /// A copy of octets.
     ///
     /// # Errors
-    /// Want of memory, for more than 30 of them.
+    /// Out of memory, for more than 30 of them.
     pub(crate) fn copy_of(alloc: Global, octets: &[u8]) -> Result<Octets, AllocError>
         ensures { IfOk result (λ o. o ≡ octets.now) }
     {

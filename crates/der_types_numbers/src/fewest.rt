@@ -96,7 +96,7 @@ pub fn lead_of(octets: &[u8]) -> Option<u8>
 /// The content of a number whose digits in base 256 these are.
 ///
 /// # Errors
-/// Want of memory.
+/// Out of memory.
 #[tactic(auto, using(crate::proofs::Naturals::natural_contents))]
 pub fn content_of(alloc: Global, octets: &[u8]) -> Result<Vec<u8>, AllocError>
     requires { octets.now ≡ digits 256 (number_from_digits 256 octets.now) }

@@ -86,7 +86,7 @@ impl<'a> IntRef<'a> {
     /// A copy of the number that owns its octets.
     ///
     /// # Errors
-    /// Want of memory.
+    /// Out of memory.
     pub fn ref_to_owned(&self, alloc: Global) -> Result<Int, AllocError>
         ensures { IfOk result (λ n. n ≡ integer_lent self.now) }
     {

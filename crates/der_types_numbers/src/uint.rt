@@ -73,7 +73,7 @@ impl Uint {
     /// A copy.
     ///
     /// # Errors
-    /// Want of memory.
+    /// Out of memory.
     pub fn clone(&self, alloc: Global) -> Result<Uint, AllocError>
         ensures { IfOk result (λ n. n ≡ self.now) }
     {

@@ -89,7 +89,7 @@ impl<'a> UintRef<'a> {
     /// A copy of the number that owns its octets.
     ///
     /// # Errors
-    /// Want of memory.
+    /// Out of memory.
     pub fn ref_to_owned(&self, alloc: Global) -> Result<Uint, AllocError>
         ensures { IfOk result (λ n. n ≡ natural_lent self.now) }
     {

@@ -58,7 +58,7 @@ pub record IsLent {A : Type 0} (s : Shape) (f : A → Value s) (l : Lent A) : Ty
   pub ascend : Ascends s f l.values
   pub joined : JoinsAscending s (members_spelled s l) l.octets
 
--- a refusal that is want of memory
+-- a refusal that is out of memory
 abbrev pub IsWantOfMemory : Error → Type 0
 IsWantOfMemory e = e.kind ≡ kinds.OutOfMemory
 
@@ -74,7 +74,7 @@ pub record HasFalling (s : Shape) (v : List (Value s)) (k : ErrorKind) : Type 0 
   pub here : slice_get v index ≡ Some value
   pub refused : write s value (record { written = []; room = None; failed = false }) ≡ Err k
 
--- The values were not written: for want of memory, since one of them has a strict set that doesn't
+-- The values were not written: for out of memory, since one of them has a strict set that doesn't
 -- rise, or since a length passes what a length can count.
 abbrev pub IsUnwritten : (s : Shape) → List (Value s) → Error → Type 0
 IsUnwritten s v e = (IsWantOfMemory e ⊎ HasFalling s v e.kind)

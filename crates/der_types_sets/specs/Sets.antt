@@ -85,7 +85,7 @@ ReadsArranged s plain written old new (Err e) f read =
     (old.failed ≡ false → Fails e.kind (f old.rest) ⊎ (IsBer old × TooLong s written read e))
     × Kept old new × (old.failed ≡ true → e.kind ≡ kinds.Failed) × (new.failed ≡ true)
 
--- An item that is too long, or want of memory.
+-- An item that is too long, or out of memory.
 abbrev pub IsRefusal : {A : Type 0} (s : Shape) → (A → Value s) → List A → Error → Type 0
 IsRefusal s f xs e = (e.kind ≡ kinds.OutOfMemory) ⊎ TooLong s f xs e
 
@@ -116,7 +116,7 @@ pub record IsArranged {A : Type 0} (s : Shape) (f : A → Value s) (xs ys : List
 abbrev pub Gains : {A : Type 0} (s : Shape) → (A → Value s) → List A → List A → List A → Type 0
 Gains s f old items new = IsArranged s f (old ++ items) new
 
--- The first of the items, in their order, went into the set, and then one was refused: for want of
+-- The first of the items, in their order, went into the set, and then one was refused: for out of
 -- memory, or since an encoding passes what a length can count.
 abbrev pub StopsAt : {U T A : Type 0} (s : Shape) → (A → Value s) → (U → T → Type 0)
     → (T → Option A → T → Type 0) → U → List A → List A → Error → Type 0

@@ -130,7 +130,7 @@ impl<T: Shaped + Clone + Drop + Default, const N: usize> SetOf<T, N> {
     /// A copy, of a type whose copies are the same. The set itself owns no memory.
     ///
     /// # Errors
-    /// Want of memory, for the members.
+    /// Out of memory, for the members.
     #[tactic(auto, using(crate::proofs::SetSteps::same_copies))]
     pub fn clone(&self) -> Result<SetOf<T, N>, AllocError>
         requires { (x y : T) → T.is_clone x y → y ≡ x }

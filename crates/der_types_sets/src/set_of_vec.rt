@@ -146,7 +146,7 @@ impl<T: Shaped + Clone + Drop> SetOfVec<T> {
     /// A copy, of a type whose copies are the same.
     ///
     /// # Errors
-    /// Want of memory.
+    /// Out of memory.
     pub fn clone(&self, alloc: Global) -> Result<SetOfVec<T>, AllocError>
         requires { (x y : T) → T.is_clone x y → y ≡ x }
         ensures { IfOk result (λ set. set ≡ self.now) }

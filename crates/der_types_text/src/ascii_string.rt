@@ -79,7 +79,7 @@ impl<T: AsciiType> AsciiString<T> {
     /// A copy.
     ///
     /// # Errors
-    /// Want of memory.
+    /// Out of memory.
     pub fn clone(&self, alloc: Global) -> Result<AsciiString<T>, AllocError>
         ensures { IfOk result (λ t. t ≡ self.now) }
     {

@@ -119,7 +119,7 @@ impl<'a, T: AsciiType> AsciiStringRef<'a, T> {
     /// A copy of the text that owns its octets.
     ///
     /// # Errors
-    /// Want of memory.
+    /// Out of memory.
     pub fn ref_to_owned(&self, alloc: Global) -> Result<AsciiString<T>, AllocError>
         ensures { IfOk result (λ t. t ≡ self.now.text.now) }
     {

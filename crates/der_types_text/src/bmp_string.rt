@@ -164,7 +164,7 @@ impl BmpString {
     /// A copy.
     ///
     /// # Errors
-    /// Want of memory.
+    /// Out of memory.
     pub fn clone(&self, alloc: Global) -> Result<BmpString, AllocError>
         ensures { IfOk result (λ s. s ≡ self.now) }
     {

@@ -87,7 +87,7 @@ impl<'a> Utf8StringRef<'a> {
     /// A copy of the text that owns its octets.
     ///
     /// # Errors
-    /// Want of memory.
+    /// Out of memory.
     pub fn ref_to_owned(&self, alloc: Global) -> Result<String, AllocError>
         ensures { IfOk result (λ s. string_bytes s ≡ self.now.text.now) }
     {

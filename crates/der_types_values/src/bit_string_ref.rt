@@ -155,7 +155,7 @@ impl<'a> BitStringRef<'a> {
     /// A copy of the bits that owns its octets.
     ///
     /// # Errors
-    /// Want of memory.
+    /// Out of memory.
     pub fn ref_to_owned(&self, alloc: Global) -> Result<BitString, AllocError>
         ensures { IfOk result (λ b. b ≡ bits_lent self.now) }
     {

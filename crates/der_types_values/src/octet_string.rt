@@ -74,7 +74,7 @@ impl OctetString {
     /// A copy.
     ///
     /// # Errors
-    /// Want of memory.
+    /// Out of memory.
     pub fn clone(&self, alloc: Global) -> Result<OctetString, AllocError>
         ensures { IfOk result (λ o. o ≡ self.now) }
     {

@@ -98,7 +98,7 @@ impl<'a> OctetStringRef<'a> {
     /// A copy of the octets that owns its octets.
     ///
     /// # Errors
-    /// Want of memory.
+    /// Out of memory.
     pub fn ref_to_owned(&self, alloc: Global) -> Result<OctetString, AllocError>
         ensures { IfOk result (λ o. o ≡ octets_lent self.now) }
     {

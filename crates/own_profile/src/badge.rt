@@ -35,7 +35,7 @@ impl BuilderProfile for Badge {
         (⟦<Clearance as Criticality>⟧.is_critical badge.clearance (tbs_subject tbs) [])
         ⟦<Clearance as Shaped>⟧.shape (⟦<Clearance as Shaped>⟧.written badge.clearance) ∷ [] };
 
-    // Want of memory alone: a number has an encoding.
+    // Out of memory alone: a number has an encoding.
     ghost refuses = { λ badge e. IsUnwritten ⟦<Clearance as Shaped>⟧.shape
         (⟦<Clearance as Shaped>⟧.written badge.clearance) e };
 

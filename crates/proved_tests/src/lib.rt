@@ -1,6 +1,6 @@
 //! Tests that need code: of identifiers, of the coding core and of typed values (states after
 //! refusals, closures and iterators), and of readers and writers that fail. What is a table, and
-//! want of memory, stands in `der_rows` and `cert_rows`.
+//! out of memory, stands in `der_rows` and `cert_rows`.
 #![tactic(auto)]
 
 #[cfg(test)]

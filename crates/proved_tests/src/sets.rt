@@ -1,7 +1,7 @@
 //! Sets and lists of bounded room: states after refusals, and iterators.
 //!
 //! What a test asks stands in functions over what it lends, so that a value that has to be dropped
-//! is held by a function that seldom returns early. Want of memory is met by the rows of `der_rows`
+//! is held by a function that seldom returns early. Out of memory is met by the rows of `der_rows`
 //! (`again`, `copy`, `member`), where `audit/rows` refuses each request in turn.
 
 use der_core::{Decode, Encode, EncodeValue, Error, ErrorKind, FromDer, Member, SliceReader};

@@ -1,4 +1,4 @@
-//! Builders of certificates, revocation lists and requests: what a signer is handed are the octets
+//! Builders of certificates, CRLs and requests: what a signer is handed are the octets
 //! of the signed part of what comes out (RFC 5280 4, 5; RFC 2986 4).
 
 pub mod profile;

@@ -1,4 +1,4 @@
-//! Laws of certificates, of their parts, of names and their texts, of revocation lists, requests
+//! Laws of certificates, of their parts, of names and their texts, of CRLs, requests
 //! and trust anchors, for every bound of arcs and every profile, and of timestamps.
 //!
 //! Each is the contract of a function that does nothing.
@@ -50,7 +50,7 @@ pub use x509_cert_timestamps::laws::{
     lists_are_read as timestamp_lists_are_read, spellings_are_read as timestamps_are_read,
 };
 
-/// Octets spell a revocation list, a request or a trust anchor under a narrow bound of arcs exactly
+/// Octets spell a CRL, a request or a trust anchor under a narrow bound of arcs exactly
 /// where they spell it under a wider one and each arc of its identifiers is below the narrow one.
 pub fn wider_bounds_keep_types()
     ensures lists { (small large : ℕ) (limit : Option ℕ)

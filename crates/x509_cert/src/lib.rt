@@ -1,4 +1,4 @@
-//! X.509 certificates, their extensions, revocation lists, requests, trust anchors and timestamps
+//! X.509 certificates, their extensions, CRLs, requests, trust anchors and timestamps
 //! (RFC 5280, RFC 2986, RFC 5914, RFC 6962): what the inner crates have, under one name.
 #![tactic(auto)]
 

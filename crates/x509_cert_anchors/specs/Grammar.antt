@@ -94,7 +94,7 @@ PlainInfo = BodyValue (trust_anchor_info_fields 0 None)
 abbrev pub PlainAnchor : Type 0
 PlainAnchor = Value (trust_anchor_choice 0 None)
 
--- where the dates of the certificate are respelled, or not
+-- where the dates of the certificate are re-encoded, or not
 abbrev pub cert_path_controls_by : Bool → PlainControls → PlainControls
 cert_path_controls_by r c = (c.0, (plain_option (λ x. certificate_by r x) c.1.0, c.1.1))
 

@@ -7,7 +7,7 @@ ghost use Rattle.der_core_head.specs.Shapes.{IsValid};
 ghost use Rattle.x509_cert_anchors.specs.Grammar.{PlainAnchor, trust_anchor_choice};
 ghost use Rattle.x509_cert_anchors.specs.Grammar.{trust_anchor_by};
 
-/// A trust anchor that has an encoding has one where the dates of its certificates are respelled
+/// A trust anchor that has an encoding has one where the dates of its certificates are re-encoded
 /// (RFC 5280 4.1.2.5).
 pub fn respelled_anchors_are_spelled()
     ensures { (bound : ℕ) (limit : Option ℕ) (r : Bool) (a : PlainAnchor)

@@ -49,7 +49,7 @@ abbrev pub MayHave : Option (List PlainGeneralName) → Type 0
 MayHave None = ⊤
 MayHave (Some names) = IsOk (first_module names)
 
--- why it may not; or want of memory
+-- why it may not; or out of memory
 abbrev pub MayNotHave : Option (List PlainGeneralName) → Error → Type 0
 MayNotHave None e = ⊥
 MayNotHave (Some names) e = FailsAs (first_module names) e

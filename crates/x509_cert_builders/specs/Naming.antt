@@ -19,7 +19,7 @@ TypeAndValue = List ℕ × (AnyValue × Unit {0})
 abbrev pub types_of : List TypeAndValue → List (List ℕ)
 types_of r = map (λ (a : TypeAndValue). a.0) r
 
--- the types of a name, relative name by relative name
+-- the types of a name, RDN by RDN
 abbrev pub name_types : PlainName → List (List ℕ)
 name_types n = flat_map types_of n
 
@@ -60,8 +60,8 @@ abbrev pub may_follow : List ℕ → List ℕ → Bool
 may_follow t before = not (is_ordered t) || not (is_ordered before)
     || nat_lt (rank_of before) (rank_of t)
 
--- the type of a relative name's attribute, behind attributes of these types; or why the relative
--- name may not stand there
+-- the type of an RDN's attribute, behind attributes of these types; or why the RDN may not stand
+-- there
 abbrev pub type_behind : Bool → List (List ℕ) → List TypeAndValue → Result (List ℕ) Error
 type_behind repeats before [] = Err errors.NonUniqueRdn
 type_behind repeats before (a ∷ []) =
@@ -69,16 +69,16 @@ type_behind repeats before (a ∷ []) =
     else if list_all (may_follow a.0) before then Ok a.0 else Err (errors.InvalidAttribute a.0)
 type_behind repeats before (a ∷ b ∷ more) = Err errors.NonUniqueRdn
 
--- the type of the relative name at a place of a name, behind those before it, or why it may not
+-- the type of the RDN at a place of a name, behind those before it, or why it may not
 -- stand there
 abbrev pub type_at : Bool → PlainName → ℕ → Result (List ℕ) Error
 type_at repeats n i = type_behind repeats (name_types (take i n)) (get_or n i [])
 
--- every relative name may stand where it stands
+-- every RDN may stand where it stands
 abbrev pub IsNamed : Bool → PlainName → Type 0
 IsNamed repeats n = (i : ℕ) → i < length n → IsOk (type_at repeats n i)
 
--- why the first relative name may not that may not
+-- why the first RDN may not that may not
 abbrev pub IsFirstFault : Bool → PlainName → Error → Type 0
 IsFirstFault repeats n e = (i : ℕ) × (i < length n) × ((j : ℕ) → j < i → IsOk (type_at repeats n j))
     × (type_at repeats n i ≡ Err e)

@@ -15,11 +15,11 @@ abbrev pub IsOfKind : ErrorKind → Error → Type 0
 IsOfKind kind (errors.Asn1 e) = e.kind ≡ kind
 IsOfKind kind _ = ⊥
 
--- want of memory; a signer's own is told as one of its answers
+-- out of memory; a signer's own is told as one of its answers
 abbrev pub IsWantOfMemory : Error → Type 0
 IsWantOfMemory e = IsOfKind kinds.OutOfMemory e
 
--- what becomes of want of memory, where this is what becomes of a fault in DER
+-- what becomes of out of memory, where this is what becomes of a fault in DER
 abbrev pub IsWantOfMemoryAs : {E : Type 0} → (DerError → E → Type 0) → E → Type 0
 IsWantOfMemoryAs becomes e = (w : DerError) × (w.kind ≡ kinds.OutOfMemory) × becomes w e
 
@@ -27,7 +27,7 @@ IsWantOfMemoryAs becomes e = (w : DerError) × (w.kind ≡ kinds.OutOfMemory) ×
 abbrev pub IsFailed : Error → Type 0
 IsFailed e = IsOfKind kinds.Failed e
 
--- why this is none, or want of memory
+-- why this is none, or out of memory
 abbrev pub FailsAs : {X : Type 0} → Result X ErrorKind → Error → Type 0
 FailsAs r (errors.Asn1 e) = Fails e.kind r
 FailsAs r _ = ⊥

@@ -55,17 +55,17 @@ KeepsDistinct {A} whole these =
 abbrev pub may_stay : TypeAndValue → Bool
 may_stay a = is_among (country ∷ common_name ∷ []) a.0
 
--- what is left of a relative name
+-- what is left of an RDN
 abbrev pub left_of : List TypeAndValue → List TypeAndValue
 left_of [] = []
 left_of (a ∷ more) = if may_stay a then a ∷ left_of more else left_of more
 
--- the relative names of which something is left, behind those that stand behind
+-- the RDNs of which something is left, behind those that stand behind
 abbrev pub relative_in_front : List TypeAndValue → PlainName → PlainName
 relative_in_front [] more = more
 relative_in_front (a ∷ r) more = (a ∷ r) ∷ more
 
--- what is left of a name, relative name by relative name
+-- what is left of a name, RDN by RDN
 abbrev pub domain_subject : PlainName → PlainName
 domain_subject [] = []
 domain_subject (r ∷ more) = relative_in_front (left_of r) (domain_subject more)
@@ -82,7 +82,7 @@ AreShort r = AllByRecursion (IsValid (type_and_value Bound)) r
 abbrev pub HasLongAttribute : List TypeAndValue → Error → Type 0
 HasLongAttribute r e = IsOfKind kinds.Overflow e × (AreShort r → ⊥)
 
--- the relative names have the same attributes, each in its own order
+-- the RDNs have the same attributes, each in its own order
 abbrev pub SameAttributes : PlainName → PlainName → Type 0
 SameAttributes [] [] = ⊤
 SameAttributes [] (s ∷ ss) = ⊥

@@ -12,13 +12,13 @@ use std::alloc::{AllocError, AllocFailed};
 /// Why a certificate, a list or a request could not be made.
 #[derive(Debug, Drop, thiserror::Error)]
 pub enum Error {
-    /// A fault in DER, or want of memory.
+    /// A fault in DER, or out of memory.
     #[error("ASN.1: {0}")]
     Asn1(der_core::Error),
     /// The signer gives no signature.
     #[error("signature: {0}")]
     Signature(SignError),
-    /// A relative name that hasn't exactly one attribute.
+    /// An RDN that hasn't exactly one attribute.
     #[error("a relative name hasn't exactly one attribute")]
     NonUniqueRdn,
     /// A type of attribute that the name has twice.

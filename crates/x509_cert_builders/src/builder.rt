@@ -28,7 +28,7 @@ pub trait Builder: Sized + Drop {
     /// What holds besides of a part that was made, as that it has an encoding.
     ghost is_valid: { Self → PublicKey → Algorithm → Type 0 };
 
-    /// Why there may be none, besides want of memory.
+    /// Why there may be none, besides out of memory.
     ghost faults: { Self → PublicKey → Algorithm → Error → Type 0 };
 
     /// The part that was made last, if one was.

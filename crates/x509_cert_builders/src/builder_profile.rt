@@ -8,7 +8,7 @@ use x509_cert_parts::{Extensions, SubjectPublicKeyInfoRef};
 
 /// Which names and which extensions a certificate has that is made.
 ///
-/// Want of memory and the profile's own refusals aside, each answer is a function of what is handed
+/// Out of memory and the profile's own refusals aside, each answer is a function of what is handed
 /// in.
 pub trait BuilderProfile {
     ghost use Rattle.std.specs.Prelude.{◌≡◌, ◌⊎◌, List, Result, Ok, Err, IfOk, IfErr};
@@ -31,13 +31,13 @@ pub trait BuilderProfile {
     // without any.
     ghost extensions: { Self → PublicKey → PublicKey → Tbs → List PlainExtension };
 
-    // Why it may refuse to name the issuer or to give extensions, besides want of memory.
+    // Why it may refuse to name the issuer or to give extensions, besides out of memory.
     ghost refuses: { Self → Error → Type 0 };
 
     /// The issuer's name.
     ///
     /// # Errors
-    /// Those of the profile, and want of memory.
+    /// Those of the profile, and out of memory.
     fn get_issuer(&self, alloc: Global, subject: &Name) -> Result<Name, Error>
         ensures name { IfOk result
             (λ n. name_plain n ≡ issuer_name self.now (name_plain subject.now)) }
@@ -46,7 +46,7 @@ pub trait BuilderProfile {
     /// The subject's name.
     ///
     /// # Errors
-    /// Those of the profile, and want of memory.
+    /// Those of the profile, and out of memory.
     fn get_subject(&self, alloc: Global) -> Result<Name, Error>
         ensures name { IfOk result (λ n. subject_name self.now ≡ Ok (name_plain n)) }
         ensures refused { IfErr result (λ e. IsWantOfMemory e ⊎ (subject_name self.now ≡ Err e)) };
@@ -55,7 +55,7 @@ pub trait BuilderProfile {
     /// be signed, of version 3 and without extensions.
     ///
     /// # Errors
-    /// Those of the profile, and want of memory.
+    /// Those of the profile, and out of memory.
     fn build_extensions<'a, 'b>(
         &self,
         alloc: Global,

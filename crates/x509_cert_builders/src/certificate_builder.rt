@@ -73,7 +73,7 @@ impl<P: BuilderProfile + Drop> CertificateBuilder<P> {
     /// A builder of a certificate with this number, these dates and this key.
     ///
     /// # Errors
-    /// Those of the profile, and want of memory.
+    /// Those of the profile, and out of memory.
     pub fn new(
         alloc: Global,
         profile: P,
@@ -118,7 +118,7 @@ impl<P: BuilderProfile + Drop> CertificateBuilder<P> {
     /// Adds the extension that a value gives.
     ///
     /// # Errors
-    /// Those of the value, and want of memory. The builder is then as it was.
+    /// Those of the value, and out of memory. The builder is then as it was.
     pub fn add_extension<E: ToExtension>(
         &mut self,
         alloc: Global,

@@ -58,7 +58,7 @@ pub fn all_stay(attributes: &[AttributeTypeAndValue]) -> bool
     true
 }
 
-/// The attributes of a relative name that stay.
+/// The attributes of an RDN that stay.
 #[tactic(auto, using(crate::proofs::Lists::plain_pushed, crate::proofs::Subjects::left_more, crate::proofs::Subjects::left_same, crate::proofs::Subjects::distinct_more, crate::proofs::Subjects::distinct_same))]
 fn attributes_left(
     alloc: Global,
@@ -78,7 +78,7 @@ fn attributes_left(
     Ok(left)
 }
 
-/// What is left of a relative name.
+/// What is left of an RDN.
 #[tactic(auto, using(crate::proofs::Subjects::plain_permutation, crate::proofs::Subjects::left_whole))]
 fn left_of(
     alloc: Global,
@@ -100,7 +100,7 @@ fn left_of(
     Ok(RelativeDistinguishedName::try_from_vec(attributes)?)
 }
 
-/// What is left of a name: the relative names of which something is left.
+/// What is left of a name: the RDNs of which something is left.
 #[tactic(auto, using(crate::proofs::Subjects::left_none, crate::proofs::Subjects::left_all))]
 fn name_left(alloc: Global, name: &Name) -> Result<Name, Error>
     ensures left { IfOk result
@@ -123,11 +123,11 @@ fn name_left(alloc: Global, name: &Name) -> Result<Name, Error>
 
 impl CertificateType {
     /// A subscriber of this name whose domains were validated. Attributes but countries and common
-    /// names are left out, and relative names of which nothing is left (7.1.2.7.2). The domains
+    /// names are left out, and RDNs of which nothing is left (7.1.2.7.2). The domains
     /// stand in a certificate only where they are added to its builder.
     ///
     /// # Errors
-    /// Want of memory, or `Asn1` with `Overflow` where an attribute has 2^32 octets or more.
+    /// Out of memory, or `Asn1` with `Overflow` where an attribute has 2^32 octets or more.
     pub fn domain_validated(
         alloc: Global,
         subject: Name,
@@ -148,7 +148,7 @@ impl CertificateType {
         Ok(CertificateType::DomainValidated(DomainValidated { subject, names }))
     }
 
-    /// A copy. Want of memory is the only error.
+    /// A copy. Out of memory is the only error.
     pub fn clone(&self, alloc: Global) -> Result<CertificateType, AllocError>
         ensures { IsCopy self.now result type_plain }
     {

@@ -72,7 +72,7 @@ impl DevId {
     ///
     /// # Errors
     /// `Asn1` with `Failed` where there are names, none of them that of a module; that of the first
-    /// name of a module which is none (`HardwareModuleName::from_other_name`); want of memory.
+    /// name of a module which is none (`HardwareModuleName::from_other_name`); out of memory.
     pub fn new(
         alloc: Global,
         issuer: Name,

@@ -18,7 +18,7 @@ pub struct DomainValidated {
 }
 
 impl DomainValidated {
-    /// A copy. Want of memory is the only error.
+    /// A copy. Out of memory is the only error.
     pub fn clone(&self, alloc: Global) -> Result<DomainValidated, AllocError>
         ensures { IsCopy self.now result domains_plain }
     {

@@ -46,13 +46,13 @@ fn types_of(
     Ok(found.into_types())
 }
 
-/// Checks the rules of all names (7.1.4.1): each relative name has exactly one attribute, no type
+/// Checks the rules of all names (7.1.4.1): each RDN has exactly one attribute, no type
 /// stands twice but where that is allowed, and the types whose order is laid down stand in that
 /// order, each at most once.
 ///
 /// # Errors
-/// At the first relative name that breaks a rule: `NonUniqueRdn`, `NonUniqueATV`, or
-/// `InvalidAttribute` with its type; or want of memory.
+/// At the first RDN that breaks a rule: `NonUniqueRdn`, `NonUniqueATV`, or
+/// `InvalidAttribute` with its type; or out of memory.
 pub fn check_names_encoding(alloc: Global, name: &Name, multiple_allowed: bool) -> Result<(), Error>
     ensures { Names multiple_allowed (name_plain name.now) result }
 {
@@ -90,7 +90,7 @@ fn has_required(found: &[ObjectIdentifier<39>]) -> bool
 ///
 /// # Errors
 /// That of `check_names_encoding`; `InvalidAttribute` with the first type that it may not have;
-/// `MissingAttributes`; or want of memory.
+/// `MissingAttributes`; or out of memory.
 #[tactic(auto, using(crate::proofs::NamingSteps::lacking))]
 pub fn ca_certificate_naming(alloc: Global, subject: &Name) -> Result<(), Error>
     ensures { NamesAuthority (name_plain subject.now) result }

@@ -12,7 +12,7 @@ pub enum SignError {
     /// The signer doesn't sign these octets.
     #[error("the signer refuses")]
     Refused,
-    /// Want of memory.
+    /// Out of memory.
     #[error("out of memory")]
     OutOfMemory,
 }

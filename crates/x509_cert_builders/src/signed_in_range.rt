@@ -22,7 +22,8 @@ fn validity_in_range(dates: &Validity)
 }
 
 fn field_in_range(made: Option<&Extensions>)
-    ensures { IsInRange extensions_field (plain_option (λ e. extensions_plain e.now.items) made.entry) }
+    ensures { IsInRange extensions_field
+        (plain_option (λ e. extensions_plain e.now.items) made.entry) }
 {
     match made {
         Some(extensions) => extensions.in_range(),

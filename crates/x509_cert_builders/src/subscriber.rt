@@ -86,7 +86,7 @@ impl BuilderProfile for Subscriber {
     }
 
     /// # Errors
-    /// `Unsupported` for all kinds but `DomainValidated`, and want of memory.
+    /// `Unsupported` for all kinds but `DomainValidated`, and out of memory.
     fn get_subject(&self, alloc: Global) -> Result<Name, Error> {
         let CertificateType::DomainValidated(validated) = &self.certificate_type else {
             return Err(Error::Unsupported);

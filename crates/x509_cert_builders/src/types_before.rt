@@ -88,7 +88,7 @@ impl TypesBefore {
         self.least <= rank_among(&self.ordered, oid)
     }
 
-    /// The type of a relative name's attribute, behind attributes of these types.
+    /// The type of an RDN's attribute, behind attributes of these types.
     ///
     /// # Errors
     /// `NonUniqueRdn`, `NonUniqueATV`, or `InvalidAttribute` with the type.
@@ -115,7 +115,7 @@ impl TypesBefore {
     /// The types before, and one more behind them.
     ///
     /// # Errors
-    /// Want of memory.
+    /// Out of memory.
     pub(crate) fn and(self, oid: ObjectIdentifier<39>) -> Result<TypesBefore, AllocError>
         ensures { IfOk result (λ t. t ≡ self ++ oid ∷ []) }
     {

@@ -160,7 +160,7 @@ signed_start bound c =
 unfoldable pub signed_length : ℕ → PlainCertificate → ℕ
 signed_length bound c = length (octets_of (raw_tbs_certificate bound) (tbs c))
 
--- where the dates of the validity are respelled, or not
+-- where the dates of the validity are re-encoded, or not
 abbrev pub tbs_by : Bool → Tbs → Tbs
 tbs_by r t = (t.0, (t.1.0, (t.1.1.0, (t.1.1.1.0, (validity_by r (tbs_validity t), t.1.1.1.1.1)))))
 

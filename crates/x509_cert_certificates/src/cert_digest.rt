@@ -15,7 +15,7 @@ pub trait CertDigest {
     /// The digest of these octets.
     ///
     /// # Errors
-    /// Want of memory.
+    /// Out of memory.
     fn digest(alloc: Global, octets: &[u8]) -> Result<Vec<u8>, AllocError>
         ensures { IfOk result (λ d. d.items ≡ digest_of octets.now) };
 }

@@ -81,7 +81,7 @@ impl<P: Profile> CertificateInner<P> {
         ensures spelled { IfOk result
             (λ c. Spells (certificate Bound P.serial_limit) (certificate_plain c)
             bytes.now) }
-        // What is refused for another reason than want of memory is spelled by no certificate.
+        // What is refused for another reason than out of memory is spelled by no certificate.
         ensures refused { IfErr result (λ e. e.kind ≢ OutOfMemory → (c : PlainCertificate)
             → Spells (certificate Bound P.serial_limit) c bytes.now → ⊥) }
         // Which fault it is.
@@ -94,12 +94,12 @@ impl<P: Profile> CertificateInner<P> {
     /// The digest of the certificate's encoding, as its profile has it written.
     ///
     /// # Errors
-    /// Those of `to_der`. A certificate that was read is refused for want of memory alone.
+    /// Those of `to_der`. A certificate that was read is refused only when out of memory.
     pub fn hash<D: CertDigest>(&self, alloc: Global) -> Result<Vec<u8>, Error>
         ensures ok { IfOk result (λ d. d.items ≡ D.digest_of (octets_of
             (certificate Bound P.serial_limit)
             (certificate_by P.respells (certificate_plain self.now)))) }
-        // A certificate that has an encoding is refused for want of memory alone.
+        // A certificate that has an encoding is refused only when out of memory.
         ensures valid { IsValid (certificate Bound P.serial_limit)
             (certificate_by P.respells (certificate_plain self.now))
             → IfErr result (λ e. e.kind ≡ OutOfMemory) }

@@ -12,7 +12,7 @@ use std::alloc::{AllocError, Global};
 use x509_cert_parts::{Extension, Validity};
 
 impl<P> CertificateInner<P> {
-    /// A copy. Want of memory is the only error.
+    /// A copy. Out of memory is the only error.
     pub fn clone(&self, alloc: Global) -> Result<CertificateInner<P>, AllocError>
         ensures { IsCopy self.now result certificate_plain }
     {
@@ -25,7 +25,7 @@ impl<P> CertificateInner<P> {
 }
 
 impl<P> TbsCertificateInner<P> {
-    /// A copy. Want of memory is the only error.
+    /// A copy. Out of memory is the only error.
     pub fn clone(&self, alloc: Global) -> Result<TbsCertificateInner<P>, AllocError>
         ensures { IsCopy self.now result tbs_plain }
     {

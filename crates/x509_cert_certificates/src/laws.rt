@@ -51,8 +51,8 @@ pub fn signed_part_stands_in_place()
         ≡ octets_of (raw_tbs_certificate bound) (tbs c) }
 {}
 
-/// A certificate that has an encoding has one where its dates are respelled, and it is the same one
-/// exactly where no date was a GeneralizedTime through 2049 (RFC 5280 4.1.2.5).
+/// A certificate that has an encoding has one where its dates are re-encoded, and it is the same
+/// one exactly where no date was a GeneralizedTime through 2049 (RFC 5280 4.1.2.5).
 pub fn respelled_certificates_are_spelled()
     ensures valid { (bound : ℕ) (limit : Option ℕ) (r : Bool) (c : PlainCertificate)
         → IsValid (certificate bound limit) c

@@ -23,7 +23,7 @@ impl CrlNumber {
     /// those of more than 16.
     ///
     /// # Errors
-    /// Want of memory.
+    /// Out of memory.
     pub fn try_from_u128(alloc: Global, number: u128) -> Result<CrlNumber, Error>
         ensures { Gives (λ n. pos n.0) result (Ok (pos number)) }
     {

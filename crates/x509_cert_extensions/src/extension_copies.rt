@@ -17,7 +17,7 @@ use x509_cert_general_names::{AccessDescription, DistributionPoint, GeneralName}
 use x509_cert_names::Attribute;
 
 impl AuthorityInfoAccessSyntax {
-    /// A copy. Want of memory is the only error.
+    /// A copy. Out of memory is the only error.
     pub fn clone(&self, alloc: Global) -> Result<AuthorityInfoAccessSyntax, AllocError>
         ensures { IsCopy self.now result (λ x. plain_list access_description_plain x.0.items) }
     {
@@ -30,7 +30,7 @@ impl AuthorityInfoAccessSyntax {
 }
 
 impl SubjectInfoAccessSyntax {
-    /// A copy. Want of memory is the only error.
+    /// A copy. Out of memory is the only error.
     pub fn clone(&self, alloc: Global) -> Result<SubjectInfoAccessSyntax, AllocError>
         ensures { IsCopy self.now result (λ x. plain_list access_description_plain x.0.items) }
     {
@@ -39,7 +39,7 @@ impl SubjectInfoAccessSyntax {
 }
 
 impl CrlDistributionPoints {
-    /// A copy. Want of memory is the only error.
+    /// A copy. Out of memory is the only error.
     pub fn clone(&self, alloc: Global) -> Result<CrlDistributionPoints, AllocError>
         ensures { IsCopy self.now result (λ x. plain_list distribution_point_plain x.0.items) }
     {
@@ -48,7 +48,7 @@ impl CrlDistributionPoints {
 }
 
 impl FreshestCrl {
-    /// A copy. Want of memory is the only error.
+    /// A copy. Out of memory is the only error.
     pub fn clone(&self, alloc: Global) -> Result<FreshestCrl, AllocError>
         ensures { IsCopy self.now result (λ x. plain_list distribution_point_plain x.0.items) }
     {
@@ -57,7 +57,7 @@ impl FreshestCrl {
 }
 
 impl IssuerAltName {
-    /// A copy. Want of memory is the only error.
+    /// A copy. Out of memory is the only error.
     pub fn clone(&self, alloc: Global) -> Result<IssuerAltName, AllocError>
         ensures { IsCopy self.now result (λ x. plain_list general_name_plain x.0.items) }
     {
@@ -66,7 +66,7 @@ impl IssuerAltName {
 }
 
 impl SubjectAltName {
-    /// A copy. Want of memory is the only error.
+    /// A copy. Out of memory is the only error.
     pub fn clone(&self, alloc: Global) -> Result<SubjectAltName, AllocError>
         ensures { IsCopy self.now result (λ x. plain_list general_name_plain x.0.items) }
     {
@@ -75,7 +75,7 @@ impl SubjectAltName {
 }
 
 impl SubjectDirectoryAttributes {
-    /// A copy. Want of memory is the only error.
+    /// A copy. Out of memory is the only error.
     pub fn clone(&self, alloc: Global) -> Result<SubjectDirectoryAttributes, AllocError>
         ensures { IsCopy self.now result (λ x. plain_list attribute_plain x.0.items) }
     {
@@ -84,7 +84,7 @@ impl SubjectDirectoryAttributes {
 }
 
 impl ExtendedKeyUsage {
-    /// A copy. Want of memory is the only error.
+    /// A copy. Out of memory is the only error.
     pub fn clone(&self, alloc: Global) -> Result<ExtendedKeyUsage, AllocError>
         ensures { IsCopy self.now result (λ x. x.0.items) }
     {
@@ -93,7 +93,7 @@ impl ExtendedKeyUsage {
 }
 
 impl SubjectKeyIdentifier {
-    /// A copy. Want of memory is the only error.
+    /// A copy. Out of memory is the only error.
     pub fn clone(&self, alloc: Global) -> Result<SubjectKeyIdentifier, AllocError>
         ensures { IsCopy self.now result (λ x. x.0) }
     {
@@ -102,7 +102,7 @@ impl SubjectKeyIdentifier {
 }
 
 impl CrlNumber {
-    /// A copy. Want of memory is the only error.
+    /// A copy. Out of memory is the only error.
     pub fn clone(&self, alloc: Global) -> Result<CrlNumber, AllocError>
         ensures { IsCopy self.now result (λ x. x.0) }
     {
@@ -111,7 +111,7 @@ impl CrlNumber {
 }
 
 impl BaseCrlNumber {
-    /// A copy. Want of memory is the only error.
+    /// A copy. Out of memory is the only error.
     pub fn clone(&self, alloc: Global) -> Result<BaseCrlNumber, AllocError>
         ensures { IsCopy self.now result (λ x. x.0) }
     {

@@ -1,4 +1,4 @@
-//! The contents of extensions of certificates and of revocation lists (RFC 5280 4.2, 5.2, 5.3).
+//! The contents of extensions of certificates and of CRLs (RFC 5280 4.2, 5.2, 5.3).
 #![tactic(auto)]
 
 mod authority_info_access;

@@ -25,7 +25,7 @@ impl SubjectKeyIdentifier {
     /// The identifier of a key (`key_identifier_of`).
     ///
     /// # Errors
-    /// Want of memory.
+    /// Out of memory.
     pub fn try_from_key<'a>(
         alloc: Global,
         key: &SubjectPublicKeyInfoRef<'a>,

@@ -70,7 +70,7 @@ impl AuthorityKeyIdentifier {
     /// The identifier of a key (`key_identifier_of`) alone.
     ///
     /// # Errors
-    /// Want of memory.
+    /// Out of memory.
     pub fn try_from_key<'a>(
         alloc: Global,
         key: &SubjectPublicKeyInfoRef<'a>,

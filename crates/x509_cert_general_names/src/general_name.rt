@@ -100,7 +100,7 @@ impl GeneralName {
     /// The name of an address: its four octets (RFC 791 3.1), or its sixteen (RFC 4291 2).
     ///
     /// # Errors
-    /// Want of memory.
+    /// Out of memory.
     pub fn from_ip(alloc: Global, address: IpAddr) -> Result<GeneralName, Error>
         ensures ok { IfOk result (λ n. n ≡ names.IpAddress (address_octets address)) }
         ensures err { IfErr result (λ e. e.kind ≡ OutOfMemory) }

@@ -15,7 +15,7 @@ use x509_cert_names::DirectoryString;
 use x509_cert_parts::SerialNumber;
 
 impl OtherName {
-    /// A copy. Want of memory is the only error.
+    /// A copy. Out of memory is the only error.
     pub fn clone(&self, alloc: Global) -> Result<OtherName, AllocError>
         ensures { IsCopy self.now result views.other_name_plain }
     {
@@ -27,7 +27,7 @@ impl OtherName {
 }
 
 impl EdiPartyName {
-    /// A copy. Want of memory is the only error.
+    /// A copy. Out of memory is the only error.
     pub fn clone(&self, alloc: Global) -> Result<EdiPartyName, AllocError>
         ensures { IsCopy self.now result views.edi_party_name_plain }
     {
@@ -39,7 +39,7 @@ impl EdiPartyName {
 }
 
 impl GeneralName {
-    /// A copy. Want of memory is the only error.
+    /// A copy. Out of memory is the only error.
     pub fn clone(&self, alloc: Global) -> Result<GeneralName, AllocError>
         ensures { IsCopy self.now result views.general_name_plain }
     {
@@ -59,7 +59,7 @@ impl GeneralName {
 }
 
 impl DistributionPointName {
-    /// A copy. Want of memory is the only error.
+    /// A copy. Out of memory is the only error.
     pub fn clone(&self, alloc: Global) -> Result<DistributionPointName, AllocError>
         ensures { IsCopy self.now result views.distribution_point_name_plain }
     {
@@ -77,7 +77,7 @@ impl DistributionPointName {
 }
 
 impl AuthorityKeyIdentifier {
-    /// A copy. Want of memory is the only error.
+    /// A copy. Out of memory is the only error.
     pub fn clone(&self, alloc: Global) -> Result<AuthorityKeyIdentifier, AllocError>
         ensures { IsCopy self.now result views.authority_key_identifier_plain }
     {
@@ -98,7 +98,7 @@ impl AuthorityKeyIdentifier {
 }
 
 impl DistributionPoint {
-    /// A copy. Want of memory is the only error.
+    /// A copy. Out of memory is the only error.
     pub fn clone(&self, alloc: Global) -> Result<DistributionPoint, AllocError>
         ensures { IsCopy self.now result views.distribution_point_plain }
     {
@@ -115,7 +115,7 @@ impl DistributionPoint {
 }
 
 impl AccessDescription {
-    /// A copy. Want of memory is the only error.
+    /// A copy. Out of memory is the only error.
     pub fn clone(&self, alloc: Global) -> Result<AccessDescription, AllocError>
         ensures { IsCopy self.now result views.access_description_plain }
     {
@@ -127,7 +127,7 @@ impl AccessDescription {
 }
 
 impl GeneralSubtree {
-    /// A copy. Want of memory is the only error.
+    /// A copy. Out of memory is the only error.
     pub fn clone(&self, alloc: Global) -> Result<GeneralSubtree, AllocError>
         ensures { IsCopy self.now result views.general_subtree_plain }
     {
@@ -140,7 +140,7 @@ impl GeneralSubtree {
 }
 
 impl NameConstraints {
-    /// A copy. Want of memory is the only error.
+    /// A copy. Out of memory is the only error.
     pub fn clone(&self, alloc: Global) -> Result<NameConstraints, AllocError>
         ensures { IsCopy self.now result views.name_constraints_plain }
     {
@@ -160,7 +160,7 @@ impl NameConstraints {
 }
 
 impl IssuingDistributionPoint {
-    /// A copy. Want of memory is the only error.
+    /// A copy. Out of memory is the only error.
     pub fn clone(&self, alloc: Global) -> Result<IssuingDistributionPoint, AllocError>
         ensures { IsCopy self.now result views.issuing_distribution_point_plain }
     {
@@ -180,7 +180,7 @@ impl IssuingDistributionPoint {
 }
 
 impl HardwareModuleName {
-    /// A copy. Want of memory is the only error.
+    /// A copy. Out of memory is the only error.
     pub fn clone(&self, alloc: Global) -> Result<HardwareModuleName, AllocError>
         ensures { IsCopy self.now result views.hardware_module_name_plain }
     {

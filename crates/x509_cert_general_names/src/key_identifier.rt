@@ -15,7 +15,7 @@ use x509_cert_parts::SubjectPublicKeyInfoRef;
 /// bits.
 ///
 /// # Errors
-/// Want of memory.
+/// Out of memory.
 pub fn key_identifier_of<'a>(
     alloc: Global,
     key: &SubjectPublicKeyInfoRef<'a>,

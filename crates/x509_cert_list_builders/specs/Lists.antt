@@ -1,4 +1,4 @@
--- What a builder of revocation lists signs (RFC 5280 5.1.2).
+-- What a builder of CRLs signs (RFC 5280 5.1.2).
 use Rattle.std.specs.Prelude.{◌≡◌, ◌⊎◌, ℕ, List, [], ◌∷◌, Bool, false, pos, Option, Some, None}
 use Rattle.std.specs.Prelude.{Result, Ok, Err}
 use Rattle.const_oid.specs.Bound.{Bound}

@@ -1,4 +1,4 @@
--- What a builder of certification requests signs (RFC 2986 4.1).
+-- What a builder of CSRs signs (RFC 2986 4.1).
 use Rattle.std.specs.Prelude.{◌≡◌, ◌⊎◌, List, pos, true, Result, Ok, Err, IsOk}
 use Rattle.const_oid.specs.Bound.{Bound}
 use Rattle.der_core.specs.Placed.{placed, stands_among}

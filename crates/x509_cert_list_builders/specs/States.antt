@@ -13,7 +13,7 @@ use Rattle.x509_cert_list_builders.specs.declared.crl_builder.CrlBuilder.TheInsi
 use Rattle.x509_cert_list_builders.specs.declared.request_builder.RequestBuilder.TheInside
     as requests
 
--- a builder of revocation lists: who signs the list, its dates, the certificates that were revoked
+-- a builder of CRLs: who signs the list, its dates, the certificates that were revoked
 -- if the field stands, the list's extensions, and the part that was made last, if there is one
 pub record ListState : Type 0 where
   pub issuer : PlainName

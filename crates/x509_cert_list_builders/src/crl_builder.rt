@@ -1,4 +1,4 @@
-//! Builders of revocation lists.
+//! Builders of CRLs.
 
 ghost use Rattle.std.specs.Prelude.{◌≡◌, ◌⊎◌, ◌++◌, ◌∷◌, [], Ok, Err, Some, None, IfOk, IfErr};
 ghost use Rattle.std.specs.Prelude.{OnOk, OnErr};
@@ -40,7 +40,7 @@ use x509_cert_parts::{
     SubjectPublicKeyInfo, SubjectPublicKeyInfoRef, Time, Version,
 };
 
-/// A builder of revocation lists (RFC 5280 5.1). The list has version 2, a number, and the
+/// A builder of CRLs (RFC 5280 5.1). The list has version 2, a number, and the
 /// identifier of the key under which it is signed.
 ///
 /// Contracts see what is settled of the list, and the part that was made last.
@@ -169,7 +169,7 @@ impl<P: Profile> CrlBuilder<P> {
     /// come. The field then stands in the list, also where there are none.
     ///
     /// # Errors
-    /// Want of memory. The builder is then as it was.
+    /// Out of memory. The builder is then as it was.
     pub fn with_certificates<I: Iterator<Item = RevokedCert<P>>>(
         &mut self,
         alloc: Global,

@@ -1,4 +1,4 @@
-//! Builders of revocation lists (RFC 5280 5.1) and of certification requests (RFC 2986).
+//! Builders of CRLs (RFC 5280 5.1) and of CSRs (RFC 2986).
 #![tactic(auto)]
 
 mod crl_builder;

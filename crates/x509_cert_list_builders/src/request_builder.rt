@@ -1,4 +1,4 @@
-//! Builders of certification requests.
+//! Builders of CSRs.
 
 ghost use Rattle.std.specs.Prelude.{◌≡◌, ◌⊎◌, ◌++◌, ◌∷◌, [], false, Ok, Some, None, IfOk, IfErr};
 ghost use Rattle.std.specs.Prelude.{OnOk, OnErr, IsOk};
@@ -31,7 +31,7 @@ use x509_cert_lists::{AsAttribute, CertReq, CertReqInfo, ExtensionReq, TryFromEx
 use x509_cert_names::{Attribute, Name};
 use x509_cert_parts::{Extension, Extensions, SubjectPublicKeyInfo};
 
-/// A builder of certification requests (RFC 2986). The extensions that are asked for stand in one
+/// A builder of CSRs (RFC 2986). The extensions that are asked for stand in one
 /// attribute, which is made at each `finalize`.
 ///
 /// Contracts see whose key it is, the extensions that are asked for, the other attributes, and the
@@ -96,7 +96,7 @@ impl RequestBuilder {
     /// Asks for the extension that a value gives, behind those that are asked for.
     ///
     /// # Errors
-    /// Those of the value, and want of memory. The builder is then as it was.
+    /// Those of the value, and out of memory. The builder is then as it was.
     pub fn add_extension<E: ToExtension>(
         &mut self,
         alloc: Global,
@@ -122,7 +122,7 @@ impl RequestBuilder {
     /// Adds an attribute that holds a value, at its place in the ascending order of encodings.
     ///
     /// # Errors
-    /// `SetDuplicate` where it stands there, `Overflow` where it has 2^32 octets or more, and want
+    /// `SetDuplicate` where it stands there, `Overflow` where it has 2^32 octets or more, and out
     /// of memory. The builder is then as it was.
     pub fn add_attribute<A: AsAttribute>(&mut self, alloc: Global, value: &A) -> Result<(), Error>
         ensures added { OnOk result

@@ -1,4 +1,4 @@
--- Attributes of certification requests that hold one value (RFC 2986 4.1).
+-- Attributes of CSRs that hold one value (RFC 2986 4.1).
 use Rattle.std.specs.Prelude.{ℕ, List, [], ◌∷◌, Result, Ok, Err}
 use Rattle.std.proofs.Common.{inl, inr}
 use Rattle.der_core_head.specs.declared.error.ErrorKind.{ErrorKind}

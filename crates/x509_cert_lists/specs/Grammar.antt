@@ -1,4 +1,4 @@
--- Revocation lists (RFC 5280 5.1) and certification requests (RFC 2986 4). Each shape takes the
+-- CRLs (RFC 5280 5.1) and CSRs (RFC 2986 4). Each shape takes the
 -- bound of arcs, and where a serial number stands in it the greatest number of its content octets,
 -- if there is such a number.
 use Rattle.std.specs.Prelude.{ℕ, List, [], ◌∷◌, true, Option, Result, Ok}

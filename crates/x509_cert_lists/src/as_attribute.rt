@@ -6,7 +6,7 @@ use der_types_any::Any;
 use std::alloc::Global;
 use x509_cert_names::Attribute;
 
-/// What an attribute of a certification request holds as its one value (RFC 2986 4.1).
+/// What an attribute of a CSR holds as its one value (RFC 2986 4.1).
 pub trait AsAttribute: AssociatedOid + Encode {
     ghost use Rattle.der_core_head.specs.Reading.{Gives};
     ghost use Rattle.x509_cert_names.specs.Views.{attribute_plain};

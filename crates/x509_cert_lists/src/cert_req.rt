@@ -66,7 +66,7 @@ impl CertReq {
     pub fn try_from_bytes(alloc: Global, bytes: &[u8]) -> Result<CertReq, Error>
         // What is read is spelled so.
         ensures spelled { IfOk result (λ r. Spells (cert_req Bound) (cert_req_plain r) bytes.now) }
-        // What is refused for another reason than want of memory is spelled by no request.
+        // What is refused for another reason than out of memory is spelled by no request.
         ensures refused { IfErr result (λ e. e.kind ≢ OutOfMemory → (r : Value (cert_req 0))
             → Spells (cert_req Bound) r bytes.now → ⊥) }
         // Which fault it is.

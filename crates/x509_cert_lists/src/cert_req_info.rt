@@ -1,4 +1,4 @@
-//! The signed part of a certification request.
+//! The signed part of a CSR.
 
 ghost use Rattle.std.specs.Prelude.{◌≡◌, refl};
 ghost use Rattle.const_oid.specs.Bound.{Bound};
@@ -12,7 +12,7 @@ use std::alloc::Global;
 use x509_cert_names::{Attributes, Name};
 use x509_cert_parts::SubjectPublicKeyInfo;
 
-/// The part of a certification request that is signed (RFC 2986 4.1). No attribute stands twice.
+/// The part of a CSR that is signed (RFC 2986 4.1). No attribute stands twice.
 ///
 /// ```text
 /// CertificationRequestInfo ::= SEQUENCE {

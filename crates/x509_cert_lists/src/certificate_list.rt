@@ -1,4 +1,4 @@
-//! Revocation lists.
+//! CRLs.
 
 ghost use Rattle.std.specs.Prelude.{◌≡◌, refl};
 ghost use Rattle.const_oid.specs.Bound.{Bound};

@@ -10,7 +10,7 @@ use std::alloc::Global;
 use x509_cert_names::DirectoryString;
 
 /// A password by which an entity may ask for its certificate to be revoked, as the value of an
-/// attribute of a certification request (RFC 2985 5.4.1).
+/// attribute of a CSR (RFC 2985 5.4.1).
 ///
 /// ```text
 /// challengePassword ATTRIBUTE ::= {

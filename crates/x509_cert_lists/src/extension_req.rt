@@ -15,7 +15,7 @@ use std::alloc::Global;
 use x509_cert_names::Attribute;
 use x509_cert_parts::Extension;
 
-/// The extensions that a certification request asks for, as the value of an attribute (RFC 2985
+/// The extensions that a CSR asks for, as the value of an attribute (RFC 2985
 /// 5.4.2). There may be none.
 ///
 /// ```text

@@ -1,4 +1,4 @@
-//! Laws of revocation lists and of requests.
+//! Laws of CRLs and of requests.
 //!
 //! Each is the contract of a function that does nothing.
 
@@ -19,7 +19,7 @@ use crate::{
 use const_oid::AssociatedOid;
 use std::cmp::PartialEq;
 
-/// `==` of revocation lists, of requests and of their parts is of their plain values, under every
+/// `==` of CRLs, of requests and of their parts is of their plain values, under every
 /// profile.
 pub fn equality_of_lists_is_of_values<P>()
     ensures entries { (limit : Option ℕ) → IsOfValues ⟦<RevokedCert<P> as PartialEq>⟧.eq

@@ -1,4 +1,4 @@
-//! Revocation lists (RFC 5280 5.1) and certification requests (RFC 2986).
+//! CRLs (RFC 5280 5.1) and CSRs (RFC 2986).
 #![tactic(auto)]
 
 mod as_attribute;

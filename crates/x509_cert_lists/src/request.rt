@@ -1,4 +1,4 @@
-//! The versions of certification requests.
+//! The versions of CSRs.
 
 ghost use Rattle.std.specs.Prelude.{◌≡◌, refl};
 ghost use Rattle.x509_cert_lists.specs.Grammar.{request_numbers};
@@ -6,7 +6,7 @@ ghost use Rattle.x509_cert_lists.specs.Views.{request_number};
 
 use der_core::describing::{AsNumbered, Described, Numbered, Ordered};
 
-/// The version of a certification request (RFC 2986 4.1).
+/// The version of a CSR (RFC 2986 4.1).
 ///
 /// ```text
 /// Version ::= INTEGER { v1(0) }

@@ -1,4 +1,4 @@
-//! Entries of revocation lists.
+//! Entries of CRLs.
 
 ghost use Rattle.std.specs.Prelude.{◌≡◌, refl};
 ghost use Rattle.const_oid.specs.Bound.{Bound};

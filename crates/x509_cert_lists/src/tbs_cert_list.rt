@@ -1,4 +1,4 @@
-//! The signed part of a revocation list.
+//! The signed part of a CRL.
 
 ghost use Rattle.std.specs.Prelude.{◌≡◌, refl};
 ghost use Rattle.const_oid.specs.Bound.{Bound};
@@ -12,7 +12,7 @@ use std::alloc::Global;
 use x509_cert_names::Name;
 use x509_cert_parts::{AlgorithmIdentifier, Extensions, Profile, Rfc5280, Time, Version};
 
-/// The part of a revocation list that is signed (RFC 5280 5.1.2). Any version is read beside any
+/// The part of a CRL that is signed (RFC 5280 5.1.2). Any version is read beside any
 /// fields, an empty list of certificates, and a list of no extensions. A list without a version
 /// isn't read. Its dates are written as they were read, under every profile.
 ///

@@ -37,7 +37,7 @@ pub data ReadsRelative (bound : ℕ) (text : List ℕ) : Result (List AttributeT
       → (AllValid (type_and_value bound) pair_plain members → ⊥)
       → ReadsRelative bound text (Err kinds.Overflow)
 
--- Relative names between commas, the last one first. The empty text is the empty name.
+-- RDNs between commas, the last one first. The empty text is the empty name.
 pub data ReadsName (bound : ℕ) (text : List ℕ) : Result (List (List AttributeTypeAndValue))
     ErrorKind → Type 0 where
   empty : text ≡ [] → ReadsName bound text (Ok [])
@@ -56,11 +56,11 @@ abbrev pub joined_by : {A : Type 0} → ℕ → (A → List ℕ) → List A → 
 joined_by separator print [] = []
 joined_by separator print (a ∷ rest) = print a ++ flat_map (printed_behind separator print) rest
 
--- a relative name as it is printed: its attributes between +
+-- an RDN as it is printed: its attributes between +
 abbrev pub relative_printed : List AttributeTypeAndValue → List ℕ
 relative_printed r = joined_by 43 attribute_printed r
 
--- a name as it is printed: its relative names between commas, the last one first
+-- a name as it is printed: its RDNs between commas, the last one first
 abbrev pub name_printed : List (List AttributeTypeAndValue) → List ℕ
 name_printed n = joined_by 44 relative_printed (reverse n)
 

@@ -63,7 +63,7 @@ type_of a = a.0
 abbrev pub value_of : TypeAndValue → AnyValue
 value_of a = a.1.0
 
--- the attributes of a name, one relative name after the other
+-- the attributes of a name, one RDN after the other
 abbrev pub all_of : PlainName → List TypeAndValue
 all_of n = flat_map (λ r. r) n
 

@@ -1,4 +1,4 @@
--- What holds of the attributes of every relative name.
+-- What holds of the attributes of every RDN.
 use Rattle.std.specs.Prelude.{◌≡◌, ℕ, List, [], ◌∷◌, ⊤, false}
 use Rattle.std.specs.List.{IsDistinct}
 use Rattle.der_types_sets.specs.Sets.{Ascends}

@@ -1,4 +1,4 @@
--- What contracts see of an attribute with one value, and of a relative name.
+-- What contracts see of an attribute with one value, and of an RDN.
 use Rattle.std.specs.Prelude.{◌≡◌, ℕ, List, ◌++◌, Bool, true, nat_eq, ◌&&◌}
 use Rattle.std.proofs.Common.{ap, ◌∙◌}
 use Rattle.std.specs.Cmp.{IsPartialEquivalence, IsEquivalence, partial_equiv_from_equiv, and_equiv}
@@ -45,6 +45,6 @@ pair_fed_alike a b e =
     ∙ ap (λ w. fed.slice fed.u8 (identifier_octets b.oid) ++ w)
     (any_fed_alike a.value b.value (second_so types values e))
 
--- the attributes of a relative name, in the order of their encodings
+-- the attributes of an RDN, in the order of their encodings
 abbrev pub relative_plain : List AttributeTypeAndValue → RelativeName
 relative_plain r = plain_list pair_plain r

@@ -36,7 +36,7 @@ impl Attribute {
     /// A copy.
     ///
     /// # Errors
-    /// Want of memory.
+    /// Out of memory.
     pub fn clone(&self, alloc: Global) -> Result<Attribute, AllocError>
         ensures { IsCopy self.now result attribute_plain }
     {

@@ -1,4 +1,4 @@
-//! The attributes of a relative name, a single one in place.
+//! The attributes of an RDN, a single one in place.
 
 ghost use Rattle.std.specs.Prelude.{◌≡◌, ◌≤◌, [], ◌∷◌, length, IfOk, OnOk, OnErr};
 ghost use Rattle.std.specs.List.{insert};
@@ -19,7 +19,7 @@ use std::cmp::Ordering;
 use std::fmt;
 use std::marker::Model;
 
-/// The attributes of a relative name (RFC 5280 4.1.2.4), of which a single one needs no list. They
+/// The attributes of an RDN (RFC 5280 4.1.2.4), of which a single one needs no list. They
 /// are written only where their encodings rise (X.690 11.6).
 ///
 /// Contracts see the list of the attributes.
@@ -86,7 +86,7 @@ impl AttributeSet {
     /// Places an attribute.
     ///
     /// # Errors
-    /// Want of memory. The attributes stay then.
+    /// Out of memory. The attributes stay then.
     pub(crate) fn insert(
         &mut self,
         place: usize,
@@ -109,7 +109,7 @@ impl AttributeSet {
     /// The list of the attributes.
     ///
     /// # Errors
-    /// Want of memory, for a single attribute that was kept in place.
+    /// Out of memory, for a single attribute that was kept in place.
     pub fn into_vec(self) -> Result<Vec<AttributeTypeAndValue>, AllocError>
         ensures { IfOk result (λ v. v.items ≡ self) }
     {

@@ -152,7 +152,7 @@ impl AttributeTypeAndValue {
     /// A copy.
     ///
     /// # Errors
-    /// Want of memory.
+    /// Out of memory.
     pub fn clone(&self, alloc: Global) -> Result<AttributeTypeAndValue, AllocError>
         ensures { IfOk result (λ a. a ≡ self.now) }
     {

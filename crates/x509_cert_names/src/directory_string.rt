@@ -139,7 +139,7 @@ impl DirectoryString {
     /// The text, lent, or made of the characters of a BMPString.
     ///
     /// # Errors
-    /// Want of memory, for a BMPString.
+    /// Out of memory, for a BMPString.
     pub fn value(&self, alloc: Global) -> Result<CowStr<'_>, AllocError>
         ensures { IfOk result (λ t. cow_str_bytes t ≡ directory_utf8 self.now) }
     {
@@ -157,7 +157,7 @@ impl DirectoryString {
     /// The text itself, or made of the characters of a BMPString.
     ///
     /// # Errors
-    /// Want of memory, for a BMPString.
+    /// Out of memory, for a BMPString.
     pub fn into_string(self, alloc: Global) -> Result<String, AllocError>
         ensures { IfOk result (λ s. string_bytes s ≡ directory_utf8 self) }
     {
@@ -175,7 +175,7 @@ impl DirectoryString {
     /// A copy.
     ///
     /// # Errors
-    /// Want of memory.
+    /// Out of memory.
     pub fn clone(&self, alloc: Global) -> Result<DirectoryString, AllocError>
         ensures { IsCopy self.now result directory_plain }
     {

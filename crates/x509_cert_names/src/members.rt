@@ -48,7 +48,7 @@ pub(crate) fn arrange<T: DerOrd + Member + Drop>(members: Vec<T>) -> Result<Vec<
 /// A copy of a list, of a type whose copies are the same.
 ///
 /// # Errors
-/// Want of memory.
+/// Out of memory.
 pub(crate) fn copy_of<T: Clone + Drop>(alloc: Global, members: &[T]) -> Result<Vec<T>, AllocError>
     requires { (x y : T) → T.is_clone x y → y ≡ x }
     ensures { IfOk result (λ v. v.items ≡ members.now) }

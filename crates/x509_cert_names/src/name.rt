@@ -63,7 +63,7 @@ impl Name {
     /// A copy.
     ///
     /// # Errors
-    /// Want of memory.
+    /// Out of memory.
     pub fn clone(&self, alloc: Global) -> Result<Name, AllocError>
         ensures { IsCopy self.now result name_plain }
     {
@@ -81,7 +81,7 @@ impl Name {
         }
     }
 
-    /// The name of these relative names, whatever string types their values have. Whether they are
+    /// The name of these RDNs, whatever string types their values have. Whether they are
     /// those that RFC 5280 4.1.2.4 asks for isn't looked at.
     pub fn hazmat_from_rdn_sequence(value: RdnSequence) -> Name
         ensures { name_plain result ≡ sequence_plain value }
@@ -91,14 +91,14 @@ impl Name {
         }
     }
 
-    /// Whether there is no relative name.
+    /// Whether there is no RDN.
     pub fn is_empty(&self) -> bool
         ensures { result ≡ (length self.now.rdn_sequence.relative_names.items == 0) }
     {
         self.rdn_sequence.is_empty()
     }
 
-    /// The number of relative names.
+    /// The number of RDNs.
     pub fn len(&self) -> usize
         ensures { result ≡ length self.now.rdn_sequence.relative_names.items }
     {
@@ -107,7 +107,7 @@ impl Name {
 }
 
 impl Name {
-    /// The attributes, those of the widest relative name first.
+    /// The attributes, those of the widest RDN first.
     pub fn iter(&self) -> NameIter<'_>
         ensures { plain_list pair_plain (attributes_left result) ≡ all_of (name_plain self.now) }
     {
@@ -117,7 +117,7 @@ impl Name {
         }
     }
 
-    /// The relative names, the widest first.
+    /// The RDNs, the widest first.
     pub fn iter_rdn(&self) -> RdnSequenceIter<'_>
         ensures { plain_list relative_plain result.left.now ≡ name_plain self.now }
     {
@@ -264,7 +264,7 @@ impl Name {
     }
 }
 
-/// The relative names.
+/// The RDNs.
 impl AsRef<RdnSequence> for Name {
     fn as_ref(&self) -> &RdnSequence
         ensures { sequence_plain result.now ≡ name_plain self.now }
@@ -273,7 +273,7 @@ impl AsRef<RdnSequence> for Name {
     }
 }
 
-/// The relative names of a name.
+/// The RDNs of a name.
 impl From<Name> for RdnSequence {
     ghost from_gives = { λ name sequence. sequence_plain sequence ≡ name_plain name };
 
@@ -329,14 +329,14 @@ impl InRangeValue for Name {
     }
 }
 
-/// The encodings of the relative names, one after the other.
+/// The encodings of the RDNs, one after the other.
 impl ValueOrd for Name {
     fn value_cmp(&self, other: &Self) -> Result<Ordering, Error> {
         self.rdn_sequence.value_cmp(&other.rdn_sequence)
     }
 }
 
-/// The relative names with commas between them, the last one first (RFC 4514 2.1).
+/// The RDNs with commas between them, the last one first (RFC 4514 2.1).
 impl fmt::Display for Name {
     ghost use Rattle.std.specs.Prelude.{Some};
     ghost use Rattle.x509_cert_names.specs.NameTexts.{name_printed};

@@ -7,13 +7,13 @@ ghost use Rattle.std.specs.Iterator.SizeHint.{IsExactHint, IsWithinCount};
 use crate::attribute_type_and_value::AttributeTypeAndValue;
 use crate::relative_distinguished_name::RelativeDistinguishedName;
 
-/// The relative names of a name, the widest first.
+/// The RDNs of a name, the widest first.
 #[derive(Debug, Drop)]
 pub struct RdnSequenceIter<'a> {
     pub(crate) left: &'a [RelativeDistinguishedName],
 }
 
-/// The attributes of a name, those of the widest relative name first.
+/// The attributes of a name, those of the widest RDN first.
 #[derive(Debug, Drop)]
 pub struct NameIter<'a> {
     pub(crate) attributes: &'a [AttributeTypeAndValue],
@@ -48,7 +48,7 @@ impl<'a> Iterator for RdnSequenceIter<'a> {
 }
 
 impl<'a> ExactSizeIterator for RdnSequenceIter<'a> {
-    /// The number of relative names that are yet to come.
+    /// The number of RDNs that are yet to come.
     fn len(&self) -> usize {
         self.left.len()
     }

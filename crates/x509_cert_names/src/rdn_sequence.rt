@@ -25,7 +25,7 @@ use std::alloc::{AllocError, Global};
 use std::fmt;
 use x509_cert_name_texts::read_pieces;
 
-/// Relative names, the widest first (RFC 5280 4.1.2.4).
+/// RDNs, the widest first (RFC 5280 4.1.2.4).
 ///
 /// ```text
 /// RDNSequence ::= SEQUENCE OF RelativeDistinguishedName
@@ -43,12 +43,12 @@ pub struct RdnSequence {
 pub type DistinguishedName = RdnSequence;
 
 impl RdnSequence {
-    /// The relative names that a text spells (RFC 4514 2.1, 3): those between the commas that
+    /// The RDNs that a text spells (RFC 4514 2.1, 3): those between the commas that
     /// count, the last one first. A comma or `+` counts where the run of backslashes before it is
-    /// even. The empty text spells no relative name.
+    /// even. The empty text spells no RDN.
     ///
     /// # Errors
-    /// That of the first relative name from the left which is refused
+    /// That of the first RDN from the left which is refused
     /// (`RelativeDistinguishedName::from_str`), or `OutOfMemory`.
     pub fn from_str(alloc: Global, text: &str) -> Result<RdnSequence, Error>
         ensures { GivesBy (λ s. s.relative_names.items) result (ReadsName Bound text.now) }
@@ -61,7 +61,7 @@ impl RdnSequence {
         Ok(RdnSequence { relative_names })
     }
 
-    /// The encoding of the relative names that a text spells: `from_str`, then `to_der`.
+    /// The encoding of the RDNs that a text spells: `from_str`, then `to_der`.
     ///
     /// # Errors
     /// Those of `from_str`, and of `to_der`.
@@ -77,7 +77,7 @@ impl RdnSequence {
     /// A copy.
     ///
     /// # Errors
-    /// Want of memory.
+    /// Out of memory.
     pub fn clone(&self, alloc: Global) -> Result<RdnSequence, AllocError>
         ensures { IsCopy self.now result sequence_plain }
     {
@@ -85,7 +85,7 @@ impl RdnSequence {
         Ok(RdnSequence { relative_names })
     }
 
-    /// The sequence without relative names.
+    /// The sequence without RDNs.
     pub fn default(alloc: Global) -> RdnSequence
         ensures { result.relative_names.items ≡ [] }
     {
@@ -94,21 +94,21 @@ impl RdnSequence {
         }
     }
 
-    /// Whether there is no relative name.
+    /// Whether there is no RDN.
     pub fn is_empty(&self) -> bool
         ensures { result ≡ (length self.now.relative_names.items == 0) }
     {
         self.relative_names.is_empty()
     }
 
-    /// The number of relative names.
+    /// The number of RDNs.
     pub fn len(&self) -> usize
         ensures { result ≡ length self.now.relative_names.items }
     {
         self.relative_names.len()
     }
 
-    /// The relative names, the widest first.
+    /// The RDNs, the widest first.
     pub fn iter(&self) -> RdnSequenceIter<'_>
         ensures { result.left.now ≡ self.now.relative_names.items }
     {
@@ -117,10 +117,10 @@ impl RdnSequence {
         }
     }
 
-    /// Appends a relative name, the narrowest.
+    /// Appends an RDN, the narrowest.
     ///
     /// # Errors
-    /// Want of memory. The sequence stays then.
+    /// Out of memory. The sequence stays then.
     pub fn push(&mut self, name: RelativeDistinguishedName) -> Result<(), AllocError>
         ensures ok { OnOk result (self.new.relative_names.items ≡ self.old.relative_names.items
             ++ name
@@ -146,10 +146,10 @@ impl Wraps<Vec<RelativeDistinguishedName>> for RdnSequence {
     ghost made = { λ _ _ e. e };
 }
 
-/// The encodings of the relative names, one after the other.
+/// The encodings of the RDNs, one after the other.
 impl Ordered for RdnSequence {}
 
-/// The relative names with commas between them, the last one first (RFC 4514 2.1).
+/// The RDNs with commas between them, the last one first (RFC 4514 2.1).
 impl fmt::Display for RdnSequence {
     ghost use Rattle.std.specs.Prelude.{Some};
     ghost use Rattle.x509_cert_names.specs.NameTexts.{name_printed};
@@ -161,7 +161,7 @@ impl fmt::Display for RdnSequence {
     }
 }
 
-/// Writes relative names with commas between them, the last one first.
+/// Writes RDNs with commas between them, the last one first.
 fn write_names<W: fmt::Write>(
     names: &[RelativeDistinguishedName],
     f: &mut fmt::Formatter<W>,
@@ -175,7 +175,7 @@ fn write_names<W: fmt::Write>(
     write_before(before, f)
 }
 
-/// Writes a relative name.
+/// Writes an RDN.
 fn write_last<W: fmt::Write>(
     name: &RelativeDistinguishedName,
     f: &mut fmt::Formatter<W>,
@@ -185,7 +185,7 @@ fn write_last<W: fmt::Write>(
     write!(f, "{name}")
 }
 
-/// Writes a comma and a relative name.
+/// Writes a comma and an RDN.
 fn write_next<W: fmt::Write>(
     name: &RelativeDistinguishedName,
     f: &mut fmt::Formatter<W>,
@@ -197,7 +197,7 @@ fn write_next<W: fmt::Write>(
     write!(f, ",{name}")
 }
 
-/// Writes a comma and a relative name for each one, the last one first.
+/// Writes a comma and an RDN for each one, the last one first.
 fn write_before<W: fmt::Write>(
     names: &[RelativeDistinguishedName],
     f: &mut fmt::Formatter<W>,
@@ -224,7 +224,7 @@ impl Clone for RdnSequence {
     }
 }
 
-/// These relative names, the widest first.
+/// These RDNs, the widest first.
 impl From<Vec<RelativeDistinguishedName>> for RdnSequence {
     ghost from_gives = { λ names sequence. sequence.relative_names ≡ names };
 
@@ -233,7 +233,7 @@ impl From<Vec<RelativeDistinguishedName>> for RdnSequence {
     }
 }
 
-/// The list of relative names.
+/// The list of RDNs.
 impl AsRef<Vec<RelativeDistinguishedName>> for RdnSequence {
     fn as_ref(&self) -> &Vec<RelativeDistinguishedName>
         ensures { result.now ≡ self.now.relative_names }
@@ -242,7 +242,7 @@ impl AsRef<Vec<RelativeDistinguishedName>> for RdnSequence {
     }
 }
 
-/// The list of relative names.
+/// The list of RDNs.
 impl AsMut<Vec<RelativeDistinguishedName>> for RdnSequence {
     ghost use Rattle.std.specs.Borrow.{sem, Lends};
     ghost use Rattle.der_core.specs.Rows.{list_row};
@@ -258,7 +258,7 @@ impl AsMut<Vec<RelativeDistinguishedName>> for RdnSequence {
     }
 }
 
-/// The relative names, the widest first.
+/// The RDNs, the widest first.
 impl From<RdnSequence> for Vec<RelativeDistinguishedName> {
     ghost from_gives = { λ sequence names. names ≡ sequence.relative_names };
 

@@ -41,7 +41,7 @@ use std::hash::{Hash, Hasher};
 use std::marker::Model;
 use x509_cert_name_texts::{FromText, read_pieces};
 
-/// A relative name (RFC 5280 4.1.2.4): a set of attributes, in the order of their encodings, none
+/// An RDN (RFC 5280 4.1.2.4): a set of attributes, in the order of their encodings, none
 /// of which stands twice. It may be empty.
 ///
 /// Contracts see the list of the attributes.
@@ -99,7 +99,7 @@ fn are_apart(attributes: &[AttributeTypeAndValue]) -> bool
 }
 
 impl RelativeDistinguishedName {
-    /// The relative name that a text spells (RFC 4514 2.2, 3): attributes between the `+` that
+    /// The RDN that a text spells (RFC 4514 2.2, 3): attributes between the `+` that
     /// count, none of which stands twice.
     ///
     /// # Errors
@@ -117,7 +117,7 @@ impl RelativeDistinguishedName {
     /// A copy.
     ///
     /// # Errors
-    /// Want of memory.
+    /// Out of memory.
     pub fn clone(&self, alloc: Global) -> Result<RelativeDistinguishedName, AllocError>
         ensures { IfOk result (λ r. r ≡ self.now) }
     {
@@ -127,7 +127,7 @@ impl RelativeDistinguishedName {
         })
     }
 
-    /// The relative name without attributes.
+    /// The RDN without attributes.
     pub fn default(alloc: Global) -> RelativeDistinguishedName
         ensures { result ≡ [] }
     {
@@ -136,7 +136,7 @@ impl RelativeDistinguishedName {
         }
     }
 
-    /// The relative name of these attributes, in any order.
+    /// The RDN of these attributes, in any order.
     ///
     /// # Errors
     /// `SetDuplicate` where one stands twice, `Overflow` where an encoding has 2^32 octets or more.
@@ -164,7 +164,7 @@ impl RelativeDistinguishedName {
     ///
     /// # Errors
     /// `SetDuplicate` where it stands already, `Overflow` where an encoding has 2^32 octets or
-    /// more, or `OutOfMemory`. The relative name stays then.
+    /// more, or `OutOfMemory`. The RDN stays then.
     pub fn insert(&mut self, item: AttributeTypeAndValue) -> Result<(), Error>
         ensures ok { OnOk result (IsPermutation (item ∷ self.old) self.new) }
         ensures err { OnErr result (self.new ≡ self.old) }

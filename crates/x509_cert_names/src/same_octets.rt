@@ -33,7 +33,7 @@ impl Name {
     }
 }
 
-/// The attributes of each relative name rise.
+/// The attributes of each RDN rise.
 fn in_order(relative_names: &[RelativeDistinguishedName])
     ensures { AllByRecursion (IsOrdered Bound) relative_names.now }
 {

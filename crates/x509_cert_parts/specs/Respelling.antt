@@ -9,7 +9,7 @@ abbrev pub respelled : PlainTime → PlainTime
 respelled (inl c) = inl c
 respelled (inr c) = if nat_lt 2049 c.year then inr c else inl c
 
--- where dates are respelled, or not
+-- where dates are re-encoded, or not
 abbrev pub spelled_by : Bool → PlainTime → PlainTime
 spelled_by true t = respelled t
 spelled_by false t = t

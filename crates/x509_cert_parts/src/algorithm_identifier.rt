@@ -34,7 +34,7 @@ impl AlgorithmIdentifier {
     /// A copy.
     ///
     /// # Errors
-    /// Want of memory.
+    /// Out of memory.
     pub fn clone(&self, alloc: Global) -> Result<AlgorithmIdentifier, AllocError>
         ensures { IsCopy self.now result algorithm_plain }
     {

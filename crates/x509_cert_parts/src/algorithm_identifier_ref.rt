@@ -31,7 +31,7 @@ impl<'a> AlgorithmIdentifierRef<'a> {
     /// A copy of the algorithm that owns its octets.
     ///
     /// # Errors
-    /// Want of memory.
+    /// Out of memory.
     pub fn ref_to_owned(&self, alloc: Global) -> Result<AlgorithmIdentifier, AllocError>
         ensures { IfOk result (λ a. algorithm_plain a ≡ algorithm_lent self.now) }
     {

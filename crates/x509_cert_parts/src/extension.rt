@@ -42,7 +42,7 @@ impl Extension {
     /// A copy.
     ///
     /// # Errors
-    /// Want of memory.
+    /// Out of memory.
     pub fn clone(&self, alloc: Global) -> Result<Extension, AllocError>
         ensures { IsCopy self.now result extension_plain }
     {

@@ -52,7 +52,7 @@ pub fn serial_numbers_by_profile()
     ensures raw { (z : ℤ) → IsNumber (numbers_within ⟦<Raw as Profile>⟧.serial_limit) z }
 {}
 
-/// Which dates are respelled: under RFC 5280 those of a GeneralizedTime through 2049, and none
+/// Which dates are re-encoded: under RFC 5280 those of a GeneralizedTime through 2049, and none
 /// under `Raw`.
 pub fn dates_by_profile()
     ensures rfc5280 { (v : PlainValidity) → (validity_by ⟦<Rfc5280 as Profile>⟧.respells v ≡ v)
@@ -61,7 +61,7 @@ pub fn dates_by_profile()
     ensures raw { (v : PlainValidity) → validity_by ⟦<Raw as Profile>⟧.respells v ≡ v }
 {}
 
-/// A validity that has an encoding has one where its dates are respelled, and it is the same one
+/// A validity that has an encoding has one where its dates are re-encoded, and it is the same one
 /// exactly where no date was a GeneralizedTime through 2049.
 pub fn respelled_dates_are_spelled()
     ensures valid { (r : Bool) (v : PlainValidity) → IsValid validity v

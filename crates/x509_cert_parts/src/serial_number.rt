@@ -79,7 +79,7 @@ impl<P> SerialNumber<P> {
     /// This number.
     ///
     /// # Errors
-    /// Want of memory.
+    /// Out of memory.
     pub fn from_u64(alloc: Global, number: u64) -> Result<SerialNumber<P>, Error>
         ensures { Gives (λ n. n) result (Ok (pos number)) }
     {
@@ -153,7 +153,7 @@ impl<P> SerialNumber<P> {
     /// A copy.
     ///
     /// # Errors
-    /// Want of memory.
+    /// Out of memory.
     pub fn clone(&self, alloc: Global) -> Result<SerialNumber<P>, AllocError>
         ensures { IfOk result (λ n. n ≡ self.now) }
     {

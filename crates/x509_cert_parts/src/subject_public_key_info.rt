@@ -32,7 +32,7 @@ impl SubjectPublicKeyInfo {
     /// A copy.
     ///
     /// # Errors
-    /// Want of memory.
+    /// Out of memory.
     pub fn clone(&self, alloc: Global) -> Result<SubjectPublicKeyInfo, AllocError>
         ensures { IsCopy self.now result key_plain }
     {

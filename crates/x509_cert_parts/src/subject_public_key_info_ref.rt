@@ -31,7 +31,7 @@ impl<'a> SubjectPublicKeyInfoRef<'a> {
     /// A copy of the key that owns its octets.
     ///
     /// # Errors
-    /// Want of memory.
+    /// Out of memory.
     pub fn ref_to_owned(&self, alloc: Global) -> Result<SubjectPublicKeyInfo, AllocError>
         ensures { IfOk result (λ k. key_plain k ≡ key_lent self.now) }
     {

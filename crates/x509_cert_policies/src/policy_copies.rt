@@ -14,7 +14,7 @@ use der_types_numbers::Uint;
 use std::alloc::{AllocError, Global};
 
 impl PolicyQualifierInfo {
-    /// A copy. Want of memory is the only error.
+    /// A copy. Out of memory is the only error.
     pub fn clone(&self, alloc: Global) -> Result<PolicyQualifierInfo, AllocError>
         ensures { IsCopy self.now result views.policy_qualifier_info_plain }
     {
@@ -26,7 +26,7 @@ impl PolicyQualifierInfo {
 }
 
 impl PolicyInformation {
-    /// A copy. Want of memory is the only error.
+    /// A copy. Out of memory is the only error.
     pub fn clone(&self, alloc: Global) -> Result<PolicyInformation, AllocError>
         ensures { IsCopy self.now result views.policy_information_plain }
     {
@@ -42,7 +42,7 @@ impl PolicyInformation {
 }
 
 impl CertificatePolicies {
-    /// A copy. Want of memory is the only error.
+    /// A copy. Out of memory is the only error.
     pub fn clone(&self, alloc: Global) -> Result<CertificatePolicies, AllocError>
         ensures { IsCopy self.now result
             (λ x. plain_list views.policy_information_plain x.0.items) }
@@ -52,7 +52,7 @@ impl CertificatePolicies {
 }
 
 impl PolicyMappings {
-    /// A copy. Want of memory is the only error.
+    /// A copy. Out of memory is the only error.
     pub fn clone(&self, alloc: Global) -> Result<PolicyMappings, AllocError>
         ensures { IsCopy self.now result (λ x. plain_list views.policy_mapping_plain x.0.items) }
     {
@@ -61,7 +61,7 @@ impl PolicyMappings {
 }
 
 impl DisplayText {
-    /// A copy. Want of memory is the only error.
+    /// A copy. Out of memory is the only error.
     pub fn clone(&self, alloc: Global) -> Result<DisplayText, AllocError>
         ensures { IsCopy self.now result views.display_plain }
     {
@@ -76,7 +76,7 @@ impl DisplayText {
 }
 
 impl NoticeReference {
-    /// A copy. Want of memory is the only error.
+    /// A copy. Out of memory is the only error.
     pub fn clone(&self, alloc: Global) -> Result<NoticeReference, AllocError>
         ensures { IsCopy self.now result views.notice_reference_plain }
     {
@@ -88,7 +88,7 @@ impl NoticeReference {
 }
 
 impl UserNotice {
-    /// A copy. Want of memory is the only error.
+    /// A copy. Out of memory is the only error.
     pub fn clone(&self, alloc: Global) -> Result<UserNotice, AllocError>
         ensures { IsCopy self.now result views.user_notice_plain }
     {

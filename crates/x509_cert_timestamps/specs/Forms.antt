@@ -93,6 +93,6 @@ pub record Appends (f : Form) (v : Plain f) (old new : List ℕ) : Type 0 where
 abbrev pub StillBegins : List ℕ → List ℕ → Type 0
 StillBegins old new = take (length old) new ≡ old
 
--- only want of memory, or a vector that is too long, keeps a value from being written
+-- only out of memory, or a vector that is too long, keeps a value from being written
 abbrev pub CannotWrite : (f : Form) → Plain f → TlsError → Type 0
 CannotWrite f v e = (e ≡ OutOfMemory) ⊎ ((e ≡ InvalidVectorLength) × (¬ IsValue f v))

@@ -21,7 +21,7 @@ pub enum TlsError {
     /// A vector of more octets than its length can count.
     #[error("a vector is too long")]
     InvalidVectorLength,
-    /// Want of memory.
+    /// Out of memory.
     #[error("out of memory")]
     OutOfMemory,
 }

@@ -16,7 +16,7 @@ use x509_cert::{
     UtcTime,
 };
 
-/// The answer to a question about names and relative names.
+/// The answer to a question about names and RDNs.
 pub fn answer(alloc: Global, word: &str, rest: &str) -> Result<String, Refusal> {
     match word {
         "attributes" => attributes(alloc, rest),

@@ -28,13 +28,13 @@
 //! | `attributes HEX` | `ok` and for each attribute of the name its type and the octets of its value |
 //! | `first WHICH HEX` | `ok TEXT`, what the name has first of a type: `common-name`, `country`, `state`, `locality`, `organization`, `unit` or `email`; `ok none` where it has none |
 //! | `by-oid TYPE OID HEX` | `ok HEX`, what is written of the name's first value of that identifier, read as a value of the type; `ok none` where there is none |
-//! | `relative-members HEX` | `ok` and how many attributes the relative name has, and what is written of each |
-//! | `relative-list HEX` | the same of the list that the relative name becomes |
-//! | `turned HEX` | `ok HEX`, what is written of the sequence of relative names turned round |
-//! | `relative HEX HEX ..` | `ok HEX`, the relative name into which these attributes are inserted one by one |
-//! | `relative-of HEX HEX ..` | the same of the relative name that is made of all of them at once |
+//! | `relative-members HEX` | `ok` and how many attributes the RDN has, and what is written of each |
+//! | `relative-list HEX` | the same of the list that the RDN becomes |
+//! | `turned HEX` | `ok HEX`, what is written of the sequence of RDNs turned round |
+//! | `relative HEX HEX ..` | `ok HEX`, the RDN into which these attributes are inserted one by one |
+//! | `relative-of HEX HEX ..` | the same of the RDN that is made of all of them at once |
 //! | `again HEX HEX ..` | the same as `relative`: where an insertion finds no memory the name has to be as before it, and the insertion is made again; else `changed` |
-//! | `again push HEX HEX ..` | `ok HEX`, the sequence to which these relative names are pushed, with the same said of pushes |
+//! | `again push HEX HEX ..` | `ok HEX`, the sequence to which these RDNs are pushed, with the same said of pushes |
 //! | `name TEXT` | `ok TEXT`, the text that is printed of the name that the text spells |
 //! | `tls TYPE HEX` | `ok HEX HEX`, the octets that the value writes that these begin with, and the octets behind it |
 //! | `members HEX` | `ok` and the octets of each timestamp of a list, of which these are the encoding |

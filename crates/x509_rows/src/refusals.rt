@@ -13,7 +13,7 @@ use x509_cert::timestamps::TlsError;
 pub enum Refusal {
     /// The question is none, or of no type that is known.
     Unread,
-    /// Want of memory.
+    /// Out of memory.
     Memory,
     /// A call that found no memory changed something.
     Changed,

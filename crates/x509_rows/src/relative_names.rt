@@ -1,4 +1,4 @@
-//! Relative names that are made of attributes.
+//! RDNs that are made of attributes.
 
 use crate::refusals::Refusal;
 use crate::shown::{octets_of, written, written_in};
@@ -30,7 +30,7 @@ fn attributes_of(alloc: Global, words: &str) -> Result<Vec<AttributeTypeAndValue
     Ok(attributes)
 }
 
-/// The relative name into which attributes are inserted one by one.
+/// The RDN into which attributes are inserted one by one.
 pub fn inserted(alloc: Global, words: &str) -> Result<String, Refusal> {
     let mut name = RelativeDistinguishedName::default(alloc);
     for attribute in attributes_of(alloc, words)? {
@@ -68,7 +68,7 @@ fn insert_again(
     Ok(())
 }
 
-/// The relative name of all attributes at once.
+/// The RDN of all attributes at once.
 pub fn made(alloc: Global, words: &str) -> Result<String, Refusal> {
     written_in(
         alloc,
@@ -76,13 +76,13 @@ pub fn made(alloc: Global, words: &str) -> Result<String, Refusal> {
     )
 }
 
-/// The relative name that hex octets spell.
+/// The RDN that hex octets spell.
 fn relative_name_of(alloc: Global, word: &str) -> Result<RelativeDistinguishedName, Refusal> {
     let octets = octets_of(alloc, word)?;
     Ok(RelativeDistinguishedName::from_der(alloc, octets.as_slice())?)
 }
 
-/// The name of the sequence to which relative names are pushed, where a push that finds no memory
+/// The name of the sequence to which RDNs are pushed, where a push that finds no memory
 /// has to leave it, and is made again.
 fn pushed_again(alloc: Global, words: &str) -> Result<String, Refusal> {
     let mut names = RdnSequence::default(alloc);
@@ -92,7 +92,7 @@ fn pushed_again(alloc: Global, words: &str) -> Result<String, Refusal> {
     written(alloc, &Name::hazmat_from_rdn_sequence(names))
 }
 
-/// Pushes a relative name, at the second call where the first finds no memory.
+/// Pushes an RDN, at the second call where the first finds no memory.
 fn push_again(alloc: Global, names: &mut RdnSequence, word: &str) -> Result<(), Refusal> {
     let before = names.to_der(alloc)?;
     let Err(AllocError) = names.push(relative_name_of(alloc, word)?) else {
@@ -105,7 +105,7 @@ fn push_again(alloc: Global, names: &mut RdnSequence, word: &str) -> Result<(), 
     Ok(())
 }
 
-/// What is written of a sequence whose relative names are turned round in the list that it lends.
+/// What is written of a sequence whose RDNs are turned round in the list that it lends.
 pub fn turned(alloc: Global, octets: &str) -> Result<String, Refusal> {
     let octets = octets_of(alloc, octets)?;
     let mut sequence = RdnSequence::from_der(alloc, octets.as_slice())?;
@@ -113,13 +113,13 @@ pub fn turned(alloc: Global, octets: &str) -> Result<String, Refusal> {
     written(alloc, &sequence)
 }
 
-/// How many attributes a relative name has, and what is written of each.
+/// How many attributes an RDN has, and what is written of each.
 pub fn members(alloc: Global, octets: &str) -> Result<String, Refusal> {
     let name = relative_name_of(alloc, octets)?;
     members_in(alloc, name.iter())
 }
 
-/// As `members`, of the list that the relative name becomes.
+/// As `members`, of the list that the RDN becomes.
 pub fn listed(alloc: Global, octets: &str) -> Result<String, Refusal> {
     let set = AttributeSet::from(relative_name_of(alloc, octets)?);
     let attributes = set.into_vec()?;

@@ -1,4 +1,4 @@
-//! Questions about certification requests, paths and names.
+//! Questions about CSRs, paths and names.
 
 use crate::profiles;
 use crate::questions::{
