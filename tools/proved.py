@@ -1,9 +1,10 @@
 #!/usr/bin/env python3
 """Compares the tables of docs/TRUST.md and tools/reference/calls.md with the sources.
 
-    tools/proved.py         each call of a row has to be a public function of the file that the row
-                            names, and each clause one of these functions; laws that are named
-                            have to be there. It prints what isn't, and its status is 1 then.
+    tools/proved.py         each call of a row has to be a public function of the crate that stands
+                            above it, or of the file that the row names, and each clause one of
+                            these functions; laws that are named have to be there. It prints what
+                            isn't, and its status is 1 then.
     tools/proved.py --rest  the public calls with named clauses that no row names, by crate
 """
 
@@ -17,57 +18,69 @@ PAGES = [sources.TOP / "docs" / "TRUST.md", CALLS]
 CODE = re.compile(r"`([^`]+)`")
 
 
+class Row:
+    """A row of a table of calls: its line, the crates above it, and what stands in it."""
+
+    def __init__(self, number, crates, cells):
+        self.number, self.crates = number, crates
+        self.names, self.says, self.clauses, self.files = (*cells, "", "")[:4]
+
+    def here(self, calls):
+        """The public calls of the files that it names, else of the crates above it."""
+        if not self.files:
+            return [c for (crate, _), of in calls.items() if crate in self.crates for c in of]
+        return [c for path in self.paths() for c in calls.get(path, [])]
+
+    def paths(self):
+        """The files that it names, each with its crate."""
+        crate = None
+        for token in CODE.findall(self.files):
+            if token.endswith(".rt"):
+                yield crate, token
+            else:
+                crate = token
+
+    def named(self, calls):
+        """The names of calls in it, each with the public calls that it has."""
+        here = [call for call in self.here(calls) if call.public]
+        for name in CODE.findall(self.names):
+            owner, _, last = name.rpartition("::")
+            of = [call for call in here if call.name == last]
+            yield name, [call for call in of if call.owner == owner] or of
+
+
 def rows(page=CALLS):
-    """Each row of a table of calls, with the crate in whose part it stands."""
-    crate = None
+    """Each row of a table of calls: of two cells, or of four with its clauses and files."""
+    crates = []
     for number, line in enumerate(page.read_text().splitlines(), 1):
-        heading = re.match(r"^\*\*`([a-z0-9_]+)`\*\*", line)
-        if heading:
-            crate = heading[1]
+        if line.startswith("**`"):
+            crates = re.findall(r"\*\*`([a-z0-9_]+)`\*\*", line)
         cells = [cell.strip() for cell in line.strip("|").split(" | ")]
-        if line.startswith("|") and len(cells) == 4 and cells[0] not in ("Call", "---"):
-            yield number, crate, cells
+        if line.startswith("|") and len(cells) == (2 if page == CALLS else 4):
+            if cells[0] not in ("Call", "---", "---|---"):
+                yield Row(number, crates, cells)
 
 
-def paths_of(crate, files):
-    """The files that a row names, each with its crate."""
-    for token in CODE.findall(files):
-        if token.endswith(".rt"):
-            yield crate, token
-        else:
-            crate = token
-
-
-def named_by(crate, cells, calls):
-    """The names of calls in a row, each with the public calls that it has in the row's files."""
-    here = [c for path in paths_of(crate, cells[3]) for c in calls.get(path, []) if c.public]
-    for name in CODE.findall(cells[0]):
-        owner, _, last = name.rpartition("::")
-        of = [call for call in here if call.name == last]
-        yield name, [call for call in of if call.owner == owner] or of
-
-
-def row_faults(number, crate, cells, calls, named):
+def row_faults(row, calls, named):
     """What a row names that isn't there; the calls that it names are added to `named`."""
-    what, _, clauses, files = cells
-    for path in paths_of(crate, files):
-        if path not in calls and not (sources.CRATES / path[0] / "src" / path[1]).exists():
-            yield f"{number}: no file {path[0]}/src/{path[1]}"
+    for crate, name in row.paths():
+        if not (sources.CRATES / crate / "src" / name).exists():
+            yield f"{row.number}: no file {crate}/src/{name}"
     known = set()
-    for name, of in named_by(crate, cells, calls):
+    for name, of in row.named(calls):
         if not of:
-            yield f"{number}: no call {name} in {files}"
+            yield f"{row.number}: no call {name} in {row.files or ' '.join(row.crates)}"
         named.update((call.crate, call.title) for call in of)
         known.update(clause for call in of for _, clause in call.clauses)
-    for name in CODE.findall(clauses):
+    for name in CODE.findall(row.clauses):
         if name not in known:
-            yield f"{number}: no clause {name} of {what}"
+            yield f"{row.number}: no clause {name} of {row.says}"
 
 
 def page_faults(page, calls, named):
     """What a page names that isn't there: in its rows, and as laws and definitions beside them."""
-    for number, crate, cells in rows(page):
-        yield from row_faults(number, crate, cells, calls, named)
+    for row in rows(page):
+        yield from row_faults(row, calls, named)
     everything = {call.name for of in calls.values() for call in of}
     definitions = {d for file in sources.specs().values() for d in file.definitions}
     for line in page.read_text().splitlines():

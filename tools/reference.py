@@ -337,16 +337,16 @@ class Book:
             where = page.relative_to(sources.TOP)
             for fault in proved.page_faults(page, calls, named):
                 self.faults.append(f"{where}: {fault}")
-            for number, crate, cells in proved.rows(page):
-                found = dict(proved.named_by(crate, cells, calls))
-                self.claims[crate or "Claims"].append((cells, found))
+            for row in proved.rows(page):
+                found = dict(row.named(calls))
+                self.claims[tuple(row.crates)].append((row, found))
                 for name, of in found.items():
                     told = [call for call in of if call in self.urls]
                     if not told:
-                        self.faults.append(f"{where}: {number}: {name} has no page")
-                    for call in told if page == proved.CALLS else ():
-                        if cells[1] not in self.says[call]:
-                            self.says[call].append(cells[1])
+                        self.faults.append(f"{where}: {row.number}: {name} has no page")
+                    for call in told:
+                        if row.says not in self.says[call]:
+                            self.says[call].append(row.says)
 
     def called(self, text, found):
         """The names of calls in a cell of a claim, each a link."""
