@@ -756,7 +756,7 @@ def bared(line):
 
 
 def described(tool, kind, file):
-    run = subprocess.run([tool, "describe", kind, file], capture_output=True)
+    run = subprocess.run([tool, "describe", kind, "--digests", file], capture_output=True)
     if run.returncode:
         return [f"status {run.returncode}", *run.stderr.decode().splitlines()]
     return [bared(line) for line in run.stdout.decode().removesuffix("\n").split("\n")]

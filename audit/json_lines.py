@@ -463,7 +463,7 @@ def main():
     else:
         for file in files:
             for kind in ("certificate", "list", "request"):
-                compare(tool, ["describe", kind, file], lambda read: members("", read))
+                compare(tool, ["describe", kind, "--digests", file], lambda read: members("", read))
                 compare(tool, ["explain", kind, file], explained)
             for kind in ("anchors", "stream"):
                 compare(tool, ["explain", kind, file], explained)

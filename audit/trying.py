@@ -184,7 +184,10 @@ def clause_of(path, left):
     required = next(filter(None, (re.match(r"(\w+)-requires", goal) for goal in left)), None)
     if clause:
         return f"`{function}`: `{clause[1]}`"
-    return f"`{function}`: what `{required[1]}` requires" if required else f"`{function}`"
+    # A function of one clause leaves `returns`, and not its name.
+    if required and not any(goal.startswith("returns") for goal in left):
+        return f"`{function}`: what `{required[1]}` requires"
+    return f"`{function}`"
 
 
 class Trial:

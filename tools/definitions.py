@@ -10,14 +10,12 @@ A CALL is a function (`check`), or one of a type (`Issued::audit`). A variable t
 a definition counts as that one, so the list may be too long by such names, and never too short.
 """
 
-import collections
 import sys
 
 import sources
 import wrap
 
 PAGE = sources.TOP / "docs" / "tables" / "DEFINITIONS.md"
-SHOWN = 4
 
 # What is claimed most often, in the words of a user, and the call whose contract says it.
 CLAIMS = [
@@ -58,10 +56,8 @@ tools/definitions.py Issued::audit
 A contract that is generic, as that of `from_der`, speaks of what its type states: its shape and its
 plain value, which stand in the `impl` of the type and cite the grammar of its crate.
 
-Lines are those of the file. *Cited by* are calls whose contracts name a definition of the file, and
-types that state something by it (`ghost` members of an `impl`); *through* are files of definitions
-that rest on it, where no public contract names it. *Standard* is what the comments of the file
-name.
+Lines are those of the file. Which calls cite a definition, and which section of a standard it
+stands for, the [reference](../../tools/README.md#sources-and-documents) says of each.
 """
 
 
@@ -84,36 +80,8 @@ def first_sentence(text):
     return text.rstrip(".:")
 
 
-def shown(names):
-    names = list(collections.OrderedDict.fromkeys(names))
-    rest = len(names) - SHOWN
-    text = ", ".join(f"`{name}`" for name in names[:SHOWN])
-    return f"{text} and {rest} more" if rest > 0 else text
-
-
-def label(call, crate):
-    title = call.owner if call.name.startswith("ghost ") else call.title
-    return title if call.crate == crate else f"{call.crate}: {title}"
-
-
 def page():
     files, code = sources.read_all()
-    cited, behind = collections.defaultdict(list), collections.defaultdict(set)
-    programs = {path.parts[-3] for path in sources.CRATES.glob("*/src/main.rt")}
-    for call in calls_of(code):
-        if call.public and call.crate not in programs and not call.crate.endswith("_tests"):
-            for key in call.cites:
-                cited[key[:2]].append(call)
-    for (crate, _), calls in cited.items():
-        calls.sort(
-            key=lambda c: (c.path == "laws.rt", c.crate != crate, c.name.startswith("ghost "))
-        )
-    named = set(cited)
-    for file in files.values():
-        for definition in file.definitions.values():
-            for key in definition.cites:
-                if key[:2] != (file.crate, file.name):
-                    behind[key[:2]].add((file.crate, file.name))
     by_crate = {file.crate for file in files.values() if file.name != "Lib"}
     order = [crate for crate in sources.closure(sources.dependencies()) if crate in by_crate]
     links = [f"[`{crate}`](#{crate})" for crate in order]
@@ -130,15 +98,11 @@ def page():
                 keys |= sources.reached(files, call.cites)
         kept = [files[k[:2]].definitions[k[2]] for k in keys]
         kept = [d for d in kept if d.sort != "proof"]
-        places = collections.OrderedDict()
-        for definition in sorted(kept, key=lambda d: d.key):
-            places.setdefault(definition.crate, set()).add(definition.file)
-        where = "; ".join(f"{c}: {len(f)}" for c, f in places.items())
+        where = len({d.key[:2] for d in kept})
         size = sum(d.lines for d in kept)
         call = f"`{name.split()[0]}` (`{crate}`)"
         lines.append(f"| {words} | {call} | {len(kept)} | {size} | {where} |")
-    counted = "Files are counted by crate; those of one crate stand on those of crates below it."
-    lines += ["", counted, ""]
+    lines.append("")
     for crate in sources.closure(sources.dependencies()):
         own = [file for file in files.values() if file.crate == crate and file.name != "Lib"]
         here = [f for f in own if any(d.sort != "proof" for d in f.definitions.values())]
@@ -150,22 +114,12 @@ def page():
         if here:
             count = "1 file" if len(here) == 1 else f"{len(here)} files"
             lines += [f"{count}, {total} lines.", ""]
-            lines += ["| File | Lines | Definitions | What it says | Standard | Cited by |"]
-            lines += ["|---|---|---|---|---|---|"]
+            lines += ["| File | Lines | Definitions | What it says |", "|---|---|---|---|"]
         for file in here:
             kept = [d for d in file.definitions.values() if d.sort != "proof"]
-            by = shown(label(c, crate) for c in cited[(crate, file.name)])
-            if not by:
-                through = sorted(
-                    behind[(crate, file.name)], key=lambda f: (f not in named, f[0] != crate, f)
-                )
-                names = (n if c == crate else f"{c}: {n}" for c, n in through)
-                by = f"through {shown(names)}" if through else "proofs alone, or private calls"
             link = f"[`{file.name}`](../../crates/{crate}/specs/{file.name}.antt)"
             says = first_sentence(file.head)
-            lines.append(
-                f"| {link} | {len(file.lines)} | {len(kept)} | {says} | {file.sections} | {by} |"
-            )
+            lines.append(f"| {link} | {len(file.lines)} | {len(kept)} | {says} |")
         if passing:
             names = ", ".join(f"`{f.name}`" for f in passing)
             lines += ["", f"Passed on from the crates below: {names}."]
@@ -182,16 +136,9 @@ def page():
         "its ghost members, as that an order is total, and such a member can't import from "
         f"`proofs/` of its own crate; {serving} serve these"
     )
-    more = len(proofs) - counted - serving
-    told += "; each other one is marked `*`, and belongs there." if more else "."
-    lines += [told, ""]
-    places = collections.OrderedDict()
-    for proof in proofs:
-        mark = "" if proof.key in behind_them else "*"
-        name = f"`{proof.name}`{mark} ({proof.line})"
-        places.setdefault((proof.crate, proof.file), []).append(name)
-    for (crate, name), names in places.items():
-        lines.append(f"- `{crate}/specs/{name}`: " + ", ".join(names) + ".")
+    left = [proof for proof in proofs if proof.key not in behind_them]
+    lines += [told + ("; others belong into `proofs/`:" if left else "."), ""]
+    lines += [f"- `{it.crate}/specs/{it.file}`: `{it.name}` ({it.line})." for it in left]
     return wrap.wrapped("\n".join(lines).rstrip() + "\n")
 
 

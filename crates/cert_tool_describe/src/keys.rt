@@ -217,16 +217,22 @@ pub fn add_key(lines: &mut Lines, key: &SubjectPublicKeyInfo) {
     lines.close();
 }
 
-// Adds the lines of the digests of octets.
+// Adds the lines of the digests of octets, if they are asked for.
 pub fn add_digests(lines: &mut Lines, names: [&str; 2], octets: &[u8]) {
+    if !lines.has_digests {
+        return;
+    }
     let [first, second] = names;
     add_octets(lines, first, Sha1::digest(octets).as_slice());
     add_octets(lines, second, Sha256::digest(octets).as_slice());
 }
 
-// Adds the lines of the digests of a key: of its encoding, and of its bits, as most identifiers of
-// keys are made (RFC 5280 4.2.1.2).
+// Adds the lines of the digests of a key, if they are asked for: of its encoding, and of its bits,
+// as most identifiers of keys are made (RFC 5280 4.2.1.2).
 pub fn add_key_digests(lines: &mut Lines, key: &SubjectPublicKeyInfo) {
+    if !lines.has_digests {
+        return;
+    }
     match key.to_der(lines.alloc) {
         Ok(octets) => add_digests(lines, ["key-sha1", "key-sha256"], octets.as_slice()),
         Err(_) => lines.fail(),

@@ -66,8 +66,8 @@ const OF_KEYS: [(&[u8], &str); 24] = [
     (&[0x2b, 0x81, 0x04, 0, 35], "secp521r1"),
 ];
 
-// Of extensions (RFC 5280 4.2, 5.2, 5.3, RFC 6962 3.3, RFC 7633).
-const OF_EXTENSIONS: [(&[u8], &str); 29] = [
+// Of extensions below 2.5.29 (RFC 5280 4.2, 5.2, 5.3).
+const OF_EXTENSIONS: [(&[u8], &str); 24] = [
     (&[0x55, 29, 9], "subjectDirectoryAttributes"),
     (&[0x55, 29, 14], "subjectKeyIdentifier"),
     (&[0x55, 29, 15], "keyUsage"),
@@ -92,6 +92,11 @@ const OF_EXTENSIONS: [(&[u8], &str); 29] = [
     (&[0x55, 29, 37, 0], "anyExtendedKeyUsage"),
     (&[0x55, 29, 46], "freshestCRL"),
     (&[0x55, 29, 54], "inhibitAnyPolicy"),
+];
+
+// Of other extensions, of purposes and ways of access (RFC 5280 4.2.1.12, 4.2.2, RFC 2985 5.4.2,
+// RFC 6962 3.3, RFC 7633).
+const OF_USES: [(&[u8], &str); 14] = [
     (&[0x2b, 6, 1, 5, 5, 7, 1, 1], "authorityInfoAccess"),
     (&[0x2b, 6, 1, 5, 5, 7, 1, 11], "subjectInfoAccess"),
     (&[0x2b, 6, 1, 5, 5, 7, 1, 24], "tlsFeature"),
@@ -103,10 +108,6 @@ const OF_EXTENSIONS: [(&[u8], &str); 29] = [
         &[0x2a, 0x86, 0x48, 0x86, 0xf7, 0x0d, 1, 9, 14],
         "extensionRequest",
     ),
-];
-
-// Of purposes and ways of access (RFC 5280 4.2.1.12, 4.2.2).
-const OF_USES: [(&[u8], &str); 9] = [
     (&[0x2b, 6, 1, 5, 5, 7, 3, 1], "serverAuth"),
     (&[0x2b, 6, 1, 5, 5, 7, 3, 2], "clientAuth"),
     (&[0x2b, 6, 1, 5, 5, 7, 3, 3], "codeSigning"),
@@ -118,9 +119,8 @@ const OF_USES: [(&[u8], &str); 9] = [
     (&[0x2b, 6, 1, 5, 5, 7, 2, 1], "cps"),
 ];
 
-// Of attributes (X.520 5, RFC 4519 2, RFC 2985 5.4, and those of the certificates of web sites that
-// browsers agree upon).
-const OF_ATTRIBUTES: [(&[u8], &str); 29] = [
+// Of attributes below 2.5.4 (X.520 5, RFC 4519 2, and those of web sites that browsers agree upon).
+const OF_ATTRIBUTES: [(&[u8], &str); 21] = [
     (&[0x55, 4, 3], "commonName"),
     (&[0x55, 4, 4], "surname"),
     (&[0x55, 4, 5], "serialNumber"),
@@ -142,6 +142,10 @@ const OF_ATTRIBUTES: [(&[u8], &str); 29] = [
     (&[0x55, 4, 46], "dnQualifier"),
     (&[0x55, 4, 0x41], "pseudonym"),
     (&[0x55, 4, 0x61], "organizationIdentifier"),
+];
+
+// Of other attributes (RFC 4519 2, RFC 2985 5.4, and those of web sites that browsers agree upon).
+const OF_OTHER_ATTRIBUTES: [(&[u8], &str); 8] = [
     (&[9, 0x92, 38, 0x89, 0x93, 0xf2, 44, 0x64, 1, 1], "userId"),
     (
         &[9, 0x92, 38, 0x89, 0x93, 0xf2, 44, 0x64, 1, 25],
@@ -224,6 +228,10 @@ fn of_attributes() -> Names {
     &OF_ATTRIBUTES
 }
 
+fn of_other_attributes() -> Names {
+    &OF_OTHER_ATTRIBUTES
+}
+
 fn of_rest() -> Names {
     &OF_REST
 }
@@ -238,20 +246,13 @@ fn name_in(names: Names, octets: &[u8]) -> Option<&'static str> {
     None
 }
 
-// The name of an identifier of these octets, if it is well known. Those below 2.5.29 and 2.5.4
-// stand in one table each.
+// The name of an identifier of these octets, if it is well known.
 pub fn known_name(octets: &[u8]) -> Option<&'static str> {
     match octets {
         [0x55, 29, ..] => name_in(of_extensions(), octets),
         [0x55, 4, ..] => name_in(of_attributes(), octets),
         _ => {
-            for names in &[
-                of_keys(),
-                of_extensions(),
-                of_uses(),
-                of_attributes(),
-                of_rest(),
-            ] {
+            for names in &[of_keys(), of_uses(), of_other_attributes(), of_rest()] {
                 if let Some(name) = name_in(*names, octets) {
                     return Some(name);
                 }

@@ -5,7 +5,7 @@ use const_oid::ObjectIdentifier;
 use der_core::ErrorKind;
 use std::alloc::{AllocError, Global};
 use std::fmt;
-use std::io::Write;
+use std::fmt::Write;
 use ucd_category::GeneralCategory;
 use x509_cert_parts::Time;
 
@@ -22,6 +22,8 @@ const DIGITS: [u8; 16] = *b"0123456789ABCDEF";
 pub struct Lines {
     pub alloc: Global,
     pub is_json: bool,
+    // Whether a description has digests.
+    pub has_digests: bool,
     text: Vec<u8>,
     // How deep the line stands.
     depth: u32,
@@ -38,6 +40,7 @@ impl Lines {
         let mut lines = Lines {
             alloc,
             is_json,
+            has_digests: false,
             text: Vec::new(alloc),
             depth: 0,
             is_first: true,
@@ -238,7 +241,7 @@ impl Lines {
     /// Adds a part of a text as it prints itself; nothing in it has to be escaped.
     pub fn show<D: fmt::Display + Drop>(&mut self, before: &str, value: D, behind: &str) {
         self.push(before);
-        if write!(self.text, "{value}").is_err() {
+        if write!(self, "{value}").is_err() {
             self.has_failed = true;
         }
         self.push(behind);
@@ -546,6 +549,14 @@ impl Lines {
         self.key("finding");
         self.text(finding);
         self.close();
+    }
+}
+
+// What prints itself adds its text.
+impl Write for Lines {
+    fn write_str(&mut self, part: &str) -> fmt::Result {
+        self.push(part);
+        Ok(())
     }
 }
 

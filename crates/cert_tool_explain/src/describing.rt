@@ -23,8 +23,10 @@ fn described(
     kind: Kind,
     octets: &[u8],
     is_json: bool,
+    has_digests: bool,
 ) -> Result<Option<Vec<u8>>, AllocError> {
     let mut lines = Lines::new(alloc, is_json);
+    lines.has_digests = has_digests;
     match add_described(&mut lines, kind, octets) {
         None => {
             let text = lines.finish()?;
@@ -43,17 +45,18 @@ fn refuse<E: Output>(alloc: Global, kind: Kind, octets: &[u8], err: &mut E) -> E
     }
 }
 
-/// Writes the description of what these octets spell to `out`, or to `err` why they aren't of the
-/// kind, and answers the exit status.
+/// Writes the description of what these octets spell to `out`, with digests if they are asked for,
+/// or to `err` why they aren't of the kind, and answers the exit status.
 pub fn describe<O: Output, E: Output>(
     alloc: Global,
     kind: Kind,
     octets: &[u8],
     is_json: bool,
+    has_digests: bool,
     out: &mut O,
     err: &mut E,
 ) -> ExitStatus {
-    match described(alloc, kind, octets, is_json) {
+    match described(alloc, kind, octets, is_json, has_digests) {
         Ok(Some(text)) => answer(out, err, text.as_slice(), ExitStatus::Done),
         Ok(None) => refuse(alloc, kind, octets, err),
         Err(_) => tell_memory(err),

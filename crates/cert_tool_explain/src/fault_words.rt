@@ -1,5 +1,6 @@
 //! Why values are refused, in the words of the standards.
 
+use const_oid::ObjectIdentifier;
 use der_core::{ErrorKind, Tag};
 
 // Why something is wrong, and the section that says so, if one does.
@@ -197,7 +198,7 @@ fn identifier_words(content: &[u8]) -> Words {
         (": it has no octets", "X.690 8.19.2")
     } else if !begins_arc {
         (": its last arc doesn't end", "X.690 8.19.2")
-    } else if content.len() > 39 {
+    } else if content.len() > ObjectIdentifier::<39>::MAX_SIZE {
         (": it has more than 39 octets, the most that is read", "")
     } else {
         (

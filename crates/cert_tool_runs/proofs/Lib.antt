@@ -3,3 +3,4 @@ pub mod WordsOfLine
 pub mod SplitLaws
 pub mod LineWords
 pub mod KeptLines
+mod JsonSteps

@@ -6,6 +6,7 @@ pub mod AnswerReading
 pub mod Stops
 pub mod Asking
 pub mod Verifying
+pub mod JsonTexts
 pub mod Splitting
 pub mod TaskRuns
 pub mod Laws

@@ -10,8 +10,11 @@ use Rattle.cert_desk_io.specs.Telling.{IsAnswer, IsComplaint, IsMemoryTold}
 use Rattle.cert_desk_checking.specs.declared.outcome.Outcome.{Outcome}
 use Rattle.const_oid.specs.Bound.{Bound}
 use Rattle.x509_cert_certificates.specs.Certificates.{PlainCertificate, certificate_octets}
+use Rattle.x509_cert_certificates.specs.Certificates.{subject}
+use Rattle.x509_cert_names.specs.PlainTexts.{name_text}
 use Rattle.cert_desk_bundle.specs.Chains.{offset_at}
 use Rattle.cert_desk_bundle.specs.Streams.{Kept}
+use Rattle.cert_tool_runs.specs.JsonTexts.{escaped_text, place_object}
 use Rattle.cert_tool_runs.specs.Stops.{IsStopTold, stop_of}
 
 -- where the certificate c at a place stands
@@ -29,20 +32,24 @@ places_below cs (suc place) =
 abbrev pub place_lines : List PlainCertificate → List ℕ
 place_lines cs = places_below cs (length cs)
 
--- where the certificates stand as JSON (RFC 8259): an array of objects
+-- where the certificate c at a place stands, and whose it is, as an object of JSON (RFC 8259)
 abbrev pub place_json : List PlainCertificate → ℕ → PlainCertificate → List ℕ
 place_json cs place c =
-    codes "{\"place\":" ++ decimal place ++ codes ",\"offset\":"
-    ++ decimal (offset_at Bound cs place) ++ codes ",\"length\":"
-    ++ decimal (length (certificate_octets Bound c)) ++ codes "}"
+    place_object place (offset_at Bound cs place) (length (certificate_octets Bound c))
+    (escaped_text (name_text (subject c)))
+
+abbrev pub json_at : List PlainCertificate → ℕ → List ℕ
+json_at cs place = option_map_or (place_json cs place) (slice_get cs place) []
 
 abbrev pub comma_before : ℕ → List ℕ
 comma_before place = if place == 0 then [] else codes ","
 
+-- the array of the first so many, without its end
+
 abbrev pub json_places_below : List PlainCertificate → ℕ → List ℕ
 json_places_below cs zero = codes "["
-json_places_below cs (suc place) = json_places_below cs place ++ comma_before place
-    ++ option_map_or (place_json cs place) (slice_get cs place) []
+json_places_below cs (suc place) =
+    json_places_below cs place ++ comma_before place ++ json_at cs place
 
 -- where the certificates stand, as JSON or in lines
 abbrev pub places_text : Bool → List PlainCertificate → List ℕ

@@ -96,6 +96,11 @@ abbrev pub splits : Command → Bool
 splits commands.Split = true
 splits _ = false
 
+abbrev pub describes : Command → Bool
+describes (commands.Describe kind) = true
+describes commands.DescribeStream = true
+describes _ = false
+
 -- what writes texts of its own, and not octets or lines that are read again
 abbrev pub tells : Command → Bool
 tells commands.Questions = false
@@ -110,6 +115,7 @@ need_of command keys.Purpose = if judges command then needs.Allowed else needs.B
 need_of command keys.Limit = if reads_stream command then needs.Allowed else needs.Barred
 need_of command keys.Place = if splits command then needs.Allowed else needs.Barred
 need_of command keys.Json = if tells command then needs.Allowed else needs.Barred
+need_of command keys.Digests = if describes command then needs.Allowed else needs.Barred
 
 abbrev pub IsMet : Need → Option (List ℕ) → Type 0
 IsMet needs.Needed value = IsSome value
@@ -123,7 +129,7 @@ abbrev pub KeepsAll : Command → PlainGiven → Type 0
 KeepsAll command g =
     Keeps command g keys.Anchors × Keeps command g keys.Answers × Keeps command g keys.At
     × Keeps command g keys.Purpose × Keeps command g keys.Limit × Keeps command g keys.Place
-    × Keeps command g keys.Json
+    × Keeps command g keys.Json × Keeps command g keys.Digests
 
 -- what stands for options that are left out
 abbrev pub moment_text : PlainGiven → List ℕ
@@ -195,7 +201,8 @@ IsTask command file g task =
     × (task.anchors.now ≡ unwrap_or g.anchors []) × (task.answers.now ≡ unwrap_or g.answers [])
     × IsMoment task.moment (moment_text g) × IsPurpose task.purpose (purpose_text g)
     × IsLimit task.limit (limit_text g) × IsPlace task.place g.place
-    × (task.json ≡ is_some g.json) × (is_octets_in_json g ≡ false)
+    × (task.json ≡ is_some g.json) × (task.digests ≡ is_some g.digests)
+    × (is_octets_in_json g ≡ false)
     × (shares_input task.anchors.now task.answers.now file ≡ false)
 
 abbrev pub AsksFor : List (List ℕ) → Task → Type 0

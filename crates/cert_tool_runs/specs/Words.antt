@@ -19,11 +19,13 @@ key_of word =
     else if bytes_eq word (codes "--limit") then Some keys.Limit
     else if bytes_eq word (codes "--place") then Some keys.Place
     else if bytes_eq word (codes "--json") then Some keys.Json
+    else if bytes_eq word (codes "--digests") then Some keys.Digests
     else None
 
--- the option that has no value: it is its own
+-- the options that have no value: each is its own
 abbrev pub stands_alone : Key → Bool
 stands_alone keys.Json = true
+stands_alone keys.Digests = true
 stands_alone _ = false
 
 -- an option that has a value
@@ -50,6 +52,7 @@ pub record PlainGiven : Type 0 where
   pub limit : Option (List ℕ)
   pub place : Option (List ℕ)
   pub json : Option (List ℕ)
+  pub digests : Option (List ℕ)
   pub awaited : Option Key
 
 abbrev pub nothing_given : PlainGiven
@@ -64,6 +67,7 @@ nothing_given = record {
   limit = None;
   place = None;
   json = None;
+  digests = None;
   awaited = None;
 }
 
@@ -75,6 +79,7 @@ value_of keys.Purpose g = g.purpose
 value_of keys.Limit g = g.limit
 value_of keys.Place g = g.place
 value_of keys.Json g = g.json
+value_of keys.Digests g = g.digests
 
 -- with this value of an option, and none awaited
 abbrev pub with_value : Key → List ℕ → PlainGiven → PlainGiven
@@ -85,6 +90,7 @@ with_value keys.Purpose text g = record g { purpose = Some text; awaited = None 
 with_value keys.Limit text g = record g { limit = Some text; awaited = None }
 with_value keys.Place text g = record g { place = Some text; awaited = None }
 with_value keys.Json text g = record g { json = Some text; awaited = None }
+with_value keys.Digests text g = record g { digests = Some text; awaited = None }
 
 -- how words are wrong: no such option, or one that has no value, with one; an option twice; an
 -- option without its value; a word too many
@@ -155,6 +161,7 @@ given_plain g = record {
   limit = option_map (λ text. text.now) g.limit;
   place = option_map (λ text. text.now) g.place;
   json = option_map (λ text. text.now) g.json;
+  digests = option_map (λ text. text.now) g.digests;
   awaited = g.awaited;
 }
 

@@ -53,12 +53,13 @@ fn told(verdict: Verdict) -> Outcome {
     Outcome::Checked(Checked { verdict, calls: 0 })
 }
 
-// How certificates are described: as lines or as lines of JSON; and whether a line on the error
-// output counts them.
+// How certificates are described: as lines or as lines of JSON, with digests or without; and
+// whether a line on the error output counts them.
 #[derive(Drop)]
 struct Form {
     alloc: Global,
     is_json: bool,
+    has_digests: bool,
     is_watched: bool,
 }
 
@@ -69,6 +70,7 @@ impl Form {
     // What describes a certificate of these octets; as JSON, without the end of its line.
     fn described(&self, octets: &[u8]) -> Result<Vec<u8>, AllocError> {
         let mut lines = Lines::new(self.alloc, self.is_json);
+        lines.has_digests = self.has_digests;
         if add_certificate(&mut lines, octets).is_some() {
             lines.fail();
         }
@@ -267,6 +269,7 @@ pub(crate) fn run_describe<S: Input, O: Output, E: Output>(
     err: &mut E,
     limit: u32,
     is_json: bool,
+    has_digests: bool,
     is_watched: bool,
 ) -> ExitStatus
     requires { 6 ≤ limit }
@@ -274,6 +277,7 @@ pub(crate) fn run_describe<S: Input, O: Output, E: Output>(
     let form = Form {
         alloc,
         is_json,
+        has_digests,
         is_watched,
     };
     let ended = write_each(&form, stream, out, err, limit);

@@ -23,6 +23,8 @@ pub enum Key {
     Place,
     /// `--json`, the form of what is written; it has no value.
     Json,
+    /// `--digests`, which are told too; it has no value.
+    Digests,
 }
 
 /// What is wrong with a word.
@@ -52,6 +54,7 @@ pub(crate) struct Given<'a> {
     pub(crate) limit: Option<&'a str>,
     pub(crate) place: Option<&'a str>,
     pub(crate) json: Option<&'a str>,
+    pub(crate) digests: Option<&'a str>,
     awaited: Option<Key>,
 }
 
@@ -67,6 +70,7 @@ fn key_of(word: &str) -> Option<Key>
         "--limit" => Some(Key::Limit),
         "--place" => Some(Key::Place),
         "--json" => Some(Key::Json),
+        "--digests" => Some(Key::Digests),
         _ => None,
     }
 }
@@ -75,7 +79,7 @@ fn key_of(word: &str) -> Option<Key>
 fn stands_alone(key: Key) -> bool
     ensures { result ≡ stands_alone key }
 {
-    matches!(key, Key::Json)
+    matches!(key, Key::Json | Key::Digests)
 }
 
 // The option of a name, if it has a value.
@@ -126,6 +130,7 @@ fn nothing_given<'a>() -> Given<'a>
         limit: None,
         place: None,
         json: None,
+        digests: None,
         awaited: None,
     }
 }
@@ -143,6 +148,7 @@ impl<'a> Given<'a> {
             Key::Limit => self.limit,
             Key::Place => self.place,
             Key::Json => self.json,
+            Key::Digests => self.digests,
         }
     }
 
@@ -185,6 +191,11 @@ impl<'a> Given<'a> {
             },
             Key::Json => Given {
                 json: text,
+                awaited,
+                ..*self
+            },
+            Key::Digests => Given {
+                digests: text,
                 awaited,
                 ..*self
             },

@@ -1,7 +1,7 @@
 //! What the program says of itself.
 
 // Which program it is.
-pub(crate) const VERSION: &str = "cert_tool 0.12.0\n";
+pub(crate) const VERSION: &str = "cert_tool 0.13.0\n";
 
 // How the program is called.
 const USAGE: &str = "usage: cert_tool COMMAND OPTIONS FILE, where COMMAND is one of
@@ -53,11 +53,12 @@ the certificate first that an anchor signed.
 ";
 
 // What is said of `describe`.
-const DESCRIBE: &str = "usage: cert_tool describe KIND [--json] FILE
-       cert_tool describe stream [--limit OCTETS] [--json] STREAM
+const DESCRIBE: &str = "usage: cert_tool describe KIND [--digests] [--json] FILE
+       cert_tool describe stream [--limit OCTETS] [--digests] [--json] STREAM
 Writes what FILE says, a line for each part, or what each certificate of STREAM says, one after the
 other, as it is read; with --json a document a line.
 KIND       certificate, list (of revoked certificates) or request
+--digests  SHA-1 and SHA-256 of the octets and of the key, too
 ";
 
 // What is said of `explain`.

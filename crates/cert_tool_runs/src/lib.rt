@@ -17,6 +17,7 @@ mod files;
 mod given;
 mod heard;
 mod help;
+mod json_texts;
 pub mod laws;
 mod line_fault;
 mod no_answers;

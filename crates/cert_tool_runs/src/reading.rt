@@ -72,7 +72,9 @@ pub(crate) fn read<I: Input + Drop, F: NamedInputs<I>, O: Output, E: Output>(
     };
     let (octets, is_json) = (octets.as_slice(), task.json);
     match task.command {
-        Command::Describe(kind) => describe(alloc, kind, octets, is_json, out, err),
+        Command::Describe(kind) => {
+            describe(alloc, kind, octets, is_json, task.digests, out, err)
+        }
         Command::Explain(kind) => tell_text(explain_octets(alloc, octets, kind, is_json), out, err),
         Command::ExplainAnchors => tell_text(explain_anchors(alloc, octets, is_json), out, err),
         _ => tell_text(explain_stream(alloc, octets, task.limit, is_json), out, err),

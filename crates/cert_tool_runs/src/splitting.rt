@@ -1,18 +1,27 @@
 //! Runs that take streams apart.
 
-ghost use Rattle.std.specs.Prelude.{◌≡◌, ◌≤◌, IfOk, string_bytes, true};
+ghost use Rattle.std.specs.Prelude.{◌≡◌, ◌<◌, ◌≤◌, IfOk, length, string_bytes, true};
+ghost use Rattle.x509_cert_certificates.specs.Certificates.{subject};
+ghost use Rattle.x509_cert_certificates.specs.Views.{certificate_plain};
+ghost use Rattle.x509_cert_names.specs.PlainTexts.{name_text};
+ghost use Rattle.x509_cert_names.specs.Views.{name_plain};
 ghost use Rattle.cert_desk_io.specs.Devices.{sink, source};
 ghost use Rattle.cert_desk_bundle.specs.Streams.{Kept};
+ghost use Rattle.cert_tool_runs.specs.JsonTexts.{escaped_text};
 ghost use Rattle.cert_tool_runs.specs.Splitting.{IsListed, IsReversed, IsTaken, comma_before};
-ghost use Rattle.cert_tool_runs.specs.Splitting.{place_lines, places_text, reversed};
+ghost use Rattle.cert_tool_runs.specs.Splitting.{json_at, place_lines, places_text, reversed};
 ghost use Rattle.cert_tool_runs.specs.Stops.{FedWithin};
 
+use crate::json_texts::{escaped_text, place_object};
 use crate::stopping::tell_stop;
 use crate::stream_fault::stop_of;
 use cert_desk_bundle::Bundle;
 use cert_desk_checking::read_stream;
 use cert_desk_io::{ExitStatus, Input, Output, answer, complain, tell_memory};
 use std::alloc::{AllocError, Global};
+use x509_cert_certificates::CertificateInner;
+use x509_cert_names::Name;
+use x509_cert_parts::Raw;
 
 // A line for each certificate: its place, where it begins, and how many octets it has.
 fn list_of(alloc: Global, bundle: &Bundle) -> Result<String, AllocError>
@@ -34,6 +43,36 @@ fn comma_before(place: usize) -> &'static str
     if place == 0 { "" } else { "," }
 }
 
+// The text of a name (RFC 4514).
+fn name_text(alloc: Global, name: &Name) -> Result<String, AllocError>
+    ensures { IfOk result (λ text. string_bytes text ≡ name_text (name_plain name.now)) }
+{
+    let text = name.to_string(alloc)?;
+    Ok(text)
+}
+
+// The text of a certificate's subject, as it stands in a string of JSON.
+fn subject_of(alloc: Global, certificate: &CertificateInner<Raw>) -> Result<String, AllocError>
+    ensures { IfOk result (λ text. string_bytes text
+        ≡ escaped_text (name_text (subject (certificate_plain certificate.now)))) }
+{
+    let name = name_text(alloc, certificate.tbs_certificate().subject())?;
+    let text = escaped_text(alloc, name.as_str())?;
+    Ok(text)
+}
+
+// Where the certificate at a place stands, and whose it is, as an object of JSON.
+fn json_at(alloc: Global, bundle: &Bundle, place: usize) -> Result<String, AllocError>
+    requires { place < length bundle.now.certificates }
+    ensures { IfOk result (λ text. string_bytes text ≡ json_at bundle.now.certificates place) }
+{
+    let entry = bundle.get(place).unwrap();
+    let subject = subject_of(alloc, entry.certificate)?;
+    let len = entry.octets.len();
+    let text = place_object(alloc, place, entry.offset, len, subject.as_str())?;
+    Ok(text)
+}
+
 // Where the certificates stand as JSON: an array of objects.
 fn json_of(alloc: Global, bundle: &Bundle) -> Result<String, AllocError>
     ensures { IfOk result (λ text. string_bytes text ≡ places_text true bundle.now.certificates) }
@@ -41,13 +80,9 @@ fn json_of(alloc: Global, bundle: &Bundle) -> Result<String, AllocError>
     let mut text = String::new(alloc);
     text.push_str("[")?;
     for place in 0..bundle.len() {
-        let entry = bundle.get(place).unwrap();
-        let (offset, len) = (entry.offset, entry.octets.len());
-        let comma = comma_before(place);
-        write!(
-            text,
-            "{comma}{{\"place\":{place},\"offset\":{offset},\"length\":{len}}}"
-        )?;
+        let object = json_at(alloc, bundle, place)?;
+        let (comma, object) = (comma_before(place), object.as_str());
+        write!(text, "{comma}{object}")?;
     }
     text.push_str("]\n")?;
     Ok(text)
@@ -78,7 +113,8 @@ fn text_of(alloc: Global, bundle: &Bundle, json: bool) -> Result<String, AllocEr
 }
 
 /// Writes where each certificate of a stream stands, a line each: `PLACE OFFSET LENGTH`, in
-/// decimal. As JSON that is an array of objects, with the members `place`, `offset` and `length`.
+/// decimal. As JSON that is an array of objects, with the members `place`, `offset`, `length` and
+/// `subject`, the text of the name (RFC 4514).
 ///
 /// The certificates before a fault are listed too, and then the fault is told on the error output.
 pub fn run_list<S: Input, O: Output, E: Output>(

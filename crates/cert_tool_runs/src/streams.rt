@@ -120,6 +120,7 @@ pub(crate) fn describe_each<I: Input + Drop, F: NamedInputs<I>, O: Output, E: Ou
         err,
         task.limit,
         task.json,
+        task.digests,
         is_watched,
     );
     tell_behind(alloc, files, &stream, task, status, err);

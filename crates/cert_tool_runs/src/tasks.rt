@@ -6,7 +6,8 @@ ghost use Rattle.cert_tool_runs.specs.Tasks.{kind_of, of_word, of_described, of_
 ghost use Rattle.cert_tool_runs.specs.Tasks.{of_words, judges, asks, reads_stream, need_of, Keeps};
 ghost use Rattle.cert_tool_runs.specs.Tasks.{KeepsAll, IsTask, IsAmiss, AsksFor, IsMisuse};
 ghost use Rattle.cert_tool_runs.specs.Tasks.{is_standard, shares_input, IsPlace, IsNoValue};
-ghost use Rattle.cert_tool_runs.specs.Tasks.{command_in, plain_command, tells, is_octets_in_json};
+ghost use Rattle.cert_tool_runs.specs.Tasks.{command_in, plain_command, describes, tells};
+ghost use Rattle.cert_tool_runs.specs.Tasks.{is_octets_in_json};
 
 use crate::arguments::{Moment, limit_in, moment_in, number_in, purpose_in};
 use crate::given::{Given, Key, WordFault, given_in};
@@ -89,6 +90,8 @@ pub struct Task<'a> {
     pub place: Option<u64>,
     /// Whether what is written is JSON (RFC 8259).
     pub json: bool,
+    /// Whether digests are told too.
+    pub digests: bool,
 }
 
 // The kind that a word names.
@@ -202,6 +205,13 @@ impl Command {
         ) || self.asks()
     }
 
+    // Whether it describes something.
+    fn describes(self) -> bool
+        ensures { result ≡ describes self }
+    {
+        matches!(self, Command::Describe(_) | Command::DescribeStream)
+    }
+
     // Whether it writes texts of its own.
     fn tells(self) -> bool
         ensures { result ≡ tells self }
@@ -221,6 +231,7 @@ impl Command {
             Key::Limit => (self.reads_stream(), Need::Allowed),
             Key::Place => (matches!(self, Command::Split), Need::Allowed),
             Key::Json => (self.tells(), Need::Allowed),
+            Key::Digests => (self.describes(), Need::Allowed),
         };
         if has { need } else { Need::Barred }
     }
@@ -261,6 +272,7 @@ impl Command {
         self.keeps(file, given, Key::Limit)?;
         self.keeps(file, given, Key::Place)?;
         self.keeps(file, given, Key::Json)?;
+        self.keeps(file, given, Key::Digests)?;
         Ok(())
     }
 }
@@ -348,6 +360,7 @@ fn task_of<'a>(command: Command, file: &'a str, given: &Given<'a>) -> Result<Tas
         limit,
         place,
         json: given.json.is_some(),
+        digests: given.digests.is_some(),
     })
 }
 

@@ -30,6 +30,7 @@ fn word_of(key: Key) -> &'static str {
         Key::Limit => "--limit",
         Key::Place => "--place",
         Key::Json => "--json",
+        Key::Digests => "--digests",
     }
 }
 
@@ -44,16 +45,15 @@ fn values_of(key: Key) -> &'static str {
         }
         Key::Limit => "a number of octets from 6 to 4294967295",
         Key::Place => "the number of a certificate, counted from 0",
-        Key::Json => "without a value",
+        Key::Json | Key::Digests => "without a value",
     }
 }
 
 // What is wrong with options, values and other words, in one line.
 fn fault_line(alloc: Global, fault: WordFault<'_>) -> Result<String, AllocError> {
     match fault {
-        WordFault::Unknown(word) if word.starts_with("--json=") => {
-            format!(in alloc; "{word:?}: --json stands without a value\n")
-        }
+        WordFault::Unknown(word) if word.starts_with("--json=") || word.starts_with("--digests=") =>
+            { format!(in alloc; "{word:?}: this option stands without a value\n") }
         WordFault::Unknown(word) => format!(in alloc; "there is no option {word:?}\n"),
         WordFault::Twice(key) => format!(in alloc; "{} is given twice\n", word_of(key)),
         WordFault::NoValue(key) => format!(in alloc; "{} has no value\n", word_of(key)),

@@ -1,0 +1,109 @@
+#!/usr/bin/env python3
+"""Writes what the gate took into the documents, from gate.txt: README, GUIDE, DESIGN.
+
+    bench/figures.py           writes the figures
+    bench/figures.py --check   writes nothing; its status is 1 where a document says others
+    bench/figures.py TABLE KIT VERSION   takes what bench/gate.sh printed as gate.txt, and writes
+
+A crate's first proof is that of all libraries that it stands on; the longest chain is that of
+proofs, and of a program at its end.
+"""
+
+import functools
+import pathlib
+import re
+import sys
+
+HERE = pathlib.Path(__file__).resolve().parent
+TOP = HERE.parent
+sys.path.insert(0, str(TOP / "tools"))
+
+import sources  # noqa: E402
+
+TABLE = HERE / "gate.txt"
+HEAD = re.compile(r"(\S+), (\d+) processors: (\d+) passed, 0 failed")
+TOOK = re.compile(r"(\d+) minutes, ([\d.]+) processor minutes")
+WORDS = {1: "one processor", 2: "two processors", 4: "four processors"}
+
+
+def table_of(lines):
+    """Minutes of each crate: of its proof, and of its proof as a program."""
+    known, found = sources.dependencies(), {}
+    for line in lines:
+        name = line[:24].strip()
+        if name in known:
+            cells = [line[24 + 10 * at : 34 + 10 * at].strip() for at in range(4)]
+            minutes = [float(cell or 0) for cell in cells]
+            found[name] = (minutes[0], minutes[3])
+    return found
+
+
+def longest(minutes):
+    """The minutes of the dearest chain of crates."""
+    below = sources.dependencies()
+
+    @functools.cache
+    def up_to(name):
+        before = max((up_to(lib) for lib in below[name] if lib in below), default=0)
+        return before + sum(minutes.get(name, (0, 0)))
+
+    return max(map(up_to, below))
+
+
+def figures():
+    """Each document, a pattern with the figures in groups, and what stands there by the table."""
+    lines = TABLE.read_text().splitlines()
+    version, kit = re.match(r"(\S+), kit (\S+)$", lines[0]).groups()
+    day, processors, passed = HEAD.match(lines[1]).groups()
+    took, spent = TOOK.match(lines[2]).groups()
+    minutes = table_of(lines)
+
+    def first(name):
+        proofs = (minutes.get(crate, (0, 0))[0] for crate in sources.closure([name]))
+        return f"{sum(proofs):.0f}"
+
+    yield "README.md", r"# else (\S+) minutes of processor more", [first("cert_desk")]
+    yield "README.md", r"`N passed, 0 failed`; (\S+) took (\S+) minutes", [version, took]
+    for name in ("const_oid", "der_core", "der_types", "x509_cert", "cert_desk"):
+        yield "docs/GUIDE.md", rf"(?m)^\| [^|]+ \| `{name}` \| [^|]+ \| (\S+) \|$", [first(name)]
+    told = r"in minutes of processor \((\S+), ([\d-]+)\)"
+    yield "docs/GUIDE.md", told, [version, day]
+    told = (r"Of\s(\S+)'s\scrates\son\s(\S+),\sfrom\snothing,\swith\skit\s(\S+)\son\s(\w+\s\w+):\s"
+            r"(\S+)\spassed,\s(\S+)\sminutes,\s(\S+)\sof\sprocessor,\s(\S+)\sfor\sthe\slongest")
+    yield "docs/DESIGN.md", told, [
+        version, day, kit, WORDS.get(int(processors), f"{processors} processors"), passed, took,
+        f"{float(spent):.0f}", f"{longest(minutes):.0f}",
+    ]
+
+
+def main(words):
+    check = words == ["--check"]
+    if len(words) == 3:
+        path, kit, version = words
+        printed = re.sub(r"; the log is .*", "", pathlib.Path(path).read_text())
+        TABLE.write_text(f"{version}, kit {kit}\n{printed}")
+    elif words and not check:
+        print(__doc__)
+        return 2
+    faults = 0
+    for name, pattern, wanted in figures():
+        path = TOP / name
+        text = path.read_text()
+        found = re.search(pattern, text)
+        if not found:
+            print(f"{name}: no place for {wanted}")
+            faults += 1
+            continue
+        for at in range(len(wanted), 0, -1):
+            said = " ".join(found[at].split())
+            if said != wanted[at - 1]:
+                faults += check
+                print(f"{name}: {said}, by the table {wanted[at - 1]}")
+                text = text[: found.start(at)] + wanted[at - 1] + text[found.end(at) :]
+        if not check:
+            path.write_text(text)
+    return bool(faults)
+
+
+if __name__ == "__main__":
+    sys.exit(main(sys.argv[1:]))
