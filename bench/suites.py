@@ -1,0 +1,381 @@
+#!/usr/bin/env python3
+"""Judges the chains of other projects' tests with cert_tool, and writes their page.
+
+    bench/suites.py CERT_TOOL FOLDER PAGE     (bench/suites.sh fetches what FOLDER holds)
+
+Since cert_tool builds no paths, this script hands over each way up from the end of a chain to an
+anchor, by names; a chain is trusted where one of them is. Signatures are verified by
+examples/answer.py. Where a suite expects otherwise, the difference has a class: of a chain that is
+trusted and should not be, what the suite tests that is no rule of cert_tool's; of one that is
+refused and should not be, the rule that it breaks. The status is 1 where a difference has none.
+"""
+
+import collections
+import datetime
+import pathlib
+import re
+import subprocess
+import sys
+import tempfile
+
+HERE = pathlib.Path(__file__).resolve().parent
+sys.path[:0] = [str(HERE), str(HERE.parent / "examples")]
+
+import answer  # noqa: E402
+import suites_read  # noqa: E402
+
+WAYS, DEPTH = 40, 10
+ANCHORS = "anchors"
+
+# What suites refuse for a reason that is a rule of cert_tool's, by their words: a chain that is
+# trusted then is a fault, unless the rule is broken by an anchor.
+WITHIN = re.compile(
+    r"CERT_(EXPIRED|NOT_ACTIVATED|SIGNER_NOT|PURPOSE|UNKNOWN_CRIT|SIGNATURE)|"
+    r"BADCERT_(EXPIRED|FUTURE|NOT_TRUSTED|EXT_KEY|NS_CERT)|"
+    r"expect(Expired|Usage|AuthorityUnknown|UnhandledCritical|NotAuthorized)|"
+    r"[Ss]ignature error|Certificate (has expired|is not yet)|issuer not found|issue certs|"
+    r"chain too long|[Ii]nvalid signature|not(Before|After) date|do not chain|cA (is )?false|"
+    r"keyCertSign|pathLen|unrecognized critical|[Uu]nknown critical"
+)
+
+# What suites test that is no rule of cert_tool's: how it is known, by their words, and why.
+LOOSER = [
+    ("revocation", r"CRL|cRLSign|[Rr]evo[ck]|REVOKED|on hold|can not be determined",
+     "no revocation is judged"),
+    ("host names", r"host name|does not match provided name|expectHostnameError",
+     "no names of hosts are compared"),
+    ("policies", r"[Pp]olic", "policies that aren't critical are passed over"),
+    ("name constraints", r"[Nn]ame ?[Cc]onstraint|type confusion|Too many names",
+     "name constraints that aren't critical are passed over"),
+    ("strength", r"auth level|INSECURE_ALGORITHM|BAD_(MD|PK|KEY)|too weak|verify_depth|"
+     r"rsa pss: chain with (sha1|diff)", "no strength of keys and hashes is asked for, no depth"),
+    ("trust settings", r"with trust settings",
+     "what OpenSSL writes behind a certificate of how far it is trusted is no part of it"),
+    ("settings", r"x509_strict|VERIFY_DO_NOT_ALLOW_SAME", "what is refused by a setting alone"),
+    ("uses of the end's key", r"does not allow the requested usage|explicit curve leaf",
+     "what the key of the last certificate is, and which uses it has, is left to who uses it"),
+    ("versions", r"with version that does not allow it",
+     "extensions in a certificate that isn't of version 3 are told by `explain`, and judged"),
+    ("TLS features", r"tls features", "the TLS features of RFC 7633 aren't judged"),
+    (ANCHORS, r"(?!)", "of an anchor that is a certificate the name and the key count alone: as "
+     "the first of the chain it breaks a rule"),
+]
+
+# Why chains are refused that suites trust: by the rule or the fault that cert_tool names, and what
+# explains it.
+STRICTER = [
+    ("critical extensions", r"UnweighedCritical", "a critical extension that isn't judged refuses "
+     "its certificate: name constraints, policies and mappings among them (RFC 5280 4.2)"),
+    ("ends that are anchors", r"WrongIssuer.*is an anchor itself",
+     "a chain begins below an anchor, and an anchor signs the first certificate"),
+    ("prepared names", r"WrongIssuer.*names that differ", "names are compared by their octets: no "
+     "case, blank or type of string is put aside"),
+    ("algorithms", r"WrongSignature.*no answer", "`examples/answer.py` verifies no signature of "
+     "that algorithm, key or form"),
+    ("authorities", r"NotAuthority", "an authority has basicConstraints with cA, and keyCertSign "
+     "where uses are listed: version 1 has none, a proxy's signer isn't one"),
+    ("purposes", r"AgainstPurpose", "purposes that are listed count in each certificate"),
+    ("dates", r"(Expired|NotYetValid)", "dates count in each certificate that is handed over"),
+    ("encodings", r"(fault|MalformedExtension|anchors)", "what isn't DER isn't read"),
+    ("two extensions", r"DuplicateExtension", "no extension may stand twice (RFC 5280 4.2)"),
+    ("path lengths", r"PathTooLong", "path lengths count each authority that isn't self-issued"),
+]
+
+
+def values(octets):
+    """The values in these octets: tag, whole, contents (X.690 8.1)."""
+    while octets:
+        whole = suites_read.first_value(octets)
+        start = 2 if octets[1] < 128 else octets[1] - 126
+        yield octets[0], whole, whole[start:]
+        octets = octets[len(whole) :]
+
+
+def text_of(tag, contents):
+    """The text of an attribute's value, case and blanks put aside."""
+    coding = {0x1E: "utf-16-be", 0x1C: "utf-32-be", 0x0C: "utf-8"}.get(tag, "latin-1")
+    return " ".join(contents.decode(coding, "replace").casefold().split())
+
+
+def name_of(contents):
+    """A name to compare by, as RFC 5280 7.1 has it at its loosest."""
+    found = []
+    for _, _, rdn in values(contents):
+        members = (tuple(values(member))[:2] for _, _, member in values(rdn))
+        found.append(frozenset((kind[2], text_of(*value[::2])) for kind, value in members))
+    return tuple(found)
+
+
+class Certificate:
+    """A certificate in DER: its names, and its dates in seconds, where they can be read."""
+
+    known = {}
+
+    def __init__(self, octets):
+        self.octets = octets
+        self.issuer = self.subject = self.dates = None
+        try:
+            fields = list(values(next(values(next(values(octets))[2]))[2]))
+            fields = fields[1:] if fields[0][0] == 0xA0 else fields
+            self.issuer, self.subject = name_of(fields[2][2]), name_of(fields[4][2])
+            self.dates = [moment_of(*date) for date in values(fields[3][2])]
+        except (IndexError, ValueError, StopIteration):
+            pass
+
+    @classmethod
+    def of(cls, octets):
+        return cls.known.setdefault(octets, cls(octets))
+
+
+def moment_of(tag, _, contents):
+    text = contents.decode("ascii")
+    if tag == 0x17:
+        text = ("19" if text[0] >= "5" else "20") + text
+    date = datetime.datetime.strptime(text[:14], "%Y%m%d%H%M%S")
+    return int(date.replace(tzinfo=datetime.timezone.utc).timestamp())
+
+
+def ways(test):
+    """Each way up from the end to an anchor, the end last; else the longest that there is."""
+    anchors = [Certificate.of(octets) for octets in test.anchors]
+    between = [Certificate.of(octets) for octets in dict.fromkeys(test.between)]
+    end = Certificate.of(test.end)
+    found, longest, todo = [], [end], [[end]]
+    while todo and len(found) < WAYS:
+        way = todo.pop()
+        longest = way if len(way) > len(longest) else longest
+        if any(way[0].issuer == anchor.subject for anchor in anchors):
+            found.append(way)
+        if len(way) < DEPTH:
+            todo += [[it, *way] for it in between if it.subject == way[0].issuer and it not in way]
+    return found or [longest]
+
+
+class Judge:
+    """Runs of cert_tool over files of one folder."""
+
+    def __init__(self, tool, folder):
+        self.tool, self.folder, self.why = tool, folder, {}
+
+    def run(self, *words):
+        said = subprocess.run([self.tool, *words], cwd=self.folder, capture_output=True)
+        return said.stdout.decode().splitlines(), said.stderr.decode().splitlines()
+
+    def answers(self, lines):
+        """The lines whose signature is right, and why others have no answer."""
+        kept, refused = [], []
+        for line in lines:
+            if line not in self.why:
+                self.why[line] = answer.refusal(line.encode())
+            if self.why[line] is None:
+                kept.append(line)
+            else:
+                refused.append(self.why[line])
+        return kept, refused
+
+    def terms(self, test, way):
+        """Writes the files of a chain, its answers too, and gives the words that name them."""
+        moment = test.moment
+        if moment is None:  # one at which all are valid, where there is one
+            moment = max([it.dates[0] for it in way if it.dates] or [0])
+        (self.folder / "anchors").write_bytes(b"".join(test.anchors))
+        (self.folder / "chain").write_bytes(b"".join(it.octets for it in way))
+        asked, _ = self.run("questions", "--anchors", "anchors", "chain")
+        kept, refused = self.answers(asked)
+        (self.folder / "answers").write_text("".join(f"{line}\n" for line in kept))
+        words = ["--anchors", "anchors", "--answers", "answers", "--at", str(max(moment, 0))]
+        purpose = test.purpose or suites_read.purpose_of([it.octets for it in way])
+        return [*words, "--purpose", purpose, "chain"], refused
+
+    def verdict(self, test, way):
+        """The line of `verify`, and what tells more of it."""
+        terms, refused = self.terms(test, way)
+        told, more = self.run("verify", *terms)
+        line = (told + more + ["nothing"])[0]
+        if line.startswith("refused"):
+            place, rule = line.split()[1:3]
+            said = self.explained(place, terms)
+            line += ": " + next((it for it in said if it.startswith(rule)), "")
+            line += " " + "; ".join(refused) if rule == "WrongSignature" else ""
+        return line
+
+    def broken(self, test, way):
+        """The rules that the first certificate of a chain breaks."""
+        return {it.partition(":")[0] for it in self.explained("0", self.terms(test, way)[0])}
+
+    def explained(self, place, terms):
+        """What `explain chain` says of the certificate at a place, but for remarks."""
+        lines = self.run("explain", "chain", *terms)[0]
+        heads = [at for at, it in enumerate(lines) if it.startswith(f"certificate {place}")]
+        found = []
+        for line in lines[heads[0] + 1 :] if heads else []:
+            if not line.startswith(" "):
+                break
+            found.append(line.strip())
+        return [it for it in found if re.match(r"[A-Z]\w+:", it)]
+
+
+Judged = collections.namedtuple("Judged", "test line kind")
+
+
+def judged(judge, test):
+    """What comes of a test: agreement, or the class of its difference."""
+    lines = []
+    tried = ways(test)
+    for way in tried:
+        lines.append(judge.verdict(test, way))
+        if lines[-1].startswith("trusted"):
+            break
+    trusted = lines[-1].startswith("trusted")
+    line = lines[-1] if trusted else lines[0]
+    if trusted == test.good:
+        return Judged(test, line, "agrees")
+    if trusted:
+        return Judged(test, line, looser(judge, test, tried[len(lines) - 1]))
+    if "WrongIssuer" in line and test.end in test.anchors:
+        line += " the end is an anchor itself"
+    elif "WrongIssuer" in line and is_linked(test, tried[0]):
+        line += " names that differ in their octets alone"
+    said = re.sub(r"^refused \d+ ", "", line)
+    return Judged(test, line, next((it[0] for it in STRICTER if re.match(it[1], said)), None))
+
+
+def is_linked(test, way):
+    """Whether a way goes from an anchor to the end, by names that are prepared."""
+    anchors = [Certificate.of(octets) for octets in test.anchors]
+    above = [any(way[0].issuer == anchor.subject for anchor in anchors)]
+    return all(above + [below.issuer == it.subject for it, below in zip(way, way[1:])])
+
+
+def looser(judge, test, way):
+    """The class of a chain that is trusted, and that its suite refuses."""
+    if not WITHIN.search(test.why):
+        found = next((name for name, words, _ in LOOSER if re.search(words, test.why)), None)
+        if found:
+            return found
+    for octets in test.anchors:
+        anchor = Certificate.of(octets)
+        if anchor.subject == way[0].issuer:
+            broken = judge.broken(test, [anchor, *way]) - {"WrongIssuer", "WrongSignature"}
+            if broken:
+                return ANCHORS
+    return None
+
+
+Reading = collections.namedtuple("Reading", "package fault openssl python")
+
+
+def reading(judge, package, octets):
+    """Why cert_tool doesn't read a certificate, if it doesn't, and whether two others do then."""
+    path = judge.folder / "certificate"
+    path.write_bytes(octets)
+    describe = [judge.tool, "describe", "certificate", path]
+    if not subprocess.run(describe, capture_output=True).returncode:
+        return Reading(package, None, None, None)
+    said = judge.run("explain", "certificate", "certificate")[0]
+    fault = re.sub(r"^octet \d+: ", "", (said or ["nothing"])[0])
+    openssl = ["openssl", "x509", "-inform", "DER", "-noout", "-in", path]
+    others = subprocess.run(openssl, capture_output=True).returncode == 0
+    return Reading(package, fault, others, suites_read.is_read_by_python(octets))
+
+
+HEAD = """\
+# Chains of other projects' tests
+
+Written by `bench/suites.sh`, which fetches the sources of six projects as Debian has them, and has
+`cert_tool` judge the chains of their tests, each way up from the end to an anchor, signatures by
+`examples/answer.py` (DATE, TOOL).
+
+A suite expects what its own project's reader does, with its settings: a difference is no fault of
+either, but has to have a class. The script fails where a chain is trusted that has to be refused
+for a reason within the [rules](../docs/tables/REFUSALS.md), or where a difference has no class.
+
+- [By suite](#by-suite), [trusted, and refused by the suite](#trusted-and-refused-by-the-suite),
+  [refused, and trusted by the suite](#refused-and-trusted-by-the-suite)
+- [Certificates that aren't read](#certificates-that-arent-read)
+"""
+
+READ = """\
+## Certificates that aren't read
+
+COUNT certificates lie in files of these sources. These aren't read by `cert_tool`, for the first
+fault that it explains; behind it stands how many of them OpenSSL (`openssl x509`) and Python's
+`cryptography` read.
+
+| Fault | Certificates | OpenSSL reads | cryptography reads | Of |
+|---|---|---|---|---|"""
+
+
+def page_of_readings(readings):
+    """The certificates that aren't read, by their fault."""
+    out = [READ.replace("COUNT", f"{len(readings):,}")]
+    by_fault = collections.defaultdict(list)
+    for one in readings:
+        if one.fault:
+            by_fault[re.sub(r"\d+ octets", "so many octets", one.fault)].append(one)
+    for fault, found in sorted(by_fault.items(), key=lambda it: (-len(it[1]), it[0])):
+        which = collections.Counter(one.package for one in found)
+        where = ", ".join(f"{package}: {count}" for package, count in which.items())
+        openssl, python = (sum(getattr(it, name) for it in found) for name in ("openssl", "python"))
+        said = fault.replace("|", "\\|").replace("<", "\\<")
+        out.append(f"| {said} | {len(found)} | {openssl} | {python} | {where} |")
+    return [*out, ""]
+
+
+def page(all_judged, readings, versions, tool):
+    today = datetime.date.today().isoformat()
+    out = [HEAD.replace("DATE", today).replace("TOOL", tool), "## By suite", ""]
+    out += ["| Suite | Version | Chains | To be trusted | Agree | Trusted, refused by the suite | "
+            "Refused, trusted by the suite |", "|---|---|---|---|---|---|---|"]
+    by_suite = collections.defaultdict(list)
+    for one in all_judged:
+        by_suite[one.test.suite].append(one)
+    total = collections.Counter()
+    for suite, found in by_suite.items():
+        counts = [len(found), sum(it.test.good for it in found),
+                  sum(it.kind == "agrees" for it in found)]
+        differ = [it for it in found if it.kind != "agrees"]
+        counts += [sum(not it.test.good for it in differ), sum(it.test.good for it in differ)]
+        total.update(dict(enumerate(counts)))
+        version = versions[suite.partition(",")[0]]
+        out.append(f"| {suite} | {version} | " + " | ".join(map(str, counts)) + " |")
+    out += ["| all | | " + " | ".join(str(total[at]) for at in range(5)) + " |", ""]
+    for heading, classes, good in (
+        ("Trusted, and refused by the suite", LOOSER, False),
+        ("Refused, and trusted by the suite", STRICTER, True),
+    ):
+        out += [f"## {heading}", "", "| Class | Why | Chains | Which |", "|---|---|---|---|"]
+        for name, _, why in classes:
+            found = [it for it in all_judged if it.kind == name and it.test.good == good]
+            if found:
+                which = collections.Counter(it.test.suite for it in found)
+                where = ", ".join(f"{suite}: {count}" for suite, count in which.items())
+                out.append(f"| {name} | {why} | {len(found)} | {where} |")
+        out.append("")
+    return "\n".join(out + page_of_readings(readings))
+
+
+def main(words):
+    if len(words) != 3:
+        print(__doc__)
+        return 2
+    tool, folder, path = pathlib.Path(words[0]).resolve(), pathlib.Path(words[1]), words[2]
+    tests, versions = suites_read.read_all(folder)
+    with tempfile.TemporaryDirectory() as work:
+        judge = Judge(tool, pathlib.Path(work))
+        all_judged = [judged(judge, test) for test in tests]
+        readings = [reading(judge, *it) for it in suites_read.certificates(folder)]
+        version = judge.run("--version")[0][0]
+    for one in all_judged:
+        if one.kind != "agrees":
+            verdict = "trusted" if one.line.startswith("trusted") else one.line
+            print(f"{one.test.suite}: {one.test.name}: {one.kind or 'NO CLASS'}: {verdict}"
+                  f" [{one.test.why.strip()}]")
+    missing = sum(one.kind is None for one in all_judged)
+    pathlib.Path(path).write_text(page(all_judged, readings, versions, version))
+    print(f"{len(all_judged)} chains, {missing} differences without a class")
+    return bool(missing)
+
+
+if __name__ == "__main__":
+    sys.exit(main(sys.argv[1:]))
