@@ -141,6 +141,9 @@ class House:
         self.public = {}
         for crate in self.libraries:
             self.walk(crate, (), crate in FACADES)
+        for items in self.own.values():
+            exported = [item for item in items.values() if item.call and item.call.is_exported]
+            self.public |= {item.key: item for item in exported}
         self.impls = [impl for source in code for impl in self.impls_of(source)]
         self.give_members()
 

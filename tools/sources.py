@@ -21,7 +21,8 @@ USE = re.compile(r"use Rattle\.([a-z0-9_]+\.specs(?:\.\w+)*)")
 CASE = re.compile(r"  (\w+) :")
 BLOCK = re.compile(r"(?P<opened>abbrev |unfoldable )?(?:mutual|module \S+.*)$")
 FUNCTION = re.compile(
-    r"^(    )?(pub )?(?:pub\(\w+\) )?(?:final )?(?:const )?(?:unsafe )?fn (\w+)"
+    r"^(    )?(pub )?(?:pub\(\w+\) )?(?:final )?(?:const )?(?:unsafe )?"
+    r'(?:extern "C" )?fn (\w+)'
 )
 STANDARD = r"X\.\d{3}|RFC \d{4}|IEEE 802\.1AR|CA/Browser Forum, Baseline Requirements"
 PART = r"\d+(?:\.\d+)*(?: \([a-z]+\)(?: \(\d\))?)?"
@@ -228,6 +229,10 @@ class Call:
     def title(self):
         return f"{self.owner}::{self.name}" if self.owner else self.name
 
+    @property
+    def is_exported(self):
+        return self.text.startswith('pub extern "C"')
+
 
 def owner_of(header):
     """The type of an `impl`, the name of a trait."""
@@ -337,7 +342,8 @@ def specs():
 
 
 def sources():
-    """All files of code; a call is public where the root of its crate passes on it, or its type."""
+    """All files of code; a call is public where the root of its crate passes on it, or its type, or
+    where it is exported to C."""
     found = [Source(path) for path in sorted(CRATES.glob("*/src/**/*.rt"))]
     roots = {}
     for source in found:
@@ -354,7 +360,7 @@ def sources():
         for call in source.calls:
             passed = (call.owner or call.name).split("::")[-1] in words
             inside = source.name.split(".")[0].split("/")[0] in modules or source.name == "lib.rt"
-            call.public = call.public and (passed or inside)
+            call.public = call.public and (passed or inside or call.is_exported)
     return found
 
 

@@ -31,9 +31,18 @@ def version():
     return number, commit or "unknown"
 
 
+def named(line):
+    """The crate that a line of crates.txt is of, if it is of one."""
+    words = line.split("#")[0].split(":")[0].split()
+    return words[0] if words else None
+
+
 def lines_of(names):
-    crates = sources.dependencies()
-    return {name: f"{name}: {' '.join(crates[name])}".rstrip() for name in sources.closure(names)}
+    """The line of crates.txt of each of these crates, and of all below them."""
+    text = (sources.TOP / "crates.txt").read_text()
+    lines = [line.split("#")[0].strip() for line in text.splitlines()]
+    by_name = {named(line): line for line in lines}
+    return {name: by_name[name] for name in sources.closure(names)}
 
 
 def note(path, taken):
@@ -60,7 +69,7 @@ def take(names, folder, again, edits):
     listing = folder / "crates.txt"
     text = listing.read_text() if listing.exists() else ""
     listed = [line for line in text.splitlines() if ":" in line.split("#")[0]]
-    there = {line.split(":")[0].split()[0] for line in listed}
+    there = {named(line) for line in listed}
     taken = []
     for name, line in lines_of(names).items():
         target = folder / "crates" / name
@@ -72,7 +81,7 @@ def take(names, folder, again, edits):
             if (sources.CRATES / name / part).is_dir():
                 shutil.copytree(sources.CRATES / name / part, target / part)
         if name in there:
-            kept = [line if l.split(":")[0].strip() == name else l for l in text.splitlines()]
+            kept = [line if named(l) == name else l for l in text.splitlines()]
             text = "\n".join(kept) + "\n"
         else:
             text += ("" if not text or text.endswith("\n") else "\n") + line + "\n"

@@ -1,0 +1,471 @@
+"""Certificates (RFC 5280), revocation lists and requests, read and judged by proved code.
+
+    import wurstdrape
+
+    wurstdrape.describe(der)                        # a dict
+    wurstdrape.verify(roots, [ca, server]).trusted  # with `cryptography` as verifier
+
+All octets are DER. Octets that aren't what they should be raise `Malformed`; other refusals raise
+`Error`. What is proved, and what isn't, stands in docs/FROM_OTHERS.md of the repository.
+"""
+
+from __future__ import annotations
+
+import ctypes
+import dataclasses
+import datetime
+import enum
+import functools
+import json
+import os
+import pathlib
+import typing
+
+__all__ = [
+    "ChainFault",
+    "Error",
+    "Fault",
+    "FaultKind",
+    "Kind",
+    "LIMIT",
+    "Malformed",
+    "Rule",
+    "SERVER_AUTH",
+    "Status",
+    "Validity",
+    "Verdict",
+    "describe",
+    "describe_text",
+    "extension",
+    "fault_of",
+    "identifier_of_text",
+    "identifier_text",
+    "issuer",
+    "judge",
+    "name_of_text",
+    "name_text",
+    "public_key",
+    "questions",
+    "serial_number",
+    "show",
+    "subject",
+    "validity",
+    "verify",
+]
+
+# The greatest number of octets of a certificate of a chain, where a call isn't given another.
+LIMIT = 65536
+# id-kp-serverAuth (RFC 5280 4.2.1.12)
+SERVER_AUTH = "1.3.6.1.5.5.7.3.1"
+
+Octets = typing.Union[bytes, bytearray, memoryview]
+
+
+class Status(enum.IntEnum):
+    """What a call returns."""
+
+    DONE = 0
+    REFUSED = 1
+    FAULTY = 2
+    EMPTY = 3
+    ARGUMENTS = 4
+    NO_ROOM = 5
+    MEMORY = 6
+
+
+class Kind(enum.Enum):
+    """What octets may spell."""
+
+    CERTIFICATE = "certificate"
+    LIST = "list"
+    REQUEST = "request"
+
+
+class Rule(enum.IntEnum):
+    """The rules of a chain (RFC 5280 6.1), in the order in which they are judged."""
+
+    ALGORITHMS_DIFFER = 1
+    DUPLICATE_EXTENSION = 2
+    MALFORMED_EXTENSION = 3
+    UNWEIGHED_CRITICAL = 4
+    WRONG_ISSUER = 5
+    NOT_YET_VALID = 6
+    EXPIRED = 7
+    AGAINST_PURPOSE = 8
+    NOT_AUTHORITY = 9
+    PATH_TOO_LONG = 10
+    WRONG_SIGNATURE = 11
+
+
+class ChainFault(enum.IntEnum):
+    """What can be wrong with the octets of a chain."""
+
+    NO_CERTIFICATE = 1
+    INDEFINITE = 2
+    LENGTH_TOO_WIDE = 3
+    LENGTH_NOT_SHORTEST = 4
+    TOO_LARGE = 5
+    MALFORMED = 6
+    TRUNCATED = 7
+
+
+class FaultKind(enum.IntEnum):
+    """The kinds of faults of octets in DER."""
+
+    DATE_TIME = 1
+    ENCODING_RULES = 2
+    FAILED = 3
+    INCOMPLETE = 4
+    INDEFINITE_LENGTH = 5
+    LENGTH = 6
+    NESTING_DEPTH = 7
+    NONCANONICAL = 8
+    OID_MALFORMED = 9
+    OID_UNKNOWN = 10
+    OUT_OF_MEMORY = 11
+    OVERFLOW = 12
+    OVERLENGTH = 13
+    READER = 14
+    SET_DUPLICATE = 15
+    SET_ORDERING = 16
+    TAG_MODE_UNKNOWN = 17
+    TAG_NUMBER_INVALID = 18
+    TAG_UNEXPECTED = 19
+    TAG_UNKNOWN = 20
+    TRAILING_DATA = 21
+    UTF8 = 22
+    VALUE = 23
+
+
+@dataclasses.dataclass(frozen=True)
+class Fault:
+    """The first fault of octets, from the left."""
+
+    kind: FaultKind
+    # Where it was found, counted from 0, where that is known.
+    octet: int | None
+
+
+class Error(Exception):
+    """A call that was refused."""
+
+    def __init__(self, status: Status, why: str):
+        super().__init__(why)
+        self.status = status
+
+
+class Malformed(Error):
+    """Octets, or a text, that aren't what they should be, and the first fault where it is known."""
+
+    def __init__(self, what: str, fault: Fault | None = None):
+        where = "" if fault is None else f": {fault.kind.name} at octet {fault.octet}"
+        super().__init__(Status.FAULTY, f"no {what}{where}")
+        self.fault = fault
+
+
+@dataclasses.dataclass(frozen=True)
+class Validity:
+    """The first and the last second of a certificate."""
+
+    not_before: datetime.datetime
+    not_after: datetime.datetime
+
+
+@dataclasses.dataclass(frozen=True)
+class Verdict:
+    """The verdict on a chain."""
+
+    status: Status
+    # The certificate that breaks the rule, counted from 0, or behind which the octets have a fault.
+    place: int | None = None
+    rule: Rule | None = None
+    # Where the fault begins, and which it is.
+    offset: int | None = None
+    fault: ChainFault | None = None
+
+    @property
+    def trusted(self) -> bool:
+        """Whether the chain is trusted."""
+        return self.status is Status.DONE
+
+
+class _Fault(ctypes.Structure):
+    _fields_ = [("kind", ctypes.c_uint32), ("octet", ctypes.c_uint64)]
+
+
+class _Validity(ctypes.Structure):
+    _fields_ = [("not_before", ctypes.c_uint64), ("not_after", ctypes.c_uint64)]
+
+
+class _Place(ctypes.Structure):
+    _fields_ = [(name, ctypes.c_uint64) for name in ("place", "offset", "number")]
+
+
+_IN = [ctypes.c_char_p, ctypes.c_size_t]
+_OUT = [ctypes.c_char_p, ctypes.c_size_t, ctypes.POINTER(ctypes.c_size_t)]
+_CALLS = {
+    "wd_subject": _IN + _OUT,
+    "wd_issuer": _IN + _OUT,
+    "wd_serial_number": _IN + _OUT,
+    "wd_public_key": _IN + _OUT,
+    "wd_name_text": _IN + _OUT,
+    "wd_name_of_text": _IN + _OUT,
+    "wd_identifier_text": _IN + _OUT,
+    "wd_identifier_of_text": _IN + _OUT,
+    "wd_extension": _IN + _IN + _OUT + [ctypes.POINTER(ctypes.c_bool)],
+    "wd_dates": _IN + [ctypes.POINTER(_Validity)],
+    "wd_questions": _IN + _IN + [ctypes.c_uint32] + _OUT,
+    "wd_verify": _IN * 3
+    + [ctypes.c_uint64]
+    + _IN
+    + [ctypes.c_uint32, ctypes.POINTER(_Place)],
+}
+for _kind in Kind:
+    _CALLS[f"wd_is_{_kind.value}"] = _IN + [ctypes.POINTER(_Fault)]
+    _CALLS[f"wd_show_{_kind.value}"] = _IN + _OUT
+    _CALLS[f"wd_describe_{_kind.value}"] = _IN + [ctypes.c_bool] + _OUT
+
+
+def _load():
+    """The shared library: that of WURSTDRAPE_LIBRARY, or the one that lies beside this file."""
+    beside = pathlib.Path(__file__).resolve().parent / "libwurstdrape.so"
+    library = ctypes.CDLL(os.environ.get("WURSTDRAPE_LIBRARY", str(beside)))
+    for name, types in _CALLS.items():
+        call = getattr(library, name)
+        call.argtypes, call.restype = types, ctypes.c_uint32
+    return library
+
+
+_library = _load()
+_ROOM = 4096
+
+
+def _lent(octets: Octets) -> list:
+    """What is passed for octets."""
+    octets = bytes(octets)
+    return [octets, len(octets)]
+
+
+def _written(call, *before, behind=()) -> tuple[Status, bytes]:
+    """What a call writes: again, where it wants more room."""
+    room, length = _ROOM, ctypes.c_size_t()
+    while True:
+        out = ctypes.create_string_buffer(room)
+        status = Status(call(*before, out, room, ctypes.byref(length), *behind))
+        if status is not Status.NO_ROOM:
+            return status, ctypes.string_at(out, length.value)
+        room = length.value
+
+
+def _given(what: str, call, *before, behind=()) -> bytes:
+    """What a call writes, or why it doesn't."""
+    status, octets = _written(call, *before, behind=behind)
+    _raise_unless_done(what, status)
+    return octets
+
+
+def _raise_unless_done(what: str, status: Status) -> None:
+    if status is Status.DONE:
+        return
+    if status is Status.FAULTY:
+        raise Malformed(what)
+    if status is Status.MEMORY:
+        raise MemoryError
+    raise Error(status, status.name)
+
+
+def fault_of(der: Octets, kind: Kind = Kind.CERTIFICATE) -> Fault | None:
+    """The first fault of octets that don't spell a value of the kind, or None where they do."""
+    told = _Fault()
+    call = getattr(_library, f"wd_is_{kind.value}")
+    status = Status(call(*_lent(der), ctypes.byref(told)))
+    if status is Status.DONE:
+        return None
+    if status is Status.MEMORY:
+        raise MemoryError
+    return Fault(FaultKind(told.kind), None if told.octet == 2**64 - 1 else told.octet)
+
+
+def _of(der: Octets, kind: Kind, call, *before) -> bytes:
+    """What a call writes of a value of the kind; the fault is told where octets spell none."""
+    try:
+        return _given(kind.value, call, *_lent(der), *before)
+    except Malformed:
+        raise Malformed(kind.value, fault_of(der, kind)) from None
+
+
+def show(der: Octets, kind: Kind = Kind.CERTIFICATE) -> str:
+    """The listing, as `cert_desk show` prints it."""
+    return _of(der, kind, getattr(_library, f"wd_show_{kind.value}")).decode()
+
+
+def describe_text(der: Octets, kind: Kind = Kind.CERTIFICATE) -> str:
+    """The description, as `cert_tool describe` prints it. What it says isn't proved."""
+    return _of(der, kind, getattr(_library, f"wd_describe_{kind.value}"), False).decode()
+
+
+def describe(der: Octets, kind: Kind = Kind.CERTIFICATE) -> dict:
+    """The description as `cert_tool describe --json` prints it, read. What it says isn't proved."""
+    return json.loads(_of(der, kind, getattr(_library, f"wd_describe_{kind.value}"), True))
+
+
+def subject(der: Octets) -> str:
+    """The subject's name (RFC 4514)."""
+    return _of(der, Kind.CERTIFICATE, _library.wd_subject).decode()
+
+
+def issuer(der: Octets) -> str:
+    """The issuer's name (RFC 4514)."""
+    return _of(der, Kind.CERTIFICATE, _library.wd_issuer).decode()
+
+
+def serial_number(der: Octets) -> int:
+    """The serial number."""
+    octets = _of(der, Kind.CERTIFICATE, _library.wd_serial_number)
+    return int.from_bytes(octets, "big", signed=True)
+
+
+def public_key(der: Octets) -> bytes:
+    """The SubjectPublicKeyInfo (RFC 5280 4.1.2.7)."""
+    return _of(der, Kind.CERTIFICATE, _library.wd_public_key)
+
+
+def validity(der: Octets) -> Validity:
+    """The first and the last second."""
+    told = _Validity()
+    status = Status(_library.wd_dates(*_lent(der), ctypes.byref(told)))
+    if status is Status.FAULTY:
+        raise Malformed(Kind.CERTIFICATE.value, fault_of(der))
+    _raise_unless_done(Kind.CERTIFICATE.value, status)
+    zone = datetime.timezone.utc
+    return Validity(
+        datetime.datetime.fromtimestamp(told.not_before, zone),
+        datetime.datetime.fromtimestamp(told.not_after, zone),
+    )
+
+
+def extension(der: Octets, identifier: str) -> tuple[bytes, bool] | None:
+    """The content of the first extension of an identifier, as `2.5.29.19`, and whether it is
+    critical; None where there is none."""
+    critical = ctypes.c_bool()
+    status, content = _written(
+        _library.wd_extension,
+        *_lent(der),
+        *_lent(identifier_of_text(identifier)),
+        behind=[ctypes.byref(critical)],
+    )
+    if status is Status.EMPTY:
+        return None
+    if status is Status.FAULTY:
+        raise Malformed(Kind.CERTIFICATE.value, fault_of(der))
+    _raise_unless_done(Kind.CERTIFICATE.value, status)
+    return content, critical.value
+
+
+def name_text(der: Octets) -> str:
+    """The text (RFC 4514) of a name in DER."""
+    return _given("name", _library.wd_name_text, *_lent(der)).decode()
+
+
+def name_of_text(text: str) -> bytes:
+    """The DER of the name that a text spells (RFC 4514)."""
+    return _given("text of a name", _library.wd_name_of_text, *_lent(text.encode()))
+
+
+def identifier_text(octets: Octets) -> str:
+    """The dotted text of an identifier's content octets (X.690 8.19)."""
+    return _given("identifier", _library.wd_identifier_text, *_lent(octets)).decode()
+
+
+@functools.lru_cache(maxsize=64)
+def identifier_of_text(text: str) -> bytes:
+    """The content octets of the identifier that a dotted text spells."""
+    call = _library.wd_identifier_of_text
+    return _given("dotted text of an identifier", call, *_lent(text.encode()))
+
+
+def _joined(octets: Octets | typing.Iterable[Octets]) -> bytes:
+    """Octets, or encodings one behind the other."""
+    if isinstance(octets, (bytes, bytearray, memoryview)):
+        return bytes(octets)
+    return b"".join(bytes(it) for it in octets)
+
+
+Several = typing.Union[Octets, typing.Iterable[Octets]]
+
+
+def questions(anchors: Several, chain: Several, limit: int = LIMIT) -> list[bytes]:
+    """What the signatures of a chain may ask, a line each, as `cert_tool questions` prints them.
+
+    The chain is the certificate below an anchor first; anchors are certificates or other trust
+    anchors (RFC 5914)."""
+    lent = [*_lent(_joined(anchors)), *_lent(_joined(chain)), limit]
+    return _given("chain", _library.wd_questions, *lent).splitlines(keepends=True)
+
+
+def _seconds(at: datetime.datetime | int | None) -> int:
+    if at is None:
+        at = datetime.datetime.now(datetime.timezone.utc)
+    return at if isinstance(at, int) else int(at.timestamp())
+
+
+def judge(
+    answers: Several,
+    anchors: Several,
+    chain: Several,
+    at: datetime.datetime | int | None = None,
+    purpose: str = SERVER_AUTH,
+    limit: int = LIMIT,
+) -> Verdict:
+    """The verdict on a chain, where a signature is right exactly where the answers list it.
+
+    Answers are lines of `questions`. Without `at` the moment is now. Faulty anchors or answers
+    raise `Error`."""
+    told = _Place()
+    lent = [*_lent(_joined(answers)), *_lent(_joined(anchors)), *_lent(_joined(chain))]
+    purpose_octets = _lent(identifier_of_text(purpose))
+    status = Status(
+        _library.wd_verify(*lent, _seconds(at), *purpose_octets, limit, ctypes.byref(told))
+    )
+    if status is Status.REFUSED:
+        return Verdict(status, place=told.place, rule=Rule(told.number))
+    if status is Status.FAULTY:
+        fault = ChainFault(told.number)
+        return Verdict(status, place=told.place, offset=told.offset, fault=fault)
+    if status in (Status.DONE, Status.EMPTY):
+        return Verdict(status)
+    _raise_unless_done("chain", status)
+    raise AssertionError
+
+
+def verify(
+    roots: Several,
+    chain: Several,
+    at: datetime.datetime | int | None = None,
+    purpose: str = SERVER_AUTH,
+    limit: int = LIMIT,
+    verifier: typing.Callable[[bytes], bool] | None = None,
+) -> Verdict:
+    """The verdict on a chain under roots: its questions, their answers, and `judge`.
+
+    A verifier says of a line of `questions` whether its signature is right; without one Python's
+    `cryptography` does, and where that isn't installed `ImportError` is raised. A chain whose
+    octets aren't certificates has no questions."""
+    roots, chain = _joined(roots), _joined(chain)
+    verifier = verifier or _by_cryptography()
+    try:
+        asked = questions(roots, chain, limit)
+    except Error as why:
+        if why.status not in (Status.FAULTY, Status.EMPTY):
+            raise
+        asked = []
+    return judge(filter(verifier, asked), roots, chain, at, purpose, limit)
+
+
+def _by_cryptography() -> typing.Callable[[bytes], bool]:
+    """The verifier that Python's `cryptography` is."""
+    import cryptography  # noqa: F401
+
+    from . import answer
+
+    return lambda line: answer.refusal(line) is None

@@ -1,0 +1,318 @@
+//! The functions of `wurstdrape.h`, and what each of its statuses is to a caller in Rust.
+//!
+//! A slice is never a null pointer in Rust, what is lent by `&mut` overlaps nothing else, and the
+//! octets behind a shared slice stay as they are: these are what `wurstdrape.h` asks of its caller.
+
+use crate::{
+    ChainFault, Error, Extension, Fault, FaultKind, Kind, Result, Rule, Terms, Validity, Verdict,
+};
+
+#[repr(C)]
+#[derive(Default)]
+struct WdFault {
+    kind: u32,
+    octet: u64,
+}
+
+#[repr(C)]
+#[derive(Default)]
+struct WdValidity {
+    not_before: u64,
+    not_after: u64,
+}
+
+#[repr(C)]
+#[derive(Default)]
+struct WdPlace {
+    place: u64,
+    offset: u64,
+    number: u64,
+}
+
+type Is = unsafe extern "C" fn(*const u8, usize, *mut WdFault) -> u32;
+type Write = unsafe extern "C" fn(*const u8, usize, *mut u8, usize, *mut usize) -> u32;
+type Describe = unsafe extern "C" fn(*const u8, usize, bool, *mut u8, usize, *mut usize) -> u32;
+
+extern "C" {
+    fn wd_is_certificate(octets: *const u8, len: usize, fault: *mut WdFault) -> u32;
+    fn wd_is_list(octets: *const u8, len: usize, fault: *mut WdFault) -> u32;
+    fn wd_is_request(octets: *const u8, len: usize, fault: *mut WdFault) -> u32;
+    fn wd_show_certificate(o: *const u8, n: usize, out: *mut u8, m: usize, l: *mut usize) -> u32;
+    fn wd_show_list(o: *const u8, n: usize, out: *mut u8, m: usize, l: *mut usize) -> u32;
+    fn wd_show_request(o: *const u8, n: usize, out: *mut u8, m: usize, l: *mut usize) -> u32;
+    fn wd_describe_certificate(
+        octets: *const u8,
+        len: usize,
+        json: bool,
+        out: *mut u8,
+        out_len: usize,
+        size: *mut usize,
+    ) -> u32;
+    fn wd_describe_list(
+        octets: *const u8,
+        len: usize,
+        json: bool,
+        out: *mut u8,
+        out_len: usize,
+        size: *mut usize,
+    ) -> u32;
+    fn wd_describe_request(
+        octets: *const u8,
+        len: usize,
+        json: bool,
+        out: *mut u8,
+        out_len: usize,
+        size: *mut usize,
+    ) -> u32;
+    fn wd_subject(o: *const u8, n: usize, out: *mut u8, m: usize, l: *mut usize) -> u32;
+    fn wd_issuer(o: *const u8, n: usize, out: *mut u8, m: usize, l: *mut usize) -> u32;
+    fn wd_serial_number(o: *const u8, n: usize, out: *mut u8, m: usize, l: *mut usize) -> u32;
+    fn wd_public_key(o: *const u8, n: usize, out: *mut u8, m: usize, l: *mut usize) -> u32;
+    fn wd_dates(octets: *const u8, len: usize, dates: *mut WdValidity) -> u32;
+    fn wd_extension(
+        octets: *const u8,
+        len: usize,
+        identifier: *const u8,
+        identifier_len: usize,
+        out: *mut u8,
+        out_len: usize,
+        size: *mut usize,
+        critical: *mut bool,
+    ) -> u32;
+    fn wd_name_text(o: *const u8, n: usize, out: *mut u8, m: usize, l: *mut usize) -> u32;
+    fn wd_name_of_text(o: *const u8, n: usize, out: *mut u8, m: usize, l: *mut usize) -> u32;
+    fn wd_identifier_text(o: *const u8, n: usize, out: *mut u8, m: usize, l: *mut usize) -> u32;
+    fn wd_identifier_of_text(o: *const u8, n: usize, out: *mut u8, m: usize, l: *mut usize) -> u32;
+    fn wd_questions(
+        anchors: *const u8,
+        anchors_len: usize,
+        chain: *const u8,
+        chain_len: usize,
+        limit: u32,
+        out: *mut u8,
+        out_len: usize,
+        size: *mut usize,
+    ) -> u32;
+    fn wd_verify(
+        answers: *const u8,
+        answers_len: usize,
+        anchors: *const u8,
+        anchors_len: usize,
+        chain: *const u8,
+        chain_len: usize,
+        moment: u64,
+        purpose: *const u8,
+        purpose_len: usize,
+        limit: u32,
+        told: *mut WdPlace,
+    ) -> u32;
+}
+
+const DONE: u32 = 0;
+const REFUSED: u32 = 1;
+const FAULTY: u32 = 2;
+const EMPTY: u32 = 3;
+const ARGUMENTS: u32 = 4;
+const NO_ROOM: u32 = 5;
+
+/// The error that a status is which isn't `DONE`.
+fn error_of(status: u32) -> Error {
+    match status {
+        FAULTY => Error::Faulty,
+        EMPTY => Error::Empty,
+        ARGUMENTS => Error::Arguments,
+        _ => Error::Memory,
+    }
+}
+
+/// What a call writes: again, with as much room as it wants, where 4096 octets are too few.
+fn written(mut call: impl FnMut(&mut [u8], &mut usize) -> u32) -> Result<Vec<u8>> {
+    let mut room = vec![0; 4096];
+    loop {
+        let mut length = 0;
+        match call(&mut room, &mut length) {
+            DONE => {
+                room.truncate(length);
+                return Ok(room);
+            }
+            NO_ROOM => room = vec![0; length],
+            status => return Err(error_of(status)),
+        }
+    }
+}
+
+/// What a call writes of octets.
+fn written_of(call: Write, octets: &[u8]) -> Result<Vec<u8>> {
+    // SAFETY: the pointers are of slices, and of a value, that are lent for the call.
+    written(|out, length| unsafe {
+        call(
+            octets.as_ptr(),
+            octets.len(),
+            out.as_mut_ptr(),
+            out.len(),
+            length,
+        )
+    })
+}
+
+pub fn fault_of(der: &[u8], kind: Kind) -> Result<Option<Fault>> {
+    let call: Is = match kind {
+        Kind::Certificate => wd_is_certificate,
+        Kind::List => wd_is_list,
+        Kind::Request => wd_is_request,
+    };
+    let mut told = WdFault::default();
+    // SAFETY: the pointers are of a slice, and of a value, that are lent for the call.
+    match unsafe { call(der.as_ptr(), der.len(), &mut told) } {
+        DONE => Ok(None),
+        FAULTY => Ok(Some(Fault {
+            kind: FaultKind::of(told.kind.into()),
+            octet: (told.octet != u64::MAX).then_some(told.octet),
+        })),
+        status => Err(error_of(status)),
+    }
+}
+
+pub fn show(der: &[u8], kind: Kind) -> Result<Vec<u8>> {
+    let call: Write = match kind {
+        Kind::Certificate => wd_show_certificate,
+        Kind::List => wd_show_list,
+        Kind::Request => wd_show_request,
+    };
+    written_of(call, der)
+}
+
+pub fn describe(der: &[u8], kind: Kind, json: bool) -> Result<Vec<u8>> {
+    let call: Describe = match kind {
+        Kind::Certificate => wd_describe_certificate,
+        Kind::List => wd_describe_list,
+        Kind::Request => wd_describe_request,
+    };
+    // SAFETY: the pointers are of slices, and of a value, that are lent for the call.
+    written(|out, length| unsafe {
+        call(
+            der.as_ptr(),
+            der.len(),
+            json,
+            out.as_mut_ptr(),
+            out.len(),
+            length,
+        )
+    })
+}
+
+pub fn subject(der: &[u8]) -> Result<Vec<u8>> {
+    written_of(wd_subject, der)
+}
+
+pub fn issuer(der: &[u8]) -> Result<Vec<u8>> {
+    written_of(wd_issuer, der)
+}
+
+pub fn serial_number(der: &[u8]) -> Result<Vec<u8>> {
+    written_of(wd_serial_number, der)
+}
+
+pub fn public_key(der: &[u8]) -> Result<Vec<u8>> {
+    written_of(wd_public_key, der)
+}
+
+pub fn validity(der: &[u8]) -> Result<Validity> {
+    let mut told = WdValidity::default();
+    // SAFETY: the pointers are of a slice, and of a value, that are lent for the call.
+    match unsafe { wd_dates(der.as_ptr(), der.len(), &mut told) } {
+        DONE => Ok(Validity {
+            not_before: told.not_before,
+            not_after: told.not_after,
+        }),
+        status => Err(error_of(status)),
+    }
+}
+
+pub fn extension(der: &[u8], identifier: &[u8]) -> Result<Option<Extension>> {
+    let mut critical = false;
+    // SAFETY: the pointers are of slices, and of values, that are lent for the call.
+    let content = written(|out, length| unsafe {
+        wd_extension(
+            der.as_ptr(),
+            der.len(),
+            identifier.as_ptr(),
+            identifier.len(),
+            out.as_mut_ptr(),
+            out.len(),
+            length,
+            &mut critical,
+        )
+    });
+    match content {
+        Ok(content) => Ok(Some(Extension { content, critical })),
+        Err(Error::Empty) => Ok(None),
+        Err(error) => Err(error),
+    }
+}
+
+pub fn name_text(der: &[u8]) -> Result<Vec<u8>> {
+    written_of(wd_name_text, der)
+}
+
+pub fn name_of_text(text: &[u8]) -> Result<Vec<u8>> {
+    written_of(wd_name_of_text, text)
+}
+
+pub fn identifier_text(octets: &[u8]) -> Result<Vec<u8>> {
+    written_of(wd_identifier_text, octets)
+}
+
+pub fn identifier_of_text(text: &[u8]) -> Result<Vec<u8>> {
+    written_of(wd_identifier_of_text, text)
+}
+
+pub fn questions(anchors: &[u8], chain: &[u8], limit: u32) -> Result<Vec<u8>> {
+    // SAFETY: the pointers are of slices, and of a value, that are lent for the call.
+    written(|out, length| unsafe {
+        wd_questions(
+            anchors.as_ptr(),
+            anchors.len(),
+            chain.as_ptr(),
+            chain.len(),
+            limit,
+            out.as_mut_ptr(),
+            out.len(),
+            length,
+        )
+    })
+}
+
+pub fn verify(answers: &[u8], chain: &[u8], terms: &Terms<'_>) -> Result<Verdict> {
+    let mut told = WdPlace::default();
+    // SAFETY: the pointers are of slices, and of a value, that are lent for the call.
+    let status = unsafe {
+        wd_verify(
+            answers.as_ptr(),
+            answers.len(),
+            terms.anchors.as_ptr(),
+            terms.anchors.len(),
+            chain.as_ptr(),
+            chain.len(),
+            terms.moment,
+            terms.purpose.as_ptr(),
+            terms.purpose.len(),
+            terms.limit,
+            &mut told,
+        )
+    };
+    match status {
+        DONE => Ok(Verdict::Trusted),
+        REFUSED => Ok(Verdict::Refused {
+            place: told.place,
+            rule: Rule::of(told.number),
+        }),
+        FAULTY => Ok(Verdict::Faulty {
+            place: told.place,
+            offset: told.offset,
+            fault: ChainFault::of(told.number),
+        }),
+        EMPTY => Ok(Verdict::Empty),
+        status => Err(error_of(status)),
+    }
+}

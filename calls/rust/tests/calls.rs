@@ -1,0 +1,178 @@
+//! The calls over files of the repository. What is wanted was told by OpenSSL, or stands in a
+//! standard.
+
+use std::fs;
+use std::path::Path;
+
+use wurstdrape::{ChainFault, Error, FaultKind, Kind, Rule, Terms, Verdict, SERVER_AUTH};
+
+// 2026-05-28
+const MOMENT: u64 = 1_780_000_000;
+
+fn read(name: &str) -> Vec<u8> {
+    fs::read(
+        Path::new(env!("CARGO_MANIFEST_DIR"))
+            .join("../..")
+            .join(name),
+    )
+    .unwrap()
+}
+
+fn data(name: &str) -> Vec<u8> {
+    read(&format!("crates/tool_rows/data/{name}"))
+}
+
+fn terms(anchors: &[u8]) -> Terms<'_> {
+    Terms {
+        anchors,
+        moment: MOMENT,
+        purpose: SERVER_AUTH,
+        limit: wurstdrape::LIMIT,
+    }
+}
+
+#[test]
+fn parts_are_those_that_openssl_tells() {
+    let der = read("examples/server.der");
+    assert_eq!(wurstdrape::subject(&der).unwrap(), "CN=desk.example");
+    assert_eq!(
+        wurstdrape::issuer(&der).unwrap(),
+        "CN=Desk Intermediate,O=Desk Example,C=US"
+    );
+    let number = wurstdrape::serial_number(&der).unwrap();
+    assert_eq!(number[..4], [0x16, 0xd9, 0x42, 0x95]);
+    assert_eq!(number.len(), 20);
+    let validity = wurstdrape::validity(&der).unwrap();
+    assert_eq!(
+        (validity.not_before, validity.not_after),
+        (1_767_225_600, 2_082_758_400)
+    );
+    let constraints = wurstdrape::extension(&der, &[0x55, 0x1d, 19])
+        .unwrap()
+        .unwrap();
+    assert_eq!(
+        (constraints.content, constraints.critical),
+        (vec![0x30, 0], true)
+    );
+    assert_eq!(wurstdrape::extension(&der, &[0x55, 0x1d, 30]), Ok(None));
+    assert_eq!(wurstdrape::extension(&der, &[0x80]), Err(Error::Arguments));
+    let key = wurstdrape::public_key(&der).unwrap();
+    assert!(der.windows(key.len()).any(|octets| octets == key));
+}
+
+#[test]
+fn faults_are_told() {
+    let mut der = read("examples/server.der");
+    assert_eq!(wurstdrape::fault_of(&der, Kind::Certificate), Ok(None));
+    assert!(wurstdrape::fault_of(&der, Kind::List).unwrap().is_some());
+    der.push(0);
+    let fault = wurstdrape::fault_of(&der, Kind::Certificate)
+        .unwrap()
+        .unwrap();
+    assert_eq!(fault.kind, FaultKind::TrailingData);
+    assert_eq!(fault.octet, Some(der.len() as u64 - 1));
+    assert_eq!(wurstdrape::subject(&der), Err(Error::Faulty));
+    assert_eq!(wurstdrape::validity(&der), Err(Error::Faulty));
+    assert_eq!(wurstdrape::show(&[], Kind::Certificate), Err(Error::Faulty));
+}
+
+#[test]
+fn texts_go_both_ways() {
+    // as `openssl asn1parse -genstr OID:1.2.840.113549` encodes it
+    let octets = [0x2a, 0x86, 0x48, 0x86, 0xf7, 0x0d];
+    assert_eq!(
+        wurstdrape::identifier_text(&octets).unwrap(),
+        "1.2.840.113549"
+    );
+    assert_eq!(
+        wurstdrape::identifier_of_text("1.2.840.113549").unwrap(),
+        octets
+    );
+    assert_eq!(wurstdrape::identifier_of_text("3.1"), Err(Error::Faulty));
+    let name = wurstdrape::name_of_text("CN=a,O=b").unwrap();
+    assert_eq!(wurstdrape::name_text(&name).unwrap(), "CN=a,O=b");
+    assert_eq!(wurstdrape::name_of_text("CN"), Err(Error::Faulty));
+}
+
+#[test]
+fn other_kinds_are_listed_and_described() {
+    let list = wurstdrape::show(&data("list.der"), Kind::List).unwrap();
+    assert!(list.starts_with("list\n"));
+    let request = wurstdrape::describe(&data("request.der"), Kind::Request, false).unwrap();
+    assert!(request.starts_with("request"));
+    let json = wurstdrape::describe(&read("examples/server.der"), Kind::Certificate, true).unwrap();
+    assert!(json.starts_with('{') && json.ends_with("}\n"));
+}
+
+#[test]
+fn a_chain_is_trusted_by_its_answers() {
+    let (root, chain, answers) = (data("root.der"), data("chain.der"), data("answers.txt"));
+    let questions = wurstdrape::questions(&root, &chain, wurstdrape::LIMIT).unwrap();
+    assert_eq!(questions.as_bytes(), answers);
+    assert_eq!(
+        wurstdrape::verify(&answers, &chain, &terms(&root)),
+        Ok(Verdict::Trusted)
+    );
+
+    // without the answer about the first certificate
+    let second = questions.find('\n').unwrap() + 1;
+    assert_eq!(
+        wurstdrape::verify(&answers[second..], &chain, &terms(&root)),
+        Ok(Verdict::Refused {
+            place: 0,
+            rule: Rule::WrongSignature
+        })
+    );
+}
+
+#[test]
+fn a_chain_is_refused_for_its_reason() {
+    let (root, chain, answers) = (data("root.der"), data("chain.der"), data("answers.txt"));
+    let early = Terms {
+        moment: 1,
+        ..terms(&root)
+    };
+    assert_eq!(
+        wurstdrape::verify(&answers, &chain, &early),
+        Ok(Verdict::Refused {
+            place: 0,
+            rule: Rule::NotYetValid
+        })
+    );
+    match wurstdrape::verify(&answers, &chain[..chain.len() - 1], &terms(&root)) {
+        Ok(Verdict::Faulty {
+            place: 1, fault, ..
+        }) => assert_eq!(fault, ChainFault::Truncated),
+        other => panic!("{other:?}"),
+    }
+    assert_eq!(
+        wurstdrape::verify(&answers, &[], &terms(&root)),
+        Ok(Verdict::Empty)
+    );
+    assert_eq!(wurstdrape::questions(&root, &[], 4096), Err(Error::Empty));
+    let faulty = Err(Error::Arguments);
+    assert_eq!(wurstdrape::verify(b"0 0", &chain, &terms(&root)), faulty);
+    assert_eq!(
+        wurstdrape::verify(&answers, &chain, &terms(&root[1..])),
+        faulty
+    );
+    let narrow = Terms {
+        limit: 5,
+        ..terms(&root)
+    };
+    assert_eq!(wurstdrape::verify(&answers, &chain, &narrow), faulty);
+}
+
+#[test]
+fn threads_call_at_once() {
+    let der = read("examples/server.der");
+    std::thread::scope(|scope| {
+        for _ in 0..8 {
+            scope.spawn(|| {
+                for _ in 0..500 {
+                    assert_eq!(wurstdrape::subject(&der).unwrap(), "CN=desk.example");
+                }
+            });
+        }
+    });
+}

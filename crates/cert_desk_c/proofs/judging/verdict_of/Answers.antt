@@ -1,0 +1,25 @@
+use Rattle.std.proofs.Common.{◌≡◌, ℕ, List, map, Ok, sym, ap, ◌∙◌}
+use Rattle.cert_desk_checking.specs.declared.anchor_fault.AnchorFault.{AnchorFault}
+use Rattle.cert_desk_checking.specs.Anchors.{anchor_plain, purpose_plain}
+use Rattle.cert_desk_rules.specs.Answers.{answer_plain, only_yes_to}
+use Rattle.cert_desk_rules.specs.Judges.{judge_answers}
+use Rattle.cert_desk_rules.specs.Judging.{PlainAnchor}
+use Rattle.cert_desk_rules.specs.Questions.{Question}
+use Rattle.cert_tool_runs.specs.declared.line_fault.LineFault.{LineFault}
+use Rattle.cert_desk_c.proofs.Judged.{first_of, ok_is, trusted_by}
+use Rattle.cert_desk_c.proofs.judging.verdict_of.Goals as goal
+
+pub returns-in-Err-anchors_of-clause-only : goal.returns-in-Err-anchors_of-clause-only
+returns-in-Err-anchors_of-clause-only c = λ given listing a f t. first_of _ _ c.in-Err-anchors_of.ensures.none (λ none. none given a)
+
+pub returns-in-Ok-check-clause-only : goal.returns-in-Ok-check-clause-only
+returns-in-Ok-check-clause-only c = λ given listing a f t.
+    let anchors = map anchor_plain c.in-Ok-anchors_of.anchors.items in
+    let answers = map answer_plain c.in-Ok.answers.items in
+    let same : given ≡ anchors = ok_is (List PlainAnchor) (ℕ × AnchorFault) given anchors
+    (c.one_anchor_file.ensures c.args.anchors.now (Ok given) (Ok anchors) a c.in-Ok-anchors_of.ensures.read) in
+    let all : listing ≡ answers = ok_is (List Question) (ℕ × LineFault) listing answers (sym f ∙ c.in-Ok.ensures.read) in
+    c.in-Ok-check.ensures.trusted c.args.chain.now c.in-Ok-bundle_of.ensures.reads
+    (trusted_by given (map anchor_plain c.as_slice.result.now) c.args.moment (purpose_plain c.args.purpose.now) (only_yes_to listing) (judge_answers c.new-judge.result)
+    c.args.limit c.in-Ok-bundle_of.bundle.limit c.args.chain.now
+    (same ∙ sym (ap (λ xs. map anchor_plain xs) c.as_slice.ensures.value)) (ap only_yes_to all ∙ sym c.new-judge.ensures.answers) (sym c.in-Ok-bundle_of.ensures.limit) t)

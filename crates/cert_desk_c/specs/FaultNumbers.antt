@@ -1,0 +1,37 @@
+-- The numbers of kinds of faults.
+use Rattle.std.specs.Prelude.{◌≡◌, ◌≢◌, ℕ, ◌⊎◌}
+use Rattle.der_core_head.specs.declared.error.ErrorKind.{ErrorKind}
+use Rattle.der_core_head.specs.declared.error.ErrorKind.TheVariants as kinds
+use Rattle.cert_desk_io.specs.declared.exit_status.ExitStatus.TheVariants as statuses
+use Rattle.cert_desk_io.specs.Statuses.{code_of}
+
+abbrev pub fault_number : ErrorKind → ℕ
+fault_number kinds.DateTime = 1
+fault_number kinds.EncodingRules = 2
+fault_number kinds.Failed = 3
+fault_number kinds.Incomplete = 4
+fault_number kinds.IndefiniteLength = 5
+fault_number (kinds.Length tag) = 6
+fault_number kinds.NestingDepth = 7
+fault_number (kinds.Noncanonical tag) = 8
+fault_number kinds.OidMalformed = 9
+fault_number kinds.OidUnknown = 10
+fault_number kinds.OutOfMemory = 11
+fault_number kinds.Overflow = 12
+fault_number kinds.Overlength = 13
+fault_number kinds.Reader = 14
+fault_number kinds.SetDuplicate = 15
+fault_number kinds.SetOrdering = 16
+fault_number kinds.TagModeUnknown = 17
+fault_number kinds.TagNumberInvalid = 18
+fault_number kinds.TagUnexpected = 19
+fault_number kinds.TagUnknown = 20
+fault_number kinds.TrailingData = 21
+fault_number kinds.Utf8 = 22
+fault_number (kinds.Value tag) = 23
+
+-- A fault of this kind is told by its number and a status; want of memory by a status alone.
+abbrev pub IsTold : ErrorKind → ℕ → ℕ → Type 0
+IsTold kind told status = ((kind ≡ kinds.OutOfMemory) × (status ≡ code_of statuses.Memory))
+    ⊎ ((kind ≢ kinds.OutOfMemory) × (status ≡ code_of statuses.Faulty)
+    × (told ≡ fault_number kind))

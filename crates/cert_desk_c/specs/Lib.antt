@@ -1,0 +1,4 @@
+pub mod Rooms
+pub mod FaultNumbers
+pub mod Values
+pub mod Judged

@@ -1,0 +1,136 @@
+//! Whether octets spell a value, and the first fault where they don't.
+ghost use Rattle.std.specs.Prelude.{◌≡◌, ◌⊎◌, Err};
+ghost use Rattle.const_oid.specs.Bound.{Bound};
+ghost use Rattle.der_core_head.specs.declared.error.ErrorKind.{ErrorKind};
+ghost use Rattle.der_core_head.specs.Grammar.{read_whole};
+ghost use Rattle.der_core_head.specs.Shapes.{Spells};
+ghost use Rattle.cert_desk_io.specs.declared.exit_status.ExitStatus.TheVariants.{Done, Faulty};
+ghost use Rattle.cert_desk_io.specs.declared.exit_status.ExitStatus.TheVariants.{Memory};
+ghost use Rattle.cert_desk_io.specs.Statuses.{code_of};
+ghost use Rattle.x509_cert_certificates.specs.Certificates.{PlainCertificate, raw_certificate};
+ghost use Rattle.x509_cert_lists.specs.Grammar.{cert_req};
+ghost use Rattle.cert_desk_listing.specs.Parts.{PlainList, PlainRequest, raw_certificate_list};
+ghost use Rattle.cert_desk_c.specs.FaultNumbers.{IsTold, fault_number};
+ghost use Rattle.cert_desk_c.specs.Values.{IsNoCertificate, IsNoList, IsNoRequest};
+
+use crate::reading::read_list;
+use crate::rooms::code;
+use cert_desk_io::ExitStatus;
+use der_core::{Error, ErrorKind};
+use std::alloc::Global;
+use x509_cert_certificates::CertificateInner;
+use x509_cert_lists::CertReq;
+use x509_cert_parts::Raw;
+
+/// The first fault of octets, from the left.
+#[repr(C)]
+pub struct WdFault {
+    /// The number of its kind.
+    pub kind: u32,
+    /// The octet at which it was found, or 2^64 - 1 where that isn't known.
+    pub octet: u64,
+}
+
+// The number of a kind of fault.
+fn fault_number(kind: ErrorKind) -> u32
+    ensures { result ≡ fault_number kind }
+{
+    match kind {
+        ErrorKind::DateTime => 1,
+        ErrorKind::EncodingRules => 2,
+        ErrorKind::Failed => 3,
+        ErrorKind::Incomplete => 4,
+        ErrorKind::IndefiniteLength => 5,
+        ErrorKind::Length { .. } => 6,
+        ErrorKind::NestingDepth => 7,
+        ErrorKind::Noncanonical { .. } => 8,
+        ErrorKind::OidMalformed => 9,
+        ErrorKind::OidUnknown => 10,
+        ErrorKind::OutOfMemory => 11,
+        ErrorKind::Overflow => 12,
+        ErrorKind::Overlength => 13,
+        ErrorKind::Reader => 14,
+        ErrorKind::SetDuplicate => 15,
+        ErrorKind::SetOrdering => 16,
+        ErrorKind::TagModeUnknown => 17,
+        ErrorKind::TagNumberInvalid => 18,
+        ErrorKind::TagUnexpected => 19,
+        ErrorKind::TagUnknown => 20,
+        ErrorKind::TrailingData => 21,
+        ErrorKind::Utf8 => 22,
+        ErrorKind::Value { .. } => 23,
+    }
+}
+
+// Tells a fault, and the status.
+fn tell(error: Error, fault: &mut WdFault) -> u32
+    ensures { IsTold error.kind fault.new.kind result }
+{
+    if let ErrorKind::OutOfMemory = error.kind {
+        return code(ExitStatus::Memory);
+    }
+    fault.kind = fault_number(error.kind);
+    fault.octet = match error.position {
+        Some(place) => u64::from(place.value),
+        None => u64::MAX,
+    };
+    code(ExitStatus::Faulty)
+}
+
+/// Whether octets spell a certificate (RFC 5280 4.1), all of them: 0 where they do, 2 where they
+/// don't, whose first fault is told then, 6 where there is no memory.
+#[unsafe(no_mangle)]
+pub extern "C" fn wd_is_certificate(alloc: Global, octets: &[u8], fault: &mut WdFault) -> u32
+    ensures spelled { result ≡ code_of Done
+        → (c : PlainCertificate) × Spells (raw_certificate Bound) c octets.now }
+    ensures not_spelled { result ≡ code_of Faulty → IsNoCertificate octets.now }
+    ensures fault { result ≡ code_of Faulty → (kind : ErrorKind)
+        × (fault.new.kind ≡ fault_number kind)
+        × (read_whole (raw_certificate Bound) octets.now ≡ Err kind) }
+    ensures statuses { (result ≡ code_of Done) ⊎ ((result ≡ code_of Faulty)
+        ⊎ (result ≡ code_of Memory)) }
+{
+    let _certificate = match CertificateInner::<Raw>::from_der(alloc, octets) {
+        Ok(certificate) => certificate,
+        Err(error) => return tell(error, fault),
+    };
+    code(ExitStatus::Done)
+}
+
+/// Whether octets spell a revocation list (RFC 5280 5.1), in the same way.
+#[unsafe(no_mangle)]
+pub extern "C" fn wd_is_list(alloc: Global, octets: &[u8], fault: &mut WdFault) -> u32
+    ensures spelled { result ≡ code_of Done
+        → (l : PlainList) × Spells (raw_certificate_list Bound) l octets.now }
+    ensures not_spelled { result ≡ code_of Faulty → IsNoList octets.now }
+    ensures fault { result ≡ code_of Faulty → (kind : ErrorKind)
+        × (fault.new.kind ≡ fault_number kind)
+        × (read_whole (raw_certificate_list Bound) octets.now ≡ Err kind) }
+    ensures statuses { (result ≡ code_of Done) ⊎ ((result ≡ code_of Faulty)
+        ⊎ (result ≡ code_of Memory)) }
+{
+    let _list = match read_list(alloc, octets) {
+        Ok(list) => list,
+        Err(error) => return tell(error, fault),
+    };
+    code(ExitStatus::Done)
+}
+
+/// Whether octets spell a certification request (RFC 2986 4.2), in the same way.
+#[unsafe(no_mangle)]
+pub extern "C" fn wd_is_request(alloc: Global, octets: &[u8], fault: &mut WdFault) -> u32
+    ensures spelled { result ≡ code_of Done
+        → (r : PlainRequest) × Spells (cert_req Bound) r octets.now }
+    ensures not_spelled { result ≡ code_of Faulty → IsNoRequest octets.now }
+    ensures fault { result ≡ code_of Faulty → (kind : ErrorKind)
+        × (fault.new.kind ≡ fault_number kind)
+        × (read_whole (cert_req Bound) octets.now ≡ Err kind) }
+    ensures statuses { (result ≡ code_of Done) ⊎ ((result ≡ code_of Faulty)
+        ⊎ (result ≡ code_of Memory)) }
+{
+    let _request = match CertReq::try_from_bytes(alloc, octets) {
+        Ok(request) => request,
+        Err(error) => return tell(error, fault),
+    };
+    code(ExitStatus::Done)
+}

@@ -1,0 +1,87 @@
+//! Object identifiers.
+ghost use Rattle.std.specs.Prelude.{◌≡◌, ◌≢◌, ◌≤◌, ℕ, List, take, length, IfOk, IfErr};
+ghost use Rattle.std.specs.Prelude.{OnErr, IsUtf8, string_bytes};
+ghost use Rattle.const_oid.specs.Bound.{Bound};
+ghost use Rattle.const_oid.specs.DottedText.{dotted};
+ghost use Rattle.const_oid.specs.IdentifierOctets.{IsIdentifier, identifier_octets};
+ghost use Rattle.const_oid.specs.TextFaults.{IsDottedText};
+ghost use Rattle.cert_desk_io.specs.declared.exit_status.ExitStatus.TheVariants.{Device, Done};
+ghost use Rattle.cert_desk_io.specs.declared.exit_status.ExitStatus.TheVariants.{Faulty};
+ghost use Rattle.cert_desk_io.specs.Statuses.{code_of};
+ghost use Rattle.cert_desk_c.specs.Rooms.{Wants};
+ghost use Rattle.cert_desk_c.specs.Values.{IsDottedTextOf, IsIdentifierOf};
+
+use crate::rooms::{code, give};
+use cert_desk_io::ExitStatus;
+use const_oid::ObjectIdentifier;
+use std::alloc::{AllocError, Global};
+
+// The dotted text of an identifier.
+fn text_of(alloc: Global, identifier: &ObjectIdentifier<39>) -> Result<String, AllocError>
+    ensures { IfOk result (λ text. string_bytes text ≡ dotted identifier.now) }
+{
+    format!(in alloc; "{identifier}")
+}
+
+/// The dotted text of an identifier, as `1.2.840.113549`, whose content octets (X.690 8.19) these
+/// are: 0 where it stands in `out`, 2 where they are none of up to 39 octets, 5 where the room is
+/// too small, 6 where there is no memory.
+#[unsafe(no_mangle)]
+pub extern "C" fn wd_identifier_text(
+    alloc: Global,
+    octets: &[u8],
+    out: &mut [u8],
+    size: &mut usize,
+) -> u32
+    ensures done { result ≡ code_of Done → IsDottedTextOf octets.now (take size.new out.new) }
+    ensures no_room { result ≡ code_of Device
+        → Wants (IsDottedTextOf octets.now) out.old size.new }
+    ensures not_spelled { result ≡ code_of Faulty → (arcs : List ℕ) → IsIdentifier Bound arcs
+        → octets.now ≡ identifier_octets arcs → length octets.now ≤ 39 → ⊥ }
+    ensures untouched { result ≢ code_of Done → out.new ≡ out.old }
+{
+    *size = 0;
+    let Ok(identifier) = ObjectIdentifier::<39>::from_bytes(octets) else {
+        return code(ExitStatus::Faulty);
+    };
+    let Ok(text) = text_of(alloc, &identifier) else {
+        return code(ExitStatus::Memory);
+    };
+    give(text.as_bytes(), out, size)
+}
+
+// The identifier that a dotted text spells, if it spells one.
+fn identifier_of(text: &[u8]) -> Result<ObjectIdentifier<39>, ExitStatus>
+    ensures read { IfOk result (λ arcs. IsDottedText arcs text.now × IsIdentifier Bound arcs) }
+    ensures status { IfErr result (λ status. status ≡ Faulty) }
+    ensures refused { OnErr result (IsUtf8 text.now → (arcs : List ℕ) → IsDottedText arcs text.now
+        → IsIdentifier Bound arcs → length (identifier_octets arcs) ≤ 39 → ⊥) }
+{
+    let Ok(text) = std::str::from_utf8(text) else {
+        return Err(ExitStatus::Faulty);
+    };
+    match ObjectIdentifier::<39>::new(text) {
+        Ok(identifier) => Ok(identifier),
+        Err(_) => Err(ExitStatus::Faulty),
+    }
+}
+
+/// The content octets of the identifier that a dotted text spells: 0 where they stand in `out`, 2
+/// where the text spells none of up to 39 octets, 5 where the room is too small.
+#[unsafe(no_mangle)]
+pub extern "C" fn wd_identifier_of_text(text: &[u8], out: &mut [u8], size: &mut usize) -> u32
+    ensures done { result ≡ code_of Done → IsIdentifierOf text.now (take size.new out.new) }
+    ensures no_room { result ≡ code_of Device
+        → Wants (IsIdentifierOf text.now) out.old size.new }
+    ensures not_spelled { result ≡ code_of Faulty → IsUtf8 text.now → (arcs : List ℕ)
+        → IsDottedText arcs text.now → IsIdentifier Bound arcs
+        → length (identifier_octets arcs) ≤ 39 → ⊥ }
+    ensures untouched { result ≢ code_of Done → out.new ≡ out.old }
+{
+    *size = 0;
+    let identifier = match identifier_of(text) {
+        Ok(identifier) => identifier,
+        Err(status) => return code(status),
+    };
+    give(identifier.as_bytes(), out, size)
+}

@@ -1,0 +1,21 @@
+//! The desk for C: octets in, a status and octets out. What a status says, the contract of each
+//! call says. Nothing is kept between calls, so threads may call at once.
+//!
+//! A status is the number of an `ExitStatus`: 0 done or trusted, 1 refused, 2 the octets aren't
+//! what they should be, 3 an empty chain, 4 another argument is faulty, 5 too little room, 6 no
+//! memory. A call that writes a text or octets writes them to the front of `out`, and their number
+//! to `size`; where there is too little room it says how much it wants in `size`, and leaves
+//! `out` as it was.
+#![tactic(auto)]
+
+mod certificates;
+mod describing;
+mod faults;
+mod identifiers;
+mod judging;
+mod listings;
+mod names;
+mod numbers;
+mod questions;
+mod reading;
+mod rooms;

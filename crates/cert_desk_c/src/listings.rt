@@ -1,0 +1,142 @@
+//! Listings.
+ghost use Rattle.std.specs.Prelude.{◌≡◌, ◌≢◌, take, IfOk};
+ghost use Rattle.cert_desk_io.specs.declared.exit_status.ExitStatus.TheVariants.{Done, Faulty};
+ghost use Rattle.cert_desk_io.specs.declared.exit_status.ExitStatus.TheVariants.{Device};
+ghost use Rattle.cert_desk_io.specs.Statuses.{code_of};
+ghost use Rattle.cert_desk_listing.specs.declared.file_kind.FileKind.TheVariants as kinds;
+ghost use Rattle.cert_desk_listing.specs.Listing.{certificate_lines, list_lines, request_lines};
+ghost use Rattle.cert_desk_listing.specs.Shown.{IsListing};
+ghost use Rattle.x509_cert_certificates.specs.Views.{certificate_plain};
+ghost use Rattle.x509_cert_lists.specs.Views.{certificate_list_plain, cert_req_plain};
+ghost use Rattle.cert_desk_c.specs.Rooms.{Wants};
+ghost use Rattle.cert_desk_c.specs.Values.{IsNoCertificate, IsNoList, IsNoRequest};
+
+use crate::reading::{certificate_of, list_of, request_of};
+use crate::rooms::{code, give};
+use cert_desk_io::{ExitStatus, ToWrite};
+use cert_desk_listing::{show_certificate, show_list, show_request};
+use std::alloc::{AllocError, Global};
+use x509_cert_certificates::CertificateInner;
+use x509_cert_lists::{CertReq, CertificateList};
+use x509_cert_parts::Raw;
+
+// The listing of a certificate.
+fn certificate_listing(
+    alloc: Global,
+    certificate: &CertificateInner<Raw>,
+) -> Result<Vec<u8>, AllocError>
+    ensures { IfOk result
+        (λ text. text.items ≡ certificate_lines (certificate_plain certificate.now)) }
+{
+    let mut output = ToWrite::new(Vec::new(alloc));
+    if show_certificate(alloc, certificate, &mut output).is_err() {
+        return Err(AllocError);
+    }
+    Ok(output.into_inner())
+}
+
+// The listing of a revocation list.
+fn list_listing(alloc: Global, list: &CertificateList<Raw>) -> Result<Vec<u8>, AllocError>
+    ensures { IfOk result
+        (λ text. text.items ≡ list_lines (certificate_list_plain list.now)) }
+{
+    let mut output = ToWrite::new(Vec::new(alloc));
+    if show_list(alloc, list, &mut output).is_err() {
+        return Err(AllocError);
+    }
+    Ok(output.into_inner())
+}
+
+// The listing of a request.
+fn request_listing(alloc: Global, request: &CertReq) -> Result<Vec<u8>, AllocError>
+    ensures { IfOk result
+        (λ text. text.items ≡ request_lines (cert_req_plain request.now)) }
+{
+    let mut output = ToWrite::new(Vec::new(alloc));
+    if show_request(alloc, request, &mut output).is_err() {
+        return Err(AllocError);
+    }
+    Ok(output.into_inner())
+}
+
+/// The listing of a certificate, as `cert_desk show certificate` writes it: 0 where it stands in
+/// `out`, 2 where octets spell no certificate, 5 where the room is too small, 6 where there is no
+/// memory.
+#[unsafe(no_mangle)]
+pub extern "C" fn wd_show_certificate(
+    alloc: Global,
+    octets: &[u8],
+    out: &mut [u8],
+    size: &mut usize,
+) -> u32
+    ensures done { result ≡ code_of Done
+        → IsListing kinds.Certificate octets.now (take size.new out.new) }
+    ensures no_room { result ≡ code_of Device
+        → Wants (IsListing kinds.Certificate octets.now) out.old size.new }
+    ensures not_spelled { result ≡ code_of Faulty → IsNoCertificate octets.now }
+    ensures untouched { result ≢ code_of Done → out.new ≡ out.old }
+{
+    *size = 0;
+    let certificate = match certificate_of(alloc, octets) {
+        Ok(certificate) => certificate,
+        Err(status) => return code(status),
+    };
+    let Ok(text) = certificate_listing(alloc, &certificate) else {
+        return code(ExitStatus::Memory);
+    };
+    give(text.as_slice(), out, size)
+}
+
+/// The listing of a revocation list, as `cert_desk show list` writes it, with the statuses of
+/// `wd_show_certificate`.
+#[unsafe(no_mangle)]
+pub extern "C" fn wd_show_list(
+    alloc: Global,
+    octets: &[u8],
+    out: &mut [u8],
+    size: &mut usize,
+) -> u32
+    ensures done { result ≡ code_of Done
+        → IsListing kinds.List octets.now (take size.new out.new) }
+    ensures no_room { result ≡ code_of Device
+        → Wants (IsListing kinds.List octets.now) out.old size.new }
+    ensures not_spelled { result ≡ code_of Faulty → IsNoList octets.now }
+    ensures untouched { result ≢ code_of Done → out.new ≡ out.old }
+{
+    *size = 0;
+    let list = match list_of(alloc, octets) {
+        Ok(list) => list,
+        Err(status) => return code(status),
+    };
+    let Ok(text) = list_listing(alloc, &list) else {
+        return code(ExitStatus::Memory);
+    };
+    give(text.as_slice(), out, size)
+}
+
+/// The listing of a certification request, as `cert_desk show request` writes it, with the statuses
+/// of `wd_show_certificate`.
+#[unsafe(no_mangle)]
+pub extern "C" fn wd_show_request(
+    alloc: Global,
+    octets: &[u8],
+    out: &mut [u8],
+    size: &mut usize,
+) -> u32
+    ensures done { result ≡ code_of Done
+        → IsListing kinds.Request octets.now (take size.new out.new) }
+    ensures no_room { result ≡ code_of Device
+        → Wants (IsListing kinds.Request octets.now) out.old size.new }
+    ensures not_spelled { result ≡ code_of Faulty → IsNoRequest octets.now }
+    ensures untouched { result ≢ code_of Done → out.new ≡ out.old }
+{
+    *size = 0;
+    let request = match request_of(alloc, octets) {
+        Ok(request) => request,
+        Err(status) => return code(status),
+    };
+    let Ok(text) = request_listing(alloc, &request) else {
+        return code(ExitStatus::Memory);
+    };
+    give(text.as_slice(), out, size)
+}

@@ -1,0 +1,91 @@
+//! Names.
+ghost use Rattle.std.specs.Prelude.{◌≡◌, ◌≢◌, take, IfOk, IfErr, string_bytes};
+ghost use Rattle.x509_cert_names.specs.PlainTexts.{name_text};
+ghost use Rattle.x509_cert_names.specs.Views.{name_plain};
+ghost use Rattle.cert_desk_io.specs.declared.exit_status.ExitStatus.TheVariants.{Device, Done};
+ghost use Rattle.cert_desk_io.specs.declared.exit_status.ExitStatus.TheVariants.{Faulty};
+ghost use Rattle.cert_desk_io.specs.Statuses.{code_of};
+ghost use Rattle.cert_desk_c.specs.Rooms.{IsLack, Wants};
+ghost use Rattle.cert_desk_c.specs.Values.{IsEncodedName, IsNameText, IsNoName, IsNoNameText};
+
+use crate::reading::name_of;
+use crate::rooms::{code, give};
+use cert_desk_io::ExitStatus;
+use der_core::ErrorKind;
+use std::alloc::{AllocError, Global};
+use x509_cert_names::{Name, RdnSequence};
+
+/// The text of a name (RFC 4514).
+pub(crate) fn text_of(alloc: Global, name: &Name) -> Result<String, AllocError>
+    ensures { IfOk result (λ text. string_bytes text ≡ name_text (name_plain name.now)) }
+{
+    format!(in alloc; "{name}")
+}
+
+/// The text of a name (RFC 4514): 0 where it stands in `out`, 2 where octets spell no name, 5 where
+/// the room is too small, 6 where there is no memory.
+#[unsafe(no_mangle)]
+pub extern "C" fn wd_name_text(
+    alloc: Global,
+    octets: &[u8],
+    out: &mut [u8],
+    size: &mut usize,
+) -> u32
+    ensures done { result ≡ code_of Done → IsNameText octets.now (take size.new out.new) }
+    ensures no_room { result ≡ code_of Device
+        → Wants (IsNameText octets.now) out.old size.new }
+    ensures not_spelled { result ≡ code_of Faulty → IsNoName octets.now }
+    ensures untouched { result ≢ code_of Done → out.new ≡ out.old }
+{
+    *size = 0;
+    let name = match name_of(alloc, octets) {
+        Ok(name) => name,
+        Err(status) => return code(status),
+    };
+    let Ok(text) = text_of(alloc, &name) else {
+        return code(ExitStatus::Memory);
+    };
+    give(text.as_bytes(), out, size)
+}
+
+// The encoding of the name that a text spells, or the status.
+fn encoding_of(alloc: Global, text: &[u8]) -> Result<Vec<u8>, ExitStatus>
+    ensures read { IfOk result (λ octets. IsEncodedName text.now octets.items) }
+    ensures refused { IfErr result (IsLack (IsNoNameText text.now)) }
+{
+    let Ok(text) = std::str::from_utf8(text) else {
+        return Err(ExitStatus::Faulty);
+    };
+    match RdnSequence::encode_from_string(alloc, text) {
+        Ok(octets) => Ok(octets),
+        Err(error) => {
+            if let ErrorKind::OutOfMemory = error.kind {
+                return Err(ExitStatus::Memory);
+            }
+            Err(ExitStatus::Faulty)
+        }
+    }
+}
+
+/// The encoding of the name that a text spells (RFC 4514), in UTF-8: 0 where it stands in `out`, 2
+/// where the text spells none, 5 where the room is too small, 6 where there is no memory.
+#[unsafe(no_mangle)]
+pub extern "C" fn wd_name_of_text(
+    alloc: Global,
+    text: &[u8],
+    out: &mut [u8],
+    size: &mut usize,
+) -> u32
+    ensures done { result ≡ code_of Done → IsEncodedName text.now (take size.new out.new) }
+    ensures no_room { result ≡ code_of Device
+        → Wants (IsEncodedName text.now) out.old size.new }
+    ensures not_spelled { result ≡ code_of Faulty → IsNoNameText text.now }
+    ensures untouched { result ≢ code_of Done → out.new ≡ out.old }
+{
+    *size = 0;
+    let octets = match encoding_of(alloc, text) {
+        Ok(octets) => octets,
+        Err(status) => return code(status),
+    };
+    give(octets.as_slice(), out, size)
+}

@@ -1,0 +1,82 @@
+//! Numbers of verdicts.
+ghost use Rattle.std.specs.Prelude.{◌≡◌};
+ghost use Rattle.cert_desk_io.specs.Statuses.{code_of};
+ghost use Rattle.cert_desk_bundle.specs.Faults.{rank};
+ghost use Rattle.cert_desk_rules.specs.Judging.{number};
+ghost use Rattle.cert_desk_checking.specs.Runs.{status_of};
+ghost use Rattle.cert_desk_c.specs.Judged.{Tells};
+
+use crate::rooms::code;
+use cert_desk_bundle::FaultKind;
+use cert_desk_checking::status_of;
+use cert_desk_rules::{Rule, Verdict};
+
+/// Where a chain is refused, and by which rule; or where its octets have a fault, and of which
+/// kind.
+#[repr(C)]
+pub struct WdPlace {
+    /// The place of the certificate, from 0.
+    pub place: u64,
+    /// Where it begins, of a fault.
+    pub offset: u64,
+    /// The number of the rule, or of the kind of fault.
+    pub number: u64,
+}
+
+// The number of a rule.
+fn rule_number(rule: Rule) -> u64
+    ensures { result ≡ number rule }
+{
+    match rule {
+        Rule::AlgorithmsDiffer => 1,
+        Rule::DuplicateExtension => 2,
+        Rule::MalformedExtension => 3,
+        Rule::UnweighedCritical => 4,
+        Rule::WrongIssuer => 5,
+        Rule::NotYetValid => 6,
+        Rule::Expired => 7,
+        Rule::AgainstPurpose => 8,
+        Rule::NotAuthority => 9,
+        Rule::PathTooLong => 10,
+        Rule::WrongSignature => 11,
+    }
+}
+
+// The number of a kind of fault.
+fn kind_number(kind: FaultKind) -> u64
+    ensures { result ≡ rank kind }
+{
+    match kind {
+        FaultKind::NoCertificate => 1,
+        FaultKind::Indefinite => 2,
+        FaultKind::LengthTooWide => 3,
+        FaultKind::LengthNotShortest => 4,
+        FaultKind::TooLarge => 5,
+        FaultKind::Malformed => 6,
+        FaultKind::Truncated => 7,
+    }
+}
+
+/// The status of a verdict, and what is told of it.
+pub(crate) fn tell(verdict: Verdict, told: &mut WdPlace) -> u32
+    ensures status { result ≡ code_of (status_of verdict) }
+    ensures tells { Tells verdict told.new.place told.new.offset told.new.number }
+{
+    match verdict {
+        Verdict::Trusted | Verdict::Empty => {}
+        Verdict::Refused { place, rule } => {
+            told.place = place as u64;
+            told.number = rule_number(rule);
+        }
+        Verdict::StreamFault {
+            place,
+            offset,
+            kind,
+        } => {
+            told.place = place as u64;
+            told.offset = offset;
+            told.number = kind_number(kind);
+        }
+    }
+    code(status_of(verdict))
+}

@@ -1,0 +1,96 @@
+//! What the signatures of a chain may ask.
+ghost use Rattle.std.specs.Prelude.{◌≡◌, ◌≢◌, ◌≤◌, ◌<◌, ◌^◌, ◌⊎◌, [], length, take, IfOk, IfErr};
+ghost use Rattle.std.specs.Prelude.{string_bytes};
+ghost use Rattle.const_oid.specs.Bound.{Bound};
+ghost use Rattle.cert_desk_io.specs.declared.exit_status.ExitStatus.TheVariants as statuses;
+ghost use Rattle.cert_desk_io.specs.Statuses.{code_of};
+ghost use Rattle.cert_desk_bundle.specs.Chains.{Chain};
+ghost use Rattle.cert_desk_c.specs.Judged.{AreQuestions};
+ghost use Rattle.cert_desk_c.specs.Rooms.{Wants};
+
+use crate::judging::{anchors_of, bundle_of};
+use crate::rooms::{code, give};
+use cert_desk_bundle::{Bundle, Standing};
+use cert_desk_checking::chain_lines;
+use cert_desk_io::ExitStatus;
+use std::alloc::Global;
+
+// A bundle of the certificates that octets join, of which there is one, or the status.
+fn chain_of(alloc: Global, limit: u32, octets: &[u8]) -> Result<Bundle, ExitStatus>
+    requires { 6 ≤ limit }
+    ensures chain { IfOk result (λ b. Chain Bound limit b.certificates octets.now) }
+    ensures some { IfOk result (λ b. 0 < length b.certificates) }
+    ensures other { IfErr result (λ status. (status ≡ statuses.Faulty)
+        ⊎ ((status ≡ statuses.Empty) ⊎ (status ≡ statuses.Memory))) }
+{
+    let bundle = match bundle_of(alloc, limit, octets) {
+        Ok(bundle) => bundle,
+        Err(status) => return Err(status),
+    };
+    match bundle.standing() {
+        Standing::Ended => {}
+        _ => return Err(ExitStatus::Faulty),
+    }
+    if bundle.is_empty() {
+        return Err(ExitStatus::Empty);
+    }
+    Ok(bundle)
+}
+
+// The questions of a chain under the anchors of a file, or the status.
+fn questions_of(
+    alloc: Global,
+    anchors: &[u8],
+    chain: &[u8],
+    limit: u32,
+) -> Result<String, ExitStatus>
+    requires limit { 6 ≤ limit }
+    requires short { length anchors.now < 2 ^ 32 }
+    ensures asked { IfOk result
+        (λ text. AreQuestions anchors.now chain.now limit (string_bytes text)) }
+    ensures other { IfErr result (λ status. status ≢ statuses.Done) }
+    ensures no_room { IfErr result (λ status. status ≢ statuses.Device) }
+{
+    let anchors = match anchors_of(alloc, anchors) {
+        Ok(anchors) => anchors,
+        Err(status) => return Err(status),
+    };
+    let bundle = match chain_of(alloc, limit, chain) {
+        Ok(bundle) => bundle,
+        Err(status) => return Err(status),
+    };
+    match chain_lines(alloc, anchors.as_slice(), &bundle) {
+        Ok(text) => Ok(text),
+        Err(_) => Err(ExitStatus::Memory),
+    }
+}
+
+/// What the signatures of a chain may ask under the anchors of a file, a line each, as `cert_tool
+/// questions` writes them: 0 where the lines stand in `out`, 2 where the chain's octets aren't
+/// certificates of at most `limit` octets each, 3 where there are none, 4 where the anchors or the
+/// limit are faulty, 5 where the room is too small, 6 where there is no memory.
+#[unsafe(no_mangle)]
+pub extern "C" fn wd_questions(
+    alloc: Global,
+    anchors: &[u8],
+    chain: &[u8],
+    limit: u32,
+    out: &mut [u8],
+    size: &mut usize,
+) -> u32
+    ensures done { result ≡ code_of statuses.Done
+        → AreQuestions anchors.now chain.now limit (take size.new out.new) }
+    ensures no_room { result ≡ code_of statuses.Device
+        → Wants (AreQuestions anchors.now chain.now limit) out.old size.new }
+    ensures untouched { result ≢ code_of statuses.Done → out.new ≡ out.old }
+{
+    *size = 0;
+    if limit < 6 || anchors.len() >= 1 << 32 {
+        return code(ExitStatus::Arguments);
+    }
+    let text = match questions_of(alloc, anchors, chain, limit) {
+        Ok(text) => text,
+        Err(status) => return code(status),
+    };
+    give(text.as_bytes(), out, size)
+}

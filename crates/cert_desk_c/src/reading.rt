@@ -1,0 +1,104 @@
+//! What octets spell.
+ghost use Rattle.std.specs.Prelude.{◌≢◌, [], IfOk, IfErr};
+ghost use Rattle.const_oid.specs.Bound.{Bound};
+ghost use Rattle.der_core_head.specs.declared.error.ErrorKind.TheVariants.{OutOfMemory};
+ghost use Rattle.der_core_head.specs.Grammar.{read_whole};
+ghost use Rattle.der_core_head.specs.Reading.{Gives};
+ghost use Rattle.der_core_head.specs.Shapes.{Spells};
+ghost use Rattle.x509_cert_names.specs.Names.{name};
+ghost use Rattle.x509_cert_names.specs.Views.{name_plain};
+ghost use Rattle.x509_cert_certificates.specs.Certificates.{raw_certificate};
+ghost use Rattle.x509_cert_certificates.specs.Views.{certificate_plain};
+ghost use Rattle.x509_cert_lists.specs.Grammar.{cert_req};
+ghost use Rattle.x509_cert_lists.specs.Views.{certificate_list_plain, cert_req_plain};
+ghost use Rattle.cert_desk_listing.specs.Parts.{raw_certificate_list};
+ghost use Rattle.cert_desk_c.specs.Rooms.{IsLack};
+ghost use Rattle.cert_desk_c.specs.Values.{IsNoCertificate, IsNoList, IsNoName, IsNoRequest};
+
+use cert_desk_io::ExitStatus;
+use der_core::{Error, ErrorKind, FromDer};
+use std::alloc::Global;
+use x509_cert_certificates::CertificateInner;
+use x509_cert_lists::{CertReq, CertificateList};
+use x509_cert_names::Name;
+use x509_cert_parts::Raw;
+
+/// The certificate that octets spell, or the status.
+pub(crate) fn certificate_of(
+    alloc: Global,
+    octets: &[u8],
+) -> Result<CertificateInner<Raw>, ExitStatus>
+    ensures spelled { IfOk result
+        (λ c. Spells (raw_certificate Bound) (certificate_plain c) octets.now) }
+    ensures refused { IfErr result (IsLack (IsNoCertificate octets.now)) }
+{
+    match CertificateInner::<Raw>::from_der(alloc, octets) {
+        Ok(certificate) => Ok(certificate),
+        Err(error) => {
+            if let ErrorKind::OutOfMemory = error.kind {
+                return Err(ExitStatus::Memory);
+            }
+            Err(ExitStatus::Faulty)
+        }
+    }
+}
+
+/// Reads a revocation list, all of the octets.
+pub(crate) fn read_list(alloc: Global, octets: &[u8]) -> Result<CertificateList<Raw>, Error>
+    ensures spelled { IfOk result
+        (λ l. Spells (raw_certificate_list Bound) (certificate_list_plain l) octets.now) }
+    ensures refused { IfErr result (λ e. e.kind ≢ OutOfMemory → IsNoList octets.now) }
+    ensures exact { Gives (λ l. (certificate_list_plain l, [])) result
+        (read_whole (raw_certificate_list Bound) octets.now) }
+{
+    CertificateList::<Raw>::from_der(alloc, octets)
+}
+
+/// The revocation list that octets spell, or the status.
+pub(crate) fn list_of(alloc: Global, octets: &[u8]) -> Result<CertificateList<Raw>, ExitStatus>
+    ensures spelled { IfOk result
+        (λ l. Spells (raw_certificate_list Bound) (certificate_list_plain l) octets.now) }
+    ensures refused { IfErr result (IsLack (IsNoList octets.now)) }
+{
+    match read_list(alloc, octets) {
+        Ok(list) => Ok(list),
+        Err(error) => {
+            if let ErrorKind::OutOfMemory = error.kind {
+                return Err(ExitStatus::Memory);
+            }
+            Err(ExitStatus::Faulty)
+        }
+    }
+}
+
+/// The certification request that octets spell, or the status.
+pub(crate) fn request_of(alloc: Global, octets: &[u8]) -> Result<CertReq, ExitStatus>
+    ensures spelled { IfOk result (λ r. Spells (cert_req Bound) (cert_req_plain r) octets.now) }
+    ensures refused { IfErr result (IsLack (IsNoRequest octets.now)) }
+{
+    match CertReq::try_from_bytes(alloc, octets) {
+        Ok(request) => Ok(request),
+        Err(error) => {
+            if let ErrorKind::OutOfMemory = error.kind {
+                return Err(ExitStatus::Memory);
+            }
+            Err(ExitStatus::Faulty)
+        }
+    }
+}
+
+/// The name that octets spell, or the status.
+pub(crate) fn name_of(alloc: Global, octets: &[u8]) -> Result<Name, ExitStatus>
+    ensures spelled { IfOk result (λ n. Spells (name Bound) (name_plain n) octets.now) }
+    ensures refused { IfErr result (IsLack (IsNoName octets.now)) }
+{
+    match Name::from_der(alloc, octets) {
+        Ok(name) => Ok(name),
+        Err(error) => {
+            if let ErrorKind::OutOfMemory = error.kind {
+                return Err(ExitStatus::Memory);
+            }
+            Err(ExitStatus::Faulty)
+        }
+    }
+}

@@ -1,0 +1,30 @@
+//! Texts in lent room.
+ghost use Rattle.std.specs.Prelude.{◌≡◌, ◌<◌, ◌⊎◌, length, take};
+ghost use Rattle.cert_desk_io.specs.declared.exit_status.ExitStatus.TheVariants.{Done, Device};
+ghost use Rattle.cert_desk_io.specs.Statuses.{code_of};
+
+use cert_desk_io::ExitStatus;
+
+/// The number of a status.
+pub(crate) fn code(status: ExitStatus) -> u32
+    ensures { result ≡ code_of status }
+{
+    u32::from(status.code())
+}
+
+/// Writes octets to the front of a room, and their number; or only the number, where they are more
+/// than there is room for.
+pub(crate) fn give(octets: &[u8], out: &mut [u8], size: &mut usize) -> u32
+    ensures number { size.new ≡ length octets.now }
+    ensures status { (result ≡ code_of Done) ⊎ (result ≡ code_of Device) }
+    ensures done { result ≡ code_of Done → take size.new out.new ≡ octets.now }
+    ensures no_room { result ≡ code_of Device → length out.old < length octets.now }
+    ensures untouched { result ≡ code_of Device → out.new ≡ out.old }
+{
+    *size = octets.len();
+    if octets.len() > out.len() {
+        return code(ExitStatus::Device);
+    }
+    out[..octets.len()].copy_from_slice(octets);
+    code(ExitStatus::Done)
+}
