@@ -63,10 +63,10 @@ def figures():
         return f"{sum(proofs):.0f}"
 
     yield "README.md", r"# else (\S+) minutes of processor more", [first("cert_desk")]
-    yield "README.md", r"`N passed, 0 failed`; (\S+) took (\S+) minutes", [version, took]
+    yield "README.md", r"`N passed, 0 failed`;\s(\S+)\stook\s(\S+)\sminutes", [version, took]
     for name in ("const_oid", "der_core", "der_types", "x509_cert", "cert_desk"):
         yield "docs/GUIDE.md", rf"(?m)^\| [^|]+ \| `{name}` \| [^|]+ \| (\S+) \|$", [first(name)]
-    told = r"in minutes of processor \((\S+), ([\d-]+)\)"
+    told = r"in\sminutes\sof\sprocessor\s\((\S+),\s([\d-]+)\)"
     yield "docs/GUIDE.md", told, [version, day]
     told = (r"Of\s(\S+)'s\scrates\son\s(\S+),\sfrom\snothing,\swith\skit\s(\S+)\son\s(\w+\s\w+):\s"
             r"(\S+)\spassed,\s(\S+)\sminutes,\s(\S+)\sof\sprocessor,\s(\S+)\sfor\sthe\slongest")

@@ -3,6 +3,8 @@
 
     bench/suites.py CERT_TOOL FOLDER PAGE     (bench/suites.sh fetches what FOLDER holds)
 
+A CERT_TOOL that stands in a folder out/ is one that `rt` has proved and built.
+
 Since cert_tool builds no paths, this script hands over each way up from the end of a chain to an
 anchor, by names; a chain is trusted where one of them is. Signatures are verified by
 examples/answer.py. Where a suite expects otherwise, the difference has a class: of a chain that is
@@ -292,27 +294,30 @@ for a reason within the [rules](../docs/tables/REFUSALS.md), or where a differen
 
 - [By suite](#by-suite), [trusted, and refused by the suite](#trusted-and-refused-by-the-suite),
   [refused, and trusted by the suite](#refused-and-trusted-by-the-suite)
-- [Certificates that aren't read](#certificates-that-arent-read)
+- [Deviations that other readers take](#deviations-that-other-readers-take)
 """
 
 READ = """\
-## Certificates that aren't read
+## Deviations that other readers take
 
-COUNT certificates lie in files of these sources. These aren't read by `cert_tool`, for the first
-fault that it explains; behind it stands how many of them OpenSSL (`openssl x509`) and Python's
-`cryptography` read.
+ALL encodings lie in files of these sources where certificates do. `cert_tool` reads READ, and NONE
+are read neither by it, nor by OpenSSL (`openssl x509`), nor by Python's `cryptography`. The others,
+by the first fault that `cert_tool explain` tells, and how many of them the two read:
 
 | Fault | Certificates | OpenSSL reads | cryptography reads | Of |
 |---|---|---|---|---|"""
 
 
 def page_of_readings(readings):
-    """The certificates that aren't read, by their fault."""
-    out = [READ.replace("COUNT", f"{len(readings):,}")]
+    """The certificates that others read, and cert_tool doesn't, by their fault."""
     by_fault = collections.defaultdict(list)
     for one in readings:
-        if one.fault:
+        if one.fault and (one.openssl or one.python):
             by_fault[re.sub(r"\d+ octets", "so many octets", one.fault)].append(one)
+    read = sum(not one.fault for one in readings)
+    none = len(readings) - read - sum(map(len, by_fault.values()))
+    counts = {"ALL": len(readings), "READ": read, "NONE": none}
+    out = [re.sub(r"\b(ALL|READ|NONE)\b", lambda it: f"{counts[it[1]]:,}", READ)]
     for fault, found in sorted(by_fault.items(), key=lambda it: (-len(it[1]), it[0])):
         which = collections.Counter(one.package for one in found)
         where = ", ".join(f"{package}: {count}" for package, count in which.items())
@@ -366,6 +371,7 @@ def main(words):
         all_judged = [judged(judge, test) for test in tests]
         readings = [reading(judge, *it) for it in suites_read.certificates(folder)]
         version = judge.run("--version")[0][0]
+        version += ", as `rt` proves and builds it" if tool.parent.name == "out" else ", unproved"
     for one in all_judged:
         if one.kind != "agrees":
             verdict = "trusted" if one.line.startswith("trusted") else one.line

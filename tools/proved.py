@@ -1,10 +1,11 @@
 #!/usr/bin/env python3
-"""Compares the tables of docs/TRUST.md and tools/reference/calls.md with the sources.
+"""Compares README's links and the tables of docs/TRUST.md and reference/calls.md with the sources.
 
     tools/proved.py         each call of a row has to be a public function of the crate that stands
                             above it, or of the file that the row names, and each clause one of
-                            these functions; laws that are named have to be there. It prints what
-                            isn't, and its status is 1 then.
+                            these functions; laws that are named have to be there. Calls that README
+                            links to a file have a contract there. It prints what isn't, and its
+                            status is 1 then.
     tools/proved.py --rest  the public calls with named clauses that no row names, by crate
 """
 
@@ -16,6 +17,7 @@ import sources
 CALLS = sources.TOP / "tools" / "reference" / "calls.md"
 PAGES = [sources.TOP / "docs" / "TRUST.md", CALLS]
 CODE = re.compile(r"`([^`]+)`")
+LINK = re.compile(r"\[([^\]]+)\]\((?:\.\./)*crates/(\w+)/src/([\w/]+\.rt)\)")
 
 
 class Row:
@@ -78,17 +80,31 @@ def row_faults(row, calls, named):
 
 
 def page_faults(page, calls, named):
-    """What a page names that isn't there: in its rows, and as laws and definitions beside them."""
+    """What a page names that isn't there: in its rows, and beside them as laws and clauses."""
     for row in rows(page):
         yield from row_faults(row, calls, named)
-    everything = {call.name for of in calls.values() for call in of}
-    definitions = {d for file in sources.specs().values() for d in file.definitions}
+    known = {"laws", *sources.dependencies()}
+    for call in (call for of in calls.values() for call in of):
+        known.update((call.name, *(clause for _, clause in call.clauses)))
+    known.update(name for file in sources.specs().values() for name in file.definitions)
     for line in page.read_text().splitlines():
         if line.startswith("|"):
             continue
         for name in re.findall(r"\(`([a-z_0-9]+)`(?:, `[a-z_0-9]+`)*\)", line):
-            if name not in everything | definitions | {"laws"} | set(sources.dependencies()):
-                yield f"no law {name}"
+            if name not in known:
+                yield f"no law, clause or definition {name}"
+
+
+def link_faults(page, calls):
+    """The calls that a page links to a file which has no contract of them."""
+    found = LINK.findall(page.read_text())
+    if not found:
+        yield "it links no call to its contract"
+    for names, crate, file in found:
+        here = {call.name for call in calls.get((crate, file), []) if call.public and call.clauses}
+        for name in CODE.findall(names):
+            if name not in here:
+                yield f"no contract of {name} in {crate}/src/{file}"
 
 
 def by_file(code):
@@ -107,6 +123,8 @@ def main(words):
         for page in PAGES
         for fault in page_faults(page, calls, named)
     ]
+    readme = sources.TOP / "README.md"
+    faults += [f"README.md: {fault}" for fault in link_faults(readme, calls)]
     if words == ["--rest"]:
         for (crate, name), of in sorted(calls.items()):
             rest = [
