@@ -10,6 +10,11 @@
                                         as a chain
     audit/json_lines.py TOOL --letters  a certificate that has each character is described: what
                                         Python's `json` reads is what was written
+    audit/json_lines.py TOOL --mutate N [SEED]  N certificates, lists and requests of the files of
+                                        tool_rows and the roots of ca-certificates, with one to
+                                        three changes: each is described and explained, is taken
+                                        where `reader.py` reads it, and else refused in the words
+                                        of `explain`, and nothing that isn't printable is written
 
 What isn't printable is escaped otherwise in lines, and an attribute of a name has a line only where
 the name tells it by arcs and octets; both is done here. That a number is left out, and so is what
@@ -17,8 +22,11 @@ it is by default, lines tell alone.
 """
 
 import datetime
+import importlib.machinery
+import importlib.util
 import json
 import pathlib
+import random
 import re
 import subprocess
 import sys
@@ -28,6 +36,12 @@ import unicodedata
 from cryptography import x509
 from cryptography.hazmat.primitives.asymmetric.ed25519 import Ed25519PrivateKey
 from cryptography.hazmat.primitives.serialization import Encoding
+
+import reader
+from spelled import octets_of
+
+TOP = pathlib.Path(__file__).resolve().parent.parent
+ROOTS = pathlib.Path("/usr/share/ca-certificates/mozilla")
 
 
 def hidden(letter):
@@ -417,6 +431,7 @@ def compare(tool, words, lines_of):
         for line, other in zip(wanted + [""] * len(found), found + [""] * len(wanted)):
             if line != other:
                 print(f"- {line}\n+ {other}")
+    return status, text, err
 
 
 def utf8_string(text):
@@ -450,10 +465,56 @@ def letters(tool):
         print("characters differ", raw)
 
 
+def script(name):
+    """A script of this folder whose name has no ending."""
+    loader = importlib.machinery.SourceFileLoader(name, str(TOP / "audit" / name))
+    found = importlib.util.module_from_spec(importlib.util.spec_from_loader(name, loader))
+    loader.exec_module(found)
+    return found
+
+
+def bases():
+    """What is changed, by its kind."""
+    paths = [*(TOP / "crates/tool_rows/data").glob("*.der"), *ROOTS.glob("*.crt")]
+    files = sorted({octets_of(path) for path in paths})
+    return {kind: [it for it in files if reader.spells(kind, it)] for kind in reader.SIGNED}
+
+
+def is_safe(text):
+    return all(line.isprintable() for line in text.decode().split("\n"))
+
+
+def mutate(tool, count, seed):
+    """Whether changed values are taken, described and refused as they should be."""
+    draw, values, change = random.Random(seed), bases(), script("mutated").mutated
+    taken = 0
+    with tempfile.TemporaryDirectory() as folder:
+        path = pathlib.Path(folder) / "changed.der"
+        for _ in range(count):
+            kind = draw.choice(("certificate", "certificate", "list", "request"))
+            octets = change(draw, draw.choice(values[kind]), kind, values)
+            path.write_bytes(octets)
+            words = [kind, str(path)]
+            told = compare(tool, ["describe", "--digests", *words], lambda read: members("", read))
+            why = compare(tool, ["explain", *words], explained)
+            is_read = reader.spells(kind, octets)
+            taken += is_read
+            finding = b"the octets are what they should be\n"
+            good = told[0] == 0 and told[2] == b"" and why[1].startswith(finding)
+            refused = told[0] == 2 and told[1] == b"" and told[2] == why[1]
+            wanted = good if is_read else refused and not why[1].startswith(finding)
+            if not (wanted and why[0] == 0 and all(map(is_safe, (*told[1:], *why[1:])))):
+                counts["differences"] += 1
+                print(kind, octets.hex(), is_read, told, why)
+    print(f"{count} changed, {taken} taken")
+
+
 def main():
     tool, *files = sys.argv[1:]
     if files[0] == "--letters":
         letters(tool)
+    elif files[0] == "--mutate":
+        mutate(tool, int(files[1]), int(files[2]) if len(files) > 2 else 1)
     elif files[0] == "--chain":
         _, anchors, answers, *streams = files
         for stream in streams:

@@ -236,10 +236,11 @@ fn of_rest() -> Names {
     &OF_REST
 }
 
-// The name that a table has for an identifier of these octets.
+// The name that a table has for an identifier of these octets. Most of a table differ in their last
+// octet.
 fn name_in(names: Names, octets: &[u8]) -> Option<&'static str> {
     for (known, name) in names {
-        if *known == octets {
+        if known.last() == octets.last() && *known == octets {
             return Some(*name);
         }
     }

@@ -247,15 +247,33 @@ impl Lines {
         self.push(behind);
     }
 
+    // Adds the arcs of an identifier to a text, with dots between them. Most are one digit.
+    fn arcs(&mut self, identifier: &ObjectIdentifier<39>) {
+        let mut is_first = true;
+        for arc in identifier.arcs() {
+            if !is_first {
+                self.add_one(b'.');
+            }
+            is_first = false;
+            if arc < 10 {
+                self.add_one(b'0' + arc as u8);
+            } else {
+                self.show("", arc, "");
+            }
+        }
+    }
+
     /// Adds an identifier to a text, with its name if it has one.
     pub fn identifier(&mut self, before: &str, identifier: &ObjectIdentifier<39>, behind: &str) {
         self.push(before);
         match known_name(identifier.as_bytes()) {
             Some(name) => {
                 self.push(name);
-                self.show(" (", identifier, ")");
+                self.push(" (");
+                self.arcs(identifier);
+                self.push(")");
             }
-            None => self.show("", identifier, ""),
+            None => self.arcs(identifier),
         }
         self.push(behind);
     }
@@ -448,7 +466,9 @@ impl Lines {
     pub fn members_of(&mut self, identifier: &ObjectIdentifier<39>) {
         if self.is_json {
             self.key("id");
-            self.value(identifier);
+            self.begin();
+            self.arcs(identifier);
+            self.end();
             if let Some(name) = known_name(identifier.as_bytes()) {
                 self.key("name");
                 self.text(name);
