@@ -140,6 +140,9 @@ open("spelled.txt", "w").write("# place 1, place 0\n\n" + lines[1].upper() + "\n
 words = lines[0].split(" ")
 other = " ".join(words[:2] + lines[1].split(" ")[2:3] + words[3:])
 open("other_key.txt", "w").write(f"{other}\n{lines[1]}\n")
+# the root's answer under a key of its bits and another algorithm (RSASSA-PSS, RFC 4055 1.2)
+other = lines[0].replace("06092a864886f70d010101", "06092a864886f70d01010a", 1)
+open("other_algorithm.txt", "w").write(f"{other}\n{lines[1]}\n")
 PY
 
 cat > "$work/extensions.cnf" <<'CNF'

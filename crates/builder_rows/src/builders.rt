@@ -86,15 +86,14 @@ impl Manner {
 /// What is signed, twice the same.
 pub fn part_of<B: Change + Drop>(
     alloc: Global,
-    mut builder: B,
+    builder: &mut B,
     asked: &Asked<'_>,
 ) -> Result<Vec<u8>, Refusal> {
     let signer = asked.signer(alloc)?;
-    if let Manner::Again = asked.manner {
-        return again(alloc, &mut builder, asked.change, &signer);
+    match asked.manner {
+        Manner::Again => again(alloc, builder, asked.change, &signer),
+        _ => twice(alloc, builder, asked.change, &signer),
     }
-    builder.change(alloc, asked.change)?;
-    twice(alloc, &mut builder, &signer)
 }
 
 /// What is signed behind a change, which is made again where it finds no memory: then the builder
@@ -134,12 +133,14 @@ fn finalized_again<B: Change + Drop>(
     }
 }
 
-/// What is signed, made twice.
+/// What is signed behind a change, made twice.
 fn twice<B: Change + Drop>(
     alloc: Global,
     builder: &mut B,
+    change: &str,
     signer: &DigestSigner,
 ) -> Result<Vec<u8>, Refusal> {
+    builder.change(alloc, change)?;
     let octets = builder.finalize(alloc, signer)?;
     let again = builder.finalize(alloc, signer)?;
     if octets.as_slice() != again.as_slice() {

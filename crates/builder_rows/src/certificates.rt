@@ -2,9 +2,9 @@
 
 use crate::builders::{Asked, Change, Manner, part_of, whole_of};
 use crate::refusals::Refusal;
-use crate::words::{Words, extension_of, key_of, octets_of, time_of};
+use crate::words::{Words, extension_of, key_of, octets_of, time_of, written_in};
 use const_oid::ObjectIdentifier;
-use der_core::{FromDer, ToDer};
+use der_core::FromDer;
 use std::alloc::Global;
 use std::str::FromStr;
 use x509_cert::builder::{
@@ -62,12 +62,16 @@ impl<'a> Settled<'a> {
         alloc: Global,
         profile: P,
     ) -> Result<CertificateBuilder<P>, Refusal> {
-        let octets = octets_of(alloc, self.serial)?;
-        let serial = SerialNumber::new(alloc, octets.as_slice())?;
-        let validity = Validity::new(time_of(self.from)?, time_of(self.until)?);
+        let serial = serial_of(alloc, self.serial)?;
+        let validity = self.validity()?;
         let key = key_of(alloc, self.key)?;
         let builder = CertificateBuilder::new(alloc, profile, serial, validity, key)?;
         Ok(builder)
+    }
+
+    /// From when until when it is valid.
+    fn validity(&self) -> Result<Validity, Refusal> {
+        Ok(Validity::new(time_of(self.from)?, time_of(self.until)?))
     }
 
     /// What is made of a profile.
@@ -76,14 +80,27 @@ impl<'a> Settled<'a> {
         alloc: Global,
         profile: P,
     ) -> Result<Vec<u8>, Refusal> {
-        let builder = self.builder(alloc, profile)?;
-        if self.asked.manner.is_part() {
-            return part_of(alloc, builder, &self.asked);
-        }
-        let certificate: Certificate = whole_of(alloc, builder, &self.asked)?;
-        let octets = certificate.to_der(alloc)?;
-        Ok(octets)
+        made_by(alloc, self.builder(alloc, profile)?, &self.asked)
     }
+}
+
+/// What is made by a builder.
+fn made_by<P: BuilderProfile + Drop>(
+    alloc: Global,
+    mut builder: CertificateBuilder<P>,
+    asked: &Asked<'_>,
+) -> Result<Vec<u8>, Refusal> {
+    if asked.manner.is_part() {
+        part_of(alloc, &mut builder, asked)
+    } else {
+        written_in::<Certificate>(alloc, whole_of(alloc, builder, asked))
+    }
+}
+
+/// The serial number that a word tells.
+fn serial_of(alloc: Global, word: &str) -> Result<SerialNumber, Refusal> {
+    let octets = octets_of(alloc, word)?;
+    Ok(SerialNumber::new(alloc, octets.as_slice())?)
 }
 
 /// What is made of the profile that the first word names.

@@ -1,8 +1,7 @@
 //! Keys, and what tells them.
 
 use crate::refusals::Refusal;
-use crate::words::key_of;
-use der_core::ToDer;
+use crate::words::{key_of, written};
 use std::alloc::Global;
 use x509_cert::{
     AlgorithmIdentifierRef, AuthorityKeyIdentifier, SubjectKeyIdentifier, SubjectPublicKeyInfo,
@@ -53,6 +52,6 @@ fn add_authority(
     key: &SubjectPublicKeyInfoRef<'_>,
 ) -> Result<(), Refusal> {
     let identifier = AuthorityKeyIdentifier::try_from_key(alloc, key)?;
-    let octets = identifier.to_der(alloc)?;
+    let octets = written(alloc, &identifier)?;
     add(alloc, text, octets.as_slice())
 }

@@ -41,8 +41,8 @@
 //! `FLAGS` are letters, or a dash: `o` answers about the state of certificates are signed, `c`
 //! clients are certified, `d` data are enciphered, `k` keys are, `a` keys are agreed upon.
 //! `SETTLED` is `SERIAL FROM UNTIL KEY SIGNER ADDED`: octets, two dates, the certified key, that of
-//! the signer, and an extension that is added, or a dash. A signer refuses to sign behind
-//! `refuses:`.
+//! the signer, and an extension that is added, or a dash. A date is given as a GeneralizedTime
+//! behind `general:`. A signer refuses to sign behind `refuses:`.
 //!
 //! Keys, issuers, entries, extensions and passwords are encodings in hex, of
 //! `SubjectPublicKeyInfo`, `Certificate`, `RevokedCert`, `Extension` and `DirectoryString`; several

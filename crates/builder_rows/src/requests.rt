@@ -2,8 +2,8 @@
 
 use crate::builders::{Asked, Change, Manner, part_of, whole_of};
 use crate::refusals::Refusal;
-use crate::words::{Words, extension_of, octets_of};
-use der_core::{FromDer, ToDer};
+use crate::words::{Words, extension_of, octets_of, written_in};
+use der_core::FromDer;
 use std::alloc::Global;
 use x509_cert::builder::RequestBuilder;
 use x509_cert::{CertReq, ChallengePassword, DirectoryString};
@@ -78,11 +78,10 @@ pub fn answer(alloc: Global, rest: &str) -> Result<Vec<u8>, Refusal> {
 }
 
 /// What is made by a builder.
-fn made(alloc: Global, builder: RequestBuilder, asked: &Asked<'_>) -> Result<Vec<u8>, Refusal> {
+fn made(alloc: Global, mut builder: RequestBuilder, asked: &Asked<'_>) -> Result<Vec<u8>, Refusal> {
     if asked.manner.is_part() {
-        return part_of(alloc, builder, asked);
+        part_of(alloc, &mut builder, asked)
+    } else {
+        written_in::<CertReq>(alloc, whole_of(alloc, builder, asked))
     }
-    let request: CertReq = whole_of(alloc, builder, asked)?;
-    let octets = request.to_der(alloc)?;
-    Ok(octets)
 }

@@ -1,10 +1,11 @@
 //! Words of a line.
 
 use crate::refusals::Refusal;
-use der_core::FromDer;
+use der_core::describing::{DecodeWay, Described};
+use der_core::{FixedTag, FromDer, SliceReader, ToDer};
 use std::alloc::Global;
 use std::str::FromStr;
-use x509_cert::{Extension, Name, SubjectPublicKeyInfo, Time};
+use x509_cert::{DateTime, Extension, GeneralizedTime, Name, SubjectPublicKeyInfo, Time};
 
 /// The words of a line, one after the other.
 #[derive(Clone, Copy)]
@@ -35,22 +36,50 @@ pub fn octets_of(alloc: Global, word: &str) -> Result<Vec<u8>, Refusal> {
     Ok(octets)
 }
 
-/// The date that a word tells.
+/// The value of a type that names its way, which octets spell. What the way gives is then checked
+/// here, and not where the type is named.
+pub fn read<'a, T: Described + FixedTag + Drop>(
+    alloc: Global,
+    octets: &'a [u8],
+) -> Result<T, Refusal>
+where
+    T::By: DecodeWay<'a, SliceReader<'a>, T>,
+{
+    Ok(T::from_der(alloc, octets)?)
+}
+
+/// The octets of a value of such a type.
+pub fn written<T: Described + FixedTag>(alloc: Global, value: &T) -> Result<Vec<u8>, Refusal> {
+    Ok(value.to_der(alloc)?)
+}
+
+/// The octets of the value of an outcome.
+pub fn written_in<T: Described + FixedTag + Drop>(
+    alloc: Global,
+    outcome: Result<T, Refusal>,
+) -> Result<Vec<u8>, Refusal> {
+    written(alloc, &outcome?)
+}
+
+/// The date that a word tells, as a GeneralizedTime behind `general:`.
 pub fn time_of(word: &str) -> Result<Time, Refusal> {
-    let time = Time::from_str(word)?;
-    Ok(time)
+    match word.strip_prefix("general:") {
+        Some(word) => {
+            let date = DateTime::from_str(word)?;
+            Ok(Time::GeneralTime(GeneralizedTime::from_date_time(date)))
+        }
+        None => Ok(Time::from_str(word)?),
+    }
 }
 
 /// The key that is the encoding of these octets.
 pub fn key_of(alloc: Global, word: &str) -> Result<SubjectPublicKeyInfo, Refusal> {
     let octets = octets_of(alloc, word)?;
-    let key = SubjectPublicKeyInfo::from_der(alloc, octets.as_slice())?;
-    Ok(key)
+    read(alloc, octets.as_slice())
 }
 
 /// The extension that is.
 pub fn extension_of(alloc: Global, word: &str) -> Result<Extension, Refusal> {
     let octets = octets_of(alloc, word)?;
-    let extension = Extension::from_der(alloc, octets.as_slice())?;
-    Ok(extension)
+    read(alloc, octets.as_slice())
 }

@@ -90,9 +90,22 @@ pub fn answer(alloc: Global, rest: &str) -> Result<String, Refusal> {
     let (purpose, file) = rest.split_once(' ').ok_or(Refusal::Unread)?;
     let limit = limit_of(limit)?;
     let moment = moment.parse().ok().ok_or(Refusal::Unread)?;
-    let purpose = purpose_of(purpose)?;
-    match chain_of(alloc, signer, file)? {
-        Ok(issued) => audit(alloc, &issued, limit, moment, &purpose),
+    audit_of(alloc, signer, file, limit, moment, &purpose_of(purpose)?)
+}
+
+/// The verdict on the chain of a file's orders by these signers, or why there is none.
+fn audit_of(
+    alloc: Global,
+    signers: &str,
+    file: &str,
+    limit: u32,
+    moment: u64,
+    purpose: &ObjectIdentifier<39>,
+) -> Result<String, Refusal>
+    requires { 6 ≤ limit }
+{
+    match chain_of(alloc, signers, file)? {
+        Ok(issued) => audit(alloc, &issued, limit, moment, purpose),
         Err(IssueError::OutOfMemory) => Err(Refusal::Memory),
         Err(error) => Ok(format!(in alloc; "{error:?}")?),
     }

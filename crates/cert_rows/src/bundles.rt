@@ -2,13 +2,23 @@
 
 ghost use Rattle.std.specs.Prelude.{◌≤◌, IfOk};
 
-use crate::cuts::verdict_on;
+use crate::cuts::{SERVERS, verdict_on};
 use crate::refusal::Refusal;
 use crate::schedules::Schedule;
-use crate::words::{Word, number_of, octets_of};
-use cert_desk::{Bundle, DigestJudge, MemoryInput};
+use crate::words::{Word, number_of, octets_of, purpose_of};
+use cert_desk::{Bundle, DigestJudge, MemoryInput, ObjectIdentifier, Rule, reason_of};
 use std::alloc::Global;
 use std::fmt::Write;
+
+/// The rules that leave a reason open.
+const EXPLAINED: &[Rule] = &[
+    Rule::DuplicateExtension,
+    Rule::MalformedExtension,
+    Rule::UnweighedCritical,
+    Rule::AgainstPurpose,
+    Rule::NotAuthority,
+    Rule::PathTooLong,
+];
 
 /// The limit that a word states.
 pub fn limit_of(word: &str) -> Result<u32, Refusal>
@@ -74,9 +84,27 @@ fn write_call(
             let verdict = verdict_on(alloc, bundle, &mut DigestJudge::new())?;
             write!(text, "{verdict}; ")?;
         }
+        "reasons" => write_reasons(alloc, text, bundle, &purpose_of(SERVERS)?)?,
         piece => {
             let piece = octets_of(alloc, piece)?;
             write!(text, "{:?}; ", bundle.feed(piece.as_slice()))?;
+        }
+    }
+    Ok(())
+}
+
+/// Writes why each place breaks each rule, for a purpose.
+fn write_reasons(
+    alloc: Global,
+    text: &mut String,
+    bundle: &Bundle,
+    purpose: &ObjectIdentifier<39>,
+) -> Result<(), Refusal> {
+    for place in 0..bundle.len() {
+        for rule in EXPLAINED {
+            if let Some(reason) = reason_of(alloc, bundle, place, *rule, purpose)? {
+                write!(text, "{place} {rule} {reason:?}; ")?;
+            }
         }
     }
     Ok(())

@@ -11,9 +11,14 @@ use std::fmt::Write;
 pub fn answer(alloc: Global, word: &str) -> Result<String, Refusal> {
     let octets = octets_of(alloc, word)?;
     let certificate = CertificateInner::<Raw>::from_der(alloc, octets.as_slice())?;
+    parts_of(alloc, &certificate)
+}
+
+/// The parts of a certificate.
+fn parts_of(alloc: Global, certificate: &CertificateInner<Raw>) -> Result<String, Refusal> {
     let mut text = String::new(alloc);
-    write_signed(&mut text, &certificate)?;
-    write_signature(&mut text, &certificate)?;
+    write_signed(&mut text, certificate)?;
+    write_signature(&mut text, certificate)?;
     Ok(text)
 }
 

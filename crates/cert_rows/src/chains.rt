@@ -1,5 +1,7 @@
 //! What other runs tell of a chain that a run of `issue` wrote.
 
+ghost use Rattle.std.specs.Prelude.{◌≤◌};
+
 use crate::bundles::limit_of;
 use crate::files::file_of;
 use crate::refusal::Refusal;
@@ -36,13 +38,27 @@ pub fn answer_of_check(alloc: Global, rest: &str) -> Result<String, Refusal> {
     let moment = moment.parse().ok().ok_or(Refusal::Unread)?;
     let purpose = purpose_of(purpose)?;
     let stream = stream_of(alloc, file)?;
-    let root = certificate_of(alloc, stream.as_slice(), 0)?;
     let asked = checks::Asked {
-        anchors: root.as_slice(),
+        anchors: &[],
         stream: stream.as_slice(),
         moment,
         purpose: &purpose,
         limit,
+    };
+    check_under_root(alloc, &asked)
+}
+
+/// What a run of `check` tells of a stream, under its first certificate.
+fn check_under_root(alloc: Global, asked: &checks::Asked<'_>) -> Result<String, Refusal>
+    requires { 6 ≤ asked.now.limit }
+{
+    let root = certificate_of(alloc, asked.stream, 0)?;
+    let asked = checks::Asked {
+        anchors: root.as_slice(),
+        stream: asked.stream,
+        moment: asked.moment,
+        purpose: asked.purpose,
+        limit: asked.limit,
     };
     checks::run(alloc, "-/-/-/-", &asked, &mut DigestJudge::new())
 }

@@ -20,7 +20,7 @@ const KEY: &str = "3009300306012a03020000";
 const MOMENT: u64 = 1_009_886_460;
 
 /// The purpose of servers.
-const SERVERS: &str = "1.3.6.1.5.5.7.3.1";
+pub const SERVERS: &str = "1.3.6.1.5.5.7.3.1";
 
 /// The verdict on a stream in one piece, and how many cuts leave all as it is.
 pub fn answer(alloc: Global, rest: &str) -> Result<String, Refusal> {

@@ -13,13 +13,28 @@ pub fn answer(alloc: Global, rest: &str) -> Result<String, Refusal> {
     let (key, octets) = rest.split_once(' ').ok_or(Refusal::Unread)?;
     let signer = DigestSigner::new(key_of(alloc, key)?);
     let octets = octets_of(alloc, octets)?;
-    let bits = signer.sign(alloc, octets.as_slice())?;
+    bits_of(alloc, &signer, octets.as_slice())
+}
+
+/// The bits of a signer over octets.
+fn bits_of(alloc: Global, signer: &DigestSigner, octets: &[u8]) -> Result<String, Refusal> {
+    let bits = signer.sign(alloc, octets)?;
+    drawn_alike(alloc, signer, octets, bits.raw_bytes())
+}
+
+/// These bits, if the signer signs so with random octets, too.
+fn drawn_alike(
+    alloc: Global,
+    signer: &DigestSigner,
+    octets: &[u8],
+    bits: &[u8],
+) -> Result<String, Refusal> {
     let mut generator = ChaCha20Rng::from_seed([0; 32]);
-    let drawn = signer.sign_with_rng(alloc, &mut generator, octets.as_slice())?;
-    if drawn.raw_bytes() != bits.raw_bytes() {
+    let drawn = signer.sign_with_rng(alloc, &mut generator, octets)?;
+    if drawn.raw_bytes() != bits {
         return Err(Refusal::Changed);
     }
-    Ok(hex::encode(alloc, bits.raw_bytes())?)
+    Ok(hex::encode(alloc, bits)?)
 }
 
 /// The digest by which the certificate is named that these octets spell.

@@ -47,9 +47,19 @@ pub fn answer_of_call(alloc: Global, schedule: &str, rest: &str) -> Result<Strin
     let (kind, octets) = rest.split_once(' ').ok_or(Refusal::Unread)?;
     let kind = kind_of(kind)?;
     let octets = octets_of(alloc, octets)?;
+    call_told(alloc, &schedule, kind, octets.as_slice())
+}
+
+/// What the call for a value answers, and what an output of this schedule has then.
+fn call_told(
+    alloc: Global,
+    schedule: &Schedule,
+    kind: FileKind,
+    octets: &[u8],
+) -> Result<String, Refusal> {
     let mut room = [0; 2048];
     let mut output = schedule.output(&mut room);
-    let answer = call(alloc, kind, octets.as_slice(), &mut output)?;
+    let answer = call(alloc, kind, octets, &mut output)?;
     let told = str::from_utf8(output.written())?;
     match answer {
         Ok(()) => Ok(format!(in alloc; "ok {told:?}")?),
@@ -65,17 +75,38 @@ fn call(
     output: &mut MemoryOutput<'_>,
 ) -> Result<Result<(), ShowError>, Refusal> {
     match kind {
-        FileKind::Certificate => {
-            let certificate = CertificateInner::<Raw>::from_der(alloc, octets)?;
-            Ok(show_certificate(alloc, &certificate, output))
-        }
-        FileKind::List => {
-            let list = CertificateList::<Raw>::from_der(alloc, octets)?;
-            Ok(show_list(alloc, &list, output))
-        }
-        FileKind::Request => {
-            let request = CertReq::try_from_bytes(alloc, octets)?;
-            Ok(show_request(alloc, &request, output))
-        }
+        FileKind::Certificate => call_for_certificate(alloc, octets, output),
+        FileKind::List => call_for_list(alloc, octets, output),
+        FileKind::Request => call_for_request(alloc, octets, output),
     }
+}
+
+// Writes the listing of a certificate.
+fn call_for_certificate(
+    alloc: Global,
+    octets: &[u8],
+    output: &mut MemoryOutput<'_>,
+) -> Result<Result<(), ShowError>, Refusal> {
+    let certificate = CertificateInner::<Raw>::from_der(alloc, octets)?;
+    Ok(show_certificate(alloc, &certificate, output))
+}
+
+// Writes the listing of a list.
+fn call_for_list(
+    alloc: Global,
+    octets: &[u8],
+    output: &mut MemoryOutput<'_>,
+) -> Result<Result<(), ShowError>, Refusal> {
+    let list = CertificateList::<Raw>::from_der(alloc, octets)?;
+    Ok(show_list(alloc, &list, output))
+}
+
+// Writes the listing of a request.
+fn call_for_request(
+    alloc: Global,
+    octets: &[u8],
+    output: &mut MemoryOutput<'_>,
+) -> Result<Result<(), ShowError>, Refusal> {
+    let request = CertReq::try_from_bytes(alloc, octets)?;
+    Ok(show_request(alloc, &request, output))
 }

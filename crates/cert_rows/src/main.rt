@@ -7,7 +7,7 @@
 //! | `sha256 HEX` | the digest of the certificate that these octets spell, in base 16 |
 //! | `JUDGE check ANCHORS STREAM MOMENT PURPOSE LIMIT` | `STATUS OUTPUT ERRORS`, what the program answers to these arguments, where octets stand for the files |
 //! | `pieces SCHEDULE/SCHEDULE/SCHEDULE/SCHEDULE JUDGE check ..` | the same, where anchors, stream, output and error output move octets so |
-//! | `bundle LIMIT SCHEDULE HEX CALL ..` | what a bundle answers to each call in turn, and how it and its input stand then: `HEX` takes a piece, `end` ends the stream, `read` takes the input, `check` judges it by the program's judge, `unfinished` tells how many octets are kept of a certificate that isn't whole |
+//! | `bundle LIMIT SCHEDULE HEX CALL ..` | what a bundle answers to each call in turn, and how it and its input stand then: `HEX` takes a piece, `end` ends the stream, `read` takes the input, `check` judges it by the program's judge, `unfinished` tells how many octets are kept of a certificate that isn't whole, `reasons` why each place breaks each rule for servers, where that is left open |
 //! | `split LIMIT HEX` | how many certificates begin the stream, and their octets: as the plain split finds it, and as a bundle does |
 //! | `cuts LIMIT JUDGE HEX` | `N: VERDICT cuts=M`, the certificates and the verdict of the stream in one piece, of M octets, where it gives the same certificates and the same verdict cut in two at each place, and octet by octet; else the first cut that doesn't |
 //! | `fronts LIMIT HEX` | with what each front of the stream ends, where nothing comes behind it: fronts of neighbouring lengths that end alike stand together |

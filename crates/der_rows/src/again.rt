@@ -1,15 +1,16 @@
 //! Calls that are made again where they find no memory. What they were to change has to stay then.
 
+use crate::lists::list_of;
 use crate::refusals::Refusal;
 use crate::shown::written;
 use crate::small::Small;
-use der_core::{Error, ErrorKind, FromDer};
+use der_core::{Error, ErrorKind};
 use der_types::SetOfVec;
 use std::alloc::Global;
 
 /// What is written of the set that these members fill, as the word asks.
 pub fn answer(alloc: Global, word: &str, octets: &[u8]) -> Result<String, Refusal> {
-    let members = Vec::<Small>::from_der(alloc, octets)?;
+    let members: Vec<Small> = list_of(alloc, octets)?;
     let members = members.as_slice();
     match word {
         "insert" | "append" => set_written(alloc, placed(alloc, word, members)),

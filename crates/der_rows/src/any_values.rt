@@ -3,7 +3,7 @@
 use crate::leaves;
 use crate::questions::{Asked, Question, answer_as};
 use crate::refusals::Refusal;
-use crate::shown::{named, written_in};
+use crate::shown::{named, read, written_in};
 use der_core::describing::{DecodeWay, Described};
 use der_core::{Encode, EncodeValue, EncodingRules, Error, FixedTag, FromDer, SliceReader};
 use der_types::{
@@ -128,13 +128,13 @@ fn lent_from_value<'a, T: Described + FixedTag + Into<AnyRef<'a>> + Drop>(
 where
     T::By: DecodeWay<'a, SliceReader<'a>, T>,
 {
-    let value = T::from_der(alloc, octets)?;
+    let value: T = read(alloc, octets)?;
     let any: AnyRef<'a> = value.into();
     written_in(alloc, Ok(any))
 }
 
 /// What is written of any value that is made of a text.
 fn lent_from_text(alloc: Global, octets: &[u8]) -> Result<String, Refusal> {
-    let text = <&str>::from_der(alloc, octets)?;
+    let text: &str = read(alloc, octets)?;
     written_in(alloc, AnyRef::try_from(text))
 }

@@ -11,39 +11,44 @@ use crate::shown::{front_of, hex_in, joined, name_of, named, octets_of};
 use crate::{any_values, record};
 use der_core::{
     CLASS_APPLICATION as APPLICATION, CLASS_CONTEXT_SPECIFIC as CONTEXT, CLASS_PRIVATE as PRIVATE,
-    Decode, DecodeValue, EncodeValue, Error, Explicit, FixedTag, Implicit, Reader, SliceReader,
-    TagMode, TagNumber, WithDefault,
+    Decode, DecodeValue, Encode, EncodeValue, Error, Explicit, FixedTag, Implicit, Reader,
+    SliceReader, TagMode, TagNumber, WithDefault,
 };
 use der_types::{
     AnyRef, BitString, ClassField, ContextSpecific, ContextSpecificRef, OctetStringRef,
 };
 use std::alloc::{AllocError, Global};
 
-/// A field of each kind.
-type EachKind<'a> = (
-    u8,
-    (
-        OctetStringRef<'a>,
-        (
-            Implicit<u8, 1>,
-            (
-                WithDefault<bool>,
-                (Option<Explicit<bool, 31>>, (Option<AnyRef<'a>>, ())),
-            ),
-        ),
-    ),
-);
-
 /// The answer of a type that this page names, or one behind it.
 pub fn answer(alloc: Global, kind: &str, question: &Question<'_>) -> Result<String, Refusal> {
     match kind {
-        "EachKind" => record::answer::<EachKind>(alloc, question),
+        "EachKind" => answer_of_six::<
+            u8,
+            OctetStringRef,
+            Implicit<u8, 1>,
+            WithDefault<bool>,
+            Option<Explicit<bool, 31>>,
+            Option<AnyRef>,
+        >(alloc, question),
         "Entry" => answer_of_value::<Entry>(alloc, question),
         "ContextSpecific<u8>" => answer_of_class::<CONTEXT>(alloc, question),
         "Application<u8>" => answer_of_class::<APPLICATION>(alloc, question),
         "Private<u8>" => answer_of_class::<PRIVATE>(alloc, question),
         _ => any_values::answer(alloc, kind, question),
     }
+}
+
+/// The answer of a record of six fields, of any types.
+fn answer_of_six<
+    'a,
+    A: Decode<'a, SliceReader<'a>> + Encode,
+    B: Decode<'a, SliceReader<'a>> + Encode,
+    C: Decode<'a, SliceReader<'a>> + Encode,
+    D: Decode<'a, SliceReader<'a>> + Encode,
+    E: Decode<'a, SliceReader<'a>> + Encode,
+    F: Decode<'a, SliceReader<'a>> + Encode,
+>(alloc: Global, question: &Question<'a>) -> Result<String, Refusal> {
+    record::answer::<(A, (B, (C, (D, (E, (F, ()))))))>(alloc, question)
 }
 
 /// The answer of a field of any number, whose tag stands in front of the value's own.

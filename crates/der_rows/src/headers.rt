@@ -3,6 +3,7 @@
 use crate::readers::add;
 use crate::refusals::Refusal;
 use crate::shown::{front_of, hex_of, name_of, octets_of, printed, shown};
+use der_core::making::encode_header;
 use der_core::{
     Class, EncodingRules, Error, Header, Length, Reader, SliceReader, Tag, TagMode, TagNumber,
     encode_length, encode_tag, header_cmp, length_cmp, lone_length_of, tag_cmp, tag_of,
@@ -43,7 +44,7 @@ fn answer_of_octets(
         "lone-tag" => of_lone_tag(alloc, octets),
         "private-4" => matches_private_4(alloc, octets),
         "class" => of_class(alloc, octets),
-        "tag" | "tag-order" | "tag-expected" | "tag-errors" | "tlv" => {
+        "tag" | "tag-order" | "tag-expected" | "tag-errors" | "tlv" | "header-written" => {
             answer_of_tag(alloc, word, Tag::peek(octets)?, second)
         }
         _ => Err(Refusal::Unread),
@@ -56,6 +57,7 @@ fn answer_of_tag(alloc: Global, word: &str, tag: Tag, second: &str) -> Result<St
         "tag" => of_tag(alloc, tag),
         "tag-errors" => of_errors(alloc, tag),
         "tlv" => of_encoding(alloc, tag, second),
+        "header-written" => front_written(alloc, tag, second),
         _ => of_tags(alloc, word, tag, second),
     }
 }
@@ -99,6 +101,13 @@ fn header_written(alloc: Global, header: Header) -> Result<String, Refusal> {
     let mut out = Vec::new(alloc);
     encode_tag(&mut out, header.tag)?;
     encode_length(&mut out, header.length)?;
+    hex_of(alloc, out.as_slice())
+}
+
+/// What is written in front of so many octets of content, behind this tag.
+fn front_written(alloc: Global, tag: Tag, text: &str) -> Result<String, Refusal> {
+    let mut out = Vec::new(alloc);
+    encode_header(&mut out, tag, length_in(text)?)?;
     hex_of(alloc, out.as_slice())
 }
 

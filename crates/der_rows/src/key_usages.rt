@@ -5,8 +5,8 @@ ghost use Rattle.bitflags.specs.Sets.{known_from};
 
 use crate::questions::{Asked, Question, answer_with_contents};
 use crate::refusals::Refusal;
+use crate::shown::read;
 use bitflags::{Flag, Flags};
-use der_core::FromDer;
 use der_types::{FlagSet, NamedBits};
 use std::alloc::{AllocError, Global};
 
@@ -121,7 +121,7 @@ impl NamedBits for KeyUsages {
 /// The answer of sets of key usages, whose text is their names.
 pub fn answer(alloc: Global, question: &Question<'_>) -> Result<String, Refusal> {
     match question.asked {
-        Asked::Text => Ok(names_of(alloc, FromDer::from_der(alloc, question.first)?)?),
+        Asked::Text => Ok(names_of(alloc, read(alloc, question.first)?)?),
         _ => answer_with_contents::<FlagSet<KeyUsages>>(alloc, question),
     }
 }

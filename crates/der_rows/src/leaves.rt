@@ -5,11 +5,11 @@ use crate::questions::{
     answer_of_value, answer_with_contents, answer_with_order,
 };
 use crate::refusals::Refusal;
-use crate::shown::written_in;
+use crate::shown::{read, written_in};
 use crate::{key_usages, texts};
 use const_oid::ObjectIdentifier;
 use der_core::making::leaf_from_der;
-use der_core::{EncodeValue, Explicit, FixedTag, FromDer, Implicit, Leaf};
+use der_core::{EncodeValue, Explicit, FixedTag, Implicit, Leaf};
 use der_types::{
     BitString, BitStringRef, Int, IntRef, Null, OctetString, OctetStringRef, PrintableString,
     SequenceRef, Uint, UintRef,
@@ -95,7 +95,7 @@ fn answer_of_bits(alloc: Global, question: &Question<'_>) -> Result<String, Refu
 
 /// The bits of the string that octets spell.
 fn bits_of(alloc: Global, octets: &[u8]) -> Result<String, Refusal> {
-    let string = BitString::from_der(alloc, octets)?;
+    let string: BitString = read(alloc, octets)?;
     let mut text = String::new(alloc);
     for bit in string.bits() {
         text.push(if bit { '1' } else { '0' })?;

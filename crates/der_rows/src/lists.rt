@@ -15,15 +15,6 @@ use der_types::{FlagSet, OctetStringRef, SequenceOf, SetOf, SetOfRef, SetOfVec};
 use std::alloc::Global;
 use std::hash::Hash;
 
-/// A list of bounded room as a field, and as one that may be absent.
-type FewFields = (
-    SequenceOf<Small, 2>,
-    (Option<SequenceOf<Small, 1>>, (Small, ())),
-);
-
-/// A set that is lent as a field, and as one that may be absent.
-type LentFields<'a, T> = (SetOfRef<'a, T>, (Option<SetOfRef<'a, T>>, (T, ())));
-
 /// The answer of a type that this page names, or one behind it.
 pub fn answer(alloc: Global, kind: &str, question: &Question<'_>) -> Result<String, Refusal> {
     match kind {
@@ -35,7 +26,11 @@ pub fn answer(alloc: Global, kind: &str, question: &Question<'_>) -> Result<Stri
         "SequenceOf<SequenceOf<Small,1>,2>" => answer_of_value::<
             SequenceOf<SequenceOf<Small, 1>, 2>,
         >(alloc, question),
-        "FewFields" => record::answer::<FewFields>(alloc, question),
+        "FewFields" => record::answer_of_three::<
+            SequenceOf<Small, 2>,
+            Option<SequenceOf<Small, 1>>,
+            Small,
+        >(alloc, question),
         "SetOfRef<Small>" if !question.is_of_any() => answer_of_lent(alloc, question),
         _ => answer_around::<Small>(alloc, kind, question),
     }
@@ -61,7 +56,9 @@ fn answer_around<
         "SetOfRef<Small>" => answer_of_value::<SetOfRef<T>>(alloc, question),
         "Vec<SetOfRef<Small>>" => answer_of_value::<Vec<SetOfRef<T>>>(alloc, question),
         "SetOfRef<SetOfRef<Small>>" => answer_of_lent_members::<SetOfRef<T>>(alloc, question),
-        "LentFields" => record::answer::<LentFields<'a, T>>(alloc, question),
+        "LentFields" => record::answer_of_three::<SetOfRef<T>, Option<SetOfRef<T>>, T>(
+            alloc, question,
+        ),
         _ => fields::answer(alloc, kind, question),
     }
 }
@@ -197,10 +194,18 @@ fn order_of_lent(
 /// The values of a SEQUENCE OF; none where other octets stand.
 fn values_of(alloc: Global, octets: &[u8]) -> Result<Vec<Small>, Error> {
     if octets.starts_with(b"\x30") {
-        Vec::<Small>::from_der(alloc, octets)
+        list_of(alloc, octets)
     } else {
         Ok(Vec::new(alloc))
     }
+}
+
+/// The values of the list that octets spell. They are any here, as for `answer_around`.
+pub fn list_of<'a, T: Decode<'a, SliceReader<'a>>>(
+    alloc: Global,
+    octets: &'a [u8],
+) -> Result<Vec<T>, Error> {
+    Vec::from_der(alloc, octets)
 }
 
 /// The borrowed set of these octets, or of the values that they spell as a SEQUENCE OF.

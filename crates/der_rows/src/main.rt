@@ -34,6 +34,7 @@
 //! | `scan HEX` | `ok ANSWER; ANSWER..`, what is scanned of each front of the octets, from none to all: `NUMBER LENGTH NAME` of a whole header, `none` where it isn't whole yet, or why it is refused |
 //! | `lone-tag HEX` | `ok NUMBER HEX NAME`: the octets of the tag at the front, what is written for it, and its name |
 //! | `lone-length HEX` | `ok NUMBER LENGTH HEX`: the octets of the length at the front, without a tag before it, that length, and what is written for it |
+//! | `header-written HEX LENGTH` | `ok HEX`, what is written in front of so many octets of content, with the tag at the front |
 //! | `length-written LENGTH` | `ok HEX`, what is written for a length, without a tag before it |
 //! | `tag HEX` | `ok CLASS NUMBER FORM NAME` of the tag at the front |
 //! | `tag-expected HEX HEX` | `ok NAME` where the tag at the front of the first is that of the second |

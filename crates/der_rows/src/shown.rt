@@ -4,7 +4,8 @@
 //! that has to be dropped.
 
 use crate::refusals::Refusal;
-use der_core::{Encode, Error, ToDer};
+use der_core::describing::{DecodeWay, Described};
+use der_core::{Encode, Error, FixedTag, FromDer, SliceReader, ToDer};
 use std::alloc::Global;
 use std::cmp::Ordering;
 use std::fmt::{Debug, Display};
@@ -52,6 +53,15 @@ pub fn written_in<T: Encode + Drop>(
     outcome: Result<T, Error>,
 ) -> Result<String, Refusal> {
     written(alloc, &outcome?)
+}
+
+/// The value of a type that names its way, which octets spell by DER. What the way gives is then
+/// checked here, and not for each type.
+pub fn read<'a, T: Described + FixedTag + Drop>(alloc: Global, octets: &'a [u8]) -> Result<T, Error>
+where
+    T::By: DecodeWay<'a, SliceReader<'a>, T>,
+{
+    T::from_der(alloc, octets)
 }
 
 /// What is answered, or why nothing is.

@@ -2,10 +2,10 @@
 
 use crate::readers::add;
 use crate::refusals::Refusal;
-use crate::shown::{hex_of, joined, octets_of, shown};
+use crate::shown::{hex_of, joined, octets_of, read, shown};
 use der_core::{
-    Encode, EncodeValueRef, Error, ErrorKind, FromDer, Length, SliceWriter, TagMode, TagNumber,
-    ToDer, Writer, encode_value_to_slice, value_header,
+    Encode, EncodeValueRef, Error, ErrorKind, Length, SliceWriter, TagMode, TagNumber, ToDer,
+    Writer, encode_value_to_slice, value_header,
 };
 use std::alloc::Global;
 
@@ -143,7 +143,7 @@ fn written_hex(alloc: Global, word: &str, number: u8, room: &mut [u8]) -> Result
 /// The number that octets spell.
 fn number_of(alloc: Global, octets: &str) -> Result<u8, Refusal> {
     let octets = octets_of(alloc, octets)?;
-    Ok(u8::from_der(alloc, octets.as_slice())?)
+    Ok(read(alloc, octets.as_slice())?)
 }
 
 /// What is written of a number to the front of a slice, with its header or without.

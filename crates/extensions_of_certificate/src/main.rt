@@ -22,7 +22,11 @@ fn main(rt: HostRuntime) -> io::Result<()> {
 /// What a certificate's extensions say, a line each.
 fn described(alloc: Global, octets: &[u8]) -> Result<String> {
     let certificate = CertificateInner::<Raw>::from_der(alloc, octets)?;
-    let certificate = certificate.tbs_certificate();
+    lines_of(alloc, certificate.tbs_certificate())
+}
+
+/// What the extensions of a signed part say.
+fn lines_of(alloc: Global, certificate: &TbsCertificateInner<Raw>) -> Result<String> {
     let names = dns_names(alloc, certificate)?;
     let is_signer = signs_certificates(alloc, certificate)?;
     let path_len = path_len(alloc, certificate)?;

@@ -51,24 +51,38 @@ fn tags_of_lent_fields(rt: HostRuntime) -> Result<(), Fail> {
     Ok(())
 }
 
-/// Whether both forms of any value tell the same.
-fn are_alike(alloc: Global, number: &Any, lent: AnyRef<'_>) -> Result<bool, Error> {
+/// Whether a number is as any value what a lent one of these octets is.
+fn are_alike(alloc: Global, number: &Any, octets: &[u8]) -> Result<bool, Error> {
+    let lent = AnyRef::new(Tag::Integer, octets)?;
+    are_both(alloc, number, lent)
+}
+
+/// Whether both forms of a number tell the same.
+fn are_both(alloc: Global, number: &Any, lent: AnyRef<'_>) -> Result<bool, Error> {
     let same = number.to_ref() == lent && AnyRef::from(number) == lent;
     let copies = lent.ref_to_owned(alloc)? == *number && number.clone(alloc)? == *number;
     let parts = number.tag() == Tag::Integer && number.value() == lent.value();
     let tags = number.first_tag() == Some(Tag::Integer) && number.header().length.value == 2;
-    Ok(same && copies && parts && tags)
+    Ok(same && copies && parts && tags && !lent.is_null())
 }
 
 #[test]
 fn any_values(rt: HostRuntime) -> Result<(), Fail> {
     let alloc = rt.alloc();
     let number = Any::new(Tag::Integer, [0, 200].to_vec(alloc)?)?;
-    let lent = AnyRef::new(Tag::Integer, &[0, 200])?;
-    assert!(rt; are_alike(alloc, &number, lent)?);
-    assert!(rt; Any::null(alloc).is_null() && AnyRef::NULL.is_null() && !lent.is_null());
-    assert!(rt; Any::null(alloc).owned_to_ref() == AnyRef::NULL);
+    assert!(rt; are_alike(alloc, &number, &[0, 200])?);
     Ok(())
+}
+
+/// Whether any value is NULL, and lends it.
+fn is_null(any: &Any) -> bool {
+    any.is_null() && any.owned_to_ref() == AnyRef::NULL
+}
+
+#[test]
+fn nulls(rt: HostRuntime) {
+    assert!(rt; is_null(&Any::null(rt.alloc())));
+    assert!(rt; AnyRef::NULL.is_null());
 }
 
 /// Two octets of a content.
@@ -89,22 +103,31 @@ fn two_lent_octets(any: AnyRef) -> Result<(u8, u8), Error> {
     })
 }
 
-/// Whether the two octets of a content are refused so.
-fn is_refused(any: AnyRef, kind: ErrorKind) -> bool {
-    match two_lent_octets(any) {
-        Ok(_) => false,
-        Err(error) => error.kind == kind,
-    }
+/// Whether both forms of any value give the octets 7 and 8.
+fn are_given(fields: &Any) -> Result<bool, Error> {
+    let owned = two_octets(fields)?;
+    let lent = two_lent_octets(fields.to_ref())?;
+    Ok(owned == (7, 8) && lent == owned)
 }
 
 #[test]
 fn closures(rt: HostRuntime) -> Result<(), Fail> {
     let fields = Any::new(Tag::Sequence, [7, 8].to_vec(rt.alloc())?)?;
-    assert!(rt; two_octets(&fields)? == (7, 8));
-    assert!(rt; two_lent_octets(fields.to_ref())? == (7, 8));
-    let longer = AnyRef::new(Tag::Sequence, &[7, 8, 9])?;
-    assert!(rt; is_refused(longer, ErrorKind::TrailingData));
-    let set = AnyRef::new(Tag::Set, &[7, 8])?;
-    assert!(rt; is_refused(set, ErrorKind::TagUnexpected));
+    assert!(rt; are_given(&fields)?);
+    Ok(())
+}
+
+/// Whether two octets of a content behind this tag are refused so.
+fn are_refused(tag: Tag, octets: &[u8], kind: ErrorKind) -> Result<bool, Error> {
+    match two_lent_octets(AnyRef::new(tag, octets)?) {
+        Ok(_) => Ok(false),
+        Err(error) => Ok(error.kind == kind),
+    }
+}
+
+#[test]
+fn closures_that_are_refused(rt: HostRuntime) -> Result<(), Fail> {
+    assert!(rt; are_refused(Tag::Sequence, &[7, 8, 9], ErrorKind::TrailingData)?);
+    assert!(rt; are_refused(Tag::Set, &[7, 8], ErrorKind::TagUnexpected)?);
     Ok(())
 }

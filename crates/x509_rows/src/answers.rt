@@ -12,7 +12,7 @@ use crate::requests_and_names::{value_placed, values_of};
 use crate::shown::octets_of;
 use crate::tls_values::rewritten;
 use crate::whole_extensions::{certificate_of, usages_of};
-use crate::{distinguished_names, extensions, name_texts, timestamps};
+use crate::{distinguished_names, extensions, name_texts};
 use std::alloc::Global;
 use std::io;
 use std::io::Write;
@@ -38,22 +38,14 @@ fn answer_to(alloc: Global, line: &str) -> Result<String, Refusal> {
     let (word, rest) = line.split_once(' ').unwrap_or((line, ""));
     match word {
         "usages" => usages_of(alloc, rest),
-        "attributes"
-        | "relative"
-        | "relative-of"
-        | "relative-members"
-        | "relative-list"
-        | "turned"
-        | "again"
-        | "name" => { distinguished_names::answer(alloc, word, rest) }
-        "members" | "list" | "list-read" | "long" | "long-list" | "stamp" | "date" => {
-            timestamps::answer(alloc, word, rest)
-        }
-        _ => {
-            let (kind, values) = rest.split_once(' ').unwrap_or((rest, ""));
-            answer_about(alloc, word, kind, values)
-        }
+        _ => distinguished_names::answer(alloc, word, rest),
     }
+}
+
+/// What is answered to a question whose words are a type's name and what stands behind it.
+pub fn answer_of_type(alloc: Global, word: &str, rest: &str) -> Result<String, Refusal> {
+    let (kind, values) = rest.split_once(' ').unwrap_or((rest, ""));
+    answer_about(alloc, word, kind, values)
 }
 
 /// What is answered to a question about a type.

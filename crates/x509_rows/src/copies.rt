@@ -7,7 +7,7 @@ use std::alloc::{AllocError, Global};
 use std::mem;
 
 /// What is written of a copy of a value, if it is equal to the value.
-pub fn copied<T: Encode + PartialEq + Drop, C: Fn(&T, Global) -> Result<T, AllocError>>(
+pub fn copied<T: Encode + PartialEq + Drop, C: FnOnce(&T, Global) -> Result<T, AllocError>>(
     alloc: Global,
     value: Result<T, Error>,
     copy: C,

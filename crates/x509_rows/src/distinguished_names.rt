@@ -1,10 +1,11 @@
 //! Questions about what a name has.
 
 use crate::refusals::Refusal;
-use crate::shown::{octets_of, written};
-use crate::{name_texts, relative_names};
+use crate::shown::{any_written, octets_of, written};
+use crate::{name_texts, relative_names, timestamps};
 use const_oid::ObjectIdentifier;
-use der_core::{Encode, Error, FromDer};
+use der_core::describing::Described;
+use der_core::{Encode, Error, FixedTag, FromDer};
 use der_types::{
     BitStringRef, GeneralStringRef, Ia5StringRef, IntRef, OctetStringRef, PrintableStringRef,
     SequenceRef, SetOfRef, UintRef, Utf8StringRef,
@@ -16,7 +17,7 @@ use x509_cert::{
     UtcTime,
 };
 
-/// The answer to a question about names and RDNs.
+/// The answer to a question about names and RDNs, or to one that another page knows.
 pub fn answer(alloc: Global, word: &str, rest: &str) -> Result<String, Refusal> {
     match word {
         "attributes" => attributes(alloc, rest),
@@ -26,14 +27,20 @@ pub fn answer(alloc: Global, word: &str, rest: &str) -> Result<String, Refusal> 
         "relative-list" => relative_names::listed(alloc, rest),
         "turned" => relative_names::turned(alloc, rest),
         "name" => name_texts::again(alloc, rest),
-        _ => relative_names::again(alloc, rest),
+        "again" => relative_names::again(alloc, rest),
+        _ => timestamps::answer(alloc, word, rest),
     }
 }
 
 /// The name that hex octets spell.
 fn name_of(alloc: Global, octets: &str) -> Result<Name, Refusal> {
     let octets = octets_of(alloc, octets)?;
-    Ok(Name::from_der(alloc, octets.as_slice())?)
+    Ok(name_in(alloc, octets.as_slice())?)
+}
+
+/// The name that octets spell.
+pub fn name_in(alloc: Global, octets: &[u8]) -> Result<Name, Error> {
+    Name::from_der(alloc, octets)
 }
 
 /// The types and the values of a name's attributes.
@@ -62,7 +69,7 @@ fn add_attribute(
 ) -> Result<(), Refusal> {
     text.push_str(attribute.oid.to_string(alloc)?.as_str())?;
     text.push(' ')?;
-    text.push_str(written(alloc, &attribute.value)?.as_str())?;
+    text.push_str(any_written(alloc, &attribute.value)?.as_str())?;
     Ok(())
 }
 
@@ -122,25 +129,34 @@ fn by_oid_in(
 ) -> Result<String, Refusal> {
     match kind {
         "AnyRef" => written_of::<AnyRef>(alloc, name, oid),
-        "BitStringRef" => written_of::<BitStringRef>(alloc, name, oid),
-        "DateTime" => written_of::<DateTime>(alloc, name, oid),
+        "BitStringRef" => described_of::<BitStringRef>(alloc, name, oid),
+        "DateTime" => described_of::<DateTime>(alloc, name, oid),
         "DirectoryString" => written_of::<DirectoryString>(alloc, name, oid),
-        "GeneralStringRef" => written_of::<GeneralStringRef>(alloc, name, oid),
-        "GeneralizedTime" => written_of::<GeneralizedTime>(alloc, name, oid),
-        "Ia5StringRef" => written_of::<Ia5StringRef>(alloc, name, oid),
-        "IntRef" => written_of::<IntRef>(alloc, name, oid),
-        "ObjectIdentifier" => written_of::<ObjectIdentifier<39>>(alloc, name, oid),
-        "OctetStringRef" => written_of::<OctetStringRef>(alloc, name, oid),
-        "PrintableStringRef" => written_of::<PrintableStringRef>(alloc, name, oid),
-        "SequenceRef" => written_of::<SequenceRef>(alloc, name, oid),
+        "GeneralStringRef" => described_of::<GeneralStringRef>(alloc, name, oid),
+        "GeneralizedTime" => described_of::<GeneralizedTime>(alloc, name, oid),
+        "Ia5StringRef" => described_of::<Ia5StringRef>(alloc, name, oid),
+        "IntRef" => described_of::<IntRef>(alloc, name, oid),
+        "ObjectIdentifier" => described_of::<ObjectIdentifier<39>>(alloc, name, oid),
+        "OctetStringRef" => described_of::<OctetStringRef>(alloc, name, oid),
+        "PrintableStringRef" => described_of::<PrintableStringRef>(alloc, name, oid),
+        "SequenceRef" => described_of::<SequenceRef>(alloc, name, oid),
         "SetOfRef<u8>" => written_of::<SetOfRef<u8>>(alloc, name, oid),
-        "UintRef" => written_of::<UintRef>(alloc, name, oid),
-        "UtcTime" => written_of::<UtcTime>(alloc, name, oid),
-        "Utf8StringRef" => written_of::<Utf8StringRef>(alloc, name, oid),
+        "UintRef" => described_of::<UintRef>(alloc, name, oid),
+        "UtcTime" => described_of::<UtcTime>(alloc, name, oid),
+        "Utf8StringRef" => described_of::<Utf8StringRef>(alloc, name, oid),
         "bool" => written_of::<bool>(alloc, name, oid),
-        "str" => written_of::<&str>(alloc, name, oid),
+        "str" => described_of::<&str>(alloc, name, oid),
         _ => Err(Refusal::Unread),
     }
+}
+
+/// What is written of the first attribute of a type, read as a type that names its way.
+fn described_of<'a, T: FromAny<'a> + Described + FixedTag + Drop>(
+    alloc: Global,
+    name: &'a Name,
+    oid: ObjectIdentifier<39>,
+) -> Result<String, Refusal> {
+    written_of::<T>(alloc, name, oid)
 }
 
 /// What is written of the first attribute of a type, read as a type of values.

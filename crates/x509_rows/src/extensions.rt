@@ -8,7 +8,7 @@ use crate::questions::{
 };
 use crate::refusals::Refusal;
 use crate::requests_and_names;
-use crate::shown::written;
+use crate::shown::described;
 use const_oid::ObjectIdentifier;
 use std::alloc::Global;
 use x509_cert::timestamps::SignedCertificateTimestampList;
@@ -31,38 +31,43 @@ pub fn answer(alloc: Global, kind: &str, question: &Question<'_>) -> Result<Stri
             alloc,
             question,
             SubjectDirectoryAttributes::clone,
-            SubjectDirectoryAttributes::default,
+            SubjectDirectoryAttributes::default(alloc),
         ),
         "SubjectAltName" => answer_of_list(
             alloc,
             question,
             SubjectAltName::clone,
-            SubjectAltName::default,
+            SubjectAltName::default(alloc),
         ),
         "IssuerAltName" => answer_of_list(
             alloc,
             question,
             IssuerAltName::clone,
-            IssuerAltName::default,
+            IssuerAltName::default(alloc),
         ),
         "CrlDistributionPoints" => answer_of_list(
             alloc,
             question,
             CrlDistributionPoints::clone,
-            CrlDistributionPoints::default,
+            CrlDistributionPoints::default(alloc),
         ),
-        "FreshestCrl" => answer_of_list(alloc, question, FreshestCrl::clone, FreshestCrl::default),
+        "FreshestCrl" => answer_of_list(
+            alloc,
+            question,
+            FreshestCrl::clone,
+            FreshestCrl::default(alloc),
+        ),
         "AuthorityInfoAccessSyntax" => answer_of_list(
             alloc,
             question,
             AuthorityInfoAccessSyntax::clone,
-            AuthorityInfoAccessSyntax::default,
+            AuthorityInfoAccessSyntax::default(alloc),
         ),
         "SubjectInfoAccessSyntax" => answer_of_list(
             alloc,
             question,
             SubjectInfoAccessSyntax::clone,
-            SubjectInfoAccessSyntax::default,
+            SubjectInfoAccessSyntax::default(alloc),
         ),
         _ => answer_of_fields(alloc, kind, question),
     }
@@ -136,7 +141,7 @@ fn answer_of_records(
 /// The answer of how many certificates may follow, which is 0 where nothing is said.
 fn answer_of_inhibition(alloc: Global, question: &Question<'_>) -> Result<String, Refusal> {
     match question.asked {
-        Asked::Default => written(alloc, &InhibitAnyPolicy::default()),
+        Asked::Default => described(alloc, &InhibitAnyPolicy::default()),
         _ => answer_with_field::<InhibitAnyPolicy, u32>(alloc, question),
     }
 }

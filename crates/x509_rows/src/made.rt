@@ -1,10 +1,9 @@
 //! Questions about values that are made of other values.
 
-use crate::name_texts::spelled;
+use crate::name_texts::{spelled, text_in};
 use crate::refusals::Refusal;
-use crate::shown::{octets_of, shown, written, written_in};
+use crate::shown::{described, described_in, octets_of, read, shown, written_in};
 use crate::validities::validity_of;
-use der_core::FromDer;
 use sha1::Sha1;
 use std::alloc::Global;
 use std::net::IpAddr;
@@ -42,20 +41,20 @@ fn address_of(alloc: Global, text: &str) -> Result<String, Refusal> {
 /// What is written of the number of a list.
 fn number_of(alloc: Global, text: &str) -> Result<String, Refusal> {
     let number: u128 = text.parse()?;
-    written_in(alloc, CrlNumber::try_from_u128(alloc, number))
+    described_in(alloc, CrlNumber::try_from_u128(alloc, number))
 }
 
 /// What is written of the serial number of a number.
 fn serial_of(alloc: Global, text: &str) -> Result<String, Refusal> {
     let number: u64 = text.parse()?;
-    written_in(alloc, SerialNumber::<Rfc5280>::from_u64(alloc, number))
+    described_in(alloc, SerialNumber::<Rfc5280>::from_u64(alloc, number))
 }
 
 /// What is written of the value that a type makes of octets: those of a number, or those that spell
 /// another value.
 fn made_of_octets(alloc: Global, kind: &str, octets: &[u8]) -> Result<String, Refusal> {
     match kind {
-        "SerialNumber" => written_in(alloc, SerialNumber::<Rfc5280>::new(alloc, octets)),
+        "SerialNumber" => described_in(alloc, SerialNumber::<Rfc5280>::new(alloc, octets)),
         "SubjectKeyIdentifier" | "AuthorityKeyIdentifier" => identifier_of(alloc, kind, octets),
         "OtherName" => other_name_of(alloc, octets),
         "HardwareModuleName" => module_of(alloc, octets),
@@ -67,7 +66,7 @@ fn made_of_octets(alloc: Global, kind: &str, octets: &[u8]) -> Result<String, Re
 
 /// What is written of the identifier of a key.
 fn identifier_of(alloc: Global, kind: &str, octets: &[u8]) -> Result<String, Refusal> {
-    let key = SubjectPublicKeyInfo::from_der(alloc, octets)?;
+    let key: SubjectPublicKeyInfo = read(alloc, octets)?;
     let algorithm: AlgorithmIdentifierRef<'_> = key.algorithm.owned_to_ref();
     let lent: SubjectPublicKeyInfoRef<'_> = SubjectPublicKeyInfoRef {
         algorithm,
@@ -75,37 +74,37 @@ fn identifier_of(alloc: Global, kind: &str, octets: &[u8]) -> Result<String, Ref
     };
     match kind {
         "SubjectKeyIdentifier" => {
-            written_in(alloc, SubjectKeyIdentifier::try_from_key(alloc, &lent))
+            described_in(alloc, SubjectKeyIdentifier::try_from_key(alloc, &lent))
         }
-        _ => written_in(alloc, AuthorityKeyIdentifier::try_from_key(alloc, &lent)),
+        _ => described_in(alloc, AuthorityKeyIdentifier::try_from_key(alloc, &lent)),
     }
 }
 
 /// What is written of the name of a module.
 fn other_name_of(alloc: Global, octets: &[u8]) -> Result<String, Refusal> {
-    let module = HardwareModuleName::from_der(alloc, octets)?;
-    written_in(alloc, OtherName::try_from(alloc, &module))
+    let module: HardwareModuleName = read(alloc, octets)?;
+    described_in(alloc, OtherName::try_from(alloc, &module))
 }
 
 /// What is written of the module that a name holds, if it holds one.
 fn module_of(alloc: Global, octets: &[u8]) -> Result<String, Refusal> {
-    let name = OtherName::from_der(alloc, octets)?;
+    let name: OtherName = read(alloc, octets)?;
     match HardwareModuleName::from_other_name(alloc, &name)? {
-        Some(module) => written(alloc, &module),
+        Some(module) => described(alloc, &module),
         None => shown(alloc, "none"),
     }
 }
 
 /// What is written of the attribute of a password.
 fn password_of(alloc: Global, octets: &[u8]) -> Result<String, Refusal> {
-    let password = ChallengePassword(FromDer::from_der(alloc, octets)?);
-    written_in(alloc, password.to_attribute(alloc))
+    let password = ChallengePassword(text_in(alloc, octets)?);
+    described_in(alloc, password.to_attribute(alloc))
 }
 
 /// What is written of the attribute of requested extensions.
 fn attribute_of(alloc: Global, octets: &[u8]) -> Result<String, Refusal> {
-    let request = ExtensionReq::from_der(alloc, octets)?;
-    written_in(alloc, Attribute::try_from_extension_req(alloc, request))
+    let request: ExtensionReq = read(alloc, octets)?;
+    described_in(alloc, Attribute::try_from_extension_req(alloc, request))
 }
 
 /// The SHA-1 digest of a certificate.

@@ -1,8 +1,9 @@
 //! Questions about texts: of names (RFC 4514), of dates and of serial numbers.
 
 use crate::refusals::Refusal;
+use crate::relative_names::rdn_written_in;
 use crate::shown::{hex_in, octets_of, printed as printed_in, written_in};
-use der_core::{Decode, FromDer, SliceReader};
+use der_core::{Decode, Error, FromDer, SliceReader};
 use std::alloc::Global;
 use std::fmt::Display;
 use x509_cert::{
@@ -13,10 +14,10 @@ use x509_cert::{
 /// The encoding of the name, or the part of one, that a text spells.
 pub fn spelled(alloc: Global, kind: &str, text: &str) -> Result<String, Refusal> {
     match kind {
-        "Name" => written_in(alloc, Name::from_str(alloc, text)),
+        "Name" => name_written(alloc, Name::from_str(alloc, text)),
         "RdnSequence" => hex_in(alloc, RdnSequence::encode_from_string(alloc, text)),
         "RelativeDistinguishedName" => {
-            written_in(alloc, RelativeDistinguishedName::from_str(alloc, text))
+            rdn_written_in(alloc, RelativeDistinguishedName::from_str(alloc, text))
         }
         "AttributeTypeAndValue" => {
             hex_in(
@@ -54,9 +55,19 @@ fn text_of<'a, T: Decode<'a, SliceReader<'a>> + Display + Drop>(
 
 /// The text of the DirectoryString that octets spell.
 fn value_of(alloc: Global, octets: &[u8]) -> Result<String, Refusal> {
-    let text = DirectoryString::from_der(alloc, octets)?;
+    let text = text_in(alloc, octets)?;
     let value = text.value(alloc)?;
     Ok(value.into_owned(alloc)?)
+}
+
+/// The DirectoryString that octets spell.
+pub fn text_in(alloc: Global, octets: &[u8]) -> Result<DirectoryString, Error> {
+    DirectoryString::from_der(alloc, octets)
+}
+
+/// What is written of the name of an outcome.
+pub fn name_written(alloc: Global, name: Result<Name, Error>) -> Result<String, Refusal> {
+    written_in(alloc, name)
 }
 
 /// What is printed of the name that a text spells.

@@ -1,8 +1,7 @@
 //! Questions about the usages of a key and the names of a subject.
 
 use crate::refusals::Refusal;
-use crate::shown::octets_of;
-use der_core::FromDer;
+use crate::shown::{octets_of, read};
 use std::alloc::{AllocError, Global};
 use x509_cert::{GeneralName, KeyUsage, SubjectAltName};
 
@@ -18,12 +17,12 @@ pub fn names_of(alloc: Global, kind: &str, octets: &str) -> Result<String, Refus
 
 /// What the key is used for whose usage octets spell.
 fn usages_in(alloc: Global, octets: &[u8]) -> Result<String, Refusal> {
-    Ok(usages_of(alloc, FromDer::from_der(alloc, octets)?)?)
+    Ok(usages_of(alloc, read(alloc, octets)?)?)
 }
 
 /// The names of the subject that octets spell.
 fn subjects_in(alloc: Global, octets: &[u8]) -> Result<String, Refusal> {
-    Ok(subjects_of(alloc, &FromDer::from_der(alloc, octets)?)?)
+    Ok(subjects_of(alloc, &read(alloc, octets)?)?)
 }
 
 /// What a key is used for.
@@ -40,7 +39,8 @@ fn usages_of(alloc: Global, usage: KeyUsage) -> Result<String, AllocError> {
         (usage.decipher_only(), "decipher_only"),
     ];
     let mut text = String::new(alloc);
-    for (is_used, word) in usages {
+    for usage in usages.iter() {
+        let (is_used, word) = *usage;
         if is_used {
             if !text.is_empty() {
                 text.push(' ')?;

@@ -1,8 +1,8 @@
 //! Types that a profile changes.
 
 use crate::questions::{
-    Question, answer_of_described, answer_of_ordered, answer_of_value, answer_with_copy,
-    answer_with_order_and_copy,
+    Question, answer_of_described, answer_of_ordered, answer_of_ordered_and_copied,
+    answer_of_value, answer_with_copy,
 };
 use crate::refusals::Refusal;
 use std::alloc::Global;
@@ -30,8 +30,12 @@ fn answer_under<P: Profile>(
         "SerialNumber" => answer_of_value::<SerialNumber<P>>(alloc, question),
         "Validity" => answer_of_value::<Validity<P>>(alloc, question),
         "TbsCertificate" => answer_of_ordered::<TbsCertificateInner<P>>(alloc, question),
-        "Certificate" => answer_with_order_and_copy(alloc, question, <CertificateInner<P>>::clone),
-        "CertificateList" => answer_with_order_and_copy(
+        "Certificate" => answer_of_ordered_and_copied(
+            alloc,
+            question,
+            <CertificateInner<P>>::clone,
+        ),
+        "CertificateList" => answer_of_ordered_and_copied(
             alloc,
             question,
             <CertificateList<P>>::clone,

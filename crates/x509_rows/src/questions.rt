@@ -4,6 +4,7 @@
 //! place that names the type. So one place answers all questions about it.
 
 use crate::copies::{copied, exchanged};
+use crate::distinguished_names::name_in;
 use crate::refusals::Refusal;
 use crate::shown::{hex_of, joined, or_refusal, written, written_in};
 use crate::whole_extensions::got;
@@ -116,7 +117,7 @@ pub fn answer_with_order<'a, T: Decode<'a, SliceReader<'a>> + DerOrd + Encode>(
 pub fn answer_with_copy<
     'a,
     T: Decode<'a, SliceReader<'a>> + Encode + PartialEq,
-    C: Fn(&T, Global) -> Result<T, AllocError>,
+    C: FnOnce(&T, Global) -> Result<T, AllocError>,
 >(alloc: Global, question: &Question<'a>, copy: C) -> Result<String, Refusal>
     requires { C.IsAlwaysCallable copy }
 {
@@ -130,7 +131,7 @@ pub fn answer_with_copy<
 pub fn answer_with_order_and_copy<
     'a,
     T: Decode<'a, SliceReader<'a>> + DerOrd + Encode + PartialEq,
-    C: Fn(&T, Global) -> Result<T, AllocError>,
+    C: FnOnce(&T, Global) -> Result<T, AllocError>,
 >(alloc: Global, question: &Question<'a>, copy: C) -> Result<String, Refusal>
     requires { C.IsAlwaysCallable copy }
 {
@@ -176,7 +177,7 @@ where
 pub fn answer_of_copied<
     'a,
     T: Described + PartialEq + Drop,
-    C: Fn(&T, Global) -> Result<T, AllocError>,
+    C: FnOnce(&T, Global) -> Result<T, AllocError>,
 >(alloc: Global, question: &Question<'a>, copy: C) -> Result<String, Refusal>
 where
     T::By: DecodeWay<'a, SliceReader<'a>, T> + TagWay<T>,
@@ -185,12 +186,25 @@ where
     answer_with_copy(alloc, question, copy)
 }
 
+/// The answer of such a type that is compared and copied, too.
+pub fn answer_of_ordered_and_copied<
+    'a,
+    T: Ordered + FixedTag + PartialEq + Drop,
+    C: FnOnce(&T, Global) -> Result<T, AllocError>,
+>(alloc: Global, question: &Question<'a>, copy: C) -> Result<String, Refusal>
+where
+    T::By: DecodeWay<'a, SliceReader<'a>, T> + OrderWay<T>,
+    requires { C.IsAlwaysCallable copy }
+{
+    answer_with_order_and_copy(alloc, question, copy)
+}
+
 /// The answer of a type with one tag and one field, which is copied, too.
 pub fn answer_of_field<
     'a,
     T: Described + PartialEq + AsMut<F> + Drop,
     F,
-    C: Fn(&T, Global) -> Result<T, AllocError>,
+    C: FnOnce(&T, Global) -> Result<T, AllocError>,
 >(alloc: Global, question: &Question<'a>, copy: C) -> Result<String, Refusal>
 where
     T::By: DecodeWay<'a, SliceReader<'a>, T> + TagWay<T>,
@@ -208,16 +222,14 @@ pub fn answer_of_ordered_list<
     'a,
     T: Ordered + PartialEq + AsMut<Vec<M>> + Drop,
     M,
-    C: Fn(&T, Global) -> Result<T, AllocError>,
-    N: Fn(Global) -> T,
->(alloc: Global, question: &Question<'a>, copy: C, none: N) -> Result<String, Refusal>
+    C: FnOnce(&T, Global) -> Result<T, AllocError>,
+>(alloc: Global, question: &Question<'a>, copy: C, none: T) -> Result<String, Refusal>
 where
     T::By: DecodeWay<'a, SliceReader<'a>, T> + OrderWay<T> + TagWay<T>,
-    requires copied { C.IsAlwaysCallable copy }
-    requires made { N.IsAlwaysCallable none }
+    requires { C.IsAlwaysCallable copy }
 {
     match question.asked {
-        Asked::Default => written_of(alloc, none(alloc)),
+        Asked::Default => written_of(alloc, none),
         Asked::Order => order_of::<T>(alloc, question),
         _ => answer_of_field::<T, Vec<M>, C>(alloc, question, copy),
     }
@@ -233,7 +245,7 @@ where
 {
     match question.asked {
         Asked::Extension => {
-            let subject = Name::from_der(alloc, question.first)?;
+            let subject = name_in(alloc, question.first)?;
             given(alloc, &subject, &T::from_der(alloc, question.second)?)
         }
         Asked::Get(certificate) => got::<T>(alloc, certificate),
@@ -260,7 +272,7 @@ pub fn answer_with_field_and_copy<
     'a,
     T: Described + PartialEq + AssociatedOid + Criticality + AsMut<F> + Drop,
     F,
-    C: Fn(&T, Global) -> Result<T, AllocError>,
+    C: FnOnce(&T, Global) -> Result<T, AllocError>,
 >(alloc: Global, question: &Question<'a>, copy: C) -> Result<String, Refusal>
 where
     T::By: DecodeWay<'a, SliceReader<'a>, T> + TagWay<T>,
@@ -277,16 +289,14 @@ pub fn answer_of_list<
     'a,
     T: Described + PartialEq + AssociatedOid + Criticality + AsMut<Vec<M>> + Drop,
     M,
-    C: Fn(&T, Global) -> Result<T, AllocError>,
-    N: Fn(Global) -> T,
->(alloc: Global, question: &Question<'a>, copy: C, none: N) -> Result<String, Refusal>
+    C: FnOnce(&T, Global) -> Result<T, AllocError>,
+>(alloc: Global, question: &Question<'a>, copy: C, none: T) -> Result<String, Refusal>
 where
     T::By: DecodeWay<'a, SliceReader<'a>, T> + TagWay<T>,
-    requires copied { C.IsAlwaysCallable copy }
-    requires made { N.IsAlwaysCallable none }
+    requires { C.IsAlwaysCallable copy }
 {
     match question.asked {
-        Asked::Default => written_of(alloc, none(alloc)),
+        Asked::Default => written_of(alloc, none),
         _ => answer_with_field_and_copy::<T, Vec<M>, C>(alloc, question, copy),
     }
 }
@@ -326,7 +336,7 @@ where
 pub fn answer_with_debug_and_copy<
     'a,
     T: Described + PartialEq + AssociatedOid + Criticality + Debug + Drop,
-    C: Fn(&T, Global) -> Result<T, AllocError>,
+    C: FnOnce(&T, Global) -> Result<T, AllocError>,
 >(alloc: Global, question: &Question<'a>, copy: C) -> Result<String, Refusal>
 where
     T::By: DecodeWay<'a, SliceReader<'a>, T> + TagWay<T>,
@@ -342,7 +352,7 @@ where
 pub fn answer_with_default_and_copy<
     'a,
     T: Described + Default + PartialEq + AssociatedOid + Criticality + Debug + Drop,
-    C: Fn(&T, Global) -> Result<T, AllocError>,
+    C: FnOnce(&T, Global) -> Result<T, AllocError>,
 >(alloc: Global, question: &Question<'a>, copy: C) -> Result<String, Refusal>
 where
     T::By: DecodeWay<'a, SliceReader<'a>, T> + TagWay<T>,

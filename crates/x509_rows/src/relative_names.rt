@@ -1,8 +1,9 @@
 //! RDNs that are made of attributes.
 
+use crate::name_texts::name_written;
 use crate::refusals::Refusal;
-use crate::shown::{octets_of, written, written_in};
-use der_core::{FromDer, ToDer};
+use crate::shown::{described, octets_of, read, written};
+use der_core::{Error, FromDer};
 use std::alloc::{AllocError, Global};
 use x509_cert::name::AttributeSet;
 use x509_cert::{AttributeTypeAndValue, Name, RdnSequence, RelativeDistinguishedName, SetOfIter};
@@ -18,7 +19,7 @@ pub fn again(alloc: Global, rest: &str) -> Result<String, Refusal> {
 /// The attribute that hex octets spell.
 fn attribute_of(alloc: Global, word: &str) -> Result<AttributeTypeAndValue, Refusal> {
     let octets = octets_of(alloc, word)?;
-    Ok(AttributeTypeAndValue::from_der(alloc, octets.as_slice())?)
+    Ok(read(alloc, octets.as_slice())?)
 }
 
 /// The attributes that hex octets spell, separated by blanks.
@@ -36,7 +37,20 @@ pub fn inserted(alloc: Global, words: &str) -> Result<String, Refusal> {
     for attribute in attributes_of(alloc, words)? {
         name.insert(attribute)?;
     }
-    written(alloc, &name)
+    rdn_written(alloc, &name)
+}
+
+/// What is written of an RDN.
+fn rdn_written(alloc: Global, name: &RelativeDistinguishedName) -> Result<String, Refusal> {
+    written(alloc, name)
+}
+
+/// What is written of the RDN of an outcome.
+pub fn rdn_written_in(
+    alloc: Global,
+    name: Result<RelativeDistinguishedName, Error>,
+) -> Result<String, Refusal> {
+    rdn_written(alloc, &name?)
 }
 
 /// As `inserted`, where an insertion that finds no memory has to leave the name, and is made again.
@@ -45,7 +59,7 @@ fn inserted_again(alloc: Global, words: &str) -> Result<String, Refusal> {
     for word in words.split(' ') {
         insert_again(alloc, &mut name, word)?;
     }
-    written(alloc, &name)
+    rdn_written(alloc, &name)
 }
 
 /// Inserts an attribute, at the second call where the first finds no memory.
@@ -54,14 +68,14 @@ fn insert_again(
     name: &mut RelativeDistinguishedName,
     word: &str,
 ) -> Result<(), Refusal> {
-    let before = name.to_der(alloc)?;
+    let before = rdn_written(alloc, name)?;
     let Err(error) = name.insert(attribute_of(alloc, word)?) else {
         return Ok(());
     };
     let Refusal::Memory = Refusal::from(error) else {
         return Err(Refusal::Der(error));
     };
-    if name.to_der(alloc)?.as_slice() != before.as_slice() {
+    if rdn_written(alloc, name)?.as_str() != before.as_str() {
         return Err(Refusal::Changed);
     }
     name.insert(attribute_of(alloc, word)?)?;
@@ -70,7 +84,7 @@ fn insert_again(
 
 /// The RDN of all attributes at once.
 pub fn made(alloc: Global, words: &str) -> Result<String, Refusal> {
-    written_in(
+    rdn_written_in(
         alloc,
         RelativeDistinguishedName::try_from_vec(attributes_of(alloc, words)?),
     )
@@ -89,16 +103,16 @@ fn pushed_again(alloc: Global, words: &str) -> Result<String, Refusal> {
     for word in words.split(' ') {
         push_again(alloc, &mut names, word)?;
     }
-    written(alloc, &Name::hazmat_from_rdn_sequence(names))
+    name_written(alloc, Ok(Name::hazmat_from_rdn_sequence(names)))
 }
 
 /// Pushes an RDN, at the second call where the first finds no memory.
 fn push_again(alloc: Global, names: &mut RdnSequence, word: &str) -> Result<(), Refusal> {
-    let before = names.to_der(alloc)?;
+    let before = described(alloc, names)?;
     let Err(AllocError) = names.push(relative_name_of(alloc, word)?) else {
         return Ok(());
     };
-    if names.to_der(alloc)?.as_slice() != before.as_slice() {
+    if described(alloc, names)?.as_str() != before.as_str() {
         return Err(Refusal::Changed);
     }
     names.push(relative_name_of(alloc, word)?)?;
@@ -108,9 +122,9 @@ fn push_again(alloc: Global, names: &mut RdnSequence, word: &str) -> Result<(), 
 /// What is written of a sequence whose RDNs are turned round in the list that it lends.
 pub fn turned(alloc: Global, octets: &str) -> Result<String, Refusal> {
     let octets = octets_of(alloc, octets)?;
-    let mut sequence = RdnSequence::from_der(alloc, octets.as_slice())?;
+    let mut sequence: RdnSequence = read(alloc, octets.as_slice())?;
     sequence.as_mut().reverse();
-    written(alloc, &sequence)
+    described(alloc, &sequence)
 }
 
 /// How many attributes an RDN has, and what is written of each.
@@ -134,7 +148,7 @@ fn members_in(
     let mut text = members.len().to_string(alloc)?;
     for attribute in members {
         text.push(' ')?;
-        text.push_str(written(alloc, attribute)?.as_str())?;
+        text.push_str(described(alloc, attribute)?.as_str())?;
     }
     Ok(text)
 }

@@ -5,7 +5,7 @@ use crate::questions::{
     Question, answer_of_copied, answer_of_described, answer_of_ordered_list, answer_of_value,
 };
 use crate::refusals::Refusal;
-use crate::shown::{joined, octets_of, shown, written};
+use crate::shown::{any_written, described, joined, octets_of, read, shown};
 use der_core::{FromDer, StrictSetOf};
 use std::alloc::Global;
 use x509_cert::{
@@ -23,7 +23,7 @@ pub fn answer(alloc: Global, kind: &str, question: &Question<'_>) -> Result<Stri
             alloc,
             question,
             ExtensionReq::clone,
-            ExtensionReq::default,
+            ExtensionReq::default(alloc),
         ),
         _ => answer_of_names(alloc, kind, question),
     }
@@ -37,7 +37,7 @@ fn answer_of_names(alloc: Global, kind: &str, question: &Question<'_>) -> Result
             alloc,
             question,
             RdnSequence::clone,
-            RdnSequence::default,
+            RdnSequence::default(alloc),
         ),
         "RelativeDistinguishedName" => answer_of_value::<RelativeDistinguishedName>(
             alloc, question,
@@ -51,8 +51,7 @@ fn answer_of_names(alloc: Global, kind: &str, question: &Question<'_>) -> Result
 /// The values of an attribute: how many they are, each in turn, and the one at an index.
 pub fn values_of(alloc: Global, index: &str, octets: &str) -> Result<String, Refusal> {
     let index = index.parse::<usize>()?;
-    let octets = octets_of(alloc, octets)?;
-    let attribute = Attribute::from_der(alloc, octets.as_slice())?;
+    let attribute = attribute_of(alloc, octets)?;
     let values = &attribute.values;
     joined(listed(alloc, values), "; ", value_at(alloc, values, index))
 }
@@ -60,12 +59,17 @@ pub fn values_of(alloc: Global, index: &str, octets: &str) -> Result<String, Ref
 /// What is written of an attribute once a value was placed among its own.
 pub fn value_placed(alloc: Global, value: &str, octets: &str) -> Result<String, Refusal> {
     let value = octets_of(alloc, value)?;
-    let octets = octets_of(alloc, octets)?;
-    let mut attribute = Attribute::from_der(alloc, octets.as_slice())?;
+    let mut attribute = attribute_of(alloc, octets)?;
     attribute
         .values
         .insert(FromDer::from_der(alloc, value.as_slice())?)?;
-    written(alloc, &attribute)
+    described(alloc, &attribute)
+}
+
+/// The attribute that hex octets spell.
+fn attribute_of(alloc: Global, octets: &str) -> Result<Attribute, Refusal> {
+    let octets = octets_of(alloc, octets)?;
+    Ok(read(alloc, octets.as_slice())?)
 }
 
 /// How many values there are, and what is written of each.
@@ -76,7 +80,7 @@ fn listed(alloc: Global, values: &StrictSetOf<AttributeValue>) -> Result<String,
     let mut text = values.len().to_string(alloc)?;
     for value in values.iter() {
         text.push(' ')?;
-        text.push_str(written(alloc, value)?.as_str())?;
+        text.push_str(any_written(alloc, value)?.as_str())?;
     }
     Ok(text)
 }
@@ -88,7 +92,7 @@ fn value_at(
     index: usize,
 ) -> Result<String, Refusal> {
     match values.get(index) {
-        Some(value) => written(alloc, value),
+        Some(value) => any_written(alloc, value),
         None => shown(alloc, "none"),
     }
 }

@@ -4,10 +4,12 @@
 //! that has to be dropped.
 
 use crate::refusals::Refusal;
-use der_core::{Encode, Error, ToDer};
+use der_core::describing::{DecodeWay, Described};
+use der_core::{Encode, Error, FixedTag, FromDer, SliceReader, ToDer};
 use std::alloc::Global;
 use std::fmt;
 use std::fmt::Display;
+use x509_cert::Any;
 
 /// What a value prints.
 pub fn shown<T: Display + Drop>(alloc: Global, value: T) -> Result<String, Refusal> {
@@ -43,6 +45,33 @@ pub fn written_in<T: Encode + Drop>(
     outcome: Result<T, Error>,
 ) -> Result<String, Refusal> {
     written(alloc, &outcome?)
+}
+
+/// The value of a type that names its way, which octets spell by DER. What the way gives is then
+/// checked here, and not where the type is named.
+pub fn read<'a, T: Described + FixedTag + Drop>(alloc: Global, octets: &'a [u8]) -> Result<T, Error>
+where
+    T::By: DecodeWay<'a, SliceReader<'a>, T>,
+{
+    T::from_der(alloc, octets)
+}
+
+/// As `written`, of such a type.
+pub fn described<T: Described + FixedTag>(alloc: Global, value: &T) -> Result<String, Refusal> {
+    written(alloc, value)
+}
+
+/// As `written_in`, of such a type.
+pub fn described_in<T: Described + FixedTag + Drop>(
+    alloc: Global,
+    outcome: Result<T, Error>,
+) -> Result<String, Refusal> {
+    written(alloc, &outcome?)
+}
+
+/// The octets of any value, in hex.
+pub fn any_written(alloc: Global, value: &Any) -> Result<String, Refusal> {
+    written(alloc, value)
 }
 
 /// What is answered, or why nothing is.

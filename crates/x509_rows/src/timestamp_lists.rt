@@ -1,8 +1,7 @@
 //! Lists of timestamps.
 
 use crate::refusals::Refusal;
-use crate::shown::{Dashed, dashed_octets_of, written};
-use der_core::FromDer;
+use crate::shown::{Dashed, dashed_octets_of, described, read};
 use std::alloc::Global;
 use std::fmt::Write;
 use x509_cert::timestamps::{SerializedSct, SignedCertificateTimestampList, TlsError, TlsValue};
@@ -10,7 +9,7 @@ use x509_cert::timestamps::{SerializedSct, SignedCertificateTimestampList, TlsEr
 /// The octets of each timestamp of the list that octets spell.
 pub fn members_of(alloc: Global, octets: &str) -> Result<String, Refusal> {
     let octets = dashed_octets_of(alloc, octets)?;
-    let list = SignedCertificateTimestampList::from_der(alloc, octets.as_slice())?;
+    let list: SignedCertificateTimestampList = read(alloc, octets.as_slice())?;
     let members = list.parse_timestamps(alloc)?;
     members_in(alloc, members.as_slice())
 }
@@ -76,5 +75,5 @@ pub fn list_of(alloc: Global, members: &str) -> Result<String, Refusal> {
 /// What is written of the list of these timestamps.
 fn list_written(alloc: Global, timestamps: &[SerializedSct]) -> Result<String, Refusal> {
     let list = SignedCertificateTimestampList::new(alloc, timestamps)?;
-    written(alloc, &list)
+    described(alloc, &list)
 }

@@ -1,5 +1,6 @@
 //! Timestamps and their dates.
 
+use crate::answers::answer_of_type;
 use crate::refusals::Refusal;
 use crate::shown::{Dashed, shown};
 use crate::timestamp_lists::{list_of, list_read, member_of, members_of};
@@ -7,7 +8,7 @@ use crate::tls_values::{blank_timestamp, length_of, length_of_list};
 use std::alloc::Global;
 use x509_cert::timestamps::SignedCertificateTimestamp;
 
-/// The answer to a question about timestamps.
+/// The answer to a question about timestamps, or to one about a type.
 pub fn answer(alloc: Global, word: &str, rest: &str) -> Result<String, Refusal> {
     match word {
         "members" => members_of(alloc, rest),
@@ -16,7 +17,8 @@ pub fn answer(alloc: Global, word: &str, rest: &str) -> Result<String, Refusal> 
         "long" => length_of(alloc, rest),
         "long-list" => length_of_list(alloc, rest),
         "stamp" => parts_of(alloc, rest),
-        _ => date_of(alloc, rest),
+        "date" => date_of(alloc, rest),
+        _ => answer_of_type(alloc, word, rest),
     }
 }
 

@@ -4,6 +4,7 @@ use crate::refusals::Refusal;
 use crate::shown::{Dashed, dashed_octets_of, shown};
 use der_core::ToDer;
 use std::alloc::Global;
+use std::slice;
 use x509_cert::timestamps::{
     DigitallySigned, HashAlgorithm, LogId, SerializedSct, SignatureAlgorithm,
     SignatureAndHashAlgorithm, SignedCertificateTimestamp, SignedCertificateTimestampList,
@@ -45,7 +46,8 @@ pub fn length_of(alloc: Global, count: &str) -> Result<String, Refusal> {
 
 /// How many octets spell the list of one timestamp of so many octets.
 pub fn length_of_list(alloc: Global, count: &str) -> Result<String, Refusal> {
-    let list = SignedCertificateTimestampList::new(alloc, &[timestamp_of(alloc, count)?])?;
+    let timestamp = timestamp_of(alloc, count)?;
+    let list = SignedCertificateTimestampList::new(alloc, slice::from_ref(&timestamp))?;
     shown(alloc, list.to_der(alloc)?.len())
 }
 

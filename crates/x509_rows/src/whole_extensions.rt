@@ -3,7 +3,7 @@
 use crate::refusals::Refusal;
 use crate::shown::{octets_of, shown, written};
 use const_oid::AssociatedOid;
-use der_core::{Decode, Encode, Error, FromDer, SliceReader};
+use der_core::{Decode, Encode, Error, SliceReader};
 use std::alloc::Global;
 use x509_cert::{CertificateInner, KeyUsage, Raw, TbsCertificateInner};
 

@@ -1,7 +1,10 @@
 //! Strict sets that a program makes.
 
 use der_core::laws::in_range_is_spelled;
-use der_core::{Error, ErrorKind, FromDer, StrictSetOf, ToDer, encode_value_to_slice};
+use der_core::{
+    Decode, Error, ErrorKind, FromDer, Member, SliceReader, StrictSetOf, ToDer,
+    encode_value_to_slice,
+};
 use std::alloc::{AllocError, Global};
 use std::test::Fail;
 
@@ -20,9 +23,18 @@ fn pair(alloc: Global, values: [u8; 2]) -> Result<StrictSetOf<u8>, AllocError> {
     })
 }
 
+/// The set that octets spell. Its members are any here, and so what is asked of them is checked
+/// once.
+fn read<'a, T: Decode<'a, SliceReader<'a>> + Member>(
+    alloc: Global,
+    octets: &'a [u8],
+) -> Result<StrictSetOf<T>, Error> {
+    StrictSetOf::from_der(alloc, octets)
+}
+
 /// Whether octets are read as a set that equals this one.
 fn is_read(alloc: Global, set: &StrictSetOf<u8>, octets: &[u8]) -> Result<bool, Error> {
-    let again = StrictSetOf::<u8>::from_der(alloc, octets)?;
+    let again: StrictSetOf<u8> = read(alloc, octets)?;
     Ok(again.values.as_slice() == [1, 2].as_slice() && again == *set && again.clone()? == *set)
 }
 
