@@ -3,6 +3,7 @@
 # pkg-config, in a folder of their own.
 #
 #     calls/build.sh FOLDER              proves crates/cert_desk_c, and builds it
+#     calls/build.sh FOLDER --gate       over the libraries that `rt ci` left in crates/*/out
 #     calls/build.sh FOLDER --from FILE  takes an archive or an object that was built of it
 #
 # Nothing but the calls of wurstdrape.h is defined for others, and nothing but the C library's is
@@ -11,16 +12,32 @@ set -euo pipefail
 here=$(cd "$(dirname "$0")" && pwd)
 top=$(dirname "$here")
 kit=$(dirname "$(dirname "$(readlink -f "$(command -v rt)")")")
-[ $# = 1 ] || [ $# = 3 ] || { sed -n '2,9p' "$0"; exit 2; }
+case "$#${2:-}" in
+    1 | 2--gate | 3--from) ;;
+    *) sed -n '2,10p' "$0"; exit 2 ;;
+esac
 mkdir -p "$1"
 folder=$(cd "$1" && pwd)
 
-if [ $# = 3 ]; then
-    built=$3
-else
-    (cd "$top/crates/cert_desk_c" && rt lib)
-    built=$top/crates/cert_desk_c/out/libcert_desk_c.a
-fi
+# As `rt lib` does, which takes no library of the gate's: it wants those that it built itself.
+over_the_gate() {
+    local words=(--extern "std=$kit/rlibs/std.rlib" -L "dependency=$kit/rlibs") name
+    for name in $(sed -n 's/^cert_desk_c staticlib: *//p' "$top/crates.txt"); do
+        words+=(--extern "$name=$top/crates/$name/out/rlib/$name.rlib")
+    done
+    for name in "$top"/crates/*/out/rlib; do words+=(-L "dependency=$name"); done
+    cd "$top/crates/cert_desk_c" && mkdir -p out && "$kit/bin/rattle" build \
+        --crate-name cert_desk_c src/lib.rt --crate-type staticlib "${words[@]}" \
+        --antt-project "$kit/rattle/logic/antt-project.json" --logic-built "$kit/logic_built" \
+        --links cert_desk_c= --jobs 2 --toolchain "$kit/toolchain" -o out/libcert_desk_c.a
+}
+
+built=$top/crates/cert_desk_c/out/libcert_desk_c.a
+case "${2:-}" in
+    --from) built=$3 ;;
+    --gate) (over_the_gate) ;;
+    *) (cd "$top/crates/cert_desk_c" && rt lib) ;;
+esac
 
 # One object, of which only the calls are seen from outside.
 object=$folder/wurstdrape.o

@@ -106,6 +106,21 @@ typedef struct {
     uint64_t not_after;  /* the last second */
 } wd_validity;
 
+/* Where octets stand in those of the caller. */
+typedef struct {
+    size_t start; /* how many octets are before them */
+    size_t size;  /* how many they are */
+} wd_span;
+
+/* Where parts of a certificate stand in its octets (RFC 5280 4.1). */
+typedef struct {
+    wd_span signed_part;   /* what is signed, a TBSCertificate */
+    wd_span serial_number; /* its content octets, the highest first, in two's complement */
+    wd_span issuer;        /* the name in DER */
+    wd_span subject;       /* the name in DER */
+    wd_span public_key;    /* with its algorithm, a SubjectPublicKeyInfo */
+} wd_spans;
+
 /* Where a chain is refused, and by which rule; or where its octets have a fault, and of which
    kind. */
 typedef struct {
@@ -138,28 +153,26 @@ uint32_t wd_describe_list(const uint8_t *octets, size_t octets_len, bool json, u
 uint32_t wd_describe_request(const uint8_t *octets, size_t octets_len, bool json, uint8_t *out,
                              size_t out_len, size_t *size);
 
-/* Parts of a certificate, with the same statuses: the subject's and the issuer's name as text
-   (RFC 4514); the serial number's content octets, the highest first, in two's complement; and the
-   octets of the SubjectPublicKeyInfo. */
+/* The subject's and the issuer's name of a certificate as text (RFC 4514), with the same
+   statuses. */
 uint32_t wd_subject(const uint8_t *octets, size_t octets_len, uint8_t *out, size_t out_len,
                     size_t *size);
 uint32_t wd_issuer(const uint8_t *octets, size_t octets_len, uint8_t *out, size_t out_len,
                    size_t *size);
-uint32_t wd_serial_number(const uint8_t *octets, size_t octets_len, uint8_t *out, size_t out_len,
-                          size_t *size);
-uint32_t wd_public_key(const uint8_t *octets, size_t octets_len, uint8_t *out, size_t out_len,
-                       size_t *size);
+
+/* Where parts of a certificate stand in `octets`; nothing is copied: WD_DONE, WD_FAULTY,
+   WD_MEMORY. */
+uint32_t wd_parts(const uint8_t *octets, size_t octets_len, wd_spans *spans);
 
 /* The dates of a certificate: WD_DONE, WD_FAULTY, WD_MEMORY. */
 uint32_t wd_dates(const uint8_t *octets, size_t octets_len, wd_validity *dates);
 
-/* The content of a certificate's first extension of an identifier, which is given by its content
-   octets (wd_identifier_of_text makes them), and whether it is critical: WD_DONE, WD_FAULTY where
-   octets spell no certificate, WD_EMPTY where it has no such extension, WD_ARGUMENTS where the
-   identifier is none of up to 39 octets, WD_NO_ROOM, WD_MEMORY. */
+/* Where the content of a certificate's first extension of an identifier stands in `octets`, and
+   whether it is critical. The identifier is given by its content octets, which wd_identifier_of_text
+   makes. WD_DONE, WD_FAULTY where octets spell no certificate, WD_EMPTY where it has no such
+   extension, WD_ARGUMENTS where the identifier is none of up to 39 octets, WD_MEMORY. */
 uint32_t wd_extension(const uint8_t *octets, size_t octets_len, const uint8_t *identifier,
-                      size_t identifier_len, uint8_t *out, size_t out_len, size_t *size,
-                      bool *critical);
+                      size_t identifier_len, wd_span *span, bool *critical);
 
 /* The text of a name in DER (RFC 4514), and the DER of the name that a text spells: WD_DONE,
    WD_FAULTY where there is none, WD_NO_ROOM, WD_MEMORY. */

@@ -29,7 +29,13 @@ RENAMED = {"DEVICE": "NO_ROOM"}
 STATUSES = {f"WD_{name}" for name in (
     "DONE", "REFUSED", "FAULTY", "EMPTY", "ARGUMENTS", "NO_ROOM", "MEMORY"
 )}
-STRUCTS = {"WdFault": "wd_fault", "WdValidity": "wd_validity", "WdPlace": "wd_place"}
+STRUCTS = {
+    "WdFault": "wd_fault",
+    "WdValidity": "wd_validity",
+    "WdPlace": "wd_place",
+    "WdSpan": "wd_span",
+    "WdSpans": "wd_spans",
+}
 PLAIN = {"u32": "uint32_t", "u64": "uint64_t", "usize": "size_t", "bool": "bool"}
 
 
@@ -39,7 +45,7 @@ def constant(name):
 
 
 def lent(kind):
-    """The type in C of what is lent to be written."""
+    """The type in C of what is lent to be written, or of a field."""
     return PLAIN.get(kind) or STRUCTS[kind]
 
 
@@ -74,9 +80,10 @@ def structs_of_source():
     found = {}
     for file in sorted(CALLS.glob("*.rt")):
         text = re.sub(r"//.*", "", file.read_text())
-        for name, inside in re.findall(r"#\[repr\(C\)\]\s*pub struct (\w+) \{([^}]*)\}", text):
+        shape = r"#\[repr\(C\)\]\s*(?:#\[derive\([^)]*\)\]\s*)?pub struct (\w+) \{([^}]*)\}"
+        for name, inside in re.findall(shape, text):
             fields = re.findall(r"pub (\w+): (\w+)", inside)
-            found[STRUCTS[name]] = [f"{PLAIN[kind]} {field}" for field, kind in fields]
+            found[STRUCTS[name]] = [f"{lent(kind)} {field}" for field, kind in fields]
     return found
 
 

@@ -50,6 +50,29 @@ static void told(uint32_t status) {
     add(out, length);
 }
 
+/* the status, and the octets of each part */
+static wd_spans spans;
+static void told_spans(const data *of, uint32_t status) {
+    const wd_span each[] = {spans.signed_part, spans.serial_number, spans.issuer, spans.subject,
+                            spans.public_key};
+    add_number(status);
+    for (size_t i = 0; status == WD_DONE && i < sizeof each / sizeof *each; i++)
+        add(of->octets + each[i].start, each[i].size);
+}
+
+/* the status, and content and marking of id-ce-extKeyUsage */
+static void told_purposes(const data *of) {
+    static const uint8_t purposes[] = {0x55, 0x1d, 37};
+    wd_span span;
+    bool critical = false;
+    uint32_t status =
+        wd_extension(of->octets, of->length, purposes, sizeof purposes, &span, &critical);
+    add_number(status);
+    if (status != WD_DONE) return;
+    add(of->octets + span.start, span.size);
+    add_number(critical);
+}
+
 /* up to three octets that are others, and of each eighth a front */
 static void change(data *to, const data *from) {
     *to = *from;
@@ -84,7 +107,8 @@ int main(int count, char **words) {
             status = wd_is_certificate(it.octets, it.length, &fault);
             told(wd_show_certificate(it.octets, it.length, out, sizeof out, &length));
             told(wd_describe_certificate(it.octets, it.length, true, out, sizeof out, &length));
-            told(wd_public_key(it.octets, it.length, out, sizeof out, &length));
+            told_spans(&it, wd_parts(it.octets, it.length, &spans));
+            told_purposes(&it);
             break;
         case 1:
             change(&it, &list);

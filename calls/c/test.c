@@ -88,8 +88,6 @@ WRITES(describe_list, OF(list), false)
 WRITES(describe_request, OF(request), true)
 WRITES(subject, OF(server))
 WRITES(issuer, OF(server))
-WRITES(serial_number, OF(server))
-WRITES(public_key, OF(server))
 WRITES(name_of_text, (const uint8_t *)"CN=a,O=b", 8)
 WRITES(identifier_text, server_auth, sizeof server_auth)
 WRITES(identifier_of_text, (const uint8_t *)"1.3.6.1.5.5.7.3.1", 17)
@@ -100,11 +98,36 @@ static const uint8_t name[] = {0x30, 0x0c, 0x31, 0x0a, 0x30, 0x08, 0x06,
                                0x03, 0x55, 0x04, 0x03, 0x0c, 0x01, 0x61};
 WRITES(name_text, name, sizeof name)
 
-static uint32_t extension(uint8_t *out, size_t out_len, size_t *length) {
-    static const uint8_t purposes[] = {0x55, 0x1d, 37};
-    bool critical = false;
-    return wd_extension(OF(server), purposes, sizeof purposes, out, out_len, length, &critical);
+/* Each call that tells a value. */
+typedef uint32_t tells(void);
+static uint32_t is_certificate(void) {
+    wd_fault fault;
+    return wd_is_certificate(OF(server), &fault);
 }
+static uint32_t is_list(void) {
+    wd_fault fault;
+    return wd_is_list(OF(list), &fault);
+}
+static uint32_t is_request(void) {
+    wd_fault fault;
+    return wd_is_request(OF(request), &fault);
+}
+static uint32_t parts_of(void) {
+    wd_spans spans;
+    return wd_parts(OF(server), &spans);
+}
+static uint32_t dates(void) {
+    wd_validity told;
+    return wd_dates(OF(server), &told);
+}
+static uint32_t extension(void) {
+    static const uint8_t purposes[] = {0x55, 0x1d, 37};
+    wd_span span;
+    bool critical = false;
+    return wd_extension(OF(server), purposes, sizeof purposes, &span, &critical);
+}
+static tells *const tellers[] = {is_certificate, is_list, is_request, parts_of, dates, extension};
+#define TELLERS (sizeof tellers / sizeof *tellers)
 
 static const struct {
     const char *name;
@@ -118,14 +141,11 @@ static const struct {
     {"describe_request", describe_request},
     {"subject", subject},
     {"issuer", issuer},
-    {"serial_number", serial_number},
-    {"public_key", public_key},
     {"name_text", name_text},
     {"name_of_text", name_of_text},
     {"identifier_text", identifier_text},
     {"identifier_of_text", identifier_of_text},
     {"questions", questions},
-    {"extension", extension},
 };
 #define WRITERS (sizeof writers / sizeof *writers)
 
@@ -179,6 +199,24 @@ static void allocations(writes *call) {
     }
 #else
     (void)call;
+#endif
+}
+
+static void tellings(tells *call) {
+    CHECK(call() == WD_DONE);
+#ifdef WRAPPED
+    long before = held;
+    requests = 0;
+    CHECK(call() == WD_DONE && held == before);
+    long count = requests;
+    CHECK(count > 0);
+    for (long n = 1; n <= count; n++) {
+        requests = 0;
+        refused_request = n;
+        uint32_t status = call();
+        refused_request = 0;
+        CHECK(status == WD_MEMORY && held == before);
+    }
 #endif
 }
 
@@ -243,19 +281,31 @@ static void parts(void) {
     static uint8_t out[65536];
     size_t length;
     wd_validity dates;
+    wd_spans spans;
+    wd_span span;
     wd_fault fault;
     bool critical = false;
     CHECK(wd_dates(OF(server), &dates) == WD_DONE);
     CHECK(dates.not_before == 1767225600 && dates.not_after == 2082758400);
     CHECK(subject(out, sizeof out, &length) == WD_DONE);
     CHECK(length == 15 && memcmp(out, "CN=desk.example", 15) == 0);
+    /* where `openssl asn1parse` tells each */
+    CHECK(wd_parts(OF(server), &spans) == WD_DONE);
+    CHECK(spans.signed_part.start == 4 && spans.signed_part.size == 421);
+    CHECK(spans.serial_number.start == 15 && spans.serial_number.size == 20);
+    CHECK(spans.issuer.start == 47 && spans.issuer.size == 66);
+    CHECK(spans.subject.start == 145 && spans.subject.size == 25);
+    CHECK(spans.public_key.start == 170 && spans.public_key.size == 91);
+    CHECK(wd_parts(OF(list), &spans) == WD_FAULTY);
     static const uint8_t basic_constraints[] = {0x55, 0x1d, 19}, names[] = {0x55, 0x1d, 30};
-    CHECK(wd_extension(OF(server), basic_constraints, 3, out, sizeof out, &length, &critical) ==
-          WD_DONE);
-    CHECK(length == 2 && out[0] == 0x30 && out[1] == 0 && critical);
-    CHECK(wd_extension(OF(server), names, 3, out, sizeof out, &length, &critical) == WD_EMPTY);
-    CHECK(wd_extension(OF(server), names, 0, out, sizeof out, &length, &critical) == WD_ARGUMENTS);
-    CHECK(wd_extension(OF(list), names, 3, out, sizeof out, &length, &critical) == WD_FAULTY);
+    static const uint8_t purposes[] = {0x55, 0x1d, 37};
+    CHECK(wd_extension(OF(server), basic_constraints, 3, &span, &critical) == WD_DONE);
+    CHECK(span.start == 279 && span.size == 2 && critical);
+    CHECK(wd_extension(OF(server), purposes, 3, &span, &critical) == WD_DONE);
+    CHECK(span.start == 306 && span.size == 12 && !critical);
+    CHECK(wd_extension(OF(server), names, 3, &span, &critical) == WD_EMPTY);
+    CHECK(wd_extension(OF(server), names, 0, &span, &critical) == WD_ARGUMENTS);
+    CHECK(wd_extension(OF(list), names, 3, &span, &critical) == WD_FAULTY);
     CHECK(name_text(out, sizeof out, &length) == WD_DONE);
     CHECK(length == 4 && memcmp(out, "CN=a", 4) == 0);
     CHECK(wd_name_of_text((const uint8_t *)"CN=a", 4, out, sizeof out, &length) == WD_DONE);
@@ -322,6 +372,7 @@ int main(int count, char **words) {
         allocations(writers[i].call);
         if (failures != before) fprintf(stderr, "in %s\n", writers[i].name);
     }
+    for (size_t i = 0; i < TELLERS; i++) tellings(tellers[i]);
     threads();
     printf("%u checks, %u failed\n", checks, failures);
     return failures != 0;

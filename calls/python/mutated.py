@@ -15,6 +15,8 @@ TOP = pathlib.Path(__file__).resolve().parents[2]
 MASK = 2**64 - 1
 library = wurstdrape._library
 PURPOSE = bytes.fromhex("2b06010505070301")
+# id-ce-extKeyUsage
+PURPOSES = bytes.fromhex("551d25")
 
 
 class Changes:
@@ -68,6 +70,21 @@ def main():
         total.add_number(call(*lent, out, 1 << 20, ctypes.byref(length)))
         total.add(ctypes.string_at(out, length.value))
 
+    def told_parts(it):
+        spans, span, critical = wurstdrape._Spans(), wurstdrape._Span(), ctypes.c_bool()
+        lent = [it, len(it)]
+        status = library.wd_parts(*lent, ctypes.byref(spans))
+        total.add_number(status)
+        if status == 0:
+            for part in (getattr(spans, name) for name, _ in spans._fields_):
+                total.add(it[part.start : part.start + part.size])
+        found = [ctypes.byref(span), ctypes.byref(critical)]
+        status = library.wd_extension(*lent, PURPOSES, len(PURPOSES), *found)
+        total.add_number(status)
+        if status == 0:
+            total.add(it[span.start : span.start + span.size])
+            total.add_number(critical.value)
+
     for number in range(int(sys.argv[1])):
         fault, place = wurstdrape._Fault(), wurstdrape._Place()
         if number % 4 == 3:
@@ -84,7 +101,7 @@ def main():
             told(getattr(library, f"wd_show_{kind}"), it, len(it))
             told(getattr(library, f"wd_describe_{kind}"), it, len(it), True)
             if kind == "certificate":
-                told(library.wd_public_key, it, len(it))
+                told_parts(it)
         for value in (status, fault.kind, fault.octet, place.place, place.offset, place.number):
             total.add_number(value)
         done += status == 0

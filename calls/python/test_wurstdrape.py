@@ -65,10 +65,18 @@ class Parts(unittest.TestCase):
         self.assertEqual(wurstdrape.describe(self.der)["subject"]["text"], "CN=desk.example")
         self.assertIn("CN=desk.example", wurstdrape.describe_text(self.der))
 
-    def test_key(self):
-        # as it stands in the certificate
-        self.assertIn(wurstdrape.public_key(self.der), self.der)
-        self.assertEqual(wurstdrape.public_key(self.der)[:2], b"\x30\x59")
+    def test_parts(self):
+        # where `openssl asn1parse` tells each
+        parts = wurstdrape.parts(self.der)
+        self.assertEqual(parts.signed_part, self.der[4:425])
+        self.assertEqual(parts.serial_number, self.der[15:35])
+        self.assertEqual(parts.issuer, self.der[47:113])
+        self.assertEqual(parts.subject, self.der[145:170])
+        self.assertEqual(parts.public_key, self.der[170:261])
+        self.assertEqual(wurstdrape.public_key(self.der), self.der[170:261])
+        self.assertEqual(wurstdrape.name_text(parts.subject), wurstdrape.subject(self.der))
+        with self.assertRaises(Malformed):
+            wurstdrape.parts(self.der[:-1])
 
     def test_cut(self):
         self.assertIsNone(wurstdrape.fault_of(self.der))

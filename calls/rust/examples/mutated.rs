@@ -6,7 +6,7 @@
 use std::path::Path;
 use std::{env, fs};
 
-use wurstdrape::{Error, Kind, Result, Terms, Verdict, SERVER_AUTH};
+use wurstdrape::{Error, Extension, Kind, Parts, Result, Terms, Verdict, SERVER_AUTH};
 
 /// xorshift64 (Marsaglia 2003)
 struct Changes(u64);
@@ -59,6 +59,21 @@ impl Sum {
     }
 }
 
+impl Sum {
+    /// The status, and content and marking of id-ce-extKeyUsage.
+    fn add_purposes(&mut self, der: &[u8]) {
+        match wurstdrape::extension(der, &[0x55, 0x1d, 37]) {
+            Ok(Some(Extension { content, critical })) => {
+                self.add_number(0);
+                self.add(&der[content]);
+                self.add_number(critical.into());
+            }
+            Ok(None) => self.add_number(3),
+            Err(error) => self.add_number(status_of(error)),
+        }
+    }
+}
+
 fn status_of(error: Error) -> u64 {
     match error {
         Error::Faulty => 2,
@@ -66,6 +81,18 @@ fn status_of(error: Error) -> u64 {
         Error::Arguments => 4,
         Error::Memory => 6,
     }
+}
+
+/// The octets of each part, one behind the other.
+fn octets_of(der: &[u8], parts: Parts) -> Vec<u8> {
+    let Parts {
+        signed_part,
+        serial_number,
+        issuer,
+        subject,
+        public_key,
+    } = parts;
+    [signed_part, serial_number, issuer, subject, public_key].map(|span| &der[span]).concat()
 }
 
 /// Status, kind and octet of a fault, place, offset and number of a verdict.
@@ -127,7 +154,8 @@ fn main() {
                 sum.add_told(wurstdrape::show(&it, *kind));
                 sum.add_told(wurstdrape::describe(&it, *kind, true));
                 if *kind == Kind::Certificate {
-                    sum.add_told(wurstdrape::public_key(&it));
+                    sum.add_told(wurstdrape::parts(&it).map(|parts| octets_of(&it, parts)));
+                    sum.add_purposes(&it);
                 }
                 fault_of(&it, *kind)
             }

@@ -1,4 +1,4 @@
-//! The verdict on a chain, and what its last certificate says.
+//! What the first of some roots says, and the verdict on a chain under them.
 //!
 //!     cargo run --example verify ROOTS CHAIN ANSWERS MOMENT
 

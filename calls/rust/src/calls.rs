@@ -3,8 +3,11 @@
 //! A slice is never a null pointer in Rust, what is lent by `&mut` overlaps nothing else, and the
 //! octets behind a shared slice stay as they are: these are what `wurstdrape.h` asks of its caller.
 
+use std::ops::Range;
+
 use crate::{
-    ChainFault, Error, Extension, Fault, FaultKind, Kind, Result, Rule, Terms, Validity, Verdict,
+    ChainFault, Error, Extension, Fault, FaultKind, Kind, Parts, Result, Rule, Terms, Validity,
+    Verdict,
 };
 
 #[repr(C)]
@@ -19,6 +22,29 @@ struct WdFault {
 struct WdValidity {
     not_before: u64,
     not_after: u64,
+}
+
+#[repr(C)]
+#[derive(Default)]
+struct WdSpan {
+    start: usize,
+    size: usize,
+}
+
+impl WdSpan {
+    fn range(&self) -> Range<usize> {
+        self.start..self.start + self.size
+    }
+}
+
+#[repr(C)]
+#[derive(Default)]
+struct WdSpans {
+    signed_part: WdSpan,
+    serial_number: WdSpan,
+    issuer: WdSpan,
+    subject: WdSpan,
+    public_key: WdSpan,
 }
 
 #[repr(C)]
@@ -66,17 +92,14 @@ extern "C" {
     ) -> u32;
     fn wd_subject(o: *const u8, n: usize, out: *mut u8, m: usize, l: *mut usize) -> u32;
     fn wd_issuer(o: *const u8, n: usize, out: *mut u8, m: usize, l: *mut usize) -> u32;
-    fn wd_serial_number(o: *const u8, n: usize, out: *mut u8, m: usize, l: *mut usize) -> u32;
-    fn wd_public_key(o: *const u8, n: usize, out: *mut u8, m: usize, l: *mut usize) -> u32;
+    fn wd_parts(octets: *const u8, len: usize, spans: *mut WdSpans) -> u32;
     fn wd_dates(octets: *const u8, len: usize, dates: *mut WdValidity) -> u32;
     fn wd_extension(
         octets: *const u8,
         len: usize,
         identifier: *const u8,
         identifier_len: usize,
-        out: *mut u8,
-        out_len: usize,
-        size: *mut usize,
+        span: *mut WdSpan,
         critical: *mut bool,
     ) -> u32;
     fn wd_name_text(o: *const u8, n: usize, out: *mut u8, m: usize, l: *mut usize) -> u32;
@@ -209,12 +232,19 @@ pub fn issuer(der: &[u8]) -> Result<Vec<u8>> {
     written_of(wd_issuer, der)
 }
 
-pub fn serial_number(der: &[u8]) -> Result<Vec<u8>> {
-    written_of(wd_serial_number, der)
-}
-
-pub fn public_key(der: &[u8]) -> Result<Vec<u8>> {
-    written_of(wd_public_key, der)
+pub fn parts(der: &[u8]) -> Result<Parts> {
+    let mut told = WdSpans::default();
+    // SAFETY: the pointers are of a slice, and of a value, that are lent for the call.
+    match unsafe { wd_parts(der.as_ptr(), der.len(), &mut told) } {
+        DONE => Ok(Parts {
+            signed_part: told.signed_part.range(),
+            serial_number: told.serial_number.range(),
+            issuer: told.issuer.range(),
+            subject: told.subject.range(),
+            public_key: told.public_key.range(),
+        }),
+        status => Err(error_of(status)),
+    }
 }
 
 pub fn validity(der: &[u8]) -> Result<Validity> {
@@ -230,24 +260,25 @@ pub fn validity(der: &[u8]) -> Result<Validity> {
 }
 
 pub fn extension(der: &[u8], identifier: &[u8]) -> Result<Option<Extension>> {
-    let mut critical = false;
+    let (mut span, mut critical) = (WdSpan::default(), false);
     // SAFETY: the pointers are of slices, and of values, that are lent for the call.
-    let content = written(|out, length| unsafe {
+    let status = unsafe {
         wd_extension(
             der.as_ptr(),
             der.len(),
             identifier.as_ptr(),
             identifier.len(),
-            out.as_mut_ptr(),
-            out.len(),
-            length,
+            &mut span,
             &mut critical,
         )
-    });
-    match content {
-        Ok(content) => Ok(Some(Extension { content, critical })),
-        Err(Error::Empty) => Ok(None),
-        Err(error) => Err(error),
+    };
+    match status {
+        DONE => Ok(Some(Extension {
+            content: span.range(),
+            critical,
+        })),
+        EMPTY => Ok(None),
+        status => Err(error_of(status)),
     }
 }
 

@@ -8,6 +8,7 @@ mod calls;
 mod numbers;
 
 use std::fmt;
+use std::ops::Range;
 
 pub use numbers::{ChainFault, FaultKind, Rule};
 
@@ -75,11 +76,26 @@ pub struct Validity {
     pub not_after: u64,
 }
 
+/// Where parts of a certificate stand in its octets (RFC 5280 4.1).
+#[derive(Clone, Debug, PartialEq, Eq)]
+pub struct Parts {
+    /// What is signed, a TBSCertificate.
+    pub signed_part: Range<usize>,
+    /// The serial number's content octets, the highest first, in two's complement.
+    pub serial_number: Range<usize>,
+    /// The issuer's name in DER.
+    pub issuer: Range<usize>,
+    /// The subject's name in DER.
+    pub subject: Range<usize>,
+    /// The public key with its algorithm, a SubjectPublicKeyInfo.
+    pub public_key: Range<usize>,
+}
+
 /// An extension of a certificate.
 #[derive(Clone, Debug, PartialEq, Eq)]
 pub struct Extension {
-    /// Its content.
-    pub content: Vec<u8>,
+    /// Where its content stands in the certificate.
+    pub content: Range<usize>,
     /// Whether it is critical.
     pub critical: bool,
 }
@@ -163,20 +179,12 @@ pub fn issuer(der: &[u8]) -> Result<String> {
     calls::issuer(der).map(text)
 }
 
-/// The content octets of a certificate's serial number, the highest first, in two's complement.
+/// Where parts of a certificate stand in its octets. Nothing is copied.
 ///
 /// # Errors
 /// `Faulty` where octets spell none, `Memory`.
-pub fn serial_number(der: &[u8]) -> Result<Vec<u8>> {
-    calls::serial_number(der)
-}
-
-/// The SubjectPublicKeyInfo of a certificate (RFC 5280 4.1.2.7).
-///
-/// # Errors
-/// `Faulty` where octets spell none, `Memory`.
-pub fn public_key(der: &[u8]) -> Result<Vec<u8>> {
-    calls::public_key(der)
+pub fn parts(der: &[u8]) -> Result<Parts> {
+    calls::parts(der)
 }
 
 /// The dates of a certificate.

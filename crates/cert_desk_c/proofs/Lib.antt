@@ -1,1 +1,3 @@
 pub mod Judged
+pub mod PartPlaces
+pub mod ExtensionPlaces

@@ -2,3 +2,4 @@ pub mod Rooms
 pub mod FaultNumbers
 pub mod Values
 pub mod Judged
+pub mod Places

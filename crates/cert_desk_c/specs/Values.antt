@@ -8,15 +8,14 @@ use Rattle.const_oid.specs.IdentifierOctets.{IsIdentifier, identifier_octets}
 use Rattle.const_oid.specs.TextFaults.{IsDottedText}
 use Rattle.der_core_head.specs.declared.error.ErrorKind.{ErrorKind}
 use Rattle.der_core_head.specs.Grammar.{plain_list}
-use Rattle.der_core_head.specs.Integers.{integer_octets}
-use Rattle.der_core_head.specs.Shapes.{Spells, octets_of}
+use Rattle.der_core_head.specs.Shapes.{Spells}
 use Rattle.x509_cert_names.specs.Names.{PlainName, name}
 use Rattle.x509_cert_names.specs.NameTexts.{ReadsEncoding, ReadsName}
 use Rattle.x509_cert_names.specs.Pairs.{relative_plain}
 use Rattle.x509_cert_names.specs.PlainTexts.{name_text}
-use Rattle.x509_cert_parts.specs.Grammar.{PlainExtension, extension_arcs, public_key_info}
+use Rattle.x509_cert_parts.specs.Grammar.{PlainExtension, extension_arcs}
 use Rattle.x509_cert_certificates.specs.Certificates.{PlainCertificate, raw_certificate}
-use Rattle.x509_cert_certificates.specs.Certificates.{tbs, tbs_serial, issuer, subject, public_key}
+use Rattle.x509_cert_certificates.specs.Certificates.{issuer, subject}
 use Rattle.x509_cert_lists.specs.Grammar.{cert_req}
 use Rattle.cert_desk_listing.specs.Parts.{PlainList, PlainRequest, raw_certificate_list}
 
@@ -38,22 +37,12 @@ abbrev pub IsOfCertificate : List ℕ → (PlainCertificate → Type 0) → Type
 IsOfCertificate octets Is =
     (c : PlainCertificate) × Spells (raw_certificate Bound) c octets × Is c
 
--- The octets spell a certificate; of it these are the text of the subject's name, the text of the
--- issuer's, the serial number's content octets (X.690 8.3), and the octets of the public key with
--- its algorithm (RFC 5280 4.1.2.7).
+-- The octets spell a certificate, and this is the text of its subject's name, of its issuer's.
 abbrev pub IsSubjectText : List ℕ → List ℕ → Type 0
 IsSubjectText octets text = IsOfCertificate octets (λ c. text ≡ name_text (subject c))
 
 abbrev pub IsIssuerText : List ℕ → List ℕ → Type 0
 IsIssuerText octets text = IsOfCertificate octets (λ c. text ≡ name_text (issuer c))
-
-abbrev pub IsSerialNumber : List ℕ → List ℕ → Type 0
-IsSerialNumber octets number =
-    IsOfCertificate octets (λ c. number ≡ integer_octets (tbs_serial (tbs c)))
-
-abbrev pub IsPublicKey : List ℕ → List ℕ → Type 0
-IsPublicKey octets key =
-    IsOfCertificate octets (λ c. key ≡ octets_of (public_key_info Bound) (public_key c))
 
 -- the first extension of an identifier
 abbrev pub first_extension : List ℕ → List PlainExtension → Option PlainExtension

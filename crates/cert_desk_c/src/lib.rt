@@ -10,12 +10,14 @@
 
 mod certificates;
 mod describing;
+mod extensions;
 mod faults;
 mod identifiers;
 mod judging;
 mod listings;
 mod names;
 mod numbers;
+mod places;
 mod questions;
 mod reading;
 mod rooms;

@@ -29,6 +29,7 @@ __all__ = [
     "Kind",
     "LIMIT",
     "Malformed",
+    "Parts",
     "Rule",
     "SERVER_AUTH",
     "Status",
@@ -44,6 +45,7 @@ __all__ = [
     "judge",
     "name_of_text",
     "name_text",
+    "parts",
     "public_key",
     "questions",
     "serial_number",
@@ -172,6 +174,21 @@ class Validity:
 
 
 @dataclasses.dataclass(frozen=True)
+class Parts:
+    """Parts of a certificate (RFC 5280 4.1), as they stand in its octets: nothing is copied."""
+
+    # What is signed, a TBSCertificate.
+    signed_part: memoryview
+    # The content octets, the highest first, in two's complement.
+    serial_number: memoryview
+    # Names in DER.
+    issuer: memoryview
+    subject: memoryview
+    # With its algorithm, a SubjectPublicKeyInfo.
+    public_key: memoryview
+
+
+@dataclasses.dataclass(frozen=True)
 class Verdict:
     """The verdict on a chain."""
 
@@ -197,6 +214,14 @@ class _Validity(ctypes.Structure):
     _fields_ = [("not_before", ctypes.c_uint64), ("not_after", ctypes.c_uint64)]
 
 
+class _Span(ctypes.Structure):
+    _fields_ = [("start", ctypes.c_size_t), ("size", ctypes.c_size_t)]
+
+
+class _Spans(ctypes.Structure):
+    _fields_ = [(part.name, _Span) for part in dataclasses.fields(Parts)]
+
+
 class _Place(ctypes.Structure):
     _fields_ = [(name, ctypes.c_uint64) for name in ("place", "offset", "number")]
 
@@ -206,13 +231,12 @@ _OUT = [ctypes.c_char_p, ctypes.c_size_t, ctypes.POINTER(ctypes.c_size_t)]
 _CALLS = {
     "wd_subject": _IN + _OUT,
     "wd_issuer": _IN + _OUT,
-    "wd_serial_number": _IN + _OUT,
-    "wd_public_key": _IN + _OUT,
+    "wd_parts": _IN + [ctypes.POINTER(_Spans)],
     "wd_name_text": _IN + _OUT,
     "wd_name_of_text": _IN + _OUT,
     "wd_identifier_text": _IN + _OUT,
     "wd_identifier_of_text": _IN + _OUT,
-    "wd_extension": _IN + _IN + _OUT + [ctypes.POINTER(ctypes.c_bool)],
+    "wd_extension": _IN + _IN + [ctypes.POINTER(_Span), ctypes.POINTER(ctypes.c_bool)],
     "wd_dates": _IN + [ctypes.POINTER(_Validity)],
     "wd_questions": _IN + _IN + [ctypes.c_uint32] + _OUT,
     "wd_verify": _IN * 3
@@ -246,20 +270,20 @@ def _lent(octets: Octets) -> list:
     return [octets, len(octets)]
 
 
-def _written(call, *before, behind=()) -> tuple[Status, bytes]:
+def _written(call, *before) -> tuple[Status, bytes]:
     """What a call writes: again, where it wants more room."""
     room, length = _ROOM, ctypes.c_size_t()
     while True:
         out = ctypes.create_string_buffer(room)
-        status = Status(call(*before, out, room, ctypes.byref(length), *behind))
+        status = Status(call(*before, out, room, ctypes.byref(length)))
         if status is not Status.NO_ROOM:
             return status, ctypes.string_at(out, length.value)
         room = length.value
 
 
-def _given(what: str, call, *before, behind=()) -> bytes:
+def _given(what: str, call, *before) -> bytes:
     """What a call writes, or why it doesn't."""
-    status, octets = _written(call, *before, behind=behind)
+    status, octets = _written(call, *before)
     _raise_unless_done(what, status)
     return octets
 
@@ -319,24 +343,38 @@ def issuer(der: Octets) -> str:
     return _of(der, Kind.CERTIFICATE, _library.wd_issuer).decode()
 
 
+def _told(der: Octets, call, told):
+    """What a call tells of a certificate."""
+    status = Status(call(*_lent(der), ctypes.byref(told)))
+    if status is Status.FAULTY:
+        raise Malformed(Kind.CERTIFICATE.value, fault_of(der))
+    _raise_unless_done(Kind.CERTIFICATE.value, status)
+    return told
+
+
+def _at(der: Octets, span: _Span) -> memoryview:
+    return memoryview(der)[span.start : span.start + span.size]
+
+
+def parts(der: Octets) -> Parts:
+    """Parts, as they stand in the certificate."""
+    spans = _told(der, _library.wd_parts, _Spans())
+    return Parts(**{name: _at(der, getattr(spans, name)) for name, _ in spans._fields_})
+
+
 def serial_number(der: Octets) -> int:
     """The serial number."""
-    octets = _of(der, Kind.CERTIFICATE, _library.wd_serial_number)
-    return int.from_bytes(octets, "big", signed=True)
+    return int.from_bytes(parts(der).serial_number, "big", signed=True)
 
 
 def public_key(der: Octets) -> bytes:
     """The SubjectPublicKeyInfo (RFC 5280 4.1.2.7)."""
-    return _of(der, Kind.CERTIFICATE, _library.wd_public_key)
+    return bytes(parts(der).public_key)
 
 
 def validity(der: Octets) -> Validity:
     """The first and the last second."""
-    told = _Validity()
-    status = Status(_library.wd_dates(*_lent(der), ctypes.byref(told)))
-    if status is Status.FAULTY:
-        raise Malformed(Kind.CERTIFICATE.value, fault_of(der))
-    _raise_unless_done(Kind.CERTIFICATE.value, status)
+    told = _told(der, _library.wd_dates, _Validity())
     zone = datetime.timezone.utc
     return Validity(
         datetime.datetime.fromtimestamp(told.not_before, zone),
@@ -344,22 +382,18 @@ def validity(der: Octets) -> Validity:
     )
 
 
-def extension(der: Octets, identifier: str) -> tuple[bytes, bool] | None:
-    """The content of the first extension of an identifier, as `2.5.29.19`, and whether it is
-    critical; None where there is none."""
-    critical = ctypes.c_bool()
-    status, content = _written(
-        _library.wd_extension,
-        *_lent(der),
-        *_lent(identifier_of_text(identifier)),
-        behind=[ctypes.byref(critical)],
-    )
+def extension(der: Octets, identifier: str) -> tuple[memoryview, bool] | None:
+    """The content of the first extension of an identifier, as `2.5.29.19`, as it stands in the
+    certificate, and whether it is critical; None where there is none."""
+    span, critical = _Span(), ctypes.c_bool()
+    lent = [*_lent(der), *_lent(identifier_of_text(identifier))]
+    status = Status(_library.wd_extension(*lent, ctypes.byref(span), ctypes.byref(critical)))
     if status is Status.EMPTY:
         return None
     if status is Status.FAULTY:
         raise Malformed(Kind.CERTIFICATE.value, fault_of(der))
     _raise_unless_done(Kind.CERTIFICATE.value, status)
-    return content, critical.value
+    return _at(der, span), critical.value
 
 
 def name_text(der: Octets) -> str:

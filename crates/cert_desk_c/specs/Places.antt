@@ -1,0 +1,79 @@
+-- Where parts of a certificate stand in its octets.
+use Rattle.std.specs.Prelude.{◌≡◌, ℕ, List, ◌++◌, length, Bool, Option, Some, None, ⊤}
+use Rattle.const_oid.specs.Bound.{Bound}
+use Rattle.der_core_head.specs.declared.tag.Tag.{Tag}
+use Rattle.der_core_head.specs.Integers.{integer_octets}
+use Rattle.der_core_head.specs.Shapes.{Content, Body, BodyValue, ContentValue, tagged, field}
+use Rattle.der_core_head.specs.Shapes.{octets_of, contents, body_octets, IsValid, IsBody}
+use Rattle.x509_cert_names.specs.Names.{name}
+use Rattle.x509_cert_parts.specs.Grammar.{PlainExtension, algorithm_identifier, extension_octets}
+use Rattle.x509_cert_parts.specs.Grammar.{is_critical, public_key_info, serial_number}
+use Rattle.x509_cert_certificates.specs.Certificates.{PlainCertificate, Tbs, from_validity, issuer}
+use Rattle.x509_cert_certificates.specs.Certificates.{optional_fields, public_key, subject, tbs}
+use Rattle.x509_cert_certificates.specs.Certificates.{raw_tbs_certificate, raw_tbs_fields}
+use Rattle.x509_cert_certificates.specs.Certificates.{tbs_serial}
+use Rattle.cert_desk_c.specs.declared.places.WdSpan.{WdSpan}
+use Rattle.cert_desk_c.specs.declared.places.WdSpans.{WdSpans}
+
+-- These octets stand at the span: so many others are before them, and so many they are.
+abbrev pub StandsAt : List ℕ → WdSpan → List ℕ → Type 0
+StandsAt octets span these = (before : List ℕ) × (behind : List ℕ)
+    × (octets ≡ before ++ (these ++ behind))
+    × (span.start ≡ length before) × (span.size ≡ length these)
+
+-- Parts of a certificate stand at these spans: the signed part, the serial number's content octets
+-- (X.690 8.3), the names, and the public key with its algorithm (RFC 5280 4.1.2.7).
+pub record ArePlaced (octets : List ℕ) (c : PlainCertificate) (spans : WdSpans) : Type 0 where
+  pub signed_part : StandsAt octets spans.signed_part
+      (octets_of (raw_tbs_certificate Bound) (tbs c))
+  pub serial_number : StandsAt octets spans.serial_number (integer_octets (tbs_serial (tbs c)))
+  pub issuer : StandsAt octets spans.issuer (octets_of (name Bound) (issuer c))
+  pub subject : StandsAt octets spans.subject (octets_of (name Bound) (subject c))
+  pub public_key : StandsAt octets spans.public_key
+      (octets_of (public_key_info Bound) (public_key c))
+
+-- others end with these
+abbrev pub IsRest : List ℕ → List ℕ → Type 0
+IsRest octets rest = (before : List ℕ) × (octets ≡ before ++ rest)
+
+-- What stands behind the header at the front.
+abbrev pub Enters : List ℕ → List ℕ → Type 0
+Enters octets rest = IsRest octets rest
+    × ((t : Tag) (k : Content) (v : ContentValue k) (w : List ℕ) → IsValid (tagged t k) v
+    → octets ≡ octets_of (tagged t k) v ++ w → rest ≡ contents k v ++ w)
+
+-- What stands behind the value at the front, the first field of a body.
+abbrev pub Passes : List ℕ → List ℕ → Type 0
+Passes octets rest = IsRest octets rest
+    × ((t : Tag) (k : Content) (b : Body) (v : BodyValue (field (tagged t k) b)) (w : List ℕ)
+    → IsBody (field (tagged t k) b) v → octets ≡ body_octets (field (tagged t k) b) v ++ w
+    → rest ≡ body_octets b v.1 ++ w)
+
+-- the fields of a signed part from the serial number on
+abbrev pub numbered_fields : Body
+numbered_fields = field (serial_number None) (field (algorithm_identifier Bound)
+    (field (name Bound) (from_validity Bound)))
+
+-- What stands behind the version at the front of a signed part's fields.
+abbrev pub PassesVersion : List ℕ → List ℕ → Type 0
+PassesVersion octets rest = IsRest octets rest
+    × ((t : Tbs) (w : List ℕ) → IsBody (raw_tbs_fields Bound) t
+    → octets ≡ body_octets (raw_tbs_fields Bound) t ++ w
+    → rest ≡ body_octets numbered_fields t.1 ++ w)
+
+-- the fields of a signed part behind the public key
+abbrev pub behind_key : Tbs → BodyValue (optional_fields 0)
+behind_key t = t.1.1.1.1.1.1.1
+
+-- What stands behind the public key.
+abbrev pub IsBehindKey : List ℕ → PlainCertificate → List ℕ → Type 0
+IsBehindKey octets c rest = IsRest octets rest
+    × ((w : List ℕ) × (rest ≡ body_octets (optional_fields Bound) (behind_key (tbs c)) ++ w))
+
+-- Where the content stands of an extension, if there is one, and whether it is critical.
+abbrev pub IsFound : List ℕ → Option PlainExtension → Option (WdSpan × Bool) → Type 0
+IsFound octets None None = ⊤
+IsFound octets (Some e) (Some found) =
+    StandsAt octets found.0 (extension_octets e) × (found.1 ≡ is_critical e)
+IsFound octets None (Some found) = ⊥
+IsFound octets (Some e) None = ⊥

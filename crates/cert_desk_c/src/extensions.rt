@@ -1,0 +1,124 @@
+//! Extensions of certificates.
+ghost use Rattle.std.specs.Prelude.{◌≡◌, ◌++◌, ℕ, List, Some, None};
+ghost use Rattle.const_oid.specs.Bound.{Bound};
+ghost use Rattle.const_oid.specs.IdentifierOctets.{identifier_octets};
+ghost use Rattle.der_core_head.specs.Shapes.{Spells, many, octets_of, body_octets, IsValid, IsBody};
+ghost use Rattle.x509_cert_parts.specs.Grammar.{PlainExtension, extension, extension_octets};
+ghost use Rattle.x509_cert_parts.specs.Grammar.{is_critical};
+ghost use Rattle.x509_cert_parts.specs.Views.{extensions_plain};
+ghost use Rattle.x509_cert_certificates.specs.Certificates.{extensions_of, raw_certificate};
+ghost use Rattle.x509_cert_certificates.specs.Views.{certificate_plain};
+ghost use Rattle.cert_desk_io.specs.declared.exit_status.ExitStatus.TheVariants.{Done, Empty};
+ghost use Rattle.cert_desk_io.specs.declared.exit_status.ExitStatus.TheVariants.{Faulty};
+ghost use Rattle.cert_desk_io.specs.Statuses.{code_of};
+ghost use Rattle.cert_desk_c.specs.Places.{IsFound, IsRest, StandsAt};
+ghost use Rattle.cert_desk_c.specs.Values.{IsNoCertificate, IsOfCertificate, first_extension};
+
+use crate::places::{WdSpan, behind, behind_where, inside, part, parts_in};
+use crate::reading::certificate_of;
+use crate::rooms::code;
+use cert_desk_io::ExitStatus;
+use const_oid::ObjectIdentifier;
+use std::alloc::Global;
+use x509_cert_certificates::CertificateInner;
+use x509_cert_parts::{Extension, Raw};
+
+// Where the content of the extension stands with which a rest of octets begins.
+fn content_in(octets: &[u8], rest: &[u8], critical: bool) -> WdSpan
+    ensures { (e : PlainExtension) (w : List ℕ) → IsRest octets.now rest.now
+        → IsValid (extension Bound) e → rest.now ≡ octets_of (extension Bound) e ++ w
+        → critical ≡ is_critical e → StandsAt octets.now result (extension_octets e) }
+{
+    let fields = inside(rest);
+    let marking = behind(fields);
+    let value = behind_where(marking, critical);
+    let content = inside(value);
+    let end = behind(value);
+    part(octets, content, end)
+}
+
+// Where the content stands of the first extension of an identifier among those with which a rest of
+// octets begins, and whether it is critical; if there is one.
+fn extension_in(
+    octets: &[u8],
+    identifier: &ObjectIdentifier<39>,
+    extensions: &[Extension],
+    rest: &[u8],
+) -> Option<(WdSpan, bool)>
+    ensures { (w : List ℕ) → IsRest octets.now rest.now
+        → IsBody (many (extension Bound)) (extensions_plain extensions.now)
+        → rest.now ≡ body_octets (many (extension Bound)) (extensions_plain extensions.now) ++ w
+        → IsFound octets.now
+        (first_extension identifier.now (extensions_plain extensions.now)) result }
+{
+    let [first, left @ ..] = extensions else {
+        return None;
+    };
+    if first.extn_id == *identifier {
+        let content = content_in(octets, rest, first.critical);
+        return Some((content, first.critical));
+    }
+    extension_in(octets, identifier, left, behind(rest))
+}
+
+// Where the content stands of a certificate's first extension of an identifier in the octets that
+// spell it, and whether it is critical; if there is one.
+fn extension_of(
+    octets: &[u8],
+    identifier: &ObjectIdentifier<39>,
+    certificate: &CertificateInner<Raw>,
+) -> Option<(WdSpan, bool)>
+    ensures { Spells (raw_certificate Bound) (certificate_plain certificate.now) octets.now
+        → IsFound octets.now
+        (first_extension identifier.now (extensions_of (certificate_plain certificate.now)))
+        result }
+{
+    let tbs = certificate.tbs_certificate();
+    let Some(extensions) = tbs.extensions() else {
+        return None;
+    };
+    let (_, ids) = parts_in(octets);
+    let subject_id = behind_where(ids, tbs.issuer_unique_id().is_some());
+    let field = behind_where(subject_id, tbs.subject_unique_id().is_some());
+    let list = inside(field);
+    let rest = inside(list);
+    extension_in(octets, identifier, extensions.as_slice(), rest)
+}
+
+/// Where the content stands, in a certificate's octets, of its first extension of an identifier,
+/// whose content octets are given, and whether it is critical: 0 where that is told, 2 where octets
+/// spell no certificate, 3 where it has no such extension, 4 where the identifier is none of up to
+/// 39 octets, 6 where there is no memory.
+#[unsafe(no_mangle)]
+pub extern "C" fn wd_extension(
+    alloc: Global,
+    octets: &[u8],
+    identifier: &[u8],
+    span: &mut WdSpan,
+    critical: &mut bool,
+) -> u32
+    ensures done { result ≡ code_of Done → (arcs : List ℕ)
+        × (identifier.now ≡ identifier_octets arcs)
+        × IsOfCertificate octets.now (λ c. (e : PlainExtension)
+        × (first_extension arcs (extensions_of c) ≡ Some e)
+        × StandsAt octets.now span.new (extension_octets e)
+        × (critical.new ≡ is_critical e)) }
+    ensures absent { result ≡ code_of Empty → (arcs : List ℕ)
+        × (identifier.now ≡ identifier_octets arcs)
+        × IsOfCertificate octets.now (λ c. first_extension arcs (extensions_of c) ≡ None) }
+    ensures not_spelled { result ≡ code_of Faulty → IsNoCertificate octets.now }
+{
+    let Ok(identifier) = ObjectIdentifier::<39>::from_bytes(identifier) else {
+        return code(ExitStatus::Arguments);
+    };
+    let certificate = match certificate_of(alloc, octets) {
+        Ok(certificate) => certificate,
+        Err(status) => return code(status),
+    };
+    let Some((content, is_critical)) = extension_of(octets, &identifier, &certificate) else {
+        return code(ExitStatus::Empty);
+    };
+    *span = content;
+    *critical = is_critical;
+    code(ExitStatus::Done)
+}
