@@ -11,6 +11,7 @@ here=$(cd "$(dirname "$0")" && pwd)
 top=$(dirname "$here")
 [ $# -ge 1 ] || { sed -n '2,9p' "$0"; exit 2; }
 folder=$(cd "$1" && pwd) || exit 2
+cd "$top" || exit 2
 count=${2:-100000}
 work=$(mktemp -d)
 trap 'rm -rf "$work"' EXIT

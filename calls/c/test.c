@@ -289,6 +289,9 @@ static void parts(void) {
     CHECK(dates.not_before == 1767225600 && dates.not_after == 2082758400);
     CHECK(subject(out, sizeof out, &length) == WD_DONE);
     CHECK(length == 15 && memcmp(out, "CN=desk.example", 15) == 0);
+    static const char desk[] = "CN=Desk Intermediate,O=Desk Example,C=US";
+    CHECK(issuer(out, sizeof out, &length) == WD_DONE);
+    CHECK(length == strlen(desk) && memcmp(out, desk, length) == 0);
     /* where `openssl asn1parse` tells each */
     CHECK(wd_parts(OF(server), &spans) == WD_DONE);
     CHECK(spans.signed_part.start == 4 && spans.signed_part.size == 421);
@@ -323,6 +326,11 @@ static void parts(void) {
     CHECK(wd_is_certificate(server.octets, server.length - 1, &fault) == WD_FAULTY);
     CHECK(fault.kind == WD_FAULT_INCOMPLETE);
     CHECK(wd_is_certificate(server.octets, 0, &fault) == WD_FAULTY);
+    static data longer;
+    longer = server;
+    longer.octets[longer.length++] = 0;
+    CHECK(wd_is_certificate(OF(longer), &fault) == WD_FAULTY);
+    CHECK(fault.kind == WD_FAULT_TRAILING_DATA && fault.octet == server.length);
     CHECK(wd_show_certificate(OF(list), out, sizeof out, &length) == WD_FAULTY && length == 0);
 }
 

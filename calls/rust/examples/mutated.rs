@@ -92,7 +92,9 @@ fn octets_of(der: &[u8], parts: Parts) -> Vec<u8> {
         subject,
         public_key,
     } = parts;
-    [signed_part, serial_number, issuer, subject, public_key].map(|span| &der[span]).concat()
+    [signed_part, serial_number, issuer, subject, public_key]
+        .map(|span| &der[span])
+        .concat()
 }
 
 /// Status, kind and octet of a fault, place, offset and number of a verdict.
