@@ -22,7 +22,7 @@ import sources  # noqa: E402
 
 TABLE = HERE / "gate.txt"
 HEAD = re.compile(r"(\S+), (\d+) processors: (\d+) passed, 0 failed")
-TOOK = re.compile(r"(\d+) minutes, ([\d.]+) processor minutes")
+TOOK = re.compile(r".*?([\d.]+) processor minutes")
 WORDS = {1: "one processor", 2: "two processors", 4: "four processors"}
 
 
@@ -55,7 +55,7 @@ def figures():
     lines = TABLE.read_text().splitlines()
     version, kit = re.match(r"(\S+), kit (\S+)$", lines[0]).groups()
     day, processors, passed = HEAD.match(lines[1]).groups()
-    took, spent = TOOK.match(lines[2]).groups()
+    spent = f"{float(TOOK.match(lines[2])[1]):.0f}"
     minutes = table_of(lines)
 
     def first(name):
@@ -63,16 +63,16 @@ def figures():
         return f"{sum(proofs):.0f}"
 
     yield "README.md", r"# else (\S+) minutes of processor more", [first("cert_desk")]
-    yield "README.md", r"`N passed, 0 failed`;\s(\S+)\stook\s(\S+)\sminutes", [version, took]
+    yield "README.md", r"`N passed, 0 failed`;\s(\S+)\stook\s(\S+)\sminutes", [version, spent]
     for name in ("const_oid", "der_core", "der_types", "x509_cert", "cert_desk"):
         yield "docs/GUIDE.md", rf"(?m)^\| [^|]+ \| `{name}` \| [^|]+ \| (\S+) \|$", [first(name)]
     told = r"in\sminutes\sof\sprocessor\s\((\S+),\s([\d-]+)\)"
     yield "docs/GUIDE.md", told, [version, day]
     told = (r"Of\s(\S+)'s\scrates\son\s(\S+),\sfrom\snothing,\swith\skit\s(\S+)\son\s(\w+\s\w+):\s"
-            r"(\S+)\spassed,\s(\S+)\sminutes,\s(\S+)\sof\sprocessor,\s(\S+)\sfor\sthe\slongest")
+            r"(\S+)\spassed,\s(\S+)\sminutes\sof\sprocessor,\s(\S+)\sfor\sthe\slongest")
     yield "docs/DESIGN.md", told, [
-        version, day, kit, WORDS.get(int(processors), f"{processors} processors"), passed, took,
-        f"{float(spent):.0f}", f"{longest(minutes):.0f}",
+        version, day, kit, WORDS.get(int(processors), f"{processors} processors"), passed, spent,
+        f"{longest(minutes):.0f}",
     ]
 
 

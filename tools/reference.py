@@ -91,7 +91,7 @@ def inline(text):
 def summary(text):
     """The first sentence of a comment, or what stands before its colon, as HTML."""
     first = re.split(r"(?<=[.:])\s", text.strip() + " ", maxsplit=1)[0].split("\n\n")[0]
-    return inline(first.removesuffix(":"))
+    return inline(re.sub(r"[.:]$", "", first))
 
 
 def head_of(lines, mark):

@@ -47,6 +47,10 @@ const [names, done] = arguments;
   done([links.length, lost.map((it) => it.join(": "))]);
 })();
 """
+# the first names that are shown
+SHOWN = """
+return [...document.querySelectorAll("#names a")].filter((it) => it.offsetParent).slice(0, 5);
+"""
 
 
 class Quiet(http.server.SimpleHTTPRequestHandler):
@@ -82,7 +86,7 @@ class Tried:
         names = sorted(path.name for path in self.folder.glob("*.html"))
         count, lost = self.browser.execute_async_script(LINKS, names)
         self.faults += [f"{it} leads nowhere" for it in lost]
-        print(f"{len(names)} pages, {count} links")
+        print(f"{len(names)} pages, {count} links, {len(lost)} lead nowhere", flush=True)
 
     def search(self):
         for text, wanted in (
@@ -93,9 +97,8 @@ class Tried:
             box = self.browser.find_element(By.NAME, "q")
             box.send_keys(text)
             box.submit()
-            found = [it for it in self.browser.find_elements(By.CSS_SELECTOR, "#names a")
-                     if it.is_displayed()]
-            first = [it.text for it in found[:5]]
+            found = self.browser.execute_script(SHOWN)
+            first = [it.text for it in found]
             self.see(wanted in first, f"search for {text} finds {first} first")
             if wanted in first:
                 found[first.index(wanted)].click()
