@@ -28,6 +28,11 @@ HEADER = re.compile(r"(?:unsafe )?(?:impl\b|(?:pub(?:\(\w+\))? )?trait\b)")
 FUNCTION = re.compile(r"( *)(?:pub(?:\(\w+\))? )?(?:final )?(?:const )?(?:unsafe )?fn (\w+)")
 # What a proof file says whose names an edit took away, which tells nothing of the contract.
 NAMES = re.compile(r".*(has no field|is not in scope|has no `|was not admitted|\(nearest: )")
+FAULT = re.compile(r"(?:\./)?(?:src|specs|proofs)/\S+?:\d+:\d+: error: ")
+# What isn't proved by itself, and not since what it calls isn't.
+UNPROVED = re.compile(
+    r"(?:fn|impl|struct|enum|trait) \w+::(?P<path>\S+): (?:not proved|no proof)(?!.* it calls )"
+)
 
 
 def crate_of(edit):
@@ -176,6 +181,13 @@ def goals_left(copy, told):
     return goals
 
 
+def unproved(told):
+    """What isn't proved though no goal of a function tells it: an `impl` that states a law, or a
+    law whose proof cites a lemma that is false."""
+    faults = any(FAULT.match(line) and not NAMES.match(line) for line in told)
+    return [it["path"] for it in map(UNPROVED.match, told) if it and faults]
+
+
 def clause_of(path, left):
     """What refuses an edit, by the goals that a function leaves: its clause, or a call's."""
     *around, name = path.split("::")
@@ -216,7 +228,8 @@ class Trial:
         ran = subprocess.run([*self.words, *only], cwd=self.copy, text=True, capture_output=True)
         told = (ran.stdout + ran.stderr).splitlines()
         if any(line.startswith("fn ") for line in told):
-            return goals_left(self.copy, told), None
+            goals = goals_left(self.copy, told)
+            return goals or {path: [] for path in unproved(told)}, None
         return {}, next((line for line in told if "error" in line), "nothing was said")
 
     def together(self, edits):

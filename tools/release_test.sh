@@ -33,23 +33,29 @@ mkdir "$work/empty"
 touch "$work/empty/crates.txt"
 (cd "$release" && find . -type f | sed 's,^\./,,') | while read -r file; do
     rm -rf "$work/changed"
-    cp -rl "$release" "$work/changed"
+    cp -rl "$release" "$work/changed" 2>/dev/null || cp -r "$release/." "$work/changed"
     change "$work/changed/$file"
     [ "$file" = SUMS ] && named=SUMS || named="$file: "
     refused "$named" "$top/tools/unpack" "$work/changed" "$work/empty"
 done
 
-# an octet of a library, once it is laid
+# an octet of a library, once it is laid: of one file of each kind
 new=$work/new
-mkdir -p "$new/crates/first"/{src,specs}
+laid=crates/const_oid/out/rlib/const_oid.rlib
+mkdir -p "$new/crates/first/src"
 (cd "$new" && git init -q)
 "$top/tools/take.py" --release "$release" const_oid "$new" >/dev/null
 cp "$top/tools/take/identifiers.rt.txt" "$new/crates/first/src/main.rt"
 echo "first: const_oid" >>"$new/crates.txt"
-(cd "$new/crates/const_oid/out/rlib/const_oid.rlib" && find . -type f | sed 's,^\./,,' | sort) |
-    grep -E '^(format|lang/src/lib.rt|toolchain/(mir.json|checked.a))$' | while read -r file; do
-    cp -r "$new" "$work/changed_library"
-    change "$work/changed_library/crates/const_oid/out/rlib/const_oid.rlib/$file"
-    refused const_oid env -C "$work/changed_library/crates/first" rt check
-    rm -rf "$work/changed_library"
+(cd "$new/$laid" && find . -type f | sed 's,^\./,,' | LC_ALL=C sort) | awk -F/ '{
+        end = $NF
+        sub(/.*[.]/, "", end)
+        kind = NF < 3 ? $0 : ($1 == "below" ? $1 : $1 "/" $2) "." end
+    } !seen[kind]++' | while read -r file; do
+    cp "$new/$laid/$file" "$work/octets"
+    change "$new/$laid/$file"
+    echo "$file"
+    refused const_oid env -C "$new/crates/first" rt check </dev/null
+    cp "$work/octets" "$new/$laid/$file"
 done
+echo "each is refused"

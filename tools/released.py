@@ -2,11 +2,15 @@
 
 A release is a folder:
 
-  PROVED              the kit (`rt version`), the version and the commit; of each library and
-                      program the stamp of its sources, and the sum of what the gate built of it
+  PROVED              the kit (`rt version`), the version and the commit; of each library, program
+                      and archive the stamp of its sources, and the sum of what was built of it
   SUMS                the SHA-256 sum of each other file, as `sha256sum -c SUMS` reads it
   libraries.tar.zst   NAME/NAME.rlib of each library, the lowest first
   programs/NAME       as LLVM built them
+  archives/libNAME.a  likewise
+  calls/              what programs in C and other languages link, of an archive: what
+                      calls/build.sh makes, the wheel of tools/wheel.py, and the crate calls/rust
+  LICENSE-*           the licence texts
 
 A stamp is the kit's own sum of a crate's texts, of those below it, and of the kit. The sum of a
 library is that of the lines which `sha256sum` prints of its files, in the order of their paths:
@@ -35,12 +39,16 @@ import sources
 
 LIBRARIES = "libraries.tar.zst"
 PROGRAMS = ["cert_desk_program", "cert_tool"]
+ARCHIVES = ["cert_desk_c"]
+KINDS = {"library": "libraries", "program": "programs", "archive": "archives"}
+# What the gate spends on a crate, by the columns of bench/gate.txt.
+COLUMNS = ("proof", "tests", "edits", "programs")
 # What is alike in one library stands in those above it again: so far back zstd looks for it.
 WINDOW = "--long=30"
 
 
 class Crate(typing.NamedTuple):
-    """What stands in PROVED of a crate: `library` or `program`, its stamp, its sum."""
+    """What stands in PROVED of a crate: one of KINDS, its stamp, its sum."""
 
     kind: str
     stamp: str
@@ -62,6 +70,15 @@ def asked(*words, folder=sources.TOP):
     """What a command prints; nothing where it fails."""
     ran = subprocess.run(words, cwd=folder, capture_output=True, text=True)
     return ran.stdout.strip() if ran.returncode == 0 else ""
+
+
+def run(*words, folder, why):
+    """Runs a command; where it fails, prints what it said last, and stops."""
+    how = {"stdin": subprocess.DEVNULL, "stdout": subprocess.PIPE, "stderr": subprocess.STDOUT}
+    ran = subprocess.run([str(it) for it in words], cwd=folder, text=True, errors="replace", **how)
+    if ran.returncode:
+        print("".join(ran.stdout.splitlines(True)[-20:]), end="", file=sys.stderr)
+        stop(why)
 
 
 def stamps(folder):
@@ -135,7 +152,7 @@ def read(release):
     heads, crates = {}, {}
     for row in (release / "PROVED").read_text().splitlines():
         word, _, rest = row.partition(" ")
-        if word in ("library", "program"):
+        if word in KINDS:
             name, stamp, built = rest.split()
             crates[name] = Crate(word, stamp, built)
         else:
@@ -215,6 +232,9 @@ def lay(release, folder):
     Says what differs. Gives how many were laid, and how many of the release the folder has."""
     proved = read(release)
     same_kit(proved)
+    head = asked("git", "rev-parse", "HEAD", folder=folder)
+    if head != proved.commit and asked("git", "cat-file", "-t", proved.commit, folder=folder):
+        print(f"the release is of commit {proved.commit[:12]}, and {head[:12]} stands here")
     crates, here = pathlib.Path(folder) / "crates", stamps(folder)
     below = sources.dependencies(pathlib.Path(folder) / "crates.txt")
     there = [name for name, it in proved.crates.items() if it.kind == "library" and name in here]
@@ -245,17 +265,32 @@ def place(crates, name):
     return crates / name / "out/rlib"
 
 
+def calls(clone, name, folder):
+    """Builds an archive over the libraries that the gate left, and of it what others link.
+
+    Gives where the archive lies."""
+    said = f"of {name} calls/build.sh and tools/wheel.py did not make what others link"
+    run(clone / "calls/build.sh", folder, "--gate", folder=clone, why=said)
+    run(clone / "tools/wheel.py", folder / "libwurstdrape.so", folder, folder=clone, why=said)
+    # The folder may be moved: pkg-config knows where its file lies.
+    found = folder / "wurstdrape.pc"
+    found.write_text(found.read_text().replace(str(folder), "${pcfiledir}"))
+    # What reads files of the repository is of no use outside it.
+    left = shutil.ignore_patterns("target", "tests", "mutated.rs")
+    shutil.copytree(clone / "calls/rust", folder / "rust", ignore=left)
+    return clone / f"crates/{name}/out/lib{name}.a"
+
+
 class Clock:
     """The minutes so far, and an estimate of those that are left.
 
-    It is by the processor minutes that the gate took of each crate (bench/gate.txt, as
-    bench/gate.sh prints them), and by the lines of one that has no row there."""
+    It is by the processor minutes that the gate took of each crate for these kinds of work
+    (bench/gate.txt, as bench/gate.sh prints them), and by the lines of one that has no row there.
+    """
 
-    def __init__(self, crates):
+    def __init__(self, crates, kinds=("proof", "programs")):
         self.began = self.last = time.time()
-        table = sources.TOP / "bench/gate.txt"
-        rows = re.findall(r"^(\w+) +(\d+\.\d)", table.read_text() if table.exists() else "", re.M)
-        told = {name: float(minutes) for name, minutes in rows}
+        told = minutes_of_gate(kinds)
         self.left = {name: told.get(name) or length_of(name) / 700 for name in crates}
         # Four processors take some half of the minutes of one; what takes seconds was built before.
         self.seconds, self.done = 30, 1
@@ -272,6 +307,17 @@ class Clock:
         return f"{minutes:.0f} min, about {left:.0f} left"
 
 
+def minutes_of_gate(kinds):
+    """The minutes of each crate that bench/gate.txt has, those of these kinds together."""
+    table, found = sources.TOP / "bench/gate.txt", {}
+    for row in table.read_text().splitlines() if table.exists() else []:
+        cells = [row[24 + 10 * at : 34 + 10 * at].strip() for at in range(len(COLUMNS))]
+        if all(re.fullmatch(r"(\d+\.\d)?", cell) for cell in cells):
+            minutes = (float(cell or 0) for cell, of in zip(cells, COLUMNS) if of in kinds)
+            found[row[:24].strip()] = sum(minutes)
+    return found
+
+
 def length_of(name):
     """The lines of the texts of a crate."""
     folders = (sources.CRATES / name / part for part in ("src", "specs", "proofs"))
@@ -279,11 +325,11 @@ def length_of(name):
     return sum(path.read_bytes().count(b"\n") for path in files)
 
 
-def gate(folder, crates, *words):
+def gate(folder, crates, *words, kinds=COLUMNS):
     """Runs `rt ci` in a clone, with a line for each crate that it has proved."""
     log = tempfile.mkstemp(prefix="gate-", suffix=".log")[1]
     print(f"the log of the gate is {log}")
-    clock, last = Clock(crates), ""
+    clock, last = Clock(crates, kinds), ""
     how = {"stdin": subprocess.DEVNULL, "stdout": subprocess.PIPE, "stderr": subprocess.STDOUT}
     how |= {"cwd": folder, "text": True}
     with open(log, "w") as opened, subprocess.Popen(["rt", "ci", *words], **how) as ran:
@@ -296,6 +342,8 @@ def gate(folder, crates, *words):
                 number = len(crates) - len(clock.left)
                 told = f"{number} of {len(crates)}  {done[1]} {done[2]}"
                 print(f"{told}, {clock.told()}", flush=True)
+                if not clock.left:
+                    print("what is tried and run of the crates is left", flush=True)
     print(last)
     if ran.returncode or not re.fullmatch(r"\d+ passed, 0 failed", last):
         stop("the gate did not pass")

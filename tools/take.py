@@ -6,8 +6,12 @@
     tools/take.py --again CRATE.. FOLDER    exchanges those that are there, too
     tools/take.py --list CRATE..            prints the lines of crates.txt alone
 
+With --release RELEASE before all else it lays the libraries of a release there, as tools/unpack
+does, so that `rt` proves none of them again.
+
 Of a crate it takes src/, specs/ and proofs/; with --edits must-fail/ too, which `rt ci` tries
-there. It writes into FOLDER/TAKEN.md of which version each crate is. It needs nothing but Python.
+there. It writes into FOLDER/TAKEN.md of which version each crate is. It needs nothing but Python;
+with --release the kit and zstd.
 """
 
 import pathlib
@@ -22,11 +26,11 @@ import sources
 PARTS = ["src", "specs", "proofs"]
 
 
-def version():
-    """The number at the head of CHANGELOG.md, and the commit that stands here."""
-    text = (sources.TOP / "CHANGELOG.md").read_text()
+def version(top=sources.TOP):
+    """The number at the head of a repository's CHANGELOG.md, and the commit that stands there."""
+    text = (top / "CHANGELOG.md").read_text()
     number = re.search(r"^## (\S+)", text, re.M)[1]
-    asked = ["git", "-C", str(sources.TOP), "rev-parse", "--short=12", "HEAD"]
+    asked = ["git", "-C", str(top), "rev-parse", "--short=12", "HEAD"]
     commit = subprocess.run(asked, capture_output=True, text=True).stdout.strip()
     return number, commit or "unknown"
 
