@@ -518,6 +518,74 @@ signed_by("no_bits.der", *FRONT, DATES, named(b"below"), KEY, bits=tlv(3, b""))
 crl("no_date.der", entries=[revoked(b"\1"), revoked(b"\2", date=b"")])
 signed_by("no_values.der", tlv(2, b"\0"), named(b"wanted"), KEY, tlv(0xA0, seq(oid(0x2A))))
 open("no_key.der", "wb").write(tlv(0xA2, seq(KEY, tlv(0x0C, b"title"), tlv(4, b"key"))))
+# contents that are faulty, one for each other reason that is told: of dates the day, the hour, the
+# minute, the second, a day that the month doesn't have, a letter, a year before 1970, a fraction;
+# unused bits that are too many, that don't stand, that aren't zero; members of a set out of order,
+# and twice; texts of three types; identifiers without octets, cut, too long, with an arc that is;
+# tags that aren't read, values in parts, an end of contents; a length that is indefinite
+def party(tag, text):
+    return extension(17, seq(tlv(0xA5, tlv(0xA1, tlv(tag, text)))))
+def other(tag, text):
+    return extension(17, seq(tlv(0xA0, oid(0x2A), tlv(0xA0, tlv(tag, text)))))
+certificate("faulty_words.der", extensions=[
+    AKI, *[extension(24, tlv(0x18, date)) for date in (
+        b"20260132000000Z", b"20260101240000Z", b"20260101006000Z", b"20260101000060Z",
+        b"20260229000000Z", b"2O260101000000Z", b"19691231235959Z", b"20260101000000.5Z")],
+    *[extension(15, tlv(3, bits)) for bits in (b"\x08\x80", b"\1", b"\1\x81")],
+    *[extension(9, seq(seq(oid(0x2A), tlv(0x31, tlv(5), member)))) for member in (
+        tlv(2, b"\1"), tlv(5))],
+    party(0x13, b"a_b"), party(0x14, b"\xe9"), party(0x1E, b"\0a\0"),
+    *[extension(37, seq(tlv(6, octets))) for octets in (
+        b"", b"\x2a\x81", b"\x2a" + b"\1" * 39, b"\x2a" + b"\xff" * 18 + b"\x7f")],
+    *[other(tag, b"a") for tag in (0x07, 0x08, 0x28, 0x0B, 0x2B, 0x0E, 0x19, 0x1D, 0x3D)],
+    *[other(tag, b"") for tag in (0x10, 0x11, 0x24, 0x00)], extension(17, b"\x30\x80\0\0")])
+# a UTCTime without seconds, one with a year of four digits, and one with a letter in its year
+for kind, date in (("no_seconds", b"2601010000Z"), ("long_date", b"20260101000000Z"),
+                   ("letter", b"2O0101000000Z")):
+    certificate(f"{kind}.der", dates=seq(tlv(0x17, date), tlv(0x17, b"360101000000Z")))
+# every identifier that has a name, as a purpose
+certificate("known.der", extensions=[extension(37, seq(*[
+    tlv(6, bytes.fromhex(octets)) for octets in """
+    2a864886f70d010101 2a864886f70d010105 2a864886f70d01010a 2a864886f70d01010b
+    2a864886f70d01010c 2a864886f70d01010d 2a864886f70d01010e 2a8648ce3d0201 2a8648ce3d0401
+    2a8648ce3d040301 2a8648ce3d040302 2a8648ce3d040303 2a8648ce3d040304 2a8648ce380401 2b656e
+    2b656f 2b6570 2b6571 2a8648ce3d030101 2a8648ce3d030107 2b8104000a 2b81040021 2b81040022
+    2b81040023 551d09 551d0e 551d0f 551d10 551d11 551d12 551d13 551d14 551d15 551d18 551d1b
+    551d1c 551d1d 551d1e 551d1f 551d20 551d2000 551d21 551d23 551d24 551d25 551d2500 551d2e
+    551d36 2b06010505070101 2b0601050507010b 2b06010505070118 2b06010401d679020402
+    2a864886f70d01090e 2b06010505070301 2b06010505070302 2b06010505070303 2b06010505070304
+    2b06010505070308 2b06010505070309 2b06010505073001 2b06010505073002 2b06010505070201 550403
+    550404 550405 550406 550407 550408 550409 55040a 55040b 55040c 55040d 55040f 550411 550429
+    55042a 55042b 55042c 55042d 55042e 550441 550461 0992268993f22c640101 0992268993f22c640119
+    2a864886f70d010901 2a864886f70d010902 2a864886f70d010907 2b0601040182373c020101
+    2b0601040182373c020102 2b0601040182373c020103 2b0e03021a 608648016503040201
+    608648016503040202 608648016503040203 608648016503040204 608648016503040206
+    2a864886f70d010104 2a864886f70d010108 608648016503040301 608648016503040302 2a8648ce380403
+    2b2403030208010107 2b240303020801010b 2b240303020801010d 2b06010505070202 2b06010505073003
+    2b06010505073005 2b060104018237140203 2b06010505070809 2b06010505070805 2b06010505070807
+    """.split()]))])
+# timestamps with each hash and each algorithm of a signature
+def stamp(hash, signs):
+    octets = b"\0" + bytes(32) + (1767225600000).to_bytes(8, "big") + b"\0\0"
+    octets += bytes([hash, signs]) + b"\0\1a"
+    return len(octets).to_bytes(2, "big") + octets
+STAMPS = b"".join(stamp(*pair) for pair in (
+    (0, 0), (1, 1), (2, 2), (3, 3), (4, 3), (5, 1), (6, 1), (8, 7), (8, 8)))
+certificate("stamps.der", extensions=[extension(2, tlv(4, len(STAMPS).to_bytes(
+    2, "big") + STAMPS), below=(0x2B, 6, 1, 4, 1, 0xD6, 0x79, 2, 4))])
+# a list of certificates of authorities, with an entry for each reason, and one of attributes
+crl("authorities.der", extensions=[AKI, extension(20, tlv(2, b"\1")), extension(28, seq(tlv(
+    0x82, b"\xff")), True)], entries=[revoked(bytes([number + 1]), extensions=[extension(
+        21, tlv(10, bytes([number])))]) for number in (0, 1, 2, 3, 4, 5, 6, 8, 9, 10)])
+crl("attributes.der", extensions=[AKI, extension(20, tlv(2, b"\1")), extension(28, seq(tlv(
+    0x85, b"\xff")), True)])
+# an anchor whose policy flags end with a zero bit
+open("flags_anchor.der", "wb").write(tlv(0xA2, seq(KEY, tlv(4, b"key"), seq(
+    named(b"above"), tlv(0x82, b"\0\x80")))))
+# an algorithm that has parameters outside, and none where it is signed
+signed_outside = seq(FRONT[0], FRONT[1], algorithm(2), named(b"above"), DATES, named(b"below"), KEY)
+open("parameters.der", "wb").write(seq(signed_outside, seq(
+    oid(0x2A, 0x86, 0x48, 0xCE, 0x3D, 4, 3, 2), tlv(5)), BITS))
 PY
 
 # streams of certificates that are described one by one: of more octets than one read takes, of one
