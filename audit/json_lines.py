@@ -88,14 +88,18 @@ def value(of):
     return f"{kind}, octets {of['octets']}"
 
 
+def apart(mark, text):
+    """The parts of a name's text between marks that aren't escaped."""
+    return re.findall(rf"(?:[^{mark}\\]|\\.)+", text, re.DOTALL)
+
+
 def attributes(margin, of):
-    # the text has them from the last one on, each behind a comma or a plus; one that is told by
-    # arcs and octets begins with a digit
-    told = [part for part in re.split(r"(?<!\\)(?:\\\\)*[,+]", of["text"])]
-    bare = [part.split("=")[0] for part in told if re.match(r"[0-9.]+=#", part)]
-    for each in of["attributes"]:
-        if each["id"] in bare:
-            bare.remove(each["id"])
+    # the text has relative names from the last one on, and the attributes of each in their order;
+    # one that is told by arcs and octets begins with a digit
+    relatives = reversed(apart(",", of["text"]))
+    told = [part for relative in relatives for part in apart("+", relative)]
+    for part, each in zip(told, of["attributes"], strict=True):
+        if re.match(r"[0-9.]+=#", part):
             yield f"{margin}{identifier(each)} {value(each)}"
 
 

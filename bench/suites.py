@@ -300,9 +300,9 @@ for a reason within the [rules](../docs/tables/REFUSALS.md), or where a differen
 READ = """\
 ## Deviations that other readers take
 
-ALL encodings lie in files of these sources where certificates do. `cert_tool` reads READ, and NONE
-are read neither by it, nor by OpenSSL (`openssl x509`), nor by Python's `cryptography`. The others,
-by the first fault that `cert_tool explain` tells, and how many of them the two read:
+ALL encodings lie in files of these sources where certificates do. `cert_tool` reads READ, and
+NONE are read neither by it, nor by OpenSSL (`openssl x509`), nor by Python's `cryptography`. The
+others, by the first fault that `cert_tool explain` tells, and how many of them the two read:
 
 | Fault | Certificates | OpenSSL reads | cryptography reads | Of |
 |---|---|---|---|---|"""

@@ -137,7 +137,7 @@ def answered(question, answer, status):
         return status == Status.FAULTY
     except Error as why:
         return status == why.status
-    except (KeyError, ValueError, FileNotFoundError):
+    except (KeyError, ValueError, OSError):
         return None
     return None
 

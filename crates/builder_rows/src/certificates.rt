@@ -63,15 +63,10 @@ impl<'a> Settled<'a> {
         profile: P,
     ) -> Result<CertificateBuilder<P>, Refusal> {
         let serial = serial_of(alloc, self.serial)?;
-        let validity = self.validity()?;
+        let validity = Validity::new(time_of(self.from)?, time_of(self.until)?);
         let key = key_of(alloc, self.key)?;
         let builder = CertificateBuilder::new(alloc, profile, serial, validity, key)?;
         Ok(builder)
-    }
-
-    /// From when until when it is valid.
-    fn validity(&self) -> Result<Validity, Refusal> {
-        Ok(Validity::new(time_of(self.from)?, time_of(self.until)?))
     }
 
     /// What is made of a profile.

@@ -2,7 +2,8 @@
 
 use crate::builders::{Asked, Change, Manner, part_of, whole_of};
 use crate::refusals::Refusal;
-use crate::words::{Words, octets_of, read, time_of, written_in};
+use crate::words::{Words, octets_of, time_of, written_in};
+use der_core::FromDer;
 use std::alloc::Global;
 use std::str::FromStr;
 use x509_cert::builder::CrlBuilder;
@@ -11,7 +12,8 @@ use x509_cert::{Certificate, CertificateList, CrlNumber, RevokedCert, Time};
 /// The entry of a list that is the encoding of these octets.
 fn entry_of(alloc: Global, word: &str) -> Result<RevokedCert, Refusal> {
     let octets = octets_of(alloc, word)?;
-    read(alloc, octets.as_slice())
+    let entry = FromDer::from_der(alloc, octets.as_slice())?;
+    Ok(entry)
 }
 
 impl Change for CrlBuilder {
@@ -33,7 +35,8 @@ impl Change for CrlBuilder {
 /// The issuer whose certificate has this encoding.
 fn issuer_of(alloc: Global, word: &str) -> Result<Certificate, Refusal> {
     let octets = octets_of(alloc, word)?;
-    Ok(Certificate::from_der(alloc, octets.as_slice())?)
+    let issuer = Certificate::from_der(alloc, octets.as_slice())?;
+    Ok(issuer)
 }
 
 /// The number of a list that a word tells.
@@ -66,54 +69,29 @@ fn builder_under(
     Ok(builder)
 }
 
-/// What is told of a list.
-#[derive(Clone, Copy)]
-struct Told<'a> {
-    issuer: &'a str,
-    number: &'a str,
-    this_update: Time,
-    next_update: Option<Time>,
-}
-
-impl<'a> Told<'a> {
-    /// The next words: `ISSUER NUMBER THIS NEXT`.
-    fn parse(words: &mut Words<'a>) -> Result<Told<'a>, Refusal> {
-        let issuer = words.next()?;
-        let number = words.next()?;
-        let this_update = time_of(words.next()?)?;
-        let next_update = next_of(words.next()?)?;
-        Ok(Told {
-            issuer,
-            number,
-            this_update,
-            next_update,
-        })
-    }
-}
-
-/// The builder of the list that is told of.
-fn builder_of(alloc: Global, told: &Told<'_>) -> Result<CrlBuilder, Refusal> {
-    let issuer = issuer_of(alloc, told.issuer)?;
-    let builder = builder_under(alloc, &issuer, told.number, told.this_update)?;
-    Ok(builder.with_next_update(told.next_update))
+/// The next words: `ISSUER NUMBER THIS NEXT`, the builder of the list.
+fn builder_of(alloc: Global, words: &mut Words<'_>) -> Result<CrlBuilder, Refusal> {
+    let issuer = words.next()?;
+    let number = words.next()?;
+    let this_update = time_of(words.next()?)?;
+    let next_update = next_of(words.next()?)?;
+    let issuer = issuer_of(alloc, issuer)?;
+    let builder = builder_under(alloc, &issuer, number, this_update)?;
+    Ok(builder.with_next_update(next_update))
 }
 
 /// What is asked for of a list.
 pub fn answer(alloc: Global, rest: &str) -> Result<Vec<u8>, Refusal> {
-    answer_to(alloc, &mut Words { rest })
-}
-
-/// What is asked for by these words.
-fn answer_to(alloc: Global, words: &mut Words<'_>) -> Result<Vec<u8>, Refusal> {
+    let mut words = Words { rest };
     let manner = Manner::parse(words.next()?)?;
     let signer = words.next()?;
-    let told = Told::parse(words)?;
+    let builder = builder_of(alloc, &mut words)?;
     let asked = Asked {
         manner,
         change: words.rest,
         signer,
     };
-    made(alloc, builder_of(alloc, &told)?, &asked)
+    made(alloc, builder, &asked)
 }
 
 /// What is made by a builder.
