@@ -27,6 +27,17 @@ pub written_dot : (n : ℕ) → n < 10 ^ 64 → 46 ∷ fmt.decimal n ≡ dot_dec
 unfolding dot_decimal
 written_dot n l = ap (λ t. 46 ∷ t) (written_decimal n l)
 
+-- a dot, and one digit or two
+pub dot-one : (n : ℕ) → n < 10 → dot_decimal n ≡ 46 ∷ (48 + n) ∷ []
+unfolding dot_decimal
+dot-one n l = ap (λ t. 46 ∷ t) (decimal-one n l)
+
+pub dot-two : (n : ℕ) → 10 ≤ n → n < 100 → dot_decimal n ≡ 46 ∷ (48 + n / 10) ∷ (48 + n % 10) ∷ []
+unfolding dot_decimal
+dot-two n l few = ap (λ t. 46 ∷ t) (decimal-more n l ∙ ap (λ t. t ++ ((48 + n % 10) ∷ [])) (decimal-one (n / 10) (omega arith)))
+
+pub ruleset short_dots = (dot-one, dot-two)
+
 pub dotted-cons : (a : ℕ) (arcs : List ℕ) → dotted (a ∷ arcs) ≡ decimal a ++ flat_map dot_decimal arcs
 unfolding dotted
 dotted-cons a arcs = refl

@@ -1,5 +1,5 @@
 -- The last arc: where its octets begin, and how many octets show it.
-use Rattle.std.proofs.Common.{◌≡◌, ℕ, suc, ◌+◌, ◌-◌, ◌*◌, ◌%◌, ◌<◌, ◌≤◌, ◌⊎◌, inl, inr, List, [], ◌∷◌, ◌++◌, length, get_or, take, map, Result, Ok, Err, sym, refl, ap, subst, ◌∙◌, append_assoc, length-append, length-take-le, arith}
+use Rattle.std.proofs.Common.{◌≡◌, ℕ, suc, ◌+◌, ◌-◌, ◌*◌, ◌%◌, ◌<◌, ◌≤◌, ◌⊎◌, inl, inr, List, [], ◌∷◌, ◌++◌, length, get_or, take, map, Result, Ok, Err, sym, refl, ap, subst, ◌∙◌, append_assoc, length-append, length-take-le, mod-lt, arith}
 use Rattle.std.specs.List.{AllByRecursion, flat_map}
 use Rattle.std.specs.Result.{MatchResult}
 use Rattle.std.proofs.Math.Seq.{take-append_seam}
@@ -8,12 +8,13 @@ use Rattle.std.proofs.lemmas.List.{length-map}
 use Rattle.const_oid.specs.declared.error.Error.{Error}
 use Rattle.const_oid.specs.declared.octets.Found.{Found}
 use Rattle.const_oid.specs.Digits.{digits}
-use Rattle.const_oid.specs.IdentifierOctets.{arc_octets, identifier_octets, IsIdentifier, read_arcs, read_identifier}
+use Rattle.const_oid.specs.IdentifierOctets.{arc_octets, identifier_octets, IsIdentifier, with_arc, read_arcs, read_identifier}
 use Rattle.const_oid.specs.Arcs.{later_arcs, arcs_of, SpellsIdentifier}
 use Rattle.const_oid.specs.Outcome.{outcome}
 use Rattle.const_oid.specs.LastArcs.{place_of_last, KnowsLast, last_from}
 use Rattle.const_oid.proofs.ArcsLaws.{later_arcs-last, later_arcs-more, later_arcs-nil, arcs_of-cons, arcs_of-identifier_octets, read_identifier-ok, spells_from_read, spells_octets}
 use Rattle.const_oid.proofs.DigitLaws.{fewer_digits}
+use Rattle.const_oid.proofs.IdentifierLaws.{read_arcs-last}
 use Rattle.const_oid.proofs.EncodingLaws.{length-arc_octets, length-digits-pos, identifier-many, some_octets}
 use Rattle.const_oid.proofs.FamilyLaws.{front-push}
 use Rattle.const_oid.specs.PackedOctets.{unmarked_front}
@@ -60,6 +61,29 @@ pub last_from-end : (last begun here : ℕ) (w : List ℕ) → w ≡ [] → last
 unfolding last_from
 last_from-end last begun here [] e = refl
 last_from-end last begun here (o ∷ w) e = cc
+
+-- two later arcs of one octet each
+two_read : (bound a b : ℕ) → 128 ≤ bound → a < 128 → b < 128 → outcome (read_arcs bound 0 (a ∷ b ∷ [])) ≡ Ok tt
+two_read bound a b large first second =
+    let a_below : a % 128 < 128 = mod-lt a (omega arith) in
+    let b_below : b % 128 < 128 = mod-lt b (omega arith) in
+    ap outcome (read_arcs-last bound 0 a (b ∷ []) (λ h. omega (arith, h.1)) (omega (arith, a_below)) first)
+    ∙ ap (λ r. outcome (with_arc (0 * 128 + a % 128) r)) (read_arcs-last bound 0 b [] (λ h. omega (arith, h.1)) (omega (arith, b_below)) second)
+
+two_later : (a b : ℕ) → a < 128 → b < 128 → length (later_arcs 0 (a ∷ b ∷ [])) ≡ 2
+two_later a b first second =
+    ap length (later_arcs-last 0 a (b ∷ []) first)
+    ∙ ap (λ t. suc (length t)) (later_arcs-last 0 b [] second)
+    ∙ ap (λ t. suc (suc (length t))) (later_arcs-nil 0 [] refl)
+
+pub two_found : (bound : ℕ) (w : List ℕ) → 128 ≤ bound → length w ≡ 2 → get_or w 0 0 < 128 → get_or w 1 0 < 128
+    → (outcome (read_arcs bound 0 w) ≡ Ok tt) × (4 ≡ 2 + length (later_arcs 0 w)) × (2 ≡ last_from 0 1 1 w)
+two_found bound (a ∷ b ∷ []) large two first second = (
+  two_read bound a b large first second,
+  omega (arith, two_later a b first second),
+  sym (last_from-ends 0 1 1 a (b ∷ []) first ∙ last_from-ends 1 2 2 b [] second ∙ last_from-end 2 3 3 [] refl),
+)
+two_found bound _ large two first second = absurd (omega arith)
 
 -- octets with marks
 last_from-marked : (last begun here : ℕ) (ds w : List ℕ) → last_from last begun here (map (λ d. 128 + d) ds ++ w) ≡ last_from last begun (here + length ds) w

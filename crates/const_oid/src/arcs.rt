@@ -118,7 +118,7 @@ pub(crate) fn arc_at(octets: &[u8], index: usize) -> Option<Arc>
     arcs.next()
 }
 
-/// Where the octets of the last arc begin, behind the last octet without a mark but one, or 0 where
+/// Where the octets of the last arc begin, after the last octet without a mark but one, or 0 where
 /// there is none; and how many octets were tested for a mark.
 pub(crate) fn last_start(octets: &[u8]) -> (usize, u32)
     requires { SpellsIdentifier Bound (length octets.now) octets.now }

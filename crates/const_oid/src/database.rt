@@ -74,6 +74,9 @@ impl<'a> Database<'a> {
 
     /// The first name of the identifier that a dotted text writes, or the text itself where the
     /// identifier has none.
+    ///
+    /// # Errors
+    /// Those of `ObjectIdentifier::new`: the text's first fault from the left.
     pub fn resolve<'b>(&self, oid: &'b str) -> Result<&'b str>
     where
         'a: 'b,

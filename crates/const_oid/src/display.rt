@@ -13,7 +13,7 @@ use crate::arcs::Arcs;
 use crate::error::Arc;
 use crate::object_identifier::ObjectIdentifier;
 use crate::object_identifier_ref::ObjectIdentifierRef;
-use std::fmt;
+use std::{fmt, str};
 
 /// Writes the arcs of identifier octets in decimal, joined by dots.
 fn write_dotted<W: fmt::Write>(octets: &[u8], f: &mut fmt::Formatter<W>) -> fmt::Result
@@ -52,11 +52,36 @@ fn first_text(first: Arc) -> &'static str
     }
 }
 
-/// Writes a dot and an arc in decimal.
+/// Writes a dot and an arc in decimal. Most arcs have one digit or two.
+#[tactic(auto, using(crate::proofs::DottedLaws::short_dots))]
 fn write_dot_decimal<W: fmt::Write>(arc: Arc, f: &mut fmt::Formatter<W>) -> fmt::Result
     ensures { WritesOnOk W.write_str_gives f.old result (dot_decimal arc) f.new }
 {
+    if arc < 10 {
+        return write_ascii(&[b'.', b'0' + arc as u8], f);
+    }
+    if arc < 100 {
+        let arc = arc as u8;
+        return write_ascii(&[b'.', b'0' + arc / 10, b'0' + arc % 10], f);
+    }
+    write_long(arc, f)
+}
+
+/// Writes a dot and an arc of any size in decimal.
+fn write_long<W: fmt::Write>(arc: Arc, f: &mut fmt::Formatter<W>) -> fmt::Result
+    ensures { WritesOnOk W.write_str_gives f.old result (dot_decimal arc) f.new }
+{
     write!(f, ".{arc}")
+}
+
+/// Writes octets of ASCII.
+fn write_ascii<W: fmt::Write>(octets: &[u8], f: &mut fmt::Formatter<W>) -> fmt::Result
+    ensures { WritesOnOk W.write_str_gives f.old result octets.now f.new }
+{
+    match str::from_utf8(octets) {
+        Ok(text) => f.write_str(text),
+        Err(_) => Err(fmt::Error),
+    }
 }
 
 impl fmt::Display for ObjectIdentifierRef<'_> {

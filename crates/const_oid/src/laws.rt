@@ -123,7 +123,7 @@ pub fn parents_undo_children()
         → child_of capacity arcs a ≡ Ok child → parent_of child ≡ Some arcs }
 {}
 
-/// The last arc behind the parent of an identifier gives the identifier back.
+/// The last arc after the parent of an identifier gives the identifier back.
 #[tactic(auto, using(crate::proofs::FamilyLaws::child_of_parent))]
 pub fn children_undo_parents()
     ensures { (capacity : ℕ) (arcs front : List ℕ) → length (identifier_octets arcs) ≤ capacity

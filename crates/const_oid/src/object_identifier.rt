@@ -285,8 +285,12 @@ impl ObjectIdentifier<39> {
     /// The greatest number of octets.
     pub const MAX_SIZE: usize = 39;
 
-    /// The identifier that a dotted text spells, or the text's first fault from the left. Zeros in
-    /// front of an arc are read.
+    /// The identifier that a dotted text spells, as `2.5.4.3`. Zeros in front of an arc are read.
+    ///
+    /// # Errors
+    /// The first fault from the left: `Empty`, `DigitExpected`, `RepeatedDot`, `TrailingDot`,
+    /// `ArcTooBig` from 2^128 on, `ArcInvalid` for a first arc above 2 or a second above 39,
+    /// `Length` past 39 octets.
     pub fn new(s: &str) -> Result<Self>
         ensures read { result ≡ read_text Bound max_size s.now }
         ensures ok { IfOk result (λ arcs. IsDottedText arcs s.now × IsIdentifier Bound arcs

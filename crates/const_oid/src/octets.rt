@@ -1,6 +1,7 @@
 //! Reading of identifier octets (X.690 8.19), in one pass and with the first fault.
 
-ghost use Rattle.std.specs.Prelude.{◌≡◌, ℕ, ◌+◌, ◌<◌, ◌≤◌, Ok, Err, MatchResult, length, take};
+ghost use Rattle.std.specs.Prelude.{◌≡◌, ℕ, ◌+◌, ◌<◌, ◌≤◌, Ok, Err, MatchResult, IsTrue, length};
+ghost use Rattle.std.specs.Prelude.{slice_index, take};
 ghost use Rattle.const_oid.specs.Bound.{Bound};
 ghost use Rattle.const_oid.specs.IdentifierOctets.{arc_octets, read_arcs, read_identifier};
 ghost use Rattle.const_oid.specs.Outcome.{outcome};
@@ -74,6 +75,21 @@ fn first_arc_len(octets: &[u8]) -> Result<usize>
     Err(Error::Base128)
 }
 
+/// Whether there are two octets, each of which is an arc.
+#[inline]
+fn are_two_arcs(octets: &[u8]) -> bool
+    ensures { IsTrue result → (length octets.now ≡ 2) × (slice_index octets.now 0 < 128)
+        × (slice_index octets.now 1 < 128) }
+{
+    let [one, other] = octets else {
+        return false;
+    };
+    if *one >= 0x80 || *other >= 0x80 {
+        return false;
+    }
+    true
+}
+
 /// How many arcs there are with those of the octets after the root, and where the last one begins,
 /// or the first fault of these octets.
 fn find_arcs(octets: &[u8]) -> Result<Found>
@@ -83,6 +99,13 @@ fn find_arcs(octets: &[u8]) -> Result<Found>
         × (found.last_start ≡ last_from 0 1 1 octets.now))
         (λ e. outcome (read_arcs Bound 0 octets.now) ≡ Err e) }
 {
+    // Most identifiers of attributes and extensions have two.
+    if are_two_arcs(octets) {
+        return Ok(Found {
+            arc_count: 4,
+            last_start: 2,
+        });
+    }
     let mut arc_count = 2;
     let mut last_start = 0;
     let mut begun = 0;

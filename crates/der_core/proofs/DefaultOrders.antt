@@ -1,9 +1,5 @@
 -- The order of values with a default, which is written as nothing.
-use Rattle.std.proofs.Common.{◌≡◌, ℕ, true, false, List, [], Option, Result, Ok, refl, arith}
-use Rattle.std.specs.Prelude.{IfErr}
-use Rattle.std.specs.Str.{bytes_eq}
-use Rattle.std.specs.declared.cmp.Ordering.{Ordering}
-use Rattle.std.specs.declared.cmp.Ordering.TheVariants.{Less, Equal, Greater}
+use Rattle.std.proofs.Common.{◌≡◌, ℕ, true, false, List, [], Option, Result, Ok, refl, arith, IfErr, bytes_eq, Ordering, Less, Equal, Greater}
 use Rattle.std.proofs.lemmas.Bool.Decides.{nat_tests}
 use Rattle.der_core_head.specs.declared.error.Error.{Error}
 use Rattle.der_core_head.specs.Shapes.{Shape, defaulted, Value, octets_of, unless, IsValid, begins}

@@ -1,11 +1,9 @@
 -- With which tag a value begins, and the order of values that may be absent.
-use Rattle.std.proofs.Common.{◌≡◌, true, Option, Some, None, Result, Ok, refl}
-use Rattle.std.specs.declared.cmp.Ordering.{Ordering}
-use Rattle.std.specs.declared.cmp.Ordering.TheVariants.{Less, Equal, Greater}
+use Rattle.std.proofs.Common.{◌≡◌, true, Option, Some, None, Result, Ok, refl, Ordering, Less, Equal, Greater}
 use Rattle.std.proofs.lemmas.Bool.{and_parts}
 use Rattle.der_core_head.specs.declared.error.Error.{Error}
 use Rattle.der_core_head.specs.declared.tag.Tag.{Tag}
-use Rattle.der_core_head.specs.Shapes.{Shape, Content, tagged, optional, Value, ContentValue, octets_of, contents, IsValid, begins}
+use Rattle.der_core_head.specs.Shapes.{Shape, Content, tagged, any, optional, Value, ContentValue, AnyValue, octets_of, contents, IsValid, begins}
 use Rattle.der_core_head.specs.Spelling.{is_apart, is_element}
 use Rattle.der_core_head.proofs.TagLaws.{same_tag-refl}
 use Rattle.der_core_head.proofs.Complete.{tlv_first, element_some}
@@ -14,6 +12,10 @@ use Rattle.der_core.specs.Orders.{encodings_cmp, StartsWith}
 pub tagged_starts : (t : Tag) (c : Content) (v : ContentValue c) → IsValid (tagged t c) v → StartsWith (begins (tagged t c)) (Some t) (octets_of (tagged t c) v)
 unfolding octets_of IsValid
 tagged_starts t c v h = let f = tlv_first t (contents c v) in (f.0, f.1, h.1, same_tag-refl t)
+
+pub any_starts : (v : AnyValue) → IsValid any v → StartsWith (begins any) (Some v.tag) (octets_of any v)
+unfolding octets_of IsValid
+any_starts v h = let f = tlv_first v.tag v.contents in (f.0, f.1, h.1, refl)
 
 -- Optional values
 

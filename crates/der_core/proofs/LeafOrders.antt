@@ -1,7 +1,6 @@
 -- The order of contents that are no lists of values.
-use Rattle.std.proofs.Common.{◌≡◌, Bool, refl, arith}
+use Rattle.std.proofs.Common.{◌≡◌, Bool, refl, arith, Equal}
 use Rattle.std.specs.Ordering.{bool_cmp}
-use Rattle.std.specs.declared.cmp.Ordering.TheVariants.{Equal}
 use Rattle.std.proofs.lemmas.Bool.Decides.{nat_tests}
 use Rattle.der_core_head.specs.Leaves.{Leaf, LeafValue, boolean, null, leaf_contents as octets_of_leaf}
 use Rattle.der_core_head.specs.Shapes.{leaf, contents}

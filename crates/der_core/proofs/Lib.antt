@@ -9,7 +9,6 @@ pub mod RowOrders
 pub mod LeafOrders
 pub mod IterOrders
 pub mod ChoiceOrders
-pub mod AnyOrders
 pub mod DefaultOrders
 pub mod Rows
 mod Past

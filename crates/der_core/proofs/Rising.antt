@@ -1,6 +1,5 @@
 -- The members of a set, compared one by one.
-use Rattle.std.proofs.Common.{◌≡◌, ℕ, List, drop, Option, None}
-use Rattle.std.specs.Prelude.{IfSome}
+use Rattle.std.specs.Prelude.{◌≡◌, ℕ, List, drop, Option, None, IfSome}
 use Rattle.std.specs.List.{AllByRecursion}
 use Rattle.der_core_head.specs.Grammar.{plain_list, plain_option}
 use Rattle.der_core_head.specs.Shapes.{above, Shape, Value, octets_of, IsValid}

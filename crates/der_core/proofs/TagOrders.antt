@@ -1,9 +1,6 @@
 -- The order of contents behind tags, by the headers and then by the contents.
-use Rattle.std.proofs.Common.{◌≡◌, ℕ, true, false, length, Ok, Err, refl, sym, ap, ◌∙◌, arith, inl, inr}
+use Rattle.std.proofs.Common.{◌≡◌, ℕ, true, false, length, Ok, Err, refl, ap, ◌∙◌, inl, inr, Ordering}
 use Rattle.std.specs.Ordering.{nat_cmp, ordering_then, is_ne}
-use Rattle.std.specs.declared.cmp.Ordering.{Ordering}
-use Rattle.std.specs.declared.cmp.Ordering.TheVariants.{Equal}
-use Rattle.std.proofs.lemmas.Bool.Decides.{nat_tests}
 use Rattle.der_core_head.specs.declared.error.Error.{Error}
 use Rattle.der_core_head.specs.declared.error.ErrorKind.{ErrorKind}
 use Rattle.der_core_head.specs.declared.tag.Tag.{Tag}
@@ -14,7 +11,7 @@ use Rattle.der_core_head.specs.Writing.{size, size_content}
 use Rattle.der_core_head.proofs.Fits.{fits_contents}
 use Rattle.der_core_head.proofs.Written.{sized_content}
 use Rattle.der_core.specs.Orders.{octets_cmp, contents_cmp, Overflows}
-use Rattle.der_core.proofs.OrderLaws.{nat_cmp-equal, then_assoc, first_decides, others_decide, octets_cmp-self}
+use Rattle.der_core.proofs.OrderLaws.{then_assoc, first_decides, others_decide, octets_cmp-self}
 use Rattle.der_core.proofs.HeadOrders.{length_octets_cmp, tlv_cmp}
 use Rattle.der_core.proofs.Sizes.{content_only, tlv_over, longer}
 
@@ -66,9 +63,3 @@ module _ (a b : Tag) (c : Content) (v w : ContentValue c) (m n : ℕ) (o : Order
 -- of one tag
 pub one_tag : (t : Tag) (m n : ℕ) (o : Ordering) → o ≡ octets_cmp (length_octets m) (length_octets n) → o ≡ ordering_then (octets_cmp (tag_octets t) (tag_octets t)) (octets_cmp (length_octets m) (length_octets n))
 one_tag t m n o e = rw (octets_cmp-self (tag_octets t)) e
-
-pub equal_lengths : (t : Tag) (c : Content) (v w : ContentValue c) (m n : ℕ) (o : Ordering) → IsValid (tagged t c) v → IsValid (tagged t c) w → size_content c v ≡ Ok m → size_content c w ≡ Ok n
-    → o ≡ octets_cmp (length_octets m) (length_octets n) → is_ne o ≡ false → length (contents c v) ≡ length (contents c w)
-equal_lengths t c v w m n o p q i j e same =
-    let equal : o ≡ Equal = grind (arith, nat_tests) in
-    cc (tagged_sized t c v p, tagged_sized t c w q, nat_cmp-equal m n (sym (length_octets_cmp m n) ∙ sym e ∙ equal))

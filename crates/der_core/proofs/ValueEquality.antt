@@ -1,6 +1,5 @@
 -- Two values are alike where what `==` says of them is of their plain values: of those of a record, of a list and of what may be absent it is where it is of their parts.
-use Rattle.std.proofs.Common.{◌≡◌, ℕ, pos, List, [], ◌∷◌, ◌++◌, Bool, true, false, Option, None, Some, refl, ap, subst, inl, inr, arith}
-use Rattle.std.specs.Prelude.{nat_eq, ◌&&◌}
+use Rattle.std.proofs.Common.{◌≡◌, ℕ, pos, List, [], ◌∷◌, ◌++◌, Bool, true, false, Option, None, Some, refl, ap, subst, inl, inr, arith, nat_eq, ◌&&◌}
 use Rattle.std.specs.Bool.{beq}
 use Rattle.std.specs.Cmp.{first_so, second_so}
 use Rattle.std.specs.Cmp.Lexicographic.{pointwise, bytes_decides}

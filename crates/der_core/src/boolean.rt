@@ -1,6 +1,7 @@
 //! Comparison of BOOLEAN values.
 
 ghost use Rattle.std.specs.Prelude.{true, Ok};
+ghost use Rattle.der_core.specs.OrdLaws.{bool_order};
 
 use crate::by_ord::OrdIsValueOrd;
 use crate::order::ValueOrd;
@@ -16,7 +17,5 @@ impl ValueOrd for bool {
 }
 
 impl OrdIsValueOrd for bool {
-    ghost use Rattle.der_core.specs.OrdLaws.{bool_order};
-
     ghost order = { bool_order };
 }

@@ -1,16 +1,18 @@
 //! Types whose own order is that of their contents.
 
-ghost use Rattle.std.specs.Prelude.{◌≡◌, length, true, Ok, IsOk, IfOk, IfErr};
-ghost use Rattle.der_core_head.specs.Shapes.{tagged, IsContent, IsValid, contents};
+ghost use Rattle.std.specs.Prelude.{◌≡◌, length, true, Ok, IfErr, string_bytes};
+ghost use Rattle.const_oid.specs.Bound.{Bound};
+ghost use Rattle.der_core_head.specs.Leaves.{utf8};
+ghost use Rattle.der_core_head.specs.Shapes.{IsContent, contents};
 ghost use Rattle.der_core_head.specs.Spelling.{is_content_apart};
-ghost use Rattle.der_core_head.specs.Writing.{size, size_content};
-ghost use Rattle.der_core.specs.Orders.{contents_cmp, encodings_cmp, Overflows};
+ghost use Rattle.der_core_head.specs.Writing.{size_content};
+ghost use Rattle.der_core.specs.Orders.{contents_cmp, Overflows};
+ghost use Rattle.der_core.specs.OrdLaws.{identifier_order, octets_order};
 
-use crate::headers::length_cmp;
 use crate::order::ValueOrd;
 use const_oid::ObjectIdentifier;
 use der_core_head::Error;
-use der_core_values::{EncodeValue, FixedTag, ShapedValue};
+use der_core_values::ShapedValue;
 use std::cmp::Ordering;
 
 /// A type whose `Ord` is the order of contents of equal length, as lists of octets.
@@ -57,53 +59,14 @@ pub fn value_cmp_is_ord<T: ValueOrd + OrdIsValueOrd>(a: &T, b: &T) -> Result<Ord
     Ok(order)
 }
 
-/// The order of the encodings of two values: that of their lengths, and then by their `Ord`.
-///
-/// # Errors
-/// `Overflow` where the encoding of one of the two has 2^32 octets or more.
-pub fn der_cmp_by_ord<T: OrdIsValueOrd + EncodeValue + FixedTag>(
-    a: &T,
-    b: &T,
-) -> Result<Ordering, Error>
-    ensures order { IsValid (tagged T.fixed_tag T.content) (T.value_written a.now)
-        → IsValid (tagged T.fixed_tag T.content) (T.value_written b.now)
-        → result
-        ≡ Ok (encodings_cmp (tagged T.fixed_tag T.content) (T.value_written a.now)
-        (T.value_written b.now)) }
-    // No order is answered where a content has no length.
-    ensures answered { IfOk result (λ _. IsOk (size_content T.content (T.value_written a.now))
-        × IsOk (size_content T.content (T.value_written b.now))) }
-    ensures refused { IfErr result
-        (λ e. Overflows e (size (tagged T.fixed_tag T.content) (T.value_written a.now))
-        (size (tagged T.fixed_tag T.content) (T.value_written b.now))) }
-{
-    let len = a.value_len()?;
-    let other_len = b.value_len()?;
-    let lengths = length_cmp(len, other_len);
-    if lengths.is_ne() {
-        return Ok(lengths);
-    }
-    Ok(value_cmp_by_ord(a, b))
-}
-
 impl<const MAX_SIZE: usize> OrdIsValueOrd for ObjectIdentifier<MAX_SIZE> {
-    ghost use Rattle.const_oid.specs.Bound.{Bound};
-    ghost use Rattle.der_core.specs.OrdLaws.{identifier_order};
-
     ghost order = { identifier_order Bound MAX_SIZE };
 }
 
 impl<'a> OrdIsValueOrd for &'a str {
-    ghost use Rattle.der_core_head.specs.Leaves.{utf8};
-    ghost use Rattle.der_core.specs.OrdLaws.{octets_order};
-
     ghost order = { λ v w. octets_order utf8 v.now w.now };
 }
 
 impl OrdIsValueOrd for String {
-    ghost use Rattle.std.specs.String.{string_bytes};
-    ghost use Rattle.der_core_head.specs.Leaves.{utf8};
-    ghost use Rattle.der_core.specs.OrdLaws.{octets_order};
-
     ghost order = { λ v w. octets_order utf8 (string_bytes v) (string_bytes w) };
 }

@@ -13,7 +13,7 @@ pub fn value_cmp_by_contents(octets: &[u8], other: &[u8]) -> Ordering
     octets.cmp(other)
 }
 
-/// The order of one octet and others behind it, and of octets.
+/// The order of one octet and others after it, and of octets.
 fn led_cmp(lead: u8, octets: &[u8], other: &[u8]) -> Ordering
     ensures { result ≡ octets_cmp (lead ∷ octets.now) other.now }
 {
@@ -23,7 +23,7 @@ fn led_cmp(lead: u8, octets: &[u8], other: &[u8]) -> Ordering
     }
 }
 
-/// The order of two contents, which are these octets behind a leading one where there is one, as
+/// The order of two contents, which are these octets after a leading one where there is one, as
 /// the number of unused bits of a bit string (X.690 8.6.2) or a zero before a natural number whose
 /// first bit is one (8.3).
 pub fn value_cmp_behind(

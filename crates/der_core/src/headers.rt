@@ -42,7 +42,7 @@ fn tag_octets_of(tag: Tag) -> ([u8; 6], usize)
 }
 
 /// The order of the octets of two tags. It isn't that of their numbers: those of 16383 are `FF 7F`
-/// behind the first octet, and those of 16384 `81 80 00`.
+/// after the first octet, and those of 16384 `81 80 00`.
 pub fn tag_cmp(a: Tag, b: Tag) -> Ordering
     ensures order { result ≡ octets_cmp (tag_octets a) (tag_octets b) }
     // Their numbers fit 32 bits.

@@ -30,7 +30,7 @@ mod unit;
 mod with_default;
 mod wrappers;
 
-pub use by_ord::{OrdIsValueOrd, der_cmp_by_ord, value_cmp_by_ord, value_cmp_is_ord};
+pub use by_ord::{OrdIsValueOrd, value_cmp_by_ord, value_cmp_is_ord};
 pub use der_core_coding::{
     DefaultContent, DefaultValue, EncodeFields, EncodeRef, EncodeValueRef, Explicit, FromDer,
     Implicit, ImplicitRef, IsConstructed, Reading, SliceReader, SliceWriter, Tagged, ToDer,

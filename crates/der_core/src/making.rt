@@ -1,9 +1,12 @@
 //! What the makers of types use: heads and contents as they are read, counted and written, fields
-//! behind tags, and orders of contents, for types that the traits alone don't serve.
+//! after tags, and orders of contents, for types that the traits alone don't serve.
+
+ghost use Rattle.std.specs.Prelude.{◌≡◌, ◌↔◌, IsTrue};
 
 pub use crate::contents::{value_cmp_behind, value_cmp_by_contents};
 pub use crate::copies::{copies_of, copies_of_option, copy_of_option};
 pub use crate::lists::elements_cmp;
+pub use crate::order::cmp_behind;
 pub use crate::placing::{place_of, stands_among};
 pub use der_core_coding::{
     decode_sliced, encode_behind, encode_explicit, encode_implicit, explicit_of, explicit_ref,
@@ -11,6 +14,7 @@ pub use der_core_coding::{
     optional_implicit, read_explicit, read_rising, read_whole,
 };
 pub use der_core_head::{header_len, is_constructed, is_same_tag, leading_octet_of, number_of};
+use der_core_head::{Error, ErrorKind};
 pub use der_core_octets::{
     encode_header, fit_len, has_redundant_octet, integer_octets_of, signed_of, slice_len, sum_len,
     unsigned_of,
@@ -19,3 +23,10 @@ pub use der_core_values::{
     decode_leaf, decode_leaf_of_tag, list_in_range, octets_in_range, read_content, read_fields,
     text_in_range,
 };
+
+/// Whether an error says that memory ran out.
+pub fn is_want_of_memory(error: &Error) -> bool
+    ensures { IsTrue result ↔ (error.now.kind ≡ ErrorKind.OutOfMemory) }
+{
+    matches!(error.kind, ErrorKind::OutOfMemory)
+}

@@ -1,12 +1,13 @@
 //! Comparison of values by their encodings.
 
 ghost use Rattle.std.specs.Prelude.{◌≡◌, true, Ok, IfErr};
-ghost use Rattle.der_core_head.specs.Shapes.{IsValid, IsContent, octets_of, begins};
+ghost use Rattle.der_core_head.specs.Shapes.{IsValid, IsContent, tagged, octets_of, begins};
 ghost use Rattle.der_core_head.specs.Spelling.{is_apart, is_content_apart};
 ghost use Rattle.der_core_head.specs.Writing.{size, size_content};
-ghost use Rattle.der_core.specs.Orders.{encodings_cmp, contents_cmp, Overflows, StartsWith};
+ghost use Rattle.der_core.specs.Orders.{octets_cmp, encodings_cmp, contents_cmp, Overflows};
+ghost use Rattle.der_core.specs.Orders.{StartsWith};
 
-use crate::headers::length_cmp;
+use crate::headers::{length_cmp, tag_cmp};
 use der_core_head::{Error, Tag};
 use der_core_values::describing::{Described, Way};
 use der_core_values::{EncodeValue, FixedTag, Shaped, ShapedValue};
@@ -89,17 +90,37 @@ pub trait FirstTag: Shaped {
             (octets_of Self.shape (Self.written self.now)) };
 }
 
+/// The order of two headers, and then that of their contents.
+pub fn cmp_behind<T: EncodeValue + ValueOrd>(
+    tag: Tag,
+    value: &T,
+    other_tag: Tag,
+    other: &T,
+) -> Result<Ordering, Error>
+    ensures order { is_content_apart T.content ≡ true
+        → IsValid (tagged tag T.content) (T.value_written value.now)
+        → IsValid (tagged other_tag T.content) (T.value_written other.now)
+        → result
+        ≡ Ok (octets_cmp (octets_of (tagged tag T.content) (T.value_written value.now))
+        (octets_of (tagged other_tag T.content) (T.value_written other.now))) }
+    ensures refused { IfErr result
+        (λ e. Overflows e (size (tagged tag T.content) (T.value_written value.now))
+        (size (tagged other_tag T.content) (T.value_written other.now))) }
+{
+    let len = value.value_len()?;
+    let other_len = other.value_len()?;
+    let headers = tag_cmp(tag, other_tag).then(length_cmp(len, other_len));
+    if headers.is_ne() {
+        return Ok(headers);
+    }
+    let contents = value.value_cmp(other)?;
+    Ok(contents)
+}
+
 /// The header, whose tag is that of the type, then the contents.
 impl<T: ValueOrd + EncodeValue + FixedTag> DerOrd for T {
     fn der_cmp(&self, other: &Self) -> Result<Ordering, Error> {
-        let len = self.value_len()?;
-        let other_len = other.value_len()?;
-        let lengths = length_cmp(len, other_len);
-        if lengths.is_ne() {
-            return Ok(lengths);
-        }
-        let contents = self.value_cmp(other)?;
-        Ok(contents)
+        cmp_behind(T::tag(), self, T::tag(), other)
     }
 }
 

@@ -1,14 +1,12 @@
 //! Places among values that ascend by their encodings.
 
-ghost use Rattle.std.specs.Prelude.{◌≡◌, ◌≤◌, length, IfOk, IfErr, IsOk};
-ghost use Rattle.std.specs.List.{insert};
-ghost use Rattle.der_core_head.specs.declared.error.ErrorKind.TheVariants as kinds;
+ghost use Rattle.std.specs.Prelude.{◌≡◌, ◌≤◌, length, IfOk, IfErr, IsOk, insert};
 ghost use Rattle.der_core_head.specs.Grammar.{plain_list};
 ghost use Rattle.der_core_head.specs.Shapes.{IsValid};
 ghost use Rattle.der_core.specs.Placed.{placed, stands_among, AllValid};
 
 use crate::order::DerOrd;
-use der_core_head::Error;
+use der_core_head::{Error, ErrorKind};
 use der_core_values::Member;
 use std::cmp::Ordering;
 
@@ -25,7 +23,7 @@ pub fn place_of<T: DerOrd + Member>(values: &[T], item: &T) -> Result<usize, Err
     // An answer comes wherever all have an encoding.
     ensures answered { AllValid T.shape T.written values.now
         → IsValid T.shape (T.written item.now) → IsOk result }
-    ensures refused { IfErr result (λ e. e.kind ≡ kinds.Overflow) }
+    ensures refused { IfErr result (λ e. e.kind ≡ ErrorKind.Overflow) }
 {
     for place in 0..values.len() {
         match item.der_cmp(&values[place])? {
@@ -47,7 +45,7 @@ pub fn stands_among<T: DerOrd + Member>(values: &[T], item: &T) -> Result<bool, 
     // An answer comes wherever all have an encoding.
     ensures answered { AllValid T.shape T.written values.now
         → IsValid T.shape (T.written item.now) → IsOk result }
-    ensures refused { IfErr result (λ e. e.kind ≡ kinds.Overflow) }
+    ensures refused { IfErr result (λ e. e.kind ≡ ErrorKind.Overflow) }
 {
     for place in 0..values.len() {
         match item.der_cmp(&values[place])? {

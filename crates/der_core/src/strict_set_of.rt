@@ -1,10 +1,8 @@
 //! SET OF, whose members rise (X.690 8.12, 11.6).
 
 ghost use Rattle.std.specs.Prelude.{◌≡◌, ◌==◌, None, IfSome, IfErr, OnOk, OnErr, false, length};
-ghost use Rattle.std.specs.Prelude.{◌∷◌, slice_get};
+ghost use Rattle.std.specs.Prelude.{◌∷◌, slice_get, IsPermutation, option_copied};
 ghost use Rattle.std.specs.List.{AllByRecursion};
-ghost use Rattle.std.specs.List.Sorted.{IsPermutation};
-ghost use Rattle.std.specs.Option.{option_copied};
 ghost use Rattle.std.specs.Slice.Iter.{iter_rest};
 ghost use Rattle.der_core_head.specs.declared.tag.Tag.TheVariants.{Set};
 ghost use Rattle.der_core_head.specs.Shapes.{above, nested, rising, octets_of, AllRising, IsValid};

@@ -1,6 +1,7 @@
 //! Comparison of contents of no octets.
 
 ghost use Rattle.std.specs.Prelude.{Ok};
+ghost use Rattle.der_core.specs.OrdLaws.{null_order};
 
 use crate::by_ord::OrdIsValueOrd;
 use crate::order::ValueOrd;
@@ -16,7 +17,5 @@ impl ValueOrd for () {
 }
 
 impl OrdIsValueOrd for () {
-    ghost use Rattle.der_core.specs.OrdLaws.{null_order};
-
     ghost order = { null_order };
 }

@@ -1,6 +1,5 @@
 -- A default behind a tag: it is read, and no other value has its octets.
-use Rattle.std.proofs.Common.{◌≡◌, ℕ, zero, suc, Bool, true, false, not, nat_eq, ◌<◌, ◌≤◌, List, [], ◌∷◌, ◌++◌, Ok, bytes_eq, nat_lt, length, drop, refl, sym, ap, ◌∙◌, subst, arith, inl, inr, length-append}
-use Rattle.std.specs.Prelude.{ℤ, pos}
+use Rattle.std.proofs.Common.{◌≡◌, ℕ, zero, suc, Bool, true, false, not, nat_eq, ◌<◌, ◌≤◌, List, [], ◌∷◌, ◌++◌, Ok, bytes_eq, nat_lt, length, drop, refl, sym, ap, ◌∙◌, subst, arith, inl, inr, length-append, ℤ, pos}
 use Rattle.std.proofs.lemmas.Bool.{cases_lt, ltb-true}
 use Rattle.std.proofs.lemmas.Bool.Decides.{same_from_decides, Decides-eqb, Decides-like, nat_tests}
 use Rattle.std.proofs.lemmas.List.{append_assoc, append_cancel_left, append-nil}

@@ -1,10 +1,8 @@
 mod Members
 mod Windows
-mod Appended
 mod Rooms
 mod HeadersWritten
 mod Puts
 mod Encodable
 mod Fronts
-mod Ruled
 mod Defaults

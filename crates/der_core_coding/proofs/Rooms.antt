@@ -1,6 +1,5 @@
 -- What is written to a slice, and that a valid value is written where there is room for it.
-use Rattle.std.proofs.Common.{◌≡◌, ℕ, ◌-◌, ◌≤◌, false, List, length, Some, Result, Ok, Err, refl, sym, ap, ◌∙◌, arith}
-use Rattle.std.proofs.lemmas.Bool.{le-ltb}
+use Rattle.std.proofs.Common.{◌≡◌, ℕ, ◌-◌, ◌≤◌, false, List, length, Some, Result, Ok, Err, refl, sym, ap, ◌∙◌, arith, le-ltb, IfOk, IsOkAnd}
 use Rattle.der_core_head.specs.declared.error.Error.{Error}
 use Rattle.der_core_head.specs.declared.error.ErrorKind.{ErrorKind}
 use Rattle.der_core_head.specs.declared.error.ErrorKind.TheVariants as kinds
@@ -9,7 +8,6 @@ use Rattle.der_core_head.specs.Heads.{Fits}
 use Rattle.der_core_head.specs.Shapes.{Shape, Content, Value, ContentValue, octets_of, contents, IsValid, IsContent}
 use Rattle.der_core_head.specs.Reading.{GivesNow}
 use Rattle.der_core_head.specs.Writing.{Out, put, write, write_content}
-use Rattle.std.specs.Prelude.{IfOk, IsOkAnd}
 use Rattle.der_core_head.proofs.Results.{ok_is, bind_ok, unless_ok}
 use Rattle.der_core_head.proofs.OkOctets.{writes_octets, writes_contents, writes_fitting}
 use Rattle.der_core_head.proofs.Written.{put_some-put, put_written, put_content}

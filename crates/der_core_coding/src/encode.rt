@@ -1,4 +1,4 @@
-//! The octets of a value: in a vector of their own, in a slice, or behind other octets.
+//! The octets of a value: in a vector of their own, in a slice, or after other octets.
 
 ghost use Rattle.std.specs.Prelude.{◌≡◌, ◌≤◌, ◌++◌, [], length, take, Ok, None, false};
 ghost use Rattle.std.specs.Prelude.{IfOk, IfErr, IsOkAnd};
@@ -36,7 +36,7 @@ fn fill<'a, T: Encode>(value: &T, bytes: &'a mut [u8]) -> Result<&'a [u8], Error
     writer.finish()
 }
 
-/// Writes a value behind the octets of a vector.
+/// Writes a value after the octets of a vector.
 fn append<T: Encode>(value: &T, out: &mut Vec<u8>) -> Result<Length, Error>
     ensures exact { IfOk result (λ len. appended T.shape (T.written value.now) out.old.items
         ≡ Ok (len.value, out.new.items)) }
@@ -58,9 +58,15 @@ fn append<T: Encode>(value: &T, out: &mut Vec<u8>) -> Result<Length, Error>
     }
 }
 
-/// A type whose values are written as octets: in a vector, in a slice, or behind other octets.
+/// A type whose values are written as octets: in a vector, in a slice, or after other octets.
 pub trait ToDer: Encode {
     /// The octets that spell the value. Memory is asked for once, for so many octets.
+    ///
+    /// As in `crates/build_certificates/src/main.rt`:
+    ///
+    /// ```rust
+    /// let octets = made.to_der(alloc)?;
+    /// ```
     ///
     /// # Errors
     /// `Overflow` where a length passes 2^32 - 1, `SetOrdering` and `SetDuplicate` where a strict
@@ -106,7 +112,7 @@ pub trait ToDer: Encode {
         fill(self, bytes)
     }
 
-    /// Writes the value behind the octets of a vector, and answers how many octets it has.
+    /// Writes the value after the octets of a vector, and answers how many octets it has.
     ///
     /// What stood there stays; after a refusal nothing else stands there. Memory is asked for once,
     /// for so many octets.

@@ -70,7 +70,7 @@ impl<T: DefaultContent + FixedTag> DefaultValue for T {
     }
 }
 
-/// The default behind both tags.
+/// The default after both tags.
 impl<T: DefaultContent + FixedTag, const N: u32> DefaultValue for Explicit<T, N> {
     ghost default_octets = { short_tlv (context true N) (short_tlv T.fixed_tag T.content_octets) };
 

@@ -1,7 +1,6 @@
 //! Calls on a reader by the type of what is read.
 
 ghost use Rattle.std.specs.Prelude.{◌≡◌, OnErr, true};
-ghost use Rattle.der_core_head.specs.declared.tag_mode.TagMode.TheVariants as modes;
 ghost use Rattle.der_core_head.specs.Tags.{context, implicit_tag};
 ghost use Rattle.der_core_head.specs.Shapes.{nested, only, optional, tagged};
 ghost use Rattle.der_core_head.specs.Grammar.{value_at, plain_option};
@@ -124,8 +123,7 @@ pub trait Reading<'r>: Reader<'r> + Sized {
             (read_at (Self.state self.old) T.shape) }
         ensures refused { OnErr result ((Self.state self.new).failed ≡ true) }
     {
-        let value = T::decode(alloc, self)?;
-        Ok(value)
+        Ok(T::decode(alloc, self)?)
     }
 
     /// The value behind a context-specific tag of that number, if that tag stands next
@@ -139,13 +137,13 @@ pub trait Reading<'r>: Reader<'r> + Sized {
         tag_number: TagNumber,
         tag_mode: TagMode,
     ) -> Result<Option<T>, Error>
-        ensures explicit { tag_mode ≡ modes.Explicit
+        ensures explicit { tag_mode ≡ TagMode.Explicit
             → Reads (plain_option T.value_plain) (Self.state self.old) (Self.state self.new) result
             (read_at (Self.state self.old)
             (optional
             (tagged (context true tag_number.value)
             (nested (only (tagged T.fixed_tag T.content)))))) }
-        ensures implicit { tag_mode ≡ modes.Implicit
+        ensures implicit { tag_mode ≡ TagMode.Implicit
             → Reads (plain_option T.value_plain) (Self.state self.old) (Self.state self.new) result
             (read_at (Self.state self.old)
             (optional (tagged (implicit_tag tag_number.value T.fixed_tag) T.content))) }

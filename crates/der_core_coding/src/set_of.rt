@@ -1,8 +1,5 @@
 //! SET OF, whose members rise (X.690 8.12, 11.6).
 
-ghost use Rattle.std.specs.Prelude.{◌≡◌};
-ghost use Rattle.std.specs.Ordering.{nat_cmp};
-ghost use Rattle.std.specs.Cmp.Lexicographic.{slice_cmp};
 ghost use Rattle.der_core_head.specs.Shapes.{above, rising};
 ghost use Rattle.der_core_head.specs.Grammar.{plain_list, follows_last};
 ghost use Rattle.der_core_head.specs.Reading.{Reads, IsDer, read_body_at, Gives};

@@ -3,7 +3,6 @@
 ghost use Rattle.std.specs.Prelude.{◌≡◌, ◌≤◌, ◌<◌, length, [], false, IfOk, IfErr, IsSomeAnd, ⊤};
 ghost use Rattle.der_core_head.specs.Limits.{length_max, levels_max};
 ghost use Rattle.der_core_head.specs.Heads.{Fits};
-ghost use Rattle.der_core_head.specs.declared.encoding_rules.EncodingRules.TheVariants.{Der};
 ghost use Rattle.der_core_head.specs.Reading.{State, unread, broken};
 ghost use Rattle.der_core_coding.specs.Slices.{unread_within};
 ghost use Rattle.der_core_octets.specs.Places.{IsAt};
@@ -42,12 +41,11 @@ impl<'a> SliceReader<'a> {
     /// # Errors
     /// `Overflow` for 2^32 octets or more.
     pub fn new(bytes: &'a [u8]) -> Result<SliceReader<'a>, Error>
-        ensures ok { IfOk result (λ r. Fits bytes.now × (r ≡ unread Der bytes.now)) }
+        ensures ok { IfOk result (λ r. Fits bytes.now × (r ≡ unread EncodingRules.Der bytes.now)) }
         ensures err { IfErr result (λ e. (length_max < length bytes.now)
             × (e.kind ≡ ErrorKind.Overflow)) }
     {
-        let reader = SliceReader::new_with_encoding_rules(bytes, EncodingRules::Der)?;
-        Ok(reader)
+        Ok(SliceReader::new_with_encoding_rules(bytes, EncodingRules::Der)?)
     }
 
     /// A reader of all the octets, by those rules.

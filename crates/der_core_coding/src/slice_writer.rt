@@ -3,7 +3,6 @@
 ghost use Rattle.std.specs.Prelude.{◌≡◌, ◌≤◌, ◌<◌, length, [], Some, IfOk, IfErr, IsSomeAnd};
 ghost use Rattle.std.specs.Prelude.{IsNone, IsErrAnd, OnOk, OnErr, true, false};
 ghost use Rattle.der_core_head.specs.Limits.{IsLength, length_max};
-ghost use Rattle.der_core_head.specs.declared.tag_mode.TagMode.TheVariants as modes;
 ghost use Rattle.der_core_head.specs.Tags.{implicit_tag};
 ghost use Rattle.der_core_head.specs.Shapes.{explicit, tagged};
 ghost use Rattle.der_core_head.specs.Reading.{GivesNow};
@@ -64,10 +63,6 @@ impl<'a> SliceWriter<'a> {
         let bytes = self.bytes;
         Ok(&bytes[..len])
     }
-}
-
-impl<'a> SliceWriter<'a> {
-    ghost use Rattle.der_core_coding.specs.Slices.{output};
 
     /// An error at the place of the writer, which has failed from then on. A place from 2^32 on is
     /// left out.
@@ -116,10 +111,6 @@ impl<'a> SliceWriter<'a> {
             }
         }
     }
-}
-
-impl<'a> SliceWriter<'a> {
-    ghost use Rattle.der_core_coding.specs.Slices.{output};
 
     /// Writes a value behind a context-specific tag, in front of its own or in its place
     /// (X.690 8.14). After a refusal the writer has failed.
@@ -133,11 +124,11 @@ impl<'a> SliceWriter<'a> {
         tag_mode: TagMode,
         value: &T,
     ) -> Result<(), Error>
-        ensures explicit { tag_mode ≡ modes.Explicit → (output self.old).failed ≡ false
+        ensures explicit { tag_mode ≡ TagMode.Explicit → (output self.old).failed ≡ false
             → GivesNow (λ _. output self.new) result
             (write (explicit tag_number.value (tagged T.fixed_tag T.content))
             (T.value_written value.now) (output self.old)) }
-        ensures implicit { tag_mode ≡ modes.Implicit → (output self.old).failed ≡ false
+        ensures implicit { tag_mode ≡ TagMode.Implicit → (output self.old).failed ≡ false
             → GivesNow (λ _. output self.new) result
             (write (tagged (implicit_tag tag_number.value T.fixed_tag) T.content)
             (T.value_written value.now) (output self.old)) }

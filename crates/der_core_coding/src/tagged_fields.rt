@@ -1,4 +1,4 @@
-//! Fields behind tags, from and for a row.
+//! Fields after tags, from and for a row.
 
 ghost use Rattle.std.specs.Prelude.{◌≡◌};
 ghost use Rattle.der_core_head.specs.Grammar.{plain_option};

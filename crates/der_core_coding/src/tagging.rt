@@ -1,4 +1,4 @@
-//! Values behind context-specific tags whose number is known when they are written.
+//! Values after context-specific tags whose number is known when they are written.
 
 ghost use Rattle.std.specs.Prelude.{◌≡◌, true};
 ghost use Rattle.der_core_head.specs.Tags.{context, implicit_tag};

@@ -2,7 +2,6 @@
 
 ghost use Rattle.std.specs.Prelude.{◌≡◌, ◌<◌, ◌^◌, ◌++◌, ℕ, List, length, [], true, false, Ok};
 ghost use Rattle.std.specs.Prelude.{◌≢◌, IfOk, IfErr};
-ghost use Rattle.der_core_head.specs.declared.error.ErrorKind.TheVariants.{OutOfMemory};
 ghost use Rattle.der_core_head.specs.Limits.{levels_max};
 ghost use Rattle.der_core_head.specs.Heads.{Fits};
 ghost use Rattle.der_core_head.specs.Shapes.{Value, Spells, IsValid, octets_of, leaf, tagged};
@@ -92,9 +91,15 @@ pub fn leaf_from_der<'a, T: Leaf<'a> + FixedTag>(alloc: Global, bytes: &'a [u8])
 pub trait FromDer<'a>: Decode<'a, SliceReader<'a>> {
     /// The value that the octets spell, all of the octets.
     ///
+    /// As in `crates/own_types/src/main.rt`:
+    ///
+    /// ```rust
+    /// let ticket = Ticket::from_der(alloc, octets.as_slice())?;
+    /// ```
+    ///
     /// # Errors
     /// `Overflow` for 2^32 octets or more, else the first fault from the left, `TrailingData` where
-    /// octets are left behind the value, or `OutOfMemory`.
+    /// octets are left after the value, or `OutOfMemory`.
     final fn from_der(alloc: Global, bytes: &'a [u8]) -> Result<Self, Error>
         // What is read is spelled so.
         ensures spelled { is_apart Self.shape ≡ true
@@ -105,7 +110,7 @@ pub trait FromDer<'a>: Decode<'a, SliceReader<'a>> {
             → Spells Self.shape v bytes.now → Gives Self.plain result (Ok v) }
         // What is refused for another reason than out of memory is spelled by no value.
         ensures refused { is_apart Self.shape ≡ true → are_enough Self.shape levels_max ≡ true
-            → IfErr result (λ e. e.kind ≢ OutOfMemory
+            → IfErr result (λ e. e.kind ≢ ErrorKind.OutOfMemory
             → (v : Value Self.shape) → Spells Self.shape v bytes.now → ⊥) }
         // Which fault it is.
         ensures exact { Gives (λ v. (Self.plain v, [])) result (read_whole Self.shape bytes.now) }
@@ -113,7 +118,7 @@ pub trait FromDer<'a>: Decode<'a, SliceReader<'a>> {
         read_whole(alloc, bytes)
     }
 
-    /// The value at the front of the octets, and the octets behind it.
+    /// The value at the front of the octets, and the octets after it.
     ///
     /// # Errors
     /// `Overflow` for 2^32 octets or more, else the first fault from the left, or `OutOfMemory`.

@@ -1,9 +1,7 @@
 -- Headers under BER and bodies of indefinite length are read from their octets, and what is read has these octets (X.690 8.1.3.6, 8.1.5).
 use Rattle.std.proofs.lemmas.Bool.Decides.{nat_tests}
-use Rattle.std.proofs.Common.{◌≡◌, ℕ, zero, suc, ◌+◌, ◌-◌, ◌<◌, ◌≤◌, Bool, true, cond, ltb, eqb, List, [], ◌∷◌, ◌++◌, length, take, drop, length-append, Option, Some, None, Result, Ok, Err, sym, refl, ap, subst, ◌∙◌, append_assoc, arith, ◌⊎◌, inl, inr}
+use Rattle.std.proofs.Common.{◌≡◌, ℕ, zero, suc, ◌+◌, ◌-◌, ◌<◌, ◌≤◌, Bool, true, cond, ltb, eqb, List, [], ◌∷◌, ◌++◌, length, take, drop, length-append, Option, Some, None, Result, Ok, Err, sym, refl, ap, subst, ◌∙◌, append_assoc, arith, ◌⊎◌, inl, inr, take-append-drop, append-nil, length-take, length-drop, drop_at, take_at, ◌&&◌}
 use Rattle.std.proofs.lemmas.Bool.{le-ltb, ltb-false, ne_eqb, eqb-true, and_parts, cases_eq}
-use Rattle.std.proofs.lemmas.List.{take-append-drop, append-nil, length-take, length-drop, drop_at, take_at}
-use Rattle.std.specs.Prelude.{◌&&◌}
 use Rattle.std.specs.List.{concat, AllByRecursion}
 use Rattle.der_core_head.specs.declared.error.ErrorKind.{ErrorKind}
 use Rattle.der_core_head.specs.declared.error.ErrorKind.TheVariants as kinds

@@ -1,6 +1,5 @@
 -- Values under two bounds of arcs.
-use Rattle.std.proofs.Common.{ℕ, zero, suc, ◌<◌, ◌≤◌, ◌⊎◌, inl, inr, List, [], ◌∷◌, ◌++◌, length, Some, None, refl, subst, arith}
-use Rattle.std.specs.Prelude.{◌↔◌, flat_map, Contains}
+use Rattle.std.proofs.Common.{ℕ, zero, suc, ◌<◌, ◌≤◌, ◌⊎◌, inl, inr, List, [], ◌∷◌, ◌++◌, length, Some, None, refl, subst, arith, ◌↔◌, flat_map, Contains}
 use Rattle.std.specs.List.{AllByRecursion}
 use Rattle.std.proofs.lemmas.Bool.{cases_lt}
 use Rattle.const_oid.specs.IdentifierOctets.{identifier_octets, IsIdentifier}

@@ -1,6 +1,5 @@
 -- Shapes that differ in their bound of arcs alone: what is spelled and read under two bounds.
-use Rattle.std.proofs.Common.{◌≡◌, ℕ, ◌≤◌, List, [], ◌++◌, Ok, Err, true, sym, ap, ◌∙◌}
-use Rattle.std.specs.Prelude.{◌↔◌}
+use Rattle.std.proofs.Common.{◌≡◌, ℕ, ◌≤◌, List, [], ◌++◌, Ok, Err, true, sym, ap, ◌∙◌, ◌↔◌}
 use Rattle.der_core_head.specs.declared.error.ErrorKind.{ErrorKind}
 use Rattle.der_core_head.specs.Octets.{IsOctets}
 use Rattle.der_core_head.specs.Heads.{Fits}

@@ -1,7 +1,6 @@
 -- Octets that a length can count.
-use Rattle.std.proofs.Common.{◌≡◌, ℕ, List, ◌++◌, length, Some, None, refl, ap, arith, inl, inr}
+use Rattle.std.proofs.Common.{◌≡◌, ℕ, List, ◌++◌, length, Some, None, refl, ap, arith, inl, inr, length-append}
 use Rattle.std.proofs.lemmas.Bool.Decides.{nat_tests}
-use Rattle.std.proofs.lemmas.List.{length-append}
 use Rattle.der_core_head.specs.declared.tag.Tag.{Tag}
 use Rattle.der_core_head.specs.Heads.{Fits, head_octets, tlv}
 use Rattle.der_core_head.specs.Shapes.{Shape, tagged, any, either, optional, defaulted, nothing, Value, octets_of, unless, IsValid}

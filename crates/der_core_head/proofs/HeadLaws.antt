@@ -1,14 +1,12 @@
 -- A length and a header are read from their octets, what is read has these octets, and no encoding begins another
 -- (X.690 8.1.3, 10.1).
 use Rattle.std.proofs.lemmas.Bool.Decides.{nat_tests}
-use Rattle.std.proofs.Common.{◌≡◌, ℕ, ◌+◌, ◌-◌, ◌^◌, ◌≤◌, List, [], ◌∷◌, ◌++◌, length, take, drop, Ok, sym, refl, ap, subst, ◌∙◌, append_assoc, arith, inl, inr}
+use Rattle.std.proofs.Common.{◌≡◌, ℕ, ◌+◌, ◌-◌, ◌^◌, ◌≤◌, List, [], ◌∷◌, ◌++◌, length, take, drop, Ok, sym, refl, ap, subst, ◌∙◌, append_assoc, arith, inl, inr, take-append-drop, length-take, bytes_eq}
 use Rattle.std.proofs.lemmas.Bool.{cases_lt, lt-ltb}
-use Rattle.std.proofs.lemmas.List.{take-append-drop, length-take}
 use Rattle.std.proofs.Math.Nat.{pow-le-pow_right}
 use Rattle.std.proofs.lemmas.Slice.Eq.{bytes_eq-Decides}
 use Rattle.std.proofs.lemmas.Int.Digits.{number_lt}
 use Rattle.std.specs.Int.Digits.{number_from_digits}
-use Rattle.std.specs.Str.{bytes_eq}
 use Rattle.const_oid.specs.Digits.{digits}
 use Rattle.const_oid.proofs.DigitLaws.{digits-Digits, split-same_length}
 use Rattle.der_core_head.specs.declared.error.ErrorKind.TheVariants as kinds

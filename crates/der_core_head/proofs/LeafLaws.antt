@@ -1,20 +1,44 @@
 -- The contents of a primitive type are of one value, and are read as it.
 use Rattle.std.proofs.lemmas.Bool.Decides.{nat_tests}
-use Rattle.std.proofs.Common.{◌≡◌, ℕ, ◌≤◌, Bool, true, false, List, [], ◌∷◌, length, Result, Ok, Err, refl, ap, subst, arith}
+use Rattle.std.proofs.Common.{◌≡◌, ℕ, ◌≤◌, Bool, true, false, List, [], ◌∷◌, length, Result, Ok, Err, refl, ap, subst, arith, ◌<◌}
 use Rattle.const_oid.specs.IdentifierOctets.{read_identifier}
 use Rattle.const_oid.specs.declared.error.Error.{Error as OidError}
 use Rattle.const_oid.proofs.IdentifierLaws.{identifier_sound, identifier_again, identifier_below}
 use Rattle.der_core_head.specs.declared.tag.Tag.{Tag}
 use Rattle.der_core_head.specs.Octets.{IsOctets}
 use Rattle.der_core_head.specs.Leaves.{Leaf, boolean, null, integer, bits, octets, identifier, utc_time, generalized_time, text, utf8, bmp, named, LeafValue, bool_octets, leaf_contents, IsLeafValue, bool_read, null_read, or_malformed, leaf_read}
-use Rattle.der_core_head.proofs.Results.{ok_is}
-use Rattle.der_core_head.proofs.Bytes.{IsBytes, octets_are}
+use Rattle.der_core_head.proofs.Results.{ok_is, fine, if_ok}
+use Rattle.der_core_head.proofs.Bytes.{IsBytes, octets_are, bytes_tail}
 use Rattle.der_core_head.proofs.IntegerLaws.{integer_sound, integer_again, integer_octets-below}
-use Rattle.der_core_head.proofs.BitLaws.{bits_sound, bits_again, bit_contents-below}
 use Rattle.der_core_head.proofs.DateLaws.{utc_sound, utc_again, utc_octets-below, generalized_sound, generalized_again, generalized_octets-below}
 use Rattle.der_core_head.proofs.TextLaws.{text_sound, text_again, utf8_sound, utf8_again}
 use Rattle.der_core_head.proofs.BmpLaws.{bmp_sound, bmp_again, bmp_below}
 use Rattle.der_core_head.proofs.NamedLaws.{named_sound, named_again, named_below}
+use Rattle.std.proofs.lemmas.Bool.{cond-true, and_parts, ltb-true, eqb-true}
+use Rattle.der_core_head.specs.BitStrings.{Bits, IsBits, are_bits, bit_contents, bits_read}
+use Rattle.der_core_head.specs.declared.error.ErrorKind.TheVariants as kinds
+
+-- The contents of a bit string are of one value, and are read as it.
+bits_sound : (t : Tag) (w : List ℕ) (v : Bits) → IsBytes w → bits_read t w ≡ Ok v → IsBits v × (w ≡ bit_contents v)
+unfolding bits_read
+bits_sound t [] v h e = absurd cc
+bits_sound t (u ∷ w) v h e =
+    let parts = if_ok (are_bits u w) (kinds.Value t) (fine (record { unused = u; octets = w })) v e in
+    let same : record { unused = u; octets = w } ≡ v = ok_is _ v parts.1 in
+    subst (λ (b : Bits). IsBits b × (u ∷ w ≡ bit_contents b)) same
+    (record { unused = parts.0; octets = octets_are w (bytes_tail u w h) }, refl)
+
+bits_again : (t : Tag) (v : Bits) → IsBits v → bits_read t (bit_contents v) ≡ Ok v
+unfolding bits_read
+bits_again t v h = cond-true (are_bits v.unused v.octets) (fine v) (Err (kinds.Value t)) h.unused
+
+-- a number of unused bits, and octets
+bit_contents-below : (v : Bits) → IsBits v → IsOctets (bit_contents v)
+bit_contents-below v h = (small v.unused v.octets h.unused, h.octets)
+  where
+    small : (u : ℕ) (w : List ℕ) → are_bits u w ≡ true → u < 256
+    small u [] e = let n = eqb-true u 0 e in omega arith
+    small u (b ∷ w) e = let n = ltb-true u 8 (and_parts _ _ e).0 in omega arith
 
 bool_sound : (t : Tag) (w : List ℕ) (v : Bool) → bool_read t w ≡ Ok v → w ≡ bool_octets v
 bool_sound t (b ∷ []) v e = grind (arith, nat_tests)

@@ -9,7 +9,6 @@ pub mod Fronts
 pub mod HeadLaws
 pub mod LongerLaws
 pub mod IntegerLaws
-pub mod BitLaws
 pub mod DateLaws
 pub mod TextLaws
 pub mod Utf8Reads

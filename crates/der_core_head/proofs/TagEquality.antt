@@ -1,6 +1,5 @@
 -- Tags with the same octets are the same tag.
-use Rattle.std.proofs.Common.{◌≡◌, true, false, arith}
-use Rattle.std.specs.Prelude.{◌≢◌}
+use Rattle.std.proofs.Common.{◌≡◌, true, false, arith, ◌≢◌}
 use Rattle.der_core_head.specs.declared.tag.Tag.{Tag}
 use Rattle.der_core_head.specs.Tags.{same_tag}
 use Rattle.der_core_head.proofs.TagLaws.{same_tag-refl, same_tag-eq}

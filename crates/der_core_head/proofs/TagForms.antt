@@ -1,6 +1,5 @@
 -- The forms of a tag, by the size of its number (X.690 8.1.2).
-use Rattle.std.proofs.Common.{◌≡◌, ℕ, ◌+◌, ◌/◌, ◌%◌, ◌<◌, ◌≤◌, List, [], ◌∷◌, refl, arith}
-use Rattle.std.proofs.lemmas.Bool.{lt-ltb, le-ltb}
+use Rattle.std.proofs.Common.{◌≡◌, ℕ, ◌+◌, ◌/◌, ◌%◌, ◌<◌, ◌≤◌, List, [], ◌∷◌, refl, arith, lt-ltb, le-ltb}
 use Rattle.const_oid.specs.Digits.{digits, marked}
 use Rattle.const_oid.proofs.DigitLaws.{digits-one, digits-more}
 use Rattle.der_core_head.specs.declared.tag.Tag.{Tag}

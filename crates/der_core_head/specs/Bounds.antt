@@ -2,17 +2,14 @@
 -- a shape states, and the identifiers that a value holds. Neither plain values nor octets depend on
 -- the bounds in a shape, so one value is judged under any bound.
 use Rattle.std.specs.Prelude.{◌≡◌, ℕ, ◌<◌, ◌≤◌, List, [], ◌∷◌, ◌++◌, length, Some, None, flat_map}
-use Rattle.std.specs.Prelude.{Contains}
+use Rattle.std.specs.Prelude.{Contains, ⊤}
 use Rattle.std.proofs.Common.{inl, inr}
 use Rattle.std.specs.List.{AllByRecursion}
-use Rattle.std.specs.Bool.{⊤}
 use Rattle.const_oid.specs.IdentifierOctets.{identifier_octets, IsIdentifier}
 use Rattle.der_core_head.specs.Octets.{IsOctets}
 use Rattle.der_core_head.specs.Tags.{IsTag}
 use Rattle.der_core_head.specs.Heads.{tlv, Fits}
-use Rattle.der_core_head.specs.Leaves.{Leaf, LeafValue, IsLeafValue, boolean, null, integer, bits}
-use Rattle.der_core_head.specs.Leaves.{octets, identifier, utc_time, generalized_time, text, utf8}
-use Rattle.der_core_head.specs.Leaves.{bmp, named}
+use Rattle.der_core_head.specs.Leaves.{Leaf, LeafValue, IsLeafValue, identifier}
 use Rattle.der_core_head.specs.Shapes.{Shape, Content, Body, tagged, any, either, optional}
 use Rattle.der_core_head.specs.Shapes.{defaulted, nothing, leaf, nested, done, field, only, many}
 use Rattle.der_core_head.specs.Shapes.{exactly, few, in_order, Value, ContentValue, BodyValue}
@@ -21,17 +18,7 @@ use Rattle.der_core_head.specs.Shapes.{octets_of, contents, AllInOrder}
 abbrev pub IsLeafUnder : ℕ → (l : Leaf) → LeafValue l → Type 0
 IsLeafUnder bound (identifier own capacity) v = IsIdentifier bound v
     × (length (identifier_octets v) ≤ capacity)
-IsLeafUnder bound boolean v = IsLeafValue boolean v
-IsLeafUnder bound null v = IsLeafValue null v
-IsLeafUnder bound (integer r) v = IsLeafValue (integer r) v
-IsLeafUnder bound bits v = IsLeafValue bits v
-IsLeafUnder bound octets v = IsLeafValue octets v
-IsLeafUnder bound utc_time v = IsLeafValue utc_time v
-IsLeafUnder bound generalized_time v = IsLeafValue generalized_time v
-IsLeafUnder bound (text r) v = IsLeafValue (text r) v
-IsLeafUnder bound utf8 v = IsLeafValue utf8 v
-IsLeafUnder bound bmp v = IsLeafValue bmp v
-IsLeafUnder bound (named n) v = IsLeafValue (named n) v
+IsLeafUnder bound other v = IsLeafValue other v
 
 -- what has an encoding where the arcs of each identifier are below this bound, whatever bound the
 -- shape states
@@ -65,17 +52,7 @@ unfoldable mutual
 -- a shape states this bound of arcs, and no other
 abbrev pub IsLeafOf : ℕ → Leaf → Type 0
 IsLeafOf bound (identifier own capacity) = own ≡ bound
-IsLeafOf bound boolean = ⊤
-IsLeafOf bound null = ⊤
-IsLeafOf bound (integer r) = ⊤
-IsLeafOf bound bits = ⊤
-IsLeafOf bound octets = ⊤
-IsLeafOf bound utc_time = ⊤
-IsLeafOf bound generalized_time = ⊤
-IsLeafOf bound (text r) = ⊤
-IsLeafOf bound utf8 = ⊤
-IsLeafOf bound bmp = ⊤
-IsLeafOf bound (named n) = ⊤
+IsLeafOf bound other = ⊤
 
 abbrev mutual
   pub IsOf : ℕ → Shape → Type 0
@@ -103,17 +80,7 @@ abbrev mutual
 -- inside `any` isn't looked into
 abbrev pub leaf_identifiers : (l : Leaf) → LeafValue l → List (List ℕ)
 leaf_identifiers (identifier bound capacity) v = v ∷ []
-leaf_identifiers boolean v = []
-leaf_identifiers null v = []
-leaf_identifiers (integer r) v = []
-leaf_identifiers bits v = []
-leaf_identifiers octets v = []
-leaf_identifiers utc_time v = []
-leaf_identifiers generalized_time v = []
-leaf_identifiers (text r) v = []
-leaf_identifiers utf8 v = []
-leaf_identifiers bmp v = []
-leaf_identifiers (named n) v = []
+leaf_identifiers other v = []
 
 unfoldable mutual
   pub identifiers_of : (s : Shape) → Value s → List (List ℕ)

@@ -1,8 +1,7 @@
 -- Whole numbers: two's complement in the fewest octets (X.690 8.3, 8.4).
 use Rattle.std.specs.Prelude.{ℕ, ℤ, pos, negsuc, ◌-◌, ◌<◌, ◌≤◌, ◌^◌, List, [], ◌∷◌, length, map}
 use Rattle.std.specs.Prelude.{Bool, false, not, Result, Ok, Err, nat_lt, ◌==◌, ◌&&◌, ◌||◌}
-use Rattle.std.specs.Prelude.{if◌then◌else◌, Contains}
-use Rattle.std.specs.Bool.{⊤}
+use Rattle.std.specs.Prelude.{if◌then◌else◌, Contains, ⊤}
 use Rattle.std.specs.List.{list_any}
 use Rattle.std.specs.Int.Digits.{number_from_digits}
 use Rattle.const_oid.specs.Digits.{digits}

@@ -1,8 +1,7 @@
 -- The types whose content is no list of values: their plain values, their contents, and reading of
 -- contents.
 use Rattle.std.specs.Prelude.{◌≡◌, ℕ, ℤ, ◌≤◌, List, [], ◌∷◌, length, Bool, true, false, Result, Ok}
-use Rattle.std.specs.Prelude.{Err, ◌==◌, if◌then◌else◌}
-use Rattle.std.specs.Bool.{⊤}
+use Rattle.std.specs.Prelude.{Err, ◌==◌, if◌then◌else◌, ⊤}
 use Rattle.const_oid.specs.IdentifierOctets.{identifier_octets, IsIdentifier, read_identifier}
 use Rattle.const_oid.specs.declared.error.Error.{Error as OidError}
 use Rattle.der_core_head.specs.declared.error.ErrorKind.{ErrorKind}

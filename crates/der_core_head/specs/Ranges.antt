@@ -1,8 +1,7 @@
 -- Values whose parts are in their ranges: what of validity neither a length nor an order decides.
-use Rattle.std.specs.Prelude.{◌≡◌, ◌≤◌, length, true, Some, None, bytes_eq}
+use Rattle.std.specs.Prelude.{◌≡◌, ◌≤◌, length, true, Some, None, bytes_eq, ⊤}
 use Rattle.std.proofs.Common.{inl, inr}
 use Rattle.std.specs.List.{AllByRecursion}
-use Rattle.std.specs.Bool.{⊤}
 use Rattle.der_core_head.specs.Octets.{IsOctets}
 use Rattle.der_core_head.specs.Tags.{IsTag}
 use Rattle.der_core_head.specs.Leaves.{IsLeafValue}

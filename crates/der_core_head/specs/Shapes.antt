@@ -2,10 +2,9 @@
 -- (X.680 24 to 31, X.690). A shape stands where a value stands, a content behind a header, a body
 -- where values stand inside a value.
 use Rattle.std.specs.Prelude.{◌≡◌, ◌≢◌, ◌≤◌, ℕ, List, [], ◌∷◌, ◌++◌, length, Bool, true, false, ◌⊎◌}
-use Rattle.std.specs.Prelude.{Option, Some, None, bytes_eq, flat_map, ◌||◌}
+use Rattle.std.specs.Prelude.{Option, Some, None, bytes_eq, flat_map, ◌||◌, ⊤}
 use Rattle.std.proofs.Common.{inl, inr}
 use Rattle.std.specs.List.{AllByRecursion}
-use Rattle.std.specs.Bool.{⊤}
 use Rattle.std.specs.Ordering.{nat_cmp}
 use Rattle.std.specs.declared.cmp.Ordering.TheVariants.{Less, Greater}
 use Rattle.std.specs.Cmp.Lexicographic.{slice_cmp}

@@ -1,7 +1,6 @@
 -- The printed names of tags: of the types of the universal class (X.680 8.6), and of a class, a
 -- number and a form.
-use Rattle.std.specs.Prelude.{ℕ, List, ◌++◌, Bool, if◌then◌else◌, codes}
-use Rattle.std.specs.Fmt.{decimal}
+use Rattle.std.specs.Prelude.{ℕ, List, ◌++◌, Bool, if◌then◌else◌, codes, decimal}
 use Rattle.der_core_head.specs.declared.class.Class.{Class}
 use Rattle.der_core_head.specs.declared.class.Class.TheVariants as classes
 use Rattle.der_core_head.specs.declared.tag.Tag.{Tag}

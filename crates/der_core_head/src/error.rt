@@ -1,7 +1,6 @@
 //! Why octets could not be read or written.
 
 ghost use Rattle.std.specs.Prelude.{◌≡◌, ◌≢◌, ◌⊎◌, Some, None, IsSome};
-ghost use Rattle.der_core_head.specs.declared.error.ErrorKind.TheVariants.{Incomplete};
 ghost use Rattle.der_core_head.specs.declared.error.ErrorKind.TheVariants.{OidMalformed};
 ghost use Rattle.der_core_head.specs.declared.error.ErrorKind.TheVariants.{OutOfMemory, Overflow};
 ghost use Rattle.der_core_head.specs.declared.error.ErrorKind.TheVariants.{Utf8};
@@ -113,7 +112,7 @@ impl Error {
 
     /// The error of an input that ends after so many octets, where more must stand.
     pub fn incomplete(actual_len: Length) -> Error
-        ensures { result ≡ record { kind = Incomplete; position = Some actual_len } }
+        ensures { result ≡ record { kind = ErrorKind.Incomplete; position = Some actual_len } }
     {
         ErrorKind::Incomplete.at(actual_len)
     }

@@ -61,7 +61,7 @@ pub fn more_levels_read_alike()
         → read s room w ≡ Ok (v, r) → read s more w ≡ Ok (v, r) }
 {}
 
-/// What is written is spelled: behind what stood there stand the octets of the value, no more than
+/// What is written is spelled: after what stood there stand the octets of the value, no more than
 /// a length can count; and the value has an encoding, where its parts are in their ranges.
 ///
 /// So a value that is too long is refused, and one with a set that doesn't rise (X.690 11.6).

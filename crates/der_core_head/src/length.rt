@@ -45,7 +45,7 @@ impl Length {
     }
 
     /// The number of octets of a whole encoding: the header of that tag and this length, and so
-    /// many octets behind it (X.690 8.1.1).
+    /// many octets after it (X.690 8.1.1).
     ///
     /// # Errors
     /// `Overflow` from 2^32 on.

@@ -20,36 +20,61 @@ use std::fmt;
 /// A tag: its class, whether the value is constructed, and its number (X.690 8.1.2).
 #[derive(Clone, Copy, Debug, PartialEq, Eq, PartialOrd, Ord, Hash)]
 pub enum Tag {
+    /// UNIVERSAL 1 (X.680 8.6).
     Boolean,
+    /// UNIVERSAL 2 (X.680 8.6).
     Integer,
+    /// UNIVERSAL 3 (X.680 8.6).
     BitString,
+    /// UNIVERSAL 4 (X.680 8.6).
     OctetString,
+    /// UNIVERSAL 5 (X.680 8.6).
     Null,
+    /// UNIVERSAL 6 (X.680 8.6).
     ObjectIdentifier,
+    /// UNIVERSAL 9.
     Real,
+    /// UNIVERSAL 10.
     Enumerated,
+    /// UNIVERSAL 12.
     Utf8String,
+    /// UNIVERSAL 13.
     RelativeOid,
+    /// UNIVERSAL 16.
     Sequence,
+    /// UNIVERSAL 17.
     Set,
+    /// UNIVERSAL 18.
     NumericString,
+    /// UNIVERSAL 19.
     PrintableString,
+    /// UNIVERSAL 20.
     TeletexString,
+    /// UNIVERSAL 21.
     VideotexString,
+    /// UNIVERSAL 22.
     Ia5String,
+    /// UNIVERSAL 23.
     UtcTime,
+    /// UNIVERSAL 24.
     GeneralizedTime,
+    /// UNIVERSAL 26.
     VisibleString,
+    /// UNIVERSAL 27.
     GeneralString,
+    /// UNIVERSAL 30.
     BmpString,
+    /// APPLICATION, of this number.
     Application {
         constructed: bool,
         number: TagNumber,
     },
+    /// Context-specific, of this number.
     ContextSpecific {
         constructed: bool,
         number: TagNumber,
     },
+    /// PRIVATE, of this number.
     Private {
         constructed: bool,
         number: TagNumber,
@@ -239,7 +264,8 @@ fn class_octet(class: u8, constructed: bool, number: TagNumber) -> u8
     64 * class + if constructed { 32 } else { 0 } + low
 }
 
-/// The number of a tag.
+/// The number of a tag. Inlined, so that of a tag that is known it is known.
+#[inline(always)]
 pub fn number_of(tag: Tag) -> u32
     ensures { result ≡ number_of tag }
 {

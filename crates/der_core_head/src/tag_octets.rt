@@ -2,7 +2,6 @@
 
 ghost use Rattle.std.specs.Prelude.{◌≡◌, ◌%◌, ◌<◌, ◌≤◌, ◌∷◌, ◌++◌, ℕ, List, drop, IfOk, IfSome};
 ghost use Rattle.std.specs.Prelude.{IfNone, OnSome, Ok, Err};
-ghost use Rattle.der_core_head.specs.declared.error.ErrorKind.TheVariants.{TagUnknown};
 ghost use Rattle.der_core_head.specs.declared.tag.Tag.{Tag};
 ghost use Rattle.der_core_head.specs.Tags.{IsTag, tag_octets, universal_tag, class_tag, digits_at};
 ghost use Rattle.der_core_head.specs.Tags.{number_at, tag_at};
@@ -12,7 +11,9 @@ use crate::error::{Error, ErrorKind};
 use crate::tag::Tag;
 use crate::tag_number::TagNumber;
 
-/// The tag of the universal class that an octet spells, if it is one that is read.
+/// The tag of the universal class that an octet spells, if it is one that is read. Inlined, so that
+/// it is a look into a table.
+#[inline(always)]
 #[tactic(auto, unfolding(crate::specs::Tags::universal_tag))]
 fn universal_tag_of(octet: u8) -> Option<Tag>
     ensures tag { result ≡ universal_tag octet }
@@ -73,7 +74,7 @@ fn tag_of_class(class: u8, constructed: bool, number: u32) -> Tag
 pub fn short_tag_of(octet: u8) -> Option<Tag>
     ensures some { IfSome result (λ t. (w : List ℕ) → tag_at (octet ∷ w) ≡ Ok (t, w)) }
     ensures unknown { IfNone result
-        (octet < 64 → (w : List ℕ) → tag_at (octet ∷ w) ≡ Err TagUnknown) }
+        (octet < 64 → (w : List ℕ) → tag_at (octet ∷ w) ≡ Err ErrorKind.TagUnknown) }
     // The number follows.
     ensures number { IfNone result (64 ≤ octet → octet % 32 ≡ 31) }
 {
@@ -122,7 +123,7 @@ fn digits_of(octets: &[u8]) -> Result<(u32, usize), Error>
     Err(Error::from(ErrorKind::Incomplete))
 }
 
-/// The number of a tag in the octets behind the leading one, and how many these are (8.1.2.4).
+/// The number of a tag in the octets after the leading one, and how many these are (8.1.2.4).
 ///
 /// # Errors
 /// Those of its digits, and `TagNumberInvalid` for a leading zero digit or a number below 31.

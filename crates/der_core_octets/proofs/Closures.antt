@@ -1,9 +1,6 @@
 -- What a call of a closure between two ends gives, by cases of what it answered.
-use Rattle.std.proofs.Common.{◌≡◌, ℕ, ◌+◌, ◌<◌, Bool, true, false, List, ◌++◌, length, take, drop, Result, Ok, Err, inl, inr, refl, ap, subst, ◌∙◌, arith}
-use Rattle.std.specs.Prelude.{is_err, OnOk, OnErr, IfOk, IfErr, ◌⊎◌}
-use Rattle.std.specs.Borrow.{MutBor}
+use Rattle.std.proofs.Common.{◌≡◌, ℕ, ◌+◌, ◌<◌, Bool, true, false, List, ◌++◌, length, take, drop, Result, Ok, Err, inl, inr, refl, ap, subst, ◌∙◌, arith, is_err, OnOk, OnErr, IfOk, IfErr, ◌⊎◌, MutBor, take_at}
 use Rattle.std.specs.Fn.{Once, FnOnceReturnsAtMut}
-use Rattle.std.proofs.lemmas.List.{take_at}
 use Rattle.der_core_head.specs.declared.error.Error.{Error}
 use Rattle.der_core_head.specs.declared.error.ErrorKind.TheVariants as kinds
 use Rattle.der_core_head.specs.declared.length.Length.{Length}

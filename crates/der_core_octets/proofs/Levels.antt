@@ -1,11 +1,9 @@
 -- Bodies of indefinite length, level by level.
-use Rattle.std.proofs.Common.{◌≡◌, ℕ, zero, suc, ◌+◌, ◌-◌, ◌<◌, ◌≤◌, cond, ltb, List, [], ◌∷◌, length, take, drop, Ok, Err, sym, refl, ap, subst, ◌∙◌, arith}
-use Rattle.std.proofs.lemmas.Bool.{eq-eqb, ne_eqb}
+use Rattle.std.proofs.Common.{◌≡◌, ℕ, zero, suc, ◌+◌, ◌-◌, ◌<◌, ◌≤◌, cond, ltb, List, [], ◌∷◌, length, take, drop, Ok, Err, sym, refl, ap, subst, ◌∙◌, arith, eq-eqb, ne_eqb, take_all, length-take, length-drop}
 use Rattle.der_core_head.specs.declared.error.ErrorKind.{ErrorKind}
 use Rattle.der_core_head.specs.declared.error.ErrorKind.TheVariants as kinds
 use Rattle.der_core_head.specs.Octets.{◌>>=◌}
 use Rattle.der_core_head.specs.Bodies.{Piece, ending, opening, encoding, tag_ber_at, mark_at, piece_at, levels_after, closed_at, body_len_at}
-use Rattle.std.proofs.lemmas.List.{take_all, length-take, length-drop}
 use Rattle.der_core_head.proofs.Bytes.{IsBytes, bytes_drop}
 use Rattle.der_core_head.proofs.BodyLaws.{closed-step, piece_shorter}
 

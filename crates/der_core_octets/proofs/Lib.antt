@@ -2,7 +2,6 @@ mod Magnitudes
 pub mod ReadCases
 pub mod Nested
 pub mod GoingOn
-mod Encodings
 mod Closures
 mod Joined
 pub mod Wanted

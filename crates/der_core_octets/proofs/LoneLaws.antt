@@ -1,7 +1,6 @@
 -- A length alone is read as one behind a tag, but for the fault of a form that isn't the shortest.
-use Rattle.std.proofs.Common.{arith, ◌≡◌, ℕ, List, ◌++◌, drop, Result, Ok, Err, refl, ap}
+use Rattle.std.proofs.Common.{arith, ◌≡◌, ℕ, List, ◌++◌, drop, Result, Ok, Err, refl, ap, ◌≢◌, IfOk}
 use Rattle.std.proofs.lemmas.Bool.Decides.{nat_tests}
-use Rattle.std.specs.Prelude.{◌≢◌, IfOk}
 use Rattle.der_core_head.specs.declared.error.Error.{Error}
 use Rattle.der_core_head.specs.declared.error.ErrorKind.{ErrorKind}
 use Rattle.der_core_head.specs.declared.error.ErrorKind.TheVariants as kinds

@@ -1,7 +1,6 @@
 -- Reading, by cases of what is there.
-use Rattle.std.proofs.Common.{◌≡◌, ℕ, ◌≤◌, Bool, true, false, List, length, Ok, refl, arith}
+use Rattle.std.proofs.Common.{◌≡◌, ℕ, ◌≤◌, Bool, true, false, List, length, Ok, refl, arith, length-take}
 use Rattle.std.proofs.lemmas.Bool.Decides.{nat_tests}
-use Rattle.std.proofs.lemmas.List.{length-take}
 use mathlib.Core.Bool.{◌||◌}
 use Rattle.der_core_head.specs.Grammar.{slice_at}
 

@@ -54,7 +54,7 @@ impl BytesOwned {
         Ok(BytesOwned { bytes })
     }
 
-    /// The contents of the parts of a string in parts, joined (X.690 8.7.3): those behind its
+    /// The contents of the parts of a string in parts, joined (X.690 8.7.3): those after its
     /// header, each an encoding of `inner_tag` by DER, up to the end of its content, or to a mark
     /// there that closes an indefinite length (8.1.5). After a refusal the reader has failed.
     ///
@@ -84,6 +84,18 @@ impl BytesOwned {
         }
     }
 
+    /// A copy of octets that a length can count.
+    ///
+    /// # Errors
+    /// Out of memory.
+    pub fn copy_of(alloc: Global, octets: &[u8]) -> Result<BytesOwned, AllocError>
+        requires { Fits octets.now }
+        ensures { IfOk result (λ copy. copy ≡ octets.now) }
+    {
+        let bytes = octets.to_vec(alloc)?;
+        Ok(BytesOwned { bytes })
+    }
+
     /// A copy.
     ///
     /// # Errors
@@ -91,8 +103,7 @@ impl BytesOwned {
     pub fn clone(&self, alloc: Global) -> Result<BytesOwned, AllocError>
         ensures { IfOk result (λ copy. copy ≡ self.now) }
     {
-        let bytes = self.bytes.as_slice().to_vec(alloc)?;
-        Ok(BytesOwned { bytes })
+        BytesOwned::copy_of(alloc, self.as_slice())
     }
 
     /// The octets, given back.
@@ -124,6 +135,15 @@ impl BytesOwned {
         ensures { IsTrue result ↔ (self.now ≡ []) }
     {
         self.bytes.is_empty()
+    }
+}
+
+/// A copy, in memory of the same allocator.
+impl Clone for BytesOwned {
+    ghost is_clone = { λ x y. y ≡ x };
+
+    fn clone(&self) -> Result<BytesOwned, AllocError> {
+        BytesOwned::copy_of(*self.bytes.allocator(), self.as_slice())
     }
 }
 

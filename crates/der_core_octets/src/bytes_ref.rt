@@ -61,7 +61,7 @@ impl<'a> BytesRef<'a> {
     /// The first octets.
     ///
     /// # Errors
-    /// `Incomplete` where there are fewer, at the place behind the last one.
+    /// `Incomplete` where there are fewer, at the place after the last one.
     pub fn prefix(&self, len: Length) -> Result<BytesRef<'a>, Error>
         ensures ok { IfOk result
             (λ front. (len.value ≤ length (held_octets self.now))

@@ -126,6 +126,5 @@ pub fn fit_len(len: usize) -> Result<Length, Error>
 pub fn slice_len(octets: &[u8]) -> Result<Length, Error>
     ensures { GivesNow (λ l. l.value) result (fit_len (length octets.now)) }
 {
-    let len = fit_len(octets.len())?;
-    Ok(len)
+    Ok(fit_len(octets.len())?)
 }

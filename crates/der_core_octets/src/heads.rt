@@ -32,7 +32,7 @@ pub fn length_of(tag: Tag, octets: &[u8]) -> Result<(Length, usize), Error>
     parse::length_of(tag, octets)
 }
 
-/// The length at the front of octets, behind no tag, and how many octets it takes (X.690 8.1.3,
+/// The length at the front of octets, after no tag, and how many octets it takes (X.690 8.1.3,
 /// 10.1).
 ///
 /// # Errors

@@ -28,7 +28,7 @@ pub fn length_of(tag: Tag, octets: &[u8]) -> Result<(Length, usize), Error>
     }
 }
 
-/// The length at the front of octets, behind no tag, and how many octets it takes (8.1.3, 10.1).
+/// The length at the front of octets, after no tag, and how many octets it takes (8.1.3, 10.1).
 ///
 /// # Errors
 /// Those of `length_of`, but `Overlength` where fewer octets would do.
@@ -41,7 +41,7 @@ pub fn lone_length_of(octets: &[u8]) -> Result<(Length, usize), Error>
     }
 }
 
-/// The fault of a length behind no tag.
+/// The fault of a length after no tag.
 fn without_tag(fault: ErrorKind) -> ErrorKind
     ensures { result ≡ lone_fault fault }
 {
@@ -77,7 +77,7 @@ fn shortest_length_of(octets: &[u8]) -> Option<(Length, usize)>
     Some((length, usize::from(first) - 127))
 }
 
-/// The length that a first octet from 128 on and those behind it spell, if they are its shortest
+/// The length that a first octet from 128 on and those after it spell, if they are its shortest
 /// form (8.1.3.5, 10.1).
 fn long_length_of(first: u8, rest: &[u8]) -> Option<Length>
     requires { 127 < first }

@@ -1,6 +1,5 @@
 //! What stands next, without passing over it.
 
-ghost use Rattle.std.specs.Prelude.{◌≡◌};
 ghost use Rattle.der_core_head.specs.Grammar.{peek_at};
 ghost use Rattle.der_core_head.specs.Reading.{Peeks};
 ghost use Rattle.der_core_head.specs.Fronts.{matches_at};

@@ -8,7 +8,6 @@ ghost use Rattle.der_core_head.specs.Tags.{IsTag};
 ghost use Rattle.der_core_head.specs.Heads.{head_octets, Fits};
 ghost use Rattle.der_core_head.specs.Bodies.{head_by, tag_by};
 ghost use Rattle.der_core_head.specs.declared.tag.Tag.{Tag};
-ghost use Rattle.der_core_head.specs.declared.tag.Tag.TheVariants.{Sequence};
 ghost use Rattle.der_core_head.specs.Shapes.{Body, BodyValue, nested, tagged};
 ghost use Rattle.der_core_head.specs.Grammar.{slice_at, byte_at, peek_at, value_at};
 ghost use Rattle.der_core_head.specs.Reading.{State, IsDer, Kept, ClosureReads, HandsBack, Reads};
@@ -278,8 +277,7 @@ pub trait Reader<'r>: Drop {
                 return Ok(tag);
             }
         }
-        let tag = next_any_tag(self)?;
-        Ok(tag)
+        Ok(next_any_tag(self)?)
     }
 
     /// The next tag, by the rules of the reader, without passing over it, if octets are left where
@@ -523,15 +521,16 @@ pub trait Reader<'r>: Drop {
         requires hands_back { HandsBack state F.FnOnce f }
         // By either rules a header of a SEQUENCE stands there, and it and its content were passed
         // over.
-        ensures moved { OnOk result (IsEnclosed Sequence (state self.old) (state self.new)) }
+        ensures moved { OnOk result (IsEnclosed Tag.Sequence (state self.old) (state self.new)) }
         // The answer is that of the closure, which left nothing of the content.
-        ensures ran { IfOk result (λ x. AnsweredIn Sequence state F.FnOnce f (state self.old) x) }
+        ensures ran { IfOk result
+            (λ x. AnsweredIn Tag.Sequence state F.FnOnce f (state self.old) x) }
         ensures kept { Kept (state self.old) (state self.new) }
         ensures failed { OnErr result ((state self.new).failed ≡ true) }
-        ensures refused { IfErr result (RefusesIn Sequence state F.FnOnce f (state self.old)) }
+        ensures refused { IfErr result (RefusesIn Tag.Sequence state F.FnOnce f (state self.old)) }
         ensures reads { (b : Body) (view : T → BodyValue b) → ClosureReads state F.FnOnce f b view
             → Reads view (state self.old) (state self.new) result
-            (read_at (state self.old) (tagged Sequence (nested b))) }
+            (read_at (state self.old) (tagged Tag.Sequence (nested b))) }
     {
         let header = self.read_header_of(Tag::Sequence)?;
         let value = self.read_nested(header.length, f)?;

@@ -69,6 +69,18 @@ impl StringOwned {
         Ok(StringOwned { text })
     }
 
+    /// A copy of a text that a length can count.
+    ///
+    /// # Errors
+    /// Out of memory.
+    pub fn copy_of(alloc: Global, text: &str) -> Result<StringOwned, AllocError>
+        requires { Fits text.now }
+        ensures { IfOk result (λ copy. copy ≡ text.now) }
+    {
+        let text = String::from_str(alloc, text)?;
+        Ok(StringOwned { text })
+    }
+
     /// A copy.
     ///
     /// # Errors
@@ -76,8 +88,7 @@ impl StringOwned {
     pub fn clone(&self, alloc: Global) -> Result<StringOwned, AllocError>
         ensures { IfOk result (λ copy. copy ≡ self.now) }
     {
-        let text = String::from_str(alloc, self.as_str())?;
-        Ok(StringOwned { text })
+        StringOwned::copy_of(alloc, self.as_str())
     }
 
     /// The text, given back.
@@ -119,6 +130,15 @@ impl StringOwned {
         ensures { IsTrue result ↔ (self.now ≡ []) }
     {
         self.text.as_bytes().is_empty()
+    }
+}
+
+/// A copy, in memory of the same allocator.
+impl Clone for StringOwned {
+    ghost is_clone = { λ x y. y ≡ x };
+
+    fn clone(&self) -> Result<StringOwned, AllocError> {
+        StringOwned::copy_of(*self.text.allocator(), self.as_str())
     }
 }
 

@@ -1,6 +1,5 @@
 -- Octets of a content, and what a leaf reads of them.
-use Rattle.std.proofs.Common.{◌≡◌, ℕ, arith, Bool, true, false, List, length, take, drop, Result, Ok, Err, refl, sym, ap, ◌∙◌}
-use Rattle.std.proofs.Common.{inl, inr}
+use Rattle.std.proofs.Common.{◌≡◌, ℕ, arith, Bool, true, false, List, length, take, drop, Result, Ok, Err, refl, sym, ap, ◌∙◌, inl, inr}
 use Rattle.std.proofs.lemmas.Bool.{cases_lt, le-ltb}
 use Rattle.der_core_head.specs.Limits.{length_max}
 use Rattle.der_core_head.specs.Heads.{Fits}

@@ -1,6 +1,5 @@
 -- What a content is read as where only some numbers of eight bits are read, by what it is read as where all of them are.
-use Rattle.std.proofs.Common.{rules, ◌≡◌, ℕ, ◌≤◌, ◌<◌, ◌^◌, Bool, true, false, cond, List, [], ◌∷◌, length, suc, Ok, Err, refl, sym, ap, arith}
-use Rattle.std.specs.Prelude.{ℤ, pos, negsuc, nat_lt, ◌==◌, ◌||◌, ◌≢◌, Contains}
+use Rattle.std.proofs.Common.{rules, ◌≡◌, ℕ, ◌≤◌, ◌<◌, ◌^◌, Bool, true, false, cond, List, [], ◌∷◌, length, suc, Ok, Err, refl, sym, ap, arith, ℤ, pos, negsuc, nat_lt, ◌==◌, ◌||◌, ◌≢◌, Contains}
 use Rattle.std.specs.List.{AllByRecursion, list_any}
 use Rattle.std.proofs.lemmas.Bool.{ltb-false, ltb-true, eqb-true, ne_eqb, and_parts}
 use Rattle.der_core_head.specs.declared.error.ErrorKind.{ErrorKind}

@@ -82,7 +82,7 @@ pub trait DecodeRow<'a, R: Reader<'a>>: FieldRow {
 ///
 /// # Errors
 /// `Incomplete` where there are fewer octets, `NestingDepth` where 64 levels are open, the first
-/// fault of the fields, `TrailingData` where octets are left behind them, or `OutOfMemory`.
+/// fault of the fields, `TrailingData` where octets are left after them, or `OutOfMemory`.
 pub fn read_fields<'a, R: Reader<'a>, T: DecodeFields<'a, R> + Drop>(
     alloc: Global,
     reader: &mut R,

@@ -187,8 +187,7 @@ impl Integer for u128 {
     ghost number = { λ n. pos n };
 
     fn from_integer(tag: Tag, octets: &[u8]) -> Result<u128, Error> {
-        let number = unsigned_of(tag, octets, 128)?;
-        Ok(number)
+        Ok(unsigned_of(tag, octets, 128)?)
     }
 
     fn sign_and_bits(&self) -> (bool, u128) {

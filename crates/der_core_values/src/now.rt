@@ -1,4 +1,4 @@
-//! Values whose contents are leaves, behind their tags.
+//! Values whose contents are leaves, after their tags.
 
 ghost use Rattle.std.specs.Prelude.{◌≡◌, false, IfErr, Err};
 ghost use Rattle.der_core_head.specs.Shapes.{leaf, tagged};

@@ -6,7 +6,6 @@ ghost use Rattle.der_core_head.specs.declared.tag.Tag.TheVariants as tags;
 ghost use Rattle.der_core_head.specs.Integers.{among, integer_read};
 ghost use Rattle.der_core_head.specs.Leaves.{integer};
 ghost use Rattle.der_core_head.specs.Shapes.{leaf};
-ghost use Rattle.der_core_head.specs.Reading.{GivesNow};
 ghost use Rattle.der_core_values.specs.Numbered.{are_octets};
 
 use crate::decode::FixedTag;

@@ -1,7 +1,5 @@
 //! One of four alternatives, or of more.
 
-ghost use Rattle.std.specs.Prelude.{◌≡◌, true};
-ghost use Rattle.der_core_head.specs.Ranges.{IsInRange};
 ghost use Rattle.der_core_head.specs.Shapes.{either};
 ghost use Rattle.der_core_values.specs.Both.{both_true};
 ghost use Rattle.der_core_values.specs.Choices.{plain_of_four};
@@ -21,9 +19,13 @@ use std::alloc::Global;
 /// `OneOf3` of the others.
 #[derive(Debug, Drop)]
 pub enum OneOf4<A, B, C, D> {
+    /// A value of the first type.
     First(A),
+    /// A value of the second one.
     Second(B),
+    /// A value of the third one.
     Third(C),
+    /// A value of the fourth one.
     Fourth(D),
 }
 

@@ -1,7 +1,5 @@
 //! One of two alternatives, or of three.
 
-ghost use Rattle.std.specs.Prelude.{◌≡◌, true};
-ghost use Rattle.der_core_head.specs.Ranges.{IsInRange};
 ghost use Rattle.der_core_head.specs.Shapes.{either};
 ghost use Rattle.der_core_values.specs.Both.{both_true};
 ghost use Rattle.der_core_values.specs.Choices.{plain_of_two};
@@ -23,7 +21,9 @@ use std::alloc::Global;
 /// types that it holds, and `Member`, that its first tags differ, by computation.
 #[derive(Debug, Drop)]
 pub enum OneOf2<A, B> {
+    /// A value of the first type.
     First(A),
+    /// A value of the second one.
     Second(B),
 }
 

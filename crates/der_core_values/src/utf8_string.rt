@@ -1,7 +1,6 @@
 //! UTF8String (X.690 8.23.10).
 
-ghost use Rattle.std.specs.Prelude.{◌≡◌, false};
-ghost use Rattle.std.specs.String.{string_bytes};
+ghost use Rattle.std.specs.Prelude.{◌≡◌, false, string_bytes};
 ghost use Rattle.der_core_head.specs.declared.tag.Tag.TheVariants.{Utf8String};
 ghost use Rattle.der_core_octets.specs.Held.{held_text};
 ghost use Rattle.der_core_head.specs.Leaves.{utf8};
@@ -42,8 +41,7 @@ impl<'a> Leaf<'a> for &'a str {
 
     #[tactic(auto, using(der_core_head::proofs::Utf8Reads::utf8_reads))]
     fn from_content(_alloc: Global, _tag: Tag, octets: &'a [u8]) -> Result<&'a str, Error> {
-        let text = str::from_utf8(octets)?;
-        Ok(text)
+        Ok(str::from_utf8(octets)?)
     }
 }
 
@@ -77,8 +75,7 @@ impl<'a> Leaf<'a> for String {
     #[tactic(auto, using(der_core_head::proofs::Utf8Reads::utf8_reads))]
     fn from_content(alloc: Global, _tag: Tag, octets: &'a [u8]) -> Result<String, Error> {
         let text = str::from_utf8(octets)?;
-        let text = String::from_str(alloc, text)?;
-        Ok(text)
+        Ok(String::from_str(alloc, text)?)
     }
 }
 

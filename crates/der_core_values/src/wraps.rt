@@ -72,8 +72,7 @@ impl<'a, R: Reader<'a>, F: DecodeValue<'a, R> + EncodeValue + ApartValue, T: Wra
     T,
 > for AsField<F> {
     fn decode_by(alloc: Global, reader: &mut R, header: Header) -> Result<T, Error> {
-        let field = F::decode_value(alloc, reader, header)?;
-        Ok(wrapped(field))
+        Ok(wrapped(F::decode_value(alloc, reader, header)?))
     }
 }
 

@@ -1,6 +1,5 @@
 -- `==` of any values is of tag and content.
-use Rattle.std.proofs.Common.{◌≡◌, Bool, true, ap}
-use Rattle.std.specs.Prelude.{nat_eq, ◌&&◌}
+use Rattle.std.proofs.Common.{◌≡◌, Bool, true, ap, nat_eq, ◌&&◌}
 use Rattle.std.specs.Cmp.{nat_eq_equiv}
 use Rattle.std.specs.Cmp.Lexicographic.{pointwise, bytes_decides}
 use Rattle.der_core.proofs.ValueEquality.{Alike, exact}

@@ -1,6 +1,5 @@
 -- A content that is read as a value of a type.
-use Rattle.std.proofs.Common.{◌≡◌, ℕ, List, [], length, true, false, Result, Ok, Err, refl, sym, ap, ◌∙◌, arith}
-use Rattle.std.proofs.lemmas.Bool.{le-ltb}
+use Rattle.std.proofs.Common.{◌≡◌, ℕ, List, [], length, true, false, Result, Ok, Err, refl, sym, ap, ◌∙◌, arith, le-ltb}
 use Rattle.std.proofs.lemmas.List.{take_all, drop_all}
 use Rattle.der_core_head.specs.declared.error.ErrorKind.{ErrorKind}
 use Rattle.der_core_head.specs.declared.error.ErrorKind.TheVariants as kinds

@@ -1,5 +1,4 @@
 mod AnyLaws
-mod Converted
 mod SameTags
 mod TextContents
 pub mod AnyEquality

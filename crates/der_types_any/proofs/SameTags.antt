@@ -4,7 +4,5 @@ use Rattle.der_core_head.specs.declared.tag.Tag.{Tag}
 use Rattle.der_core_head.specs.Tags.{same_tag}
 use Rattle.der_core_head.proofs.TagLaws.{same_tag-eq}
 
-pub equal_tags : (a b : Tag) → same_tag a b ≡ true → a ≡ b
-equal_tags a b e = same_tag-eq a b e
-
-pub ruleset same_tags = (equal_tags)
+pub same_tags : (a b : Tag) → same_tag a b ≡ true → a ≡ b
+same_tags a b e = same_tag-eq a b e

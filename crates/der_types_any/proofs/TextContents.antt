@@ -1,6 +1,5 @@
 -- A content that a length can count is read as a text as octets are.
-use Rattle.std.proofs.Common.{◌≡◌, ℕ, List, length, refl, arith}
-use Rattle.std.proofs.lemmas.Bool.{le-ltb}
+use Rattle.std.proofs.Common.{◌≡◌, ℕ, List, length, refl, arith, le-ltb}
 use Rattle.der_core_head.specs.Limits.{length_max}
 use Rattle.der_core_head.specs.Heads.{Fits}
 use Rattle.der_core_head.specs.declared.tag.Tag.{Tag}

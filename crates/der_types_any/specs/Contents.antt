@@ -1,15 +1,19 @@
 -- The content of any value, read as a value of a type.
-use Rattle.std.specs.Prelude.{ℕ, List, [], None, false, Result, Err, if◌then◌else◌}
+use Rattle.std.specs.Prelude.{ℕ, ℤ, List, [], None, false, Result, Err, if◌then◌else◌}
 use Rattle.der_core_head.specs.declared.encoding_rules.EncodingRules.{EncodingRules}
 use Rattle.der_core_head.specs.declared.encoding_rules.EncodingRules.TheVariants as encodings
+use Rattle.der_core_head.specs.declared.error.Error.{Error}
 use Rattle.der_core_head.specs.declared.error.ErrorKind.{ErrorKind}
 use Rattle.der_core_head.specs.declared.error.ErrorKind.TheVariants as kinds
 use Rattle.der_core_head.specs.declared.tag.Tag.{Tag}
+use Rattle.der_core_head.specs.declared.tag.Tag.TheVariants as tags
+use Rattle.der_core_head.specs.Integers.{Numbers}
 use Rattle.der_core_head.specs.Octets.{◌>>=◌}
 use Rattle.der_core_head.specs.Tags.{same_tag}
-use Rattle.der_core_head.specs.Leaves.{Leaf, LeafValue, leaf_read}
+use Rattle.der_core_head.specs.Leaves.{Leaf, LeafValue, integer, leaf_read}
 use Rattle.der_core_head.specs.Shapes.{AnyValue, Content, ContentValue}
 use Rattle.der_core_head.specs.Grammar.{read_content_by, whole}
+use Rattle.der_core_head.specs.Reading.{GivesNow}
 use Rattle.der_core_head.specs.Writing.{write_content}
 use Rattle.der_core_head.specs.Fronts.{alone}
 use Rattle.der_types_numbers.specs.Numbers.{if_countable}
@@ -28,6 +32,10 @@ content_as t c a = content_by encodings.Der t c a
 -- the value of a type whose content is no list of values, or the fault
 unfoldable pub leaf_as : Tag → (l : Leaf) → AnyValue → Result (LeafValue l) ErrorKind
 leaf_as t l a = if same_tag a.tag t then leaf_read l a.tag a.contents else Err kinds.TagUnexpected
+
+-- an answer that is the number of an INTEGER, among those of a type, or the fault
+abbrev pub IntegerGives : {X : Type 0} → Numbers → (X → ℤ) → AnyValue → Result X Error → Type 0
+IntegerGives numbers number a r = GivesNow number r (leaf_as tags.Integer (integer numbers) a)
 
 -- a value's tag and the content that is written
 unfoldable pub written_as : Tag → (c : Content) → ContentValue c → Result AnyValue ErrorKind

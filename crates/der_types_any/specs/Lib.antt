@@ -1,4 +1,3 @@
 pub mod Anys
 pub mod Contents
 pub mod AnyOrders
-pub mod Kept

@@ -1,13 +1,10 @@
 //! Any value.
 
-ghost use Rattle.std.specs.Prelude.{◌≡◌, ◌<◌, ◌↔◌, [], length, vec_len, nat_eq, true};
-ghost use Rattle.std.specs.Prelude.{false, Some, None, Ok, IsTrue, IfOk, IfErr, IsErrAnd};
-ghost use Rattle.std.proofs.Common.{refl};
+ghost use Rattle.std.specs.Prelude.{◌≡◌, ◌<◌, ◌↔◌, [], length, vec_len, nat_eq, true, false, Some};
+ghost use Rattle.std.specs.Prelude.{None, Ok, IsTrue, IfOk, IfErr, IsErrAnd, refl};
 ghost use Rattle.std.specs.Cmp.{po, partial_equiv_from_equiv, on_equiv, on_per};
 ghost use Rattle.std.specs.Cmp.Lexicographic.{pointwise, nat_list_eq_equiv};
 ghost use Rattle.der_core_head.specs.Limits.{IsLength, length_max, levels_max};
-ghost use Rattle.der_core_head.specs.declared.encoding_rules.EncodingRules.TheVariants.{Der};
-ghost use Rattle.der_core_head.specs.declared.tag.Tag.TheVariants.{Null, Sequence};
 ghost use Rattle.der_core_head.specs.Shapes.{any, tagged, nested, Body, BodyValue, ContentValue};
 ghost use Rattle.der_core_head.specs.Shapes.{IsValid, Spells, octets_of};
 ghost use Rattle.der_core_head.specs.Spelling.{is_apart, are_enough};
@@ -22,11 +19,11 @@ ghost use Rattle.der_core.specs.Orders.{octets_cmp};
 ghost use Rattle.der_types_any.specs.Contents.{content_as, content_by, written_as};
 
 use crate::any_ref::AnyRef;
-use crate::octets::Octets;
 use der_core::{
     Choice, Decode, DecodeValue, DerOrd, Encode, EncodeValue, EncodingRules, Error, ErrorKind,
     FirstTag, FixedTag, Header, Length, Reader, Shaped, SliceReader, Tag, Writer,
 };
+use der_types_numbers::KeptOctets;
 use std::alloc::{AllocError, Global};
 use std::cmp::Ordering;
 use std::hash::{Hash, Hasher};
@@ -39,7 +36,7 @@ use std::marker::Model;
 #[derive(Debug, Drop)]
 pub struct Any {
     tag: Tag,
-    bytes: Octets,
+    bytes: KeptOctets,
 }
 
 impl Model for Any {
@@ -79,17 +76,17 @@ impl Any {
         if bytes.len() > Length::MAX.value as usize {
             return Err(Error::from(ErrorKind::Overflow));
         }
-        let bytes = Octets::of(bytes);
+        let bytes = KeptOctets::of(bytes);
         Ok(Any { tag, bytes })
     }
 
     /// NULL.
     pub fn null(alloc: Global) -> Any
-        ensures { result ≡ record { tag = Null; contents = [] } }
+        ensures { result ≡ record { tag = Tag.Null; contents = [] } }
     {
         Any {
             tag: Tag::Null,
-            bytes: Octets::of(Vec::new(alloc)),
+            bytes: KeptOctets::of(Vec::new(alloc)),
         }
     }
 
@@ -103,15 +100,14 @@ impl Any {
             (written_as T.fixed_tag T.content (T.value_written value.now)) }
     {
         let bytes = content_octets(alloc, value)?;
-        let any = Any::new(T::tag(), bytes)?;
-        Ok(any)
+        Ok(Any::new(T::tag(), bytes)?)
     }
 
     /// The value of a borrowed one.
     pub(crate) fn copy_of(alloc: Global, lent: &AnyRef<'_>) -> Result<Any, AllocError>
         ensures { IfOk result (λ a. a ≡ any_lent lent.now) }
     {
-        let bytes = Octets::copy_of(alloc, lent.value())?;
+        let bytes = KeptOctets::copy_of(alloc, lent.value())?;
         Ok(Any {
             tag: lent.tag(),
             bytes,
@@ -152,7 +148,7 @@ impl Any {
 
     /// Whether it is NULL.
     pub fn is_null(&self) -> bool
-        ensures { IsTrue result ↔ (self.now ≡ record { tag = Null; contents = [] }) }
+        ensures { IsTrue result ↔ (self.now ≡ record { tag = Tag.Null; contents = [] }) }
     {
         self.to_ref().is_null()
     }
@@ -180,8 +176,7 @@ impl Any {
         // Which fault it is.
         ensures exact { Gives T.value_plain result (content_as T.fixed_tag T.content self.now) }
     {
-        let value = self.to_ref().decode_as(alloc)?;
-        Ok(value)
+        Ok(self.to_ref().decode_as(alloc)?)
     }
 
     /// The value of a type that has this tag and this content, in which headers are read by these
@@ -198,8 +193,7 @@ impl Any {
         ensures { Gives T.value_plain result
             (content_by encoding_rules T.fixed_tag T.content self.now) }
     {
-        let value = self.to_ref().decode_as_encoding(alloc, encoding_rules)?;
-        Ok(value)
+        Ok(self.to_ref().decode_as_encoding(alloc, encoding_rules)?)
     }
 
     /// Calls `f` on a reader of the content of this SEQUENCE, and wants all of it read.
@@ -217,18 +211,18 @@ impl Any {
         // The answer is that of the closure, which left nothing.
         ensures ran { IfOk result
             (λ x. Answered (λ s. s) F.FnOnce f (length self.now.contents)
-            (unread Der self.now.contents) x) }
-        ensures tag { same_tag self.now.tag Sequence ≡ false
+            (unread EncodingRules.Der self.now.contents) x) }
+        ensures tag { same_tag self.now.tag Tag.Sequence ≡ false
             → IsErrAnd result (λ e. e.kind ≡ ErrorKind.TagUnexpected) }
         // Why a SEQUENCE is refused: what the closure answers, or that it left octets.
-        ensures refused { same_tag self.now.tag Sequence ≡ true
+        ensures refused { same_tag self.now.tag Tag.Sequence ≡ true
             → IfErr result
             (RefusesNested (λ s. s) F.FnOnce f (length self.now.contents)
-            (unread Der self.now.contents)) }
+            (unread EncodingRules.Der self.now.contents)) }
         // What the closure reads of a body, this reads of the content.
         ensures reads { (b : Body) (view : T → BodyValue b)
             → ClosureReads (λ s. s) F.FnOnce f b view
-            → Gives view result (content_as Sequence (nested b) self.now) }
+            → Gives view result (content_as Tag.Sequence (nested b) self.now) }
     {
         let value = self.to_ref().sequence(f)?;
         Ok(value)

@@ -1,7 +1,5 @@
 //! Any value is in range: its tag has a number that fits, its content are octets.
 
-ghost use Rattle.std.specs.Prelude.{◌≡◌};
-
 use crate::any::Any;
 use crate::any_ref::AnyRef;
 use der_core::InRange;

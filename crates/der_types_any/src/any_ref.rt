@@ -1,14 +1,11 @@
 //! Any value, borrowed.
 
-ghost use Rattle.std.specs.Prelude.{◌≡◌, ◌<◌, ◌↔◌, [], length, nat_eq, true, false, Some};
-ghost use Rattle.std.specs.Prelude.{Ok, IsTrue, IfOk, IfErr, IsErrAnd};
-ghost use Rattle.std.proofs.Common.{refl};
+ghost use Rattle.std.specs.Prelude.{◌≡◌, ◌<◌, ◌↔◌, [], length, nat_eq, true, false, Some, Ok};
+ghost use Rattle.std.specs.Prelude.{IsTrue, IfOk, IfErr, IsErrAnd, refl};
 ghost use Rattle.std.specs.Cmp.{po, partial_equiv_from_equiv, on_equiv, on_per, on_total};
 ghost use Rattle.std.specs.Cmp.Lexicographic.{pointwise, nat_list_eq_equiv};
 ghost use Rattle.der_core_head.specs.Limits.{length_max, levels_max};
 ghost use Rattle.der_core_head.specs.Heads.{Fits};
-ghost use Rattle.der_core_head.specs.declared.encoding_rules.EncodingRules.TheVariants.{Der};
-ghost use Rattle.der_core_head.specs.declared.tag.Tag.TheVariants.{Null, Sequence};
 ghost use Rattle.der_core_head.specs.Shapes.{any, tagged, nested, Body, BodyValue, ContentValue};
 ghost use Rattle.der_core_head.specs.Shapes.{IsValid, Spells, octets_of};
 ghost use Rattle.der_core_head.specs.Spelling.{is_apart, are_enough};
@@ -22,12 +19,14 @@ ghost use Rattle.der_types_any.specs.Contents.{content_as, content_by};
 
 use crate::any::Any;
 use der_core::making::{
-    encode_header, header_len, is_same_tag, leading_octet_of, number_of, slice_len, sum_len,
+    cmp_behind, encode_header, header_len, is_same_tag, leading_octet_of, number_of, slice_len,
+    sum_len,
 };
 use der_core::{
     Choice, Decode, DecodeValue, DerOrd, Encode, EncodingRules, Error, ErrorKind, FirstTag,
-    FixedTag, Header, Length, Reader, Shaped, SliceReader, Tag, Writer, length_cmp, tag_cmp,
+    FixedTag, Header, Length, Reader, Shaped, SliceReader, Tag, Writer,
 };
+use der_types_values::OctetStringRef;
 use std::alloc::{AllocError, Global};
 use std::cmp::Ordering;
 use std::hash::{Hash, Hasher};
@@ -104,7 +103,7 @@ impl<'a> AnyRef<'a> {
 
     /// Whether it is NULL.
     pub fn is_null(&self) -> bool
-        ensures { IsTrue result ↔ (any_lent self.now ≡ record { tag = Null; contents = [] }) }
+        ensures { IsTrue result ↔ (any_lent self.now ≡ record { tag = Tag.Null; contents = [] }) }
     {
         match self.tag {
             Tag::Null => self.bytes.is_empty(),
@@ -178,18 +177,18 @@ impl<'a> AnyRef<'a> {
         // The answer is that of the closure, which left nothing.
         ensures ran { IfOk result
             (λ x. Answered (λ s. s) F.FnOnce f (length (any_lent self.now).contents)
-            (unread Der (any_lent self.now).contents) x) }
-        ensures tag { same_tag (any_lent self.now).tag Sequence ≡ false
+            (unread EncodingRules.Der (any_lent self.now).contents) x) }
+        ensures tag { same_tag (any_lent self.now).tag Tag.Sequence ≡ false
             → IsErrAnd result (λ e. e.kind ≡ ErrorKind.TagUnexpected) }
         // Why a SEQUENCE is refused: what the closure answers, or that it left octets.
-        ensures refused { same_tag (any_lent self.now).tag Sequence ≡ true
+        ensures refused { same_tag (any_lent self.now).tag Tag.Sequence ≡ true
             → IfErr result
             (RefusesNested (λ s. s) F.FnOnce f (length (any_lent self.now).contents)
-            (unread Der (any_lent self.now).contents)) }
+            (unread EncodingRules.Der (any_lent self.now).contents)) }
         // What the closure reads of a body, this reads of the content.
         ensures reads { (b : Body) (view : T → BodyValue b)
             → ClosureReads (λ s. s) F.FnOnce f b view
-            → Gives view result (content_as Sequence (nested b) (any_lent self.now)) }
+            → Gives view result (content_as Tag.Sequence (nested b) (any_lent self.now)) }
     {
         if !is_same_tag(self.tag, Tag::Sequence) {
             return Err(Error::from(ErrorKind::TagUnexpected));
@@ -351,18 +350,14 @@ impl<'a> Encode for AnyRef<'a> {
 /// The tags, then the lengths, then the contents, octet by octet.
 impl<'a> DerOrd for AnyRef<'a> {
     fn der_cmp(&self, other: &Self) -> Result<Ordering, Error> {
-        let len = slice_len(self.bytes)?;
-        let other_len = slice_len(other.bytes)?;
-        let headers = tag_cmp(self.tag, other.tag).then(length_cmp(len, other_len));
-        if headers.is_ne() {
-            return Ok(headers);
-        }
-        Ok(self.bytes.cmp(other.bytes))
+        let content = OctetStringRef::of_content(self.bytes);
+        let other_content = OctetStringRef::of_content(other.bytes);
+        cmp_behind(self.tag, &content, other.tag, &other_content)
     }
 }
 
 impl<'a> FirstTag for AnyRef<'a> {
-    #[tactic(auto, using(der_core::proofs::AnyOrders::any_starts))]
+    #[tactic(auto, using(der_core::proofs::FirstTags::any_starts))]
     fn first_tag(&self) -> Option<Tag> {
         Some(self.tag)
     }

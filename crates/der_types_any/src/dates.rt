@@ -1,6 +1,5 @@
 //! Any value as a time.
 
-ghost use Rattle.std.specs.Prelude.{◌≡◌};
 ghost use Rattle.der_core_head.specs.declared.tag.Tag.TheVariants as tags;
 ghost use Rattle.der_core_head.specs.Leaves.{utc_time, generalized_time};
 ghost use Rattle.der_core_head.specs.Reading.{GivesNow};
@@ -23,8 +22,7 @@ impl<'a> TryFrom<AnyRef<'a>> for UtcTime {
     #[tactic(auto, unfolding(crate::specs::Contents::leaf_as))]
     fn try_from(any: AnyRef<'a>) -> Result<UtcTime, Error> {
         check_tag(any.tag(), Tag::UtcTime)?;
-        let time = UtcTime::of_content(any.tag(), any.value())?;
-        Ok(time)
+        Ok(UtcTime::of_content(any.tag(), any.value())?)
     }
 }
 
@@ -35,8 +33,7 @@ impl<'a> TryFrom<&'a Any> for UtcTime {
     ghost try_from_gives = { λ a r. GivesNow (λ t. t) r (leaf_as tags.UtcTime utc_time a.now) };
 
     fn try_from(any: &'a Any) -> Result<UtcTime, Error> {
-        let value = UtcTime::try_from(any.to_ref())?;
-        Ok(value)
+        UtcTime::try_from(any.to_ref())
     }
 }
 
@@ -50,8 +47,7 @@ impl<'a> TryFrom<AnyRef<'a>> for GeneralizedTime {
     #[tactic(auto, unfolding(crate::specs::Contents::leaf_as))]
     fn try_from(any: AnyRef<'a>) -> Result<GeneralizedTime, Error> {
         check_tag(any.tag(), Tag::GeneralizedTime)?;
-        let time = GeneralizedTime::of_content(any.tag(), any.value())?;
-        Ok(time)
+        Ok(GeneralizedTime::of_content(any.tag(), any.value())?)
     }
 }
 
@@ -63,8 +59,7 @@ impl<'a> TryFrom<&'a Any> for GeneralizedTime {
         (leaf_as tags.GeneralizedTime generalized_time a.now) };
 
     fn try_from(any: &'a Any) -> Result<GeneralizedTime, Error> {
-        let value = GeneralizedTime::try_from(any.to_ref())?;
-        Ok(value)
+        GeneralizedTime::try_from(any.to_ref())
     }
 }
 
@@ -89,7 +84,6 @@ impl<'a> TryFrom<&'a Any> for DateTime {
         (leaf_as tags.GeneralizedTime generalized_time a.now) };
 
     fn try_from(any: &'a Any) -> Result<DateTime, Error> {
-        let value = DateTime::try_from(any.to_ref())?;
-        Ok(value)
+        DateTime::try_from(any.to_ref())
     }
 }

@@ -9,7 +9,6 @@ mod dates;
 mod elements;
 pub mod laws;
 mod numbers;
-mod octets;
 mod texts;
 mod values;
 

@@ -6,7 +6,7 @@ ghost use Rattle.der_core_head.specs.Integers.{unsigned, signed, natural, every,
 ghost use Rattle.der_core_head.specs.Leaves.{integer};
 ghost use Rattle.der_core_head.specs.Reading.{GivesNow};
 ghost use Rattle.der_types_any.specs.Anys.{any_lent};
-ghost use Rattle.der_types_any.specs.Contents.{leaf_as};
+ghost use Rattle.der_types_any.specs.Contents.{leaf_as, IntegerGives};
 ghost use Rattle.der_types_numbers.specs.Ints.{integer_lent, natural_lent};
 
 use crate::any::Any;
@@ -18,24 +18,20 @@ use der_types_numbers::{IntRef, UintRef};
 /// The number of an INTEGER.
 #[tactic(auto, unfolding(crate::specs::Contents::leaf_as))]
 fn integer_from<T: Integer>(any: &AnyRef<'_>) -> Result<T, Error>
-    ensures { GivesNow T.number result
-        (leaf_as tags.Integer (integer T.numbers) (any_lent any.now)) }
+    ensures { IntegerGives T.numbers T.number (any_lent any.now) result }
 {
     check_tag(any.tag(), Tag::Integer)?;
-    let number = T::from_integer(any.tag(), any.value())?;
-    Ok(number)
+    Ok(T::from_integer(any.tag(), any.value())?)
 }
 
 /// The number of an INTEGER.
 impl<'a> TryFrom<AnyRef<'a>> for u8 {
     type Error = Error;
 
-    ghost try_from_gives = { λ a r. GivesNow (λ n. pos n) r
-        (leaf_as tags.Integer (integer (unsigned 8)) (any_lent a)) };
+    ghost try_from_gives = { λ a r. IntegerGives (unsigned 8) (λ n. pos n) (any_lent a) r };
 
     fn try_from(any: AnyRef<'a>) -> Result<u8, Error> {
-        let number = integer_from::<u8>(&any)?;
-        Ok(number)
+        integer_from(&any)
     }
 }
 
@@ -43,12 +39,10 @@ impl<'a> TryFrom<AnyRef<'a>> for u8 {
 impl<'a> TryFrom<&'a Any> for u8 {
     type Error = Error;
 
-    ghost try_from_gives = { λ a r. GivesNow (λ n. pos n) r
-        (leaf_as tags.Integer (integer (unsigned 8)) a.now) };
+    ghost try_from_gives = { λ a r. IntegerGives (unsigned 8) (λ n. pos n) a.now r };
 
     fn try_from(any: &'a Any) -> Result<u8, Error> {
-        let value = u8::try_from(any.to_ref())?;
-        Ok(value)
+        u8::try_from(any.to_ref())
     }
 }
 
@@ -56,12 +50,10 @@ impl<'a> TryFrom<&'a Any> for u8 {
 impl<'a> TryFrom<AnyRef<'a>> for u16 {
     type Error = Error;
 
-    ghost try_from_gives = { λ a r. GivesNow (λ n. pos n) r
-        (leaf_as tags.Integer (integer (unsigned 16)) (any_lent a)) };
+    ghost try_from_gives = { λ a r. IntegerGives (unsigned 16) (λ n. pos n) (any_lent a) r };
 
     fn try_from(any: AnyRef<'a>) -> Result<u16, Error> {
-        let number = integer_from::<u16>(&any)?;
-        Ok(number)
+        integer_from(&any)
     }
 }
 
@@ -69,12 +61,10 @@ impl<'a> TryFrom<AnyRef<'a>> for u16 {
 impl<'a> TryFrom<&'a Any> for u16 {
     type Error = Error;
 
-    ghost try_from_gives = { λ a r. GivesNow (λ n. pos n) r
-        (leaf_as tags.Integer (integer (unsigned 16)) a.now) };
+    ghost try_from_gives = { λ a r. IntegerGives (unsigned 16) (λ n. pos n) a.now r };
 
     fn try_from(any: &'a Any) -> Result<u16, Error> {
-        let value = u16::try_from(any.to_ref())?;
-        Ok(value)
+        u16::try_from(any.to_ref())
     }
 }
 
@@ -82,12 +72,10 @@ impl<'a> TryFrom<&'a Any> for u16 {
 impl<'a> TryFrom<AnyRef<'a>> for u32 {
     type Error = Error;
 
-    ghost try_from_gives = { λ a r. GivesNow (λ n. pos n) r
-        (leaf_as tags.Integer (integer (unsigned 32)) (any_lent a)) };
+    ghost try_from_gives = { λ a r. IntegerGives (unsigned 32) (λ n. pos n) (any_lent a) r };
 
     fn try_from(any: AnyRef<'a>) -> Result<u32, Error> {
-        let number = integer_from::<u32>(&any)?;
-        Ok(number)
+        integer_from(&any)
     }
 }
 
@@ -95,12 +83,10 @@ impl<'a> TryFrom<AnyRef<'a>> for u32 {
 impl<'a> TryFrom<&'a Any> for u32 {
     type Error = Error;
 
-    ghost try_from_gives = { λ a r. GivesNow (λ n. pos n) r
-        (leaf_as tags.Integer (integer (unsigned 32)) a.now) };
+    ghost try_from_gives = { λ a r. IntegerGives (unsigned 32) (λ n. pos n) a.now r };
 
     fn try_from(any: &'a Any) -> Result<u32, Error> {
-        let value = u32::try_from(any.to_ref())?;
-        Ok(value)
+        u32::try_from(any.to_ref())
     }
 }
 
@@ -108,12 +94,10 @@ impl<'a> TryFrom<&'a Any> for u32 {
 impl<'a> TryFrom<AnyRef<'a>> for u64 {
     type Error = Error;
 
-    ghost try_from_gives = { λ a r. GivesNow (λ n. pos n) r
-        (leaf_as tags.Integer (integer (unsigned 64)) (any_lent a)) };
+    ghost try_from_gives = { λ a r. IntegerGives (unsigned 64) (λ n. pos n) (any_lent a) r };
 
     fn try_from(any: AnyRef<'a>) -> Result<u64, Error> {
-        let number = integer_from::<u64>(&any)?;
-        Ok(number)
+        integer_from(&any)
     }
 }
 
@@ -121,12 +105,10 @@ impl<'a> TryFrom<AnyRef<'a>> for u64 {
 impl<'a> TryFrom<&'a Any> for u64 {
     type Error = Error;
 
-    ghost try_from_gives = { λ a r. GivesNow (λ n. pos n) r
-        (leaf_as tags.Integer (integer (unsigned 64)) a.now) };
+    ghost try_from_gives = { λ a r. IntegerGives (unsigned 64) (λ n. pos n) a.now r };
 
     fn try_from(any: &'a Any) -> Result<u64, Error> {
-        let value = u64::try_from(any.to_ref())?;
-        Ok(value)
+        u64::try_from(any.to_ref())
     }
 }
 
@@ -134,12 +116,10 @@ impl<'a> TryFrom<&'a Any> for u64 {
 impl<'a> TryFrom<AnyRef<'a>> for u128 {
     type Error = Error;
 
-    ghost try_from_gives = { λ a r. GivesNow (λ n. pos n) r
-        (leaf_as tags.Integer (integer (unsigned 128)) (any_lent a)) };
+    ghost try_from_gives = { λ a r. IntegerGives (unsigned 128) (λ n. pos n) (any_lent a) r };
 
     fn try_from(any: AnyRef<'a>) -> Result<u128, Error> {
-        let number = integer_from::<u128>(&any)?;
-        Ok(number)
+        integer_from(&any)
     }
 }
 
@@ -147,12 +127,10 @@ impl<'a> TryFrom<AnyRef<'a>> for u128 {
 impl<'a> TryFrom<&'a Any> for u128 {
     type Error = Error;
 
-    ghost try_from_gives = { λ a r. GivesNow (λ n. pos n) r
-        (leaf_as tags.Integer (integer (unsigned 128)) a.now) };
+    ghost try_from_gives = { λ a r. IntegerGives (unsigned 128) (λ n. pos n) a.now r };
 
     fn try_from(any: &'a Any) -> Result<u128, Error> {
-        let value = u128::try_from(any.to_ref())?;
-        Ok(value)
+        u128::try_from(any.to_ref())
     }
 }
 
@@ -164,8 +142,7 @@ impl<'a> TryFrom<AnyRef<'a>> for i8 {
         (leaf_as tags.Integer (integer (signed 8)) (any_lent a)) };
 
     fn try_from(any: AnyRef<'a>) -> Result<i8, Error> {
-        let number = integer_from::<i8>(&any)?;
-        Ok(number)
+        integer_from(&any)
     }
 }
 
@@ -177,8 +154,7 @@ impl<'a> TryFrom<&'a Any> for i8 {
         (leaf_as tags.Integer (integer (signed 8)) a.now) };
 
     fn try_from(any: &'a Any) -> Result<i8, Error> {
-        let value = i8::try_from(any.to_ref())?;
-        Ok(value)
+        i8::try_from(any.to_ref())
     }
 }
 
@@ -190,8 +166,7 @@ impl<'a> TryFrom<AnyRef<'a>> for i16 {
         (leaf_as tags.Integer (integer (signed 16)) (any_lent a)) };
 
     fn try_from(any: AnyRef<'a>) -> Result<i16, Error> {
-        let number = integer_from::<i16>(&any)?;
-        Ok(number)
+        integer_from(&any)
     }
 }
 
@@ -203,8 +178,7 @@ impl<'a> TryFrom<&'a Any> for i16 {
         (leaf_as tags.Integer (integer (signed 16)) a.now) };
 
     fn try_from(any: &'a Any) -> Result<i16, Error> {
-        let value = i16::try_from(any.to_ref())?;
-        Ok(value)
+        i16::try_from(any.to_ref())
     }
 }
 
@@ -216,8 +190,7 @@ impl<'a> TryFrom<AnyRef<'a>> for i32 {
         (leaf_as tags.Integer (integer (signed 32)) (any_lent a)) };
 
     fn try_from(any: AnyRef<'a>) -> Result<i32, Error> {
-        let number = integer_from::<i32>(&any)?;
-        Ok(number)
+        integer_from(&any)
     }
 }
 
@@ -229,8 +202,7 @@ impl<'a> TryFrom<&'a Any> for i32 {
         (leaf_as tags.Integer (integer (signed 32)) a.now) };
 
     fn try_from(any: &'a Any) -> Result<i32, Error> {
-        let value = i32::try_from(any.to_ref())?;
-        Ok(value)
+        i32::try_from(any.to_ref())
     }
 }
 
@@ -242,8 +214,7 @@ impl<'a> TryFrom<AnyRef<'a>> for i64 {
         (leaf_as tags.Integer (integer (signed 64)) (any_lent a)) };
 
     fn try_from(any: AnyRef<'a>) -> Result<i64, Error> {
-        let number = integer_from::<i64>(&any)?;
-        Ok(number)
+        integer_from(&any)
     }
 }
 
@@ -255,8 +226,7 @@ impl<'a> TryFrom<&'a Any> for i64 {
         (leaf_as tags.Integer (integer (signed 64)) a.now) };
 
     fn try_from(any: &'a Any) -> Result<i64, Error> {
-        let value = i64::try_from(any.to_ref())?;
-        Ok(value)
+        i64::try_from(any.to_ref())
     }
 }
 
@@ -268,8 +238,7 @@ impl<'a> TryFrom<AnyRef<'a>> for i128 {
         (leaf_as tags.Integer (integer (signed 128)) (any_lent a)) };
 
     fn try_from(any: AnyRef<'a>) -> Result<i128, Error> {
-        let number = integer_from::<i128>(&any)?;
-        Ok(number)
+        integer_from(&any)
     }
 }
 
@@ -281,8 +250,7 @@ impl<'a> TryFrom<&'a Any> for i128 {
         (leaf_as tags.Integer (integer (signed 128)) a.now) };
 
     fn try_from(any: &'a Any) -> Result<i128, Error> {
-        let value = i128::try_from(any.to_ref())?;
-        Ok(value)
+        i128::try_from(any.to_ref())
     }
 }
 
@@ -296,8 +264,7 @@ impl<'a> TryFrom<AnyRef<'a>> for IntRef<'a> {
     #[tactic(auto, unfolding(crate::specs::Contents::leaf_as))]
     fn try_from(any: AnyRef<'a>) -> Result<IntRef<'a>, Error> {
         check_tag(any.tag(), Tag::Integer)?;
-        let value = IntRef::of_content(any.tag(), any.value())?;
-        Ok(value)
+        Ok(IntRef::of_content(any.tag(), any.value())?)
     }
 }
 
@@ -309,8 +276,7 @@ impl<'a> TryFrom<&'a Any> for IntRef<'a> {
         (leaf_as tags.Integer (integer every) a.now) };
 
     fn try_from(any: &'a Any) -> Result<IntRef<'a>, Error> {
-        let value = IntRef::try_from(any.to_ref())?;
-        Ok(value)
+        IntRef::try_from(any.to_ref())
     }
 }
 
@@ -324,8 +290,7 @@ impl<'a> TryFrom<AnyRef<'a>> for UintRef<'a> {
     #[tactic(auto, unfolding(crate::specs::Contents::leaf_as))]
     fn try_from(any: AnyRef<'a>) -> Result<UintRef<'a>, Error> {
         check_tag(any.tag(), Tag::Integer)?;
-        let value = UintRef::of_content(any.tag(), any.value())?;
-        Ok(value)
+        Ok(UintRef::of_content(any.tag(), any.value())?)
     }
 }
 
@@ -337,8 +302,7 @@ impl<'a> TryFrom<&'a Any> for UintRef<'a> {
         (leaf_as tags.Integer (integer natural) a.now) };
 
     fn try_from(any: &'a Any) -> Result<UintRef<'a>, Error> {
-        let value = UintRef::try_from(any.to_ref())?;
-        Ok(value)
+        UintRef::try_from(any.to_ref())
     }
 }
 

@@ -24,8 +24,7 @@ impl<'a, T: AsciiType> TryFrom<AnyRef<'a>> for AsciiStringRef<'a, T> {
     #[tactic(auto, unfolding(crate::specs::Contents::leaf_as), using(crate::proofs::TextContents::text_contents))]
     fn try_from(any: AnyRef<'a>) -> Result<AsciiStringRef<'a, T>, Error> {
         check_tag(any.tag(), T::tag())?;
-        let text = AsciiStringRef::new(any.value())?;
-        Ok(text)
+        Ok(AsciiStringRef::new(any.value())?)
     }
 }
 
@@ -37,8 +36,7 @@ impl<'a, T: AsciiType> TryFrom<&'a Any> for AsciiStringRef<'a, T> {
         (leaf_as T.string_tag (text T.repertoire) a.now) };
 
     fn try_from(any: &'a Any) -> Result<AsciiStringRef<'a, T>, Error> {
-        let value = AsciiStringRef::try_from(any.to_ref())?;
-        Ok(value)
+        AsciiStringRef::try_from(any.to_ref())
     }
 }
 
@@ -52,8 +50,7 @@ impl<'a> TryFrom<AnyRef<'a>> for Utf8StringRef<'a> {
     #[tactic(auto, unfolding(crate::specs::Contents::leaf_as), using(crate::proofs::TextContents::text_contents))]
     fn try_from(any: AnyRef<'a>) -> Result<Utf8StringRef<'a>, Error> {
         check_tag(any.tag(), Tag::Utf8String)?;
-        let text = Utf8StringRef::new(any.value())?;
-        Ok(text)
+        Ok(Utf8StringRef::new(any.value())?)
     }
 }
 
@@ -65,8 +62,7 @@ impl<'a> TryFrom<&'a Any> for Utf8StringRef<'a> {
         (leaf_as tags.Utf8String utf8 a.now) };
 
     fn try_from(any: &'a Any) -> Result<Utf8StringRef<'a>, Error> {
-        let value = Utf8StringRef::try_from(any.to_ref())?;
-        Ok(value)
+        Utf8StringRef::try_from(any.to_ref())
     }
 }
 
@@ -90,8 +86,7 @@ impl<'a> TryFrom<&'a Any> for &'a str {
     ghost try_from_gives = { λ a r. GivesNow (λ s. s.now) r (leaf_as tags.Utf8String utf8 a.now) };
 
     fn try_from(any: &'a Any) -> Result<&'a str, Error> {
-        let value = <&'a str>::try_from(any.to_ref())?;
-        Ok(value)
+        <&'a str>::try_from(any.to_ref())
     }
 }
 
@@ -105,8 +100,7 @@ impl<'a> TryFrom<AnyRef<'a>> for GeneralStringRef<'a> {
     #[tactic(auto, unfolding(crate::specs::Contents::leaf_as), using(crate::proofs::TextContents::text_contents))]
     fn try_from(any: AnyRef<'a>) -> Result<GeneralStringRef<'a>, Error> {
         check_tag(any.tag(), Tag::GeneralString)?;
-        let text = GeneralStringRef::new(any.value())?;
-        Ok(text)
+        Ok(GeneralStringRef::new(any.value())?)
     }
 }
 
@@ -118,8 +112,7 @@ impl<'a> TryFrom<&'a Any> for GeneralStringRef<'a> {
         (leaf_as tags.GeneralString (text any_octet) a.now) };
 
     fn try_from(any: &'a Any) -> Result<GeneralStringRef<'a>, Error> {
-        let value = GeneralStringRef::try_from(any.to_ref())?;
-        Ok(value)
+        GeneralStringRef::try_from(any.to_ref())
     }
 }
 

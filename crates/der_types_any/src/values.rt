@@ -45,8 +45,7 @@ impl<'a> TryFrom<&'a Any> for bool {
     ghost try_from_gives = { λ a r. GivesNow (λ b. b) r (leaf_as tags.Boolean boolean a.now) };
 
     fn try_from(any: &'a Any) -> Result<bool, Error> {
-        let value = bool::try_from(any.to_ref())?;
-        Ok(value)
+        bool::try_from(any.to_ref())
     }
 }
 
@@ -98,8 +97,7 @@ impl<'a> TryFrom<&'a Any> for Null {
     ghost try_from_gives = { λ a r. GivesNow (λ _. tt) r (leaf_as tags.Null null a.now) };
 
     fn try_from(any: &'a Any) -> Result<Null, Error> {
-        let value = Null::try_from(any.to_ref())?;
-        Ok(value)
+        Null::try_from(any.to_ref())
     }
 }
 
@@ -137,8 +135,7 @@ impl<'a, const MAX_SIZE: usize> TryFrom<&'a Any> for ObjectIdentifier<MAX_SIZE> 
         (leaf_as tags.ObjectIdentifier (identifier Bound MAX_SIZE) a.now) };
 
     fn try_from(any: &'a Any) -> Result<ObjectIdentifier<MAX_SIZE>, Error> {
-        let value = ObjectIdentifier::<MAX_SIZE>::try_from(any.to_ref())?;
-        Ok(value)
+        ObjectIdentifier::<MAX_SIZE>::try_from(any.to_ref())
     }
 }
 
@@ -152,8 +149,7 @@ impl<'a> TryFrom<AnyRef<'a>> for BitStringRef<'a> {
     #[tactic(auto, unfolding(crate::specs::Contents::leaf_as))]
     fn try_from(any: AnyRef<'a>) -> Result<BitStringRef<'a>, Error> {
         check_tag(any.tag(), Tag::BitString)?;
-        let value = BitStringRef::of_content(any.tag(), any.value())?;
-        Ok(value)
+        Ok(BitStringRef::of_content(any.tag(), any.value())?)
     }
 }
 
@@ -164,8 +160,7 @@ impl<'a> TryFrom<&'a Any> for BitStringRef<'a> {
     ghost try_from_gives = { λ a r. GivesNow bits_lent r (leaf_as tags.BitString bits a.now) };
 
     fn try_from(any: &'a Any) -> Result<BitStringRef<'a>, Error> {
-        let value = BitStringRef::try_from(any.to_ref())?;
-        Ok(value)
+        BitStringRef::try_from(any.to_ref())
     }
 }
 
@@ -191,8 +186,7 @@ impl<'a> TryFrom<&'a Any> for OctetStringRef<'a> {
         (leaf_as tags.OctetString octets a.now) };
 
     fn try_from(any: &'a Any) -> Result<OctetStringRef<'a>, Error> {
-        let value = OctetStringRef::try_from(any.to_ref())?;
-        Ok(value)
+        OctetStringRef::try_from(any.to_ref())
     }
 }
 
@@ -228,8 +222,7 @@ impl<'a> TryFrom<&'a Any> for SequenceRef<'a> {
     ghost try_from_gives = { λ a r. GivesNow fields_lent r (leaf_as tags.Sequence octets a.now) };
 
     fn try_from(any: &'a Any) -> Result<SequenceRef<'a>, Error> {
-        let value = SequenceRef::try_from(any.to_ref())?;
-        Ok(value)
+        SequenceRef::try_from(any.to_ref())
     }
 }
 

@@ -1,6 +1,5 @@
 -- The contents of numbers that aren't negative: their digits, behind a zero where the first bit would be one.
-use Rattle.std.proofs.Common.{◌≡◌, ℕ, ◌<◌, ◌≤◌, Bool, true, false, List, [], ◌∷◌, length, Ok, Err, refl, sym, ap, ◌∙◌, arith}
-use Rattle.std.specs.Prelude.{pos, nat_lt}
+use Rattle.std.proofs.Common.{◌≡◌, ℕ, ◌<◌, ◌≤◌, Bool, true, false, List, [], ◌∷◌, length, Ok, Err, refl, sym, ap, ◌∙◌, arith, pos, nat_lt}
 use Rattle.std.specs.Int.Digits.{number_from_digits}
 use Rattle.std.proofs.lemmas.Bool.{not-true, not-false}
 use Rattle.std.proofs.lemmas.Bool.Decides.{nat_tests}
@@ -11,7 +10,7 @@ use Rattle.der_core_head.specs.Integers.{positive, natural, integer_octets, inte
 use Rattle.der_core_head.proofs.Bytes.{IsBytes}
 use Rattle.der_core_head.proofs.IntegerLaws.{integer_octets-of, integer_octets-some, integer_octets-not_redundant, integer_of-octets}
 use Rattle.der_types_numbers.specs.Numbers.{is_first_bit_set}
-use Rattle.der_types_numbers.specs.NumberOrders.{number-content, digits_cmp}
+use Rattle.der_types_numbers.specs.NumberOrders.{number-content}
 
 positive-set : (w : List ℕ) → is_first_bit_set w ≡ true → positive w ≡ 0 ∷ w
 positive-set [] e = absurd cc
@@ -65,7 +64,5 @@ natural_few w e = grind (arith, nat_tests, content-set w e, content-clear w e)
 pub ruleset natural_contents = (content-set, content-clear)
 
 pub ruleset natural_reads = (natural_empty, natural_redundant, natural_negative, natural_is)
-
-pub ruleset natural_orders = (digits_cmp)
 
 pub ruleset contents = (integer_octets-some, integer_octets-not_redundant, integer_of-octets, number-content)

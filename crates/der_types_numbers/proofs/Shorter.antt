@@ -1,6 +1,5 @@
 -- A number stays the same where octets that count for nothing are left out.
-use Rattle.std.proofs.Common.{◌≡◌, ℕ, ◌<◌, ◌⊎◌, inl, inr, true, false, List, [], ◌∷◌, length, drop, refl, arith}
-use Rattle.std.specs.Prelude.{nat_lt, ◌==◌, ◌&&◌, not}
+use Rattle.std.proofs.Common.{◌≡◌, ℕ, ◌<◌, ◌⊎◌, inl, inr, true, false, List, [], ◌∷◌, length, drop, refl, arith, nat_lt, ◌==◌, ◌&&◌, not}
 use Rattle.std.specs.Int.Digits.{number_from_digits}
 use Rattle.std.proofs.lemmas.Bool.{eqb-true, eqb-false, or_cases, and_parts, not-true}
 use Rattle.const_oid.specs.Digits.{digits}

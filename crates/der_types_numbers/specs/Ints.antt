@@ -10,13 +10,13 @@ use Rattle.der_types_numbers.specs.declared.uint.Uint.TheInside.{Inside as UintI
 use Rattle.der_types_numbers.specs.declared.uint_ref.UintRef.{UintRef}
 
 abbrev pub integer_kept : Inside → ℤ
-integer_kept n = integer_of n.bytes.items
+integer_kept n = integer_of n.bytes
 
 pub record IsInt (n : Inside) : Type 0 where
-  pub content : n.bytes.items ≡ integer_octets (integer_of n.bytes.items)
-  pub some : 0 < length n.bytes.items
-  pub shortest : is_redundant n.bytes.items ≡ false
-  pub short : Fits n.bytes.items
+  pub content : n.bytes ≡ integer_octets (integer_of n.bytes)
+  pub some : 0 < length n.bytes
+  pub shortest : is_redundant n.bytes ≡ false
+  pub short : Fits n.bytes
 
 abbrev pub integer_lent : IntRef → ℤ
 integer_lent n = integer_of n.bytes.now

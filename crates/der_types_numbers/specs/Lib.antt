@@ -1,3 +1,4 @@
 pub mod Ints
 pub mod Numbers
 pub mod NumberOrders
+pub mod Kept

@@ -17,6 +17,7 @@ ghost use Rattle.der_types_numbers.specs.Numbers.{signed_number};
 
 use crate::fewest::sized_cmp;
 use crate::int_ref::{AsIntRef, IntRef};
+use crate::kept_octets::KeptOctets;
 use crate::uint::Uint;
 use der_core::describing::{AsLeaf, Described, EncodeLeaf, Primitive};
 use der_core::{EncodeValue, Error, FixedTag, Leaf, Length, Tag, Writer};
@@ -30,7 +31,7 @@ use std::marker::Model;
 /// Contracts see the number.
 #[derive(Debug, Drop)]
 pub struct Int {
-    bytes: Vec<u8>,
+    bytes: KeptOctets,
 }
 
 impl Model for Int {
@@ -62,7 +63,7 @@ impl Int {
     pub(crate) fn copy_of(alloc: Global, lent: &IntRef<'_>) -> Result<Int, AllocError>
         ensures { IfOk result (λ n. n ≡ integer_lent lent.now) }
     {
-        let bytes = lent.as_bytes().to_vec(alloc)?;
+        let bytes = KeptOctets::copy_of(alloc, lent.as_bytes())?;
         Ok(Int { bytes })
     }
 
@@ -95,7 +96,7 @@ impl Int {
     pub fn is_empty(&self) -> bool
         ensures { result ≡ false }
     {
-        self.bytes.is_empty()
+        self.bytes.as_slice().is_empty()
     }
 
     /// The number, lent.
@@ -113,6 +114,7 @@ impl Int {
         requires short { IsLength (vec_len bytes) }
         ensures { result ≡ integer_of bytes.items }
     {
+        let bytes = KeptOctets::of(bytes);
         Int { bytes }
     }
 }

@@ -234,8 +234,7 @@ impl<'a> Leaf<'a> for IntRef<'a> {
     ghost takes_memory = { false };
 
     fn from_content(_alloc: Global, tag: Tag, octets: &'a [u8]) -> Result<IntRef<'a>, Error> {
-        let value = IntRef::of_content(tag, octets)?;
-        Ok(value)
+        Ok(IntRef::of_content(tag, octets)?)
     }
 }
 

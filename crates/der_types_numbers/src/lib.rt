@@ -4,6 +4,7 @@
 mod fewest;
 mod int;
 mod int_ref;
+mod kept_octets;
 pub mod laws;
 mod numbers_in_range;
 mod ordering;
@@ -12,5 +13,6 @@ mod uint_ref;
 
 pub use int::Int;
 pub use int_ref::{AsIntRef, IntRef};
+pub use kept_octets::KeptOctets;
 pub use uint::Uint;
 pub use uint_ref::{AsUintRef, UintRef};

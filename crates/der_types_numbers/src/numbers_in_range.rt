@@ -1,7 +1,5 @@
 //! The values of each type are in range: these have every number, or every one that isn't negative.
 
-ghost use Rattle.std.specs.Prelude.{◌≡◌};
-
 use crate::int::Int;
 use crate::uint_ref::UintRef;
 use der_core::InRangeValue;

@@ -29,7 +29,7 @@ impl OrdIsValueOrd for Int {
     ghost order = { integer_order };
 }
 
-/// The digits, behind a zero where their first bit is one (X.690 8.3).
+/// The digits, after a zero where their first bit is one (X.690 8.3).
 impl<'a> ValueOrd for UintRef<'a> {
     #[tactic(auto, using(der_core::proofs::LeafOrders::leaf_contents))]
     fn value_cmp(&self, other: &Self) -> Result<Ordering, Error> {

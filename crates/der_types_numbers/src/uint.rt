@@ -2,7 +2,6 @@
 
 ghost use Rattle.std.specs.Prelude.{◌≡◌, ◌<◌, ◌^◌, pos, false, length, nat_eq, Some, IfOk};
 ghost use Rattle.std.proofs.Common.{refl, ap};
-ghost use Rattle.std.specs.Int.Digits.{number_from_digits};
 ghost use Rattle.std.specs.Cmp.{po, partial_equiv_from_equiv, on_equiv, on_per, nat_cmp_total};
 ghost use Rattle.std.specs.Cmp.Lexicographic.{pointwise, bytes_decides, nat_list_eq_equiv};
 ghost use Rattle.std.specs.Hash as fed;
@@ -170,7 +169,7 @@ impl Ord for Uint {
 
     ghost matches_eq = { digits_ties };
 
-    #[tactic(auto, using(crate::proofs::Naturals::natural_orders))]
+    #[tactic(auto, using(crate::specs::NumberOrders::digits_cmp))]
     fn cmp(&self, other: &Self) -> Ordering {
         sized_cmp(self.as_bytes(), other.as_bytes())
     }
@@ -201,8 +200,6 @@ impl Described for Uint {
 }
 
 impl Primitive for Uint {
-    ghost use Rattle.std.specs.Prelude.{pos};
-
     ghost kind = { integer natural };
 
     ghost leaf_plain = { λ n. pos n };
@@ -222,5 +219,5 @@ impl Octets for Uint {
     }
 }
 
-/// The digits, behind a zero where their first bit is one (X.690 8.3).
+/// The digits, after a zero where their first bit is one (X.690 8.3).
 impl Ordered for Uint {}

@@ -194,7 +194,7 @@ impl<'a> Ord for UintRef<'a> {
 
     ghost matches_eq = { λ a b. digits_ties (natural_lent a) (natural_lent b) };
 
-    #[tactic(auto, using(crate::proofs::Naturals::natural_orders))]
+    #[tactic(auto, using(crate::specs::NumberOrders::digits_cmp))]
     fn cmp(&self, other: &Self) -> Ordering {
         sized_cmp(self.as_bytes(), other.as_bytes())
     }
@@ -242,8 +242,7 @@ impl<'a> Leaf<'a> for UintRef<'a> {
     ghost takes_memory = { false };
 
     fn from_content(_alloc: Global, tag: Tag, octets: &'a [u8]) -> Result<UintRef<'a>, Error> {
-        let value = UintRef::of_content(tag, octets)?;
-        Ok(value)
+        Ok(UintRef::of_content(tag, octets)?)
     }
 }
 

@@ -1,7 +1,6 @@
 -- The members of a lent set, in a list of their own.
-use Rattle.std.proofs.Common.{◌≡◌, List, [], ◌∷◌, ◌++◌, length, refl, sym, ap, subst, ◌∙◌, append_assoc, arith, inl, inr}
+use Rattle.std.proofs.Common.{◌≡◌, List, [], ◌∷◌, ◌++◌, length, refl, sym, ap, subst, ◌∙◌, append_assoc, arith, inl, inr, append-nil}
 use Rattle.std.proofs.lemmas.Bool.{cases_lt}
-use Rattle.std.proofs.lemmas.List.{append-nil}
 use Rattle.der_core_head.specs.Shapes.{Shape, Value, octets_of, AllAscending}
 use Rattle.der_core_head.specs.Grammar.{plain_list}
 use Rattle.der_types_sets.specs.Sets.{Ascends}

@@ -6,8 +6,6 @@ pub mod FewSteps
 pub mod Arrangements
 pub mod LentWrites
 pub mod LentOwned
-pub mod WriteFaults
 pub mod LentOrders
 pub mod LentRanges
-pub mod ItemSteps
 pub mod Arranged

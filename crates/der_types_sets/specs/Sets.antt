@@ -1,10 +1,8 @@
 -- Sets as their members in order (X.690 8.12, 11.6). A member has the plain value f x of a shape s.
 use Rattle.std.specs.Prelude.{◌≡◌, ◌≢◌, ℕ, suc, ◌-◌, ◌<◌, ◌≤◌, List, [], ◌∷◌, ◌++◌, length, take}
 use Rattle.std.specs.Prelude.{slice_index_or, flat_map, bytes_eq, ⊤, ◌⊎◌, Option, Some, Result, Ok}
-use Rattle.std.specs.Prelude.{Err, true, false}
+use Rattle.std.specs.Prelude.{Err, true, false, insert, filter, IsPermutation}
 use Rattle.std.specs.Iterator.{YieldsThen}
-use Rattle.std.specs.List.{insert, filter}
-use Rattle.std.specs.List.Sorted.{IsPermutation}
 use Rattle.std.specs.declared.cmp.Ordering.TheVariants.{Less, Greater}
 use Rattle.der_core_head.specs.declared.error.Error.{Error}
 use Rattle.der_core_head.specs.declared.error.ErrorKind.TheVariants as kinds

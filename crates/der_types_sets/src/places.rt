@@ -1,16 +1,14 @@
 //! Places in a list whose members ascend by their encodings.
 
 ghost use Rattle.std.specs.Prelude.{◌≡◌, ◌⊎◌, ◌<◌, ◌≤◌, [], ◌∷◌, ◌++◌, List, length, take, IfOk};
-ghost use Rattle.std.specs.Prelude.{OnOk, IfErr};
-ghost use Rattle.std.specs.List.{insert};
-ghost use Rattle.std.specs.List.Sorted.{IsPermutation};
+ghost use Rattle.std.specs.Prelude.{OnOk, IfErr, insert, IsPermutation};
 ghost use Rattle.der_types_sets.specs.Sets.{Ascends, IsPlace, TooLong, IsBelowLast, IsOutOfOrder};
 ghost use Rattle.der_types_sets.specs.Sets.{IsArranged, StopsBehind};
 
 use der_core::{DerOrd, Error, ErrorKind, Member};
 use std::cmp::Ordering;
 
-/// The place of an item among members that ascend, behind those that are not above it.
+/// The place of an item among members that ascend, after those that are not above it.
 ///
 /// # Errors
 /// `Overflow` where an encoding has 2^32 octets or more.

@@ -1,12 +1,12 @@
 //! SEQUENCE OF with room for so many members.
 
 ghost use Rattle.std.specs.Prelude.{ℕ, ◌≡◌, ◌==◌, ◌↔◌, ◌<◌, [], ◌∷◌, ◌++◌, length, slice_get};
-ghost use Rattle.std.specs.Prelude.{slice_index_or, IsOk, OnOk, OnErr, IfErr};
-ghost use Rattle.std.specs.Option.{option_copied};
+ghost use Rattle.std.specs.Prelude.{slice_index_or, IsOk, OnOk, OnErr, IfErr, option_copied};
 ghost use Rattle.std.specs.List.{AllZip};
 ghost use Rattle.std.specs.Cmp.Lexicographic.{pointwise, lists_per, lists_equiv};
 ghost use Rattle.std.specs.Hash as fed;
 ghost use Rattle.std.specs.Hash.{items_Alike};
+ghost use Rattle.std.specs.Slice.Iter.{iter_rest};
 ghost use Rattle.der_core_head.specs.declared.tag.Tag.TheVariants.{Sequence};
 ghost use Rattle.der_core_head.specs.Shapes.{nested, few};
 ghost use Rattle.der_core_head.specs.Grammar.{plain_list};
@@ -92,11 +92,9 @@ impl<T, const N: usize> SequenceOf<T, N> {
 
     /// The members, lent one after another.
     pub fn iter(&self) -> SequenceOfIter<'_, T>
-        ensures { result.left.now ≡ self.now }
+        ensures { iter_rest result ≡ self.now }
     {
-        SequenceOfIter {
-            left: self.members.as_slice(),
-        }
+        self.members.as_slice().iter()
     }
 
     /// Whether there is no member.

@@ -2,8 +2,7 @@
 
 ghost use Rattle.std.specs.Prelude.{◌≡◌, ◌⊎◌, ◌≤◌, List, take, true, false, Ok, MatchResult, ◌==◌};
 ghost use Rattle.std.specs.Prelude.{[], ◌∷◌, ◌++◌, length, slice_get, IfOk, OnOk, OnErr, IfErr};
-ghost use Rattle.std.specs.Option.{option_copied};
-ghost use Rattle.std.specs.List.Sorted.{IsPermutation};
+ghost use Rattle.std.specs.Prelude.{option_copied, IsPermutation};
 ghost use Rattle.der_core_head.specs.declared.tag.Tag.TheVariants.{Set};
 ghost use Rattle.der_core_head.specs.Limits.{levels_max};
 ghost use Rattle.der_core_head.specs.Shapes.{Value, tagged, nested, few};
@@ -15,6 +14,7 @@ ghost use Rattle.std.specs.Cmp.Lexicographic.{lists_equiv, lists_po, lists_total
 ghost use Rattle.std.specs.Cmp.Lexicographic.{lists_ties};
 ghost use Rattle.std.specs.Hash as fed;
 ghost use Rattle.std.specs.Hash.{items_Alike};
+ghost use Rattle.std.specs.Slice.Iter.{iter_rest};
 ghost use Rattle.der_types_sets.specs.Lent.{members_lent};
 ghost use Rattle.der_types_sets.specs.Sets.{Ascends, Loose, ReadsArranged, SpellsLoosely, TooLong};
 ghost use Rattle.der_types_sets.specs.Sets.{IsBelowLast, IsPutAtPlace};
@@ -98,9 +98,9 @@ impl<T: Shaped, const N: usize> SetOf<T, N> {
 
     /// The members, lent one after another.
     pub fn iter(&self) -> SetOfIter<'_, T>
-        ensures { result.left.now ≡ self.now }
+        ensures { iter_rest result ≡ self.now }
     {
-        SetOfIter::of_members(self.members.as_slice())
+        self.members.as_slice().iter()
     }
 
     /// The set, lent.
@@ -142,7 +142,7 @@ impl<T: Shaped + Clone + Drop + Default, const N: usize> SetOf<T, N> {
 }
 
 impl<T: DerOrd + Member + Drop, const N: usize> SetOf<T, N> {
-    /// Places an item in order, behind members that equal it.
+    /// Places an item in order, after members that equal it.
     ///
     /// # Errors
     /// `Overlength` where there are `N` members, `Overflow` where an encoding has 2^32 octets or
@@ -241,7 +241,7 @@ impl<T: DerOrd + Member + Default + Drop, const N: usize> SetOf<T, N> {
     ///
     /// # Errors
     /// `Overflow` for 2^32 octets or more, else the first fault from the left, among them
-    /// `Overlength` for more than `N` members, `TrailingData` where octets are left behind the set,
+    /// `Overlength` for more than `N` members, `TrailingData` where octets are left after the set,
     /// or `OutOfMemory`.
     pub fn from_der<'a>(alloc: Global, bytes: &'a [u8]) -> Result<SetOf<T, N>, Error>
     where

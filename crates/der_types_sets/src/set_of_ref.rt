@@ -285,8 +285,7 @@ impl<'a, T: Shaped> Fields for SetOfRef<'a, T> {
 impl<'a, R: Reader<'a>, T: Decode<'a, SliceReader<'a>> + Member> DecodeFields<'a, R>
     for SetOfRef<'a, T> {
     fn decode_fields(alloc: Global, reader: &mut R) -> Result<SetOfRef<'a, T>, Error> {
-        let set = SetOfRef::decode_members(alloc, reader)?;
-        Ok(set)
+        Ok(SetOfRef::decode_members(alloc, reader)?)
     }
 }
 

@@ -64,7 +64,7 @@ impl<'a, T: Shaped> SetOfRefIter<'a, T> {
     }
 }
 
-/// The first of so many members that octets spell, and the octets behind it.
+/// The first of so many members that octets spell, and the octets after it.
 ///
 /// # Errors
 /// `OutOfMemory`.

@@ -2,9 +2,7 @@
 
 ghost use Rattle.std.specs.Prelude.{◌≡◌, ◌⊎◌, ◌≤◌, MatchResult, List, take, true, false, Ok, Err};
 ghost use Rattle.std.specs.Prelude.{◌==◌, [], ◌∷◌, ◌++◌, length, slice_get, IfOk, OnOk, OnErr};
-ghost use Rattle.std.specs.Prelude.{IfErr, IsErrAnd};
-ghost use Rattle.std.specs.Option.{option_copied};
-ghost use Rattle.std.specs.List.Sorted.{IsPermutation};
+ghost use Rattle.std.specs.Prelude.{IfErr, IsErrAnd, option_copied, IsPermutation};
 ghost use Rattle.der_core_head.specs.declared.tag.Tag.TheVariants.{Set};
 ghost use Rattle.der_core_head.specs.Limits.{levels_max};
 ghost use Rattle.der_core_head.specs.Shapes.{Value, tagged, nested, many, rising, octets_of};
@@ -23,6 +21,7 @@ ghost use Rattle.der_types_sets.specs.Sets.{IsRefusal, TooLong, IsBelowLast, IsP
 ghost use Rattle.der_core.specs.Placed.{AllValid};
 ghost use Rattle.der_types_sets.specs.Sets.{KeepsEquals, Gains, StopsAt, StopsIn};
 ghost use Rattle.std.specs.Iterator.{IsFinite, ExtendsWithItems, Drains};
+ghost use Rattle.std.specs.Slice.Iter.{iter_rest};
 
 use crate::any_order::AnyOrder;
 use crate::iter::SetOfIter;
@@ -107,9 +106,9 @@ impl<T: Shaped> SetOfVec<T> {
 
     /// The members, lent one after another.
     pub fn iter(&self) -> SetOfIter<'_, T>
-        ensures { result.left.now ≡ self.now }
+        ensures { iter_rest result ≡ self.now }
     {
-        SetOfIter::of_members(self.members.as_slice())
+        self.members.as_slice().iter()
     }
 
     /// The set, lent.
@@ -157,7 +156,7 @@ impl<T: Shaped + Clone + Drop> SetOfVec<T> {
 }
 
 impl<T: DerOrd + Member + Drop> SetOfVec<T> {
-    /// Places an item in order, behind members that equal it.
+    /// Places an item in order, after members that equal it.
     ///
     /// # Errors
     /// `Overflow` where an encoding has 2^32 octets or more, or `OutOfMemory`. The set stays then.
@@ -211,7 +210,7 @@ impl<T: DerOrd + Member + Drop> SetOfVec<T> {
         Ok(SetOfVec { members })
     }
 
-    /// Places each of the items in order, behind members that equal it.
+    /// Places each of the items in order, after members that equal it.
     ///
     /// It takes n log n comparisons, and as many moves where there is memory for a sort.
     ///
@@ -242,7 +241,7 @@ impl<T: DerOrd + Member + Drop> SetOfVec<T> {
         self.gain(came)
     }
 
-    /// Places each of these items in order, behind members that equal it.
+    /// Places each of these items in order, after members that equal it.
     ///
     /// # Errors
     /// As `extend`.
@@ -277,9 +276,7 @@ impl<T: DerOrd + Member + Drop> SetOfVec<T> {
         set.extend(items)?;
         Ok(set)
     }
-}
 
-impl<T: DerOrd + Member + Drop> SetOfVec<T> {
     /// The members of a content, which stand there in any order.
     ///
     /// # Errors
@@ -328,7 +325,7 @@ impl<T: DerOrd + Member + Drop> SetOfVec<T> {
     ///
     /// # Errors
     /// `Overflow` for 2^32 octets or more, else the first fault from the left, `TrailingData` where
-    /// octets are left behind the set, or `OutOfMemory`.
+    /// octets are left after the set, or `OutOfMemory`.
     pub fn from_der<'a>(alloc: Global, bytes: &'a [u8]) -> Result<SetOfVec<T>, Error>
     where
         T: Decode<'a, SliceReader<'a>> + AsRead,

@@ -1,7 +1,5 @@
 //! The values of each set are in range, as its members are.
 
-ghost use Rattle.std.specs.Prelude.{◌≡◌};
-
 use crate::set_of::SetOf;
 use crate::set_of_vec::SetOfVec;
 use der_core::making::list_in_range;

@@ -3,9 +3,8 @@
 
 ghost use Rattle.std.specs.Prelude.{◌≡◌, ℕ, ◌≤◌, ◌<◌, ◌+◌, List, [], ◌++◌, IsTrue, not, length};
 ghost use Rattle.std.specs.Prelude.{map, take, Some, IfSome, IfOk, IfErr, OnOk, OnErr, ⊤};
+ghost use Rattle.std.specs.Prelude.{IsPermutation, vec_len, vec_capacity};
 ghost use Rattle.std.specs.List.{range_with_len};
-ghost use Rattle.std.specs.List.Sorted.{IsPermutation};
-ghost use Rattle.std.specs.Vec.{vec_len, vec_capacity};
 ghost use Rattle.der_core_head.specs.Shapes.{IsValid};
 ghost use Rattle.der_core.specs.Orders.{octets_cmp, encodings_cmp};
 ghost use Rattle.der_core.specs.Placed.{AllValid};
@@ -171,7 +170,7 @@ fn sort<T: DerOrd + Member + Drop>(members: &mut Vec<T>) -> bool
 ///
 /// # Errors
 /// `Overflow` where an encoding has 2^32 octets or more. The members in front of the one that is
-/// refused are in order then, and it and those behind it are gone.
+/// refused are in order then, and it and those after it are gone.
 pub(crate) fn arrange_behind_first<T: DerOrd + Member + Drop>(
     members: &mut Vec<T>,
     first: usize,

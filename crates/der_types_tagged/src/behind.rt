@@ -1,17 +1,14 @@
-//! Contents behind tags that are known when they are written.
+//! Contents after tags that are known when they are written.
 
-ghost use Rattle.std.specs.Prelude.{◌≡◌, [], Ok, None, false, true, IfErr};
+ghost use Rattle.std.specs.Prelude.{[], Ok, None, false};
 ghost use Rattle.der_core_head.specs.Shapes.{nested, only, tagged, IsValid, octets_of};
-ghost use Rattle.der_core_head.specs.Spelling.{is_content_apart};
 ghost use Rattle.der_core_head.specs.Reading.{Gives, GivesNow};
 ghost use Rattle.der_core_head.specs.Writing.{Writes, size, write};
-ghost use Rattle.der_core.specs.Orders.{octets_cmp, Overflows};
 ghost use Rattle.der_core_octets.specs.Outputs.{Continues};
 
 use der_core::making::encode_header;
 use der_core::{
     DerOrd, Encode, EncodeValue, Error, Length, Shaped, ShapedValue, Tag, ValueOrd, Writer,
-    length_cmp, tag_cmp,
 };
 use std::alloc::Global;
 use std::cmp::Ordering;
@@ -92,31 +89,4 @@ pub fn der_behind<T: EncodeValue>(alloc: Global, tag: Tag, value: &T) -> Result<
         (record { written = []; room = None; failed = false })) }
 {
     written_behind(alloc, tag, value)
-}
-
-/// The order of two headers, and then that of their contents.
-pub fn cmp_behind<T: EncodeValue + ValueOrd>(
-    tag: Tag,
-    value: &T,
-    other_tag: Tag,
-    other: &T,
-) -> Result<Ordering, Error>
-    ensures order { is_content_apart T.content ≡ true
-        → IsValid (tagged tag T.content) (T.value_written value.now)
-        → IsValid (tagged other_tag T.content) (T.value_written other.now)
-        → result
-        ≡ Ok (octets_cmp (octets_of (tagged tag T.content) (T.value_written value.now))
-        (octets_of (tagged other_tag T.content) (T.value_written other.now))) }
-    ensures refused { IfErr result
-        (λ e. Overflows e (size (tagged tag T.content) (T.value_written value.now))
-        (size (tagged other_tag T.content) (T.value_written other.now))) }
-{
-    let len = value.value_len()?;
-    let other_len = other.value_len()?;
-    let headers = tag_cmp(tag, other_tag).then(length_cmp(len, other_len));
-    if headers.is_ne() {
-        return Ok(headers);
-    }
-    let contents = value.value_cmp(other)?;
-    Ok(contents)
 }

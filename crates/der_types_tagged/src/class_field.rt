@@ -1,8 +1,7 @@
-//! Values behind tags of one class.
+//! Values after tags of one class.
 
 ghost use Rattle.std.specs.Prelude.{◌≡◌, ◌↔◌, ◌/◌, [], Ok, None, false, true, IsTrue, IfOk, IfSome};
 ghost use Rattle.std.specs.Prelude.{IfErr};
-ghost use Rattle.der_core_head.specs.declared.tag_mode.TagMode.TheVariants.{Explicit, Implicit};
 ghost use Rattle.der_core_head.specs.Classes.{tag_class};
 ghost use Rattle.der_core_head.specs.Shapes.{nested, only, optional, tagged, IsContent, IsValid};
 ghost use Rattle.der_core_head.specs.Shapes.{octets_of};
@@ -83,7 +82,7 @@ impl<T, const CLASS: u8> ClassField<T, CLASS> {
             (read_at (R.state reader.old)
             (optional (explicit_field CLASS tag_number.value T.shape))) }
         ensures tag { IfOk result
-            (λ o. IfSome o (λ f. (f.tag_number ≡ tag_number) × (f.tag_mode ≡ Explicit))) }
+            (λ o. IfSome o (λ f. (f.tag_number ≡ tag_number) × (f.tag_mode ≡ TagMode.Explicit))) }
     {
         let tag_mode = TagMode::Explicit;
         let tag = tag_of_class(CLASS, true, tag_number);
@@ -116,7 +115,7 @@ impl<T, const CLASS: u8> ClassField<T, CLASS> {
             (read_at (R.state reader.old)
             (optional (implicit_field CLASS tag_number.value T.fixed_tag T.content))) }
         ensures tag { IfOk result
-            (λ o. IfSome o (λ f. (f.tag_number ≡ tag_number) × (f.tag_mode ≡ Implicit))) }
+            (λ o. IfSome o (λ f. (f.tag_number ≡ tag_number) × (f.tag_mode ≡ TagMode.Implicit))) }
     {
         let tag_mode = TagMode::Implicit;
         let tag = tag_of_class(CLASS, is_constructed(T::tag()), tag_number);
@@ -148,7 +147,7 @@ impl<T, const CLASS: u8> ClassField<T, CLASS> {
             (R.state reader.new) result
             (numbered_at (R.state reader.old).source.encoding CLASS T.shape
             (R.state reader.old).room) }
-        ensures mode { IfOk result (λ f. f.tag_mode ≡ Explicit) }
+        ensures mode { IfOk result (λ f. f.tag_mode ≡ TagMode.Explicit) }
     {
         let tag_mode = TagMode::Explicit;
         let header = match reader.peek_header() {
@@ -205,11 +204,11 @@ impl<T: EncodeValue + FixedTag, const CLASS: u8> ClassField<T, CLASS> {
     /// # Errors
     /// `Overflow` from 2^32 on.
     pub fn value_len(&self) -> Result<Length, Error>
-        ensures explicit { self.now.tag_mode ≡ Explicit
+        ensures explicit { self.now.tag_mode ≡ TagMode.Explicit
             → GivesNow (λ l. l.value) result
             (size_content (nested (only (tagged T.fixed_tag T.content)))
             (T.value_written self.now.value)) }
-        ensures implicit { self.now.tag_mode ≡ Implicit
+        ensures implicit { self.now.tag_mode ≡ TagMode.Implicit
             → GivesNow (λ l. l.value) result
             (size_content T.content (T.value_written self.now.value)) }
     {
@@ -221,11 +220,11 @@ impl<T: EncodeValue + FixedTag, const CLASS: u8> ClassField<T, CLASS> {
     /// # Errors
     /// `Overflow` where a length passes 2^32 - 1, and those of the writer.
     pub fn encode_value<W: Writer>(&self, writer: &mut W) -> Result<(), Error>
-        ensures explicit { self.now.tag_mode ≡ Explicit
+        ensures explicit { self.now.tag_mode ≡ TagMode.Explicit
             → Writes W.takes_memory (W.out writer.old) (W.out writer.new) result
             (write_content (nested (only (tagged T.fixed_tag T.content)))
             (T.value_written self.now.value)) }
-        ensures implicit { self.now.tag_mode ≡ Implicit
+        ensures implicit { self.now.tag_mode ≡ TagMode.Implicit
             → Writes W.takes_memory (W.out writer.old) (W.out writer.new) result
             (write_content T.content (T.value_written self.now.value)) }
         ensures kept { Continues (W.out writer.old) (W.out writer.new) }
@@ -238,11 +237,11 @@ impl<T: EncodeValue + FixedTag, const CLASS: u8> ClassField<T, CLASS> {
     /// # Errors
     /// `Overflow` from 2^32 on.
     pub fn encoded_len(&self) -> Result<Length, Error>
-        ensures explicit { self.now.tag_mode ≡ Explicit
+        ensures explicit { self.now.tag_mode ≡ TagMode.Explicit
             → GivesNow (λ l. l.value) result
             (size (explicit_field CLASS self.now.tag_number.value (tagged T.fixed_tag T.content))
             (T.value_written self.now.value)) }
-        ensures implicit { self.now.tag_mode ≡ Implicit
+        ensures implicit { self.now.tag_mode ≡ TagMode.Implicit
             → GivesNow (λ l. l.value) result
             (size (implicit_field CLASS self.now.tag_number.value T.fixed_tag T.content)
             (T.value_written self.now.value)) }
@@ -255,11 +254,11 @@ impl<T: EncodeValue + FixedTag, const CLASS: u8> ClassField<T, CLASS> {
     /// # Errors
     /// `Overflow` where a length passes 2^32 - 1, and those of the writer.
     pub fn encode<W: Writer>(&self, writer: &mut W) -> Result<(), Error>
-        ensures explicit { self.now.tag_mode ≡ Explicit
+        ensures explicit { self.now.tag_mode ≡ TagMode.Explicit
             → Writes W.takes_memory (W.out writer.old) (W.out writer.new) result
             (write (explicit_field CLASS self.now.tag_number.value (tagged T.fixed_tag T.content))
             (T.value_written self.now.value)) }
-        ensures implicit { self.now.tag_mode ≡ Implicit
+        ensures implicit { self.now.tag_mode ≡ TagMode.Implicit
             → Writes W.takes_memory (W.out writer.old) (W.out writer.new) result
             (write (implicit_field CLASS self.now.tag_number.value T.fixed_tag T.content)
             (T.value_written self.now.value)) }
@@ -274,7 +273,7 @@ impl<T: EncodeValue + FixedTag, const CLASS: u8> ClassField<T, CLASS> {
     /// `Overflow` where a length passes 2^32 - 1, or `OutOfMemory`.
     pub fn to_der(&self, alloc: Global) -> Result<Vec<u8>, Error>
         // A valid value has an encoding, and it is the answer unless memory runs out.
-        ensures explicit { self.now.tag_mode ≡ Explicit
+        ensures explicit { self.now.tag_mode ≡ TagMode.Explicit
             → IsValid
             (explicit_field CLASS self.now.tag_number.value (tagged T.fixed_tag T.content))
             (T.value_written self.now.value)
@@ -283,7 +282,7 @@ impl<T: EncodeValue + FixedTag, const CLASS: u8> ClassField<T, CLASS> {
             (octets_of
             (explicit_field CLASS self.now.tag_number.value (tagged T.fixed_tag T.content))
             (T.value_written self.now.value))) }
-        ensures implicit { self.now.tag_mode ≡ Implicit
+        ensures implicit { self.now.tag_mode ≡ TagMode.Implicit
             → IsValid (implicit_field CLASS self.now.tag_number.value T.fixed_tag T.content)
             (T.value_written self.now.value)
             → Gives (λ v. v.items) result
@@ -291,12 +290,12 @@ impl<T: EncodeValue + FixedTag, const CLASS: u8> ClassField<T, CLASS> {
             (octets_of (implicit_field CLASS self.now.tag_number.value T.fixed_tag T.content)
             (T.value_written self.now.value))) }
         // Which fault it is.
-        ensures exact_explicit { self.now.tag_mode ≡ Explicit
+        ensures exact_explicit { self.now.tag_mode ≡ TagMode.Explicit
             → Gives (λ v. record { written = v.items; room = None; failed = false }) result
             (write (explicit_field CLASS self.now.tag_number.value (tagged T.fixed_tag T.content))
             (T.value_written self.now.value)
             (record { written = []; room = None; failed = false })) }
-        ensures exact_implicit { self.now.tag_mode ≡ Implicit
+        ensures exact_implicit { self.now.tag_mode ≡ TagMode.Implicit
             → Gives (λ v. record { written = v.items; room = None; failed = false }) result
             (write (implicit_field CLASS self.now.tag_number.value T.fixed_tag T.content)
             (T.value_written self.now.value)
@@ -316,7 +315,7 @@ impl<T: ValueOrd + EncodeValue + FixedTag, const CLASS: u8> ClassField<T, CLASS>
     pub fn value_cmp(&self, other: &ClassField<T, CLASS>) -> Result<Ordering, Error>
         requires { self.now.tag_mode ≡ other.now.tag_mode }
         // An answer comes wherever both values have a content.
-        ensures explicit { self.now.tag_mode ≡ Explicit → is_content_apart T.content ≡ true
+        ensures explicit { self.now.tag_mode ≡ TagMode.Explicit → is_content_apart T.content ≡ true
             → IsContent (nested (only (tagged T.fixed_tag T.content)))
             (T.value_written self.now.value)
             → IsContent (nested (only (tagged T.fixed_tag T.content)))
@@ -325,19 +324,20 @@ impl<T: ValueOrd + EncodeValue + FixedTag, const CLASS: u8> ClassField<T, CLASS>
             ≡ Ok
             (contents_cmp (nested (only (tagged T.fixed_tag T.content)))
             (T.value_written self.now.value) (T.value_written other.now.value)) }
-        ensures implicit { self.now.tag_mode ≡ Implicit → is_content_apart T.content ≡ true
+        ensures implicit { self.now.tag_mode ≡ TagMode.Implicit → is_content_apart T.content ≡ true
             → IsContent T.content (T.value_written self.now.value)
             → IsContent T.content (T.value_written other.now.value)
             → result
             ≡ Ok
             (contents_cmp T.content (T.value_written self.now.value)
             (T.value_written other.now.value)) }
-        ensures refused_explicit { self.now.tag_mode ≡ Explicit → IfErr result (λ e. Overflows e
-            (size_content (nested (only (tagged T.fixed_tag T.content)))
+        ensures refused_explicit { self.now.tag_mode ≡ TagMode.Explicit
+            → IfErr result
+            (λ e. Overflows e (size_content (nested (only (tagged T.fixed_tag T.content)))
             (T.value_written self.now.value))
             (size_content (nested (only (tagged T.fixed_tag T.content)))
             (T.value_written other.now.value))) }
-        ensures refused_implicit { self.now.tag_mode ≡ Implicit
+        ensures refused_implicit { self.now.tag_mode ≡ TagMode.Implicit
             → IfErr result
             (λ e. Overflows e (size_content T.content (T.value_written self.now.value))
             (size_content T.content (T.value_written other.now.value))) }
@@ -353,7 +353,7 @@ impl<T: ValueOrd + EncodeValue + FixedTag, const CLASS: u8> ClassField<T, CLASS>
     pub fn der_cmp(&self, other: &ClassField<T, CLASS>) -> Result<Ordering, Error>
         requires { self.now.tag_mode ≡ other.now.tag_mode }
         // An answer comes wherever both values have an encoding.
-        ensures explicit { self.now.tag_mode ≡ Explicit → is_content_apart T.content ≡ true
+        ensures explicit { self.now.tag_mode ≡ TagMode.Explicit → is_content_apart T.content ≡ true
             → IsValid
             (explicit_field CLASS self.now.tag_number.value (tagged T.fixed_tag T.content))
             (T.value_written self.now.value)
@@ -369,7 +369,7 @@ impl<T: ValueOrd + EncodeValue + FixedTag, const CLASS: u8> ClassField<T, CLASS>
             (octets_of
             (explicit_field CLASS other.now.tag_number.value (tagged T.fixed_tag T.content))
             (T.value_written other.now.value))) }
-        ensures implicit { self.now.tag_mode ≡ Implicit → is_content_apart T.content ≡ true
+        ensures implicit { self.now.tag_mode ≡ TagMode.Implicit → is_content_apart T.content ≡ true
             → IsValid (implicit_field CLASS self.now.tag_number.value T.fixed_tag T.content)
             (T.value_written self.now.value)
             → IsValid (implicit_field CLASS other.now.tag_number.value T.fixed_tag T.content)
@@ -381,14 +381,14 @@ impl<T: ValueOrd + EncodeValue + FixedTag, const CLASS: u8> ClassField<T, CLASS>
             (T.value_written self.now.value))
             (octets_of (implicit_field CLASS other.now.tag_number.value T.fixed_tag T.content)
             (T.value_written other.now.value))) }
-        ensures refused_explicit { self.now.tag_mode ≡ Explicit
+        ensures refused_explicit { self.now.tag_mode ≡ TagMode.Explicit
             → IfErr result
             (λ e. Overflows e
             (size (explicit_field CLASS self.now.tag_number.value (tagged T.fixed_tag T.content))
             (T.value_written self.now.value))
             (size (explicit_field CLASS other.now.tag_number.value (tagged T.fixed_tag T.content))
             (T.value_written other.now.value))) }
-        ensures refused_implicit { self.now.tag_mode ≡ Implicit
+        ensures refused_implicit { self.now.tag_mode ≡ TagMode.Implicit
             → IfErr result
             (λ e. Overflows e
             (size (implicit_field CLASS self.now.tag_number.value T.fixed_tag T.content)

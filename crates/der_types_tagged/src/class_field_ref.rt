@@ -1,7 +1,6 @@
-//! Lent values behind tags of one class.
+//! Lent values after tags of one class.
 
 ghost use Rattle.std.specs.Prelude.{◌≡◌, [], Ok, None, false, IsOk, IfOk, ⊤};
-ghost use Rattle.der_core_head.specs.declared.tag_mode.TagMode.TheVariants.{Explicit, Implicit};
 ghost use Rattle.der_core_head.specs.Shapes.{nested, only, tagged, IsValid, octets_of};
 ghost use Rattle.der_core_head.specs.Reading.{Gives, GivesNow};
 ghost use Rattle.der_core_head.specs.Writing.{Writes, size, size_content, write, write_content};
@@ -78,11 +77,11 @@ impl<'a, T: EncodeValue + FixedTag, const CLASS: u8> ClassFieldRef<'a, T, CLASS>
     /// # Errors
     /// `Overflow` from 2^32 on.
     pub fn value_len(&self) -> Result<Length, Error>
-        ensures explicit { self.now.tag_mode ≡ Explicit
+        ensures explicit { self.now.tag_mode ≡ TagMode.Explicit
             → GivesNow (λ l. l.value) result
             (size_content (nested (only (tagged T.fixed_tag T.content)))
             (T.value_written self.now.value.now)) }
-        ensures implicit { self.now.tag_mode ≡ Implicit
+        ensures implicit { self.now.tag_mode ≡ TagMode.Implicit
             → GivesNow (λ l. l.value) result
             (size_content T.content (T.value_written self.now.value.now)) }
     {
@@ -94,11 +93,11 @@ impl<'a, T: EncodeValue + FixedTag, const CLASS: u8> ClassFieldRef<'a, T, CLASS>
     /// # Errors
     /// `Overflow` where a length passes 2^32 - 1, and those of the writer.
     pub fn encode_value<W: Writer>(&self, writer: &mut W) -> Result<(), Error>
-        ensures explicit { self.now.tag_mode ≡ Explicit
+        ensures explicit { self.now.tag_mode ≡ TagMode.Explicit
             → Writes W.takes_memory (W.out writer.old) (W.out writer.new) result
             (write_content (nested (only (tagged T.fixed_tag T.content)))
             (T.value_written self.now.value.now)) }
-        ensures implicit { self.now.tag_mode ≡ Implicit
+        ensures implicit { self.now.tag_mode ≡ TagMode.Implicit
             → Writes W.takes_memory (W.out writer.old) (W.out writer.new) result
             (write_content T.content (T.value_written self.now.value.now)) }
         ensures kept { Continues (W.out writer.old) (W.out writer.new) }
@@ -111,11 +110,11 @@ impl<'a, T: EncodeValue + FixedTag, const CLASS: u8> ClassFieldRef<'a, T, CLASS>
     /// # Errors
     /// `Overflow` from 2^32 on.
     pub fn encoded_len(&self) -> Result<Length, Error>
-        ensures explicit { self.now.tag_mode ≡ Explicit
+        ensures explicit { self.now.tag_mode ≡ TagMode.Explicit
             → GivesNow (λ l. l.value) result
             (size (explicit_field CLASS self.now.tag_number.value (tagged T.fixed_tag T.content))
             (T.value_written self.now.value.now)) }
-        ensures implicit { self.now.tag_mode ≡ Implicit
+        ensures implicit { self.now.tag_mode ≡ TagMode.Implicit
             → GivesNow (λ l. l.value) result
             (size (implicit_field CLASS self.now.tag_number.value T.fixed_tag T.content)
             (T.value_written self.now.value.now)) }
@@ -128,11 +127,11 @@ impl<'a, T: EncodeValue + FixedTag, const CLASS: u8> ClassFieldRef<'a, T, CLASS>
     /// # Errors
     /// `Overflow` where a length passes 2^32 - 1, and those of the writer.
     pub fn encode<W: Writer>(&self, writer: &mut W) -> Result<(), Error>
-        ensures explicit { self.now.tag_mode ≡ Explicit
+        ensures explicit { self.now.tag_mode ≡ TagMode.Explicit
             → Writes W.takes_memory (W.out writer.old) (W.out writer.new) result
             (write (explicit_field CLASS self.now.tag_number.value (tagged T.fixed_tag T.content))
             (T.value_written self.now.value.now)) }
-        ensures implicit { self.now.tag_mode ≡ Implicit
+        ensures implicit { self.now.tag_mode ≡ TagMode.Implicit
             → Writes W.takes_memory (W.out writer.old) (W.out writer.new) result
             (write (implicit_field CLASS self.now.tag_number.value T.fixed_tag T.content)
             (T.value_written self.now.value.now)) }
@@ -147,7 +146,7 @@ impl<'a, T: EncodeValue + FixedTag, const CLASS: u8> ClassFieldRef<'a, T, CLASS>
     /// `Overflow` where a length passes 2^32 - 1, or `OutOfMemory`.
     pub fn to_der(&self, alloc: Global) -> Result<Vec<u8>, Error>
         // A valid value has an encoding, and it is the answer unless memory runs out.
-        ensures explicit { self.now.tag_mode ≡ Explicit
+        ensures explicit { self.now.tag_mode ≡ TagMode.Explicit
             → IsValid
             (explicit_field CLASS self.now.tag_number.value (tagged T.fixed_tag T.content))
             (T.value_written self.now.value.now)
@@ -156,7 +155,7 @@ impl<'a, T: EncodeValue + FixedTag, const CLASS: u8> ClassFieldRef<'a, T, CLASS>
             (octets_of
             (explicit_field CLASS self.now.tag_number.value (tagged T.fixed_tag T.content))
             (T.value_written self.now.value.now))) }
-        ensures implicit { self.now.tag_mode ≡ Implicit
+        ensures implicit { self.now.tag_mode ≡ TagMode.Implicit
             → IsValid (implicit_field CLASS self.now.tag_number.value T.fixed_tag T.content)
             (T.value_written self.now.value.now)
             → Gives (λ v. v.items) result
@@ -164,12 +163,12 @@ impl<'a, T: EncodeValue + FixedTag, const CLASS: u8> ClassFieldRef<'a, T, CLASS>
             (octets_of (implicit_field CLASS self.now.tag_number.value T.fixed_tag T.content)
             (T.value_written self.now.value.now))) }
         // Which fault it is.
-        ensures exact_explicit { self.now.tag_mode ≡ Explicit
+        ensures exact_explicit { self.now.tag_mode ≡ TagMode.Explicit
             → Gives (λ v. record { written = v.items; room = None; failed = false }) result
             (write (explicit_field CLASS self.now.tag_number.value (tagged T.fixed_tag T.content))
             (T.value_written self.now.value.now)
             (record { written = []; room = None; failed = false })) }
-        ensures exact_implicit { self.now.tag_mode ≡ Implicit
+        ensures exact_implicit { self.now.tag_mode ≡ TagMode.Implicit
             → Gives (λ v. record { written = v.items; room = None; failed = false }) result
             (write (implicit_field CLASS self.now.tag_number.value T.fixed_tag T.content)
             (T.value_written self.now.value.now)

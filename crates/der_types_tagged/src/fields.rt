@@ -1,7 +1,6 @@
-//! Fields behind tags of a class and a number, by their mode.
+//! Fields after tags of a class and a number, by their mode.
 
 ghost use Rattle.std.specs.Prelude.{◌≡◌, ◌/◌, [], Ok, None, false, true, IfErr};
-ghost use Rattle.der_core_head.specs.declared.tag_mode.TagMode.TheVariants.{Explicit, Implicit};
 ghost use Rattle.der_core_head.specs.Tags.{class_tag};
 ghost use Rattle.der_core_head.specs.Shapes.{nested, only, tagged, IsContent, IsValid, octets_of};
 ghost use Rattle.der_core_head.specs.Spelling.{is_content_apart};
@@ -11,8 +10,8 @@ ghost use Rattle.der_core.specs.Orders.{contents_cmp, octets_cmp, Overflows};
 ghost use Rattle.der_types_tagged.specs.Fields.{field_tag, explicit_field, implicit_field};
 ghost use Rattle.der_core_octets.specs.Outputs.{Continues};
 
-use crate::behind::{Whole, cmp_behind, der_behind, encode_behind, len_behind};
-use der_core::making::is_constructed;
+use crate::behind::{Whole, der_behind, encode_behind, len_behind};
+use der_core::making::{cmp_behind, is_constructed};
 use der_core::{
     Encode, EncodeValue, Error, FixedTag, Length, Tag, TagMode, TagNumber, ValueOrd, Writer,
 };
@@ -54,10 +53,10 @@ pub fn value_len_of_field<T: EncodeValue + FixedTag>(
     mode: TagMode,
     value: &T,
 ) -> Result<Length, Error>
-    ensures explicit { mode ≡ Explicit
+    ensures explicit { mode ≡ TagMode.Explicit
         → GivesNow (λ l. l.value) result
         (size_content (nested (only (tagged T.fixed_tag T.content))) (T.value_written value.now)) }
-    ensures implicit { mode ≡ Implicit
+    ensures implicit { mode ≡ TagMode.Implicit
         → GivesNow (λ l. l.value) result (size_content T.content (T.value_written value.now)) }
 {
     match mode {
@@ -72,11 +71,12 @@ pub fn encode_value_of_field<W: Writer, T: EncodeValue + FixedTag>(
     mode: TagMode,
     value: &T,
 ) -> Result<(), Error>
-    ensures explicit { mode ≡ Explicit → Writes W.takes_memory (W.out writer.old) (W.out writer.new)
-        result
+    ensures explicit { mode ≡ TagMode.Explicit
+        → Writes W.takes_memory (W.out writer.old) (W.out writer.new) result
         (write_content (nested (only (tagged T.fixed_tag T.content))) (T.value_written value.now)) }
-    ensures implicit { mode ≡ Implicit → Writes W.takes_memory (W.out writer.old) (W.out writer.new)
-        result (write_content T.content (T.value_written value.now)) }
+    ensures implicit { mode ≡ TagMode.Implicit
+        → Writes W.takes_memory (W.out writer.old) (W.out writer.new) result
+        (write_content T.content (T.value_written value.now)) }
     ensures kept { Continues (W.out writer.old) (W.out writer.new) }
 {
     match mode {
@@ -92,11 +92,11 @@ pub fn len_of_field<T: EncodeValue + FixedTag>(
     number: TagNumber,
     value: &T,
 ) -> Result<Length, Error>
-    ensures explicit { mode ≡ Explicit
+    ensures explicit { mode ≡ TagMode.Explicit
         → GivesNow (λ l. l.value) result
         (size (explicit_field class number.value (tagged T.fixed_tag T.content))
         (T.value_written value.now)) }
-    ensures implicit { mode ≡ Implicit
+    ensures implicit { mode ≡ TagMode.Implicit
         → GivesNow (λ l. l.value) result
         (size (implicit_field class number.value T.fixed_tag T.content)
         (T.value_written value.now)) }
@@ -116,11 +116,12 @@ pub fn encode_field<W: Writer, T: EncodeValue + FixedTag>(
     number: TagNumber,
     value: &T,
 ) -> Result<(), Error>
-    ensures explicit { mode ≡ Explicit → Writes W.takes_memory (W.out writer.old) (W.out writer.new)
-        result (write (explicit_field class number.value (tagged T.fixed_tag T.content))
+    ensures explicit { mode ≡ TagMode.Explicit
+        → Writes W.takes_memory (W.out writer.old) (W.out writer.new) result
+        (write (explicit_field class number.value (tagged T.fixed_tag T.content))
         (T.value_written value.now)) }
-    ensures implicit { mode ≡ Implicit → Writes W.takes_memory (W.out writer.old) (W.out writer.new)
-        result
+    ensures implicit { mode ≡ TagMode.Implicit
+        → Writes W.takes_memory (W.out writer.old) (W.out writer.new) result
         (write (implicit_field class number.value T.fixed_tag T.content)
         (T.value_written value.now)) }
     ensures kept { Continues (W.out writer.old) (W.out writer.new) }
@@ -140,23 +141,23 @@ pub fn der_of_field<T: EncodeValue + FixedTag>(
     number: TagNumber,
     value: &T,
 ) -> Result<Vec<u8>, Error>
-    ensures explicit { mode ≡ Explicit
+    ensures explicit { mode ≡ TagMode.Explicit
         → IsValid (explicit_field class number.value (tagged T.fixed_tag T.content))
         (T.value_written value.now)
         → Gives (λ v. v.items) result
         (Ok (octets_of (explicit_field class number.value (tagged T.fixed_tag T.content))
         (T.value_written value.now))) }
-    ensures implicit { mode ≡ Implicit
+    ensures implicit { mode ≡ TagMode.Implicit
         → IsValid (implicit_field class number.value T.fixed_tag T.content)
         (T.value_written value.now)
         → Gives (λ v. v.items) result
         (Ok (octets_of (implicit_field class number.value T.fixed_tag T.content)
         (T.value_written value.now))) }
-    ensures exact_explicit { mode ≡ Explicit
+    ensures exact_explicit { mode ≡ TagMode.Explicit
         → Gives (λ v. record { written = v.items; room = None; failed = false }) result
         (write (explicit_field class number.value (tagged T.fixed_tag T.content))
         (T.value_written value.now) (record { written = []; room = None; failed = false })) }
-    ensures exact_implicit { mode ≡ Implicit
+    ensures exact_implicit { mode ≡ TagMode.Implicit
         → Gives (λ v. record { written = v.items; room = None; failed = false }) result
         (write (implicit_field class number.value T.fixed_tag T.content) (T.value_written value.now)
         (record { written = []; room = None; failed = false })) }
@@ -174,23 +175,23 @@ pub fn value_cmp_of_fields<T: ValueOrd + EncodeValue + FixedTag>(
     value: &T,
     other: &T,
 ) -> Result<Ordering, Error>
-    ensures explicit { mode ≡ Explicit → is_content_apart T.content ≡ true
+    ensures explicit { mode ≡ TagMode.Explicit → is_content_apart T.content ≡ true
         → IsContent (nested (only (tagged T.fixed_tag T.content))) (T.value_written value.now)
         → IsContent (nested (only (tagged T.fixed_tag T.content))) (T.value_written other.now)
         → result
         ≡ Ok
         (contents_cmp (nested (only (tagged T.fixed_tag T.content))) (T.value_written value.now)
         (T.value_written other.now)) }
-    ensures implicit { mode ≡ Implicit → is_content_apart T.content ≡ true
+    ensures implicit { mode ≡ TagMode.Implicit → is_content_apart T.content ≡ true
         → IsContent T.content (T.value_written value.now)
         → IsContent T.content (T.value_written other.now)
         → result
         ≡ Ok (contents_cmp T.content (T.value_written value.now) (T.value_written other.now)) }
-    ensures refused_explicit { mode ≡ Explicit → IfErr result (λ e. Overflows e
+    ensures refused_explicit { mode ≡ TagMode.Explicit → IfErr result (λ e. Overflows e
         (size_content (nested (only (tagged T.fixed_tag T.content))) (T.value_written value.now))
         (size_content (nested (only (tagged T.fixed_tag T.content)))
         (T.value_written other.now))) }
-    ensures refused_implicit { mode ≡ Implicit
+    ensures refused_implicit { mode ≡ TagMode.Implicit
         → IfErr result (λ e. Overflows e (size_content T.content (T.value_written value.now))
         (size_content T.content (T.value_written other.now))) }
 {
@@ -209,7 +210,7 @@ pub fn der_cmp_of_fields<T: ValueOrd + EncodeValue + FixedTag>(
     other_number: TagNumber,
     other: &T,
 ) -> Result<Ordering, Error>
-    ensures explicit { mode ≡ Explicit → is_content_apart T.content ≡ true
+    ensures explicit { mode ≡ TagMode.Explicit → is_content_apart T.content ≡ true
         → IsValid (explicit_field class number.value (tagged T.fixed_tag T.content))
         (T.value_written value.now)
         → IsValid (explicit_field class other_number.value (tagged T.fixed_tag T.content))
@@ -221,7 +222,7 @@ pub fn der_cmp_of_fields<T: ValueOrd + EncodeValue + FixedTag>(
         (T.value_written value.now))
         (octets_of (explicit_field class other_number.value (tagged T.fixed_tag T.content))
         (T.value_written other.now))) }
-    ensures implicit { mode ≡ Implicit → is_content_apart T.content ≡ true
+    ensures implicit { mode ≡ TagMode.Implicit → is_content_apart T.content ≡ true
         → IsValid (implicit_field class number.value T.fixed_tag T.content)
         (T.value_written value.now)
         → IsValid (implicit_field class other_number.value T.fixed_tag T.content)
@@ -232,13 +233,13 @@ pub fn der_cmp_of_fields<T: ValueOrd + EncodeValue + FixedTag>(
         (T.value_written value.now))
         (octets_of (implicit_field class other_number.value T.fixed_tag T.content)
         (T.value_written other.now))) }
-    ensures refused_explicit { mode ≡ Explicit
+    ensures refused_explicit { mode ≡ TagMode.Explicit
         → IfErr result
         (λ e. Overflows e (size (explicit_field class number.value (tagged T.fixed_tag T.content))
         (T.value_written value.now))
         (size (explicit_field class other_number.value (tagged T.fixed_tag T.content))
         (T.value_written other.now))) }
-    ensures refused_implicit { mode ≡ Implicit
+    ensures refused_implicit { mode ≡ TagMode.Implicit
         → IfErr result
         (λ e. Overflows e
         (size (implicit_field class number.value T.fixed_tag T.content) (T.value_written value.now))

@@ -1,4 +1,4 @@
-//! The laws of fields behind tags.
+//! The laws of fields after tags.
 //!
 //! Each is the contract of a function that does nothing.
 

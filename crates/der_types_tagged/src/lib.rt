@@ -1,4 +1,4 @@
-//! Values behind tags of the application, context-specific and private classes (X.690 8.14).
+//! Values after tags of the application, context-specific and private classes (X.690 8.14).
 #![tactic(auto)]
 
 mod application;

@@ -1,4 +1,3 @@
-pub mod Orders
 pub mod Texts
 pub mod BmpChars
 pub mod BmpStrings

@@ -3,7 +3,6 @@ use Rattle.std.specs.Prelude.{◌≡◌, ◌<◌, ℕ, List, length, true, Resul
 use Rattle.std.specs.List.{list_all}
 use Rattle.std.proofs.lemmas.Bool.{ltb-true}
 use Rattle.der_core_head.specs.Limits.{length_max}
-use Rattle.der_core_head.specs.Heads.{Fits}
 use Rattle.der_core_head.specs.declared.error.ErrorKind.{ErrorKind}
 use Rattle.der_core_head.specs.declared.error.ErrorKind.TheVariants as kinds
 use Rattle.der_core_head.specs.declared.tag.Tag.{Tag}
@@ -12,11 +11,6 @@ use Rattle.der_core_head.specs.Texts.{Repertoire, ascii, is_within, text_read, u
 -- each octet is of the repertoire
 abbrev pub AreWithin : Repertoire → List ℕ → Type 0
 AreWithin r w = list_all (is_within r) w ≡ true
-
--- what a text of a type keeps: its characters are the type's, and a length can count them
-pub record IsKept (r : Repertoire) (w : List ℕ) : Type 0 where
-  pub within : AreWithin r w
-  pub short : Fits w
 
 -- the text of octets that a length can count, or the fault
 abbrev pub text_from : Repertoire → Tag → List ℕ → Result (List ℕ) ErrorKind

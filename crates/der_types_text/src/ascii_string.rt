@@ -1,14 +1,6 @@
 //! Owned texts of ASCII characters.
 
 ghost use Rattle.std.specs.Prelude.{◌≡◌, ◌↔◌, length, IsTrue, IfOk, [], Some, Ok, string_bytes};
-ghost use Rattle.std.specs.Prelude.{nat_eq};
-ghost use Rattle.std.proofs.Common.{refl, rules};
-ghost use Rattle.std.specs.Cmp.{partial_equiv_from_equiv};
-ghost use Rattle.std.specs.Cmp.Lexicographic.{pointwise, slice_cmp, nat_list_eq_equiv};
-ghost use Rattle.std.specs.Cmp.Lexicographic.{nat_list_cmp_total, texts_po, texts_ties};
-ghost use Rattle.std.specs.Cmp.Rules.{hashing};
-ghost use Rattle.std.specs.Hash as fed;
-ghost use Rattle.std.specs.Ordering.{nat_cmp};
 ghost use Rattle.der_core_head.specs.Heads.{Fits};
 ghost use Rattle.der_core_head.specs.Leaves.{text};
 ghost use Rattle.der_core_head.specs.Reading.{Gives, GivesNow};
@@ -19,32 +11,34 @@ ghost use Rattle.der_types_text.specs.Texts.{text_from};
 use crate::ascii_string_ref::AsciiStringRef;
 use crate::ascii_type::AsciiType;
 use der_core::describing::{AsOctets, Described, Octets, Ordered, Primitive};
-use der_core::{Error, FixedTag, Leaf, OrdIsValueOrd, Tag};
+use der_core::{Error, FixedTag, Leaf, OrdIsValueOrd, StringOwned, Tag};
 use std::alloc::{AllocError, Global};
-use std::cmp::Ordering;
 use std::convert::{AsSlice, AsStr};
 use std::fmt;
-use std::hash::{Hash, Hasher};
 use std::marker::{Model, PhantomData};
 
-/// A text of a character string type whose characters are ASCII, fewer than 2^32.
+/// A text of a character string type whose characters are ASCII, fewer than 2^32 (X.680 41).
 ///
-/// Contracts see the list of its octets.
+/// Contracts see the list of its octets, by which texts are equal and ordered.
 #[derive(Drop)]
+#[derive_where(PartialEq, Eq, PartialOrd, Ord, Hash)]
 pub struct AsciiString<T: AsciiType> {
-    text: String,
+    text: StringOwned,
+    #[derive_where(skip(EqHashOrd))]
     kind: PhantomData<T>,
 }
 
 impl<T: AsciiType> Model for AsciiString<T> {
-    ghost use Rattle.std.specs.Prelude.{List, ℕ, string_bytes};
-    ghost use Rattle.der_types_text.specs.Texts.{IsKept};
+    ghost use Rattle.std.specs.Prelude.{List, ℕ};
+    ghost use Rattle.der_types_text.specs.Texts.{AreWithin};
 
     ghost Value = { List ℕ };
 
-    ghost view = { λ a. string_bytes a.text };
+    ghost view = { λ a. a.text };
 
-    ghost invariant = { λ a. IsKept T.repertoire (string_bytes a.text) };
+    ghost inverse = { λ octets. record { text = octets; kind = record {} } };
+
+    ghost invariant = { λ a. AreWithin T.repertoire a.text };
 }
 
 impl<T: AsciiType> AsciiString<T> {
@@ -55,7 +49,7 @@ impl<T: AsciiType> AsciiString<T> {
     ) -> Result<AsciiString<T>, AllocError>
         ensures { IfOk result (λ t. t ≡ text.entry.text.now) }
     {
-        let text = String::from_str(alloc, text.text)?;
+        let text = StringOwned::copy_of(alloc, text.text)?;
         Ok(AsciiString {
             text,
             kind: PhantomData,
@@ -72,8 +66,7 @@ impl<T: AsciiType> AsciiString<T> {
         ensures exact { Gives (λ t. t) result (text_from T.repertoire T.string_tag input.now) }
     {
         let text = AsciiStringRef::<T>::new(input)?;
-        let owned = AsciiString::from_ref(alloc, text)?;
-        Ok(owned)
+        Ok(AsciiString::from_ref(alloc, text)?)
     }
 
     /// A copy.
@@ -106,7 +99,7 @@ impl<T: AsciiType> AsciiString<T> {
     pub fn len(&self) -> usize
         ensures { result ≡ length self.now }
     {
-        self.text.len()
+        self.text.as_bytes().len()
     }
 
     /// Whether there is no character.
@@ -120,7 +113,7 @@ impl<T: AsciiType> AsciiString<T> {
     pub fn into_string(self) -> String
         ensures { string_bytes result ≡ self }
     {
-        self.text
+        self.text.into_string()
     }
 
     /// The text, borrowed.
@@ -144,7 +137,7 @@ impl<T: AsciiType> TryFrom<String> for AsciiString<T> {
     fn try_from(text: String) -> Result<AsciiString<T>, Error> {
         let _ = AsciiStringRef::<T>::new(text.as_bytes())?;
         Ok(AsciiString {
-            text,
+            text: StringOwned::new(text)?,
             kind: PhantomData,
         })
     }
@@ -188,8 +181,7 @@ impl<T: AsciiType> Primitive for AsciiString<T> {
 impl<'a, T: AsciiType> Leaf<'a> for AsciiString<T> {
     fn from_content(alloc: Global, tag: Tag, octets: &'a [u8]) -> Result<AsciiString<T>, Error> {
         let text = AsciiStringRef::<T>::spelled_by(tag, octets)?;
-        let owned = AsciiString::from_ref(alloc, text)?;
-        Ok(owned)
+        Ok(AsciiString::from_ref(alloc, text)?)
     }
 }
 
@@ -208,57 +200,10 @@ impl<T: AsciiType> Clone for AsciiString<T> {
     ghost is_clone = { λ x y. y ≡ x };
 
     fn clone(&self) -> Result<AsciiString<T>, AllocError> {
-        AsciiString::from_ref(*self.text.allocator(), self.owned_to_ref())
-    }
-}
-
-/// Texts are equal where their octets are.
-impl<T: AsciiType> PartialEq for AsciiString<T> {
-    ghost eq = { pointwise nat_eq };
-
-    ghost laws = { partial_equiv_from_equiv nat_list_eq_equiv };
-
-    fn eq(&self, other: &Self) -> bool {
-        self.as_bytes() == other.as_bytes()
-    }
-}
-
-impl<T: AsciiType> Eq for AsciiString<T> {
-    ghost laws = { nat_list_eq_equiv };
-}
-
-/// The order of their octets.
-impl<T: AsciiType> PartialOrd for AsciiString<T> {
-    ghost partial_cmp = { λ a b. Some (slice_cmp nat_cmp a b) };
-
-    ghost laws = { texts_po };
-
-    fn partial_cmp(&self, other: &Self) -> Option<Ordering> {
-        Some(self.cmp(other))
-    }
-}
-
-impl<T: AsciiType> Ord for AsciiString<T> {
-    ghost cmp = { slice_cmp nat_cmp };
-
-    ghost total = { nat_list_cmp_total };
-
-    ghost matches_partial_cmp = { λ a b. refl };
-
-    ghost matches_eq = { texts_ties };
-
-    fn cmp(&self, other: &Self) -> Ordering {
-        self.as_bytes().cmp(other.as_bytes())
-    }
-}
-
-impl<T: AsciiType> Hash for AsciiString<T> {
-    ghost hash_input = { fed.str };
-
-    ghost respects_eq = { Prim.search (hashing, rules) };
-
-    fn hash<H: Hasher>(&self, state: &mut H) {
-        self.text.hash(state);
+        Ok(AsciiString {
+            text: Clone::clone(&self.text)?,
+            kind: PhantomData,
+        })
     }
 }
 

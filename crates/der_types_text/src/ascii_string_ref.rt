@@ -6,7 +6,7 @@ ghost use Rattle.der_core_head.specs.Heads.{Fits};
 ghost use Rattle.der_core_head.specs.Leaves.{text};
 ghost use Rattle.der_core_head.specs.Reading.{GivesNow};
 ghost use Rattle.der_core_head.specs.Texts.{is_within, text_read, IsText};
-ghost use Rattle.der_types_text.specs.Orders.{borrowed_order};
+ghost use Rattle.der_core.specs.OrdLaws.{octets_order};
 ghost use Rattle.der_types_text.specs.Texts.{AreWithin, text_from};
 
 use crate::ascii_string::AsciiString;
@@ -26,13 +26,15 @@ fn are_characters<T: AsciiType>(octets: &[u8]) -> bool
     octets.iter().all(|octet| T::has_character(*octet))
 }
 
-/// A borrowed text of a character string type whose characters are ASCII, fewer than 2^32.
+/// A borrowed text of a character string type whose characters are ASCII, fewer than 2^32 (X.680
+/// 41).
 ///
 /// Texts are equal where their octets are, and in the order of these.
 #[derive_where(PartialEq, Eq, PartialOrd, Ord, Hash)]
 pub struct AsciiStringRef<'a, T: AsciiType> {
     /// The characters.
     pub(crate) text: &'a str,
+    #[derive_where(skip(EqHashOrd))]
     pub(crate) kind: PhantomData<T>,
     ghost within: { AreWithin T.repertoire text.now },
     ghost short: { Fits text.now },
@@ -82,8 +84,7 @@ impl<'a, T: AsciiType> AsciiStringRef<'a, T> {
             (text_from T.repertoire T.string_tag input.now) }
     {
         slice_len(input)?;
-        let text = AsciiStringRef::spelled_by(T::tag(), input)?;
-        Ok(text)
+        Ok(AsciiStringRef::spelled_by(T::tag(), input)?)
     }
 
     /// The text.
@@ -196,8 +197,7 @@ impl<'a, T: AsciiType> Leaf<'a> for AsciiStringRef<'a, T> {
         tag: Tag,
         octets: &'a [u8],
     ) -> Result<AsciiStringRef<'a, T>, Error> {
-        let text = AsciiStringRef::spelled_by(tag, octets)?;
-        Ok(text)
+        Ok(AsciiStringRef::spelled_by(tag, octets)?)
     }
 }
 
@@ -212,7 +212,7 @@ impl<'a, T: AsciiType> Octets for AsciiStringRef<'a, T> {
 impl<'a, T: AsciiType> Ordered for AsciiStringRef<'a, T> {}
 
 impl<'a, T: AsciiType> OrdIsValueOrd for AsciiStringRef<'a, T> {
-    ghost order = { λ v w. borrowed_order T.repertoire v.text.now w.text.now };
+    ghost order = { λ v w. octets_order (text T.repertoire) v.text.now w.text.now };
 }
 
 impl<'a, T: AsciiType> fmt::Display for AsciiStringRef<'a, T> {

@@ -2,10 +2,9 @@
 //!
 //! Each is the contract of a function that does nothing.
 
-ghost use Rattle.std.specs.Prelude.{◌≡◌, ℕ, List, Ok, encode_utf8_all};
+ghost use Rattle.std.specs.Prelude.{◌≡◌, ℕ, List, Ok, encode_utf8_all, chars, IsUtf8};
 ghost use Rattle.std.specs.Cmp.Lexicographic.{slice_cmp};
 ghost use Rattle.std.specs.Ordering.{nat_cmp};
-ghost use Rattle.std.specs.Str.{chars, IsUtf8};
 ghost use Rattle.der_core_head.specs.BmpStrings.{IsBmp, bmp_octets};
 ghost use Rattle.der_core.specs.Orders.{octets_cmp};
 ghost use Rattle.der_types_text.specs.BmpStrings.{bmp_from};

@@ -1,7 +1,7 @@
 //! BMPString.
 
 ghost use Rattle.std.specs.Prelude.{◌≡◌, ◌++◌, true, false, nat_eq, Some, IfOk, IsTrue, OnOk};
-ghost use Rattle.std.specs.Prelude.{MatchOption, encode_utf8_all};
+ghost use Rattle.std.specs.Prelude.{MatchOption, encode_utf8_all, chars};
 ghost use Rattle.std.proofs.Common.{refl, ap};
 ghost use Rattle.std.specs.Cmp.{partial_equiv_from_equiv};
 ghost use Rattle.std.specs.Cmp.Lexicographic.{pointwise, slice_cmp, bytes_decides};
@@ -10,7 +10,6 @@ ghost use Rattle.std.specs.Cmp.Lexicographic.{texts_ties};
 ghost use Rattle.std.specs.Hash as fed;
 ghost use Rattle.std.specs.Ordering.{nat_cmp};
 ghost use Rattle.std.specs.List.{list_all};
-ghost use Rattle.std.specs.Str.{chars};
 ghost use Rattle.der_core_head.specs.BmpStrings.{IsBmp, is_unit, unit_octets, bmp_octets, bmp_read};
 ghost use Rattle.der_core_head.specs.BmpStrings.{units};
 ghost use Rattle.der_core_head.specs.declared.tag.Tag.TheVariants.{BmpString as BmpStringTag};

@@ -1,6 +1,5 @@
 //! IA5String.
 
-ghost use Rattle.std.specs.Prelude.{◌≡◌};
 ghost use Rattle.der_core_head.specs.declared.tag.Tag.TheVariants.{Ia5String as Ia5StringTag};
 ghost use Rattle.der_core_head.specs.Texts.{ascii};
 ghost use Rattle.der_types_text.specs.Texts.{ascii_below};

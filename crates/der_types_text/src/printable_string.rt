@@ -1,6 +1,5 @@
 //! PrintableString.
 
-ghost use Rattle.std.specs.Prelude.{◌≡◌};
 ghost use Rattle.der_core_head.specs.declared.tag.Tag.TheVariants.{PrintableString as PrintableStringTag};
 ghost use Rattle.der_core_head.specs.Texts.{printable};
 ghost use Rattle.der_core_head.proofs.TextLaws.{printable_below};

@@ -1,6 +1,5 @@
 //! VideotexString.
 
-ghost use Rattle.std.specs.Prelude.{◌≡◌};
 ghost use Rattle.der_core_head.specs.declared.tag.Tag.TheVariants.{VideotexString as VideotexStringTag};
 ghost use Rattle.der_core_head.specs.Texts.{ascii};
 ghost use Rattle.der_types_text.specs.Texts.{ascii_below};

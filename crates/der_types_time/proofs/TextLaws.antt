@@ -1,7 +1,5 @@
 -- The text of a date is of one date, and is read as it.
-use Rattle.std.proofs.Common.{◌≡◌, ℕ, ◌+◌, ◌*◌, ◌/◌, ◌%◌, true, List, [], ◌∷◌, Some, subst, arith}
-use Rattle.std.specs.Prelude.{◌==◌}
-use Rattle.std.proofs.lemmas.Bool.{eqb-true}
+use Rattle.std.proofs.Common.{◌≡◌, ℕ, ◌+◌, ◌*◌, ◌/◌, ◌%◌, true, List, [], ◌∷◌, Some, subst, arith, ◌==◌, eqb-true}
 use Rattle.std.proofs.lemmas.Option.{option_and_then_some, cond_some}
 use Rattle.der_core_head.specs.Dates.{Civil, is_civil, two_at}
 use Rattle.der_core_head.proofs.DateLaws.{two_at-again, two_at-sound, civil_ranges, zulu-sound, zulu-again}

@@ -27,7 +27,7 @@ fn digit(octet: u8) -> Option<u8>
     }
 }
 
-/// The number that two digits spell, and the octets behind them.
+/// The number that two digits spell, and the octets after them.
 pub(crate) fn two(octets: &[u8]) -> Option<(u8, &[u8])>
     ensures value { option_map (λ p. (p.0, p.1.now)) result ≡ two_at octets.now }
     ensures bound { IfSome result (λ p. p.0 < 100) }
@@ -80,7 +80,7 @@ pub(crate) fn two_digits(number: u8) -> [u8; 2]
     [b'0' + number / 10, b'0' + number % 10]
 }
 
-/// The octets behind a mark.
+/// The octets after a mark.
 fn behind(octets: &[u8], mark: u8) -> Option<&[u8]>
     ensures { option_map (λ rest. rest.now) result ≡ behind_mark mark octets.now }
 {

@@ -21,7 +21,7 @@ const LAST_SECOND: u64 = 253_402_300_799;
 /// A date to the second in universal time, from 1970-01-01T00:00:00Z to 9999-12-31T23:59:59Z.
 ///
 /// Contracts see its year, month, day, hour, minute and second. Dates are in the order of time. As
-/// a value of DER a date is a GeneralizedTime.
+/// a value of DER a date is a GeneralizedTime (X.690 11.7).
 #[derive(Clone, Copy, Debug, PartialEq, Eq, PartialOrd, Ord, Hash)]
 pub struct DateTime {
     year: u16,

@@ -1,7 +1,5 @@
 //! The values of each type are in range: each is a date of the calendar, to 2049 for UTCTime.
 
-ghost use Rattle.std.specs.Prelude.{◌≡◌};
-
 use crate::date_time::DateTime;
 use crate::generalized_time::GeneralizedTime;
 use crate::utc_time::UtcTime;

@@ -142,8 +142,7 @@ impl<'a> Leaf<'a> for GeneralizedTime {
     ghost takes_memory = { false };
 
     fn from_content(_alloc: Global, tag: Tag, octets: &'a [u8]) -> Result<GeneralizedTime, Error> {
-        let time = GeneralizedTime::of_content(tag, octets)?;
-        Ok(time)
+        Ok(GeneralizedTime::of_content(tag, octets)?)
     }
 }
 

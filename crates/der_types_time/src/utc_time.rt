@@ -154,8 +154,7 @@ impl<'a> Leaf<'a> for UtcTime {
     ghost takes_memory = { false };
 
     fn from_content(_alloc: Global, tag: Tag, octets: &'a [u8]) -> Result<UtcTime, Error> {
-        let time = UtcTime::of_content(tag, octets)?;
-        Ok(time)
+        Ok(UtcTime::of_content(tag, octets)?)
     }
 }
 

@@ -1,4 +1,2 @@
-mod LastOctet
 mod AllBits
-mod BitRuns
 pub mod NamedSteps

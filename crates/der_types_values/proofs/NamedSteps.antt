@@ -1,21 +1,17 @@
 -- Sets of named bits, octet by octet.
-use Rattle.std.proofs.Common.{◌≡◌, ℕ, zero, suc, ◌+◌, ◌-◌, ◌*◌, ◌/◌, ◌%◌, ◌<◌, ◌≤◌, ◌^◌, Bool, true, false, List, [], ◌∷◌, ◌++◌, length, get_or, take, drop, refl, ap, sym, subst, ◌∙◌, arith, ◌⊎◌, inl, inr, Ok, Err}
-use Rattle.std.specs.Prelude.{nat_lt, ◌==◌, ◌&&◌, not, slice_set}
+use Rattle.std.proofs.Common.{◌≡◌, ℕ, zero, suc, ◌+◌, ◌-◌, ◌*◌, ◌/◌, ◌%◌, ◌<◌, ◌≤◌, ◌^◌, Bool, true, false, List, [], ◌∷◌, ◌++◌, length, get_or, take, drop, refl, ap, sym, subst, ◌∙◌, arith, ◌⊎◌, inl, inr, Ok, Err, nat_lt, ◌==◌, ◌&&◌, not, slice_set, append-nil, pow_mono, drop-cons}
 use Rattle.std.specs.Int.{w8, reverse_bits, trailing_zeros}
 use Rattle.std.proofs.lemmas.Bool.{cases_eq, ltb-true}
-use Rattle.std.proofs.lemmas.List.{append-nil}
 use Rattle.std.proofs.lemmas.Nat.{div_below}
 use Rattle.std.proofs.Math.Nat.{pow-suc, pow-le-pow_right}
 use Rattle.std.proofs.lemmas.Grind.{pow_more}
-use Rattle.std.proofs.Math.Pow.{pow_mono}
-use Rattle.std.proofs.Math.Seq.{drop-cons}
 use Rattle.std.proofs.lemmas.List.{take_more_set, take_all, append_assoc}
 use Rattle.der_core_head.specs.declared.error.ErrorKind.TheVariants as kinds
 use Rattle.der_core_head.specs.declared.tag.Tag.{Tag}
 use Rattle.der_core_head.specs.NamedBits.{set_octets, spelled_set, unused_bits, named_octets, ends_in_one, named_read}
 use Rattle.der_core_head.proofs.Bytes.{IsBytes}
 use Rattle.der_core_head.proofs.NamedLaws.{set_octets-zero, set_octets-step, named_sound}
-use Rattle.der_types_values.proofs.LastOctet.{last_octet-get_or}
+use Rattle.der_types_values.proofs.AllBits.{last_place}
 
 none_of : (n : ℕ) → n ≡ 0 → length (set_octets n) ≡ 0
 none_of n e = ap (λ m. length (set_octets m)) e ∙ ap (λ (w : List ℕ). length w) set_octets-zero
@@ -30,9 +26,9 @@ set_octets-short (suc k) n h = elim (cases_eq n 0) [
 
 -- Reading
 
-pub ends_some : (u : ℕ) (w : List ℕ) → 0 < length w → ends_in_one u w ≡ (not (get_or w (length w - 1) 0 == 0) && (u == trailing_zeros w8 (get_or w (length w - 1) 0)))
-ends_some u [] h = absurd (omega arith)
-ends_some u (b ∷ w) h = ap (λ o. not (o == 0) && (u == trailing_zeros w8 o)) (last_octet-get_or (b ∷ w))
+pub ends : (u : ℕ) (w : List ℕ) → 0 < length w → ends_in_one u w ≡ (not (get_or w (length w - 1) 0 == 0) && (u == trailing_zeros w8 (get_or w (length w - 1) 0)))
+ends u [] h = absurd (omega arith)
+ends u (b ∷ w) h = ap (λ o. not (o == 0) && (u == trailing_zeros w8 o)) (last_place (b ∷ w))
 
 -- the octet before those that were read
 pub spelled_set-before : (w : List ℕ) (i : ℕ) → i < length w → spelled_set (drop i w) ≡ spelled_set (drop (i + 1) w) * 256 + reverse_bits w8 (get_or w i 0)
@@ -135,5 +131,3 @@ named_none (a ∷ w) len left n one h none e =
     let single : a ∷ [] ≡ 0 ∷ set_octets n = ap (λ i. take i (a ∷ w)) (sym one) ∙ all in
     let empty : [] ≡ set_octets n = cc in
     all ∙ ap (λ (m : ℕ). m ∷ set_octets n) (ap unused_bits empty)
-
-pub ruleset ends = (ends_some)

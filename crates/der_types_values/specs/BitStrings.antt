@@ -2,7 +2,6 @@
 -- themselves.
 use Rattle.std.specs.Prelude.{◌≡◌, Bool, true, List, map}
 use Rattle.std.specs.List.{range_with_len}
-use Rattle.der_core_head.specs.Heads.{Fits}
 use Rattle.der_core_head.specs.BitStrings.{Bits, are_bits}
 use Rattle.der_types_values.specs.declared.bit_string.BitString.TheInside.{Inside}
 use Rattle.der_types_values.specs.declared.bit_string_ref.BitStringRef.{BitStringRef}
@@ -10,11 +9,10 @@ use Rattle.der_types_values.specs.Bits.{bit_at}
 use Rattle.der_types_values.specs.declared.bit_string_iter.BitStringIter.{BitStringIter}
 
 abbrev pub bits_kept : Inside → Bits
-bits_kept b = record { unused = b.unused_bits; octets = b.bytes.items }
+bits_kept b = record { unused = b.unused_bits; octets = b.bytes }
 
-pub record IsBitString (b : Inside) : Type 0 where
-  pub unused : are_bits b.unused_bits b.bytes.items ≡ true
-  pub short : Fits b.bytes.items
+abbrev pub IsBitString : Inside → Type 0
+IsBitString b = are_bits b.unused_bits b.bytes ≡ true
 
 abbrev pub bits_lent : BitStringRef → Bits
 bits_lent b = record { unused = b.unused_bits; octets = b.bytes.now }

@@ -1,6 +1,5 @@
 -- The bits of octets (X.690 8.6.2): the first is the most significant one of the first octet.
-use Rattle.std.specs.Prelude.{ℕ, ◌*◌, ◌-◌, ◌/◌, ◌%◌, ◌^◌, Bool, List, length, map, ◌==◌}
-use Rattle.std.proofs.Common.{get_or}
+use Rattle.std.specs.Prelude.{ℕ, ◌*◌, ◌-◌, ◌/◌, ◌%◌, ◌^◌, Bool, List, length, map, ◌==◌, get_or}
 use Rattle.std.specs.List.{range_with_len}
 use Rattle.der_core_head.specs.BitStrings.{Bits}
 

@@ -2,4 +2,3 @@ pub mod OctetStrings
 pub mod Sequences
 pub mod Bits
 pub mod BitStrings
-pub mod BitOrders

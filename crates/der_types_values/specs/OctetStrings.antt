@@ -1,14 +1,10 @@
 -- What contracts see of an `OctetString` and of an `OctetStringRef`: the octets.
 use Rattle.std.specs.Prelude.{ℕ, List}
-use Rattle.der_core_head.specs.Heads.{Fits}
 use Rattle.der_types_values.specs.declared.octet_string.OctetString.TheInside.{Inside}
 use Rattle.der_types_values.specs.declared.octet_string_ref.OctetStringRef.{OctetStringRef}
 
 abbrev pub octets_kept : Inside → List ℕ
-octets_kept o = o.bytes.items
-
-abbrev pub IsOctetString : Inside → Type 0
-IsOctetString o = Fits o.bytes.items
+octets_kept o = o.bytes
 
 abbrev pub octets_lent : OctetStringRef → List ℕ
 octets_lent o = o.bytes.now

@@ -1,38 +1,30 @@
 //! BIT STRING.
 
-ghost use Rattle.std.specs.Prelude.{◌≡◌, ◌≢◌, ◌<◌, ◌≤◌, ◌↔◌, ◌&&◌, [], length, vec_len, true};
-ghost use Rattle.std.specs.Prelude.{false, Some, None, nat_eq, ◌==◌, IsTrue, IsOk, IfOk, IfErr};
-ghost use Rattle.std.specs.Prelude.{IfSome, IfNone};
-ghost use Rattle.std.proofs.Common.{refl};
-ghost use Rattle.std.specs.Cmp.{po, partial_equiv_from_equiv, on_equiv, on_per};
-ghost use Rattle.std.specs.Cmp.Lexicographic.{pointwise, nat_list_eq_equiv};
+ghost use Rattle.std.specs.Prelude.{◌≡◌, ◌≢◌, ◌<◌, ◌≤◌, ◌↔◌, [], vec_len, true, false, Some, None};
+ghost use Rattle.std.specs.Prelude.{IsTrue, IsOk, IfOk, IfErr, IfSome, IfNone};
 ghost use Rattle.der_core_head.specs.Limits.{IsLength, length_max};
-ghost use Rattle.der_core_head.specs.BitStrings.{are_bits, bit_contents};
+ghost use Rattle.der_core_head.specs.BitStrings.{are_bits};
 ghost use Rattle.der_core_head.specs.declared.tag.Tag.TheVariants.{BitString as BitStringTag};
 ghost use Rattle.der_core_head.specs.Leaves.{bits};
 ghost use Rattle.der_types_values.specs.Bits.{bit_at, bit_count, bit_list};
-ghost use Rattle.der_types_values.specs.BitOrders.{bits_cmp, bits_cmp_total, bits_cmp_ties};
-ghost use Rattle.der_types_values.specs.BitOrders.{bits_fed, bits_fed_alike};
 ghost use Rattle.der_types_values.specs.BitStrings.{bits_lent, bits_left};
 
 use crate::bit_string_iter::BitStringIter;
 use crate::bit_string_ref::{AsBitStringRef, BitStringRef};
 use crate::bits::check_bits;
 use der_core::describing::{AsLeaf, Described, EncodeLeaf, Primitive};
-use der_core::{EncodeValue, Error, ErrorKind, FixedTag, Leaf, Length, Tag, Writer};
+use der_core::{BytesOwned, EncodeValue, Error, ErrorKind, FixedTag, Leaf, Length, Tag, Writer};
 use std::alloc::{AllocError, Global};
-use std::cmp::Ordering;
-use std::hash::{Hash, Hasher};
 use std::marker::Model;
 
 /// BIT STRING (X.690 8.6, 11.2): octets, fewer than 2^32, of whose last one up to seven bits are
 /// unused and zero.
 ///
 /// Contracts see the number of unused bits and the octets.
-#[derive(Debug, Drop)]
+#[derive(Debug, Drop, PartialEq, Eq, PartialOrd, Ord, Hash)]
 pub struct BitString {
     unused_bits: u8,
-    bytes: Vec<u8>,
+    bytes: BytesOwned,
 }
 
 impl Model for BitString {
@@ -43,6 +35,8 @@ impl Model for BitString {
     ghost use Rattle.der_types_values.specs.BitStrings.{bits_kept, IsBitString};
 
     ghost view = { bits_kept };
+
+    ghost inverse = { λ b. record { unused_bits = b.unused; bytes = b.octets } };
 
     ghost invariant = { IsBitString };
 }
@@ -66,6 +60,7 @@ impl BitString {
             → IfErr result (λ e. e.kind ≡ ErrorKind.Overflow) }
     {
         check_bits(unused_bits, bytes.as_slice())?;
+        let bytes = BytesOwned::new(bytes)?;
         Ok(BitString { unused_bits, bytes })
     }
 
@@ -80,9 +75,7 @@ impl BitString {
         ensures err { IfErr result (λ e. (length_max < vec_len bytes)
             × (e.kind ≡ ErrorKind.Overflow)) }
     {
-        if bytes.len() > Length::MAX.value as usize {
-            return Err(Error::from(ErrorKind::Overflow));
-        }
+        let bytes = BytesOwned::new(bytes)?;
         Ok(BitString {
             unused_bits: 0,
             bytes,
@@ -93,7 +86,7 @@ impl BitString {
     pub(crate) fn copy_of(alloc: Global, lent: &BitStringRef<'_>) -> Result<BitString, AllocError>
         ensures { IfOk result (λ b. b ≡ bits_lent lent.now) }
     {
-        let bytes = lent.raw_bytes().to_vec(alloc)?;
+        let bytes = BytesOwned::copy_of(alloc, lent.raw_bytes())?;
         Ok(BitString {
             unused_bits: lent.unused_bits(),
             bytes,
@@ -107,11 +100,7 @@ impl BitString {
     pub fn clone(&self, alloc: Global) -> Result<BitString, AllocError>
         ensures { IfOk result (λ b. b ≡ self.now) }
     {
-        let bytes = self.bytes.as_slice().to_vec(alloc)?;
-        Ok(BitString {
-            unused_bits: self.unused_bits,
-            bytes,
-        })
+        BitString::copy_of(alloc, &self.owned_to_ref())
     }
 
     /// The number of unused bits, from 0 to 7.
@@ -185,58 +174,11 @@ impl Clone for BitString {
     ghost is_clone = { λ x y. y ≡ x };
 
     fn clone(&self) -> Result<BitString, AllocError> {
-        BitString::copy_of(*self.bytes.allocator(), &self.owned_to_ref())
-    }
-}
-
-/// Whether the contents are equal.
-impl PartialEq for BitString {
-    ghost eq = { λ a b. pointwise nat_eq (bit_contents a) (bit_contents b) };
-
-    ghost laws = { on_per bit_contents (partial_equiv_from_equiv nat_list_eq_equiv) };
-
-    fn eq(&self, other: &Self) -> bool {
-        self.unused_bits() == other.unused_bits() && self.raw_bytes() == other.raw_bytes()
-    }
-}
-
-impl Eq for BitString {
-    ghost laws = { on_equiv bit_contents nat_list_eq_equiv };
-}
-
-/// The order of the numbers of unused bits, and then of the octets: that of the contents.
-impl PartialOrd for BitString {
-    ghost partial_cmp = { λ a b. Some (bits_cmp a b) };
-
-    ghost laws = { po bits_cmp_total bits_cmp_ties };
-
-    fn partial_cmp(&self, other: &Self) -> Option<Ordering> {
-        Some(self.cmp(other))
-    }
-}
-
-impl Ord for BitString {
-    ghost cmp = { bits_cmp };
-
-    ghost total = { bits_cmp_total };
-
-    ghost matches_partial_cmp = { λ a b. refl };
-
-    ghost matches_eq = { bits_cmp_ties };
-
-    fn cmp(&self, other: &Self) -> Ordering {
-        self.owned_to_ref().cmp(&other.owned_to_ref())
-    }
-}
-
-/// The number of unused bits, and then the octets.
-impl Hash for BitString {
-    ghost hash_input = { bits_fed };
-
-    ghost respects_eq = { bits_fed_alike };
-
-    fn hash<H: Hasher>(&self, state: &mut H) {
-        self.owned_to_ref().hash(state);
+        let bytes = Clone::clone(&self.bytes)?;
+        Ok(BitString {
+            unused_bits: self.unused_bits,
+            bytes,
+        })
     }
 }
 

@@ -236,8 +236,7 @@ impl<'a> Leaf<'a> for BitStringRef<'a> {
     ghost takes_memory = { false };
 
     fn from_content(_alloc: Global, tag: Tag, octets: &'a [u8]) -> Result<BitStringRef<'a>, Error> {
-        let value = BitStringRef::of_content(tag, octets)?;
-        Ok(value)
+        Ok(BitStringRef::of_content(tag, octets)?)
     }
 }
 

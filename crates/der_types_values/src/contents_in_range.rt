@@ -1,7 +1,5 @@
 //! The values of each type are in range: contents are octets, unused bits zero, and set bits named.
 
-ghost use Rattle.std.specs.Prelude.{◌≡◌};
-
 use crate::bit_string::BitString;
 use crate::bit_string_ref::{AsBitStringRef, BitStringRef};
 use crate::flag_set::{FlagSet, NamedBits};

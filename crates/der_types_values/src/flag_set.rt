@@ -1,9 +1,8 @@
 //! Named bits.
 
 ghost use Rattle.std.specs.Prelude.{⊤, nat_eq, ◌≡◌, ◌==◌, ◌<◌, ◌≤◌, ◌-◌, ◌^◌, ℕ, length, take};
-ghost use Rattle.std.specs.Prelude.{nat_lt, IfOk, false};
+ghost use Rattle.std.specs.Prelude.{nat_lt, IfOk, false, bit_and, bit_or};
 ghost use Rattle.std.specs.Cmp.{on_per, on_equiv, nat_eq_equiv, partial_equiv_from_equiv};
-ghost use Rattle.std.specs.Int.RustNames.{bit_and, bit_or};
 ghost use Rattle.bitflags.specs.Sets.{known_bits};
 ghost use Rattle.der_core_head.specs.declared.tag.Tag.TheVariants.{BitString};
 ghost use Rattle.der_core_head.specs.Leaves.{named};

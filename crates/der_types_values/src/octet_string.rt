@@ -1,14 +1,6 @@
 //! OCTET STRING.
 
-ghost use Rattle.std.specs.Prelude.{◌≡◌, ◌<◌, ◌↔◌, [], length, vec_len, nat_eq, Some};
-ghost use Rattle.std.specs.Prelude.{IsTrue, IfOk, IfErr};
-ghost use Rattle.std.proofs.Common.{refl, ap};
-ghost use Rattle.std.specs.Cmp.{partial_equiv_from_equiv};
-ghost use Rattle.std.specs.Cmp.Lexicographic.{pointwise, slice_cmp, bytes_decides};
-ghost use Rattle.std.specs.Cmp.Lexicographic.{nat_list_eq_equiv, nat_list_cmp_total, texts_po};
-ghost use Rattle.std.specs.Cmp.Lexicographic.{texts_ties};
-ghost use Rattle.std.specs.Hash as fed;
-ghost use Rattle.std.specs.Ordering.{nat_cmp};
+ghost use Rattle.std.specs.Prelude.{◌≡◌, ◌<◌, ◌↔◌, [], length, vec_len, IsTrue, IfOk, IfErr};
 ghost use Rattle.der_core_head.specs.Limits.{IsLength, length_max};
 ghost use Rattle.der_core_head.specs.declared.tag.Tag.TheVariants.{OctetString as OctetStringTag};
 ghost use Rattle.der_core_head.specs.Leaves.{octets};
@@ -16,20 +8,17 @@ ghost use Rattle.der_types_values.specs.OctetStrings.{octets_lent};
 
 use crate::octet_string_ref::OctetStringRef;
 use der_core::describing::{AsOctets, Described, Octets, Ordered, Primitive};
-use der_core::making::octets_in_range;
-use der_core::{Error, ErrorKind, FixedTag, Leaf, Length, Tag};
+use der_core::{BytesOwned, Error, ErrorKind, FixedTag, Leaf, Length, Tag};
 use std::alloc::{AllocError, Global};
-use std::cmp::Ordering;
 use std::convert::AsSlice;
-use std::hash::{Hash, Hasher};
 use std::marker::Model;
 
 /// OCTET STRING (X.690 8.7): any octets, fewer than 2^32.
 ///
 /// Contracts see the octets.
-#[derive(Debug, Drop)]
+#[derive(Debug, Drop, PartialEq, Eq, PartialOrd, Ord, Hash)]
 pub struct OctetString {
-    bytes: Vec<u8>,
+    bytes: BytesOwned,
 }
 
 impl Model for OctetString {
@@ -37,11 +26,11 @@ impl Model for OctetString {
 
     ghost Value = { List ℕ };
 
-    ghost use Rattle.der_types_values.specs.OctetStrings.{octets_kept, IsOctetString};
+    ghost use Rattle.der_types_values.specs.OctetStrings.{octets_kept};
 
     ghost view = { octets_kept };
 
-    ghost invariant = { IsOctetString };
+    ghost inverse = { λ octets. record { bytes = octets } };
 }
 
 impl OctetString {
@@ -54,9 +43,7 @@ impl OctetString {
         ensures err { IfErr result (λ e. (length_max < vec_len bytes)
             × (e.kind ≡ ErrorKind.Overflow)) }
     {
-        if bytes.len() > Length::MAX.value as usize {
-            return Err(Error::from(ErrorKind::Overflow));
-        }
+        let bytes = BytesOwned::new(bytes)?;
         Ok(OctetString { bytes })
     }
 
@@ -67,7 +54,7 @@ impl OctetString {
     ) -> Result<OctetString, AllocError>
         ensures { IfOk result (λ o. o ≡ octets_lent lent.now) }
     {
-        let bytes = lent.as_bytes().to_vec(alloc)?;
+        let bytes = BytesOwned::copy_of(alloc, lent.as_bytes())?;
         Ok(OctetString { bytes })
     }
 
@@ -78,8 +65,7 @@ impl OctetString {
     pub fn clone(&self, alloc: Global) -> Result<OctetString, AllocError>
         ensures { IfOk result (λ o. o ≡ self.now) }
     {
-        let bytes = self.bytes.as_slice().to_vec(alloc)?;
-        Ok(OctetString { bytes })
+        OctetString::copy_of(alloc, &self.owned_to_ref())
     }
 
     /// The octets.
@@ -94,16 +80,14 @@ impl OctetString {
         ensures { result.items ≡ self }
     {
         let OctetString { bytes } = self;
-        bytes
+        bytes.into_vec()
     }
 
     /// The number of octets.
     pub fn len(&self) -> Length
         ensures { result.value ≡ length self.now }
     {
-        Length {
-            value: self.bytes.len() as u32,
-        }
+        self.bytes.len()
     }
 
     /// Whether there are no octets.
@@ -144,58 +128,8 @@ impl Clone for OctetString {
     ghost is_clone = { λ x y. y ≡ x };
 
     fn clone(&self) -> Result<OctetString, AllocError> {
-        OctetString::copy_of(*self.bytes.allocator(), &self.owned_to_ref())
-    }
-}
-
-/// Whether the octets are equal.
-impl PartialEq for OctetString {
-    ghost eq = { pointwise nat_eq };
-
-    ghost laws = { partial_equiv_from_equiv nat_list_eq_equiv };
-
-    fn eq(&self, other: &Self) -> bool {
-        self.as_bytes() == other.as_bytes()
-    }
-}
-
-impl Eq for OctetString {
-    ghost laws = { nat_list_eq_equiv };
-}
-
-/// The order of the octets.
-impl PartialOrd for OctetString {
-    ghost partial_cmp = { λ a b. Some (slice_cmp nat_cmp a b) };
-
-    ghost laws = { texts_po };
-
-    fn partial_cmp(&self, other: &Self) -> Option<Ordering> {
-        Some(self.cmp(other))
-    }
-}
-
-impl Ord for OctetString {
-    ghost cmp = { slice_cmp nat_cmp };
-
-    ghost total = { nat_list_cmp_total };
-
-    ghost matches_partial_cmp = { λ a b. refl };
-
-    ghost matches_eq = { texts_ties };
-
-    fn cmp(&self, other: &Self) -> Ordering {
-        self.as_bytes().cmp(other.as_bytes())
-    }
-}
-
-/// The octets.
-impl Hash for OctetString {
-    ghost hash_input = { fed.slice fed.u8 };
-
-    ghost respects_eq = { λ a b e. ap (fed.slice fed.u8) ((bytes_decides a b).0 e) };
-
-    fn hash<H: Hasher>(&self, state: &mut H) {
-        self.as_bytes().hash(state);
+        let bytes = Clone::clone(&self.bytes)?;
+        Ok(OctetString { bytes })
     }
 }
 
@@ -219,16 +153,15 @@ impl Primitive for OctetString {
 
 /// The octets.
 impl<'a> Leaf<'a> for OctetString {
-    fn from_content(alloc: Global, _tag: Tag, octets: &'a [u8]) -> Result<OctetString, Error> {
-        let bytes = octets.to_vec(alloc)?;
+    fn from_content(alloc: Global, tag: Tag, octets: &'a [u8]) -> Result<OctetString, Error> {
+        let bytes = BytesOwned::from_content(alloc, tag, octets)?;
         Ok(OctetString { bytes })
     }
 }
 
 impl Octets for OctetString {
     fn content(&self) -> &[u8] {
-        octets_in_range(self.as_bytes());
-        self.as_bytes()
+        self.bytes.content()
     }
 }
 

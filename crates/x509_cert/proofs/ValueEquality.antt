@@ -1,7 +1,6 @@
 -- `==` of the choices in extensions and of trust anchors is of plain values.
 use denote.RattleType.{RattleType}
-use Rattle.std.proofs.Common.{◌≡◌, ℕ, Bool, Option, pos, refl, ap, arith}
-use Rattle.std.specs.Prelude.{nat_eq}
+use Rattle.std.proofs.Common.{◌≡◌, ℕ, Bool, Option, pos, refl, ap, arith, nat_eq}
 use Rattle.std.specs.Cmp.Lexicographic.{pointwise, bytes_decides}
 use Rattle.const_oid.specs.Bound.{Bound}
 use Rattle.const_oid.specs.Digits.{digits}

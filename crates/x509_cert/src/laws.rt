@@ -11,7 +11,6 @@ ghost use Rattle.der_core_head.specs.Integers.{among, natural};
 ghost use Rattle.der_core_head.specs.Leaves.{integer, named};
 ghost use Rattle.der_core_head.specs.Shapes.{BodyValue, Value, Spells, leaf, sequence, sequence_of};
 ghost use Rattle.der_core_head.specs.Shapes.{tagged};
-ghost use Rattle.der_core_head.specs.declared.tag.Tag.TheVariants as tags;
 ghost use Rattle.x509_cert.specs.Equality.{IsByValue, TellsValues};
 ghost use Rattle.x509_cert_anchors.specs.Grammar as grammar;
 ghost use Rattle.x509_cert_anchors.specs.Grammar.{trust_anchor_choice};
@@ -26,7 +25,7 @@ ghost use Rattle.x509_cert_policies.specs.Views.{policy_information_plain, polic
 
 use crate::anchor::Version as AnchorVersion;
 use crate::*;
-use der_core::Shaped;
+use der_core::{Shaped, Tag};
 use std::cmp::PartialEq;
 pub use x509_cert_anchors::laws::respelled_anchors_are_spelled;
 pub use x509_cert_certificates::laws::{
@@ -118,13 +117,13 @@ pub fn equality_of_extensions_is_of_values()
         (λ x. plain_list parts.attribute_plain x.0.items) }
     ensures leaves { TellsValues parts.octet_string ⟦<SubjectKeyIdentifier as PartialEq>⟧.eq
         (λ x. x.0)
-        × TellsValues (tagged tags.BitString (leaf (named 9))) ⟦<KeyUsage as PartialEq>⟧.eq
+        × TellsValues (tagged Tag.BitString (leaf (named 9))) ⟦<KeyUsage as PartialEq>⟧.eq
         (λ x. x.0.flags.0)
-        × TellsValues (tagged tags.Enumerated (leaf (integer (among reason_numbers))))
+        × TellsValues (tagged Tag.Enumerated (leaf (integer (among reason_numbers))))
         ⟦<CrlReason as PartialEq>⟧.eq (λ x. pos (reason_number x))
-        × TellsValues (tagged tags.Integer (leaf (integer natural))) ⟦<CrlNumber as PartialEq>⟧.eq
+        × TellsValues (tagged Tag.Integer (leaf (integer natural))) ⟦<CrlNumber as PartialEq>⟧.eq
         (λ x. pos x.0)
-        × TellsValues (tagged tags.Integer (leaf (integer natural)))
+        × TellsValues (tagged Tag.Integer (leaf (integer natural)))
         ⟦<BaseCrlNumber as PartialEq>⟧.eq (λ x. pos x.0) }
 {}
 

@@ -1,2 +1,1 @@
 pub mod VersionOctets
-mod Respelled

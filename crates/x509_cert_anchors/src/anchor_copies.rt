@@ -18,8 +18,7 @@ use x509_cert_policies::CertificatePolicies;
 fn copy_of_text(text: &String, alloc: Global) -> Result<String, AllocError>
     ensures { IfOk result (λ t. string_bytes t ≡ string_bytes text.now) }
 {
-    let copy = String::from_str(alloc, text.as_str())?;
-    Ok(copy)
+    Ok(String::from_str(alloc, text.as_str())?)
 }
 
 impl<P: Profile> CertPathControls<P> {

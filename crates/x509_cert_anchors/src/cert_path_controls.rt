@@ -56,7 +56,7 @@ impl<P: Profile> Fields for CertPathControls<P> {
     ghost fields_written = { λ x. cert_path_controls_by P.respells (cert_path_controls_plain x) };
 }
 
-/// The fields behind the certificate, which are read as a row of their own: what is checked of
+/// The fields after the certificate, which are read as a row of their own: what is checked of
 /// all six at once takes more steps than a check may.
 #[derive(Drop)]
 struct Constraints {

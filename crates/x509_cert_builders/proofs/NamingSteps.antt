@@ -1,11 +1,9 @@
 -- The check of a name, relative name by relative name.
-use Rattle.std.proofs.Common.{◌≡◌, ◌⊎◌, ℕ, ◌<◌, List, [], ◌∷◌, ◌++◌, length, Bool, false, Ok, Err, None, refl, sym, ap, ◌∙◌, subst, arith, inl, inr, append_assoc, length-append}
+use Rattle.std.proofs.Common.{◌≡◌, ◌⊎◌, ℕ, ◌<◌, List, [], ◌∷◌, ◌++◌, length, Bool, false, Ok, Err, None, refl, sym, ap, ◌∙◌, subst, arith, inl, inr, append_assoc, length-append, get_or, IsOk, if◌then◌else◌, is_ok}
 use Rattle.std.proofs.lemmas.Bool.{cases_lt}
 use Rattle.std.proofs.lemmas.Bool.Decides.{nat_tests}
 use Rattle.std.proofs.lemmas.List.{append-nil, get_or_at, take_at}
 use Rattle.std.proofs.lemmas.List.Concat.{flat_map-append}
-use Rattle.std.specs.Prelude.{get_or, IsOk, if◌then◌else◌}
-use Rattle.std.specs.Result.{is_ok}
 use Rattle.x509_cert_builders.specs.declared.build_error.Error.{Error}
 use Rattle.x509_cert_builders.specs.Naming.{TypeAndValue, types_of, name_types, type_behind, type_at, foreign_type, has_required, IsNamed, IsFirstFault, NamesAuthority}
 use Rattle.x509_cert_builders.specs.Refusals.{IsWantOfMemory}

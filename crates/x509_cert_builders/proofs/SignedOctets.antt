@@ -1,7 +1,5 @@
 -- Signed parts: whether they have an encoding, and the octets at their place.
-use Rattle.std.proofs.Common.{◌≡◌, List, [], ◌∷◌, Bool, true, false, Option, Some, None, refl, ap, subst, arith, inl, inr, lit<}
-use Rattle.std.specs.Prelude.{nat_lt, if◌then◌else◌}
-use Rattle.std.proofs.lemmas.Bool.{ltb-false}
+use Rattle.std.proofs.Common.{◌≡◌, List, [], ◌∷◌, Bool, true, false, Option, Some, None, refl, ap, subst, arith, inl, inr, lit<, nat_lt, if◌then◌else◌, ltb-false}
 use Rattle.const_oid.specs.Bound.{Bound}
 use Rattle.const_oid.specs.Digits.{digits, digits_within}
 use Rattle.der_core_head.specs.Dates.{Civil, is_civil}

@@ -1,9 +1,8 @@
 -- A set of the types of a name, type by type.
-use Rattle.std.proofs.Common.{◌≡◌, ℕ, List, [], ◌∷◌, ◌++◌, Bool, true, false, sym, ap, ◌∙◌, arith}
+use Rattle.std.proofs.Common.{◌≡◌, ℕ, List, [], ◌∷◌, ◌++◌, Bool, true, false, sym, ap, ◌∙◌, arith, ◌||◌, cond}
 use Rattle.std.proofs.lemmas.Bool.Decides.{nat_tests}
 use Rattle.std.proofs.lemmas.List.Folds.{list_any-append}
 use Rattle.std.specs.BTreeSet.{BTreeSet, Updates, contains}
-use Rattle.std.specs.Prelude.{◌||◌, cond}
 use Rattle.const_oid.specs.Comparing.{owned_eq}
 use Rattle.const_oid.specs.Orders.{owned_cmp, owned_cmp_ties}
 use Rattle.x509_cert_builders.specs.Naming.{is_among}

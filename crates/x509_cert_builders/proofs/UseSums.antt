@@ -1,6 +1,5 @@
 -- The uses of a subscriber's key, one after the other.
-use Rattle.std.proofs.Common.{◌≡◌, ℕ, ◌+◌, Bool, true, false, refl}
-use Rattle.std.specs.Prelude.{bit_or, if◌then◌else◌}
+use Rattle.std.specs.Prelude.{◌≡◌, ℕ, ◌+◌, Bool, true, false, refl, bit_or, if◌then◌else◌}
 use Rattle.x509_cert_extensions.specs.NamedBits as bits
 use Rattle.x509_cert_builders.specs.Profiles.{digital_signature, use_where}
 

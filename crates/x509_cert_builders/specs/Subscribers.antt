@@ -1,9 +1,8 @@
 -- Subscribers (CA/Browser Forum, Baseline Requirements 7.1.2.7).
 use Rattle.std.specs.Prelude.{⊤, ◌⊎◌, ℕ, List, [], ◌∷◌, Bool, Result, Ok, Err, if◌then◌else◌}
-use Rattle.std.specs.Prelude.{length, ◌==◌, ◌&&◌, not}
+use Rattle.std.specs.Prelude.{length, ◌==◌, ◌&&◌, not, IsPermutation}
 use Rattle.std.proofs.Common.{inl, inr}
 use Rattle.std.specs.List.{AllByRecursion, IsDistinct, flat_map, list_all}
-use Rattle.std.specs.List.Sorted.{IsPermutation}
 use Rattle.const_oid.specs.Bound.{Bound}
 use Rattle.der_core_head.specs.declared.error.ErrorKind.TheVariants as kinds
 use Rattle.der_core_head.specs.Grammar.{plain_list}

@@ -8,7 +8,7 @@ use const_oid::ObjectIdentifier;
 use x509_cert_names::attribute_types::{common_name, country, domain_component, organization};
 
 /// The types whose order in a name is laid down, in that order: between country and organization
-/// `stateOrProvinceName`, `localityName`, `postalCode` and `streetAddress`, behind it `surname`,
+/// `stateOrProvinceName`, `localityName`, `postalCode` and `streetAddress`, after it `surname`,
 /// `givenName` and `organizationalUnitName` (CA/Browser Forum, Baseline Requirements 7.1.4.2).
 pub(crate) fn ordered_types() -> [ObjectIdentifier<39>; 11]
     ensures { result ≡ ordered_types }

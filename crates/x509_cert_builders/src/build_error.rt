@@ -1,7 +1,6 @@
 //! Why a certificate, a list or a request could not be made.
 
 ghost use Rattle.std.specs.Prelude.{◌≡◌};
-ghost use Rattle.der_core_head.specs.declared.error.ErrorKind.TheVariants.{OutOfMemory};
 ghost use Rattle.x509_cert_builders.specs.declared.build_error.Error.TheVariants.{Asn1, Signature};
 ghost use Rattle.x509_cert_builders.specs.Refusals.{IsWantOfMemory};
 

@@ -113,8 +113,7 @@ pub trait Builder: Sized + Drop {
     {
         let octets = self.finalize(alloc, signer)?;
         let signature = signer.sign(alloc, octets.as_slice())?;
-        let made = self.assemble(alloc, signature, signer)?;
-        Ok(made)
+        Ok(self.assemble(alloc, signature, signer)?)
     }
 
     /// As `build`, with what a generator of random octets gives.
@@ -142,7 +141,6 @@ pub trait Builder: Sized + Drop {
     {
         let octets = self.finalize(alloc, signer)?;
         let signature = signer.sign_with_rng(alloc, rng, octets.as_slice())?;
-        let made = self.assemble(alloc, signature, signer)?;
-        Ok(made)
+        Ok(self.assemble(alloc, signature, signer)?)
     }
 }

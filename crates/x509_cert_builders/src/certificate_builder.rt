@@ -72,6 +72,16 @@ impl<P> Model for CertificateBuilder<P> {
 impl<P: BuilderProfile + Drop> CertificateBuilder<P> {
     /// A builder of a certificate with this number, these dates and this key.
     ///
+    /// As in `crates/build_certificates/src/answering.rt`:
+    ///
+    /// ```rust
+    /// let mut builder = CertificateBuilder::new(alloc, profile, serial, validity()?, key)?;
+    /// // ..
+    /// builder.add_extension(alloc, names)?;
+    /// // ..
+    /// let certificate = builder.build(alloc, signer)?;
+    /// ```
+    ///
     /// # Errors
     /// Those of the profile, and out of memory.
     pub fn new(
@@ -157,8 +167,7 @@ fn profiled<P: BuilderProfile, S: Signer>(
 {
     let key = part.subject_public_key_info().owned_to_ref();
     let issuer_key = signer.key_info().owned_to_ref();
-    let more = profile.build_extensions(alloc, &key, &issuer_key, part)?;
-    Ok(more)
+    Ok(profile.build_extensions(alloc, &key, &issuer_key, part)?)
 }
 
 /// Makes the part whole, with the extensions that were added and those of the profile.

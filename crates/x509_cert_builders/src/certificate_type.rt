@@ -1,8 +1,7 @@
 //! Kinds of subscribers.
 
-ghost use Rattle.std.specs.Prelude.{◌≡◌, ◌⊎◌, ◌∷◌, [], true, Ok, IsOk, IfOk, IfErr};
+ghost use Rattle.std.specs.Prelude.{◌≡◌, ◌⊎◌, ◌∷◌, [], true, Ok, IsOk, IfOk, IfErr, IsPermutation};
 ghost use Rattle.std.specs.List.{list_all};
-ghost use Rattle.std.specs.List.Sorted.{IsPermutation};
 ghost use Rattle.der_core.specs.Copies.{IsCopy};
 ghost use Rattle.der_core_head.specs.Grammar.{plain_list};
 ghost use Rattle.x509_cert_general_names.specs.Views.{general_name_plain};

@@ -1,7 +1,6 @@
 //! The naming rules of authorities (CA/Browser Forum, Baseline Requirements 7.1.4.1, 7.1.2.10.2).
 
-ghost use Rattle.std.specs.Prelude.{◌≡◌, Ok, Err, not, true, Option, Some, None, IfOk};
-ghost use Rattle.std.specs.List.{find};
+ghost use Rattle.std.specs.Prelude.{◌≡◌, Ok, Err, not, true, Option, Some, None, IfOk, find};
 ghost use Rattle.x509_cert_names.specs.Views.{name_plain};
 ghost use Rattle.x509_cert_builders.specs.Naming.{authority_types, is_among, name_types};
 ghost use Rattle.x509_cert_builders.specs.Naming.{has_required, Names, NamesAuthority};
@@ -12,18 +11,6 @@ use crate::types_before::TypesBefore;
 use const_oid::ObjectIdentifier;
 use std::alloc::Global;
 use x509_cert_names::{Name, attribute_types as types};
-
-/// Whether a type is among these.
-fn is_among(types: &[ObjectIdentifier<39>], oid: &ObjectIdentifier<39>) -> bool
-    ensures { result ≡ is_among types.now oid.now }
-{
-    for place in 0..types.len() {
-        if types[place] == *oid {
-            return true;
-        }
-    }
-    false
-}
 
 /// The types of a name that keeps the rules of all names, in its order.
 #[tactic(auto, using(crate::proofs::NamingSteps::checked_none, crate::proofs::NamingSteps::checked_more, crate::proofs::NamingSteps::checked_fault, crate::proofs::NamingSteps::checked_all))]
@@ -60,6 +47,13 @@ pub fn check_names_encoding(alloc: Global, name: &Name, multiple_allowed: bool) 
     Ok(())
 }
 
+/// Whether a type is among these.
+fn is_among(types: &[ObjectIdentifier<39>], oid: &ObjectIdentifier<39>) -> bool
+    ensures { result ≡ is_among types.now oid.now }
+{
+    types.contains(oid)
+}
+
 /// The first type that the name of an authority may not have.
 fn foreign_type(
     allowed: &[ObjectIdentifier<39>],
@@ -79,9 +73,9 @@ fn foreign_type(
 fn has_required(found: &[ObjectIdentifier<39>]) -> bool
     ensures { result ≡ has_required found.now }
 {
-    is_among(found, &types::country())
-        && is_among(found, &types::organization())
-        && is_among(found, &types::common_name())
+    found.contains(&types::country())
+        && found.contains(&types::organization())
+        && found.contains(&types::common_name())
 }
 
 /// Checks the name of an authority (7.1.2.10.2): it keeps the rules of all names, with no type

@@ -3,32 +3,21 @@
 //!
 //! Each is a law of the values of a type, and stands as the contract of a call that does nothing.
 
-ghost use Rattle.der_core_head.specs.Grammar.{plain_option};
 ghost use Rattle.der_core_head.specs.Ranges.{IsInRange};
 ghost use Rattle.x509_cert_certificates.specs.Views.{tbs_plain};
-ghost use Rattle.x509_cert_parts.specs.Views.{extensions_plain, validity_plain};
+ghost use Rattle.x509_cert_parts.specs.Views.{validity_plain};
 ghost use Rattle.x509_cert_parts.specs.Grammar.{validity};
-ghost use Rattle.x509_cert_builders.specs.SignedParts.{IsPartInRange, extensions_field};
+ghost use Rattle.x509_cert_builders.specs.SignedParts.{IsPartInRange};
 
 use der_core::InRange;
 use x509_cert_certificates::TbsCertificate;
-use x509_cert_parts::{Extensions, Validity};
+use x509_cert_parts::Validity;
 
 fn validity_in_range(dates: &Validity)
     ensures { IsInRange validity (validity_plain dates.now) }
 {
     dates.not_before.in_range();
     dates.not_after.in_range();
-}
-
-fn field_in_range(made: Option<&Extensions>)
-    ensures { IsInRange extensions_field
-        (plain_option (λ e. extensions_plain e.now.items) made.entry) }
-{
-    match made {
-        Some(extensions) => extensions.in_range(),
-        None => {}
-    }
 }
 
 /// The parts of what is signed are in their ranges.
@@ -40,5 +29,8 @@ pub(crate) fn part_in_range(part: &TbsCertificate)
     validity_in_range(part.validity());
     part.subject().in_range();
     part.subject_public_key_info().in_range();
-    field_in_range(part.extensions());
+    match part.extensions() {
+        Some(extensions) => extensions.in_range(),
+        None => {}
+    }
 }

@@ -60,7 +60,6 @@ pub trait Signer {
         ensures bits { IfOk result (λ b. signs self.now octets.now b) }
         ensures refused { IfErr result (λ e. e ≡ Refused → may_refuse self.now octets.now) }
     {
-        let bits = self.sign(alloc, octets)?;
-        Ok(bits)
+        Ok(self.sign(alloc, octets)?)
     }
 }

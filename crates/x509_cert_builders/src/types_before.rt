@@ -27,7 +27,7 @@ fn rank_among(types: &[ObjectIdentifier<39>], oid: &ObjectIdentifier<39>) -> usi
     types.len()
 }
 
-/// The least rank that an ordered type may have behind these types and one more.
+/// The least rank that an ordered type may have after these types and one more.
 fn least_behind(ordered: &[ObjectIdentifier<39>], oid: &ObjectIdentifier<39>, least: usize) -> usize
     ensures { ordered.now ≡ ordered_types → (types : List (List ℕ)) → IsLeastRank types least
         → IsLeastRank (types ++ oid.now ∷ []) result }
@@ -81,14 +81,14 @@ impl TypesBefore {
         self.seen.contains(oid)
     }
 
-    /// Whether a type may stand behind all of these.
+    /// Whether a type may stand after all of these.
     fn may_be_followed_by(&self, oid: &ObjectIdentifier<39>) -> bool
         ensures { result ≡ list_all (may_follow oid.now) self.now }
     {
         self.least <= rank_among(&self.ordered, oid)
     }
 
-    /// The type of an RDN's attribute, behind attributes of these types.
+    /// The type of an RDN's attribute, after attributes of these types.
     ///
     /// # Errors
     /// `NonUniqueRdn`, `NonUniqueATV`, or `InvalidAttribute` with the type.
@@ -112,7 +112,7 @@ impl TypesBefore {
         Ok(oid)
     }
 
-    /// The types before, and one more behind them.
+    /// The types before, and one more after them.
     ///
     /// # Errors
     /// Out of memory.

@@ -2,4 +2,3 @@ pub mod Respelled
 mod Places
 mod RowOrders
 mod Bounds
-mod Identifiers

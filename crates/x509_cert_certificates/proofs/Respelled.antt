@@ -1,6 +1,5 @@
 -- Certificates whose dates are respelled: they have an encoding, and which of them are the same.
-use Rattle.std.proofs.Common.{◌≡◌, ℕ, ◌≤◌, List, [], ◌++◌, length, Bool, true, false, Option, refl, ap}
-use Rattle.std.specs.Prelude.{◌↔◌}
+use Rattle.std.proofs.Common.{◌≡◌, ℕ, ◌≤◌, List, [], ◌++◌, length, Bool, true, false, Option, refl, ap, ◌↔◌}
 use Rattle.der_core_head.specs.declared.tag.Tag.TheVariants as tags
 use Rattle.der_core_head.specs.Shapes.{Body, IsValid, IsContent, IsBody, field, done, octets_of, contents, body_octets}
 use Rattle.der_core_head.proofs.OneEncoding.{one_value}

@@ -1,7 +1,5 @@
 -- The length, the order and the first tag of the fields that a record lends are those of its own.
-use Rattle.std.proofs.Common.{◌≡◌, Option, Result, Ok, subst}
-use Rattle.std.specs.Prelude.{IfErr}
-use Rattle.std.specs.declared.cmp.Ordering.{Ordering}
+use Rattle.std.proofs.Common.{◌≡◌, Option, Result, Ok, subst, IfErr, Ordering}
 use Rattle.der_core_head.specs.declared.error.Error.{Error}
 use Rattle.der_core_head.specs.declared.length.Length.{Length}
 use Rattle.der_core_head.specs.declared.tag.Tag.{Tag}

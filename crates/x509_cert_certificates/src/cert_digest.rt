@@ -26,7 +26,6 @@ impl CertDigest for Sha1 {
 
     fn digest(alloc: Global, octets: &[u8]) -> Result<Vec<u8>, AllocError> {
         let digest = Sha1::digest(octets);
-        let digest = digest.as_slice().to_vec(alloc)?;
-        Ok(digest)
+        Ok(digest.as_slice().to_vec(alloc)?)
     }
 }

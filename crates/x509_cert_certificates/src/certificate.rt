@@ -2,7 +2,6 @@
 
 ghost use Rattle.std.specs.Prelude.{◌≡◌, ◌≢◌, [], false, None, refl, IfOk, IfErr};
 ghost use Rattle.const_oid.specs.Bound.{Bound};
-ghost use Rattle.der_core_head.specs.declared.error.ErrorKind.TheVariants.{OutOfMemory};
 ghost use Rattle.der_core_head.specs.Grammar.{read_whole};
 ghost use Rattle.der_core_head.specs.Reading.{Fails, Gives};
 ghost use Rattle.der_core_head.specs.Shapes.{octets_of, IsValid, Spells};
@@ -16,7 +15,7 @@ ghost use Rattle.x509_cert_certificates.specs.Views.{certificate_plain, tbs_plai
 use crate::cert_digest::CertDigest;
 use crate::tbs_certificate::TbsCertificateInner;
 use der_core::describing::{AsRecord, Described, RowUser, Rows};
-use der_core::{DecodeFields, Error, Fields, FromDer, Reader, ToDer, lend, read_row};
+use der_core::{DecodeFields, Error, ErrorKind, Fields, FromDer, Reader, ToDer, lend, read_row};
 use der_types_values::BitString;
 use std::alloc::Global;
 use x509_cert_parts::{AlgorithmIdentifier, Profile, Rfc5280};
@@ -74,6 +73,13 @@ impl<P: Profile> Rows for CertificateInner<P> {
 impl<P: Profile> CertificateInner<P> {
     /// Reads a certificate, all of the octets.
     ///
+    /// As in `crates/subject_of_certificate/src/main.rt`:
+    ///
+    /// ```rust
+    /// let certificate = CertificateInner::<Raw>::from_der(alloc, octets)?;
+    /// let subject = certificate.tbs_certificate().subject();
+    /// ```
+    ///
     /// # Errors
     /// The first fault from the left, or `OutOfMemory`.
     pub fn from_der(alloc: Global, bytes: &[u8]) -> Result<CertificateInner<P>, Error>
@@ -82,7 +88,7 @@ impl<P: Profile> CertificateInner<P> {
             (λ c. Spells (certificate Bound P.serial_limit) (certificate_plain c)
             bytes.now) }
         // What is refused for another reason than out of memory is spelled by no certificate.
-        ensures refused { IfErr result (λ e. e.kind ≢ OutOfMemory → (c : PlainCertificate)
+        ensures refused { IfErr result (λ e. e.kind ≢ ErrorKind.OutOfMemory → (c : PlainCertificate)
             → Spells (certificate Bound P.serial_limit) c bytes.now → ⊥) }
         // Which fault it is.
         ensures exact { Gives (λ c. (certificate_plain c, [])) result
@@ -102,15 +108,14 @@ impl<P: Profile> CertificateInner<P> {
         // A certificate that has an encoding is refused only when out of memory.
         ensures valid { IsValid (certificate Bound P.serial_limit)
             (certificate_by P.respells (certificate_plain self.now))
-            → IfErr result (λ e. e.kind ≡ OutOfMemory) }
+            → IfErr result (λ e. e.kind ≡ ErrorKind.OutOfMemory) }
         // Any other is refused for the fault with which its writing ends, too.
         ensures fault { IfErr result (λ e. Fails e.kind (write (certificate Bound P.serial_limit)
             (certificate_by P.respells (certificate_plain self.now))
             (record { written = []; room = None; failed = false }))) }
     {
         let octets = self.to_der(alloc)?;
-        let digest = D::digest(alloc, octets.as_slice())?;
-        Ok(digest)
+        Ok(D::digest(alloc, octets.as_slice())?)
     }
 }
 

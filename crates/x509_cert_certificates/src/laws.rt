@@ -124,7 +124,7 @@ pub fn identifiers_stand_in_turn()
         ∷ (map extension_arcs (extensions_of c) ++ (algorithm_arcs (outer_algorithm c) ∷ []))))) }
 {}
 
-/// Octets that spell certificates one behind the other under one bound of arcs spell the same ones
+/// Octets that spell certificates one after the other under one bound of arcs spell the same ones
 /// under a wider bound; and what spells some under a wide bound spells them under a narrow one, or
 /// one of them holds an identifier with an arc that isn't below it.
 pub fn wider_bounds_keep_chains()

@@ -321,6 +321,13 @@ impl<P> TbsCertificateInner<P> {
     /// The value of the only extension of the identifier of `T`, and whether it is critical; none
     /// where no extension has the identifier.
     ///
+    /// As in `crates/extensions_of_certificate/src/main.rt`:
+    ///
+    /// ```rust
+    /// let usage = certificate.get_extension::<KeyUsage>(alloc)?;
+    /// Ok(usage.map_or(true, |(_, usage)| usage.key_cert_sign()))
+    /// ```
+    ///
     /// # Errors
     /// `Failed` where two have it (RFC 5280 4.2 forbids that). Else those of `T`, whose encoding
     /// the content has to be, or `OutOfMemory`.

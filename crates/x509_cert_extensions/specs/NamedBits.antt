@@ -1,6 +1,5 @@
 -- Named bits (X.680 22.2), and the bit of each use of a key (RFC 5280 4.2.1.3).
-use Rattle.std.specs.Prelude.{ℕ, List, [], ◌∷◌, Bool, ◌==◌, ◌^◌, codes}
-use Rattle.std.specs.Int.RustNames.{bit_and}
+use Rattle.std.specs.Prelude.{ℕ, List, [], ◌∷◌, Bool, ◌==◌, ◌^◌, codes, bit_and}
 
 -- whether name i is in a set, the first the lowest bit
 abbrev pub has_bit : ℕ → ℕ → Bool

@@ -1,7 +1,7 @@
 //! Criticality.
 
-ghost use Rattle.x509_cert_parts.specs.ExtensionTypes as types;
-ghost use Rattle.x509_cert_parts.specs.ExtensionTypes.{is_marked};
+ghost use Rattle.x509_cert_parts.specs.ExtensionTypes as markings;
+ghost use Rattle.x509_cert_parts.specs.ExtensionTypes.{marks};
 
 use crate::{
     AuthorityInfoAccessSyntax, BaseCrlNumber, CrlDistributionPoints, CrlNumber, CrlReason,
@@ -35,210 +35,153 @@ pub trait Criticality {
             (extensions_plain extensions.now) };
 }
 
-/// What is marked by its type (RFC 5280 4.2, 5.2, 5.3; RFC 6962 3.3).
-pub trait Marked {
+/// When what is marked by its type is critical.
+pub trait Marking {
     ghost use Rattle.std.specs.Prelude.{◌≡◌};
-    ghost use Rattle.x509_cert_parts.specs.ExtensionTypes.{ExtensionType, is_marked};
+    ghost use Rattle.x509_cert_parts.specs.ExtensionTypes.{Marking, marks};
     ghost use Rattle.x509_cert_names.specs.Views.{name_plain};
 
-    // The row of this type in the table.
-    ghost extension_type: { ExtensionType };
+    ghost marking: { Marking };
 
     /// Whether it is critical beside a subject's name.
     fn is_critical_beside(subject: &Name) -> bool
-        ensures { result ≡ is_marked extension_type (name_plain subject.now) };
+        ensures { result ≡ marks marking (name_plain subject.now) };
 }
 
-impl<T: Marked> Criticality for T {
-    ghost is_critical = { λ _ subject _. is_marked T.extension_type subject };
+/// Critical.
+pub struct Always;
 
-    fn criticality(&self, subject: &Name, _extensions: &[Extension]) -> bool {
-        T::is_critical_beside(subject)
+impl Marking for Always {
+    ghost marking = { markings.always };
+
+    fn is_critical_beside(_subject: &Name) -> bool {
+        true
     }
 }
 
-/// Critical where the subject has no name (RFC 5280 4.2.1.6).
-impl Marked for SubjectAltName {
-    ghost extension_type = { types.subject_alt_name };
+/// Not critical.
+pub struct Never;
+
+impl Marking for Never {
+    ghost marking = { markings.never };
+
+    fn is_critical_beside(_subject: &Name) -> bool {
+        false
+    }
+}
+
+/// Critical where the subject has no name.
+pub struct WithoutSubject;
+
+impl Marking for WithoutSubject {
+    ghost marking = { markings.without_subject };
 
     fn is_critical_beside(subject: &Name) -> bool {
         subject.is_empty()
     }
 }
 
-impl Marked for AuthorityInfoAccessSyntax {
-    ghost extension_type = { types.authority_info_access };
+/// What is marked by its type (RFC 5280 4.2, 5.2, 5.3; RFC 6962 3.3).
+pub trait Marked {
+    type By: Marking;
+}
 
-    fn is_critical_beside(_subject: &Name) -> bool {
-        false
+impl<T: Marked> Criticality for T {
+    ghost is_critical = { λ _ subject _. marks T.By.marking subject };
+
+    fn criticality(&self, subject: &Name, _extensions: &[Extension]) -> bool {
+        T::By::is_critical_beside(subject)
     }
+}
+
+impl Marked for SubjectAltName {
+    type By = WithoutSubject;
+}
+
+impl Marked for AuthorityInfoAccessSyntax {
+    type By = Never;
 }
 
 impl Marked for AuthorityKeyIdentifier {
-    ghost extension_type = { types.authority_key_identifier };
-
-    fn is_critical_beside(_subject: &Name) -> bool {
-        false
-    }
+    type By = Never;
 }
 
 impl Marked for BaseCrlNumber {
-    ghost extension_type = { types.base_crl_number };
-
-    fn is_critical_beside(_subject: &Name) -> bool {
-        true
-    }
+    type By = Always;
 }
 
 impl Marked for BasicConstraints {
-    ghost extension_type = { types.basic_constraints };
-
-    fn is_critical_beside(_subject: &Name) -> bool {
-        true
-    }
+    type By = Always;
 }
 
 impl Marked for CertificatePolicies {
-    ghost extension_type = { types.certificate_policies };
-
-    fn is_critical_beside(_subject: &Name) -> bool {
-        false
-    }
+    type By = Never;
 }
 
 impl Marked for CrlDistributionPoints {
-    ghost extension_type = { types.crl_distribution_points };
-
-    fn is_critical_beside(_subject: &Name) -> bool {
-        false
-    }
+    type By = Never;
 }
 
 impl Marked for CrlNumber {
-    ghost extension_type = { types.crl_number };
-
-    fn is_critical_beside(_subject: &Name) -> bool {
-        false
-    }
+    type By = Never;
 }
 
 impl Marked for ExtendedKeyUsage {
-    ghost extension_type = { types.extended_key_usage };
-
-    fn is_critical_beside(_subject: &Name) -> bool {
-        false
-    }
+    type By = Never;
 }
 
 impl Marked for FreshestCrl {
-    ghost extension_type = { types.freshest_crl };
-
-    fn is_critical_beside(_subject: &Name) -> bool {
-        false
-    }
+    type By = Never;
 }
 
 impl Marked for InhibitAnyPolicy {
-    ghost extension_type = { types.inhibit_any_policy };
-
-    fn is_critical_beside(_subject: &Name) -> bool {
-        true
-    }
+    type By = Always;
 }
 
 impl Marked for IssuerAltName {
-    ghost extension_type = { types.issuer_alt_name };
-
-    fn is_critical_beside(_subject: &Name) -> bool {
-        false
-    }
+    type By = Never;
 }
 
 impl Marked for IssuingDistributionPoint {
-    ghost extension_type = { types.issuing_distribution_point };
-
-    fn is_critical_beside(_subject: &Name) -> bool {
-        true
-    }
+    type By = Always;
 }
 
 impl Marked for KeyUsage {
-    ghost extension_type = { types.key_usage };
-
-    fn is_critical_beside(_subject: &Name) -> bool {
-        true
-    }
+    type By = Always;
 }
 
 impl Marked for NameConstraints {
-    ghost extension_type = { types.name_constraints };
-
-    fn is_critical_beside(_subject: &Name) -> bool {
-        true
-    }
+    type By = Always;
 }
 
 impl Marked for PolicyConstraints {
-    ghost extension_type = { types.policy_constraints };
-
-    fn is_critical_beside(_subject: &Name) -> bool {
-        true
-    }
+    type By = Always;
 }
 
 impl Marked for PolicyMappings {
-    ghost extension_type = { types.policy_mappings };
-
-    fn is_critical_beside(_subject: &Name) -> bool {
-        true
-    }
+    type By = Always;
 }
 
 impl Marked for PrivateKeyUsagePeriod {
-    ghost extension_type = { types.private_key_usage_period };
-
-    fn is_critical_beside(_subject: &Name) -> bool {
-        false
-    }
+    type By = Never;
 }
 
 impl Marked for SubjectInfoAccessSyntax {
-    ghost extension_type = { types.subject_info_access };
-
-    fn is_critical_beside(_subject: &Name) -> bool {
-        false
-    }
+    type By = Never;
 }
 
 impl Marked for SubjectKeyIdentifier {
-    ghost extension_type = { types.subject_key_identifier };
-
-    fn is_critical_beside(_subject: &Name) -> bool {
-        false
-    }
+    type By = Never;
 }
 
 impl Marked for CrlReason {
-    ghost extension_type = { types.crl_reason };
-
-    fn is_critical_beside(_subject: &Name) -> bool {
-        false
-    }
+    type By = Never;
 }
 
-/// A non-critical extension (RFC 6962 3.3).
 impl Marked for SignedCertificateTimestampList {
-    ghost extension_type = { types.signed_certificate_timestamps };
-
-    fn is_critical_beside(_subject: &Name) -> bool {
-        false
-    }
+    type By = Never;
 }
 
 impl Marked for SubjectDirectoryAttributes {
-    ghost extension_type = { types.subject_directory_attributes };
-
-    fn is_critical_beside(_subject: &Name) -> bool {
-        false
-    }
+    type By = Never;
 }

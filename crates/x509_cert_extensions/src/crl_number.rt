@@ -1,7 +1,6 @@
 //! CrlNumber.
 
 ghost use Rattle.std.specs.Prelude.{◌≡◌, pos, Ok};
-ghost use Rattle.der_core_head.specs.declared.tag.Tag.TheVariants.{Integer};
 ghost use Rattle.der_core_head.specs.Reading.{Gives};
 
 use der_core::describing::{AsField, Described, Ordered, Wraps};

@@ -1,7 +1,6 @@
 //! ExtendedKeyUsage.
 
 ghost use Rattle.std.specs.Prelude.{◌≡◌};
-ghost use Rattle.x509_cert_parts.specs.Grammar.{object_identifier};
 
 use const_oid::ObjectIdentifier;
 use der_core::describing::{AsField, Described, Ordered, Wraps};

@@ -1,7 +1,6 @@
 //! IssuerAltName.
 
 ghost use Rattle.std.specs.Prelude.{◌≡◌, []};
-ghost use Rattle.x509_cert_general_names.specs.Grammar.{general_name};
 
 use der_core::describing::{AsField, Described, Ordered, Wraps};
 use std::alloc::Global;

@@ -1,7 +1,6 @@
 //! SubjectDirectoryAttributes.
 
 ghost use Rattle.std.specs.Prelude.{◌≡◌, []};
-ghost use Rattle.x509_cert_names.specs.Names.{attribute};
 
 use der_core::describing::{AsField, Described, Ordered, Wraps};
 use std::alloc::Global;

@@ -1,13 +1,11 @@
 //! SubjectKeyIdentifier.
 
 ghost use Rattle.std.specs.Prelude.{◌≡◌, IfOk, IfErr};
-ghost use Rattle.der_core_head.specs.declared.error.ErrorKind.TheVariants.{OutOfMemory};
-ghost use Rattle.der_core_head.specs.declared.tag.Tag.TheVariants.{OctetString};
 ghost use Rattle.x509_cert_general_names.specs.KeyIdentifiers.{key_identifier};
 ghost use Rattle.x509_cert_parts.specs.Views.{key_lent};
 
-use der_core::Error;
 use der_core::describing::{AsField, Described, Ordered, Wraps};
+use der_core::{Error, ErrorKind};
 use der_types_values::OctetString;
 use std::alloc::Global;
 use x509_cert_general_names::key_identifier_of;
@@ -31,10 +29,9 @@ impl SubjectKeyIdentifier {
         key: &SubjectPublicKeyInfoRef<'a>,
     ) -> Result<SubjectKeyIdentifier, Error>
         ensures ok { IfOk result (λ i. i.0 ≡ key_identifier (key_lent key.now)) }
-        ensures err { IfErr result (λ e. e.kind ≡ OutOfMemory) }
+        ensures err { IfErr result (λ e. e.kind ≡ ErrorKind.OutOfMemory) }
     {
-        let identifier = key_identifier_of(alloc, key)?;
-        Ok(SubjectKeyIdentifier(identifier))
+        Ok(SubjectKeyIdentifier(key_identifier_of(alloc, key)?))
     }
 }
 

@@ -30,6 +30,9 @@ pub trait ToExtension {
     ghost refused: { Self → Self.Error → Type 0 };
 
     /// The extension, beside a subject's name and the extensions that are there.
+    ///
+    /// # Errors
+    /// The fault with which the writing of the value ends, or out of memory.
     fn to_extension(
         self,
         alloc: Global,

@@ -2,7 +2,6 @@
 
 ghost use Rattle.std.specs.Prelude.{◌≡◌, Some, None, IfOk, IfErr, refl};
 ghost use Rattle.const_oid.specs.Bound.{Bound};
-ghost use Rattle.der_core_head.specs.declared.error.ErrorKind.TheVariants.{OutOfMemory};
 ghost use Rattle.x509_cert_parts.specs.Views.{key_lent};
 ghost use Rattle.x509_cert_general_names.specs.Grammar.{authority_key_identifier_fields};
 ghost use Rattle.x509_cert_general_names.specs.KeyIdentifiers.{key_identifier};
@@ -11,7 +10,7 @@ ghost use Rattle.x509_cert_general_names.specs.Views.{authority_key_identifier_p
 use crate::general_name::GeneralNames;
 use crate::key_identifier::key_identifier_of;
 use der_core::describing::{AsRecord, Described, FieldsView, RowUser, Rows};
-use der_core::{DecodeFields, Error, Reader, lend, read_row};
+use der_core::{DecodeFields, Error, ErrorKind, Reader, lend, read_row};
 use der_types_values::OctetString;
 use std::alloc::Global;
 use x509_cert_parts::{SerialNumber, SubjectPublicKeyInfoRef};
@@ -80,7 +79,7 @@ impl AuthorityKeyIdentifier {
           authority_cert_issuer = None;
           authority_cert_serial_number = None;
         }) }
-        ensures err { IfErr result (λ e. e.kind ≡ OutOfMemory) }
+        ensures err { IfErr result (λ e. e.kind ≡ ErrorKind.OutOfMemory) }
     {
         let identifier = key_identifier_of(alloc, key)?;
         Ok(AuthorityKeyIdentifier {

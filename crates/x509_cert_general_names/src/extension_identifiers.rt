@@ -33,7 +33,7 @@ impl AssociatedOid for NameConstraints {
     }
 }
 
-/// The identifier behind which it is held as `OtherName` (RFC 4108 5).
+/// The identifier after which it is held as `OtherName` (RFC 4108 5).
 impl AssociatedOid for HardwareModuleName {
     ghost oid_arcs = { module_arcs };
 

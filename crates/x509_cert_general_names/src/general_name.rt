@@ -85,14 +85,8 @@ fn octets_of(alloc: Global, address: IpAddr) -> Result<Vec<u8>, AllocError>
     ensures few { IfOk result (λ v. vec_len v ≤ 16) }
 {
     match address {
-        IpAddr::V4(address) => {
-            let octets = address.octets().as_slice().to_vec(alloc)?;
-            Ok(octets)
-        }
-        IpAddr::V6(address) => {
-            let octets = address.octets().as_slice().to_vec(alloc)?;
-            Ok(octets)
-        }
+        IpAddr::V4(address) => Ok(address.octets().as_slice().to_vec(alloc)?),
+        IpAddr::V6(address) => Ok(address.octets().as_slice().to_vec(alloc)?),
     }
 }
 
@@ -106,8 +100,7 @@ impl GeneralName {
         ensures err { IfErr result (λ e. e.kind ≡ OutOfMemory) }
     {
         let octets = octets_of(alloc, address)?;
-        let octets = OctetString::new(octets)?;
-        Ok(GeneralName::IpAddress(octets))
+        Ok(GeneralName::IpAddress(OctetString::new(octets)?))
     }
 
     /// The alternative that stands, lent.

@@ -1,11 +1,10 @@
 //! Identifiers of keys (RFC 5280 4.2.1.2, method 1).
 
 ghost use Rattle.std.specs.Prelude.{◌≡◌, IfOk, IfErr};
-ghost use Rattle.der_core_head.specs.declared.error.ErrorKind.TheVariants.{OutOfMemory};
 ghost use Rattle.x509_cert_parts.specs.Views.{key_lent};
 ghost use Rattle.x509_cert_general_names.specs.KeyIdentifiers.{key_identifier};
 
-use der_core::Error;
+use der_core::{Error, ErrorKind};
 use der_types_values::OctetString;
 use sha1::Sha1;
 use std::alloc::Global;
@@ -21,10 +20,9 @@ pub fn key_identifier_of<'a>(
     key: &SubjectPublicKeyInfoRef<'a>,
 ) -> Result<OctetString, Error>
     ensures ok { IfOk result (λ o. o ≡ key_identifier (key_lent key.now)) }
-    ensures err { IfErr result (λ e. e.kind ≡ OutOfMemory) }
+    ensures err { IfErr result (λ e. e.kind ≡ ErrorKind.OutOfMemory) }
 {
     let digest = Sha1::digest(key.subject_public_key.raw_bytes());
     let octets = digest.as_slice().to_vec(alloc)?;
-    let identifier = OctetString::new(octets)?;
-    Ok(identifier)
+    Ok(OctetString::new(octets)?)
 }

@@ -1,5 +1,4 @@
 mod Entries
-mod ListParts
 mod OwnExtensions
 mod Places
 mod RequestParts

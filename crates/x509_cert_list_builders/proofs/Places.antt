@@ -1,6 +1,5 @@
 -- Where what is signed stands.
-use Rattle.std.proofs.Common.{◌≡◌, ℕ, List, ◌++◌, length, take, drop, refl, ap, ◌∙◌}
-use Rattle.std.proofs.lemmas.List.{drop_at, take_at}
+use Rattle.std.proofs.Common.{◌≡◌, ℕ, List, ◌++◌, length, take, drop, refl, ap, ◌∙◌, drop_at, take_at}
 use Rattle.der_core_head.specs.declared.tag.Tag.TheVariants as tags
 use Rattle.der_core_head.specs.Heads.{tlv, head_octets}
 use Rattle.der_core_head.specs.Shapes.{Shape, BodyValue, octets_of, contents, body_octets}

@@ -1,6 +1,5 @@
 -- The part of a request, and its attributes.
-use Rattle.std.proofs.Common.{◌≡◌, ◌⊎◌, ℕ, Bool, List, [], ◌∷◌, Result, Ok, Err, refl, sym, ap, ◌∙◌, subst, inl, inr, true, false}
-use Rattle.std.specs.Prelude.{pos, if◌then◌else◌}
+use Rattle.std.proofs.Common.{◌≡◌, ◌⊎◌, ℕ, Bool, List, [], ◌∷◌, Result, Ok, Err, refl, sym, ap, ◌∙◌, subst, inl, inr, true, false, pos, if◌then◌else◌}
 use Rattle.std.specs.List.{AllByRecursion, insert}
 use Rattle.const_oid.specs.Bound.{Bound}
 use Rattle.der_core_head.specs.declared.error.Error.{Error as DerError}

@@ -4,7 +4,6 @@ ghost use Rattle.std.specs.Prelude.{◌≡◌, ◌⊎◌, ◌++◌, ◌∷◌, [
 ghost use Rattle.std.specs.Prelude.{OnOk, OnErr};
 ghost use Rattle.std.specs.Iterator.{IsFinite};
 ghost use Rattle.std.specs.Iterator.Runs.{WholeRun};
-ghost use Rattle.der_core_head.specs.declared.error.ErrorKind.TheVariants.{OutOfMemory};
 ghost use Rattle.der_core_head.specs.Grammar.{plain_list, plain_option};
 ghost use Rattle.der_core_head.specs.Reading.{Gives};
 ghost use Rattle.der_core_head.specs.Shapes.{IsValid};
@@ -75,8 +74,7 @@ fn authority_identifier_of(
         algorithm,
         subject_public_key: key.subject_public_key.owned_to_ref(),
     };
-    let identifier = AuthorityKeyIdentifier::try_from_key(alloc, &key)?;
-    Ok(identifier)
+    Ok(AuthorityKeyIdentifier::try_from_key(alloc, &key)?)
 }
 
 /// The key under which an issuer signs: its own authority key identifier, or else one of its key.
@@ -104,14 +102,13 @@ fn own_extensions(
     ensures made { IfOk result (λ v. (key : PlainAuthority)
         × (issuing_key (tbs_plain issuer.now) ≡ Ok key)
         × (extensions_plain v.items ≡ number_extension number.now.0 ∷ key_extension key ∷ [])) }
-    ensures refused { IfErr result (λ e. (e.kind ≡ OutOfMemory)
+    ensures refused { IfErr result (λ e. (e.kind ≡ ErrorKind.OutOfMemory)
         ⊎ HasNoExtensions number.now.0 (issuing_key (tbs_plain issuer.now)) e.kind) }
 {
     let key = issuing_key(alloc, issuer)?;
     let number = number.to_extension(alloc, issuer.subject(), &[])?;
     let authority = (&key).to_extension(alloc, issuer.subject(), &[])?;
-    let extensions = Vec::from_array(alloc, [number, authority])?;
-    Ok(extensions)
+    Ok(Vec::from_array(alloc, [number, authority])?)
 }
 
 impl<P: Profile> CrlBuilder<P> {
@@ -120,6 +117,15 @@ impl<P: Profile> CrlBuilder<P> {
     ///
     /// The key under which it is signed is told by the issuer's own authority key identifier; where
     /// it has none, by the digest of its key.
+    ///
+    /// As in `crates/build_certificates/src/main.rt`:
+    ///
+    /// ```rust
+    /// let mut builder = CrlBuilder::new_with_this_update(alloc, authority, number, this_update)?;
+    /// builder = builder.with_next_update(Some(next_update));
+    /// builder.with_certificates(alloc, revoked(alloc)?.into_iter())?;
+    /// let list = builder.build(alloc, signer)?;
+    /// ```
     ///
     /// # Errors
     /// `Failed` where the issuer has two authority key identifiers; the first fault of its one;
@@ -139,7 +145,7 @@ impl<P: Profile> CrlBuilder<P> {
               extensions = number_extension crl_number.0 ∷ key_extension key ∷ [];
               finalized = None;
             })) }
-        ensures refused { IfErr result (λ e. (e.kind ≡ OutOfMemory)
+        ensures refused { IfErr result (λ e. (e.kind ≡ ErrorKind.OutOfMemory)
             ⊎ HasNoExtensions crl_number.0 (issuing_key (tbs (certificate_plain issuer.now)))
             e.kind) }
     {
@@ -165,7 +171,7 @@ impl<P: Profile> CrlBuilder<P> {
         self
     }
 
-    /// Adds certificates that were revoked, behind those that are there, in the order in which they
+    /// Adds certificates that were revoked, after those that are there, in the order in which they
     /// come. The field then stands in the list, also where there are none.
     ///
     /// # Errors

@@ -4,7 +4,6 @@ ghost use Rattle.std.specs.Prelude.{◌≡◌, ◌⊎◌, ◌++◌, ◌∷◌, [
 ghost use Rattle.std.specs.Prelude.{OnOk, OnErr, IsOk};
 ghost use Rattle.const_oid.specs.Bound.{Bound};
 ghost use Rattle.der_core.specs.Placed.{placed, stands_among};
-ghost use Rattle.der_core_head.specs.Grammar.{plain_option};
 ghost use Rattle.der_core_head.specs.Shapes.{IsValid};
 ghost use Rattle.x509_cert_lists.specs.Attributes.{any_of, attribute_of};
 ghost use Rattle.x509_cert_lists.specs.Grammar.{extension_req_attribute};
@@ -73,7 +72,8 @@ fn attribute_for(alloc: Global, extensions: Extensions) -> Result<Attribute, Err
 }
 
 impl RequestBuilder {
-    /// A builder of a request for a certificate of this subject, that asks for no extension.
+    /// A builder of a request for a certificate of this subject, that asks for no extension. It is
+    /// never refused.
     pub fn new(alloc: Global, subject: Name) -> Result<RequestBuilder, Error>
         ensures made { IfOk result (λ b. b ≡ record {
           subject = name_plain subject;
@@ -93,7 +93,7 @@ impl RequestBuilder {
         })
     }
 
-    /// Asks for the extension that a value gives, behind those that are asked for.
+    /// Asks for the extension that a value gives, after those that are asked for.
     ///
     /// # Errors
     /// Those of the value, and out of memory. The builder is then as it was.

@@ -2,7 +2,6 @@
 
 ghost use Rattle.std.specs.Prelude.{◌≡◌, ◌≢◌, [], IfOk, IfErr, refl};
 ghost use Rattle.const_oid.specs.Bound.{Bound};
-ghost use Rattle.der_core_head.specs.declared.error.ErrorKind.TheVariants.{OutOfMemory};
 ghost use Rattle.der_core_head.specs.Grammar.{read_whole};
 ghost use Rattle.der_core_head.specs.Reading.{Gives};
 ghost use Rattle.der_core_head.specs.Shapes.{Spells, Value};
@@ -11,7 +10,7 @@ ghost use Rattle.x509_cert_lists.specs.Views.{cert_req_plain};
 
 use crate::cert_req_info::CertReqInfo;
 use der_core::describing::{AsRecord, Described, FieldsView, RowUser, Rows};
-use der_core::{DecodeFields, Error, FromDer, Reader, lend, read_row};
+use der_core::{DecodeFields, Error, ErrorKind, FromDer, Reader, lend, read_row};
 use der_types_values::BitString;
 use std::alloc::Global;
 use x509_cert_parts::AlgorithmIdentifier;
@@ -67,8 +66,8 @@ impl CertReq {
         // What is read is spelled so.
         ensures spelled { IfOk result (λ r. Spells (cert_req Bound) (cert_req_plain r) bytes.now) }
         // What is refused for another reason than out of memory is spelled by no request.
-        ensures refused { IfErr result (λ e. e.kind ≢ OutOfMemory → (r : Value (cert_req 0))
-            → Spells (cert_req Bound) r bytes.now → ⊥) }
+        ensures refused { IfErr result (λ e. e.kind ≢ ErrorKind.OutOfMemory
+            → (r : Value (cert_req 0)) → Spells (cert_req Bound) r bytes.now → ⊥) }
         // Which fault it is.
         ensures exact { Gives (λ r. (cert_req_plain r, [])) result
             (read_whole (cert_req Bound) bytes.now) }

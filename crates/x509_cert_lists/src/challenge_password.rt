@@ -52,22 +52,10 @@ impl Encode for ChallengePassword {
 impl AsAttribute for ChallengePassword {
     fn to_any(&self, alloc: Global) -> Result<Any, Error> {
         match &self.0 {
-            DirectoryString::PrintableString(text) => {
-                let any = Any::encode_from(alloc, text)?;
-                Ok(any)
-            }
-            DirectoryString::TeletexString(text) => {
-                let any = Any::encode_from(alloc, text)?;
-                Ok(any)
-            }
-            DirectoryString::Utf8String(text) => {
-                let any = Any::encode_from(alloc, text)?;
-                Ok(any)
-            }
-            DirectoryString::BmpString(text) => {
-                let any = Any::encode_from(alloc, text)?;
-                Ok(any)
-            }
+            DirectoryString::PrintableString(text) => Ok(Any::encode_from(alloc, text)?),
+            DirectoryString::TeletexString(text) => Ok(Any::encode_from(alloc, text)?),
+            DirectoryString::Utf8String(text) => Ok(Any::encode_from(alloc, text)?),
+            DirectoryString::BmpString(text) => Ok(Any::encode_from(alloc, text)?),
         }
     }
 }

@@ -1,7 +1,5 @@
 -- What is found among the rows of the code.
-use Rattle.std.proofs.Common.{◌≡◌, List, [], ◌∷◌, Bool, true, false, refl, ap, ◌∙◌, Bor}
-use Rattle.std.specs.Prelude.{Option, Some, None, map, option_map, if◌then◌else◌}
-use Rattle.std.specs.List.{find}
+use Rattle.std.proofs.Common.{◌≡◌, List, [], ◌∷◌, Bool, true, false, refl, ap, ◌∙◌, Bor, Option, Some, None, map, option_map, if◌then◌else◌, find}
 use Rattle.x509_cert_name_texts.specs.Rows.{Row, row_of, rows}
 use Rattle.x509_cert_name_texts.specs.declared.keys.Named.{Named}
 

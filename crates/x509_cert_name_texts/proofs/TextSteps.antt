@@ -1,10 +1,8 @@
 -- The characters of a text, one by one.
-use Rattle.std.proofs.Common.{◌≡◌, ℕ, ◌==◌, List, [], ◌∷◌, ◌++◌, length, Bool, false, refl, sym, ap, ◌∙◌, ne_eqb, arith}
-use Rattle.std.proofs.lemmas.List.{append-nil}
-use Rattle.std.specs.Str.{chars, IsUtf8}
-use Rattle.std.proofs.lemmas.Str.{chars-nil, encodes-chars, length-le-encodes}
+use Rattle.std.proofs.Common.{◌≡◌, ℕ, ◌==◌, List, [], ◌∷◌, ◌++◌, length, Bool, false, refl, sym, ap, ◌∙◌, ne_eqb, arith, append-nil, chars, IsUtf8, IsAscii}
+use Rattle.std.proofs.lemmas.Str.{chars-nil, chars-IsAscii, encodes-chars, length-le-encodes}
 use lib.Utf8.{encodes}
-use Rattle.x509_cert_name_texts.specs.Escapes.{is_end, escaped_char, escaped_from}
+use Rattle.x509_cert_name_texts.specs.Escapes.{is_end, escaped_char, escaped_from, escaped}
 
 by_characters : (cs w : List ℕ) → encodes cs ≡ w → is_end cs ≡ (length w == 0)
 by_characters [] w e = rw (← e) refl
@@ -20,3 +18,22 @@ escaped-step first last c old new e l = ap (λ b. escaped_char first b c ++ esca
 pub escaped-end : (first : Bool) (w t : List ℕ) → length w ≡ 0 → t ≡ t ++ escaped_from first (chars w)
 escaped-end first [] t e = rw chars-nil (sym (append-nil t))
 escaped-end first (c ∷ w) t e = absurd (omega arith)
+
+-- a text is printed as it stands where its first character is, and what is behind that
+ends : (w : List ℕ) → (length w == 0) ≡ is_end w
+ends [] = refl
+ends (c ∷ w) = ne_eqb (length (c ∷ w)) 0 (λ z. absurd (omega (arith, z)))
+
+pub bare-step : (first last : Bool) (c : ℕ) (v w : List ℕ) → v ≡ c ∷ w → last ≡ (length w == 0) → escaped_char first last c ≡ c ∷ [] → escaped_from false w ≡ w → escaped_from first v ≡ v
+bare-step first last c v w v_is last_is bare left =
+    sym (escaped-step first last c v w v_is (last_is ∙ ends w)) ∙ ap (λ (x : List ℕ). x ++ escaped_from false w) bare ∙ ap (λ (x : List ℕ). c ∷ x) left ∙ sym v_is
+
+pub bare-end : (first : Bool) (w : List ℕ) → length w ≡ 0 → escaped_from first w ≡ w
+bare-end first [] e = refl
+bare-end first (c ∷ w) e = absurd (omega arith)
+
+-- a text of ASCII is the list of its characters
+pub ascii : (w : List ℕ) → IsAscii w → escaped w ≡ w → escaped (chars w) ≡ w
+ascii w a e = ap escaped (chars-IsAscii w a) ∙ e
+
+pub ruleset ascii_texts = (ascii)

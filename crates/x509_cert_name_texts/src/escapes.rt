@@ -8,7 +8,7 @@ ghost use Rattle.x509_cert_name_texts.specs.Escapes.{is_sign, octet_of_digits, e
 use der_core_head::{Error, ErrorKind};
 use std::alloc::Global;
 
-/// Whether an octet may stand behind a backslash as itself (RFC 4514 3).
+/// Whether an octet may stand after a backslash as itself (RFC 4514 3).
 fn is_sign(octet: u8) -> bool
     ensures { result ≡ is_sign octet }
 {
@@ -41,7 +41,7 @@ fn octet_of(high: u8, low: u8) -> Result<u8, Error>
     }
 }
 
-/// The octet of an escape, by what stands behind its backslash, and what is left.
+/// The octet of an escape, by what stands after its backslash, and what is left.
 fn escape(behind: &[u8]) -> Result<(u8, &[u8]), Error>
     ensures exact { GivesNow (λ x. (x.0, x.1.now)) result (escape behind.now) }
     ensures shorter { IfOk result (λ x. length x.1.now < length behind.now) }
@@ -57,7 +57,7 @@ fn escape(behind: &[u8]) -> Result<(u8, &[u8]), Error>
 /// octet, a backslash before a blank or one of `"#+,;<=>\` stands for nothing.
 ///
 /// # Errors
-/// `Failed` for any other octet behind a backslash, or `OutOfMemory`.
+/// `Failed` for any other octet after a backslash, or `OutOfMemory`.
 pub fn undo_escapes(alloc: Global, text: &[u8]) -> Result<Vec<u8>, Error>
     ensures { Gives (λ v. v.items) result (undone text.now) }
 {

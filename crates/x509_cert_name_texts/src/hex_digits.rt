@@ -1,6 +1,5 @@
 //! The octets of hex digits.
 
-ghost use Rattle.std.specs.Prelude.{◌≡◌};
 ghost use Rattle.der_core_head.specs.Reading.{Gives};
 ghost use Rattle.x509_cert_name_texts.specs.Escapes.{hex_octets};
 

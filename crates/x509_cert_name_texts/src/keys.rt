@@ -1,7 +1,6 @@
 //! The names of attribute types.
 
-ghost use Rattle.std.specs.Prelude.{◌≡◌, option_map};
-ghost use Rattle.std.specs.List.{find};
+ghost use Rattle.std.specs.Prelude.{◌≡◌, option_map, find};
 ghost use Rattle.const_oid.specs.Bound.{Bound};
 ghost use Rattle.der_core_head.specs.Reading.{GivesNow};
 ghost use Rattle.x509_cert_name_texts.specs.Keys.{key_arcs, key_of};

@@ -2,7 +2,6 @@
 
 ghost use Rattle.std.specs.Prelude.{◌≡◌, ◌<◌, ◌==◌, ◌&&◌, not, length, option_map, position, take};
 ghost use Rattle.std.specs.Prelude.{drop, MatchOption, slice_index};
-ghost use Rattle.der_core_head.specs.Reading.{Gives};
 ghost use Rattle.x509_cert_name_texts.specs.Pieces.{IsFirstPiece, HasNone, Counts, ReadsPieces};
 ghost use Rattle.x509_cert_name_texts.specs.Pieces.{key_and_value};
 ghost use Rattle.x509_cert_name_texts.specs.Answers.{GivesBy};
@@ -27,14 +26,14 @@ pub trait FromText: Sized {
         ensures { GivesBy (λ x. x) result (reads_text text.now) };
 }
 
-/// Whether an octet is a separator that counts, behind an open escape or not.
+/// Whether an octet is a separator that counts, after an open escape or not.
 fn is_end(octet: u8, separator: u8, escaped: bool) -> bool
     ensures { result ≡ (octet == separator && not escaped) }
 {
     octet == separator && !escaped
 }
 
-/// Whether an escape is open behind an octet, which stands behind an open one or not.
+/// Whether an escape is open after an octet, which stands after an open one or not.
 fn opens_escape(octet: u8, escaped: bool) -> bool
     ensures { result ≡ (octet == 92 && not escaped) }
 {
@@ -57,7 +56,7 @@ fn first_separator(text: &[u8], separator: u8) -> Option<usize>
     None
 }
 
-/// The first piece of a text, and the text behind the separator that ends it, or none where the
+/// The first piece of a text, and the text after the separator that ends it, or none where the
 /// text ends it. A separator counts where the run of backslashes before it is even.
 pub fn first_piece(text: &str, separator: u8) -> (&str, Option<&str>)
     requires { separator < 128 }
@@ -101,7 +100,7 @@ fn place_of_equals(text: &[u8]) -> Option<usize>
     text.iter().position(|octet| *octet == b'=')
 }
 
-/// The octets in front of the first `=` and those behind it, or none where there is no `=`.
+/// The octets in front of the first `=` and those after it, or none where there is no `=`.
 pub fn split_member(text: &str) -> Option<(&str, &[u8])>
     ensures { key_and_value text.now ≡ option_map (λ halves. (halves.0.now, halves.1.now)) result }
 {

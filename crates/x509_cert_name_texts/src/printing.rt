@@ -1,8 +1,7 @@
 //! The parts of a printed name.
 
-ghost use Rattle.std.specs.Prelude.{◌≡◌, ◌<◌, ◌∷◌, []};
+ghost use Rattle.std.specs.Prelude.{◌≡◌, ◌<◌, ◌∷◌, [], IsTrue, chars};
 ghost use Rattle.std.specs.Fmt.{WritesOnOk};
-ghost use Rattle.std.specs.Str.{chars};
 ghost use Rattle.x509_cert_name_texts.specs.Escapes.{escaped_char, escaped, hex_digits, in_hex};
 ghost use Rattle.x509_cert_name_texts.specs.Escapes.{is_escaped_sign};
 
@@ -67,9 +66,49 @@ fn write_escaped_char<W: fmt::Write>(
     write!(f, "{c}")
 }
 
+/// Whether a character of ASCII is printed as it stands.
+fn stands_bare(octet: u8, first: bool, last: bool) -> bool
+    ensures { IsTrue result → escaped_char first last octet ≡ octet ∷ [] }
+{
+    match octet {
+        b'"' | b'+' | b',' | b';' | b'<' | b'>' | b'\\' => false,
+        b'#' => !first,
+        b' ' => !first && !last,
+        b'!'..=b'~' => true,
+        _ => false,
+    }
+}
+
+/// Whether a text of ASCII is printed as it stands, as most are.
+fn is_bare(text: &[u8]) -> bool
+    ensures { IsTrue result → escaped text.now ≡ text.now }
+{
+    let mut left = text;
+    let mut first = true;
+    while let Some((octet, rest)) = left.split_first() {
+        if !stands_bare(*octet, first, rest.is_empty()) {
+            return false;
+        }
+        left = rest;
+        first = false;
+    }
+    true
+}
+
 /// Writes a text (RFC 4514 2.4): with a backslash before each of `"+,;<>\`, a first `#`, a first
 /// and a last blank, and control characters as a backslash and two small hex digits.
+#[tactic(auto, using(crate::proofs::TextSteps::ascii_texts))]
 pub fn write_escaped<W: fmt::Write>(text: &str, f: &mut fmt::Formatter<W>) -> fmt::Result
+    ensures { WritesOnOk W.write_str_gives f.old result (escaped (chars text.now)) f.new }
+{
+    if text.is_ascii() && is_bare(text.as_bytes()) {
+        return f.write_str(text);
+    }
+    write_each(text, f)
+}
+
+/// Writes a text, character by character.
+fn write_each<W: fmt::Write>(text: &str, f: &mut fmt::Formatter<W>) -> fmt::Result
     ensures { WritesOnOk W.write_str_gives f.old result (escaped (chars text.now)) f.new }
 {
     let mut left = text.chars();

@@ -1,6 +1,5 @@
 -- Names under two bounds of arcs.
-use Rattle.std.proofs.Common.{◌≡◌, ℕ, ◌≤◌, List, [], ◌∷◌, ◌++◌, Ok, refl, sym, ap, subst, ◌∙◌}
-use Rattle.std.specs.Prelude.{◌↔◌, flat_map, map}
+use Rattle.std.proofs.Common.{◌≡◌, ℕ, ◌≤◌, List, [], ◌∷◌, ◌++◌, Ok, refl, sym, ap, subst, ◌∙◌, ◌↔◌, flat_map, map}
 use Rattle.std.proofs.lemmas.List.{map-append}
 use Rattle.der_core_head.specs.Bounds.{IsValidUnder, identifiers_of, AreBelow}
 use Rattle.der_core_head.specs.Grammar.{read_whole}

@@ -1,6 +1,5 @@
 -- Attributes whose headers have two octets each are spelled by their octets.
-use Rattle.std.proofs.lemmas.Bool.{lt-ltb}
-use Rattle.std.proofs.Common.{◌≡◌, ℕ, zero, suc, ◌+◌, ◌-◌, ◌<◌, ◌≤◌, List, [], ◌∷◌, ◌++◌, length, Ok, refl, sym, ap, ◌∙◌, arith, append-nil, length-append, length-take-le, subst, take, take_all, take-append-drop, drop, get_or}
+use Rattle.std.proofs.Common.{lt-ltb, ◌≡◌, ℕ, zero, suc, ◌+◌, ◌-◌, ◌<◌, ◌≤◌, List, [], ◌∷◌, ◌++◌, length, Ok, refl, sym, ap, ◌∙◌, arith, append-nil, length-append, length-take-le, subst, take, take_all, take-append-drop, drop, get_or}
 use Rattle.const_oid.specs.Bound.{Bound}
 use Rattle.const_oid.specs.IdentifierOctets.{identifier_octets, IsIdentifier}
 use Rattle.der_core_head.specs.Heads.{tlv, head_octets, length_octets}

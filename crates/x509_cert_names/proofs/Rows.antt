@@ -1,6 +1,5 @@
 -- What holds of the fields that a record lends, or of the alternative that a choice lends, holds of its own.
-use Rattle.std.proofs.Common.{◌≡◌, Bool, Option, Result, Ok, subst}
-use Rattle.std.specs.declared.cmp.Ordering.{Ordering}
+use Rattle.std.proofs.Common.{◌≡◌, Bool, Option, Result, Ok, subst, Ordering}
 use Rattle.der_core_head.specs.declared.error.Error.{Error}
 use Rattle.der_core_head.specs.declared.tag.Tag.{Tag}
 use Rattle.der_core_head.specs.Shapes.{Shape, Body, Value, BodyValue, nested, begins, octets_of, IsValid}

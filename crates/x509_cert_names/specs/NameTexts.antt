@@ -1,8 +1,7 @@
 -- Names as texts (RFC 4514 2, 3). What reads one takes the bound of arcs.
 use Rattle.std.specs.Prelude.{◌≡◌, ◌≢◌, ℕ, List, [], ◌∷◌, ◌++◌, reverse, None, false, Result, Ok}
-use Rattle.std.specs.Prelude.{Err}
+use Rattle.std.specs.Prelude.{Err, IsPermutation}
 use Rattle.std.specs.List.{IsDistinct, flat_map}
-use Rattle.std.specs.List.Sorted.{IsPermutation}
 use Rattle.der_core_head.specs.declared.error.ErrorKind.{ErrorKind}
 use Rattle.der_core_head.specs.declared.error.ErrorKind.TheVariants as kinds
 use Rattle.der_core_head.specs.Shapes.{Shape, Value, octets_of}

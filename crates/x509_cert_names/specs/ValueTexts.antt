@@ -1,8 +1,7 @@
 -- Attributes as texts (RFC 4514 2.3, 2.4, 3): a key, the first =, a value.
 use Rattle.std.specs.Prelude.{ℕ, ◌==◌, ◌||◌, nat_lt, List, [], ◌∷◌, ◌++◌, length, Option, Some}
-use Rattle.std.specs.Prelude.{None, Result, Ok, Err, if◌then◌else◌}
+use Rattle.std.specs.Prelude.{None, Result, Ok, Err, if◌then◌else◌, chars}
 use Rattle.std.specs.Result.{result_ok}
-use Rattle.std.specs.Str.{chars}
 use Rattle.const_oid.specs.Comparing.{owned_eq}
 use Rattle.const_oid.specs.DottedText.{dotted}
 use Rattle.der_core_head.specs.Limits.{length_max}

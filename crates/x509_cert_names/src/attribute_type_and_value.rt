@@ -1,8 +1,7 @@
 //! AttributeTypeAndValue.
 
-ghost use Rattle.std.specs.Prelude.{◌≡◌, ◌∷◌, ◌++◌, refl, IfOk};
+ghost use Rattle.std.specs.Prelude.{◌≡◌, ◌∷◌, ◌++◌, refl, IfOk, chars};
 ghost use Rattle.std.specs.Fmt.{WritesOnOk};
-ghost use Rattle.std.specs.Str.{chars};
 ghost use Rattle.const_oid.specs.Bound.{Bound};
 ghost use Rattle.const_oid.specs.DottedText.{dotted};
 ghost use Rattle.der_core_head.specs.Reading.{Gives};
@@ -168,8 +167,7 @@ impl FromText for AttributeTypeAndValue {
     ghost reads_text = { ReadsAttribute Bound };
 
     fn from_text(alloc: Global, text: &str) -> Result<AttributeTypeAndValue, Error> {
-        let attribute = AttributeTypeAndValue::from_str(alloc, text)?;
-        Ok(attribute)
+        Ok(AttributeTypeAndValue::from_str(alloc, text)?)
     }
 }
 

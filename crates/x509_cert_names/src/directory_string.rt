@@ -2,13 +2,11 @@
 
 ghost use Rattle.std.specs.Prelude.{◌≡◌, [], refl, IfOk, string_bytes};
 ghost use Rattle.std.specs.Cow.{cow_str_bytes};
-ghost use Rattle.der_core_head.specs.Shapes.{begins};
 ghost use Rattle.der_core.specs.Copies.{IsCopy};
 ghost use Rattle.x509_cert_names.specs.Names.{directory_string};
 ghost use Rattle.x509_cert_names.specs.DirectoryStrings.{directory_plain, directory_text};
 ghost use Rattle.x509_cert_names.specs.DirectoryStrings.{directory_from, directory_utf8};
 ghost use Rattle.der_core_head.specs.Reading.{Gives};
-ghost use Rattle.der_core_head.specs.declared.tag.Tag.TheVariants as tags;
 
 use crate::from_any::FromAny;
 use der_core::{
@@ -147,10 +145,7 @@ impl DirectoryString {
             DirectoryString::PrintableString(text) => Ok(CowStr::Borrowed(text.as_str())),
             DirectoryString::TeletexString(text) => Ok(CowStr::Borrowed(text.as_str())),
             DirectoryString::Utf8String(text) => Ok(CowStr::Borrowed(text.as_str())),
-            DirectoryString::BmpString(text) => {
-                let owned = text.to_string(alloc)?;
-                Ok(CowStr::Owned(owned))
-            }
+            DirectoryString::BmpString(text) => Ok(CowStr::Owned(text.to_string(alloc)?)),
         }
     }
 
@@ -165,10 +160,7 @@ impl DirectoryString {
             DirectoryString::PrintableString(text) => Ok(text.into_string()),
             DirectoryString::TeletexString(text) => Ok(text.into_string()),
             DirectoryString::Utf8String(text) => Ok(text),
-            DirectoryString::BmpString(text) => {
-                let owned = text.to_string(alloc)?;
-                Ok(owned)
-            }
+            DirectoryString::BmpString(text) => Ok(text.to_string(alloc)?),
         }
     }
 
@@ -181,20 +173,16 @@ impl DirectoryString {
     {
         match self {
             DirectoryString::PrintableString(text) => {
-                let copy = text.clone(alloc)?;
-                Ok(DirectoryString::PrintableString(copy))
+                Ok(DirectoryString::PrintableString(text.clone(alloc)?))
             }
             DirectoryString::TeletexString(text) => {
-                let copy = text.clone(alloc)?;
-                Ok(DirectoryString::TeletexString(copy))
+                Ok(DirectoryString::TeletexString(text.clone(alloc)?))
             }
             DirectoryString::Utf8String(text) => {
-                let copy = String::from_str(alloc, text.as_str())?;
-                Ok(DirectoryString::Utf8String(copy))
+                Ok(DirectoryString::Utf8String(String::from_str(alloc, text.as_str())?))
             }
             DirectoryString::BmpString(text) => {
-                let copy = text.clone(alloc)?;
-                Ok(DirectoryString::BmpString(copy))
+                Ok(DirectoryString::BmpString(text.clone(alloc)?))
             }
         }
     }

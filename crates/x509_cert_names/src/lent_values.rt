@@ -115,8 +115,7 @@ impl<'a, T: Decode<'a, SliceReader<'a>> + Member> FromAny<'a> for SetOfRef<'a, T
         (content_as tags.Set (nested (ascending T.shape)) a) };
 
     fn from_any(alloc: Global, any: &'a Any) -> Result<SetOfRef<'a, T>, Error> {
-        let set = any.to_ref().decode_as(alloc)?;
-        Ok(set)
+        Ok(any.to_ref().decode_as(alloc)?)
     }
 }
 

@@ -1,7 +1,6 @@
 //! Lists of members that ascend by their encodings.
 
-ghost use Rattle.std.specs.Prelude.{◌≡◌, IfOk, IfErr};
-ghost use Rattle.std.specs.List.Sorted.{IsPermutation};
+ghost use Rattle.std.specs.Prelude.{◌≡◌, IfOk, IfErr, IsPermutation};
 ghost use Rattle.der_core_head.specs.Grammar.{plain_list, value_at};
 ghost use Rattle.der_core_head.specs.Reading.{Reads, read_content_at};
 ghost use Rattle.der_core_head.specs.Shapes.{nested, rising, octets_of, AllRising};
@@ -53,6 +52,5 @@ pub(crate) fn copy_of<T: Clone + Drop>(alloc: Global, members: &[T]) -> Result<V
     requires { (x y : T) → T.is_clone x y → y ≡ x }
     ensures { IfOk result (λ v. v.items ≡ members.now) }
 {
-    let members = Vec::from_clones(alloc, members)?;
-    Ok(members)
+    Ok(Vec::from_clones(alloc, members)?)
 }

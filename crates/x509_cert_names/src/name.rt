@@ -1,11 +1,10 @@
 //! Name.
 
-ghost use Rattle.std.specs.Prelude.{◌≡◌, ◌==◌, [], length, refl, IfErr};
-ghost use Rattle.std.specs.Option.{option_copied};
+ghost use Rattle.std.specs.Prelude.{◌≡◌, ◌==◌, [], length, refl, IfErr, option_copied};
+ghost use Rattle.std.specs.Slice.Iter.{iter_rest};
 ghost use Rattle.const_oid.specs.Bound.{Bound};
 ghost use Rattle.der_core_head.specs.declared.tag.Tag.TheVariants.{Sequence};
 ghost use Rattle.der_core_head.specs.Shapes.{nested, many};
-ghost use Rattle.der_core_head.specs.declared.tag.Tag.TheVariants.{PrintableString, Ia5String};
 ghost use Rattle.der_core_head.specs.Grammar.{plain_list};
 ghost use Rattle.der_core_head.specs.Leaves.{text};
 ghost use Rattle.der_core_head.specs.Reading.{Gives, GivesNow};
@@ -49,6 +48,12 @@ pub struct Name {
 
 impl Name {
     /// The name that a text spells (RFC 4514), as `RdnSequence::from_str` reads it.
+    ///
+    /// As in `crates/build_certificates/src/main.rt`:
+    ///
+    /// ```rust
+    /// let subject = Name::from_str(alloc, "CN=Example Root,O=Example,C=US")?;
+    /// ```
     ///
     /// # Errors
     /// Those of `RdnSequence::from_str`.
@@ -104,22 +109,20 @@ impl Name {
     {
         self.rdn_sequence.len()
     }
-}
 
-impl Name {
     /// The attributes, those of the widest RDN first.
     pub fn iter(&self) -> NameIter<'_>
         ensures { plain_list pair_plain (attributes_left result) ≡ all_of (name_plain self.now) }
     {
         NameIter {
             attributes: &[],
-            left: self.rdn_sequence.iter().left,
+            left: self.rdn_sequence.iter().as_slice(),
         }
     }
 
     /// The RDNs, the widest first.
     pub fn iter_rdn(&self) -> RdnSequenceIter<'_>
-        ensures { plain_list relative_plain result.left.now ≡ name_plain self.now }
+        ensures { plain_list relative_plain (iter_rest result) ≡ name_plain self.now }
     {
         self.rdn_sequence.iter()
     }
@@ -197,7 +200,7 @@ impl Name {
     /// `TagUnexpected` where it is no PrintableString, or the first fault of its content.
     pub fn country(&self) -> Result<Option<PrintableStringRef<'_>>, Error>
         ensures { FirstGives
-            (λ a r. GivesNow (λ t. t.text.now) r (leaf_as PrintableString (text printable) a))
+            (λ a r. GivesNow (λ t. t.text.now) r (leaf_as Tag.PrintableString (text printable) a))
             (first_value (x520 6) (all_of (name_plain self.now))) result }
     {
         self.first_text(&types::country())
@@ -257,7 +260,7 @@ impl Name {
     /// `TagUnexpected` where it is no IA5String, or the first fault of its content.
     pub fn email_address(&self) -> Result<Option<Ia5StringRef<'_>>, Error>
         ensures { FirstGives
-            (λ a r. GivesNow (λ t. t.text.now) r (leaf_as Ia5String (text ascii) a))
+            (λ a r. GivesNow (λ t. t.text.now) r (leaf_as Tag.Ia5String (text ascii) a))
             (first_value email_address (all_of (name_plain self.now))) result }
     {
         self.first_text(&types::email_address())

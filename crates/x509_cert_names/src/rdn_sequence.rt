@@ -1,12 +1,11 @@
 //! RdnSequence.
 
-ghost use Rattle.std.specs.Prelude.{◌≡◌, List, ◌∷◌, ◌++◌, ◌==◌, [], length, reverse, vec_len};
-ghost use Rattle.std.specs.Prelude.{OnOk, OnErr, IfErr};
+ghost use Rattle.std.specs.Prelude.{◌≡◌, List, ◌∷◌, ◌++◌, ◌==◌, [], length, reverse, vec_len, OnOk};
+ghost use Rattle.std.specs.Prelude.{Some, OnErr, IfErr, flat_map};
 ghost use Rattle.std.specs.Fmt.{WritesOnOk};
-ghost use Rattle.std.specs.List.{flat_map};
+ghost use Rattle.std.specs.Slice.Iter.{iter_rest};
 ghost use Rattle.const_oid.specs.Bound.{Bound};
 ghost use Rattle.der_core_head.specs.Grammar.{plain_list};
-ghost use Rattle.der_core_head.specs.Shapes.{octets_of};
 ghost use Rattle.der_core.specs.Copies.{IsCopy};
 ghost use Rattle.x509_cert_name_texts.specs.Answers.{GivesBy};
 ghost use Rattle.x509_cert_names.specs.NameTexts.{ReadsName, ReadsEncoding, relative_printed};
@@ -110,11 +109,9 @@ impl RdnSequence {
 
     /// The RDNs, the widest first.
     pub fn iter(&self) -> RdnSequenceIter<'_>
-        ensures { result.left.now ≡ self.now.relative_names.items }
+        ensures { iter_rest result ≡ self.now.relative_names.items }
     {
-        RdnSequenceIter {
-            left: self.relative_names.as_slice(),
-        }
+        self.relative_names.as_slice().iter()
     }
 
     /// Appends an RDN, the narrowest.
@@ -151,9 +148,6 @@ impl Ordered for RdnSequence {}
 
 /// The RDNs with commas between them, the last one first (RFC 4514 2.1).
 impl fmt::Display for RdnSequence {
-    ghost use Rattle.std.specs.Prelude.{Some};
-    ghost use Rattle.x509_cert_names.specs.NameTexts.{name_printed};
-
     ghost output = { λ s. Some (name_printed s.relative_names.items) };
 
     fn fmt<W: fmt::Write>(&self, f: &mut fmt::Formatter<W>) -> fmt::Result {

@@ -1,13 +1,13 @@
 //! RelativeDistinguishedName.
 
 ghost use Rattle.std.specs.Prelude.{◌≡◌, ◌∷◌, ◌==◌, true, [], length, IfOk, IfErr, OnOk, OnErr};
-ghost use Rattle.std.specs.Prelude.{IfSome, IsTrue, ◌↔◌, ◌⊎◌, ◌≢◌, refl};
+ghost use Rattle.std.specs.Prelude.{Some, IfSome, IsTrue, ◌↔◌, ◌⊎◌, ◌≢◌, refl, IsPermutation};
 ghost use Rattle.std.specs.Cmp.Lexicographic.{pointwise, lists_per, lists_equiv};
 ghost use Rattle.std.specs.Fmt.{WritesOnOk};
 ghost use Rattle.std.specs.Hash as fed;
 ghost use Rattle.std.specs.Hash.{items_Alike};
 ghost use Rattle.std.specs.List.{IsDistinct, flat_map, list_any};
-ghost use Rattle.std.specs.List.Sorted.{IsPermutation};
+ghost use Rattle.std.specs.Slice.Iter.{iter_rest};
 ghost use Rattle.const_oid.specs.Bound.{Bound};
 ghost use Rattle.der_core_head.specs.declared.tag.Tag.TheVariants.{Set};
 ghost use Rattle.der_core_head.specs.Shapes.{nested, rising};
@@ -196,9 +196,9 @@ impl RelativeDistinguishedName {
 
     /// The attributes, in ascending order of their encodings.
     pub fn iter(&self) -> SetOfIter<'_, AttributeTypeAndValue>
-        ensures { result.left.now ≡ self.now }
+        ensures { iter_rest result ≡ self.now }
     {
-        SetOfIter::of_members(self.as_slice())
+        self.as_slice().iter()
     }
 
     /// The attributes, in ascending order of their encodings.
@@ -315,16 +315,12 @@ impl FromText for RelativeDistinguishedName {
     ghost reads_text = { ReadsRelative Bound };
 
     fn from_text(alloc: Global, text: &str) -> Result<RelativeDistinguishedName, Error> {
-        let relative = RelativeDistinguishedName::from_str(alloc, text)?;
-        Ok(relative)
+        Ok(RelativeDistinguishedName::from_str(alloc, text)?)
     }
 }
 
 /// The attributes, in ascending order of their encodings, with `+` between them (RFC 4514 2.2).
 impl fmt::Display for RelativeDistinguishedName {
-    ghost use Rattle.std.specs.Prelude.{Some};
-    ghost use Rattle.x509_cert_names.specs.NameTexts.{relative_printed};
-
     ghost output = { λ r. Some (relative_printed r) };
 
     fn fmt<W: fmt::Write>(&self, f: &mut fmt::Formatter<W>) -> fmt::Result {

@@ -28,7 +28,7 @@ impl Name {
             return true;
         }
         other.in_range();
-        in_order(other.iter_rdn().left);
+        in_order(other.iter_rdn().as_slice());
         false
     }
 }

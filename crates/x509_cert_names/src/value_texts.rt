@@ -37,8 +37,7 @@ fn encoded_value(alloc: Global, digits: &[u8]) -> Result<AttributeValue, Error>
     ensures { Gives (λ a. a) result (encoded_value digits.now) }
 {
     let octets = from_hex(alloc, digits)?;
-    let value = Any::from_der(alloc, octets.as_slice())?;
-    Ok(value)
+    Ok(Any::from_der(alloc, octets.as_slice())?)
 }
 
 /// The value with this content, its escapes undone.
@@ -47,11 +46,10 @@ fn text_value(alloc: Global, oid: &AttributeType, text: &[u8]) -> Result<Attribu
     ensures { Gives (λ a. a) result (text_value oid.now text.now) }
 {
     let octets = undo_escapes(alloc, text)?;
-    let value = Any::new(tag_for(oid), octets)?;
-    Ok(value)
+    Ok(Any::new(tag_for(oid), octets)?)
 }
 
-/// The value that stands behind the `=` of an attribute.
+/// The value that stands after the `=` of an attribute.
 #[tactic(auto, unfolding(crate::specs::ValueTexts::value_read))]
 pub(crate) fn value_of(
     alloc: Global,

@@ -1,6 +1,5 @@
 -- One fill after the other.
-use Rattle.std.proofs.Common.{◌≡◌, ℕ, suc, ◌+◌, ◌-◌, ◌<◌, ◌≤◌, Some, None, refl, arith}
-use Rattle.std.specs.Prelude.{if◌then◌else◌}
+use Rattle.std.proofs.Common.{◌≡◌, ℕ, suc, ◌+◌, ◌-◌, ◌<◌, ◌≤◌, Some, None, refl, arith, if◌then◌else◌}
 use Rattle.rand_core.specs.Stream.{Stream, fill_bytes}
 use Rattle.x509_cert_parts.specs.Drawing.{begins_with_zero, first_fill}
 

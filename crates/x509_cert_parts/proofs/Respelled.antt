@@ -1,8 +1,5 @@
 -- Respelled dates: they have an encoding, and which of them are the same.
-use Rattle.std.proofs.Common.{◌≡◌, ℕ, ◌+◌, ◌<◌, ◌≤◌, Bool, true, false, cond, List, [], ◌++◌, length, refl, ap, arith, inl, inr}
-use Rattle.std.specs.Prelude.{nat_lt, ◌↔◌}
-use Rattle.std.proofs.lemmas.Bool.{ltb-false, lt-ltb}
-use Rattle.std.proofs.lemmas.List.{length-append}
+use Rattle.std.proofs.Common.{◌≡◌, ℕ, ◌+◌, ◌<◌, ◌≤◌, Bool, true, false, cond, List, [], ◌++◌, length, refl, ap, arith, inl, inr, nat_lt, ◌↔◌, ltb-false, lt-ltb, length-append}
 use Rattle.der_core_head.specs.declared.tag.Tag.TheVariants as tags
 use Rattle.der_core_head.specs.Dates.{Civil, is_civil, IsUtc, utc_octets, generalized_octets}
 use Rattle.der_core_head.specs.Heads.{Fits, tlv, head_octets, length_octets}

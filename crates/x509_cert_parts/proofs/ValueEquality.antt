@@ -1,6 +1,5 @@
 -- `==` of the parts of certificates is of their plain values.
-use Rattle.std.proofs.Common.{◌≡◌, List, Bool, true, refl, ap, subst, inl, inr, arith}
-use Rattle.std.specs.Prelude.{pos, nat_eq, ◌&&◌}
+use Rattle.std.proofs.Common.{◌≡◌, List, Bool, true, refl, ap, subst, inl, inr, arith, pos, nat_eq, ◌&&◌}
 use Rattle.std.specs.Cmp.{nat_eq_equiv}
 use Rattle.std.specs.Cmp.Lexicographic.{pointwise}
 use Rattle.const_oid.specs.Bound.{Bound}

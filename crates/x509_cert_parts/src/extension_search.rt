@@ -34,7 +34,7 @@ pub fn get_extension<'a, T: AssociatedOid + Decode<'a, SliceReader<'a>>>(
     Ok(Some((extension.critical, value)))
 }
 
-/// The first extension of an identifier, and those behind it.
+/// The first extension of an identifier, and those after it.
 pub fn next_of<'a>(
     identifier: ObjectIdentifier<39>,
     extensions: &'a [Extension],

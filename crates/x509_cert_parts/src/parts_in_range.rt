@@ -1,8 +1,6 @@
 //! Algorithms, keys, extensions and dates are in range: their identifiers, octets and dates are. A
 //! serial number need not be, since a profile may read shorter ones than are made.
 
-ghost use Rattle.std.specs.Prelude.{◌≡◌};
-
 use crate::algorithm_identifier::AlgorithmIdentifier;
 use crate::extension::Extension;
 use crate::subject_public_key_info::SubjectPublicKeyInfo;

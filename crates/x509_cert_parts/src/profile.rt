@@ -1,7 +1,6 @@
 //! Profiles of certificates.
 
 ghost use Rattle.std.specs.Prelude.{◌≡◌, ℕ, Option, Some, None, Bool, true, false, IsOkAnd};
-ghost use Rattle.der_core_head.specs.declared.tag.Tag.TheVariants.{Integer};
 ghost use Rattle.der_core_head.specs.Integers.{checked};
 ghost use Rattle.der_core_head.specs.Reading.{GivesNow};
 ghost use Rattle.x509_cert_parts.specs.Grammar.{numbers_within};
@@ -31,7 +30,7 @@ pub trait Profile {
     /// `Value` for more content octets than are read.
     fn check_serial_number(serial: &SerialNumber<Self>) -> Result<(), Error>
         ensures { GivesNow (λ _. serial.now) result
-            (checked (numbers_within serial_limit) Integer serial.now) };
+            (checked (numbers_within serial_limit) Tag.Integer serial.now) };
 
     /// The date, as it is written in a validity. It is always answered.
     fn time_encoding(time: Time) -> Result<Time, Error>

@@ -1,15 +1,10 @@
 //! Serial numbers.
 
-ghost use Rattle.std.specs.Prelude.{◌≡◌, ◌++◌, [], pos, nat_eq, Some, Ok, IfOk};
-ghost use Rattle.std.proofs.Common.{refl};
-ghost use Rattle.std.specs.Cmp.{po, partial_equiv_from_equiv, on_equiv, on_per};
-ghost use Rattle.std.specs.Cmp.Lexicographic.{pointwise, nat_list_eq_equiv};
+ghost use Rattle.std.specs.Prelude.{◌≡◌, ◌++◌, [], pos, Some, Ok, IfOk};
 ghost use Rattle.der_core_head.specs.declared.tag.Tag.TheVariants.{Integer};
 ghost use Rattle.der_core_head.specs.Integers.{integer_of, integer_octets};
 ghost use Rattle.der_core_head.specs.Leaves.{integer};
 ghost use Rattle.der_core_head.specs.Reading.{Gives};
-ghost use Rattle.der_types_numbers.specs.NumberOrders.{integer_cmp, integer_cmp_total};
-ghost use Rattle.der_types_numbers.specs.NumberOrders.{integer_cmp_ties};
 ghost use Rattle.x509_cert_parts.specs.Drawing.{drawn_serial};
 ghost use Rattle.x509_cert_parts.specs.Grammar.{numbers_within};
 ghost use Rattle.x509_cert_parts.specs.SerialNumbers.{new_serial};
@@ -30,15 +25,17 @@ use std::marker::{Model, PhantomData};
 /// The serial number of a certificate (RFC 5280 4.1.2.2), of which the profile reads so many
 /// content octets. Numbers that are negative or zero are read too.
 ///
-/// Contracts see the number.
+/// Contracts see the number. The order is that of the number of content octets, and then of the
+/// octets.
 ///
 /// ```text
 /// CertificateSerialNumber ::= INTEGER
 /// ```
 #[derive(Drop)]
-#[derive_where(Debug)]
+#[derive_where(Debug, PartialEq, Eq, PartialOrd, Ord)]
 pub struct SerialNumber<P = Rfc5280> {
     inner: Int,
+    #[derive_where(skip(EqHashOrd))]
     profile: PhantomData<P>,
 }
 
@@ -50,6 +47,8 @@ impl<P> Model for SerialNumber<P> {
     ghost use Rattle.x509_cert_parts.specs.SerialNumbers.{serial_kept};
 
     ghost view = { serial_kept };
+
+    ghost inverse = { λ n. record { inner = n; profile = record {} } };
 }
 
 impl<P> SerialNumber<P> {
@@ -100,11 +99,10 @@ impl<P> SerialNumber<P> {
         ensures number { Gives (λ n. n) result (drawn_serial [] 17 (R.stream rng.old)).0 }
         ensures left { R.stream rng.new ≡ (drawn_serial [] 17 (R.stream rng.old)).1 }
     {
-        let serial = SerialNumber::generate_with_prefix(alloc, &[], 17, rng)?;
-        Ok(serial)
+        Ok(SerialNumber::generate_with_prefix(alloc, &[], 17, rng)?)
     }
 
-    /// A number of these octets with so many random ones behind them, of which the first isn't 0.
+    /// A number of these octets with so many random ones after them, of which the first isn't 0.
     /// For each fill all of the random ones are drawn again.
     ///
     /// # Errors
@@ -135,8 +133,7 @@ impl<P> SerialNumber<P> {
         if !fill_without_zero(rng, random) {
             return Err(Error::from(ErrorKind::Failed));
         }
-        let serial = SerialNumber::of_parts(alloc, prefix, random)?;
-        Ok(serial)
+        Ok(SerialNumber::of_parts(alloc, prefix, random)?)
     }
 
     /// The number of the octets of both.
@@ -146,8 +143,7 @@ impl<P> SerialNumber<P> {
         let mut octets = Vec::new(alloc);
         octets.extend_from_slice(first)?;
         octets.extend_from_slice(last)?;
-        let serial = SerialNumber::new(alloc, octets.as_slice())?;
-        Ok(serial)
+        Ok(SerialNumber::new(alloc, octets.as_slice())?)
     }
 
     /// A copy.
@@ -183,46 +179,6 @@ impl<P> Clone for SerialNumber<P> {
             inner,
             profile: PhantomData,
         })
-    }
-}
-
-/// Whether the numbers are equal.
-impl<P> PartialEq for SerialNumber<P> {
-    ghost eq = { λ a b. pointwise nat_eq (integer_octets a) (integer_octets b) };
-
-    ghost laws = { on_per integer_octets (partial_equiv_from_equiv nat_list_eq_equiv) };
-
-    fn eq(&self, other: &Self) -> bool {
-        self.inner == other.inner
-    }
-}
-
-impl<P> Eq for SerialNumber<P> {
-    ghost laws = { on_equiv integer_octets nat_list_eq_equiv };
-}
-
-/// The order of the number of content octets, and then of the octets.
-impl<P> PartialOrd for SerialNumber<P> {
-    ghost partial_cmp = { λ a b. Some (integer_cmp a b) };
-
-    ghost laws = { po integer_cmp_total integer_cmp_ties };
-
-    fn partial_cmp(&self, other: &Self) -> Option<Ordering> {
-        Some(self.cmp(other))
-    }
-}
-
-impl<P> Ord for SerialNumber<P> {
-    ghost cmp = { integer_cmp };
-
-    ghost total = { integer_cmp_total };
-
-    ghost matches_partial_cmp = { λ a b. refl };
-
-    ghost matches_eq = { integer_cmp_ties };
-
-    fn cmp(&self, other: &Self) -> Ordering {
-        self.inner.cmp(&other.inner)
     }
 }
 

@@ -1,10 +1,12 @@
 //! Times.
 
-ghost use Rattle.std.specs.Prelude.{◌≡◌, ◌*◌, refl};
-ghost use Rattle.std.proofs.Common.{inr};
+ghost use Rattle.std.specs.Prelude.{◌≡◌, ◌*◌, Some, refl};
+ghost use Rattle.std.proofs.Common.{inl, inr};
 ghost use Rattle.std.specs.Duration.{as_nanos};
+ghost use Rattle.der_types_time.specs.DateTexts.{date_text};
 ghost use Rattle.der_types_time.specs.Seconds.{unix_seconds};
 ghost use Rattle.x509_cert_parts.specs.Grammar.{time};
+ghost use Rattle.x509_cert_parts.specs.Times.{ReadsTime, time_of};
 ghost use Rattle.x509_cert_parts.specs.Views.{time_value, time_date};
 
 use der_core::{
@@ -135,9 +137,6 @@ impl FirstTag for Time {
 
 /// The text `YYYY-MM-DDTHH:MM:SSZ` of the date.
 impl fmt::Display for Time {
-    ghost use Rattle.std.specs.Prelude.{Some};
-    ghost use Rattle.der_types_time.specs.DateTexts.{date_text};
-
     ghost output = { λ t. Some (date_text (time_date t)) };
 
     fn fmt<W: fmt::Write>(&self, f: &mut fmt::Formatter<W>) -> fmt::Result {
@@ -147,21 +146,16 @@ impl fmt::Display for Time {
 
 /// The time of the date of a text `YYYY-MM-DDTHH:MM:SSZ`, exactly.
 impl FromStr for Time {
-    ghost use Rattle.x509_cert_parts.specs.Times.{ReadsTime};
-
     type Err = Error;
 
     ghost from_str_gives = { ReadsTime };
 
     fn from_str(text: &str) -> Result<Time, Error> {
-        let date_time = DateTime::from_str(text)?;
-        Ok(Time::from(date_time))
+        Ok(Time::from(DateTime::from_str(text)?))
     }
 }
 
 impl From<UtcTime> for Time {
-    ghost use Rattle.std.proofs.Common.{inl};
-
     ghost from_gives = { λ d t. time_value t ≡ inl d };
 
     fn from(time: UtcTime) -> Time {
@@ -170,8 +164,6 @@ impl From<UtcTime> for Time {
 }
 
 impl From<GeneralizedTime> for Time {
-    ghost use Rattle.std.proofs.Common.{inr};
-
     ghost from_gives = { λ d t. time_value t ≡ inr d };
 
     fn from(time: GeneralizedTime) -> Time {
@@ -181,8 +173,6 @@ impl From<GeneralizedTime> for Time {
 
 /// UTCTime through 2049, and GeneralizedTime later.
 impl From<DateTime> for Time {
-    ghost use Rattle.x509_cert_parts.specs.Times.{time_of};
-
     ghost from_gives = { λ d t. time_value t ≡ time_of d };
 
     fn from(date_time: DateTime) -> Time {

@@ -1,6 +1,5 @@
 -- Two fields in turn: what is read, refused and written of them.
-use Rattle.std.proofs.Common.{◌≡◌, ℕ, ◌+◌, List, ◌++◌, length, min, sym, ap, ◌∙◌, append_assoc, arith, inl, inr, take, drop}
-use Rattle.std.proofs.lemmas.List.{length-take, take-append-drop}
+use Rattle.std.proofs.Common.{◌≡◌, ℕ, ◌+◌, List, ◌++◌, length, min, sym, ap, ◌∙◌, append_assoc, arith, inl, inr, take, drop, length-take, take-append-drop}
 use Rattle.x509_cert_timestamps.specs.declared.tls_error.TlsError.{TlsError}
 use Rattle.x509_cert_timestamps.specs.Forms.{Form, Plain, pair, exactly, octets, Spells, FailsOn}
 

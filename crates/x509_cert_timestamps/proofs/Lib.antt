@@ -4,4 +4,3 @@ pub mod Fronts
 pub mod TimestampLengths
 pub mod Members
 pub mod Readings
-pub mod ListReadings

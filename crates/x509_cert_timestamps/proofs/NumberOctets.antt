@@ -1,8 +1,7 @@
 -- Numbers of two and of eight octets.
-use Rattle.std.proofs.Common.{◌≡◌, ℕ, ◌+◌, ◌<◌, List, length, get_or, refl, arith}
+use Rattle.std.proofs.Common.{◌≡◌, ℕ, ◌+◌, ◌<◌, List, length, get_or, refl, arith, length-append}
 use Rattle.std.specs.Int.{w16, w64, from_be_bytes}
 use Rattle.std.proofs.lemmas.Nat.{be_bytes_2, be_bytes_8}
-use Rattle.std.proofs.lemmas.List.{length-append}
 use Rattle.x509_cert_timestamps.specs.Forms.{short_octets, long_octets, vector, octets}
 
 -- the number of two octets is spelled by them

@@ -1,11 +1,9 @@
 -- Octets begin with the spelling of one value at most, and where they do, nothing refuses them.
-use Rattle.std.proofs.Common.{◌≡◌, ◌≢◌, ℕ, ◌^◌, ◌<◌, List, [], ◌∷◌, ◌++◌, length, refl, sym, ap, subst, ◌∙◌, append_assoc, arith, inl, inr}
-use Rattle.std.specs.Prelude.{IsTrue, ◌==◌}
+use Rattle.std.proofs.Common.{◌≡◌, ◌≢◌, ℕ, ◌^◌, ◌<◌, List, [], ◌∷◌, ◌++◌, length, refl, sym, ap, subst, ◌∙◌, append_assoc, arith, inl, inr, IsTrue, ◌==◌, length-append}
 use Rattle.std.specs.List.{AllByRecursion, list_any}
 use Rattle.std.specs.Int.{w16, w64, from_be_bytes}
 use Rattle.std.proofs.lemmas.Bool.Decides.{nat_tests}
 use Rattle.std.proofs.lemmas.Nat.{from_be_bytes-to_be_bytes_2, from_be_bytes-to_be_bytes_8}
-use Rattle.std.proofs.lemmas.List.{length-append}
 use Rattle.const_oid.proofs.DigitLaws.{split-same_length}
 use Rattle.x509_cert_timestamps.specs.declared.tls_error.TlsError.{TlsError}
 use Rattle.x509_cert_timestamps.specs.Forms.{Form, Plain, named, long, exactly, vector, pair, octets, Spells, Refuses, RefusesWhole, short_octets, long_octets}

@@ -1,6 +1,5 @@
 -- How many octets spell a timestamp.
-use Rattle.std.proofs.Common.{◌≡◌, ℕ, ◌+◌, ◌++◌, length, arith}
-use Rattle.std.proofs.lemmas.List.{length-append}
+use Rattle.std.proofs.Common.{◌≡◌, ℕ, ◌+◌, ◌++◌, length, arith, length-append}
 use Rattle.x509_cert_timestamps.specs.declared.signed_certificate_timestamp.SignedCertificateTimestamp.{SignedCertificateTimestamp}
 use Rattle.x509_cert_timestamps.specs.Forms.{octets, vector, long_octets}
 use Rattle.x509_cert_timestamps.specs.Timestamps.{timestamp_form, timestamp_plain, signed_form, signed_plain}

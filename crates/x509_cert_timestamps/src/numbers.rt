@@ -7,7 +7,7 @@ ghost use Rattle.x509_cert_timestamps.specs.Forms.{FailsOn, Appends, CannotWrite
 
 use crate::tls_error::TlsError;
 
-/// The number of the first two octets, and the octets behind them; none where there are fewer.
+/// The number of the first two octets, and the octets after them; none where there are fewer.
 #[tactic(auto, using(crate::proofs::NumberOctets::short_of))]
 pub(crate) fn split_short(input: &[u8]) -> Option<(u16, &[u8])>
     ensures some { IfSome result (λ p. input.now ≡ short_octets p.0 ++ p.1.now) }
@@ -21,7 +21,7 @@ pub(crate) fn split_short(input: &[u8]) -> Option<(u16, &[u8])>
     Some((number, rest))
 }
 
-/// The number of the first eight octets, and the octets behind them; none where there are fewer.
+/// The number of the first eight octets, and the octets after them; none where there are fewer.
 #[tactic(auto, using(crate::proofs::NumberOctets::long_of))]
 pub(crate) fn split_long(input: &[u8]) -> Option<(u64, &[u8])>
     ensures some { IfSome result (λ p. input.now ≡ long_octets p.0 ++ p.1.now) }
@@ -37,7 +37,7 @@ pub(crate) fn split_long(input: &[u8]) -> Option<(u64, &[u8])>
     Some((number, rest))
 }
 
-/// The number of eight octets that the octets begin with, and the octets behind it.
+/// The number of eight octets that the octets begin with, and the octets after it.
 pub(crate) fn read_long(input: &[u8]) -> Result<(u64, &[u8]), TlsError>
     ensures ok { IfOk result (λ p. Spells long p.0 input.now p.1.now) }
     ensures err { IfErr result (λ e. FailsOn long input.now e) }
@@ -48,7 +48,7 @@ pub(crate) fn read_long(input: &[u8]) -> Result<(u64, &[u8]), TlsError>
     }
 }
 
-/// Puts a number of eight octets behind other octets.
+/// Puts a number of eight octets after other octets.
 #[tactic(auto, unfolding(crate::specs::Forms::long_octets), using(crate::proofs::Fronts::fronts))]
 pub(crate) fn append_long(number: u64, output: &mut Vec<u8>) -> Result<(), TlsError>
     ensures ok { OnOk result (Appends long number output.old.items output.new.items) }

@@ -47,7 +47,7 @@ impl SerializedSct {
     /// The timestamp that the octets spell.
     ///
     /// # Errors
-    /// What the first fault is: `EndOfStream`, `UnknownValue`, or `TrailingData` for octets behind
+    /// What the first fault is: `EndOfStream`, `UnknownValue`, or `TrailingData` for octets after
     /// the timestamp; `OutOfMemory`.
     pub fn parse_timestamp(&self, alloc: Global) -> Result<SignedCertificateTimestamp, Error>
         ensures ok { IfOk result

@@ -1,7 +1,6 @@
 //! SignedCertificateTimestampList.
 
 ghost use Rattle.std.specs.Prelude.{◌≡◌, IfOk, IfErr, flat_map, All};
-ghost use Rattle.der_core_head.specs.declared.tag.Tag.TheVariants.{OctetString};
 ghost use Rattle.x509_cert_timestamps.specs.Lists.{IsMember, sct_octets, SpellsList, ReadsNoList};
 ghost use Rattle.x509_cert_timestamps.specs.Lists.{MakesNoList, ReadsNoMembers, MakesNoMembers};
 
@@ -28,7 +27,7 @@ use std::alloc::Global;
 #[derive(Debug, Drop, PartialEq)]
 pub struct SignedCertificateTimestampList(OctetString);
 
-/// Puts the members of a list behind one another.
+/// Puts the members of a list after one another.
 fn append_members(alloc: Global, serialized_scts: &[SerializedSct]) -> Result<Vec<u8>, TlsError>
     ensures ok { IfOk result (λ v. v.items ≡ flat_map sct_octets serialized_scts.now) }
     ensures value { IfOk result (λ _. All IsMember serialized_scts.now) }
@@ -41,7 +40,7 @@ fn append_members(alloc: Global, serialized_scts: &[SerializedSct]) -> Result<Ve
     Ok(body)
 }
 
-/// The members that stand behind one another.
+/// The members that stand after one another.
 fn read_members(alloc: Global, body: &[u8]) -> Result<Vec<SerializedSct>, TlsError>
     ensures ok { IfOk result (λ v. body.now ≡ flat_map sct_octets v.items) }
     ensures value { IfOk result (λ v. All IsMember v.items) }
@@ -74,14 +73,13 @@ impl SignedCertificateTimestampList {
         let body = append_members(alloc, serialized_scts)?;
         let mut output = Vec::new(alloc);
         append_vector(body.as_slice(), &mut output)?;
-        let list = OctetString::new(output)?;
-        Ok(SignedCertificateTimestampList(list))
+        Ok(SignedCertificateTimestampList(OctetString::new(output)?))
     }
 
     /// The members of the list, whose octets aren't looked into.
     ///
     /// # Errors
-    /// What the first fault is: `EndOfStream`, or `TrailingData` for octets behind the list;
+    /// What the first fault is: `EndOfStream`, or `TrailingData` for octets after the list;
     /// `OutOfMemory`.
     pub fn parse_timestamps(&self, alloc: Global) -> Result<Vec<SerializedSct>, Error>
         ensures ok { IfOk result (λ v. SpellsList v.items self.now.0) }
@@ -91,8 +89,7 @@ impl SignedCertificateTimestampList {
         if !rest.is_empty() {
             return Err(Error::Tls(TlsError::TrailingData));
         }
-        let scts = read_members(alloc, body)?;
-        Ok(scts)
+        Ok(read_members(alloc, body)?)
     }
 }
 

@@ -16,7 +16,7 @@ pub trait TlsValue: Drop {
     // What a value is in that form.
     ghost plain: { Self → Plain form };
 
-    /// The value that the octets begin with, and the octets behind it.
+    /// The value that the octets begin with, and the octets after it.
     ///
     /// # Errors
     /// `EndOfStream` where the octets end within the value, `UnknownValue` for a number that has no
@@ -25,11 +25,11 @@ pub trait TlsValue: Drop {
         ensures ok { IfOk result (λ p. Spells form (plain p.0) input.now p.1.now) }
         ensures err { IfErr result (λ e. FailsOn form input.now e) };
 
-    /// Puts the value's octets behind others.
+    /// Puts the value's octets after others.
     ///
     /// # Errors
     /// `InvalidVectorLength` for a vector of more than 65535 octets; `OutOfMemory`. What was there
-    /// stays then, and a part of the value's octets may stand behind it.
+    /// stays then, and a part of the value's octets may stand after it.
     fn append_to(&self, output: &mut Vec<u8>) -> Result<(), TlsError>
         ensures ok { OnOk result (Appends form (plain self.now) output.old.items output.new.items) }
         ensures err { IfErr result (λ e. CannotWrite form (plain self.now) e) }

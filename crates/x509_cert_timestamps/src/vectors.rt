@@ -8,7 +8,7 @@ use crate::numbers::split_short;
 use crate::tls_error::TlsError;
 use std::alloc::Global;
 
-/// The octets of the vector that the octets begin with, and the octets behind it.
+/// The octets of the vector that the octets begin with, and the octets after it.
 pub(crate) fn split_vector(input: &[u8]) -> Result<(&[u8], &[u8]), TlsError>
     ensures ok { IfOk result (λ p. Spells vector p.0.now input.now p.1.now) }
     ensures err { IfErr result (λ e. Refuses vector input.now e) }
@@ -23,7 +23,7 @@ pub(crate) fn split_vector(input: &[u8]) -> Result<(&[u8], &[u8]), TlsError>
     Ok(behind.split_at(len))
 }
 
-/// The vector that the octets begin with, and the octets behind it.
+/// The vector that the octets begin with, and the octets after it.
 pub(crate) fn read_vector(alloc: Global, input: &[u8]) -> Result<(Vec<u8>, &[u8]), TlsError>
     ensures ok { IfOk result (λ p. Spells vector p.0.items input.now p.1.now) }
     ensures err { IfErr result (λ e. FailsOn vector input.now e) }
@@ -33,7 +33,7 @@ pub(crate) fn read_vector(alloc: Global, input: &[u8]) -> Result<(Vec<u8>, &[u8]
     Ok((items, rest))
 }
 
-/// Puts a vector behind other octets.
+/// Puts a vector after other octets.
 #[tactic(auto, unfolding(crate::specs::Forms::short_octets), using(crate::proofs::Fronts::fronts))]
 pub(crate) fn append_vector(items: &[u8], output: &mut Vec<u8>) -> Result<(), TlsError>
     ensures ok { OnOk result (Appends vector items.now output.old.items output.new.items) }

@@ -6,7 +6,8 @@ use Rattle.const_oid.specs.Outcome.{outcome}
 use Rattle.const_oid.proofs.ArcsLaws.{outcome-with_arc}
 use Rattle.const_oid.proofs.EncodingLaws.{length-arc_octets, length-digits-pos}
 use Rattle.const_oid.proofs.IdentifierLaws.{read_arcs-arc}
-use Rattle.const_oid.proofs.LastArcLaws.{SoFar, so_far_arc, so_far_all}
+use Rattle.const_oid.proofs.BoundLaws.{Bound-is}
+use Rattle.const_oid.proofs.LastArcLaws.{SoFar, so_far_arc, so_far_all, two_found}
 use Rattle.const_oid.proofs.octets.find_arcs.Goals as goal
 
 -- the arc stands before what is left, and has an octet
@@ -23,6 +24,11 @@ arc_first w begun len a within fits first =
       size,
       omega (arith, size, length-arc_octets a, length-digits-pos a),
     )
+
+pub returns-then-are_two_arcs : goal.returns-then-are_two_arcs
+returns-then-are_two_arcs c =
+    let two = c.are_two_arcs.ensures c.if-are_two_arcs.true in
+    two_found Bound c.args.octets.now (omega (arith, Bound-is)) two.0 two.1 two.2
 
 pub loop-begun-smaller : goal.loop-begun-smaller
 loop-begun-smaller c =

@@ -1,5 +1,4 @@
-use Rattle.std.specs.Borrow.{Bor}
-use Rattle.std.proofs.Common.{ℕ, List, length}
+use Rattle.std.proofs.Common.{Bor, ℕ, List, length}
 use Rattle.der_core_coding.proofs.Rooms.{content_spelled, filled_contents}
 use Rattle.der_core_coding.proofs.Encodable.{content_in_range}
 use Rattle.der_core_coding.proofs.slices.encode_value_to_slice.Goals as goal

@@ -1,5 +1,4 @@
-use Rattle.std.proofs.Common.{◌≡◌, ◌+◌, ◌-◌, ◌/◌, ◌<◌, ◌++◌, ◌∷◌, List, ℕ, length, drop, ap, ◌∙◌, arith}
-use Rattle.std.specs.Prelude.{slice_set}
+use Rattle.std.proofs.Common.{◌≡◌, ◌+◌, ◌-◌, ◌/◌, ◌<◌, ◌++◌, ◌∷◌, List, ℕ, length, drop, ap, ◌∙◌, arith, slice_set}
 use Rattle.std.proofs.lemmas.List.{drop-set, length-set}
 use Rattle.const_oid.specs.Digits.{digits}
 use Rattle.der_core_octets.specs.Numbers.{turn, turned}

@@ -1,6 +1,4 @@
-use Rattle.std.proofs.Common.{Ok, Err, Result, List, ℕ, arith}
-use Rattle.std.specs.Prelude.{IfOk}
-use Rattle.std.specs.Borrow.{Bor}
+use Rattle.std.proofs.Common.{Ok, Err, Result, List, ℕ, arith, IfOk, Bor}
 use Rattle.der_core_head.specs.Limits.{IsLength}
 use Rattle.der_core_head.specs.Heads.{Fits}
 use Rattle.der_core_head.specs.declared.error.Error.{Error}

@@ -1,5 +1,4 @@
-use Rattle.std.proofs.Common.{◌≡◌, false, Ok, Err, Result, ap, sym, ◌∙◌}
-use Rattle.std.specs.Prelude.{IfErr}
+use Rattle.std.proofs.Common.{◌≡◌, false, Ok, Err, Result, ap, sym, ◌∙◌, IfErr}
 use Rattle.std.proofs.lemmas.Result.{err_from_is_err_and}
 use Rattle.der_core_head.specs.declared.error.Error.{Error}
 use Rattle.der_core_head.specs.declared.error.ErrorKind.{ErrorKind}

@@ -1,6 +1,5 @@
-use Rattle.std.proofs.Common.{[], Ok, refl, ap, sym, ◌∙◌}
+use Rattle.std.proofs.Common.{[], Ok, refl, ap, sym, ◌∙◌, eqb-true}
 use Rattle.std.proofs.lemmas.Result.{err_from_is_err_and}
-use Rattle.std.proofs.lemmas.Bool.{eqb-true}
 use Rattle.std.proofs.lemmas.List.{nil_from_length}
 use Rattle.der_core_head.specs.Shapes.{IsBody, body_octets}
 use Rattle.der_core.specs.Orders.{octets_cmp}

@@ -1,5 +1,4 @@
-use Rattle.std.proofs.Common.{◌≡◌, ◌≤◌, take, drop}
-use Rattle.std.specs.List.Sorted.{IsPermutation}
+use Rattle.std.specs.Prelude.{◌≡◌, ◌≤◌, take, drop, IsPermutation}
 use Rattle.der_types_sets.specs.Sets.{Ascends, IsArranged}
 use Rattle.der_types_sets.proofs.places.arrange_from.Given as goal
 

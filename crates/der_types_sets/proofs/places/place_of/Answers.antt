@@ -1,5 +1,4 @@
-use Rattle.std.proofs.Common.{◌<◌, arith}
-use Rattle.std.proofs.Common.{◌≤◌, Ok, ap, ◌∙◌}
+use Rattle.std.proofs.Common.{◌<◌, arith, ◌≤◌, Ok, ap, ◌∙◌}
 use Rattle.der_types_sets.proofs.SetSteps.{before_here, told_above}
 use Rattle.der_types_sets.proofs.places.place_of.Goals as goal
 use Rattle.der_types_sets.proofs.places.place_of.Goals.{then-high-members, else-high-members}

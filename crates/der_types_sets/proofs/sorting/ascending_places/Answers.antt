@@ -1,6 +1,5 @@
-use Rattle.std.proofs.Common.{◌≡◌, ℕ, List, rules, ap, subst, length}
+use Rattle.std.proofs.Common.{◌≡◌, ℕ, List, rules, ap, subst, length, is_lt}
 use Rattle.std.specs.List.{range_with_len}
-use Rattle.std.specs.Ordering.{is_lt}
 use Rattle.std.specs.List.Sorted.{IsStableBy}
 use Rattle.der_core.specs.Orders.{octets_cmp}
 use Rattle.std.specs.Cmp.Lexicographic.{nat_list_cmp_total}

@@ -1,5 +1,4 @@
-use Rattle.std.proofs.Common.{◌≡◌, ◌++◌, map, Some}
-use Rattle.std.specs.Vec.{vec_capacity}
+use Rattle.std.specs.Prelude.{◌≡◌, ◌++◌, map, Some, vec_capacity}
 use Rattle.der_types_sets.proofs.sorting.put_apart.Given as goal
 
 abbrev pub invariant-loop-member : goal.invariant-loop-member

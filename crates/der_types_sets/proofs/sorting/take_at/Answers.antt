@@ -1,6 +1,5 @@
-use Rattle.std.proofs.Common.{ℕ, arith, rules, length, ◌<◌, ◌≡◌, List, None, Some, get_or, set, refl, ap, sym, ◌∙◌}
+use Rattle.std.proofs.Common.{ℕ, arith, rules, length, ◌<◌, ◌≡◌, List, None, Some, get_or, set, refl, ap, sym, ◌∙◌, IsPermutation}
 use Rattle.std.specs.List.{range_with_len}
-use Rattle.std.specs.List.Sorted.{IsPermutation}
 use Rattle.std.proofs.lemmas.List.{length-set, get_or_default, take_all}
 use Rattle.der_types_sets.specs.Rearranged.{members_at}
 use Rattle.der_types_sets.proofs.Arranged.{places_below, offset_fits, all_apart, untaken_here, untaken_more, taken_more, as_many}

@@ -1,5 +1,4 @@
-use Rattle.std.proofs.Common.{◌≡◌, ◌≤◌, List, length, map, take, Some}
-use Rattle.std.specs.Vec.{vec_capacity}
+use Rattle.std.specs.Prelude.{◌≡◌, ◌≤◌, List, length, map, take, Some, vec_capacity}
 use Rattle.der_types_sets.specs.Rearranged.{members_at}
 use Rattle.der_types_sets.proofs.Arranged.{Untaken}
 use Rattle.der_types_sets.proofs.sorting.take_at.Given as goal

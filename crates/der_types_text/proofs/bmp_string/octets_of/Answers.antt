@@ -1,7 +1,6 @@
-use Rattle.std.proofs.Common.{◌≡◌, Err, refl, sym, ap, ◌∙◌}
+use Rattle.std.proofs.Common.{◌≡◌, Err, refl, sym, ap, ◌∙◌, chars}
 use Rattle.std.proofs.lemmas.Iterator.{YieldsList-from_chars}
 use Rattle.std.proofs.lemmas.Iterator.Consumers.{YieldsList-turn, YieldsList-end}
-use Rattle.std.specs.Str.{chars}
 use Rattle.der_core_head.specs.BmpStrings.{is_unit, bmp_octets, units}
 use Rattle.der_core_head.proofs.BmpLaws.{units-octets}
 use Rattle.der_types_text.proofs.BmpTexts.{bmp_octets-push, list_all-push, list_all-refused, map_same, bmp_from-ok, bmp_from-refused}

@@ -1,3 +1,4 @@
+use Rattle.std.specs.Slice.Iter.{iter_rest}
 use Rattle.der_core_head.specs.Grammar.{plain_list}
 use Rattle.x509_cert_names.specs.Views.{name_plain}
 use Rattle.x509_cert_names.specs.Pairs.{relative_plain}
@@ -5,4 +6,4 @@ use Rattle.x509_cert_builders.proofs.Subjects.{IsLeft}
 use Rattle.x509_cert_builders.proofs.certificate_type.name_left.Given as goal
 
 abbrev pub invariant-loop-relative : goal.invariant-loop-relative
-invariant-loop-relative l = IsLeft (name_plain l.name) (plain_list relative_plain l.kept.relative_names.items) (plain_list relative_plain l.relative-iterator.left.now)
+invariant-loop-relative l = IsLeft (name_plain l.name) (plain_list relative_plain l.kept.relative_names.items) (plain_list relative_plain (iter_rest l.relative-iterator))

@@ -1,6 +1,4 @@
-use Rattle.std.proofs.Common.{◌≡◌, ℕ, List, false, None, sym, ap, ◌∙◌}
-use Rattle.std.specs.Prelude.{not}
-use Rattle.std.specs.List.{find}
+use Rattle.std.proofs.Common.{◌≡◌, ℕ, List, false, None, sym, ap, ◌∙◌, not, find}
 use Rattle.x509_cert_names.specs.Views.{name_plain}
 use Rattle.x509_cert_builders.specs.Naming.{foreign_type, has_required, is_among, name_types}
 use Rattle.x509_cert_builders.proofs.NamingSteps.{lacking}

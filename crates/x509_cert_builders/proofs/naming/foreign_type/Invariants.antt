@@ -1,6 +1,4 @@
-use Rattle.std.proofs.Common.{◌≡◌, drop}
-use Rattle.std.specs.Prelude.{not}
-use Rattle.std.specs.List.{find}
+use Rattle.std.specs.Prelude.{◌≡◌, drop, not, find}
 use Rattle.x509_cert_builders.specs.Naming.{is_among}
 use Rattle.x509_cert_builders.proofs.naming.foreign_type.Given as goal
 

@@ -1,4 +1,6 @@
 use Rattle.std.proofs.Common.{◌≡◌, [], ◌∷◌, Err, sym, ap, ◌∙◌, subst}
+use Rattle.std.proofs.lemmas.List.{nil_from_length}
+use Rattle.std.specs.Slice.Iter.{iter_rest}
 use Rattle.der_core_head.specs.Grammar.{plain_list}
 use Rattle.x509_cert_names.specs.Views.{name_plain}
 use Rattle.x509_cert_names.specs.Pairs.{relative_plain}
@@ -11,8 +13,8 @@ returns-in-Err-clause-rules c =
     let n = name_plain c.args.name.now in
     let found = c.loop-relative.found in
     let relative = relative_plain c.in-Some.relative.now in
-    let left = plain_list relative_plain c.next.new.self.left.now in
-    let next : plain_list relative_plain c.loop-relative.relative-iterator.left.now ≡ relative ∷ left = ap (plain_list relative_plain) c.in-Some.ensures.steps in
+    let left = plain_list relative_plain (iter_rest c.next.new.self) in
+    let next : plain_list relative_plain (iter_rest c.loop-relative.relative-iterator) ≡ relative ∷ left = ap (plain_list relative_plain) c.in-Some.ensures.steps in
     let checked : IsChecked c.args.multiple_allowed n found (relative ∷ left) = subst (IsChecked c.args.multiple_allowed n found) next c.loop-relative.invariant in
     let why : type_behind c.args.multiple_allowed found relative ≡ Err c.in-Err.error = sym c.type_behind.ensures ∙ c.in-Err.is in
     checked_fault c.args.multiple_allowed n found relative left c.in-Err.error checked why
@@ -21,6 +23,6 @@ pub returns : goal.returns
 returns c =
     let n = name_plain c.args.name.now in
     let found = c.loop-relative.found in
-    let none : plain_list relative_plain c.loop-relative.relative-iterator.left.now ≡ [] = ap (plain_list relative_plain) c.in-None.ensures.steps.0 in
+    let none : plain_list relative_plain (iter_rest c.loop-relative.relative-iterator) ≡ [] = ap (plain_list relative_plain) (nil_from_length (iter_rest c.loop-relative.relative-iterator) c.in-None.ensures.steps.0) in
     let all = checked_all c.args.multiple_allowed n found (subst (IsChecked c.args.multiple_allowed n found) none c.loop-relative.invariant) in
     record { rules = all.0; types = c.into_types.ensures ∙ all.1 }

@@ -1,3 +1,4 @@
+use Rattle.std.specs.Slice.Iter.{iter_rest}
 use Rattle.der_core_head.specs.Grammar.{plain_list}
 use Rattle.x509_cert_names.specs.Views.{name_plain}
 use Rattle.x509_cert_names.specs.Pairs.{relative_plain}
@@ -6,4 +7,4 @@ use Rattle.x509_cert_builders.proofs.naming.types_of.Given as goal
 
 abbrev pub invariant-loop-relative : goal.invariant-loop-relative
 invariant-loop-relative l =
-    IsChecked l.multiple_allowed (name_plain l.name) l.found (plain_list relative_plain l.relative-iterator.left.now)
+    IsChecked l.multiple_allowed (name_plain l.name) l.found (plain_list relative_plain (iter_rest l.relative-iterator))

@@ -1,9 +1,26 @@
 use Rattle.std.proofs.lemmas.Result.{err_from_is_err_and}
 use Rattle.x509_cert_builders.proofs.Faults.{or_unwritten}
 use Rattle.x509_cert_lists.specs.Views.{tbs_cert_list_plain}
-use Rattle.x509_cert_list_builders.specs.Lists.{list_part}
-use Rattle.x509_cert_list_builders.proofs.ListParts.{raw_valid}
+use Rattle.x509_cert_list_builders.specs.Lists.{list_part, PlainEntry, PlainList}
+use Rattle.std.proofs.Common.{◌≡◌, ℕ, List, Option, Some, None, Ok}
+use Rattle.der_core_head.specs.Ranges.{IsInRange}
+use Rattle.der_core_head.specs.Shapes.{IsValid}
+use Rattle.der_core_head.specs.Writing.{Out, write}
+use Rattle.der_core_head.proofs.WrittenValid.{written_valid}
 use Rattle.x509_cert_list_builders.proofs.writing.list_written.Goals as goal
+
+-- Signed parts of lists that were written have encodings, whatever serial numbers are read.
+-- a part with these entries
+abbrev with_entries : PlainList → Option (List PlainEntry) → PlainList
+with_entries t es = (t.0, (t.1.0, (t.1.1.0, (t.1.1.1.0, (t.1.1.1.1.0, (es, t.1.1.1.1.1.1))))))
+
+-- what is written doesn't depend on the profile by which serial numbers are read
+raw_written : (limit : Option ℕ) (t : PlainList) (es : Option (List PlainEntry)) (o z : Out) → write (list_part limit) (with_entries t es) o ≡ Ok z → write (list_part None) (with_entries t es) o ≡ Ok z
+raw_written limit t None o z e = e
+raw_written limit t (Some es) o z e = e
+
+raw_valid : (limit : Option ℕ) (t : PlainList) (o z : Out) → write (list_part limit) t o ≡ Ok z → IsInRange (list_part None) t → IsValid (list_part None) t
+raw_valid limit t o z e h = written_valid (list_part None) t o z (raw_written limit t t.1.1.1.1.1.0 o z e) h
 
 pub returns-in_err-octets-clause-refused : goal.returns-in_err-octets-clause-refused
 returns-in_err-octets-clause-refused g c =

@@ -1,5 +1,4 @@
-use Rattle.std.proofs.Common.{◌==◌, ap, sym, refl, ◌∙◌, take, get_or, arith}
-use Rattle.std.specs.Prelude.{not, ◌&&◌}
+use Rattle.std.proofs.Common.{◌==◌, ap, sym, refl, ◌∙◌, take, get_or, arith, not, ◌&&◌}
 use Rattle.std.proofs.lemmas.List.{take_more}
 use Rattle.x509_cert_name_texts.proofs.PieceSteps.{is_escaped, is_escaped-push, none_in_front, none_more, found_counts, found_is}
 use Rattle.x509_cert_name_texts.proofs.pieces.first_separator.Goals as goal

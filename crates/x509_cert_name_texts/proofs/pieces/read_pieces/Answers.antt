@@ -1,5 +1,4 @@
-use Rattle.std.proofs.Common.{Err, ap}
-use Rattle.std.specs.Prelude.{option_map}
+use Rattle.std.proofs.Common.{Err, ap, option_map}
 use Rattle.std.proofs.lemmas.Result.{err_from_is_err_and}
 use Rattle.x509_cert_name_texts.specs.Pieces.{ReadsPieces}
 use Rattle.x509_cert_name_texts.proofs.PieceSteps.{continues_start, continues_more, ends_piece, more_piece, utf8_rest}

@@ -1,5 +1,4 @@
-use Rattle.std.proofs.Common.{◌==◌, get_or, sym, ap, ◌∙◌, arith}
-use Rattle.std.specs.Prelude.{position}
+use Rattle.std.proofs.Common.{◌==◌, get_or, sym, ap, ◌∙◌, arith, position}
 use Rattle.std.proofs.lemmas.List.Quantifiers.{position-Some}
 use Rattle.std.proofs.lemmas.Str.{IsCharBoundary-before_ascii}
 use Rattle.x509_cert_name_texts.proofs.PieceSteps.{is_equal}

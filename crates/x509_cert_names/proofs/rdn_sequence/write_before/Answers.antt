@@ -1,5 +1,4 @@
-use Rattle.std.proofs.Common.{◌++◌, append_assoc, reverse, ap, refl, ◌∙◌}
-use Rattle.std.specs.List.{flat_map}
+use Rattle.std.proofs.Common.{◌++◌, append_assoc, reverse, ap, refl, ◌∙◌, flat_map}
 use Rattle.std.proofs.Output.{has_written_append, has_written_of_eq}
 use Rattle.x509_cert_names.specs.NameTexts.{printed_behind, relative_printed}
 use Rattle.x509_cert_names.proofs.Printed.{last_printed, end_printed}

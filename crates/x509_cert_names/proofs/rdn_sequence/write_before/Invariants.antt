@@ -1,6 +1,5 @@
-use Rattle.std.proofs.Common.{◌≡◌, List, ℕ, ◌++◌, length, reverse}
+use Rattle.std.specs.Prelude.{◌≡◌, List, ℕ, ◌++◌, length, reverse, flat_map}
 use Rattle.std.specs.Fmt.{HasWritten, IsPlainFormatter}
-use Rattle.std.specs.List.{flat_map}
 use Rattle.x509_cert_names.specs.NameTexts.{printed_behind, relative_printed}
 use Rattle.x509_cert_names.proofs.rdn_sequence.write_before.Given as goal
 

@@ -1,6 +1,5 @@
-use Rattle.std.proofs.Common.{take}
+use Rattle.std.specs.Prelude.{take, flat_map}
 use Rattle.std.specs.Fmt.{HasWritten, IsPlainFormatter}
-use Rattle.std.specs.List.{flat_map}
 use Rattle.x509_cert_names.specs.NameTexts.{printed_behind}
 use Rattle.x509_cert_names.specs.ValueTexts.{attribute_printed}
 use Rattle.x509_cert_names.proofs.relative_distinguished_name.write_later.Given as goal

@@ -1,6 +1,5 @@
-use Rattle.std.proofs.Common.{take}
+use Rattle.std.specs.Prelude.{take, flat_map}
 use Rattle.std.specs.Fmt.{HasWritten, IsPlainFormatter}
-use Rattle.std.specs.List.{flat_map}
 use Rattle.x509_cert_parts.specs.SerialNumbers.{colon_pair}
 use Rattle.x509_cert_parts.proofs.serial_text.write_later.Given as goal
 

@@ -1,6 +1,5 @@
 -- The members so far stand behind one another.
-use Rattle.std.proofs.Common.{◌≡◌, take}
-use Rattle.std.specs.Prelude.{flat_map, All}
+use Rattle.std.specs.Prelude.{◌≡◌, take, flat_map, All}
 use Rattle.x509_cert_timestamps.specs.Lists.{IsMember, sct_octets}
 use Rattle.x509_cert_timestamps.proofs.signed_certificate_timestamp_list.append_members.Given as goal
 

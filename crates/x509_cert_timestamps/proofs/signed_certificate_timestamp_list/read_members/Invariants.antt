@@ -1,6 +1,5 @@
 -- The members so far, and then what is left, are the octets, of which each turn leaves fewer.
-use Rattle.std.proofs.Common.{◌≡◌, ◌++◌, length}
-use Rattle.std.specs.Prelude.{flat_map, All}
+use Rattle.std.specs.Prelude.{◌≡◌, ◌++◌, length, flat_map, All}
 use Rattle.x509_cert_timestamps.specs.Lists.{IsMember, sct_octets}
 use Rattle.x509_cert_timestamps.proofs.signed_certificate_timestamp_list.read_members.Given as goal
 

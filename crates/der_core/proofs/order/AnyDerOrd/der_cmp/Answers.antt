@@ -1,36 +1,7 @@
-use Rattle.std.proofs.Common.{rules, Ok, ap, sym, ◌∙◌}
-use Rattle.der_core.proofs.TagOrders.{tagged_content, never_long, first_long, second_long, headers_decide, contents_decide, one_tag}
 use Rattle.der_core.proofs.order.AnyDerOrd.der_cmp.Goals as goal
 
-pub returns-in_err-len-clause-order : goal.returns-in_err-len-clause-order
-returns-in_err-len-clause-order g c = λ apart p q.
-    absurd (never_long g.T.FixedTag.fixed_tag g.T.ShapedValue.content (g.T.ShapedValue.value_written c.args.self.now) _ p c.in_err-len.ensures)
-
-pub returns-in_err-len-clause-refused : goal.returns-in_err-len-clause-refused
-returns-in_err-len-clause-refused g c =
-    let long = first_long g.T.FixedTag.fixed_tag g.T.FixedTag.fixed_tag g.T.ShapedValue.content (g.T.ShapedValue.value_written c.args.self.now) (g.T.ShapedValue.value_written c.args.other.now) c.in_err-len.field-0.0 c.in_err-len.ensures in
-    search rules
-
-pub returns-in_err-other_len-clause-order : goal.returns-in_err-other_len-clause-order
-returns-in_err-other_len-clause-order g c = λ apart p q.
-    absurd (never_long g.T.FixedTag.fixed_tag g.T.ShapedValue.content (g.T.ShapedValue.value_written c.args.other.now) _ q c.in_err-other_len.ensures)
-
-pub returns-in_err-other_len-clause-refused : goal.returns-in_err-other_len-clause-refused
-returns-in_err-other_len-clause-refused g c =
-    let long = second_long g.T.FixedTag.fixed_tag g.T.FixedTag.fixed_tag g.T.ShapedValue.content (g.T.ShapedValue.value_written c.args.self.now) (g.T.ShapedValue.value_written c.args.other.now) c.in_err-other_len.field-0.0 c.in_err-other_len.ensures in
-    search rules
-
-pub returns-then-is_ne-clause-order : goal.returns-then-is_ne-clause-order
-returns-then-is_ne-clause-order g c = λ apart p q.
-    ap (λ o. Ok o)
-    (headers_decide g.T.FixedTag.fixed_tag g.T.FixedTag.fixed_tag g.T.ShapedValue.content (g.T.ShapedValue.value_written c.args.self.now) (g.T.ShapedValue.value_written c.args.other.now) _ _ _ p q
-    c.in_ok-len.ensures c.in_ok-other_len.ensures (one_tag _ _ _ _ c.length_cmp-lengths.ensures) (sym c.is_ne.ensures ∙ c.if-is_ne.true))
-
 pub returns-clause-order : goal.returns-clause-order
-returns-clause-order g c = λ apart p q.
-    let t = g.T.FixedTag.fixed_tag in
-    let k = g.T.ShapedValue.content in
-    let v = g.T.ShapedValue.value_written c.args.self.now in
-    let w = g.T.ShapedValue.value_written c.args.other.now in
-    c.in_ok-contents.ensures.order apart (tagged_content t k v p) (tagged_content t k w q)
-    ∙ ap (λ o. Ok o) (contents_decide t t k v w _ _ _ p q c.in_ok-len.ensures c.in_ok-other_len.ensures (one_tag _ _ _ _ c.length_cmp-lengths.ensures) (sym c.is_ne.ensures ∙ c.if-is_ne.false))
+returns-clause-order g c = rw (c.tag.ensures, c.tag-2.ensures) at c.cmp_behind.ensures.order
+
+pub returns-clause-refused : goal.returns-clause-refused
+returns-clause-refused g c = rw (c.tag.ensures, c.tag-2.ensures) at c.cmp_behind.ensures.refused

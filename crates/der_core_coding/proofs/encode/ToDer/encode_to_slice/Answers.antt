@@ -1,5 +1,4 @@
-use Rattle.std.specs.Borrow.{Bor}
-use Rattle.std.proofs.Common.{ℕ, List, length}
+use Rattle.std.proofs.Common.{Bor, ℕ, List, length}
 use Rattle.der_core_coding.proofs.Rooms.{filled_spelled, filled_octets}
 use Rattle.der_core_coding.proofs.Encodable.{filled_in_range}
 use Rattle.der_core_coding.proofs.encode.ToDer.encode_to_slice.Goals as goal

@@ -1,6 +1,4 @@
-use Rattle.std.proofs.Common.{◌≡◌, ◌+◌, length, refl, arith, inl, inr}
-use Rattle.std.specs.Prelude.{take}
-use Rattle.std.proofs.lemmas.List.{length-take}
+use Rattle.std.proofs.Common.{◌≡◌, ◌+◌, length, refl, arith, inl, inr, take, length-take}
 use Rattle.std.proofs.lemmas.Result.{err_from_is_err_and}
 use Rattle.der_core_coding.proofs.slice_writer.SliceWriter.sequence_of.Goals as goal
 use Rattle.der_core_coding.proofs.slice_writer.SliceWriter.sequence_of.Goals.{then-self-start-via-then-self-start, then-self-start-via-else-self-start+then-self-start-2}

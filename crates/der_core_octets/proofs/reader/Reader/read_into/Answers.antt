@@ -1,5 +1,4 @@
-use Rattle.std.proofs.Common.{◌≡◌, length, refl, ap, sym, ◌∙◌, arith, Err}
-use Rattle.std.proofs.lemmas.List.{length-take}
+use Rattle.std.proofs.Common.{◌≡◌, length, refl, ap, sym, ◌∙◌, arith, Err, length-take}
 use Rattle.der_core_head.specs.Reading.{State, past}
 use Rattle.der_core_head.proofs.SliceCases.{slice_short, slice_ok}
 use Rattle.der_core_octets.proofs.reader.Reader.read_into.Goals as goal

@@ -1,5 +1,4 @@
-use Rattle.std.proofs.Common.{◌≡◌, ◌-◌}
-use Rattle.std.specs.Prelude.{vec_len}
+use Rattle.std.specs.Prelude.{◌≡◌, ◌-◌, vec_len}
 use Rattle.der_core_head.specs.Grammar.{read_exactly}
 use Rattle.der_core_head.specs.Reading.{read_at}
 use Rattle.der_core_values.proofs.Lists.{Reached}

@@ -1,5 +1,4 @@
-use Rattle.std.proofs.Common.{sym, ◌∙◌}
-use Rattle.std.proofs.lemmas.Bool.{eqb-true}
+use Rattle.std.proofs.Common.{sym, ◌∙◌, eqb-true}
 use Rattle.der_types_sets.proofs.LentWrites.{some_at, values_sized, octets_sized}
 use Rattle.der_types_sets.proofs.set_of_ref.SetOfRef.content_len.Goals as goal
 

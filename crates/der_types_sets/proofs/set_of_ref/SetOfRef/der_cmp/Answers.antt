@@ -1,5 +1,4 @@
-use Rattle.std.proofs.Common.{Ok, ap, subst, inr, sym, ◌∙◌}
-use Rattle.std.specs.declared.cmp.Ordering.{Ordering}
+use Rattle.std.proofs.Common.{Ok, ap, subst, inr, sym, ◌∙◌, Ordering}
 use Rattle.std.proofs.lemmas.Result.{err_from_is_err_and, IfErr-weaker}
 use Rattle.der_core_head.specs.declared.tag.Tag.TheVariants as tags
 use Rattle.der_core_head.specs.Shapes.{nested, many}

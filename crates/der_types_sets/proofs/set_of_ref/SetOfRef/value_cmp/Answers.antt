@@ -1,5 +1,4 @@
-use Rattle.std.proofs.Common.{Ok, ap, sym, ◌∙◌, inl, inr}
-use Rattle.std.proofs.lemmas.Bool.{eqb-true}
+use Rattle.std.proofs.Common.{Ok, ap, sym, ◌∙◌, inl, inr, eqb-true}
 use Rattle.std.proofs.lemmas.Result.{err_from_is_err_and, IfErr-weaker}
 use Rattle.der_core_head.specs.Shapes.{many, contents, body_octets, IsContent}
 use Rattle.der_core_head.specs.Grammar.{plain_list}

@@ -1,5 +1,4 @@
-use Rattle.std.proofs.Common.{sym, ◌∙◌}
-use Rattle.std.proofs.lemmas.Bool.{eqb-true}
+use Rattle.std.proofs.Common.{sym, ◌∙◌, eqb-true}
 use Rattle.der_types_sets.proofs.LentWrites.{some_at, values_written, octets_written}
 use Rattle.der_types_sets.proofs.set_of_ref.SetOfRefEncodeValue.encode_value.Goals as goal
 

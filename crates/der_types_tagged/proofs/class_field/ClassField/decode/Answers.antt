@@ -1,12 +1,32 @@
-use Rattle.std.proofs.Common.{◌≡◌, ◌/◌, true, Err, ap, subst, ◌∙◌}
+use Rattle.std.proofs.Common.{◌≡◌, ◌/◌, true, Err, ap, subst, ◌∙◌, ℕ, List, Result, Ok, refl}
 use Rattle.std.proofs.lemmas.Result.{err_from_is_err_and}
 use Rattle.der_core_head.specs.declared.tag.Tag.{Tag}
 use Rattle.der_core_head.specs.Tags.{class_tag, number_of}
-use Rattle.der_core_head.specs.Shapes.{nested, only, tagged}
+use Rattle.der_core_head.specs.Shapes.{nested, only, tagged, Shape}
 use Rattle.der_core_head.specs.Reading.{Reads, read_at}
 use Rattle.der_core_octets.specs.Headers.{head_of}
-use Rattle.der_types_tagged.proofs.Numbers.{numbered_stops}
+use Rattle.der_core_head.specs.declared.error.ErrorKind.{ErrorKind}
+use Rattle.der_core_head.specs.declared.encoding_rules.EncodingRules.{EncodingRules}
+use Rattle.der_core_head.specs.Heads.{Head}
+use Rattle.der_core_head.specs.Bodies.{head_by}
+use Rattle.der_core_head.specs.Grammar.{read_by}
+use Rattle.der_core_head.proofs.Results.{ok_is}
+use Rattle.der_core_head.specs.Fronts.{alone}
+use Rattle.der_types_tagged.specs.Fields.{explicit_field, numbered_at}
 use Rattle.der_types_tagged.proofs.class_field.ClassField.decode.Goals as goal
+
+-- Fields of a class, whatever their numbers.
+-- what is refused with the number that stands there is refused
+numbered_stops : (rules : EncodingRules) (class : ℕ) (s : Shape) (room : ℕ) (w : List ℕ) (h : Head) (k : ErrorKind) → alone (head_by rules w) ≡ Ok h
+    → read_by rules (explicit_field class (number_of h.tag) s) room w ≡ Err k → numbered_at rules class s room w ≡ Err k
+unfolding numbered_at
+numbered_stops rules class s room w h k stands stops = go (head_by rules w) refl stands
+  where
+    go : (r : Result (Head × List ℕ) ErrorKind) → head_by rules w ≡ r → alone r ≡ Ok h → numbered_at rules class s room w ≡ Err k
+    go (Ok x) e i =
+        let equal : x.0 ≡ h = ok_is x.0 h i in
+        rw (e, equal, stops) refl
+    go (Err j) e i = absurd cc
 
 pub returns-in_err-value-clause-reads : goal.returns-in_err-value-clause-reads
 returns-in_err-value-clause-reads g c =

@@ -1,6 +1,4 @@
-use Rattle.std.proofs.Common.{◌<◌, IsTrue, subst, arith}
-use Rattle.std.specs.Prelude.{ltb, ◌↔◌}
-use Rattle.std.proofs.lemmas.Bool.{ltb-true, lt-ltb}
+use Rattle.std.proofs.Common.{◌<◌, IsTrue, subst, arith, ltb, ◌↔◌, ltb-true, lt-ltb}
 use Rattle.der_core_head.specs.Dates.{Civil}
 use Rattle.der_types_time.specs.Seconds.{unix_seconds}
 use Rattle.der_types_time.specs.DateTimes.{civil_of}

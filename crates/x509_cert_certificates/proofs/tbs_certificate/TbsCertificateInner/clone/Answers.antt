@@ -1,5 +1,4 @@
-use Rattle.std.proofs.Common.{sym, ap, ◌∙◌}
-use Rattle.std.specs.Prelude.{pos}
+use Rattle.std.proofs.Common.{sym, ap, ◌∙◌, pos}
 use Rattle.der_core.proofs.ValueEquality.{itself_absent}
 use Rattle.x509_cert_parts.specs.Views.{time_value, version_number}
 use Rattle.x509_cert_certificates.proofs.tbs_certificate.TbsCertificateInner.clone.Goals as goal

@@ -1,6 +1,5 @@
-use Rattle.std.proofs.Common.{◌≡◌, ℕ, ◌-◌, List, Ok, ap, ◌∙◌, rules}
+use Rattle.std.proofs.Common.{◌≡◌, ℕ, ◌-◌, List, Ok, ap, ◌∙◌, rules, pos, take, drop}
 use Rattle.std.proofs.lemmas.List.{take_rest}
-use Rattle.std.specs.Prelude.{pos, take, drop}
 use Rattle.der_core_head.specs.declared.tag.Tag.TheVariants.{Integer}
 use Rattle.der_core_head.specs.Integers.{natural, integer_octets, integer_read}
 use Rattle.der_core_head.proofs.IntegerLaws.{integer_again}

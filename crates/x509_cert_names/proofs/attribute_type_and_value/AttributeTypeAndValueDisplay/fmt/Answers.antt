@@ -1,5 +1,4 @@
-use Rattle.std.proofs.Common.{ap, ◌∙◌}
-use Rattle.std.specs.Prelude.{option_map}
+use Rattle.std.proofs.Common.{ap, ◌∙◌, option_map}
 use Rattle.std.proofs.Output.{has_written_of_eq}
 use Rattle.x509_cert_names.proofs.Printed.{text_printed, no_text_printed, no_key_printed}
 use Rattle.x509_cert_names.proofs.attribute_type_and_value.AttributeTypeAndValueDisplay.fmt.Goals as goal

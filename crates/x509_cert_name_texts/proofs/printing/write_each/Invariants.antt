@@ -1,9 +1,8 @@
-use Rattle.std.proofs.Common.{◌≡◌, List, ℕ, ◌++◌}
+use Rattle.std.specs.Prelude.{◌≡◌, List, ℕ, ◌++◌, chars, IsUtf8}
 use Rattle.std.specs.Fmt.{HasWritten, IsPlainFormatter}
-use Rattle.std.specs.Str.{chars, IsUtf8}
 use Rattle.std.specs.Str.Iter.{chars_rest}
 use Rattle.x509_cert_name_texts.specs.Escapes.{escaped_from, escaped}
-use Rattle.x509_cert_name_texts.proofs.printing.write_escaped.Given as goal
+use Rattle.x509_cert_name_texts.proofs.printing.write_each.Given as goal
 
 -- what was written, and what is left to write, are all
 abbrev pub invariant-loop-c : goal.invariant-loop-c

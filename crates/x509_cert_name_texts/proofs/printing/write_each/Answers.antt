@@ -1,11 +1,10 @@
-use Rattle.std.proofs.Common.{◌++◌, ◌==◌, length, append_assoc, ap, refl, ◌∙◌, false}
+use Rattle.std.proofs.Common.{◌++◌, ◌==◌, length, append_assoc, ap, refl, ◌∙◌, false, chars}
 use Rattle.std.proofs.Output.{has_written_append, has_written_of_eq}
-use Rattle.std.specs.Str.{chars}
 use Rattle.std.specs.Str.Iter.{chars_rest}
 use Rattle.std.proofs.lemmas.Str.{IsUtf8-past_char, chars_past_char}
 use Rattle.x509_cert_name_texts.specs.Escapes.{escaped_char, escaped_from, escaped}
 use Rattle.x509_cert_name_texts.proofs.TextSteps.{is_end-chars, escaped-step, escaped-end}
-use Rattle.x509_cert_name_texts.proofs.printing.write_escaped.Goals as goal
+use Rattle.x509_cert_name_texts.proofs.printing.write_each.Goals as goal
 
 pub loop-c-preserved : goal.loop-c-preserved
 loop-c-preserved g c =

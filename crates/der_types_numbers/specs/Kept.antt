@@ -1,14 +1,14 @@
 -- The octets that are kept in an array or in a list.
 use Rattle.std.specs.Prelude.{ℕ, ◌≤◌, List, take}
-use Rattle.der_types_any.specs.declared.octets.Store.{Store}
-use Rattle.der_types_any.specs.declared.octets.Store.TheVariants.{Few, Many}
+use Rattle.der_types_numbers.specs.declared.kept_octets.Store.{Store}
+use Rattle.der_types_numbers.specs.declared.kept_octets.Store.TheVariants.{Few, Many}
 
 -- the first octets of the array, as many as are said, or those of the list
 abbrev pub kept : Store → List ℕ
-kept (Few bytes len) = take len bytes
+kept (Few few) = take few.len few.bytes
 kept (Many v) = v.items
 
 -- no more are said to be there than the array has
 abbrev pub IsKept : Store → Type 0
-IsKept (Few bytes len) = len ≤ 30
+IsKept (Few few) = few.len ≤ 32
 IsKept (Many v) = Unit {0}

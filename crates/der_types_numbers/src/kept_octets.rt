@@ -6,11 +6,11 @@ use std::alloc::{AllocError, Global};
 use std::fmt;
 use std::marker::Model;
 
-/// A list of octets. A copy of up to 30 of them needs no memory.
+/// A list of octets. A copy of up to 32 of them needs no memory.
 ///
 /// Contracts see the list.
 #[derive(Drop)]
-pub(crate) struct Octets {
+pub struct KeptOctets {
     store: Store,
     alloc: Global,
 }
@@ -18,13 +18,22 @@ pub(crate) struct Octets {
 /// Where the octets are kept: in place, as so many of an array, or in memory of their own.
 #[derive(Drop)]
 enum Store {
-    Few { bytes: [u8; 30], len: u8 },
+    Few(InPlace),
     Many(Vec<u8>),
 }
 
-impl Model for Octets {
+/// The first octets of an array, so many.
+#[derive(Drop)]
+struct InPlace {
+    len: usize,
+    bytes: [u8; 32],
+    // None; with it the octets lie as words do, and are moved in few of them.
+    words: [u64; 0],
+}
+
+impl Model for KeptOctets {
     ghost use Rattle.std.specs.Prelude.{ℕ, List};
-    ghost use Rattle.der_types_any.specs.Kept.{kept, IsKept};
+    ghost use Rattle.der_types_numbers.specs.Kept.{kept, IsKept};
 
     ghost Value = { List ℕ };
 
@@ -33,12 +42,12 @@ impl Model for Octets {
     ghost invariant = { λ o. IsKept o.store };
 }
 
-impl Octets {
+impl KeptOctets {
     /// The octets of a list, in its memory.
-    pub(crate) fn of(bytes: Vec<u8>) -> Octets
+    pub fn of(bytes: Vec<u8>) -> KeptOctets
         ensures { result ≡ bytes.items }
     {
-        Octets {
+        KeptOctets {
             alloc: *bytes.allocator(),
             store: Store::Many(bytes),
         }
@@ -47,52 +56,53 @@ impl Octets {
     /// A copy of octets.
     ///
     /// # Errors
-    /// Out of memory, for more than 30 of them.
-    pub(crate) fn copy_of(alloc: Global, octets: &[u8]) -> Result<Octets, AllocError>
+    /// Out of memory, for more than 32 of them.
+    pub fn copy_of(alloc: Global, octets: &[u8]) -> Result<KeptOctets, AllocError>
         ensures { IfOk result (λ o. o ≡ octets.now) }
     {
-        if octets.len() <= 30 {
-            return Ok(Octets::few(alloc, octets));
+        if octets.len() <= 32 {
+            return Ok(KeptOctets::few(alloc, octets));
         }
         let bytes = octets.to_vec(alloc)?;
-        Ok(Octets::of(bytes))
+        Ok(KeptOctets::of(bytes))
     }
 
-    /// A copy of up to 30 octets, in place.
-    fn few(alloc: Global, octets: &[u8]) -> Octets
-        requires { length octets.now ≤ 30 }
+    /// A copy of up to 32 octets, in place.
+    fn few(alloc: Global, octets: &[u8]) -> KeptOctets
+        requires { length octets.now ≤ 32 }
         ensures { result ≡ octets.now }
     {
-        let mut bytes = [0; 30];
+        let mut bytes = [0; 32];
         bytes[..octets.len()].copy_from_slice(octets);
-        Octets {
-            store: Store::Few {
+        KeptOctets {
+            store: Store::Few(InPlace {
+                len: octets.len(),
                 bytes,
-                len: octets.len() as u8,
-            },
+                words: [],
+            }),
             alloc,
         }
     }
 
     /// The octets.
     #[inline]
-    pub(crate) fn as_slice(&self) -> &[u8]
+    pub fn as_slice(&self) -> &[u8]
         ensures { result.now ≡ self.now }
     {
         match &self.store {
-            Store::Few { bytes, len } => &bytes[..*len as usize],
+            Store::Few(few) => &few.bytes[..few.len],
             Store::Many(octets) => octets.as_slice(),
         }
     }
 
     /// The allocator of the memory that copies need.
-    pub(crate) fn allocator(&self) -> &Global {
+    pub fn allocator(&self) -> &Global {
         &self.alloc
     }
 }
 
 /// The octets, as a slice of them is shown.
-impl fmt::Debug for Octets {
+impl fmt::Debug for KeptOctets {
     fn fmt<W: fmt::Write>(&self, f: &mut fmt::Formatter<W>) -> fmt::Result {
         fmt::Debug::fmt(self.as_slice(), f)
     }
