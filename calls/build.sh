@@ -45,8 +45,10 @@ ld -r -o "$object" --whole-archive "$built" --no-whole-archive "$kit/c/liblibc_c
 objcopy --wildcard --keep-global-symbol='wd_*' "$object"
 rm -f "$folder/libwurstdrape.a"
 ar rcsD "$folder/libwurstdrape.a" "$object"
-"${CC:-cc}" -shared -o "$folder/libwurstdrape.so" "$object" -Wl,--gc-sections -Wl,-z,defs \
-    -Wl,-soname,libwurstdrape.so -Wl,--version-script="$here/exports.map"
+# The kit's linker keeps one of several functions that have the same code.
+"${CC:-cc}" -shared -o "$folder/libwurstdrape.so" "$object" -fuse-ld=lld -B"$kit/toolchain/bin" \
+    -Wl,--icf=all -Wl,--gc-sections -Wl,-z,defs -Wl,-soname,libwurstdrape.so \
+    -Wl,--version-script="$here/exports.map"
 rm "$object"
 strip --strip-unneeded "$folder/libwurstdrape.so"
 cp "$here/wurstdrape.h" "$folder/"

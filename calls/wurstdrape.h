@@ -1,11 +1,11 @@
-/* wurstdrape.h: certificates (RFC 5280), revocation lists and requests, read and judged.
+/* wurstdrape.h: certificates (RFC 5280), CRLs and CSRs, read, and certification paths judged.
 
    Octets in DER go in, a status and octets come out. No state is kept between calls, so threads may
    call at once. Each call is proved to keep its contract, which stands with its source
    (crates/cert_desk_c/src); docs/FROM_OTHERS.md says what that covers.
 
    The caller keeps these, which no proof can see:
-   - No pointer is null, also where its length is 0. Behind it are as many octets as its length
+   - No pointer is null, also where its length is 0. It points to as many octets as its length
      says.
    - What a call reads stays as it is while the call runs. What it is lent to write (`out`,
      `size`, and what a pointer to a single value lends) overlaps nothing else of that call. It
@@ -15,9 +15,9 @@
    - No call is made from a signal handler, nor in the child that a process with threads forked.
 
    A call that writes octets writes them to the front of `out`, and their number to `*size`.
-   Where there is too little room it returns WD_NO_ROOM, writes nothing to `out`, and says in
+   Where the buffer is too small it returns WD_NO_ROOM, writes nothing to `out`, and says in
    `*size` how much it wants. With every other status `out` stays as it was. Text is in UTF-8,
-   with no 0 behind it. */
+   without a terminating 0. */
 #ifndef WURSTDRAPE_H
 #define WURSTDRAPE_H
 
@@ -129,13 +129,13 @@ typedef struct {
     uint64_t number; /* of the rule, or of the kind of fault */
 } wd_place;
 
-/* Whether octets spell a certificate, a revocation list, a certification request, all of them:
-   WD_DONE where they do; WD_FAULTY where they don't, and then `fault` is told; WD_MEMORY. */
+/* Whether octets, all of them, are the encoding of a certificate, a CRL, a CSR: WD_DONE where they
+   are; WD_FAULTY where they aren't, and then `fault` is told; WD_MEMORY. */
 uint32_t wd_is_certificate(const uint8_t *octets, size_t octets_len, wd_fault *fault);
 uint32_t wd_is_list(const uint8_t *octets, size_t octets_len, wd_fault *fault);
 uint32_t wd_is_request(const uint8_t *octets, size_t octets_len, wd_fault *fault);
 
-/* The listing, as `cert_desk show` prints it: WD_DONE, WD_FAULTY where octets spell none,
+/* The listing, as `cert_desk show` prints it: WD_DONE, WD_FAULTY where octets encode none,
    WD_NO_ROOM, WD_MEMORY. */
 uint32_t wd_show_certificate(const uint8_t *octets, size_t octets_len, uint8_t *out, size_t out_len,
                              size_t *size);
@@ -168,13 +168,14 @@ uint32_t wd_parts(const uint8_t *octets, size_t octets_len, wd_spans *spans);
 uint32_t wd_dates(const uint8_t *octets, size_t octets_len, wd_validity *dates);
 
 /* Where the content of a certificate's first extension of an identifier stands in `octets`, and
-   whether it is critical. The identifier is given by its content octets, which wd_identifier_of_text
-   makes. WD_DONE, WD_FAULTY where octets spell no certificate, WD_EMPTY where it has no such
-   extension, WD_ARGUMENTS where the identifier is none of up to 39 octets, WD_MEMORY. */
+   whether it is critical. The identifier is given by its content octets, which
+   wd_identifier_of_text makes. WD_DONE, WD_FAULTY where octets encode no certificate, WD_EMPTY
+   where it has no such extension, WD_ARGUMENTS where the identifier is none of up to 39 octets,
+   WD_MEMORY. */
 uint32_t wd_extension(const uint8_t *octets, size_t octets_len, const uint8_t *identifier,
                       size_t identifier_len, wd_span *span, bool *critical);
 
-/* The text of a name in DER (RFC 4514), and the DER of the name that a text spells: WD_DONE,
+/* The text of a name in DER (RFC 4514), and the DER of the name that a text says: WD_DONE,
    WD_FAULTY where there is none, WD_NO_ROOM, WD_MEMORY. */
 uint32_t wd_name_text(const uint8_t *octets, size_t octets_len, uint8_t *out, size_t out_len,
                       size_t *size);
@@ -197,11 +198,12 @@ uint32_t wd_questions(const uint8_t *anchors, size_t anchors_len, const uint8_t 
                       size_t chain_len, uint32_t limit, uint8_t *out, size_t out_len,
                       size_t *size);
 
-/* The verdict on a chain at a moment (seconds since 1970-01-01T00:00:00Z), for a purpose (the
-   content octets of its identifier), where a signature is right exactly where `answers` list it:
-   lines of wd_questions, those whose signature a verifier of yours has verified. WD_DONE says that
-   the chain is trusted, WD_REFUSED and WD_FAULTY that it isn't, and then `told` says why; WD_EMPTY;
-   WD_ARGUMENTS where anchors, answers, purpose or limit are faulty; WD_MEMORY. */
+/* The verdict on a chain at a validation time (`moment`, seconds since 1970-01-01T00:00:00Z), for a
+   key purpose (the content octets of its identifier), where a signature is right exactly where
+   `answers` list it: lines of wd_questions, those whose signature a verifier of yours has
+   verified. WD_DONE says that the chain is trusted, WD_REFUSED and WD_FAULTY that it isn't, and
+   then `told` says why; WD_EMPTY; WD_ARGUMENTS where anchors, answers, purpose or limit are
+   faulty; WD_MEMORY. */
 uint32_t wd_verify(const uint8_t *answers, size_t answers_len, const uint8_t *anchors,
                    size_t anchors_len, const uint8_t *chain, size_t chain_len, uint64_t moment,
                    const uint8_t *purpose, size_t purpose_len, uint32_t limit, wd_place *told);

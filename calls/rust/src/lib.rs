@@ -18,7 +18,7 @@ pub const LIMIT: u32 = 65536;
 /// The content octets of id-kp-serverAuth (RFC 5280 4.2.1.12).
 pub const SERVER_AUTH: &[u8] = &[0x2b, 6, 1, 5, 5, 7, 3, 1];
 
-/// What octets may spell.
+/// What octets may be the encoding of.
 #[derive(Clone, Copy, Debug, PartialEq, Eq)]
 pub enum Kind {
     /// A certificate (RFC 5280 4.1).
@@ -112,7 +112,7 @@ pub enum Verdict {
         /// The rule.
         rule: Rule,
     },
-    /// The octets aren't certificates: a fault begins at `offset`, behind `place` of them.
+    /// The octets aren't certificates: a fault begins at `offset`, after `place` of them.
     Faulty {
         /// The number of certificates before the fault.
         place: u64,
@@ -130,15 +130,15 @@ pub enum Verdict {
 pub struct Terms<'a> {
     /// Trust anchors (RFC 5914), as certificates are, with nothing between them.
     pub anchors: &'a [u8],
-    /// The moment, in seconds since 1970-01-01T00:00:00Z.
+    /// The validation time, in seconds since 1970-01-01T00:00:00Z.
     pub moment: u64,
-    /// The content octets of the purpose's identifier.
+    /// The content octets of the key purpose's identifier.
     pub purpose: &'a [u8],
     /// The greatest number of octets of a certificate, at least 6.
     pub limit: u32,
 }
 
-/// The first fault of octets that don't spell a value of the kind, or none where they do.
+/// The first fault of octets that don't encode a value of the kind, or none where they do.
 ///
 /// # Errors
 /// `Memory`.
@@ -149,7 +149,7 @@ pub fn fault_of(der: &[u8], kind: Kind) -> Result<Option<Fault>> {
 /// The listing of a value of the kind, as `cert_desk show` prints it.
 ///
 /// # Errors
-/// `Faulty` where octets spell none, `Memory`.
+/// `Faulty` where octets encode none, `Memory`.
 pub fn show(der: &[u8], kind: Kind) -> Result<String> {
     calls::show(der, kind).map(text)
 }
@@ -158,7 +158,7 @@ pub fn show(der: &[u8], kind: Kind) -> Result<String> {
 /// What it says isn't proved.
 ///
 /// # Errors
-/// `Faulty` where octets spell none, `Memory`.
+/// `Faulty` where octets encode none, `Memory`.
 pub fn describe(der: &[u8], kind: Kind, json: bool) -> Result<String> {
     calls::describe(der, kind, json).map(text)
 }
@@ -166,7 +166,7 @@ pub fn describe(der: &[u8], kind: Kind, json: bool) -> Result<String> {
 /// The subject's name in a certificate (RFC 4514).
 ///
 /// # Errors
-/// `Faulty` where octets spell none, `Memory`.
+/// `Faulty` where octets encode none, `Memory`.
 pub fn subject(der: &[u8]) -> Result<String> {
     calls::subject(der).map(text)
 }
@@ -174,7 +174,7 @@ pub fn subject(der: &[u8]) -> Result<String> {
 /// The issuer's name in a certificate (RFC 4514).
 ///
 /// # Errors
-/// `Faulty` where octets spell none, `Memory`.
+/// `Faulty` where octets encode none, `Memory`.
 pub fn issuer(der: &[u8]) -> Result<String> {
     calls::issuer(der).map(text)
 }
@@ -182,7 +182,7 @@ pub fn issuer(der: &[u8]) -> Result<String> {
 /// Where parts of a certificate stand in its octets. Nothing is copied.
 ///
 /// # Errors
-/// `Faulty` where octets spell none, `Memory`.
+/// `Faulty` where octets encode none, `Memory`.
 pub fn parts(der: &[u8]) -> Result<Parts> {
     calls::parts(der)
 }
@@ -190,7 +190,7 @@ pub fn parts(der: &[u8]) -> Result<Parts> {
 /// The dates of a certificate.
 ///
 /// # Errors
-/// `Faulty` where octets spell none, `Memory`.
+/// `Faulty` where octets encode none, `Memory`.
 pub fn validity(der: &[u8]) -> Result<Validity> {
     calls::validity(der)
 }
@@ -199,8 +199,8 @@ pub fn validity(der: &[u8]) -> Result<Validity> {
 /// where it has no such extension.
 ///
 /// # Errors
-/// `Faulty` where octets spell no certificate, `Arguments` where the identifier is none of up to 39
-/// octets, `Memory`.
+/// `Faulty` where octets encode no certificate, `Arguments` where the identifier is none of up to
+/// 39 octets, `Memory`.
 pub fn extension(der: &[u8], identifier: &[u8]) -> Result<Option<Extension>> {
     calls::extension(der, identifier)
 }
@@ -208,15 +208,15 @@ pub fn extension(der: &[u8], identifier: &[u8]) -> Result<Option<Extension>> {
 /// The text of a name in DER (RFC 4514).
 ///
 /// # Errors
-/// `Faulty` where octets spell none, `Memory`.
+/// `Faulty` where octets encode none, `Memory`.
 pub fn name_text(der: &[u8]) -> Result<String> {
     calls::name_text(der).map(text)
 }
 
-/// The DER of the name that a text spells (RFC 4514).
+/// The DER of the name that a text says (RFC 4514).
 ///
 /// # Errors
-/// `Faulty` where it spells none, `Memory`.
+/// `Faulty` where it says none, `Memory`.
 pub fn name_of_text(name: &str) -> Result<Vec<u8>> {
     calls::name_of_text(name.as_bytes())
 }
@@ -229,10 +229,10 @@ pub fn identifier_text(octets: &[u8]) -> Result<String> {
     calls::identifier_text(octets).map(text)
 }
 
-/// The content octets of the identifier that a dotted text spells.
+/// The content octets of the identifier that a dotted text names.
 ///
 /// # Errors
-/// `Faulty` where it spells none of up to 39 octets.
+/// `Faulty` where it names none of up to 39 octets.
 pub fn identifier_of_text(identifier: &str) -> Result<Vec<u8>> {
     calls::identifier_of_text(identifier.as_bytes())
 }

@@ -4,7 +4,7 @@
 #[derive(Clone, Copy, Debug, PartialEq, Eq)]
 #[repr(u8)]
 pub enum Rule {
-    /// The algorithm inside the signed part isn't the one outside (RFC 5280 4.1.1.2).
+    /// The algorithm inside the TBSCertificate isn't the one outside (RFC 5280 4.1.1.2).
     AlgorithmsDiffer = 1,
     /// Two extensions have one identifier (4.2).
     DuplicateExtension = 2,
@@ -12,20 +12,20 @@ pub enum Rule {
     MalformedExtension = 3,
     /// A critical extension is of no weighed kind (4.2).
     UnweighedCritical = 4,
-    /// The issuer's octets aren't the subject's octets of the certificate before; of the first one,
-    /// they aren't those of any anchor's name (6.1.3 (a)(4)).
+    /// Name chaining: the issuer's octets aren't the subject's of the certificate before; of the
+    /// first one, they aren't those of any anchor's name (6.1.3 (a)(4)).
     WrongIssuer = 5,
-    /// The moment is before the validity (6.1.3 (a)(2)).
+    /// The validation time is before the validity (6.1.3 (a)(2)).
     NotYetValid = 6,
-    /// The moment is behind the validity (6.1.3 (a)(2)).
+    /// The validation time is after the validity (6.1.3 (a)(2)).
     Expired = 7,
-    /// The purpose isn't allowed (4.2.1.12).
+    /// The key purpose isn't allowed (4.2.1.12).
     AgainstPurpose = 8,
-    /// The certificate isn't the last, and isn't an authority's (6.1.4 (k), (n)).
+    /// The certificate isn't the last, and isn't a CA's (6.1.4 (k), (n)).
     NotAuthority = 9,
-    /// The path is longer than a certificate before allows (6.1.4 (l), (m)).
+    /// The certification path is longer than a certificate before allows (6.1.4 (l), (m)).
     PathTooLong = 10,
-    /// The signature over the signed part isn't the issuer's (6.1.3 (a)(1)).
+    /// The signature over the TBSCertificate isn't the issuer's (6.1.3 (a)(1)).
     WrongSignature = 11,
 }
 
@@ -60,12 +60,12 @@ pub enum ChainFault {
     Indefinite = 2,
     /// The length has more than four octets.
     LengthTooWide = 3,
-    /// The header is whole, and its length isn't spelled in the shortest form.
+    /// The header is whole, and its length octets aren't the fewest (X.690 10.1).
     LengthNotShortest = 4,
     /// The header is whole, and header and content pass the limit, or would end past 2^64 - 1
     /// octets.
     TooLarge = 5,
-    /// The certificate is whole and isn't in the grammar.
+    /// The certificate is whole, and isn't the DER encoding of one.
     Malformed = 6,
     /// The stream ends inside a certificate.
     Truncated = 7,
@@ -102,11 +102,11 @@ pub enum FaultKind {
     Incomplete = 4,
     /// An indefinite length where DER rules.
     IndefiniteLength = 5,
-    /// A length that the type can't have, or that isn't spelled in its shortest form.
+    /// A length that the type can't have, or that isn't encoded in the fewest octets.
     Length = 6,
     /// More levels than may be open.
     NestingDepth = 7,
-    /// A value in a spelling that isn't the one that DER allows.
+    /// A value in another encoding than the one that DER allows.
     Noncanonical = 8,
     /// An object identifier that is none.
     OidMalformed = 9,

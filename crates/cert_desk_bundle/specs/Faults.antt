@@ -51,7 +51,7 @@ pub record IsFault (s : Shape) (limit offset : ℕ) (kind : FaultKind) (rest : L
   pub says : Says s limit offset kind rest
   pub first : NoneBefore s limit offset kind rest
 
--- the fault of a stream of values that goes on: of the first six kinds
+-- the fault behind the values with which a stream begins; `Truncated` where the stream ended there
 pub record SeriesFault (s : Shape) (limit : ℕ) (stream : List ℕ) (vs : List (Value s))
     (kind : FaultKind) : Type 0 where
   pub rest : List ℕ
@@ -63,6 +63,6 @@ pub record SeriesFault (s : Shape) (limit : ℕ) (stream : List ℕ) (vs : List 
 abbrev pub Split : ℕ → ℕ → List ℕ → List PlainCertificate → List ℕ → Type 0
 Split bound limit stream cs rest = SeriesSplit (raw_certificate bound) limit stream cs rest
 
--- the fault of a stream of certificates that goes on
+-- the fault behind the certificates with which a stream begins
 abbrev pub StreamFault : ℕ → ℕ → List ℕ → List PlainCertificate → FaultKind → Type 0
 StreamFault bound limit stream cs kind = SeriesFault (raw_certificate bound) limit stream cs kind

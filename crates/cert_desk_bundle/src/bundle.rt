@@ -20,7 +20,7 @@ use cert_desk_io::Input;
 use std::alloc::Global;
 use std::marker::Model;
 
-/// A stream of certificates (RFC 5280 4.1), joined with nothing between them, that comes in pieces.
+/// A stream: the concatenated encodings of certificates (RFC 5280 4.1), which comes in pieces.
 ///
 /// It is read as it comes, and what is read of it does not depend on how it was cut. Each
 /// certificate is kept with its own octets, and of the stream nothing else but the octets of one
@@ -123,8 +123,8 @@ impl Bundle {
     ///
     /// # Errors
     ///
-    /// `Fault` where the stream has a fault: no certificate can stand behind those that were read.
-    /// `OutOfMemory` where a growth was refused. With either the bundle has failed, the
+    /// `Fault` where the stream has a fault: no certificate can stand after those that were read.
+    /// `OutOfMemory` where an allocation failed. With either the bundle has failed, the
     /// certificates that were read stay, and no other octets are kept. `Failed` where it had ended
     /// or failed before, and then nothing changes.
     // Inlined, so that a piece of one octet that is kept costs no call.

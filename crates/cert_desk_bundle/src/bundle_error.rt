@@ -10,13 +10,13 @@ use thiserror::Error;
 #[derive(Clone, Copy, Debug, PartialEq, Eq, Error)]
 pub enum BundleError {
     /// The stream has a fault: `place` certificates stand before it, and it begins at `offset`.
-    #[error("{kind} at octet {offset}, behind {place} certificates")]
+    #[error("{kind} at octet {offset}, after {place} certificates")]
     Fault {
         place: usize,
         offset: u64,
         kind: FaultKind,
     },
-    /// A growth was refused. The bundle has failed.
+    /// Out of memory: an allocation failed. The bundle has failed.
     #[error("out of memory")]
     OutOfMemory,
     /// The bundle had failed or ended before.
@@ -27,7 +27,7 @@ pub enum BundleError {
 /// Why a stream wasn't read to its end.
 #[derive(Clone, Copy, Debug, PartialEq, Eq, Error)]
 pub enum ReadError {
-    /// The input failed. The bundle has failed.
+    /// An I/O error of the input. The bundle has failed.
     #[error("a device failed")]
     Device,
     /// The bundle refused the stream.

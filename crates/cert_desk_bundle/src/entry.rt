@@ -10,7 +10,7 @@ pub struct Entry<'a> {
     pub offset: u64,
     /// The octets.
     pub octets: &'a [u8],
-    /// The octets of its signed part, inside these.
+    /// The octets of its TBSCertificate, the signed part, inside these.
     pub signed: &'a [u8],
     /// The certificate.
     pub certificate: &'a CertificateInner<Raw>,

@@ -14,12 +14,12 @@ pub enum FaultKind {
     Indefinite,
     /// The length has more than four octets.
     LengthTooWide,
-    /// The header is whole, and its length isn't spelled in the shortest form.
+    /// The header is whole, and its length octets aren't the fewest (X.690 10.1).
     LengthNotShortest,
     /// The header is whole, and header and content pass the limit, or would end past 2^64 - 1
     /// octets.
     TooLarge,
-    /// The certificate is whole and isn't in the grammar.
+    /// The certificate is whole, and isn't the DER encoding of one.
     Malformed,
     /// The stream ends inside a certificate.
     Truncated,

@@ -1,5 +1,5 @@
 //! A stream of certificates, read in pieces: which certificates begin it, and the first fault
-//! behind them.
+//! after them.
 #![tactic(auto)]
 
 mod bundle;

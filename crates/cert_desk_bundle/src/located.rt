@@ -5,7 +5,7 @@ ghost use Rattle.cert_desk_bundle.specs.Locations.{IsPlacedAt, IsUnread};
 use crate::fault_kind::FaultKind;
 use crate::scan::sequence_len;
 use crate::standing::Standing;
-use der_core::ErrorKind;
+use der_core::making::is_want_of_memory;
 use std::alloc::Global;
 use x509_cert_certificates::CertificateInner;
 use x509_cert_parts::Raw;
@@ -31,7 +31,7 @@ impl Located {
         let certificate = match CertificateInner::<Raw>::from_der(alloc, octets.as_slice()) {
             Ok(certificate) => certificate,
             Err(error) => {
-                if let ErrorKind::OutOfMemory = error.kind {
+                if is_want_of_memory(&error) {
                     return Err(Standing::NoMemory);
                 }
                 return Err(Standing::Faulted(FaultKind::Malformed));

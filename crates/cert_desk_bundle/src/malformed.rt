@@ -3,7 +3,8 @@ ghost use Rattle.std.specs.Prelude.{◌≡◌, ◌≤◌, ℕ, List, Ok, Err, If
 ghost use Rattle.x509_cert_certificates.specs.Certificates.{PlainCertificate};
 ghost use Rattle.cert_desk_bundle.specs.FirstFaults.{first_certificate};
 
-use der_core::{Error, ErrorKind, FromDer};
+use der_core::making::is_want_of_memory;
+use der_core::{Error, FromDer};
 use std::alloc::{AllocError, Global};
 use x509_cert_certificates::CertificateInner;
 use x509_cert_parts::Raw;
@@ -27,7 +28,7 @@ fn placed_within(error: Error, len: usize) -> Error
 ///
 /// # Errors
 ///
-/// Where a growth was refused.
+/// Out of memory.
 pub fn first_fault(alloc: Global, octets: &[u8]) -> Result<Option<Error>, AllocError>
     ensures fault { IfOk result (λ told. IfSome told (λ e.
         first_certificate octets.now ≡ Err e.kind)) }
@@ -40,7 +41,7 @@ pub fn first_fault(alloc: Global, octets: &[u8]) -> Result<Option<Error>, AllocE
         Ok(_) => return Ok(None),
         Err(error) => error,
     };
-    if let ErrorKind::OutOfMemory = error.kind {
+    if is_want_of_memory(&error) {
         return Err(AllocError);
     }
     Ok(Some(placed_within(error, octets.len())))

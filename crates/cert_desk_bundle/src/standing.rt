@@ -11,8 +11,8 @@ pub enum Standing {
     Ended,
     /// The stream has a fault.
     Faulted(FaultKind),
-    /// There was no memory for the stream.
+    /// Out of memory for the stream.
     NoMemory,
-    /// The device that the stream came from failed.
+    /// An I/O error: the device that the stream came from failed.
     NoDevice,
 }

@@ -29,8 +29,8 @@ pub struct WdValidity {
     pub not_after: u64,
 }
 
-/// The text of the subject's name (RFC 4514): 0 where it stands in `out`, 2 where octets spell no
-/// certificate, 5 where the room is too small, 6 where there is no memory.
+/// The text of the subject's name (RFC 4514): 0 where it stands in `out`, 2 where the octets are no
+/// certificate, 5 where the buffer is too small, 6 out of memory.
 #[unsafe(no_mangle)]
 pub extern "C" fn wd_subject(alloc: Global, octets: &[u8], out: &mut [u8], size: &mut usize) -> u32
     ensures done { result ≡ code_of Done → IsSubjectText octets.now (take size.new out.new) }
@@ -82,8 +82,8 @@ fn tell_validity(certificate: &CertificateInner<Raw>, dates: &mut WdValidity)
     dates.not_after = validity.not_after.to_date_time().unix_seconds();
 }
 
-/// The dates of the validity: 0 where they are told, 2 where octets spell no certificate, 6 where
-/// there is no memory.
+/// The dates of the validity: 0 where they are told, 2 where the octets are no certificate, 6 out
+/// of memory.
 #[unsafe(no_mangle)]
 pub extern "C" fn wd_dates(alloc: Global, octets: &[u8], dates: &mut WdValidity) -> u32
     ensures done { result ≡ code_of Done → IsOfCertificate octets.now
@@ -99,8 +99,8 @@ pub extern "C" fn wd_dates(alloc: Global, octets: &[u8], dates: &mut WdValidity)
     code(ExitStatus::Done)
 }
 
-/// Where parts of a certificate stand in its octets: 0 where they are told, 2 where octets spell no
-/// certificate, 6 where there is no memory.
+/// Where parts of a certificate stand in its octets: 0 where they are told, 2 where the octets are
+/// no certificate, 6 out of memory.
 #[unsafe(no_mangle)]
 pub extern "C" fn wd_parts(alloc: Global, octets: &[u8], spans: &mut WdSpans) -> u32
     ensures done { result ≡ code_of Done

@@ -86,9 +86,9 @@ fn extension_of(
 }
 
 /// Where the content stands, in a certificate's octets, of its first extension of an identifier,
-/// whose content octets are given, and whether it is critical: 0 where that is told, 2 where octets
-/// spell no certificate, 3 where it has no such extension, 4 where the identifier is none of up to
-/// 39 octets, 6 where there is no memory.
+/// whose content octets are given, and whether it is critical: 0 where that is told, 2 where the
+/// octets are no certificate, 3 where it has no such extension, 4 where the identifier is none of
+/// up to 39 octets, 6 out of memory.
 #[unsafe(no_mangle)]
 pub extern "C" fn wd_extension(
     alloc: Global,

@@ -1,4 +1,4 @@
-//! Whether octets spell a value, and the first fault where they don't.
+//! Whether octets are the encoding of a value, and the first fault where they aren't.
 ghost use Rattle.std.specs.Prelude.{◌≡◌, ◌⊎◌, Err};
 ghost use Rattle.const_oid.specs.Bound.{Bound};
 ghost use Rattle.der_core_head.specs.declared.error.ErrorKind.{ErrorKind};
@@ -77,8 +77,8 @@ fn tell(error: Error, fault: &mut WdFault) -> u32
     code(ExitStatus::Faulty)
 }
 
-/// Whether octets spell a certificate (RFC 5280 4.1), all of them: 0 where they do, 2 where they
-/// don't, whose first fault is told then, 6 where there is no memory.
+/// Whether octets, all of them, are a certificate (RFC 5280 4.1): 0 where they are, 2 where they
+/// aren't, whose first fault is told then, 6 out of memory.
 #[unsafe(no_mangle)]
 pub extern "C" fn wd_is_certificate(alloc: Global, octets: &[u8], fault: &mut WdFault) -> u32
     ensures spelled { result ≡ code_of Done
@@ -97,7 +97,7 @@ pub extern "C" fn wd_is_certificate(alloc: Global, octets: &[u8], fault: &mut Wd
     code(ExitStatus::Done)
 }
 
-/// Whether octets spell a revocation list (RFC 5280 5.1), in the same way.
+/// Whether octets are a CRL (RFC 5280 5.1), in the same way.
 #[unsafe(no_mangle)]
 pub extern "C" fn wd_is_list(alloc: Global, octets: &[u8], fault: &mut WdFault) -> u32
     ensures spelled { result ≡ code_of Done
@@ -116,7 +116,7 @@ pub extern "C" fn wd_is_list(alloc: Global, octets: &[u8], fault: &mut WdFault) 
     code(ExitStatus::Done)
 }
 
-/// Whether octets spell a certification request (RFC 2986 4.2), in the same way.
+/// Whether octets are a CSR (RFC 2986 4.2), in the same way.
 #[unsafe(no_mangle)]
 pub extern "C" fn wd_is_request(alloc: Global, octets: &[u8], fault: &mut WdFault) -> u32
     ensures spelled { result ≡ code_of Done

@@ -24,8 +24,8 @@ fn text_of(alloc: Global, identifier: &ObjectIdentifier<39>) -> Result<String, A
 }
 
 /// The dotted text of an identifier, as `1.2.840.113549`, whose content octets (X.690 8.19) these
-/// are: 0 where it stands in `out`, 2 where they are none of up to 39 octets, 5 where the room is
-/// too small, 6 where there is no memory.
+/// are: 0 where it stands in `out`, 2 where they are none of up to 39 octets, 5 where the buffer is
+/// too small, 6 out of memory.
 #[unsafe(no_mangle)]
 pub extern "C" fn wd_identifier_text(
     alloc: Global,
@@ -66,8 +66,8 @@ fn identifier_of(text: &[u8]) -> Result<ObjectIdentifier<39>, ExitStatus>
     }
 }
 
-/// The content octets of the identifier that a dotted text spells: 0 where they stand in `out`, 2
-/// where the text spells none of up to 39 octets, 5 where the room is too small.
+/// The content octets of the identifier that a dotted text names: 0 where they stand in `out`, 2
+/// where the text is none of up to 39 octets, 5 where the buffer is too small.
 #[unsafe(no_mangle)]
 pub extern "C" fn wd_identifier_of_text(text: &[u8], out: &mut [u8], size: &mut usize) -> u32
     ensures done { result ≡ code_of Done → IsIdentifierOf text.now (take size.new out.new) }

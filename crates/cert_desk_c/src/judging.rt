@@ -120,11 +120,11 @@ fn verdict_of(
     }
 }
 
-/// The verdict on a chain of certificates under the anchors of a file, at a moment (seconds since
-/// 1970-01-01T00:00:00Z), for a purpose (the content octets of its identifier), where each
-/// certificate has `limit` octets at most, and a signature is right exactly where the answers list
-/// it: 0 trusted, 1 refused, 2 faulty, 3 empty, 4 where the anchors, the answers, the purpose or
-/// the limit are faulty, 6 where there is no memory. With 1 and 2 `told` says where, and which rule
+/// The verdict on a chain of certificates under the anchors of a file, at a validation time in
+/// seconds since 1970-01-01T00:00:00Z, for a key purpose (the content octets of its identifier),
+/// where each certificate has `limit` octets at most, and a signature is right exactly where the
+/// answers list it: 0 trusted, 1 refused, 2 faulty, 3 empty, 4 where the anchors, the answers, the
+/// purpose or the limit are faulty, 6 out of memory. With 1 and 2 `told` says where, and which rule
 /// or fault.
 #[unsafe(no_mangle)]
 pub extern "C" fn wd_verify(

@@ -60,7 +60,7 @@ fn request_listing(alloc: Global, request: &CertReq) -> Result<Vec<u8>, AllocErr
 }
 
 /// The listing of a certificate, as `cert_desk show certificate` writes it: 0 where it stands in
-/// `out`, 2 where octets spell no certificate, 5 where the room is too small, 6 where there is no
+/// `out`, 2 where the octets are no certificate, 5 where the buffer is too small, 6 out of
 /// memory.
 #[unsafe(no_mangle)]
 pub extern "C" fn wd_show_certificate(
@@ -87,7 +87,7 @@ pub extern "C" fn wd_show_certificate(
     give(text.as_slice(), out, size)
 }
 
-/// The listing of a revocation list, as `cert_desk show list` writes it, with the statuses of
+/// The listing of a CRL, as `cert_desk show list` writes it, with the statuses of
 /// `wd_show_certificate`.
 #[unsafe(no_mangle)]
 pub extern "C" fn wd_show_list(
@@ -114,8 +114,8 @@ pub extern "C" fn wd_show_list(
     give(text.as_slice(), out, size)
 }
 
-/// The listing of a certification request, as `cert_desk show request` writes it, with the statuses
-/// of `wd_show_certificate`.
+/// The listing of a CSR, as `cert_desk show request` writes it, with the statuses of
+/// `wd_show_certificate`.
 #[unsafe(no_mangle)]
 pub extern "C" fn wd_show_request(
     alloc: Global,

@@ -22,8 +22,8 @@ pub(crate) fn text_of(alloc: Global, name: &Name) -> Result<String, AllocError>
     format!(in alloc; "{name}")
 }
 
-/// The text of a name (RFC 4514): 0 where it stands in `out`, 2 where octets spell no name, 5 where
-/// the room is too small, 6 where there is no memory.
+/// The text of a name (RFC 4514): 0 where it stands in `out`, 2 where the octets are no name, 5
+/// where the buffer is too small, 6 out of memory.
 #[unsafe(no_mangle)]
 pub extern "C" fn wd_name_text(
     alloc: Global,
@@ -67,8 +67,8 @@ fn encoding_of(alloc: Global, text: &[u8]) -> Result<Vec<u8>, ExitStatus>
     }
 }
 
-/// The encoding of the name that a text spells (RFC 4514), in UTF-8: 0 where it stands in `out`, 2
-/// where the text spells none, 5 where the room is too small, 6 where there is no memory.
+/// The encoding of the name that a text says (RFC 4514), in UTF-8: 0 where it stands in `out`, 2
+/// where the text says none, 5 where the buffer is too small, 6 out of memory.
 #[unsafe(no_mangle)]
 pub extern "C" fn wd_name_of_text(
     alloc: Global,

@@ -52,7 +52,7 @@ fn lengths(octets: &[u8]) -> (usize, usize)
     }
 }
 
-/// What stands behind the header at the front.
+/// What stands after the header at the front.
 pub(crate) fn inside(octets: &[u8]) -> &[u8]
     ensures { Enters octets.now result.now }
 {
@@ -60,7 +60,7 @@ pub(crate) fn inside(octets: &[u8]) -> &[u8]
     &octets[header..]
 }
 
-/// What stands behind the value at the front.
+/// What stands after the value at the front.
 pub(crate) fn behind(octets: &[u8]) -> &[u8]
     ensures { Passes octets.now result.now }
 {
@@ -72,7 +72,7 @@ pub(crate) fn behind(octets: &[u8]) -> &[u8]
     &octets[all..]
 }
 
-/// What stands behind a value at the front, where one is there.
+/// What stands after a value at the front, where one is there.
 pub(crate) fn behind_where(octets: &[u8], is_there: bool) -> &[u8]
     ensures rest { IsRest octets.now result.now }
     ensures there { is_there ≡ true → Passes octets.now result.now }
@@ -98,7 +98,7 @@ fn behind_version(octets: &[u8]) -> &[u8]
     octets
 }
 
-/// Where the octets stand with which a rest of others begins, up to another rest.
+/// Where the octets stand between a remainder of others and a later remainder.
 pub(crate) fn part(octets: &[u8], from: &[u8], to: &[u8]) -> WdSpan
     ensures { (before these : List ℕ) → octets.now ≡ before ++ from.now
         → from.now ≡ these ++ to.now → StandsAt octets.now result these }
@@ -109,7 +109,7 @@ pub(crate) fn part(octets: &[u8], from: &[u8], to: &[u8]) -> WdSpan
     }
 }
 
-/// Where the parts of the certificate stand that octets spell, and what stands behind the last of
+/// Where the parts of a certificate stand in its octets, and what stands after the last of
 /// them, its public key.
 pub(crate) fn parts_in(octets: &[u8]) -> (WdSpans, &[u8])
     ensures parts { (c : PlainCertificate) → Spells (raw_certificate Bound) c octets.now

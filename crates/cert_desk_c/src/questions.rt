@@ -68,7 +68,7 @@ fn questions_of(
 /// What the signatures of a chain may ask under the anchors of a file, a line each, as `cert_tool
 /// questions` writes them: 0 where the lines stand in `out`, 2 where the chain's octets aren't
 /// certificates of at most `limit` octets each, 3 where there are none, 4 where the anchors or the
-/// limit are faulty, 5 where the room is too small, 6 where there is no memory.
+/// limit are faulty, 5 where the buffer is too small, 6 out of memory.
 #[unsafe(no_mangle)]
 pub extern "C" fn wd_questions(
     alloc: Global,

@@ -1,4 +1,4 @@
-//! What octets spell.
+//! What octets are the encoding of.
 ghost use Rattle.std.specs.Prelude.{◌≢◌, [], IfOk, IfErr};
 ghost use Rattle.const_oid.specs.Bound.{Bound};
 ghost use Rattle.der_core_head.specs.declared.error.ErrorKind.TheVariants.{OutOfMemory};
@@ -23,7 +23,7 @@ use x509_cert_lists::{CertReq, CertificateList};
 use x509_cert_names::Name;
 use x509_cert_parts::Raw;
 
-/// The certificate that octets spell, or the status.
+/// The certificate that octets encode, or the status.
 pub(crate) fn certificate_of(
     alloc: Global,
     octets: &[u8],
@@ -43,7 +43,7 @@ pub(crate) fn certificate_of(
     }
 }
 
-/// Reads a revocation list, all of the octets.
+/// Reads a CRL, all of the octets.
 pub(crate) fn read_list(alloc: Global, octets: &[u8]) -> Result<CertificateList<Raw>, Error>
     ensures spelled { IfOk result
         (λ l. Spells (raw_certificate_list Bound) (certificate_list_plain l) octets.now) }
@@ -54,7 +54,7 @@ pub(crate) fn read_list(alloc: Global, octets: &[u8]) -> Result<CertificateList<
     CertificateList::<Raw>::from_der(alloc, octets)
 }
 
-/// The revocation list that octets spell, or the status.
+/// The CRL that octets encode, or the status.
 pub(crate) fn list_of(alloc: Global, octets: &[u8]) -> Result<CertificateList<Raw>, ExitStatus>
     ensures spelled { IfOk result
         (λ l. Spells (raw_certificate_list Bound) (certificate_list_plain l) octets.now) }
@@ -71,7 +71,7 @@ pub(crate) fn list_of(alloc: Global, octets: &[u8]) -> Result<CertificateList<Ra
     }
 }
 
-/// The certification request that octets spell, or the status.
+/// The CSR that octets encode, or the status.
 pub(crate) fn request_of(alloc: Global, octets: &[u8]) -> Result<CertReq, ExitStatus>
     ensures spelled { IfOk result (λ r. Spells (cert_req Bound) (cert_req_plain r) octets.now) }
     ensures refused { IfErr result (IsLack (IsNoRequest octets.now)) }
@@ -87,7 +87,7 @@ pub(crate) fn request_of(alloc: Global, octets: &[u8]) -> Result<CertReq, ExitSt
     }
 }
 
-/// The name that octets spell, or the status.
+/// The name that octets encode, or the status.
 pub(crate) fn name_of(alloc: Global, octets: &[u8]) -> Result<Name, ExitStatus>
     ensures spelled { IfOk result (λ n. Spells (name Bound) (name_plain n) octets.now) }
     ensures refused { IfErr result (IsLack (IsNoName octets.now)) }

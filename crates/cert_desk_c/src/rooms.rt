@@ -1,4 +1,4 @@
-//! Texts in lent room.
+//! Texts in the caller's buffers.
 ghost use Rattle.std.specs.Prelude.{◌≡◌, ◌<◌, ◌⊎◌, length, take};
 ghost use Rattle.cert_desk_io.specs.declared.exit_status.ExitStatus.TheVariants.{Done, Device};
 ghost use Rattle.cert_desk_io.specs.Statuses.{code_of};
@@ -12,8 +12,8 @@ pub(crate) fn code(status: ExitStatus) -> u32
     u32::from(status.code())
 }
 
-/// Writes octets to the front of a room, and their number; or only the number, where they are more
-/// than there is room for.
+/// Writes octets to the front of a buffer, and their number; or only the number, where they are
+/// more than its capacity.
 pub(crate) fn give(octets: &[u8], out: &mut [u8], size: &mut usize) -> u32
     ensures number { size.new ≡ length octets.now }
     ensures status { (result ≡ code_of Done) ⊎ (result ≡ code_of Device) }

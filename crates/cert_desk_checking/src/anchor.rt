@@ -11,7 +11,7 @@ use x509_cert_anchors::{CertPathControls, TrustAnchorChoice};
 use x509_cert_names::Name;
 use x509_cert_parts::{Raw, SubjectPublicKeyInfo};
 
-/// A name and a key that are trusted without a certificate.
+/// A trust anchor as chains need it: a name and a key that are trusted without a certificate.
 #[derive(Debug, Drop)]
 pub struct Anchor {
     name: Name,
@@ -29,7 +29,7 @@ impl Anchor {
     }
 
     /// The anchor that a trust anchor gives (RFC 5914 2): the subject and the key of a certificate,
-    /// or of a signed part alone, or a key with its name. What else stands there isn't looked at.
+    /// or of a TBSCertificate alone, or a key with its name. Nothing else of it is looked at.
     ///
     /// # Errors
     ///

@@ -14,7 +14,7 @@ pub enum AnchorError {
     /// A path from it must meet more than its name.
     #[error("a path from the trust anchor must meet more than its name")]
     PathControls,
-    /// There was no memory for the copies.
+    /// Out of memory for the copies.
     #[error("out of memory")]
     OutOfMemory,
 }

@@ -11,7 +11,8 @@ use crate::anchor::Anchor;
 use crate::anchor_error::AnchorError;
 use crate::anchor_fault::AnchorFault;
 use crate::outcome::Outcome;
-use der_core::{ErrorKind, FromDer};
+use der_core::FromDer;
+use der_core::making::is_want_of_memory;
 use std::alloc::Global;
 use x509_cert_anchors::TrustAnchorChoice;
 use x509_cert_parts::Raw;
@@ -40,7 +41,7 @@ fn choice_at(
     match TrustAnchorChoice::<Raw>::from_der_partial(alloc, &octets[start..]) {
         Ok((choice, behind)) => Ok((choice, octets.len() - behind.len())),
         Err(error) => {
-            if let ErrorKind::OutOfMemory = error.kind {
+            if is_want_of_memory(&error) {
                 return Err(Outcome::OutOfMemory);
             }
             Err(faulty(start, AnchorFault::Malformed))

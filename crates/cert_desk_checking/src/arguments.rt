@@ -14,13 +14,13 @@ const LEAST_LIMIT: u64 = 6;
 /// The arguments of `check`.
 #[derive(Clone, Copy)]
 pub struct Arguments<'a> {
-    /// The file of the anchors: joined trust anchors.
+    /// The file of the anchors: concatenated trust anchors (RFC 5914).
     pub anchors: &'a str,
     /// The file of the stream.
     pub stream: &'a str,
-    /// Seconds since 1970-01-01T00:00:00Z.
+    /// The validation time: seconds since 1970-01-01T00:00:00Z.
     pub moment: u64,
-    /// What the chain is wanted for, as dotted arcs.
+    /// The key purpose that the chain is wanted for, as dotted arcs.
     pub purpose: ObjectIdentifier<39>,
     /// The greatest number of octets of a certificate of the stream.
     pub limit: u32,
@@ -29,8 +29,8 @@ pub struct Arguments<'a> {
 impl<'a> Arguments<'a> {
     /// The arguments in these words, of which the first is the program's name.
     ///
-    /// The moment and the limit are one or more decimal digits, the moment below 2^64, the limit
-    /// from 6 to 2^32 - 1. Leading zeros are read, and no sign.
+    /// The validation time and the limit are one or more decimal digits, the time below 2^64, the
+    /// limit from 6 to 2^32 - 1. Leading zeros are read, and no sign.
     pub fn parse(words: &'a [String]) -> Option<Arguments<'a>>
         ensures read { IfSome result
             (λ a. AskCheck (map string_bytes words.now) a.anchors.now a.stream.now

@@ -1,4 +1,4 @@
-//! Streams are judged.
+//! Streams are judged: certification path validation (RFC 5280 6.1, in part).
 ghost use Rattle.std.specs.Prelude.{◌≡◌, ◌≢◌, ℕ, ◌+◌, ◌<◌, ◌↔◌, ◌⊎◌, List, length, map};
 ghost use Rattle.std.specs.Prelude.{IfOk, OnErr, nat_le, not, true, ◌&&◌};
 ghost use Rattle.std.specs.List.{list_any};
@@ -42,18 +42,27 @@ use x509_cert_parts::{Raw, SubjectPublicKeyInfo};
 
 /// The verdict on the stream that a bundle has read, and how often the judge was asked for it.
 ///
-/// The stream is trusted where it joins one certificate or more, and each keeps every rule under
-/// these anchors, at this moment (seconds since 1970-01-01T00:00:00Z), for this purpose. Else the
-/// verdict names the fault of the stream, that there is no certificate, or the first certificate
-/// that breaks a rule, with its first one. The judge is handed the stream's own octets, and is
-/// asked only where all rules before the signature are kept.
+/// The stream is trusted where it is the concatenation of certificates, one or more, and each keeps
+/// every rule under these anchors, at this validation time (seconds since 1970), for this key
+/// purpose. Else the verdict names the fault of the stream, that there is no certificate, or the
+/// first certificate that breaks a rule, with its first one. The judge is handed the stream's own
+/// octets, and is asked only where all rules before the signature are kept.
+///
+/// As in `tools/guide/judge.rt.txt`:
+///
+/// ```rust
+/// let bundle = read(alloc, stream);
+/// let purpose = ObjectIdentifier::<39>::new("1.3.6.1.5.5.7.3.1")?;
+/// let mut judge = KeyJudge { questions: 0 };
+/// match check(alloc, &bundle, &anchors, 1009886460, &purpose, &mut judge) {
+/// ```
 ///
 /// # Errors
 ///
-/// `Device` where a device had failed the bundle; `OutOfMemory` where a lack of memory had, or
-/// where a certificate's extensions found none, which may take it: then the judge was asked about
-/// the certificates before, which keep every rule. Of a stream that isn't whole the judge isn't
-/// asked.
+/// `Device` where an I/O error had failed the bundle; `OutOfMemory` where an allocation failure
+/// had, or where the reading of a certificate's extensions, which may allocate, was out of memory:
+/// then the judge was asked about the certificates before, which keep every rule. Of a stream that
+/// isn't whole the judge isn't asked.
 pub fn check<J: SignatureJudge>(
     alloc: Global,
     bundle: &Bundle,

@@ -14,7 +14,7 @@ use const_oid::ObjectIdentifier;
 use std::alloc::{AllocError, Global};
 
 /// Which rules each certificate of a bundle keeps, in their order, under these anchors, at this
-/// moment (seconds since 1970-01-01T00:00:00Z), for this purpose.
+/// validation time (seconds since 1970-01-01T00:00:00Z), for this key purpose.
 ///
 /// Where [`check`](crate::check) stops at the first certificate that breaks a rule, this goes on:
 /// so the judge may be asked more. It is asked about each certificate but the first under the key
@@ -22,8 +22,8 @@ use std::alloc::{AllocError, Global};
 ///
 /// # Errors
 ///
-/// Where a growth was refused: what is said of a certificate takes a few octets, and its extensions
-/// may take memory.
+/// Out of memory: what is said of a certificate takes a few octets, and its extensions may take
+/// memory.
 pub fn judge_each<J: SignatureJudge>(
     alloc: Global,
     bundle: &Bundle,

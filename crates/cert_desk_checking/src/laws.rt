@@ -11,8 +11,8 @@ ghost use Rattle.cert_desk_checking.specs.WiderBounds.{WiderKeepsChains, NewChai
 ghost use Rattle.cert_desk_checking.specs.WiderBounds.{WiderKeepsTrust, WiderKeepsVerdicts};
 ghost use Rattle.cert_desk_checking.specs.WiderBounds.{WiderKeepsFaults};
 
-/// No stream joins two lists of values of a shape whose values are told apart: each has a header,
-/// and first tags are kept apart.
+/// No stream is the concatenation of two lists of values of a type that is unambiguous: each has
+/// a header, and first tags are kept apart.
 ///
 /// Certificates are such values, and trust anchors.
 pub fn one_series()
@@ -24,12 +24,12 @@ pub fn one_series_fault()
     ensures { HasOneSeriesFault }
 {}
 
-/// No stream joins two lists of certificates.
+/// No stream is the concatenation of two lists of certificates.
 pub fn one_chain()
     ensures { HasOneChain }
 {}
 
-/// A stream with a fault joins no list of certificates.
+/// A stream with a fault is the concatenation of no list of certificates.
 pub fn no_chain_with_a_fault()
     ensures { FaultHasNoChain }
 {}
@@ -79,7 +79,7 @@ pub fn questions_are_listed()
     ensures judged { IsJudgedByLines }
 {}
 
-/// The judge is asked at most once for each certificate behind the first, and for each anchor of
+/// The judge is asked at most once for each certificate after the first, and for each anchor of
 /// the name of the first one's issuer.
 pub fn few_questions()
     ensures { HasFewQuestions }
@@ -97,18 +97,18 @@ pub fn nothing_is_outside()
     ensures { HasNothingOutside }
 {}
 
-/// Equal certificates, date spellings counted, are joined by one stream.
+/// Equal certificates, with equal forms of dates, have one concatenation.
 pub fn one_stream()
     ensures { HasOneStream }
 {}
 
-/// Each nonempty front of a trusted chain is trusted.
+/// Each nonempty prefix of a trusted chain is trusted.
 pub fn fronts_are_trusted()
     ensures { HasTrustedFronts }
 {}
 
-/// Each nonempty rest of a trusted chain is trusted, where the certificate before it is the only
-/// anchor.
+/// Each nonempty remainder of a trusted chain is trusted, where the certificate before it is the
+/// only anchor.
 pub fn rests_are_trusted()
     ensures { HasTrustedRests }
 {}

@@ -1,5 +1,5 @@
-//! Trust anchors, the judgement of a chain under them, what its signatures ask, and runs over
-//! inputs and outputs.
+//! Trust anchors, the validation of a certification path under them, what its signatures ask, and
+//! runs over inputs and outputs.
 #![tactic(auto)]
 
 mod anchor;

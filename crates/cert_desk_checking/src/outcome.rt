@@ -15,8 +15,8 @@ pub enum Outcome {
         /// What is wrong with it.
         fault: AnchorFault,
     },
-    /// An input failed.
+    /// An I/O error of an input.
     Device,
-    /// There was no memory.
+    /// Out of memory.
     OutOfMemory,
 }

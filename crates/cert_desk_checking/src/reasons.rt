@@ -28,7 +28,7 @@ use x509_cert_parts::Extension;
 ///
 /// # Errors
 ///
-/// Where a growth was refused: the extensions up to the place may take memory.
+/// Out of memory: the extensions up to the place may take memory.
 pub fn reason_of(
     alloc: Global,
     bundle: &Bundle,

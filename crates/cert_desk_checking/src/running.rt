@@ -22,8 +22,8 @@ use cert_desk_rules::{CheckError, Checked, SignatureJudge, Verdict};
 use const_oid::ObjectIdentifier;
 use std::alloc::Global;
 
-/// A bundle that was fed what an input gives, to its end, to a fault, or to where memory was
-/// wanting or a read failed.
+/// A bundle that was fed what an input gives, to its end, to a fault, or to where an allocation
+/// or a read failed.
 pub fn read_stream<I: Input>(alloc: Global, limit: u32, input: &mut I) -> Bundle
     requires { 6 ≤ limit }
     ensures limit { result.limit ≡ limit }
@@ -134,7 +134,7 @@ fn tell<O: Output, E: Output>(
 /// Judges the stream of one input under the anchors of another, tells the verdict in one line, and
 /// answers the exit status.
 ///
-/// The anchors are trust anchors (RFC 5914 2), one behind the other, of 2^32 - 1 octets at most,
+/// The anchors are trust anchors (RFC 5914 2), one after the other, of 2^32 - 1 octets at most,
 /// and each gives a name and a key as `Anchor::from_choice` says. They are read first, to their
 /// end, and the first faulty one is told. `limit` bounds the octets of each certificate of the
 /// stream, and of none of the anchors.

@@ -4,7 +4,7 @@ ghost use Rattle.std.specs.Prelude.{Some, codes};
 use std::error::Error;
 use std::fmt;
 
-/// A device failed: a reader or a writer answered an error, or a writer took nothing.
+/// An I/O error: a reader or a writer answered an error, or a writer took nothing.
 #[derive(Clone, Copy, Debug, PartialEq, Eq)]
 pub struct DeviceError;
 

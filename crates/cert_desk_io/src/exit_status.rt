@@ -18,9 +18,9 @@ pub enum ExitStatus {
     Empty = 3,
     /// An argument, an anchor or a line of an orders file is faulty.
     Arguments = 4,
-    /// An input or an output failed.
+    /// An I/O error: an input or an output failed.
     Device = 5,
-    /// There was no memory.
+    /// Out of memory.
     Memory = 6,
 }
 

@@ -22,7 +22,7 @@ pub trait Input {
     ///
     /// # Errors
     ///
-    /// `DeviceError` where the device failed. Nothing was taken, and a later call may go on.
+    /// `DeviceError`, an I/O error. Nothing was taken, and a later call may go on.
     fn read(&mut self, buffer: &mut [u8]) -> Result<usize, DeviceError>
         requires room { 0 < length buffer.old }
         ensures bound { IfOk result (λ count. count ≤ length buffer.new) }

@@ -11,7 +11,7 @@ use super::{DeviceError, Output};
 /// An output into lent memory, in pieces of given sizes, of which one write fails. It serves
 /// tests.
 ///
-/// Want of room is a failure of the device.
+/// A write beyond the capacity fails, as an I/O error.
 #[derive(Drop)]
 pub struct MemoryOutput<'a> {
     room: &'a mut [u8],

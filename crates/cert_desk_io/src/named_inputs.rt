@@ -6,7 +6,7 @@ ghost use Rattle.std.specs.Prelude.{ℕ, List, IfOk};
 pub enum OpenError {
     /// There is none of this name, or it may not be read.
     Device,
-    /// There was no memory.
+    /// Out of memory.
     OutOfMemory,
 }
 

@@ -17,7 +17,7 @@ pub trait Output {
     ///
     /// # Errors
     ///
-    /// `DeviceError` where the device failed. Nothing went out, and a later call may go on.
+    /// `DeviceError`, an I/O error. Nothing went out, and a later call may go on.
     fn write(&mut self, octets: &[u8]) -> Result<usize, DeviceError>
         requires some { 0 < length octets.now }
         ensures moves { IfOk result (λ count. 0 < count) }
@@ -55,7 +55,7 @@ impl<O: Output> Output for &mut O {
 ///
 /// # Errors
 ///
-/// `DeviceError` where a write failed. No write is tried again: a beginning of the text went out.
+/// `DeviceError` where a write failed. No write is tried again: a prefix of the text went out.
 pub fn write_all<O: Output>(output: &mut O, text: &[u8]) -> Result<(), DeviceError>
     ensures written { OnOk result
         (IsWritten (sink O.gives O.failures output.old output.new) text.now) }

@@ -12,7 +12,7 @@ pub enum ReadAllError {
     TooMuch,
     /// A read failed.
     Device,
-    /// There was no memory for its octets.
+    /// Out of memory for its octets.
     OutOfMemory,
 }
 

@@ -6,7 +6,7 @@ ghost use Rattle.cert_desk_io.specs.NamedInputs.{IsUnopenedTold};
 
 use super::{ExitStatus, OpenError, Output, write_all};
 
-/// Tells that a device failed: the line `device` is tried once.
+/// Tells of an I/O error: the line `device` is tried once.
 pub fn tell_device<E: Output>(err: &mut E) -> ExitStatus
     ensures told { IsDeviceTold (sink E.gives E.failures err.old err.new) result }
 {
@@ -42,7 +42,7 @@ pub fn answer<O: Output, E: Output>(
     tell_device(err)
 }
 
-/// Tells that there was no memory: the line `memory`.
+/// Tells that a call is out of memory: the line `memory`.
 pub fn tell_memory<E: Output>(err: &mut E) -> ExitStatus
     ensures told { IsMemoryTold (sink E.gives E.failures err.old err.new) result }
 {

@@ -23,14 +23,14 @@ use crate::accepted::Accepted;
 use crate::fault::Fault;
 use crate::role::Role;
 use cert_desk_orders::Order;
-use der_core::{ErrorKind, InRange};
+use der_core::{InRange, making};
 use std::alloc::Global;
 use std::str::FromStr;
 use x509_cert_builders::{Error, all_stay, ca_certificate_naming};
 use x509_cert_names::Name;
 use x509_cert_parts::{SerialNumber, SubjectPublicKeyInfo, Time, Validity};
 
-/// The name that the text of an order spells.
+/// The name that the text of an order says.
 fn name_of(alloc: Global, order: &Order) -> Result<Name, Fault>
     ensures spelled { IfOk result
         (λ n. SpellsName Bound (string_bytes order.now.name) (name_plain n)) }
@@ -40,7 +40,7 @@ fn name_of(alloc: Global, order: &Order) -> Result<Name, Fault>
     match Name::from_str(alloc, order.name.as_str()) {
         Ok(name) => Ok(name),
         Err(error) => {
-            if let ErrorKind::OutOfMemory = error.kind {
+            if making::is_want_of_memory(&error) {
                 return Err(Fault::OutOfMemory);
             }
             Err(Fault::Name)
@@ -48,22 +48,17 @@ fn name_of(alloc: Global, order: &Order) -> Result<Name, Fault>
     }
 }
 
-/// Whether an error says that memory ran out.
+/// Whether an error says out of memory.
 fn is_want_of_memory(error: &Error) -> bool
     ensures { IsTrue result ↔ IsWantOfMemory error.now }
 {
     match error {
-        Error::Asn1(error) => {
-            if let ErrorKind::OutOfMemory = error.kind {
-                return true;
-            }
-            false
-        }
+        Error::Asn1(error) => making::is_want_of_memory(error),
         _ => false,
     }
 }
 
-/// Whether a name is one of a subscriber.
+/// Whether a name is one of a subscriber, an end entity.
 fn names_subscriber(subject: &Name) -> bool
     ensures { result ≡ names_subscriber (name_plain subject.now) }
 {
@@ -127,7 +122,7 @@ fn serial_of(alloc: Global, order: &Order) -> Result<SerialNumber, Fault>
     match SerialNumber::new(alloc, order.serial.as_slice()) {
         Ok(serial) => Ok(serial),
         Err(error) => {
-            if let ErrorKind::OutOfMemory = error.kind {
+            if making::is_want_of_memory(&error) {
                 return Err(Fault::OutOfMemory);
             }
             Err(Fault::Serial)
@@ -135,14 +130,14 @@ fn serial_of(alloc: Global, order: &Order) -> Result<SerialNumber, Fault>
     }
 }
 
-/// A date is one of the calendar, to 2049 in its short spelling.
+/// A date is one of the calendar, to 2049 as a UTCTime.
 fn time_in_range(spelled: &Time)
     ensures { IsInRange time (time_value spelled.now) }
 {
     spelled.in_range();
 }
 
-/// The date that a text spells.
+/// The date that a text says.
 fn date_of(text: &str) -> Option<Time>
     ensures date { IfSome result (λ t. IsTextOf text.now (time_date t)) }
     ensures spelled { IfSome result (λ t. time_value t ≡ time_of (time_date t)) }

@@ -28,9 +28,10 @@ use x509_cert_certificates::Certificate;
 impl Issued {
     /// The verdict of `check` on the stream, with the first certificate as the only anchor.
     ///
-    /// Whatever orders the stream holds, it is trusted exactly where the moment lies within all
-    /// dates, each order allows the purpose, the path lengths are enough, each certificate is
-    /// within the limit, and the judge says yes to each signature under the ordered key.
+    /// Whatever orders the stream holds, it is trusted exactly where the validation time lies
+    /// within all dates, each order allows the key purpose, the path lengths are enough, each
+    /// certificate is within the limit, and the judge says yes to each signature under the ordered
+    /// key.
     ///
     /// # Errors
     /// Out of memory. The judge wasn't asked, or was about the certificates before some place,

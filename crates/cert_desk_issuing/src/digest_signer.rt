@@ -1,4 +1,4 @@
-//! A signer of digests, which stands where an algorithm would.
+//! A signer of digests, a stand-in where an algorithm would be.
 ghost use Rattle.std.specs.Prelude.{◌≡◌, ◌↔◌, ℕ, List};
 ghost use Rattle.der_core_head.specs.BitStrings.{Bits};
 ghost use Rattle.x509_cert_parts.specs.Views.{algorithm_plain, key_plain};

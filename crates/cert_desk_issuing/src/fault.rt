@@ -11,7 +11,7 @@ use x509_cert_builders::Error;
 pub(crate) enum Fault {
     /// The text of the name isn't read.
     Name,
-    /// The name isn't one of an authority.
+    /// The name isn't one of a CA.
     RootName(Error),
     /// The name has an attribute that is no country and no common name.
     SubscriberName,

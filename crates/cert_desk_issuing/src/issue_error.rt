@@ -16,7 +16,7 @@ pub enum IssueError {
     /// The text of the name isn't read.
     #[error("order {place}: the name isn't read")]
     Name { place: usize },
-    /// The name isn't one of an authority.
+    /// The name isn't one of a CA.
     #[error("order {place}: {error}")]
     RootName { place: usize, error: builder::Error },
     /// The name has an attribute that is no country and no common name.
@@ -34,7 +34,7 @@ pub enum IssueError {
     /// The signer's key isn't that of the order.
     #[error("order {place}: the signer has another key")]
     KeyMismatch { place: usize },
-    /// The signer refuses the signed part.
+    /// The signer refuses the TBSCertificate.
     #[error("order {place}: the signer refuses")]
     Signer { place: usize },
     /// A length passes 2^32 - 1.

@@ -11,8 +11,8 @@ ghost use Rattle.x509_cert_builders.specs.States.{as_written};
 use std::marker::Model;
 use x509_cert_certificates::Certificate;
 
-/// A chain that was issued: its certificates, the root first, and the stream that joins their
-/// encodings.
+/// A chain that was issued: its certificates, the root first, and the stream that concatenates
+/// their encodings.
 ///
 /// Contracts see both. The certificates are seen as they are written.
 #[derive(Drop)]
@@ -40,7 +40,7 @@ impl Issued {
         self.certificates.as_slice()
     }
 
-    /// The encodings of the certificates, joined.
+    /// The concatenation of the certificates' encodings.
     pub fn stream(&self) -> &[u8]
         ensures octets { result.now ≡ self.now.stream }
         ensures chain { Chain Bound length_max self.now.certificates self.now.stream }

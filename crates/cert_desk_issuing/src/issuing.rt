@@ -25,9 +25,9 @@ use std::alloc::Global;
 use x509_cert_builders::Signer;
 use x509_cert_parts::SubjectPublicKeyInfo;
 
-/// The chain that these orders ask for: the first is for its root, the last of two or more for a
-/// subscriber, those between for authorities, each below the one before. The first signer signs the
-/// first two certificates, each other one the certificate below its own.
+/// The chain that these orders ask for: the first is for its root, the last of two or more for an
+/// end entity, those between for CAs, each below the one before. The first signer signs the first
+/// two certificates, each other one the certificate below its own.
 ///
 /// # Errors
 /// The first of these: `NoOrders`, `SignerCount`; for each order in turn `Name`, `RootName`,

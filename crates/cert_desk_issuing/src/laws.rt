@@ -6,15 +6,15 @@ ghost use Rattle.cert_desk_issuing.specs.Laws.{IssuedIsTrusted, SignedIsSliced, 
 use x509_cert_builders::Signer;
 
 /// Of orders that are accepted, of which no signer may refuse a part, and whose lengths fit, none
-/// of the reasons to refuse them holds: only memory can be wanting.
+/// of the reasons to refuse them holds: a call can only be out of memory.
 #[tactic(auto, using(crate::proofs::OnlyMemory::issuable_is_issued))]
 pub fn issuable_is_issued<S: Signer>()
     ensures { IssuableIsIssued S.public_key S.signs_by S.signs S.may_refuse }
 {}
 
-/// A chain that holds orders is trusted under its own root, at each moment within all dates, for
-/// each purpose that the orders allow, where their path lengths are enough, each certificate is
-/// within the limit, and the judge says yes to each signature under the ordered key.
+/// A chain that holds orders is trusted under its own root, at each validation time within all
+/// dates, for each key purpose that the orders allow, where their path lengths are enough, each
+/// certificate is within the limit, and the judge says yes to each signature under the ordered key.
 #[tactic(auto, using(crate::proofs::Trusting::held_is_trusted))]
 pub fn held_is_trusted()
     ensures { HeldIsTrusted }
@@ -25,8 +25,8 @@ pub fn trusted_is_permitted()
     ensures { TrustedIsPermitted }
 {}
 
-/// No other rule is broken in it: where it is refused, the moment, the purpose, a path length or
-/// the answer is the reason, at the place that is told.
+/// No other rule is broken in it: where it is refused, the validation time, the key purpose, a
+/// path length or the answer is the reason, at the place that is told.
 pub fn held_is_refused_for()
     ensures { HeldIsRefusedFor }
 {}

@@ -1,4 +1,4 @@
-//! Orders become a chain of certificates that holds them.
+//! Orders become a chain of certificates, a certification path, that holds them.
 #![tactic(auto)]
 
 mod accepted;

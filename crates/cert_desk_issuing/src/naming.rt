@@ -21,7 +21,7 @@ use x509_cert_builders::{BuilderProfile, CertificateBuilder};
 use x509_cert_extensions::SubjectAltName;
 use x509_cert_general_names::GeneralName;
 
-/// DNS names, as a subject's other names.
+/// DNS names, as a subjectAltName.
 fn names_of(alloc: Global, texts: &[String]) -> Result<SubjectAltName, Error>
     ensures names { IfOk result (λ n. plain_list general_name_plain n.0.items
         ≡ dns_names (plain_list string_bytes texts.now)) }

@@ -12,8 +12,8 @@ pub(crate) enum Outcome {
     Refused(IssueError),
     /// A file of which this line is the first faulty one.
     BadLine(u64),
-    /// A read failed.
+    /// An I/O error: a read failed.
     Device,
-    /// There was no memory.
+    /// Out of memory.
     OutOfMemory,
 }

@@ -6,11 +6,11 @@ ghost use Rattle.cert_desk_issuing.specs.Roles.{place_above, role_at};
 /// What a certificate of a chain is for.
 #[derive(Clone, Copy)]
 pub(crate) enum Role {
-    /// An authority that signs its own certificate.
+    /// A root CA, which signs its own certificate.
     Root,
-    /// An authority below another one.
+    /// An intermediate CA, below another one.
     Subordinate,
-    /// Whoever is certified in the end.
+    /// The subscriber, an end entity.
     Subscriber,
 }
 

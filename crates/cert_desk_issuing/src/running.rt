@@ -40,7 +40,7 @@ fn signers_of(alloc: Global, orders: &[Order]) -> Result<Vec<DigestSigner>, Allo
     Ok(signers)
 }
 
-/// Whether an error says that memory ran out.
+/// Whether an error says out of memory.
 fn is_want_of_memory(error: &IssueError) -> bool
     ensures { IsTrue result ↔ (error.now ≡ IssueError.OutOfMemory) }
 {
@@ -115,7 +115,7 @@ fn tell<O: Output, E: Output>(
 /// Each certificate is signed by a `DigestSigner` of the key of the order above it, the first one
 /// of its own.
 ///
-/// To `out` go the certificates, one behind the other, to `err` go `order PLACE REASON`, `orders
+/// To `out` go the certificates, one after the other, to `err` go `order PLACE REASON`, `orders
 /// REASON`, `device` and `memory`, each a line, where REASON is the name of an `IssueError` and
 /// PLACE counts orders from 0. What can't be written is `ExitStatus::Device`, whose word is tried
 /// once.

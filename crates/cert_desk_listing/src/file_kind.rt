@@ -3,7 +3,7 @@ ghost use Rattle.std.specs.Prelude.{◌≡◌, ◌≢◌, IfSome, IfNone};
 ghost use Rattle.cert_desk_listing.specs.declared.file_kind.FileKind.{FileKind};
 ghost use Rattle.cert_desk_listing.specs.Kinds.{kind_word};
 
-/// What the octets of a file are to spell.
+/// What the octets of a file are to be the encoding of.
 #[derive(Clone, Copy, Debug, PartialEq, Eq)]
 pub enum FileKind {
     /// A certificate.

@@ -7,10 +7,10 @@ use crate::lines::Lines;
 pub(crate) enum Finding {
     /// A value of the kind, with this listing.
     Listed(Lines),
-    /// Octets that spell none.
+    /// Octets that aren't the encoding of one.
     Malformed,
-    /// A read failed.
+    /// An I/O error: a read failed.
     Device,
-    /// There was no memory.
+    /// Out of memory.
     OutOfMemory,
 }

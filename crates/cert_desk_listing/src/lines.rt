@@ -13,7 +13,7 @@ ghost use Rattle.cert_desk_listing.specs.Listing.{value_lines, attribute_lines};
 ghost use Rattle.cert_desk_listing.specs.Parts.{members_in_field};
 
 use const_oid::AssociatedOid;
-use der_core::ErrorKind;
+use der_core::making::is_want_of_memory;
 use der_types_any::Any;
 use std::alloc::{AllocError, Global};
 use std::fmt;
@@ -36,7 +36,7 @@ impl Lines {
         Ok(Lines { text })
     }
 
-    /// A label and what is printed behind it.
+    /// A label and what is printed after it.
     fn labelled<D: fmt::Display + Drop>(&mut self, label: &str, value: D) -> Result<(), AllocError>
         ensures { OnOk result
             (IfSome (D.output value) (λ text. string_bytes self.new.text
@@ -173,7 +173,7 @@ impl Lines {
         let request = match value.decode_as::<ExtensionReq>(alloc) {
             Ok(request) => request,
             Err(error) => {
-                if let ErrorKind::OutOfMemory = error.kind {
+                if is_want_of_memory(&error) {
                     return Err(AllocError);
                 }
                 return Ok(());

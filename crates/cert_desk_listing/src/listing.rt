@@ -81,10 +81,10 @@ fn give<O: Output>(output: &mut O, lines: &Lines) -> Result<(), ShowError>
 }
 
 /// Writes the listing of a certificate: `certificate`, `serial`, `issuer`, `not-before`,
-/// `not-after`, `subject`, and `extension` for each extension, with ` critical` behind those that
+/// `not-after`, `subject`, and `extension` for each extension, with ` critical` after those that
 /// are.
 ///
-/// Behind each label but the first stand a blank and a text, and each line ends with LF. Names are
+/// After each label but the first stand a blank and a text, and each line ends with LF. Names are
 /// printed by RFC 4514, serial numbers as their content octets in base 16 with colons between them,
 /// dates as `YYYY-MM-DDTHH:MM:SSZ`, identifiers dotted.
 ///
@@ -131,7 +131,7 @@ pub fn show_list<P: Profile, O: Output>(
 }
 
 /// Writes the listing of a CSR: `request`, `subject`, `attribute` for each
-/// attribute, and behind that of a request for extensions (1.2.840.113549.1.9.14) the extensions of
+/// attribute, and after that of a request for extensions (1.2.840.113549.1.9.14) the extensions of
 /// each value that is read as extensions, as those of a certificate.
 ///
 /// # Errors

@@ -9,9 +9,9 @@ use std::fmt;
 /// Why a listing didn't go out.
 #[derive(Clone, Copy, Debug, PartialEq, Eq)]
 pub enum ShowError {
-    /// The output failed. A beginning of the listing went out.
+    /// An I/O error of the output. A prefix of the listing went out.
     Device,
-    /// There was no memory for the listing. Nothing went out.
+    /// Out of memory for the listing. Nothing went out.
     OutOfMemory,
 }
 

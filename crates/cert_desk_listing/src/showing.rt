@@ -16,7 +16,8 @@ use crate::listing::{of_certificate, of_list, of_request};
 use cert_desk_io::{
     ExitStatus, Input, Output, ReadAllError, answer, complain, read_all, tell_device, tell_memory,
 };
-use der_core::{Error, ErrorKind, FromDer};
+use der_core::making::is_want_of_memory;
+use der_core::{Error, FromDer};
 use std::alloc::Global;
 use x509_cert_certificates::CertificateInner;
 use x509_cert_lists::{CertReq, CertificateList};
@@ -32,7 +33,7 @@ fn certificate_in(alloc: Global, octets: &[u8]) -> Finding
             Err(_) => Finding::OutOfMemory,
         },
         Err(error) => {
-            if let ErrorKind::OutOfMemory = error.kind {
+            if is_want_of_memory(&error) {
                 return Finding::OutOfMemory;
             }
             Finding::Malformed
@@ -60,7 +61,7 @@ fn list_in(alloc: Global, octets: &[u8]) -> Finding
             Err(_) => Finding::OutOfMemory,
         },
         Err(error) => {
-            if let ErrorKind::OutOfMemory = error.kind {
+            if is_want_of_memory(&error) {
                 return Finding::OutOfMemory;
             }
             Finding::Malformed
@@ -78,7 +79,7 @@ fn request_in(alloc: Global, octets: &[u8]) -> Finding
             Err(_) => Finding::OutOfMemory,
         },
         Err(error) => {
-            if let ErrorKind::OutOfMemory = error.kind {
+            if is_want_of_memory(&error) {
                 return Finding::OutOfMemory;
             }
             Finding::Malformed
@@ -124,7 +125,7 @@ fn tell<O: Output, E: Output>(finding: &Finding, out: &mut O, err: &mut E) -> Ex
 
 /// Writes the listing of what an input holds, and answers the exit status.
 ///
-/// The input is read to its end, and is to spell a value of the kind under the profile `Raw`. Of
+/// The input is read to its end, and is to be the encoding of a value of the kind, under `Raw`. Of
 /// one with more than 2^32 - 1 octets one octet more than these is taken, and it is malformed.
 ///
 /// The listing goes to `out`; `malformed`, `device` and `memory` go to `err`. A text that can't be

@@ -11,7 +11,7 @@ pub enum OrdersError {
     /// The first faulty line, counted from 1.
     #[error("line {0} is faulty")]
     Line(u64),
-    /// There was no memory for an order.
+    /// Out of memory for an order.
     #[error("out of memory")]
     OutOfMemory,
 }

@@ -59,8 +59,8 @@ fn read_orders(alloc: Global, lines: &[Line<'_>]) -> Result<Vec<Order>, OrdersEr
 /// The orders of a file.
 ///
 /// A file is lines that end with LF; the last one may end with the file. An empty line says
-/// nothing. Any other is, in UTF-8, a word and, behind one blank, a value. `order`, alone, begins
-/// an order, and behind it stand its words, in any order:
+/// nothing. Any other is, in UTF-8, a word and, after one blank, a value. `order`, alone, begins
+/// an order, and after it stand its words, in any order:
 ///
 /// | Word | Value | How often |
 /// |---|---|---|

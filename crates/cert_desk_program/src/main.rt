@@ -64,7 +64,7 @@ fn run(rt: &HostRuntime) -> ExitStatus {
     )
 }
 
-/// Whether an error says that memory ran out.
+/// Whether an error says out of memory.
 fn is_want_of_memory(error: &io::Error) -> bool {
     matches!(error.kind(), io::ErrorKind::OutOfMemory)
 }

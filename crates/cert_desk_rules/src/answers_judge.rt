@@ -1,4 +1,4 @@
-//! A judge that says yes to what is listed.
+//! A signature verifier that says yes to what is listed.
 ghost use Rattle.std.specs.Prelude.{◌≡◌, map};
 ghost use Rattle.cert_desk_rules.specs.Answers.{answer_plain, only_yes_to};
 ghost use Rattle.cert_desk_rules.specs.Judges.{judge_answers, judge_questions};

@@ -37,10 +37,10 @@ pub struct Checked {
 /// Why nothing is said of a stream.
 #[derive(Clone, Copy, Debug, PartialEq, Eq, Error)]
 pub enum CheckError {
-    /// There was no memory for the stream.
+    /// Out of memory for the stream.
     #[error("out of memory")]
     OutOfMemory,
-    /// The device that the stream came from failed.
+    /// An I/O error: the device that the stream came from failed.
     #[error("a device failed")]
     Device,
 }

@@ -1,4 +1,4 @@
-//! A judge of digests, which stands where an algorithm would.
+//! A signature verifier of digests, a stand-in where an algorithm would be.
 ghost use Rattle.std.specs.Prelude.{◌≡◌};
 ghost use Rattle.x509_cert_parts.specs.Views.{algorithm_plain};
 ghost use Rattle.cert_desk_rules.specs.Digests.{digest_answers, is_digest};

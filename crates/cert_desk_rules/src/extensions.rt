@@ -42,7 +42,7 @@ pub fn extensions_of(certificate: &CertificateInner<Raw>) -> &[Extension]
     }
 }
 
-/// The first extension whose identifier one behind it has. It takes n log n comparisons, and memory
+/// The first extension whose identifier one after it has. It takes n log n comparisons, and memory
 /// for more extensions than a few.
 pub fn first_twin(alloc: Global, extensions: &[Extension]) -> Result<Option<usize>, AllocError>
     ensures distinct { IfOk result (λ twin. not (is_some twin)

@@ -11,9 +11,9 @@ pub struct Findings {
     pub malformed: bool,
     /// A critical extension is of another kind.
     pub unweighed_critical: bool,
-    /// No extension lists purposes without the one that is asked for.
+    /// No extension lists key purposes without the one that is asked for.
     pub serves: bool,
-    /// An extension makes the subject an authority.
+    /// An extension makes the subject a CA (4.2.1.9).
     pub ca: bool,
     /// No extension lists uses of the key without the signing of certificates.
     pub certifies: bool,

@@ -7,16 +7,27 @@ use crate::rule::Rule;
 /// Which rules a certificate keeps at its place.
 #[derive(Clone, Copy, Debug, PartialEq, Eq)]
 pub struct KeptRules {
+    /// `Rule::AlgorithmsDiffer` is kept.
     pub one_algorithm: bool,
+    /// `Rule::DuplicateExtension` is kept.
     pub distinct: bool,
+    /// `Rule::MalformedExtension` is kept.
     pub well_formed: bool,
+    /// `Rule::UnweighedCritical` is kept.
     pub known: bool,
+    /// `Rule::WrongIssuer` is kept.
     pub linked: bool,
+    /// `Rule::NotYetValid` is kept.
     pub begun: bool,
+    /// `Rule::Expired` is kept.
     pub lasting: bool,
+    /// `Rule::AgainstPurpose` is kept.
     pub serving: bool,
+    /// `Rule::NotAuthority` is kept.
     pub issuing: bool,
+    /// `Rule::PathTooLong` is kept.
     pub within_lengths: bool,
+    /// `Rule::WrongSignature` is kept.
     pub signed: bool,
 }
 

@@ -1,5 +1,5 @@
-//! The rules that one place of a chain keeps (RFC 5280 6.1), the reasons for which it doesn't, and
-//! who judges signatures.
+//! The rules that one place of a certification path keeps (RFC 5280 6.1), the reasons for which it
+//! doesn't, and signature verifiers.
 #![tactic(auto)]
 
 mod answer;

@@ -1,4 +1,4 @@
-//! How long a path may still get.
+//! How long a certification path may still get.
 ghost use Rattle.std.specs.Prelude.{◌≡◌, suc, not, ◌||◌};
 ghost use Rattle.std.specs.Option.{is_some, option_map};
 ghost use Rattle.cert_desk_rules.specs.Findings.{add_place, no_places, shorter};
@@ -40,7 +40,7 @@ impl PathRoom {
         }
     }
 
-    /// Behind one place more, which counts or doesn't, and has a path length or none.
+    /// After one place more, which counts or doesn't, and has a path length or none.
     pub fn add(&mut self, counts: bool, path_len: Option<u8>)
         ensures { self.new ≡ add_place self.old counts path_len }
     {

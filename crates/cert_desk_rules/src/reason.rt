@@ -14,9 +14,9 @@ pub enum Reason {
         /// The other one.
         second: usize,
     },
-    /// No basic constraints make the subject an authority.
+    /// No basic constraints make the subject a CA (4.2.1.9).
     NoConstraints,
-    /// More places count behind the certificate at this place than its path length allows.
+    /// More places count after the certificate at this place than its path length allows.
     PathLength {
         /// The place, before the one that is refused.
         place: usize,

@@ -1,4 +1,4 @@
-//! The rules of a chain.
+//! The rules of a chain, a certification path (RFC 5280 6.1).
 ghost use Rattle.std.specs.Prelude.{Some};
 ghost use Rattle.cert_desk_rules.specs.RuleNames.{rule_name};
 
@@ -8,7 +8,7 @@ use std::fmt;
 /// 6.1).
 #[derive(Clone, Copy, Debug, PartialEq, Eq)]
 pub enum Rule {
-    /// The algorithm inside the signed part isn't the one outside (RFC 5280 4.1.1.2).
+    /// The algorithm inside the TBSCertificate isn't the one outside (RFC 5280 4.1.1.2).
     AlgorithmsDiffer,
     /// Two extensions have one identifier (4.2).
     DuplicateExtension,
@@ -16,20 +16,20 @@ pub enum Rule {
     MalformedExtension,
     /// A critical extension is of no weighed kind (4.2).
     UnweighedCritical,
-    /// The issuer's octets aren't the subject's octets of the certificate before; of the first one,
-    /// they aren't those of any anchor's name (6.1.3 (a)(4)).
+    /// Name chaining: the issuer's octets aren't the subject's of the certificate before; of the
+    /// first one, they aren't those of any anchor's name (6.1.3 (a)(4)).
     WrongIssuer,
-    /// The moment is before the validity (6.1.3 (a)(2)).
+    /// The validation time is before the validity (6.1.3 (a)(2)).
     NotYetValid,
-    /// The moment is behind the validity (6.1.3 (a)(2)).
+    /// The validation time is after the validity (6.1.3 (a)(2)).
     Expired,
-    /// The purpose isn't allowed (4.2.1.12).
+    /// The key purpose isn't allowed (4.2.1.12).
     AgainstPurpose,
-    /// The certificate isn't the last, and isn't an authority's (6.1.4 (k), (n)).
+    /// The certificate isn't the last, and isn't a CA's (6.1.4 (k), (n)).
     NotAuthority,
-    /// The path is longer than a certificate before allows (6.1.4 (l), (m)).
+    /// The certification path is longer than a certificate before allows (6.1.4 (l), (m)).
     PathTooLong,
-    /// The signature over the signed part isn't the issuer's (6.1.3 (a)(1)).
+    /// The signature over the TBSCertificate isn't the issuer's (6.1.3 (a)(1)).
     WrongSignature,
 }
 

@@ -7,8 +7,8 @@ ghost use Rattle.cert_desk_rules.specs.Verdicts.{raised};
 use der_types_values::BitString;
 use x509_cert_parts::{AlgorithmIdentifier, SubjectPublicKeyInfo};
 
-/// Says whether a signature is right. The answer is a function of the key, the algorithm, the
-/// octets and the bits, which no call changes. Questions take no memory.
+/// A signature verifier: says whether a signature is right. The answer is a function of the key,
+/// the algorithm, the octets and the bits, which no call changes. Questions take no memory.
 pub trait SignatureJudge {
     /// What it answers on a key, an algorithm, the octets that are signed, and the bits.
     ghost answers: { Self → Answers };

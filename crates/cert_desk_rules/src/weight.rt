@@ -3,17 +3,17 @@
 /// What the rules of a chain ask of an extension (RFC 5280 4.2.1).
 #[derive(Clone, Copy)]
 pub enum Weight {
-    /// The extension is of no kind that is weighed.
+    /// The extension is of no kind that is weighed: processed, in RFC 5280's word.
     Unweighed,
     /// The extension is of a kind that is weighed, and not one value of it.
     Malformed,
-    /// The uses of a key (4.2.1.3): whether it may sign certificates.
+    /// keyUsage (4.2.1.3): whether the key may sign certificates.
     KeyUsage { certifies: bool },
-    /// Other names of a subject (4.2.1.6). No rule asks more of them than that they are names.
+    /// subjectAltName (4.2.1.6). No rule asks more of them than that they are names.
     AlternativeNames,
-    /// The constraints on an authority (4.2.1.9).
+    /// basicConstraints (4.2.1.9).
     Constraints { ca: bool, path_len: Option<u8> },
-    /// The purposes of a key (4.2.1.12): whether the one that is asked for is among them, or any
+    /// extKeyUsage (4.2.1.12): whether the key purpose that is asked for is among them, or any
     /// is.
     Purposes { serves: bool },
 }

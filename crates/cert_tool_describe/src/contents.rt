@@ -4,8 +4,9 @@ use crate::describe::Describe;
 use crate::general_names::{add_general_names, names_in};
 use crate::lines::Lines;
 use const_oid::ObjectIdentifier;
+use der_core::describing::{DecodeWay, Described};
 use der_core::making::leaf_from_der;
-use der_core::{DecodeValue, ErrorKind, FixedTag, FromDer, Leaf, SliceReader};
+use der_core::{ErrorKind, FixedTag, FromDer, Leaf, SliceReader};
 use der_types_numbers::Uint;
 use der_types_time::GeneralizedTime;
 use der_types_values::{FlagSet, OctetString};
@@ -50,7 +51,8 @@ fn add_leaf<'a, T: Leaf<'a> + FixedTag, C: From<T> + Describe + Drop>(
 // Adds the lines of a content that is a list, or that it isn't one.
 pub fn add_members<'a, T, C>(lines: &mut Lines, octets: &'a [u8])
 where
-    T: DecodeValue<'a, SliceReader<'a>> + FixedTag,
+    T: Described + FixedTag + Drop,
+    T::By: DecodeWay<'a, SliceReader<'a>, T>,
     C: From<Vec<T>> + Describe + Drop,
 {
     match Vec::<T>::from_der(lines.alloc, octets) {
@@ -59,11 +61,12 @@ where
     }
 }
 
-// Adds the lines of a content that is a record or a named number, or that it isn't one.
-fn add_record<'a, T: DecodeValue<'a, SliceReader<'a>> + FixedTag + Describe>(
-    lines: &mut Lines,
-    octets: &'a [u8],
-) {
+// Adds the lines of a content that is a record or a named number, or that it isn't one. What the
+// way of the type gives is checked here, and not where the type is named.
+fn add_record<'a, T: Described + FixedTag + Describe + Drop>(lines: &mut Lines, octets: &'a [u8])
+where
+    T::By: DecodeWay<'a, SliceReader<'a>, T>,
+{
     match T::from_der(lines.alloc, octets) {
         Ok(record) => record.describe(lines),
         Err(error) => add_malformed(lines, octets, error.kind),

@@ -4,7 +4,7 @@ use crate::algorithms::add_members as add_algorithm;
 use crate::contents::add_members;
 use crate::describe::Describe;
 use crate::lines::Lines;
-use crate::values::{add_value, values_in};
+use crate::values::{add_value, list_in, values_in};
 use const_oid::ObjectIdentifier;
 use der_core::making::leaf_from_der;
 use der_core::{ErrorKind, Tag, ToDer};
@@ -165,7 +165,7 @@ fn add_point(lines: &mut Lines, key: &SubjectPublicKeyInfo) {
 
 // Adds the lines of the parameters of a DSA key: p, q and g (RFC 3279 2.3.2).
 fn add_group(lines: &mut Lines, parameters: &Any) {
-    match parameters.decode_as::<Vec<Uint>>(lines.alloc) {
+    match list_in::<Uint>(lines.alloc, parameters) {
         Ok(numbers) => {
             if let [p, q, g] = numbers.as_slice() {
                 add_bits(lines, bit_len(p.as_bytes()));

@@ -1,4 +1,4 @@
-//! Certificates, lists and requests, described for readers and for programs.
+//! Certificates, CRLs and CSRs, described for readers and for programs.
 #![tactic(auto)]
 
 mod algorithms;

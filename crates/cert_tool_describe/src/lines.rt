@@ -15,7 +15,7 @@ const DIGITS: [u8; 16] = *b"0123456789ABCDEF";
 /// A text that is added to, part by part. Where there is no memory for something, that is noted,
 /// and `finish` is refused; so what adds to it has no error of its own.
 ///
-/// As lines, parts stand behind a margin, and values behind words, with a blank between them. As
+/// As lines, parts stand after a margin, and values after words, with a blank between them. As
 /// JSON, what stands between `open` and `close` are the members of an object, each begun by its
 /// key, and between `list` and `end_list` the items of an array. The document is one object.
 #[derive(Drop)]
@@ -121,7 +121,7 @@ impl Lines {
         }
     }
 
-    /// Adds to a line what stands right behind what is there, and before the next part.
+    /// Adds to a line what stands right after what is there, and before the next part.
     pub fn tail(&mut self, tail: &str) {
         if !self.is_json {
             self.add(tail.as_bytes());
@@ -500,7 +500,7 @@ impl Lines {
         self.end();
     }
 
-    /// Adds a number in base 16, of its octets, behind `0x`.
+    /// Adds a number in base 16, of its octets, after `0x`.
     pub fn natural(&mut self, octets: &[u8]) {
         self.begin();
         self.pairs("0x", octets, None);
@@ -508,7 +508,7 @@ impl Lines {
     }
 
     /// Adds a number in base 16, of the octets of an INTEGER: as OpenSSL prints it, without a zero
-    /// octet in front, and below zero the amount behind a sign.
+    /// octet in front, and below zero the amount after a sign.
     pub fn number(&mut self, octets: &[u8]) {
         match octets {
             [0, rest @ ..] if !rest.is_empty() => self.natural(rest),

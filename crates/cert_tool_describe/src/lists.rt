@@ -79,7 +79,7 @@ fn add_signed(lines: &mut Lines, signed: &TbsCertList<Raw>) {
     }
 }
 
-/// The list that octets spell.
+/// The CRL of which octets are the encoding.
 pub fn list_of(alloc: Global, octets: &[u8]) -> Result<CertificateList<Raw>, Error> {
     FromDer::from_der(alloc, octets)
 }

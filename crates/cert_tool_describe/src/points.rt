@@ -95,19 +95,19 @@ impl Describe for IssuingDistributionPoint {
         }
         add_scope(
             lines,
-            "certificates of users alone",
+            "end-entity certificates alone",
             "onlyContainsUserCerts",
             self.only_contains_user_certs,
         );
         add_scope(
             lines,
-            "certificates of authorities alone",
+            "CA certificates alone",
             "onlyContainsCACerts",
             self.only_contains_ca_certs,
         );
         add_scope(
             lines,
-            "certificates of attributes alone",
+            "attribute certificates alone",
             "onlyContainsAttributeCerts",
             self.only_contains_attribute_certs,
         );
@@ -162,10 +162,10 @@ fn add_subtree(lines: &mut Lines, word: &str, tree: &GeneralSubtree) {
     lines.brace();
     add_general_name(lines, &tree.base);
     if tree.minimum > 0 {
-        add_count(lines, "  from level", "minimum", u64::from(tree.minimum));
+        add_count(lines, "  minimum", "minimum", u64::from(tree.minimum));
     }
     if let Some(level) = tree.maximum {
-        add_count(lines, "  to level", "maximum", u64::from(level));
+        add_count(lines, "  maximum", "maximum", u64::from(level));
     }
     lines.end_brace();
 }

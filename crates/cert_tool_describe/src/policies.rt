@@ -3,7 +3,7 @@
 use crate::describe::Describe;
 use crate::lines::Lines;
 use crate::uses::add_count;
-use crate::values::{add_value, values_in};
+use crate::values::{add_value, list_in, values_in};
 use const_oid::ObjectIdentifier;
 use der_core::{ErrorKind, Tag};
 use der_types_any::Any;
@@ -15,7 +15,7 @@ use x509_cert_policies::{
 
 // Adds the lines of the numbers of notices.
 fn add_numbers(lines: &mut Lines, numbers: &Any) {
-    match numbers.decode_as::<Vec<Uint>>(lines.alloc) {
+    match list_in::<Uint>(lines.alloc, numbers) {
         Ok(numbers) => {
             lines.list("noticeNumbers");
             for number in &numbers {
@@ -162,7 +162,7 @@ impl Describe for PolicyConstraints {
             let skipped = u64::from(skipped);
             add_count(
                 lines,
-                "explicit policy behind",
+                "explicit policy after",
                 "requireExplicitPolicy",
                 skipped,
             );
@@ -170,7 +170,7 @@ impl Describe for PolicyConstraints {
         if let Some(skipped) = self.inhibit_policy_mapping {
             add_count(
                 lines,
-                "no mapping behind",
+                "no mapping after",
                 "inhibitPolicyMapping",
                 u64::from(skipped),
             );
@@ -180,11 +180,6 @@ impl Describe for PolicyConstraints {
 
 impl Describe for InhibitAnyPolicy {
     fn describe(&self, lines: &mut Lines) {
-        add_count(
-            lines,
-            "not any policy behind",
-            "skipCerts",
-            u64::from(self.0),
-        );
+        add_count(lines, "not anyPolicy after", "skipCerts", u64::from(self.0));
     }
 }

@@ -5,20 +5,20 @@ use crate::contents::add_extensions;
 use crate::description::add_kind;
 use crate::keys::{add_digests, add_key, add_key_digests};
 use crate::lines::Lines;
-use crate::values::{add_name, add_value};
+use crate::values::{add_name, add_value, list_in};
 use const_oid::AssociatedOid;
 use der_core::ErrorKind;
 use der_types_any::Any;
 use x509_cert_lists::{CertReq, CertReqInfo, ExtensionReq};
 use x509_cert_names::Attribute;
-use x509_cert_parts::{Extensions, Version};
+use x509_cert_parts::{Extension, Extensions, Version};
 
 // The extensions that a value asks for, if it is the one that asks.
 fn wanted_in(lines: &mut Lines, is_wanted: bool, value: &Any) -> Option<Extensions> {
     if !is_wanted {
         return None;
     }
-    match value.decode_as::<Extensions>(lines.alloc) {
+    match list_in::<Extension>(lines.alloc, value) {
         Ok(wanted) => Some(wanted),
         Err(error) => {
             lines.note(error.kind);

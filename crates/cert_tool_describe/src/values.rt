@@ -1,7 +1,8 @@
 //! Values of any type: their texts, or their octets.
 
 use crate::lines::Lines;
-use der_core::{Error, Tag};
+use der_core::describing::{DecodeWay, Described};
+use der_core::{Error, FixedTag, SliceReader, Tag};
 use der_types_any::Any;
 use std::alloc::Global;
 use std::str;
@@ -91,6 +92,17 @@ pub fn add_value(lines: &mut Lines, value: &Any) {
 
 // The values that stand in a SEQUENCE.
 pub fn values_in(alloc: Global, value: &Any) -> Result<Vec<Any>, Error> {
+    value.decode_as(alloc)
+}
+
+// The values of a type that names its way, which stand in a SEQUENCE.
+pub fn list_in<'a, T: Described + FixedTag + Drop>(
+    alloc: Global,
+    value: &'a Any,
+) -> Result<Vec<T>, Error>
+where
+    T::By: DecodeWay<'a, SliceReader<'a>, T>,
+{
     value.decode_as(alloc)
 }
 

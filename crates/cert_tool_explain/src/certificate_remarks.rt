@@ -194,7 +194,7 @@ fn add_party_remarks(lines: &mut Lines, signed: &TbsCertificateInner<Raw>, facts
         &[
             (
                 is_nameless && facts.is_authority(),
-                "the subject of an authority is an empty name",
+                "the subject of a CA is an empty name",
                 "RFC 5280 4.1.2.6",
             ),
             (
@@ -221,12 +221,12 @@ fn add_key_remarks(lines: &mut Lines, facts: &Facts) {
         &[
             (
                 is_authority && !facts.has_key_identifier,
-                "an authority has no subjectKeyIdentifier",
+                "a CA has no subjectKeyIdentifier",
                 "RFC 5280 4.2.1.2",
             ),
             (
                 is_authority && !facts.has_key_usage,
-                "an authority has no keyUsage",
+                "a CA has no keyUsage",
                 "RFC 5280 4.2.1.3",
             ),
             (
@@ -236,7 +236,7 @@ fn add_key_remarks(lines: &mut Lines, facts: &Facts) {
             ),
             (
                 is_authority && !facts.are_constraints_critical,
-                "basicConstraints of an authority aren't critical",
+                "basicConstraints of a CA aren't critical",
                 "RFC 5280 4.2.1.9",
             ),
             (
@@ -303,7 +303,7 @@ pub fn add_lone_remarks(lines: &mut Lines, certificate: &CertificateInner<Raw>) 
         &[
             (
                 differ,
-                "another algorithm is signed than stands outside",
+                "signature and signatureAlgorithm differ",
                 "RFC 5280 4.1.1.2",
             ),
             (is_twice, "an extension stands twice", "RFC 5280 4.2"),

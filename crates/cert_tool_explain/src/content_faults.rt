@@ -5,8 +5,9 @@ use crate::faults::add_fault_of_content;
 use crate::parts::{Node, Part};
 use cert_tool_describe::Lines;
 use const_oid::ObjectIdentifier;
+use der_core::describing::{DecodeWay, Described};
 use der_core::making::leaf_from_der;
-use der_core::{DecodeValue, Error, ErrorKind, FixedTag, FromDer, Leaf, SliceReader, Tag};
+use der_core::{Decode, Error, ErrorKind, FixedTag, FromDer, Leaf, SliceReader, Tag};
 use der_types_numbers::Uint;
 use der_types_time::GeneralizedTime;
 use der_types_values::{FlagSet, OctetString};
@@ -30,12 +31,29 @@ fn leaf_fault<'a, T: Leaf<'a> + FixedTag>(alloc: Global, octets: &'a [u8]) -> Op
     leaf_from_der::<T>(alloc, octets).err()
 }
 
-// Why octets aren't one list, record or named number, if they aren't.
-fn value_fault<'a, T: DecodeValue<'a, SliceReader<'a>> + FixedTag>(
+// Why octets aren't one record or named number, if they aren't. What the way of the type gives is
+// checked here, and not where the type is named.
+fn value_fault<'a, T: Described + FixedTag + Drop>(alloc: Global, octets: &'a [u8]) -> Option<Error>
+where
+    T::By: DecodeWay<'a, SliceReader<'a>, T>,
+{
+    T::from_der(alloc, octets).err()
+}
+
+// Why octets aren't one list of any such values, if they aren't.
+fn any_list_fault<'a, T: Decode<'a, SliceReader<'a>>>(
     alloc: Global,
     octets: &'a [u8],
 ) -> Option<Error> {
-    T::from_der(alloc, octets).err()
+    Vec::<T>::from_der(alloc, octets).err()
+}
+
+// Why octets aren't one list of values of a type that names its way, if they aren't.
+fn list_fault<'a, T: Described + FixedTag + Drop>(alloc: Global, octets: &'a [u8]) -> Option<Error>
+where
+    T::By: DecodeWay<'a, SliceReader<'a>, T>,
+{
+    any_list_fault::<T>(alloc, octets)
 }
 
 // Why octets in an OCTET STRING aren't timestamps.
@@ -83,26 +101,26 @@ fn has_timestamps(extension: &Extension) -> bool {
 pub fn content_fault(alloc: Global, extension: &Extension) -> Option<Error> {
     let octets = extension.extn_value.as_bytes();
     match number_of(extension) {
-        9 => value_fault::<Vec<Attribute>>(alloc, octets),
+        9 => list_fault::<Attribute>(alloc, octets),
         14 => leaf_fault::<OctetString>(alloc, octets),
         15 => leaf_fault::<FlagSet<KeyUsages>>(alloc, octets),
         16 => value_fault::<PrivateKeyUsagePeriod>(alloc, octets),
-        17 | 18 | 29 => value_fault::<Vec<GeneralName>>(alloc, octets),
+        17 | 18 | 29 => any_list_fault::<GeneralName>(alloc, octets),
         19 => value_fault::<BasicConstraints>(alloc, octets),
         20 | 27 => leaf_fault::<Uint>(alloc, octets),
         21 => value_fault::<CrlReason>(alloc, octets),
         24 => leaf_fault::<GeneralizedTime>(alloc, octets),
         28 => value_fault::<IssuingDistributionPoint>(alloc, octets),
         30 => value_fault::<NameConstraints>(alloc, octets),
-        31 | 46 => value_fault::<Vec<DistributionPoint>>(alloc, octets),
-        32 => value_fault::<Vec<PolicyInformation>>(alloc, octets),
-        33 => value_fault::<Vec<PolicyMapping>>(alloc, octets),
+        31 | 46 => list_fault::<DistributionPoint>(alloc, octets),
+        32 => list_fault::<PolicyInformation>(alloc, octets),
+        33 => list_fault::<PolicyMapping>(alloc, octets),
         35 => value_fault::<AuthorityKeyIdentifier>(alloc, octets),
         36 => value_fault::<PolicyConstraints>(alloc, octets),
-        37 => value_fault::<Vec<ObjectIdentifier<39>>>(alloc, octets),
+        37 => list_fault::<ObjectIdentifier<39>>(alloc, octets),
         54 => leaf_fault::<u32>(alloc, octets),
-        257 | 267 => value_fault::<Vec<AccessDescription>>(alloc, octets),
-        280 => value_fault::<Vec<u16>>(alloc, octets),
+        257 | 267 => list_fault::<AccessDescription>(alloc, octets),
+        280 => list_fault::<u16>(alloc, octets),
         _ if has_timestamps(extension) => timestamps_fault(alloc, octets),
         _ => None,
     }

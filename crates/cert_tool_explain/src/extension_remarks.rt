@@ -5,7 +5,8 @@ use crate::name_remarks::add_name_remarks;
 use crate::remark_lines::{Seen, add_each, begin_remark, end_remark};
 use cert_tool_describe::Lines;
 use const_oid::ObjectIdentifier;
-use der_core::{DecodeValue, FixedTag, FromDer, SliceReader};
+use der_core::describing::{DecodeWay, Described};
+use der_core::{Decode, FixedTag, FromDer, SliceReader};
 use x509_cert_general_names::{
     AuthorityKeyIdentifier, DistributionPoint, GeneralName, GeneralSubtree,
     IssuingDistributionPoint, NameConstraints,
@@ -103,11 +104,15 @@ pub fn add_mark_remarks(lines: &mut Lines, extension: &Extension, marks: &[Mark]
     }
 }
 
-// The value that a content is, if it is one.
-pub fn value_in<'a, T: DecodeValue<'a, SliceReader<'a>> + FixedTag>(
+// The value that a content is, if it is one. What the way of its type gives is checked here, and
+// not where the type is named.
+pub fn value_in<'a, T: Described + FixedTag + Drop>(
     lines: &mut Lines,
     octets: &'a [u8],
-) -> Option<T> {
+) -> Option<T>
+where
+    T::By: DecodeWay<'a, SliceReader<'a>, T>,
+{
     match T::from_der(lines.alloc, octets) {
         Ok(value) => Some(value),
         Err(error) => {
@@ -117,9 +122,34 @@ pub fn value_in<'a, T: DecodeValue<'a, SliceReader<'a>> + FixedTag>(
     }
 }
 
+// The values that a content lists, if it is a list of any such.
+fn any_list_in<'a, T: Decode<'a, SliceReader<'a>>>(
+    lines: &mut Lines,
+    octets: &'a [u8],
+) -> Option<Vec<T>> {
+    match Vec::from_der(lines.alloc, octets) {
+        Ok(list) => Some(list),
+        Err(error) => {
+            lines.note(error.kind);
+            None
+        }
+    }
+}
+
+// The values that a content lists, if it is a list of those of a type that names its way.
+fn list_in<'a, T: Described + FixedTag + Drop>(
+    lines: &mut Lines,
+    octets: &'a [u8],
+) -> Option<Vec<T>>
+where
+    T::By: DecodeWay<'a, SliceReader<'a>, T>,
+{
+    any_list_in(lines, octets)
+}
+
 // Of other names.
 fn add_names_remarks(lines: &mut Lines, octets: &[u8]) {
-    if let Some(listed) = value_in::<Vec<GeneralName>>(lines, octets) {
+    if let Some(listed) = any_list_in::<GeneralName>(lines, octets) {
         add_name_remarks(lines, listed.as_slice());
     }
 }
@@ -177,7 +207,7 @@ fn add_constraint_remarks(lines: &mut Lines, octets: &[u8]) {
 
 // Of points where lists stand.
 fn add_point_remarks(lines: &mut Lines, octets: &[u8]) {
-    let Some(points) = value_in::<Vec<DistributionPoint>>(lines, octets) else {
+    let Some(points) = list_in::<DistributionPoint>(lines, octets) else {
         return;
     };
     let mut is_bare = false;
@@ -198,12 +228,12 @@ fn add_scope_remarks(lines: &mut Lines, octets: &[u8]) {
         &[
             (
                 point.only_contains_user_certs && point.only_contains_ca_certs,
-                "a list has only certificates of subscribers, and of authorities",
+                "a CRL has only certificates of end entities, and only of CAs",
                 "RFC 5280 5.2.5",
             ),
             (
                 point.only_contains_attribute_certs,
-                "a list has only attribute certificates",
+                "a CRL has only attribute certificates",
                 "RFC 5280 5.2.5",
             ),
         ],
@@ -212,7 +242,7 @@ fn add_scope_remarks(lines: &mut Lines, octets: &[u8]) {
 
 // Of policies.
 fn add_policy_remarks(lines: &mut Lines, octets: &[u8]) {
-    let Some(policies) = value_in::<Vec<PolicyInformation>>(lines, octets) else {
+    let Some(policies) = list_in::<PolicyInformation>(lines, octets) else {
         return;
     };
     let mut seen = Seen::new(lines.alloc);
@@ -233,7 +263,7 @@ fn is_any_policy(identifier: &ObjectIdentifier<39>) -> bool {
 
 // Of policies that stand for others.
 fn add_mapping_remarks(lines: &mut Lines, octets: &[u8]) {
-    let Some(mappings) = value_in::<Vec<PolicyMapping>>(lines, octets) else {
+    let Some(mappings) = list_in::<PolicyMapping>(lines, octets) else {
         return;
     };
     let mut has_any = false;

@@ -106,12 +106,12 @@ fn form_words(tag: Tag, content: &[u8]) -> Words {
         (Tag::Boolean, [0 | 0xff]) => DEFAULT,
         (Tag::Boolean, _) => (": TRUE is FF", "X.690 11.1"),
         (Tag::Integer | Tag::Enumerated, [0, 0..=0x7f, ..] | [0xff, 0x80..=0xff, ..]) => {
-            (": its first octet counts for nothing", "X.690 8.3.2")
+            (": its first octet is redundant", "X.690 8.3.2")
         }
         (Tag::Null, _) => (": it has a content", "X.690 8.8.2"),
         (Tag::Integer | Tag::Enumerated, _) => DEFAULT,
         (_, [0, 0..=0x7f, ..] | [0xff, 0x80..=0xff, ..]) if tag.is_context_specific() => {
-            (": its first octet counts for nothing", "X.690 8.3.2")
+            (": its first octet is redundant", "X.690 8.3.2")
         }
         (_, [1..=0xfe]) if tag.is_context_specific() => (": TRUE is FF", "X.690 11.1"),
         _ if tag.is_constructed() || tag.is_context_specific() => DEFAULT,
@@ -234,11 +234,11 @@ fn unread_words(octets: &[u8]) -> Words {
 fn length_words(tag: Tag, octets: &[u8]) -> Words {
     match (tag, octets) {
         (_, [_, 0x81, 0..=0x7f, ..] | [_, 0x82..=0x84, 0, ..]) => {
-            (": it isn't spelled in the fewest octets", "X.690 10.1")
+            (": it isn't encoded in the fewest octets", "X.690 10.1")
         }
         (Tag::Integer | Tag::Enumerated, _) => (": it has no octet", "X.690 8.3.1"),
         (Tag::BitString, _) => (
-            ": the octet that counts unused bits is wanting",
+            ": the octet that counts unused bits is missing",
             "X.690 8.6.2.1",
         ),
         _ => ("", ""),
@@ -256,7 +256,7 @@ pub fn words_of(kind: ErrorKind, octets: &[u8], content: &[u8], name: &str) -> W
         ErrorKind::OidMalformed => identifier_words(content),
         ErrorKind::TagUnknown => unread_words(octets),
         ErrorKind::SetOrdering | ErrorKind::SetDuplicate => (
-            ": their encodings rise",
+            ": their encodings ascend",
             "X.690 11.6",
         ),
         ErrorKind::IndefiniteLength => ("", "X.690 10.1"),

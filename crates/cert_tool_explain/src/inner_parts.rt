@@ -37,7 +37,7 @@ fn part_taken(part: &Part, first: u8) -> Option<Taken> {
     }
 }
 
-/// The parts that may stand at a place, and behind it.
+/// The parts that may stand at a place, and after it.
 #[derive(Clone, Copy)]
 pub struct Fields {
     parts: &'static [Part],

@@ -210,7 +210,7 @@ fn add_field_remarks(lines: &mut Lines, signed: &TbsCertList<Raw>, facts: &Entry
         &[
             (
                 (has_extensions || facts.has_extensions) && !is_second,
-                "extensions stand in a list that isn't of version 2",
+                "extensions stand in a CRL that isn't of version 2",
                 "RFC 5280 5.1.2.1",
             ),
             (
@@ -256,7 +256,7 @@ fn add_extension_remarks(lines: &mut Lines, extensions: &[Extension]) {
             ),
             (
                 facts.is_delta && facts.has_freshest,
-                "freshestCRL stands in a list that adds to another",
+                "freshestCRL stands in a delta CRL",
                 "RFC 5280 5.2.6",
             ),
         ],
@@ -306,7 +306,7 @@ fn entry_facts(signed: &TbsCertList<Raw>) -> EntryFacts {
 pub fn add_list_remarks(lines: &mut Lines, list: &CertificateList<Raw>) {
     let signed = &list.tbs_cert_list;
     let differ = !signed.signature.has_octets_of(&list.signature_algorithm);
-    let text = "another algorithm is signed than stands outside";
+    let text = "signature and signatureAlgorithm differ";
     let facts = entry_facts(signed);
     add_each(lines, &[(differ, text, "RFC 5280 5.1.1.2")]);
     add_field_remarks(lines, signed, &facts);

@@ -7,7 +7,7 @@
 ghost use Rattle.std.specs.Prelude.{◌≡◌, map};
 ghost use Rattle.cert_tool_explain.specs.Parts.{inside_of, parts_in, names_of, is_many, part_plain};
 
-/// What is inside a value; `Leaf` where no parts are that have names. Behind an explicit tag is one
+/// What is inside a value; `Leaf` where no parts are that have names. Inside an explicit tag is one
 /// part, and of a choice one part stands.
 #[derive(Clone, Copy)]
 pub enum Node {

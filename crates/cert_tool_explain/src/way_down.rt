@@ -5,7 +5,7 @@ use crate::parts::Part;
 use der_core::{Error, ErrorKind, Tag, header_of};
 use std::alloc::{AllocError, Global};
 
-/// A value among others that stand one behind the other.
+/// A value among others that stand one after the other.
 #[derive(Clone, Copy)]
 pub struct Value {
     // Where it begins, and where its content begins and ends.

@@ -16,7 +16,7 @@ fn meaning(fault: AnchorFault) -> &'static str {
     match fault {
         AnchorFault::Malformed => "no trust anchor",
         AnchorFault::NoName => "it has a key and no name",
-        AnchorFault::PathControls => "a path from it must meet more than its name",
+        AnchorFault::PathControls => "it constrains certification paths by more than its name",
     }
 }
 

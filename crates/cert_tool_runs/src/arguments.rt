@@ -15,7 +15,7 @@ use der_types_time::DateTime;
 // The least limit: a certificate has a header and some content.
 const LEAST_LIMIT: u64 = 6;
 
-/// When a chain is judged.
+/// The validation time: when a chain is judged.
 #[derive(Clone, Copy)]
 pub enum Moment {
     /// When the clock is asked.

@@ -45,7 +45,7 @@ fn find_questions<A: Input, S: Input>(
 /// Writes what the signatures of a chain may ask, a line each: `PLACE ANCHOR KEY ALGORITHM SIGNED
 /// BITS`.
 ///
-/// The place, and the anchor's number where it is the first place, `-` behind it, are in decimal
+/// The place, and the anchor's number where it is the first place, `-` after it, are in decimal
 /// and counted from 0. The others are in base 16, in small letters: the encodings of key and
 /// algorithm, the octets that are signed, and the encoding of the bits. For the first place each
 /// anchor of the issuer's name has a line, in their order; for another the key is that of the

@@ -1,4 +1,4 @@
-//! The words behind the program's name.
+//! The words after the program's name.
 ghost use Rattle.std.specs.Prelude.{◌≡◌, map, option_map, Ok};
 ghost use Rattle.std.specs.List.{after_first, before_first};
 ghost use Rattle.cert_tool_runs.specs.Words.{key_of, value_of, with_value, with_word, is_option};
@@ -13,9 +13,9 @@ pub enum Key {
     Anchors,
     /// `--answers`, a file.
     Answers,
-    /// `--at`, a moment.
+    /// `--at`, the validation time.
     At,
-    /// `--purpose`, what a chain is wanted for.
+    /// `--purpose`, the key purpose: what a chain is wanted for.
     Purpose,
     /// `--limit`, the most octets of a certificate.
     Limit,

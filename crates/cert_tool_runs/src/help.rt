@@ -1,7 +1,7 @@
 //! What the program says of itself.
 
 // Which program it is.
-pub(crate) const VERSION: &str = "cert_tool 0.14.0\n";
+pub(crate) const VERSION: &str = "cert_tool 0.15.0\n";
 
 // How the program is called.
 const USAGE: &str = "usage: cert_tool COMMAND OPTIONS FILE, where COMMAND is one of
@@ -24,20 +24,20 @@ Writes a line for each signature that judging the chain may need:
 PLACE ANCHOR KEY ALGORITHM SIGNED BITS, the last four in base 16.
 A verifier keeps the lines whose signature is right, as the script answer.py does. The lines it
 keeps are the answers of `verify`.
---anchors  a file of trust anchors: certificates, one behind the other
+--anchors  a file of trust anchors: concatenated certificates
 ";
 
 // What is said of `verify`.
 const VERIFY: &str = "usage: cert_tool verify --anchors FILE --answers FILE
-       [--at MOMENT] [--purpose PURPOSE] [--limit OCTETS] [--json] STREAM
-Judges the chain in STREAM, and says yes to the signatures in the answers alone.
+       [--at TIME] [--purpose PURPOSE] [--limit OCTETS] [--json] STREAM
+Judges the chain (certification path) in STREAM: yes to the signatures in the answers alone.
 Prints `trusted calls=N` (status 0), `refused PLACE RULE calls=N` (1), `fault PLACE OFFSET KIND` (2)
 or `empty` (3); why a chain is refused `explain chain` says, with the same options.
---anchors  a file of trust anchors: certificates, one behind the other
+--anchors  a file of trust anchors: concatenated certificates
 --answers  a file of lines that `questions` wrote and a verifier kept
---at       now (where it is left out), YYYY-MM-DDTHH:MM:SSZ, or seconds since 1970-01-01T00:00:00Z
---purpose  serverAuth (where it is left out), clientAuth, codeSigning, emailProtection,
-           timeStamping, OCSPSigning, anyExtendedKeyUsage, or an identifier in dotted arcs
+--at       validation time: now (the default), YYYY-MM-DDTHH:MM:SSZ, or seconds since 1970
+--purpose  key purpose: serverAuth (the default), clientAuth, codeSigning, emailProtection,
+           timeStamping, OCSPSigning, anyExtendedKeyUsage, or an OID
 ";
 
 // What is said of `split`.
@@ -57,7 +57,7 @@ const DESCRIBE: &str = "usage: cert_tool describe KIND [--digests] [--json] FILE
        cert_tool describe stream [--limit OCTETS] [--digests] [--json] STREAM
 Writes what FILE says, a line for each part, or what each certificate of STREAM says, one after the
 other, as it is read; with --json a document a line.
-KIND       certificate, list (of revoked certificates) or request
+KIND       certificate, list (a CRL) or request (a CSR)
 --digests  SHA-1 and SHA-256 of the octets and of the key, too
 ";
 
@@ -66,24 +66,24 @@ const EXPLAIN: &str = "usage: cert_tool explain KIND [--json] FILE
        cert_tool explain anchors [--json] FILE
        cert_tool explain stream [--limit OCTETS] [--json] STREAM
        cert_tool explain chain --anchors FILE --answers FILE
-       [--at MOMENT] [--purpose PURPOSE] [--limit OCTETS] [--json] STREAM
+       [--at TIME] [--purpose PURPOSE] [--limit OCTETS] [--json] STREAM
 Writes the first fault of FILE, the octet where it stands, and the parts around it; of what is read,
 what RFC 5280 says beyond that. Of a chain it writes which rules each certificate breaks, and why,
 and what is unwise; its options are those of `verify`, and without answers, which /dev/null stands
 for, every signature counts as wrong.
-KIND       certificate, list (of revoked certificates) or request
+KIND       certificate, list (a CRL) or request (a CSR)
 ";
 
 // What is said below a command, of files and of statuses.
 pub(crate) const ARGUMENTS: &str =
     "FILE       a file in DER: openssl x509, crl or req with -outform DER makes it of PEM
-STREAM     a file of certificates in DER, one behind the other, the one that an anchor signed first
+STREAM     concatenated certificates in DER, the one that an anchor signed first
 --limit    the most octets that a certificate of STREAM may have, from 6 to 4294967295; else 65536
 --json     one document of JSON in place of lines
-The value of an option may stand behind = too, as in --limit=4096. The file - is standard input.
+The value of an option may stand after = too, as in --limit=4096. The file - is standard input.
 The status is 0 where what was asked for is written, of a chain where it is trusted, 1 where it is
 refused, 2 where octets are faulty, 3 where there are none, 4 where words, anchors or answers are,
-5 where a file or device fails, 6 where memory is wanting.
+5 on an I/O error, 6 where it is out of memory.
 ";
 
 // What is said of the command that these words name, or of all.

@@ -1,6 +1,6 @@
-//! Runs of `cert_tool`, over any inputs and outputs: what the signatures of a chain ask, chains
-//! judged by answers from outside, which rules the certificates of a chain break, streams taken
-//! apart; and what the words of the program ask for.
+//! Runs of `cert_tool`, over any inputs and outputs: what the signatures of a certification path
+//! ask, paths judged by answers from outside, which rules the certificates of a path break, streams
+//! taken apart; and what the words of the program ask for.
 #![tactic(auto)]
 
 mod alike_names;

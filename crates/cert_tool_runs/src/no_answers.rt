@@ -14,8 +14,8 @@ pub enum NoAnswers {
     },
     /// There are 2^32 octets or more.
     TooMuch,
-    /// A read failed.
+    /// An I/O error: a read failed.
     Device,
-    /// There was no memory.
+    /// Out of memory.
     OutOfMemory,
 }

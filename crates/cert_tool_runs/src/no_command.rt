@@ -1,4 +1,4 @@
-//! Why words are no command with a file behind it.
+//! Why words are no command with a file after it.
 
 use crate::given::{Given, given_in};
 use crate::tasks::{of_word, of_words};
@@ -37,11 +37,11 @@ fn kind_line(
     }
 }
 
-// Why words are no command with a file behind it, in one line.
+// Why words are no command with a file after it, in one line.
 pub(crate) fn no_command_line(alloc: Global, words: &[&str]) -> Result<String, AllocError> {
     let given = match given_in(words) {
         Ok(given) => given,
-        Err(_) => return format!(in alloc; "no command with a file behind it\n"),
+        Err(_) => return format!(in alloc; "no command with a file after it\n"),
     };
     let Some(word) = given.first else {
         return format!(in alloc; "a command is missing\n");

@@ -42,7 +42,7 @@ fn add_against(
             }
         },
         Rule::UnweighedCritical => {
-            lines.identifier("", kind, " is critical, and isn't weighed here");
+            lines.identifier("", kind, " is critical, and isn't processed here");
             "RFC 5280 4.2"
         }
         Rule::AgainstPurpose => {
@@ -87,16 +87,12 @@ fn add_reason(
             "RFC 5280 4.2"
         }
         Reason::NoConstraints => {
-            lines.push("no basicConstraints make it an authority");
+            lines.push("no basicConstraints make it a CA");
             "RFC 5280 6.1.4 (k)"
         }
         Reason::PathLength { place } => {
             let number = place as u64;
-            lines.show(
-                "more authorities follow than certificate ",
-                number,
-                " allows",
-            );
+            lines.show("more CAs follow than certificate ", number, " allows");
             "RFC 5280 4.2.1.9"
         }
     }

@@ -176,7 +176,7 @@ pub fn run_take<S: Input, O: Output, E: Output>(
 }
 
 /// Writes the certificates of a stream, the last one first: a chain that begins with the
-/// subscriber's certificate, as TLS sends it, becomes one that begins below the anchor, and the
+/// end entity's certificate, as TLS sends it, becomes one that begins below the anchor, and the
 /// other way round.
 pub fn run_reverse<S: Input, O: Output, E: Output>(
     alloc: Global,

@@ -55,7 +55,7 @@ pub enum Need {
 pub enum Misuse<'a> {
     /// An option or another word is wrong.
     Words(WordFault<'a>),
-    /// Those that are neither options nor values are no command with a file behind it.
+    /// Those that are neither options nor values are no command with a file after it.
     NoCommand,
     /// The command needs this option.
     Missing(Key),
@@ -80,9 +80,9 @@ pub struct Task<'a> {
     pub anchors: &'a str,
     /// The file of the answers; empty where the command has none.
     pub answers: &'a str,
-    /// When a chain is judged.
+    /// The validation time of a chain.
     pub moment: Moment,
-    /// What a chain is wanted for.
+    /// The key purpose: what a chain is wanted for.
     pub purpose: ObjectIdentifier<39>,
     /// The most octets that a certificate of a stream may have.
     pub limit: u32,
@@ -365,9 +365,9 @@ fn task_of<'a>(command: Command, file: &'a str, given: &Given<'a>) -> Result<Tas
 }
 
 impl<'a> Task<'a> {
-    /// What these words ask for, of those behind the program's name.
+    /// What these words ask for, of those after the program's name.
     ///
-    /// Options stand anywhere, each with its value behind it, or behind `=` in the same word. Where
+    /// Options stand anywhere, each with its value after it, or after `=` in the same word. Where
     /// they are left out `--at` is `now`, `--purpose` is `serverAuth`, and `--limit` is 65536.
     ///
     /// # Errors

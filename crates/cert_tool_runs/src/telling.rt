@@ -41,7 +41,7 @@ fn values_of(key: Key) -> &'static str {
         Key::At => "now, YYYY-MM-DDTHH:MM:SSZ, or seconds (no milliseconds) from 1970 to 9999",
         Key::Purpose => {
             "serverAuth, clientAuth, codeSigning, emailProtection, timeStamping, OCSPSigning, \
-            anyExtendedKeyUsage, or dotted arcs"
+            anyExtendedKeyUsage, or an OID"
         }
         Key::Limit => "a number of octets from 6 to 4294967295",
         Key::Place => "the number of a certificate, counted from 0",

@@ -96,6 +96,27 @@ fn add_of(lines: &mut Lines, anchor: &TrustAnchorChoice<Raw>, offset: u64, issue
     }
 }
 
+// Adds what the anchor says and isn't judged that begins these octets, which begin at an offset, if
+// it is of an issuer that is asked for. Answers the octets behind it: none, if no anchor begins
+// these.
+fn add_first<'a>(
+    lines: &mut Lines,
+    octets: &'a [u8],
+    offset: u64,
+    issuer: Option<&Name>,
+) -> &'a [u8] {
+    match TrustAnchorChoice::<Raw>::from_der_partial(lines.alloc, octets) {
+        Ok((anchor, behind)) => {
+            add_of(lines, &anchor, offset, issuer);
+            behind
+        }
+        Err(error) => {
+            lines.note(error.kind);
+            &[]
+        }
+    }
+}
+
 // Adds what anchors say that isn't judged, one behind the other; where an issuer is asked for, of
 // those that have its name.
 pub(crate) fn add_unjudged(lines: &mut Lines, octets: &[u8], issuer: Option<&Name>) {
@@ -105,15 +126,6 @@ pub(crate) fn add_unjudged(lines: &mut Lines, octets: &[u8], issuer: Option<&Nam
             break;
         }
         let offset = octets.len().saturating_sub(rest.len());
-        match TrustAnchorChoice::<Raw>::from_der_partial(lines.alloc, rest) {
-            Ok((anchor, behind)) => {
-                add_of(lines, &anchor, offset as u64, issuer);
-                rest = behind;
-            }
-            Err(error) => {
-                lines.note(error.kind);
-                break;
-            }
-        }
+        rest = add_first(lines, rest, offset as u64, issuer);
     }
 }

@@ -84,11 +84,11 @@ fn done<C: Clock, I: Input + Drop, F: NamedInputs<I>, O: Output, E: Output>(
     }
 }
 
-/// Does what the words of `cert_tool` ask for, of those behind the program's name: `Task::parse`
+/// Does what the words of `cert_tool` ask for, of those after the program's name: `Task::parse`
 /// reads them, and the task is done on the inputs of the names that it has.
 ///
 /// Verdicts, questions, certificates and what else was asked for go to `out`; what is wrong with
-/// words, inputs and their contents goes to `err`, and behind that hints how more is told. Where
+/// words, inputs and their contents goes to `err`, and after that hints how more is told. Where
 /// `is_watched`, as on a terminal, `err` also counts what is done of a long stream.
 pub fn obey<C: Clock, I: Input + Drop, F: NamedInputs<I>, O: Output, E: Output>(
     alloc: Global,

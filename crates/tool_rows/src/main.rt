@@ -1,6 +1,6 @@
 //! Answers lines of standard input as `cert_tool` answers its arguments: words with one blank
 //! between them. Behind the line stand what goes to the output, in base 16 where it is no text,
-//! then what goes to the error output, and the status behind `=`. Lines that are empty or begin
+//! then what goes to the error output, and the status after `=`. Lines that are empty or begin
 //! with `#` ask nothing.
 //!
 //! Files are those of data/, which `make_tool_data.sh` made with OpenSSL.

@@ -76,7 +76,7 @@ class Status(enum.IntEnum):
 
 
 class Kind(enum.Enum):
-    """What octets may spell."""
+    """What octets may be the encoding of."""
 
     CERTIFICATE = "certificate"
     LIST = "list"
@@ -193,7 +193,7 @@ class Verdict:
     """The verdict on a chain."""
 
     status: Status
-    # The certificate that breaks the rule, counted from 0, or behind which the octets have a fault.
+    # The certificate that breaks the rule, counted from 0, or after which the octets have a fault.
     place: int | None = None
     rule: Rule | None = None
     # Where the fault begins, and which it is.
@@ -271,7 +271,7 @@ def _lent(octets: Octets) -> list:
 
 
 def _written(call, *before) -> tuple[Status, bytes]:
-    """What a call writes: again, where it wants more room."""
+    """What a call writes: again, where it wants a larger buffer."""
     room, length = _ROOM, ctypes.c_size_t()
     while True:
         out = ctypes.create_string_buffer(room)
@@ -299,7 +299,7 @@ def _raise_unless_done(what: str, status: Status) -> None:
 
 
 def fault_of(der: Octets, kind: Kind = Kind.CERTIFICATE) -> Fault | None:
-    """The first fault of octets that don't spell a value of the kind, or None where they do."""
+    """The first fault of octets that don't encode a value of the kind, or None where they do."""
     told = _Fault()
     call = getattr(_library, f"wd_is_{kind.value}")
     status = Status(call(*_lent(der), ctypes.byref(told)))
@@ -311,7 +311,7 @@ def fault_of(der: Octets, kind: Kind = Kind.CERTIFICATE) -> Fault | None:
 
 
 def _of(der: Octets, kind: Kind, call, *before) -> bytes:
-    """What a call writes of a value of the kind; the fault is told where octets spell none."""
+    """What a call writes of a value of the kind; the fault is told where octets encode none."""
     try:
         return _given(kind.value, call, *_lent(der), *before)
     except Malformed:
@@ -402,7 +402,7 @@ def name_text(der: Octets) -> str:
 
 
 def name_of_text(text: str) -> bytes:
-    """The DER of the name that a text spells (RFC 4514)."""
+    """The DER of the name that a text says (RFC 4514)."""
     return _given("text of a name", _library.wd_name_of_text, *_lent(text.encode()))
 
 
@@ -413,13 +413,13 @@ def identifier_text(octets: Octets) -> str:
 
 @functools.lru_cache(maxsize=64)
 def identifier_of_text(text: str) -> bytes:
-    """The content octets of the identifier that a dotted text spells."""
+    """The content octets of the identifier that a dotted text names."""
     call = _library.wd_identifier_of_text
     return _given("dotted text of an identifier", call, *_lent(text.encode()))
 
 
 def _joined(octets: Octets | typing.Iterable[Octets]) -> bytes:
-    """Octets, or encodings one behind the other."""
+    """Octets, or encodings one after the other."""
     if isinstance(octets, (bytes, bytearray, memoryview)):
         return bytes(octets)
     return b"".join(bytes(it) for it in octets)

@@ -1,9 +1,10 @@
 use Rattle.std.proofs.Common.{sym, ap, ◌∙◌}
+use Rattle.std.proofs.lemmas.Bool.{both_ways}
 use Rattle.x509_cert_parts.specs.SerialNumbers.{new_serial}
 use Rattle.cert_desk_issuing.proofs.accepting.serial_of.Goals as goal
 
-pub returns-in_default : goal.returns-in_default
-returns-in_default c = record {
+pub returns-else-is_want_of_memory : goal.returns-else-is_want_of_memory
+returns-else-is_want_of_memory c = record {
   number = tt;
-  refused = λ role key named. (named, (c.in-Err.error.kind, ap new_serial (sym c.as_slice.ensures.value) ∙ c.in-Err.ensures c.in_default.not-OutOfMemory));
+  refused = λ role key named. (named, (c.in-Err.error.kind, ap new_serial (sym c.as_slice.ensures.value) ∙ c.in-Err.ensures (λ memory. both_ways _ c.if-is_want_of_memory.false (c.is_want_of_memory.ensures.1 memory))));
 }
