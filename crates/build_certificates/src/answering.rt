@@ -1,13 +1,11 @@
 //! Certificates for requests that came.
 
 use crate::digest_signer::DigestSigner;
-use crate::{profile_of_server, validity};
+use crate::{builder_for, profile_of_server};
 use const_oid::AssociatedOid;
 use std::alloc::Global;
-use x509_cert::builder::{Builder, CertificateBuilder, Error};
-use x509_cert::{
-    Any, Attribute, CertReq, Certificate, Extension, ExtensionReq, SerialNumber, SubjectAltName,
-};
+use x509_cert::builder::{Builder, CertificateBuilder, Error, Subscriber};
+use x509_cert::{Any, Attribute, CertReq, Certificate, Extension, ExtensionReq, SubjectAltName};
 
 /// The alternative names among the extensions that a value of an attribute asks for.
 fn names_in(alloc: Global, value: &Any) -> Result<Option<Extension>, Error> {
@@ -34,6 +32,18 @@ fn names_asked(alloc: Global, attributes: &[Attribute]) -> Result<Option<Extensi
     Ok(None)
 }
 
+/// Adds the alternative names that a request asks for, if it does.
+fn add_names(
+    alloc: Global,
+    builder: &mut CertificateBuilder<Subscriber>,
+    request: &CertReq,
+) -> Result<(), Error> {
+    if let Some(names) = names_asked(alloc, request.info.attributes.values.as_slice())? {
+        builder.add_extension(alloc, names)?;
+    }
+    Ok(())
+}
+
 /// The certificate of a server for its request (RFC 2986), below an authority: with its subject and
 /// its key, and of the extensions that it asks for with the alternative names; the profile adds all
 /// others. That the request bears a signature under its own key, and that the names are the
@@ -44,14 +54,9 @@ pub fn issued(
     authority: &Certificate,
     signer: &DigestSigner,
 ) -> Result<Certificate, Error> {
-    let names = names_asked(alloc, request.info.attributes.values.as_slice())?;
     let profile = profile_of_server(alloc, request.info.subject.clone(alloc)?, authority)?;
-    let serial = SerialNumber::new(alloc, &[4])?;
-    let key = request.info.public_key.clone(alloc)?;
-    let mut builder = CertificateBuilder::new(alloc, profile, serial, validity()?, key)?;
-    if let Some(names) = names {
-        builder.add_extension(alloc, names)?;
-    }
+    let mut builder = builder_for(alloc, profile, 4, request.info.public_key.clone(alloc)?)?;
+    add_names(alloc, &mut builder, request)?;
     let certificate = builder.build(alloc, signer)?;
     Ok(certificate)
 }

@@ -59,23 +59,34 @@ fn key_of(alloc: Global, octets: &[u8]) -> Result<SubjectPublicKeyInfo, Error> {
 }
 
 /// From when until when all of them are valid.
-pub(crate) fn validity() -> Result<Validity, Error> {
+fn validity() -> Result<Validity, Error> {
     let from = Time::from_str("2026-01-01T00:00:00Z")?;
     let until = Time::from_str("2036-01-01T00:00:00Z")?;
     Ok(Validity::new(from, until))
 }
 
 /// The builder of a certificate of this profile, number and key.
+pub(crate) fn builder_for<P: BuilderProfile + Drop>(
+    alloc: Global,
+    profile: P,
+    number: u8,
+    key: SubjectPublicKeyInfo,
+) -> Result<CertificateBuilder<P>, Error> {
+    let serial = SerialNumber::new(alloc, &[number])?;
+    let builder = CertificateBuilder::new(alloc, profile, serial, validity()?, key)?;
+    Ok(builder)
+}
+
+/// The builder of a certificate of this profile and number, and of the key that is the encoding of
+/// these octets.
 fn builder_of<P: BuilderProfile + Drop>(
     alloc: Global,
     profile: P,
     number: u8,
     key: &[u8],
 ) -> Result<CertificateBuilder<P>, Error> {
-    let serial = SerialNumber::new(alloc, &[number])?;
     let key = key_of(alloc, key)?;
-    let builder = CertificateBuilder::new(alloc, profile, serial, validity()?, key)?;
-    Ok(builder)
+    builder_for(alloc, profile, number, key)
 }
 
 /// A root (CA/Browser Forum, Baseline Requirements 7.1.2.1). Its issuer is itself.
@@ -133,7 +144,7 @@ pub(crate) fn profile_of_server(
 }
 
 /// A server with one domain (7.1.2.7). Alternative names are added to the builder; the profile adds
-/// the rest behind them.
+/// the rest after them.
 fn server(
     alloc: Global,
     authority: &Certificate,

@@ -16,7 +16,7 @@ pub enum Manner {
     Whole,
     /// The builder is assembled at once.
     Unready,
-    /// The builder is finalized, and changed behind that.
+    /// The builder is finalized, and changed after that.
     Late,
     /// The builder is changed, finalized, and changed once more.
     Later,
@@ -96,7 +96,7 @@ pub fn part_of<B: Change + Drop>(
     }
 }
 
-/// What is signed behind a change, which is made again where it finds no memory: then the builder
+/// What is signed after a change, which is made again where it finds no memory: then the builder
 /// has to be as it was.
 fn again<B: Change + Drop>(
     alloc: Global,
@@ -133,7 +133,7 @@ fn finalized_again<B: Change + Drop>(
     }
 }
 
-/// What is signed behind a change, made twice.
+/// What is signed after a change, made twice.
 fn twice<B: Change + Drop>(
     alloc: Global,
     builder: &mut B,

@@ -2,16 +2,17 @@
 
 use crate::builders::{Asked, Change, Manner, part_of, whole_of};
 use crate::refusals::Refusal;
-use crate::words::{Words, extension_of, key_of, octets_of, time_of, written_in};
+use crate::words::{Words, extension_of, key_of, list_of, octets_of, time_of, written_in};
 use const_oid::ObjectIdentifier;
-use der_core::FromDer;
 use std::alloc::Global;
 use std::str::FromStr;
 use x509_cert::builder::{
     BuilderProfile, CertificateBuilder, CertificateType, DevId, Root, Subordinate, Subscriber,
     Tls12Options, TpmVersion,
 };
-use x509_cert::{Certificate, GeneralNames, Name, OctetString, SerialNumber, Validity};
+use x509_cert::{
+    Certificate, GeneralName, GeneralNames, Name, OctetString, SerialNumber, Validity,
+};
 
 impl<P: BuilderProfile + Drop> Change for CertificateBuilder<P> {
     fn change(&mut self, alloc: Global, word: &str) -> Result<(), Refusal> {
@@ -222,7 +223,7 @@ fn names_of(alloc: Global, word: &str) -> Result<Option<GeneralNames>, Refusal> 
         return Ok(None);
     }
     let octets = octets_of(alloc, word)?;
-    let names = GeneralNames::from_der(alloc, octets.as_slice())?;
+    let names = list_of::<GeneralName>(alloc, octets.as_slice())?;
     Ok(Some(names))
 }
 

@@ -22,13 +22,13 @@
 //! | `whole` | the whole, whose bits are the digest of the signer's key and the signed octets |
 //! | `drawn` | the same, built with random octets, of which the signer takes none |
 //! | `unready` | the same, assembled before anything is finalized |
-//! | `late` | assembled after the builder was changed behind what it has finalized, with the bits of no octets |
+//! | `late` | assembled after the builder was changed after what it has finalized, with the bits of no octets |
 //! | `later` | assembled after the builder was changed, finalized and changed once more |
 //! | `other` | assembled by a signer of another algorithm than the part was made for |
-//! | `again` | what is signed behind the change. Where a call finds no memory the builder has to be as before it, and the call is made again; else `changed` |
+//! | `again` | what is signed after the change. Where a call finds no memory the builder has to be as before it, and the call is made again; else `changed` |
 //!
 //! To be changed is to be given the extension of a certificate, the entries of a list, or of a
-//! request its extensions, or the password behind `password:`.
+//! request its extensions, or the password after `password:`.
 //!
 //! | `PROFILE` | |
 //! |---|---|
@@ -42,7 +42,7 @@
 //! clients are certified, `d` data are enciphered, `k` keys are, `a` keys are agreed upon.
 //! `SETTLED` is `SERIAL FROM UNTIL KEY SIGNER ADDED`: octets, two dates, the certified key, that of
 //! the signer, and an extension that is added, or a dash. A date is given as a GeneralizedTime
-//! behind `general:`. A signer refuses to sign behind `refuses:`.
+//! after `general:`. A signer refuses to sign after `refuses:`.
 //!
 //! Keys, issuers, entries, extensions and passwords are encodings in hex, of
 //! `SubjectPublicKeyInfo`, `Certificate`, `RevokedCert`, `Extension` and `DirectoryString`; several

@@ -2,7 +2,7 @@
 
 use crate::refusals::Refusal;
 use der_core::describing::{DecodeWay, Described};
-use der_core::{FixedTag, FromDer, SliceReader, ToDer};
+use der_core::{Decode, FixedTag, FromDer, SliceReader, ToDer};
 use std::alloc::Global;
 use std::str::FromStr;
 use x509_cert::{DateTime, Extension, GeneralizedTime, Name, SubjectPublicKeyInfo, Time};
@@ -48,6 +48,15 @@ where
     Ok(T::from_der(alloc, octets)?)
 }
 
+/// The values of the list that octets spell. They are any here, so that the list is checked here
+/// alone.
+pub fn list_of<'a, T: Decode<'a, SliceReader<'a>>>(
+    alloc: Global,
+    octets: &'a [u8],
+) -> Result<Vec<T>, Refusal> {
+    Ok(Vec::from_der(alloc, octets)?)
+}
+
 /// The octets of a value of such a type.
 pub fn written<T: Described + FixedTag>(alloc: Global, value: &T) -> Result<Vec<u8>, Refusal> {
     Ok(value.to_der(alloc)?)
@@ -61,7 +70,7 @@ pub fn written_in<T: Described + FixedTag + Drop>(
     written(alloc, &outcome?)
 }
 
-/// The date that a word tells, as a GeneralizedTime behind `general:`.
+/// The date that a word tells, as a GeneralizedTime after `general:`.
 pub fn time_of(word: &str) -> Result<Time, Refusal> {
     match word.strip_prefix("general:") {
         Some(word) => {

@@ -180,6 +180,13 @@ pub fn answer_of_fronts(alloc: Global, rest: &str) -> Result<String, Refusal> {
     let (limit, octets) = rest.split_once(' ').ok_or(Refusal::Unread)?;
     let limit = limit_of(limit)?;
     let stream = octets_of(alloc, octets)?;
+    ends_of(alloc, limit, stream.as_slice())
+}
+
+/// What ends each front of these octets.
+fn ends_of(alloc: Global, limit: u32, stream: &[u8]) -> Result<String, Refusal>
+    requires { 6 ≤ limit }
+{
     let mut text = String::new(alloc);
     let mut first = 0;
     let mut end = end_of(alloc, limit, &[])?;

@@ -3,7 +3,7 @@
 use crate::refusal::Refusal;
 use crate::schedules::Schedule;
 use crate::words::{Word, octets_of};
-use cert_desk::{Input, write_all};
+use cert_desk::{Input, MemoryOutput, write_all};
 use std::alloc::{AllocError, Global};
 use std::fmt::Write;
 
@@ -32,17 +32,33 @@ pub fn answer_of_output(alloc: Global, rest: &str) -> Result<String, Refusal> {
     let schedule = Schedule::parse(alloc, schedule)?;
     let mut room = [0; 64];
     let mut output = schedule.output(&mut room);
+    taken_by(alloc, &mut output, texts)
+}
+
+/// Whether an output takes each text, and what it took.
+fn taken_by(alloc: Global, output: &mut MemoryOutput<'_>, texts: &str) -> Result<String, Refusal> {
     let mut text = String::new(alloc);
     for octets in texts.split(' ') {
-        let octets = octets_of(alloc, octets)?;
-        match write_all(&mut output, octets.as_slice()) {
-            Ok(()) => text.push_str("ok, ")?,
-            Err(error) => write!(text, "{error}, ")?,
-        }
+        write_taken(alloc, &mut text, output, octets)?;
     }
     write_word(&mut text, output.written())?;
     write!(text, ", failures={}", output.failures())?;
     Ok(text)
+}
+
+/// Writes whether an output takes the octets of a word.
+fn write_taken(
+    alloc: Global,
+    text: &mut String,
+    output: &mut MemoryOutput<'_>,
+    word: &str,
+) -> Result<(), Refusal> {
+    let octets = octets_of(alloc, word)?;
+    match write_all(output, octets.as_slice()) {
+        Ok(()) => text.push_str("ok, ")?,
+        Err(error) => write!(text, "{error}, ")?,
+    }
+    Ok(())
 }
 
 /// Writes the word that spells these octets.

@@ -39,9 +39,19 @@ pub fn answer_of_call(alloc: Global, schedules: &str, file: &str) -> Result<Stri
     let (output, errors) = schedules.split_once('/').ok_or(Refusal::Unread)?;
     let output = Schedule::parse(alloc, output)?;
     let errors = Schedule::parse(alloc, errors)?;
+    called(alloc, file, &output, &errors)
+}
+
+/// What the call for the orders of a file tells.
+fn called(
+    alloc: Global,
+    file: &str,
+    output: &Schedule,
+    errors: &Schedule,
+) -> Result<String, Refusal> {
     let file = file_of(alloc, file)?;
     let orders = orders_in(alloc, file.as_slice())?;
-    issued(alloc, orders.as_slice(), &output, &errors)
+    issued(alloc, orders.as_slice(), output, errors)
 }
 
 /// What the call for these orders tells.

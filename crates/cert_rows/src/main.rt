@@ -10,7 +10,7 @@
 //! | `bundle LIMIT SCHEDULE HEX CALL ..` | what a bundle answers to each call in turn, and how it and its input stand then: `HEX` takes a piece, `end` ends the stream, `read` takes the input, `check` judges it by the program's judge, `unfinished` tells how many octets are kept of a certificate that isn't whole, `reasons` why each place breaks each rule for servers, where that is left open |
 //! | `split LIMIT HEX` | how many certificates begin the stream, and their octets: as the plain split finds it, and as a bundle does |
 //! | `cuts LIMIT JUDGE HEX` | `N: VERDICT cuts=M`, the certificates and the verdict of the stream in one piece, of M octets, where it gives the same certificates and the same verdict cut in two at each place, and octet by octet; else the first cut that doesn't |
-//! | `fronts LIMIT HEX` | with what each front of the stream ends, where nothing comes behind it: fronts of neighbouring lengths that end alike stand together |
+//! | `fronts LIMIT HEX` | with what each front of the stream ends, where nothing comes after it: fronts of neighbouring lengths that end alike stand together |
 //! | `again LIMIT HEX` | how a bundle stands that was fed the stream, and the verdict by the program's judge. Where it finds no memory it has to keep the certificates that it had read, and to refuse all calls, and another one is fed the stream; else `changed`. Where the verdict finds none, it is asked for again |
 //! | `input SCHEDULE HEX` | the octets that each of six reads of an input gives into room for 4, and how many failed |
 //! | `output SCHEDULE HEX ..` | whether an output with room for 64 octets takes each text, what it took, and how many writes failed |
@@ -33,11 +33,11 @@
 //! `HEX`, `KEY`, `ANCHORS` and `STREAM` are octets in base 16, `-` for none, and `HEX*N` is `HEX`
 //! so many times. A `KIND` is `certificate`, `list` or `request`. A `FILE` is the lines of an
 //! orders file with `|` between them, or `0x` and its octets in base 16. A `SCHEDULE` is the sizes
-//! of the first pieces, joined by commas, `-` for none, and `!N` behind them where the Nth call
+//! of the first pieces, joined by commas, `-` for none, and `!N` after them where the Nth call
 //! fails.
 //!
 //! A `JUDGE` is `digest` (the program's), `yes`, `no`, `octets:HEX,HEX..`, which says yes to these
-//! signed octets alone, or `key:HEX`, which does under keys of these octets alone; behind the
+//! signed octets alone, or `key:HEX`, which does under keys of these octets alone; after the
 //! answer under the last four stands how often they were asked. `cuts` and `check` of a bundle
 //! judge for servers at 2002-01-01T12:01:00Z, under an anchor of an empty name and of a key of one
 //! octet 00. `SIGNERS` are `digest`, for signers of digests of the orders' keys; or `refuses:HEX`

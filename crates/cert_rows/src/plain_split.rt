@@ -10,7 +10,7 @@ ghost use Rattle.cert_desk_bundle.specs.Faults.{Split};
 ghost use Rattle.cert_rows.specs.SplitFronts.{IsFirst};
 
 use cert_desk::{CertificateInner, Raw};
-use der_core::ErrorKind;
+use der_core::making::is_want_of_memory;
 use std::alloc::{AllocError, Global};
 
 /// The certificate that begins the octets and has at most `limit` of them, with its number of
@@ -38,7 +38,7 @@ pub(crate) fn first_certificate(
         match CertificateInner::<Raw>::from_der(alloc, &octets[..len]) {
             Ok(certificate) => return Ok(Some((certificate, len))),
             Err(error) => {
-                if let ErrorKind::OutOfMemory = error.kind {
+                if is_want_of_memory(&error) {
                     return Err(AllocError);
                 }
             }

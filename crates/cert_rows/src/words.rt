@@ -7,7 +7,7 @@ use der_core::FromDer;
 use std::alloc::Global;
 use std::{fmt, str};
 
-/// The octets that a word spells in base 16; `-` is none, and `*N` behind them repeats them.
+/// The octets that a word spells in base 16; `-` is none, and `*N` after them repeats them.
 pub fn octets_of(alloc: Global, word: &str) -> Result<Vec<u8>, Refusal> {
     if word == "-" {
         return Ok(Vec::new(alloc));

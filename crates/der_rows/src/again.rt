@@ -73,7 +73,7 @@ fn place_again(
     Ok(place(set, word, member)?)
 }
 
-/// The set that is extended by the members: where there is no memory, by those behind the ones that
+/// The set that is extended by the members: where there is no memory, by those after the ones that
 /// were placed.
 fn extended(alloc: Global, members: &[Small]) -> Result<SetOfVec<Small>, Refusal> {
     let mut set = SetOfVec::new(alloc);

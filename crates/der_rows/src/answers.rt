@@ -19,7 +19,7 @@ pub fn answer<W: Write>(alloc: Global, line: &str, out: &mut W) -> io::Result<()
     }
 }
 
-/// What is answered behind `ok`: of `why` and `place`, what the refusal of the question behind them
+/// What is answered after `ok`: of `why` and `place`, what the refusal of the question after them
 /// tells.
 fn answer_of(alloc: Global, line: &str) -> Result<String, Refusal> {
     match line.split_once(' ') {

@@ -4,8 +4,8 @@ use crate::refusals::Refusal;
 use crate::shown::{hex_of, joined, name_of, named, octets_of, shown};
 use const_oid::ObjectIdentifier;
 use der_core::{
-    BytesOwned, BytesRef, DecodeValue, EncodeValue, EncodeValueRef, FixedTag, FromDer, Header,
-    Length, OrdIsValueOrd, SliceReader, StringOwned, StringRef, Tag, ValueOrd, der_cmp_by_ord,
+    BytesOwned, BytesRef, DecodeValue, DerOrd, EncodeValue, EncodeValueRef, FixedTag, FromDer,
+    Header, Length, OrdIsValueOrd, SliceReader, StringOwned, StringRef, Tag, ValueOrd,
     value_cmp_by_ord, value_cmp_is_ord,
 };
 use std::alloc::{AllocError, Global};
@@ -92,7 +92,7 @@ pub fn answer_of_prefixes(alloc: Global, rest: &str) -> Result<String, Refusal> 
     hex_of(alloc, prefix.as_slice())
 }
 
-/// The orders by `Ord` of the contents and of the encodings of two values.
+/// The orders of two values: by `Ord`, of the contents and of the encodings.
 pub fn answer_by_ord(
     alloc: Global,
     kind: &str,
@@ -118,7 +118,7 @@ fn orders_by_ord<
     orders_of(alloc, &first, &second)
 }
 
-/// The orders by `Ord` of the contents and of the encodings of two values.
+/// The orders of two values: by `Ord`, of the contents and of the encodings.
 fn orders_of<T: EncodeValue + FixedTag + OrdIsValueOrd + ValueOrd>(
     alloc: Global,
     first: &T,
@@ -127,5 +127,5 @@ fn orders_of<T: EncodeValue + FixedTag + OrdIsValueOrd + ValueOrd>(
     let contents = shown(alloc, name_of(value_cmp_by_ord(first, second)));
     let same_contents = named(alloc, value_cmp_is_ord(first, second));
     let both = joined(contents, " ", same_contents);
-    joined(both, " ", named(alloc, der_cmp_by_ord(first, second)))
+    joined(both, " ", named(alloc, first.der_cmp(second)))
 }

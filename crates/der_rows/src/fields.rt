@@ -1,4 +1,4 @@
-//! Fields of sequences, and values behind tags of other classes.
+//! Fields of sequences, and values after tags of other classes.
 
 ghost use Rattle.std.specs.Prelude.{◌≡◌, IfOk, IfSome};
 ghost use Rattle.der_core_head.specs.declared.tag_mode.TagMode.TheVariants as modes;
@@ -19,7 +19,7 @@ use der_types::{
 };
 use std::alloc::{AllocError, Global};
 
-/// The answer of a type that this page names, or one behind it.
+/// The answer of a type that this page names, or one after it.
 pub fn answer(alloc: Global, kind: &str, question: &Question<'_>) -> Result<String, Refusal> {
     match kind {
         "EachKind" => answer_of_six::<
@@ -225,7 +225,7 @@ fn absent(alloc: Global, left: u32) -> Result<String, Refusal> {
     Ok(format!(in alloc; "absent, {left} left")?)
 }
 
-/// The order of two fields of one mode and number, and behind it that of their contents.
+/// The order of two fields of one mode and number, and after it that of their contents.
 fn order_of(
     alloc: Global,
     kind: &str,

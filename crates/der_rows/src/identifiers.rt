@@ -48,7 +48,7 @@ fn of_arcs(alloc: Global, text: &str) -> Result<String, Refusal> {
     octets_in(alloc, Identifier::from_arcs(arcs.iter().copied()))
 }
 
-/// The answer to a question about the identifier of a text, and about what stands behind the text.
+/// The answer to a question about the identifier of a text, and about what stands after the text.
 fn of_text(alloc: Global, word: &str, rest: &str) -> Result<String, Refusal> {
     let (text, other) = rest.split_once(' ').unwrap_or((rest, ""));
     let identifier = Identifier::new(text)?;

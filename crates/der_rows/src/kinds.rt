@@ -6,7 +6,7 @@ use crate::shown::{front_of, octets_of};
 use crate::{again, any_values, contents, copies, leaves, lists};
 use std::alloc::Global;
 
-/// The answer to a question about a type, whose octets stand behind its name. They are held here,
+/// The answer to a question about a type, whose octets stand after its name. They are held here,
 /// and lent to all pages.
 pub fn answer(alloc: Global, word: &str, rest: &str) -> Result<String, Refusal> {
     let (kind, rest) = front_of(rest);

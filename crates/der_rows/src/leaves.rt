@@ -1,8 +1,9 @@
 //! Values without others inside.
 
 use crate::questions::{
-    Asked, Question, answer_of_converted, answer_of_lent, answer_of_number, answer_of_plain,
-    answer_of_value, answer_with_contents, answer_with_order,
+    Asked, Question, answer_of_converted, answer_of_lent, answer_of_number, answer_of_ordered,
+    answer_of_ordered_lent, answer_of_plain, answer_of_value, answer_with_contents,
+    answer_with_order,
 };
 use crate::refusals::Refusal;
 use crate::shown::{read, written_in};
@@ -16,7 +17,7 @@ use der_types::{
 };
 use std::alloc::Global;
 
-/// The answer of a type that this page names, or one behind it.
+/// The answer of a type that this page names, or one after it.
 pub fn answer(alloc: Global, kind: &str, question: &Question<'_>) -> Result<String, Refusal> {
     match kind {
         "()" => answer_of_converted::<()>(alloc, question),
@@ -58,8 +59,8 @@ fn answer_of_numbers(
 ) -> Result<String, Refusal> {
     match kind {
         "Int" => answer_with_order::<Int>(alloc, question),
-        "IntRef" => answer_of_lent::<IntRef>(alloc, question),
-        "Uint" => answer_with_order::<Uint>(alloc, question),
+        "IntRef" => answer_of_ordered_lent::<IntRef>(alloc, question),
+        "Uint" => answer_of_ordered::<Uint>(alloc, question),
         "UintRef" => answer_of_lent::<UintRef>(alloc, question),
         "Explicit<Uint,0>" => answer_of_value::<Explicit<Uint, 0>>(alloc, question),
         _ => answer_of_strings(alloc, kind, question),
@@ -77,10 +78,10 @@ fn answer_of_strings(
         "BitStringRef" => answer_of_lent::<BitStringRef>(alloc, question),
         "Implicit<BitStringRef,1>" => answer_of_value::<Implicit<BitStringRef, 1>>(alloc, question),
         "KeyUsages" => key_usages::answer(alloc, question),
-        "OctetString" => answer_with_order::<OctetString>(alloc, question),
-        "OctetStringRef" => answer_of_lent::<OctetStringRef>(alloc, question),
+        "OctetString" => answer_of_ordered::<OctetString>(alloc, question),
+        "OctetStringRef" => answer_of_ordered_lent::<OctetStringRef>(alloc, question),
         "Null" => answer_of_lent::<Null>(alloc, question),
-        "SequenceRef" => answer_of_lent::<SequenceRef>(alloc, question),
+        "SequenceRef" => answer_of_ordered_lent::<SequenceRef>(alloc, question),
         _ => texts::answer(alloc, kind, question),
     }
 }

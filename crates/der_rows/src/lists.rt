@@ -15,7 +15,7 @@ use der_types::{FlagSet, OctetStringRef, SequenceOf, SetOf, SetOfRef, SetOfVec};
 use std::alloc::Global;
 use std::hash::Hash;
 
-/// The answer of a type that this page names, or one behind it.
+/// The answer of a type that this page names, or one after it.
 pub fn answer(alloc: Global, kind: &str, question: &Question<'_>) -> Result<String, Refusal> {
     match kind {
         "Small" => answer_with_contents::<Small>(alloc, question),
@@ -36,7 +36,7 @@ pub fn answer(alloc: Global, kind: &str, question: &Question<'_>) -> Result<Stri
     }
 }
 
-/// The answer of a set or of sets that are lent, or of a type behind them. The members are any
+/// The answer of a set or of sets that are lent, or of a type after them. The members are any
 /// here: what is asked of them is checked once, at the call, and not for each set of them.
 fn answer_around<
     'a,

@@ -5,11 +5,11 @@
 //! |---|---|
 //! | `der TYPE HEX` | `ok HEX`, the octets that the value writes that these spell by DER |
 //! | `ber TYPE HEX` | the same of octets by BER |
-//! | `front TYPE HEX` | `ok HEX HEX`, what is written of the value at the front, and the octets behind it |
+//! | `front TYPE HEX` | `ok HEX HEX`, what is written of the value at the front, and the octets after it |
 //! | `twice TYPE HEX` | `ok ANSWER; ANSWER`, what is written of the values that a reader reads by two calls, or why there is none |
 //! | `order TYPE HEX HEX` | `ok Less`, `ok Equal` or `ok Greater`, the order of two encodings |
 //! | `contents TYPE HEX HEX` | the order of two contents, whatever their lengths |
-//! | `compare TYPE HEX HEX` | the order of two values by their type, and behind it whether their hashes are the `same` or `apart` |
+//! | `compare TYPE HEX HEX` | the order of two values by their type, and after it whether their hashes are the `same` or `apart` |
 //! | `text TYPE HEX` | `ok TEXT`, what the value prints; of a bit string its bits, of named bits their names, of a time its date |
 //! | `new TYPE HEX` | `ok HEX`, the octets that the value writes that the type makes of these; of `Vec<u8>` the OCTET STRING of those that one gives back |
 //! | `from TYPE TEXT` | the same of what the type makes of a text, of names, or of seconds since 1970 |
@@ -51,11 +51,11 @@
 //! | `reader HEX STEP..` | `ok ANSWER; ANSWER..`, what a reader answers to each step |
 //! | `writer NUMBER STEP..` | the same of a writer to so many octets, then what it wrote, and then those octets |
 //! | `slice NUMBER HEX`, `slice-value NUMBER HEX` | `ok HEX HEX`, what is written of a number, or of its content, to so many octets, and then those octets |
-//! | `vector HEX HEX` | `ok HEX NUMBER NAME LENGTH`: a number behind octets, how many octets it has, and its header |
+//! | `vector HEX HEX` | `ok HEX NUMBER NAME LENGTH`: a number after octets, how many octets it has, and its header |
 //! | `why QUESTION` | `ok TEXT`, what the kind of the refusal of the question prints |
 //! | `place QUESTION` | `ok PLACE`, the octet of the input where the fault was found that refuses the question, from 0 on; `ok none` where none is known |
-//! | `explicit TYPE NUMBER HEX`, `implicit TYPE NUMBER HEX` | `ok HEX, COUNT left`: what is written of the field of this number that stands first, its tag in front of the value's own or in its place, and how many octets are left behind it; `absent` where another tag stands |
-//! | `explicit TYPE NUMBER HEX HEX`, `implicit TYPE NUMBER HEX HEX` | the order of two such fields, and behind it that of their contents |
+//! | `explicit TYPE NUMBER HEX`, `implicit TYPE NUMBER HEX` | `ok HEX, COUNT left`: what is written of the field of this number that stands first, its tag in front of the value's own or in its place, and how many octets are left after it; `absent` where another tag stands |
+//! | `explicit TYPE NUMBER HEX HEX`, `implicit TYPE NUMBER HEX HEX` | the order of two such fields, and after it that of their contents |
 //! | `any-as TYPE HEX`, `any-as-ber TYPE HEX` | what is written of the value that any value was read as, by DER or BER |
 //! | `any-into TYPE HEX`, `any-ref-into TYPE HEX` | the same of the value that any value was converted to, owned or lent |
 //! | `any-from TYPE HEX`, `any-ref-from TYPE HEX` | what is written of any value that was made of a value, owned or lent |

@@ -15,7 +15,10 @@ use der_types::OctetStringRef;
 use std::alloc::Global;
 use std::marker::PhantomData;
 
-/// The answer of a type that this page names, or one behind it.
+/// A row of a number, of a flag that may be absent, and of a text.
+type Flagged<'a> = (u8, (Option<bool>, (&'a str, ())));
+
+/// The answer of a type that this page names, or one after it.
 pub fn answer(alloc: Global, kind: &str, question: &Question<'_>) -> Result<String, Refusal> {
     match kind {
         "Option<bool>" => answer_as_with_debug::<Option<bool>>(alloc, question),
@@ -24,7 +27,7 @@ pub fn answer(alloc: Global, kind: &str, question: &Question<'_>) -> Result<Stri
         "Explicit<bool,3>" => answer_of_value::<Explicit<bool, 3>>(alloc, question),
         "Explicit<u8,0>" => answer_with_contents::<Explicit<u8, 0>>(alloc, question),
         "Implicit<u8,0>" => answer_with_contents::<Implicit<u8, 0>>(alloc, question),
-        "Flagged" => record::answer_of_three_and_order::<u8, Option<bool>, &str>(alloc, question),
+        "Flagged" => record::answer_and_order::<Flagged>(alloc, question),
         "NumberOrText" => ten_fields::answer_of_choice(alloc, question),
         "TenFields" => ten_fields::answer(alloc, question),
         _ => answer_of_lists(alloc, kind, question),

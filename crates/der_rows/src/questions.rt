@@ -30,7 +30,7 @@ pub enum Asked<'a> {
     Compare,
     /// What the value prints that octets spell by DER.
     Text,
-    /// What is written of the value that octets begin with by DER, and the octets behind it.
+    /// What is written of the value that octets begin with by DER, and the octets after it.
     Front,
     /// What a reader of the octets answers to a first call, and to a second one.
     Twice,
@@ -95,7 +95,7 @@ pub fn answer_of<'a, T: Decode<'a, SliceReader<'a>> + Encode>(
     }
 }
 
-/// What is written of the value at the front of octets, and the octets behind it.
+/// What is written of the value at the front of octets, and the octets after it.
 fn front_written<T: Encode + Drop>(
     alloc: Global,
     front: Result<(T, &[u8]), Error>,
@@ -254,6 +254,34 @@ pub fn answer_of_lent<
         Asked::Converted(any, conversion) => converted::<T>(alloc, any, conversion),
         _ => answer_with_order::<T>(alloc, question),
     }
+}
+
+/// The answer of a type with an order of its own that names its way.
+pub fn answer_of_ordered<'a, T: Ordered + FixedTag + Hash + Ord + Drop>(
+    alloc: Global,
+    question: &Question<'a>,
+) -> Result<String, Refusal>
+where
+    T::By: DecodeWay<'a, SliceReader<'a>, T> + OrderWay<T>,
+{
+    answer_with_order::<T>(alloc, question)
+}
+
+/// The answer of such a type that any value is converted to.
+pub fn answer_of_ordered_lent<
+    'a,
+    T: Ordered
+        + FixedTag
+        + Hash
+        + Ord
+        + TryFrom<&'a Any, Error = Error>
+        + TryFrom<AnyRef<'a>, Error = Error>
+        + Drop,
+>(alloc: Global, question: &Question<'a>) -> Result<String, Refusal>
+where
+    T::By: DecodeWay<'a, SliceReader<'a>, T> + OrderWay<T>,
+{
+    answer_of_lent::<T>(alloc, question)
 }
 
 /// The answer of such a type that prints, and names its way.

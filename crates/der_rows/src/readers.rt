@@ -19,7 +19,7 @@ pub fn answer(alloc: Global, rest: &str) -> Result<String, Refusal> {
     answers_of(alloc, octets.as_slice(), steps)
 }
 
-/// What the steps answer, one behind another.
+/// What the steps answer, one after another.
 fn answers_of(alloc: Global, octets: &[u8], steps: &str) -> Result<String, Refusal> {
     let mut reader = SliceReader::new(octets)?;
     let mut answers = String::new(alloc);
@@ -30,7 +30,7 @@ fn answers_of(alloc: Global, octets: &[u8], steps: &str) -> Result<String, Refus
     Ok(answers)
 }
 
-/// Adds an answer behind those before it.
+/// Adds an answer after those before it.
 pub fn add(answers: &mut String, answer: Result<String, Refusal>) -> Result<(), Refusal> {
     let answer = answer?;
     if !answers.is_empty() {
@@ -39,7 +39,7 @@ pub fn add(answers: &mut String, answer: Result<String, Refusal>) -> Result<(), 
     Ok(answers.push_str(answer.as_str())?)
 }
 
-/// What a step answers: a name, and behind a colon how many octets it is about.
+/// What a step answers: a name, and after a colon how many octets it is about.
 fn answer_of_step(
     alloc: Global,
     reader: &mut SliceReader<'_>,

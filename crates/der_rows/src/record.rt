@@ -8,9 +8,8 @@ use crate::refusals::Refusal;
 use der_core::describing::{DecodeRow, FieldRow};
 use der_core::making::read_fields;
 use der_core::{
-    Decode, DecodeFields, DecodeValue, DerOrd, Encode, EncodeFields, EncodeValue, Error, Fields,
-    FieldsOrd, FirstTag, FixedTag, Header, Length, Reader, ShapedValue, SliceReader, Tag, ValueOrd,
-    Writer,
+    Decode, DecodeFields, DecodeValue, Encode, EncodeFields, EncodeValue, Error, Fields, FieldsOrd,
+    FixedTag, Header, Length, Reader, ShapedValue, SliceReader, Tag, ValueOrd, Writer,
 };
 use std::alloc::Global;
 use std::cmp::Ordering;
@@ -85,8 +84,8 @@ pub fn answer<'a, F: DecodeRow<'a, SliceReader<'a>> + EncodeFields + Drop>(
     answer_of_value::<Record<F>>(alloc, question)
 }
 
-/// The answer of a record of three fields. They are any here: what is asked of each is checked once,
-/// at the call, and not for each row of them.
+/// The answer of a record of three fields. They are any here: what is asked of each is checked
+/// once, at the call, and not for each row of them.
 pub fn answer_of_three<
     'a,
     A: Decode<'a, SliceReader<'a>> + Encode,
@@ -110,14 +109,4 @@ pub fn answer_and_order<
     F: DecodeRow<'a, SliceReader<'a>> + EncodeFields + FieldsOrd + Debug + Drop,
 >(alloc: Global, question: &Question<'a>) -> Result<String, Refusal> {
     answer_of_plain::<Record<F>>(alloc, question)
-}
-
-/// As `answer_and_order`, of three fields of any types.
-pub fn answer_of_three_and_order<
-    'a,
-    A: Decode<'a, SliceReader<'a>> + DerOrd + Encode + FirstTag + Debug,
-    B: Decode<'a, SliceReader<'a>> + DerOrd + Encode + FirstTag + Debug,
-    C: Decode<'a, SliceReader<'a>> + DerOrd + Encode + FirstTag + Debug,
->(alloc: Global, question: &Question<'a>) -> Result<String, Refusal> {
-    answer_and_order::<(A, (B, (C, ())))>(alloc, question)
 }

@@ -23,7 +23,7 @@ pub enum Refusal {
 }
 
 impl Refusal {
-    /// What the kind of the error behind it prints.
+    /// What the kind of the error after it prints.
     pub fn reason(self, alloc: Global) -> Result<String, Refusal> {
         match self {
             Refusal::Der(error) => shown(alloc, error.kind),
@@ -32,7 +32,7 @@ impl Refusal {
         }
     }
 
-    /// Where in the input the error behind it was found.
+    /// Where in the input the error after it was found.
     pub fn place(self, alloc: Global) -> Result<String, Refusal> {
         match self {
             Refusal::Der(

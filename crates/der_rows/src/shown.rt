@@ -110,7 +110,7 @@ pub fn octets_of(alloc: Global, digits: &str) -> Result<Vec<u8>, Refusal> {
     Ok(hex::decode(alloc, digits.as_bytes())?)
 }
 
-/// A text up to its first blank, and what stands behind that.
+/// A text up to its first blank, and what stands after that.
 pub fn front_of(text: &str) -> (&str, &str) {
     text.split_once(' ').unwrap_or((text, ""))
 }

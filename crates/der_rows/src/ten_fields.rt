@@ -11,7 +11,7 @@ use const_oid::ObjectIdentifier;
 use der_core::describing::{DecodeRow, FieldRow};
 use der_core::{
     Choice, Decode, DerOrd, Encode, EncodeFields, EncodeRef, Error, Explicit, FromDer, Implicit,
-    Length, OneOf2, Reader, Shaped, SliceReader, StrictSetOf, Tag, WithDefault, Writer,
+    Length, OneOf2, Reader, Shaped, StrictSetOf, Tag, WithDefault, Writer,
 };
 use std::alloc::Global;
 use std::fmt;
@@ -71,8 +71,6 @@ impl Encode for NumberOrText {
     }
 }
 
-/// The answer of the record, which isn't compared.
-///
 /// ```text
 /// TenFields ::= SEQUENCE {
 ///     version     INTEGER (0..255),
@@ -86,21 +84,10 @@ impl Encode for NumberOrText {
 ///     choice      NumberOrText,
 ///     members     SET OF INTEGER (0..255) OPTIONAL }
 /// ```
-pub fn answer(alloc: Global, question: &Question<'_>) -> Result<String, Refusal> {
-    answer_of_four::<u8, String, ObjectIdentifier<39>, WithDefault<bool>, Behind>(alloc, question)
-}
-
-/// The answer of a record of four fields in front of others, of any types.
-fn answer_of_four<
-    'a,
-    A: Decode<'a, SliceReader<'a>> + Encode + Debug,
-    B: Decode<'a, SliceReader<'a>> + Encode + Debug,
-    C: Decode<'a, SliceReader<'a>> + Encode + Debug,
-    D: Decode<'a, SliceReader<'a>> + Encode + Debug,
-    F: DecodeRow<'a, SliceReader<'a>> + EncodeFields + Debug + Drop,
->(alloc: Global, question: &Question<'a>) -> Result<String, Refusal> {
-    record::answer_and_debug::<(A, (B, (C, (D, F))))>(alloc, question)
-}
+type TenFields = (
+    u8,
+    (String, (ObjectIdentifier<39>, (WithDefault<bool>, Behind))),
+);
 
 /// The fields from the fifth on, a type of their own: what is checked of a row of ten at once
 /// takes more steps than a check may.
@@ -144,6 +131,11 @@ impl Debug for Behind {
     fn fmt<W: fmt::Write>(&self, f: &mut fmt::Formatter<W>) -> fmt::Result {
         self.0.fmt(f)
     }
+}
+
+/// The answer of the record, which isn't compared.
+pub fn answer(alloc: Global, question: &Question<'_>) -> Result<String, Refusal> {
+    record::answer_and_debug::<TenFields>(alloc, question)
 }
 
 /// A choice as one that is compared.

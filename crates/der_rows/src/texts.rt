@@ -1,6 +1,6 @@
 //! Character strings.
 
-use crate::questions::{Question, answer_of_lent, answer_of_lent_text, answer_with_text};
+use crate::questions::{Question, answer_of_lent_text, answer_of_ordered_lent, answer_with_text};
 use crate::refusals::Refusal;
 use crate::times;
 use der_types::{
@@ -9,7 +9,7 @@ use der_types::{
 };
 use std::alloc::Global;
 
-/// The answer of a type that this page names, or one behind it.
+/// The answer of a type that this page names, or one after it.
 pub fn answer(alloc: Global, kind: &str, question: &Question<'_>) -> Result<String, Refusal> {
     match kind {
         "PrintableString" => answer_with_text::<PrintableString>(alloc, question),
@@ -20,7 +20,7 @@ pub fn answer(alloc: Global, kind: &str, question: &Question<'_>) -> Result<Stri
         "TeletexStringRef" => answer_of_lent_text::<TeletexStringRef>(alloc, question),
         "VideotexStringRef" => answer_of_lent_text::<VideotexStringRef>(alloc, question),
         "Utf8StringRef" => answer_of_lent_text::<Utf8StringRef>(alloc, question),
-        "GeneralStringRef" => answer_of_lent::<GeneralStringRef>(alloc, question),
+        "GeneralStringRef" => answer_of_ordered_lent::<GeneralStringRef>(alloc, question),
         "BmpString" => answer_with_text::<BmpString>(alloc, question),
         _ => times::answer(alloc, kind, question),
     }

@@ -3,13 +3,13 @@
 use crate::nested;
 use crate::questions::{Asked, Question, answer_of_lent};
 use crate::refusals::Refusal;
-use crate::shown::{printed, shown};
+use crate::shown::{printed, read, shown};
 use der_core::describing::{DecodeWay, Described};
 use der_core::{Error, FixedTag, FromDer, SliceReader};
 use der_types::{DateTime, GeneralizedTime, UtcTime};
 use std::alloc::Global;
 
-/// The answer of a type that this page names, or one behind it.
+/// The answer of a type that this page names, or one after it.
 pub fn answer(alloc: Global, kind: &str, question: &Question<'_>) -> Result<String, Refusal> {
     match kind {
         "UtcTime" | "GeneralizedTime" | "DateTime" => answer_of_time(alloc, kind, question),
@@ -39,7 +39,7 @@ fn date_of(alloc: Global, kind: &str, octets: &[u8]) -> Result<DateTime, Error> 
     match kind {
         "UtcTime" => date_in::<UtcTime>(alloc, octets),
         "GeneralizedTime" => date_in::<GeneralizedTime>(alloc, octets),
-        _ => FromDer::from_der(alloc, octets),
+        _ => read(alloc, octets),
     }
 }
 

@@ -18,7 +18,7 @@ pub fn answer(alloc: Global, rest: &str) -> Result<String, Refusal> {
     joined(answers, "; ", hex_of(alloc, octets.as_slice()))
 }
 
-/// What the steps answer, one behind another, and then what was written.
+/// What the steps answer, one after another, and then what was written.
 fn answers_of(alloc: Global, octets: &mut [u8], steps: &str) -> Result<String, Refusal> {
     let mut writer = SliceWriter::new(octets);
     let mut answers = String::new(alloc);
@@ -155,7 +155,7 @@ fn written_to<'a>(word: &str, number: u8, room: &'a mut [u8]) -> Result<&'a [u8]
     }
 }
 
-/// What stands in a vector of octets when a number was written behind them, and how many octets
+/// What stands in a vector of octets when a number was written after them, and how many octets
 /// that has.
 pub fn answer_of_vectors(alloc: Global, rest: &str) -> Result<String, Refusal> {
     let (octets, number) = rest.split_once(' ').ok_or(Refusal::Unread)?;

@@ -44,6 +44,11 @@ fn main(rt: HostRuntime) -> io::Result<()> {
     Ok(())
 }
 
+/// The certified key, which signs too.
+fn key(alloc: Global) -> Result<SubjectPublicKeyInfo, Error> {
+    Ok(SubjectPublicKeyInfo::from_der(alloc, KEY)?)
+}
+
 /// The profile of a badge of this clearance.
 fn profile(alloc: Global, level: u8) -> Result<Badge, Error> {
     Ok(Badge {
@@ -58,16 +63,25 @@ fn builder(alloc: Global, level: u8) -> Result<CertificateBuilder<Badge>, Error>
     let from = Time::from_str("2026-01-01T00:00:00Z")?;
     let until = Time::from_str("2027-01-01T00:00:00Z")?;
     let serial = SerialNumber::new(alloc, &[level])?;
-    let key = SubjectPublicKeyInfo::from_der(alloc, KEY)?;
+    let validity = Validity::new(from, until);
     let profile = profile(alloc, level)?;
-    let builder = CertificateBuilder::new(alloc, profile, serial, Validity::new(from, until), key)?;
+    let builder = CertificateBuilder::new(alloc, profile, serial, validity, key(alloc)?)?;
     Ok(builder)
 }
 
 /// What is to be signed, in hex.
 fn signed_part(alloc: Global, level: u8) -> Result<String, Error> {
     let mut builder = builder(alloc, level)?;
-    let part = builder.finalize(alloc, &OutsideKey::new(alloc, KEY)?)?;
+    part_of(alloc, &mut builder, &OutsideKey::new(key(alloc)?)?)
+}
+
+/// What a builder has signed by this key, in hex.
+fn part_of(
+    alloc: Global,
+    builder: &mut CertificateBuilder<Badge>,
+    key: &OutsideKey,
+) -> Result<String, Error> {
+    let part = builder.finalize(alloc, key)?;
     Ok(hex::encode(alloc, part)?)
 }
 
@@ -76,7 +90,12 @@ fn serial_number(alloc: Global, line: &str) -> Result<String, der_core::Error> {
     let Ok(octets) = hex::decode(alloc, line) else {
         return Ok(format!(in alloc; "?")?);
     };
-    let certificate = CertificateInner::<ShortSerials>::from_der(alloc, octets.as_slice())?;
+    serial_in(alloc, octets.as_slice())
+}
+
+/// The serial number of the certificate that octets spell.
+fn serial_in(alloc: Global, octets: &[u8]) -> Result<String, der_core::Error> {
+    let certificate = CertificateInner::<ShortSerials>::from_der(alloc, octets)?;
     let serial = certificate.tbs_certificate().serial_number();
     Ok(format!(in alloc; "{serial}")?)
 }

@@ -1,7 +1,7 @@
 //! A key that signs elsewhere.
 
 use const_oid::ObjectIdentifier;
-use der_core::{Error, FromDer};
+use der_core::Error;
 use std::alloc::Global;
 use x509_cert::builder::{SignError, Signer};
 use x509_cert::{AlgorithmIdentifier, BitString, SubjectPublicKeyInfo};
@@ -14,13 +14,12 @@ pub struct OutsideKey {
 }
 
 impl OutsideKey {
-    /// The key that is the encoding of these octets.
-    pub fn new(alloc: Global, octets: &[u8]) -> Result<OutsideKey, Error> {
+    /// A key of this kind.
+    pub fn new(info: SubjectPublicKeyInfo) -> Result<OutsideKey, Error> {
         let algorithm = AlgorithmIdentifier {
             oid: ObjectIdentifier::new("1.2.840.10045.4.3.2")?,
             parameters: None,
         };
-        let info = SubjectPublicKeyInfo::from_der(alloc, octets)?;
         Ok(OutsideKey { info, algorithm })
     }
 }

@@ -78,7 +78,7 @@ fn lists(rt: HostRuntime) -> Result<(), Fail> {
 }
 
 /// Whether a set takes members in any order, and a refused one leaves it; 200 has two octets of
-/// content, and stands behind 5.
+/// content, and stands after 5.
 fn is_extended(set: &mut SetOfVec<u8>) -> Result<bool, Error> {
     let was_empty = set.is_empty();
     set.extend([5, 200])?;

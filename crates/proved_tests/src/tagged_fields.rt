@@ -1,4 +1,4 @@
-//! Fields behind tags of other classes, and any values: tags, lengths, loans and closures.
+//! Fields after tags of other classes, and any values: tags, lengths, loans and closures.
 
 ghost use Rattle.der_types.specs.ClassFields.{IsClass};
 

@@ -15,8 +15,8 @@
 
 mod outside_key;
 
-use der_core::{FromDer, ToDer};
-use outside_key::{OutsideKey, Scheme};
+use der_core::ToDer;
+use outside_key::{OutsideKey, Scheme, info_of};
 use std::alloc::Global;
 use std::str::FromStr;
 use std::{fs, io};
@@ -25,8 +25,7 @@ use x509_cert::builder::{
     Tls12Options,
 };
 use x509_cert::{
-    GeneralName, Ia5String, Name, SerialNumber, SubjectAltName, SubjectPublicKeyInfo, Time,
-    Validity,
+    Certificate, GeneralName, Ia5String, Name, SerialNumber, SubjectAltName, Time, Validity,
 };
 
 /// What a line tells: how the root signs, and what stands in the files that it names.
@@ -92,7 +91,7 @@ fn builder_of<P: BuilderProfile + Drop>(
     key: &[u8],
 ) -> Result<CertificateBuilder<P>, Error> {
     let serial = SerialNumber::new(alloc, &[number])?;
-    let key = SubjectPublicKeyInfo::from_der(alloc, key)?;
+    let key = info_of(alloc, key)?;
     let builder = CertificateBuilder::new(alloc, profile, serial, validity()?, key)?;
     Ok(builder)
 }
@@ -135,20 +134,36 @@ fn domain(alloc: Global) -> Result<SubjectAltName, Error> {
 fn server_line(alloc: Global, told: &Told) -> Result<String, Error> {
     let profile = profile_of_server(alloc)?;
     let mut builder = builder_of(alloc, profile, 2, told.server_key.as_slice())?;
-    builder.add_extension(alloc, &domain(alloc)?)?;
+    add_domain(alloc, &mut builder)?;
     made(alloc, builder, told)
 }
 
-/// What is to be signed, or the certificate with the signature that stands in a file.
+/// Adds the one domain to the builder of the server.
+fn add_domain(alloc: Global, builder: &mut CertificateBuilder<Subscriber>) -> Result<(), Error> {
+    builder.add_extension(alloc, &domain(alloc)?)?;
+    Ok(())
+}
+
+/// What the root is to sign, or the certificate with the signature that stands in a file.
 fn made<P: BuilderProfile + Drop>(
     alloc: Global,
-    mut builder: CertificateBuilder<P>,
+    builder: CertificateBuilder<P>,
     told: &Told,
 ) -> Result<String, Error> {
     let key = OutsideKey::new(alloc, told.scheme, told.root_key.as_slice())?;
-    let part = builder.finalize(alloc, &key)?;
+    made_by(alloc, builder, &key, told)
+}
+
+/// What this key is to sign, or the certificate with the signature that stands in a file.
+fn made_by<P: BuilderProfile + Drop>(
+    alloc: Global,
+    mut builder: CertificateBuilder<P>,
+    key: &OutsideKey,
+    told: &Told,
+) -> Result<String, Error> {
+    let part = builder.finalize(alloc, key)?;
     match &told.bits {
-        Some(bits) => assembled(alloc, builder, &key, bits.as_slice()),
+        Some(bits) => assembled(alloc, builder, key, bits.as_slice()),
         None => hex_of(alloc, part.as_slice()),
     }
 }
@@ -162,6 +177,11 @@ fn assembled<P: BuilderProfile + Drop>(
 ) -> Result<String, Error> {
     let signature = key.signature(alloc, bits)?;
     let certificate = builder.assemble(alloc, signature, key)?;
+    encoded(alloc, &certificate)
+}
+
+/// The encoding of a certificate, in hex.
+fn encoded(alloc: Global, certificate: &Certificate) -> Result<String, Error> {
     let octets = certificate.to_der(alloc)?;
     hex_of(alloc, octets.as_slice())
 }

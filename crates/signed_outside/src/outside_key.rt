@@ -16,9 +16,9 @@ pub struct OutsideKey {
 }
 
 impl OutsideKey {
-    /// The key that is the encoding of these octets.
+    /// The key that is the encoding of these octets, and signs so.
     pub fn new(alloc: Global, scheme: Scheme, octets: &[u8]) -> Result<OutsideKey, Error> {
-        let info = SubjectPublicKeyInfo::from_der(alloc, octets)?;
+        let info = info_of(alloc, octets)?;
         let algorithm = scheme.algorithm(alloc)?;
         Ok(OutsideKey {
             scheme,
@@ -36,7 +36,12 @@ impl OutsideKey {
     }
 }
 
-/// A signature by ECDSA (RFC 3279 2.2.3) of which both numbers are told, one behind the other in as
+/// The key that is the encoding of these octets.
+pub fn info_of(alloc: Global, octets: &[u8]) -> Result<SubjectPublicKeyInfo, Error> {
+    SubjectPublicKeyInfo::from_der(alloc, octets)
+}
+
+/// A signature by ECDSA (RFC 3279 2.2.3) of which both numbers are told, one after the other in as
 /// many octets.
 fn of_numbers(alloc: Global, numbers: &[u8]) -> Result<BitString, Error> {
     let (r, s) = numbers.split_at(numbers.len() / 2);

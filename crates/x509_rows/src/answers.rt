@@ -4,7 +4,7 @@ use crate::drawn::{drawn, generated};
 use crate::made::{digest_of, made_of};
 use crate::names::names_of;
 use crate::questions::{
-    Asked, Question, answer_of_described, answer_of_ordered, answer_of_value, answer_with_order,
+    Asked, Question, answer_of_described, answer_of_members, answer_of_ordered, answer_with_order,
     asked_by,
 };
 use crate::refusals::Refusal;
@@ -17,7 +17,7 @@ use std::alloc::Global;
 use std::io;
 use std::io::Write;
 use x509_cert::{
-    AlgorithmIdentifier, AlgorithmIdentifierRef, Extension, Extensions, SubjectPublicKeyInfo,
+    AlgorithmIdentifier, AlgorithmIdentifierRef, Extension, SubjectPublicKeyInfo,
     SubjectPublicKeyInfoRef, Time, Version,
 };
 
@@ -33,7 +33,7 @@ pub fn answer<W: Write>(alloc: Global, line: &str, out: &mut W) -> io::Result<()
     }
 }
 
-/// What is answered behind `ok`.
+/// What is answered after `ok`.
 fn answer_to(alloc: Global, line: &str) -> Result<String, Refusal> {
     let (word, rest) = line.split_once(' ').unwrap_or((line, ""));
     match word {
@@ -42,7 +42,7 @@ fn answer_to(alloc: Global, line: &str) -> Result<String, Refusal> {
     }
 }
 
-/// What is answered to a question whose words are a type's name and what stands behind it.
+/// What is answered to a question whose words are a type's name and what stands after it.
 pub fn answer_of_type(alloc: Global, word: &str, rest: &str) -> Result<String, Refusal> {
     let (kind, values) = rest.split_once(' ').unwrap_or((rest, ""));
     answer_about(alloc, word, kind, values)
@@ -101,7 +101,7 @@ fn got_of(alloc: Global, kind: &str, octets: &str) -> Result<String, Refusal> {
     answer_of_parts(alloc, kind, &question)
 }
 
-/// The answer of a part of a certificate, or of a type behind it.
+/// The answer of a part of a certificate, or of a type after it.
 fn answer_of_parts(alloc: Global, kind: &str, question: &Question<'_>) -> Result<String, Refusal> {
     match kind {
         "AlgorithmIdentifier" => answer_of_ordered::<AlgorithmIdentifier>(alloc, question),
@@ -112,7 +112,7 @@ fn answer_of_parts(alloc: Global, kind: &str, question: &Question<'_>) -> Result
         ),
         "Version" => answer_of_ordered::<Version>(alloc, question),
         "Extension" => answer_of_ordered::<Extension>(alloc, question),
-        "Extensions" => answer_of_value::<Extensions>(alloc, question),
+        "Extensions" => answer_of_members::<Extension>(alloc, question),
         "Time" => answer_with_order::<Time>(alloc, question),
         _ => extensions::answer(alloc, kind, question),
     }

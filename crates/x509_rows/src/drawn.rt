@@ -2,7 +2,7 @@
 
 use crate::given_words::GivenWords;
 use crate::refusals::Refusal;
-use crate::shown::{described_in, octets_of};
+use crate::shown::{octets_of, serial_written_in};
 use rand_chacha::ChaCha20Rng;
 use rand_core::SeedableRng;
 use std::alloc::Global;
@@ -16,7 +16,7 @@ pub fn generated(alloc: Global, kind: &str, octets: &str) -> Result<String, Refu
             let mut generator = GivenWords {
                 left: octets.as_slice(),
             };
-            described_in(
+            serial_written_in(
                 alloc,
                 SerialNumber::<Rfc5280>::generate(alloc, &mut generator),
             )
@@ -24,7 +24,7 @@ pub fn generated(alloc: Global, kind: &str, octets: &str) -> Result<String, Refu
         "chacha20" => {
             let seed = <[u8; 32]>::try_from(octets.as_slice()).map_err(|_| Refusal::Unread)?;
             let mut generator = ChaCha20Rng::from_seed(seed);
-            described_in(
+            serial_written_in(
                 alloc,
                 SerialNumber::<Rfc5280>::generate(alloc, &mut generator),
             )
@@ -52,5 +52,5 @@ pub fn drawn(alloc: Global, prefix: &str, values: &str) -> Result<String, Refusa
         count,
         &mut generator,
     );
-    described_in(alloc, serial)
+    serial_written_in(alloc, serial)
 }

@@ -2,8 +2,8 @@
 
 use crate::questions::{
     Asked, Question, answer_of_content, answer_of_copied, answer_of_described, answer_of_list,
-    answer_of_ordered, answer_with_both, answer_with_copy, answer_with_debug,
-    answer_with_debug_and_copy, answer_with_default_and_copy, answer_with_field,
+    answer_of_ordered, answer_of_value_with_order, answer_with_both, answer_with_copy,
+    answer_with_debug, answer_with_debug_and_copy, answer_with_default_and_copy, answer_with_field,
     answer_with_field_and_copy, answer_with_order, answer_with_order_and_copy,
 };
 use crate::refusals::Refusal;
@@ -157,7 +157,7 @@ fn answer_of_parts(alloc: Global, kind: &str, question: &Question<'_>) -> Result
         "GeneralSubtree" => answer_of_ordered::<GeneralSubtree>(alloc, question),
         "DistributionPoint" => answer_of_described::<DistributionPoint>(alloc, question),
         "DistributionPointName" => answer_with_order::<DistributionPointName>(alloc, question),
-        "ReasonFlags" => answer_with_order::<ReasonFlags>(alloc, question),
+        "ReasonFlags" => answer_of_value_with_order::<ReasonFlags>(alloc, question),
         "AccessDescription" => answer_of_described::<AccessDescription>(alloc, question),
         "PolicyInformation" => answer_of_described::<PolicyInformation>(alloc, question),
         "PolicyQualifierInfo" => answer_of_described::<PolicyQualifierInfo>(alloc, question),

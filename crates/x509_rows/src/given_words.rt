@@ -7,7 +7,7 @@ use rand_core::utils::NextWord;
 use rand_core::{CryptoRng, Rng, utils};
 use std::marker::Model;
 
-/// Octets, each of which is a word of 32 bits four times; behind them each word is 0.
+/// Octets, each of which is a word of 32 bits four times; after them each word is 0.
 #[derive(Drop)]
 pub struct GivenWords<'a> {
     /// What is left.

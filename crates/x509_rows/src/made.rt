@@ -2,15 +2,17 @@
 
 use crate::name_texts::{spelled, text_in};
 use crate::refusals::Refusal;
-use crate::shown::{described, described_in, octets_of, read, shown, written_in};
+use crate::shown::{
+    described, described_in, list_in, octets_of, read, serial_written_in, shown, written_in,
+};
 use crate::validities::validity_of;
 use sha1::Sha1;
 use std::alloc::Global;
 use std::net::IpAddr;
 use x509_cert::{
     AlgorithmIdentifierRef, AsAttribute, Attribute, AuthorityKeyIdentifier, CertificateInner,
-    ChallengePassword, CrlNumber, ExtensionReq, GeneralName, HardwareModuleName, OtherName,
-    Profile, Raw, Rfc5280, SerialNumber, SubjectKeyIdentifier, SubjectPublicKeyInfo,
+    ChallengePassword, CrlNumber, Extension, ExtensionReq, GeneralName, HardwareModuleName,
+    OtherName, Profile, Raw, Rfc5280, SerialNumber, SubjectKeyIdentifier, SubjectPublicKeyInfo,
     SubjectPublicKeyInfoRef, Time, TryFromExtensionReq,
 };
 
@@ -47,14 +49,14 @@ fn number_of(alloc: Global, text: &str) -> Result<String, Refusal> {
 /// What is written of the serial number of a number.
 fn serial_of(alloc: Global, text: &str) -> Result<String, Refusal> {
     let number: u64 = text.parse()?;
-    described_in(alloc, SerialNumber::<Rfc5280>::from_u64(alloc, number))
+    serial_written_in(alloc, SerialNumber::<Rfc5280>::from_u64(alloc, number))
 }
 
 /// What is written of the value that a type makes of octets: those of a number, or those that spell
 /// another value.
 fn made_of_octets(alloc: Global, kind: &str, octets: &[u8]) -> Result<String, Refusal> {
     match kind {
-        "SerialNumber" => described_in(alloc, SerialNumber::<Rfc5280>::new(alloc, octets)),
+        "SerialNumber" => serial_written_in(alloc, SerialNumber::<Rfc5280>::new(alloc, octets)),
         "SubjectKeyIdentifier" | "AuthorityKeyIdentifier" => identifier_of(alloc, kind, octets),
         "OtherName" => other_name_of(alloc, octets),
         "HardwareModuleName" => module_of(alloc, octets),
@@ -103,7 +105,7 @@ fn password_of(alloc: Global, octets: &[u8]) -> Result<String, Refusal> {
 
 /// What is written of the attribute of requested extensions.
 fn attribute_of(alloc: Global, octets: &[u8]) -> Result<String, Refusal> {
-    let request: ExtensionReq = read(alloc, octets)?;
+    let request = ExtensionReq(list_in::<Extension>(alloc, octets)?);
     described_in(alloc, Attribute::try_from_extension_req(alloc, request))
 }
 

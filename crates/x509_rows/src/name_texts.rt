@@ -3,7 +3,8 @@
 use crate::refusals::Refusal;
 use crate::relative_names::rdn_written_in;
 use crate::shown::{hex_in, octets_of, printed as printed_in, written_in};
-use der_core::{Decode, Error, FromDer, SliceReader};
+use der_core::describing::{DecodeWay, Described};
+use der_core::{Decode, Error, FixedTag, FromDer, SliceReader};
 use std::alloc::Global;
 use std::fmt::Display;
 use x509_cert::{
@@ -35,11 +36,11 @@ pub fn printed(alloc: Global, kind: &str, octets: &str) -> Result<String, Refusa
     let octets = octets.as_slice();
     match kind {
         "Time" => text_of::<Time>(alloc, octets),
-        "SerialNumber" => text_of::<SerialNumber<Raw>>(alloc, octets),
+        "SerialNumber" => described_text_of::<SerialNumber<Raw>>(alloc, octets),
         "Name" => text_of::<Name>(alloc, octets),
-        "RdnSequence" => text_of::<RdnSequence>(alloc, octets),
+        "RdnSequence" => described_text_of::<RdnSequence>(alloc, octets),
         "RelativeDistinguishedName" => text_of::<RelativeDistinguishedName>(alloc, octets),
-        "AttributeTypeAndValue" => text_of::<AttributeTypeAndValue>(alloc, octets),
+        "AttributeTypeAndValue" => described_text_of::<AttributeTypeAndValue>(alloc, octets),
         "DirectoryString" => value_of(alloc, octets),
         _ => Err(Refusal::Unread),
     }
@@ -51,6 +52,17 @@ fn text_of<'a, T: Decode<'a, SliceReader<'a>> + Display + Drop>(
     octets: &'a [u8],
 ) -> Result<String, Refusal> {
     printed_in(alloc, T::from_der(alloc, octets))
+}
+
+/// The text of the value of a type that names its way.
+fn described_text_of<'a, T: Described + FixedTag + Display + Drop>(
+    alloc: Global,
+    octets: &'a [u8],
+) -> Result<String, Refusal>
+where
+    T::By: DecodeWay<'a, SliceReader<'a>, T>,
+{
+    text_of::<T>(alloc, octets)
 }
 
 /// The text of the DirectoryString that octets spell.

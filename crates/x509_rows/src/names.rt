@@ -1,9 +1,9 @@
 //! Questions about the usages of a key and the names of a subject.
 
 use crate::refusals::Refusal;
-use crate::shown::{octets_of, read};
+use crate::shown::{list_in, octets_of, read};
 use std::alloc::{AllocError, Global};
-use x509_cert::{GeneralName, KeyUsage, SubjectAltName};
+use x509_cert::{FlagSet, GeneralName, KeyUsage, KeyUsages, SubjectAltName};
 
 /// The usages of a key, or the names of a subject.
 pub fn names_of(alloc: Global, kind: &str, octets: &str) -> Result<String, Refusal> {
@@ -17,12 +17,15 @@ pub fn names_of(alloc: Global, kind: &str, octets: &str) -> Result<String, Refus
 
 /// What the key is used for whose usage octets spell.
 fn usages_in(alloc: Global, octets: &[u8]) -> Result<String, Refusal> {
-    Ok(usages_of(alloc, read(alloc, octets)?)?)
+    Ok(usages_of(alloc, KeyUsage(read::<FlagSet<KeyUsages>>(alloc, octets)?))?)
 }
 
 /// The names of the subject that octets spell.
 fn subjects_in(alloc: Global, octets: &[u8]) -> Result<String, Refusal> {
-    Ok(subjects_of(alloc, &read(alloc, octets)?)?)
+    Ok(subjects_of(
+        alloc,
+        &SubjectAltName(list_in::<GeneralName>(alloc, octets)?),
+    )?)
 }
 
 /// What a key is used for.
@@ -51,7 +54,7 @@ fn usages_of(alloc: Global, usage: KeyUsage) -> Result<String, AllocError> {
     Ok(text)
 }
 
-/// The names of a subject, behind the words that OpenSSL has for their kinds.
+/// The names of a subject, after the words that OpenSSL has for their kinds.
 fn subjects_of(alloc: Global, names: &SubjectAltName) -> Result<String, AllocError> {
     let mut text = String::new(alloc);
     for name in &names.0 {
@@ -63,7 +66,7 @@ fn subjects_of(alloc: Global, names: &SubjectAltName) -> Result<String, AllocErr
     Ok(text)
 }
 
-/// The name of a subject, behind the word that OpenSSL has for its kind.
+/// The name of a subject, after the word that OpenSSL has for its kind.
 fn subject_of(alloc: Global, name: &GeneralName) -> Result<String, AllocError> {
     match name {
         GeneralName::Rfc822Name(name) => format!(in alloc; "email:{}", name.as_str()),

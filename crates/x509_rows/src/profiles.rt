@@ -2,7 +2,7 @@
 
 use crate::questions::{
     Question, answer_of_described, answer_of_ordered, answer_of_ordered_and_copied,
-    answer_of_value, answer_with_copy,
+    answer_of_tagged, answer_of_value, answer_with_copy,
 };
 use crate::refusals::Refusal;
 use std::alloc::Global;
@@ -11,7 +11,7 @@ use x509_cert::{
     SerialNumber, TbsCertList, TbsCertificateInner, TrustAnchorChoice, TrustAnchorInfo, Validity,
 };
 
-/// The answer of a type under the profile that stands behind its name, or under `Raw`.
+/// The answer of a type under the profile that stands after its name, or under `Raw`.
 pub fn answer(alloc: Global, kind: &str, question: &Question<'_>) -> Result<String, Refusal> {
     match kind.strip_suffix("/Rfc5280") {
         Some(kind) => answer_under::<Rfc5280>(alloc, kind, question),
@@ -27,7 +27,7 @@ fn answer_under<P: Profile>(
     question: &Question<'_>,
 ) -> Result<String, Refusal> {
     match kind {
-        "SerialNumber" => answer_of_value::<SerialNumber<P>>(alloc, question),
+        "SerialNumber" => answer_of_tagged::<SerialNumber<P>>(alloc, question),
         "Validity" => answer_of_value::<Validity<P>>(alloc, question),
         "TbsCertificate" => answer_of_ordered::<TbsCertificateInner<P>>(alloc, question),
         "Certificate" => answer_of_ordered_and_copied(

@@ -12,6 +12,7 @@ use const_oid::AssociatedOid;
 use der_core::describing::{DecodeWay, Described, OrderWay, Ordered, TagWay};
 use der_core::{
     Decode, DecodeValue, DerOrd, Encode, EncodeValue, Error, FixedTag, FromDer, SliceReader,
+    ValueOrd,
 };
 use std::alloc::{AllocError, Global};
 use std::cmp::Ordering;
@@ -23,7 +24,7 @@ use x509_cert::{Criticality, Name, Raw, TbsCertificateInner, ToExtension};
 pub enum Asked<'a> {
     /// What is written of the value that octets spell by DER.
     Der,
-    /// What is written of the value that octets begin with, and the octets behind it.
+    /// What is written of the value that octets begin with, and the octets after it.
     Front,
     /// What a reader of the octets answers to a first call, and to a second one.
     Twice,
@@ -82,7 +83,7 @@ pub fn answer_of<'a, T: Decode<'a, SliceReader<'a>> + Encode>(
     }
 }
 
-/// What is written of the value at the front of octets, and the octets behind it.
+/// What is written of the value at the front of octets, and the octets after it.
 fn front_written<T: Encode + Drop>(
     alloc: Global,
     front: Result<(T, &[u8]), Error>,
@@ -150,6 +151,14 @@ pub fn answer_of_value<'a, T: DecodeValue<'a, SliceReader<'a>> + EncodeValue + F
     answer_of::<T>(alloc, question)
 }
 
+/// The answer of such a type that is compared, too.
+pub fn answer_of_value_with_order<
+    'a,
+    T: DecodeValue<'a, SliceReader<'a>> + EncodeValue + FixedTag + ValueOrd,
+>(alloc: Global, question: &Question<'a>) -> Result<String, Refusal> {
+    answer_with_order::<T>(alloc, question)
+}
+
 /// The answer of a type that names the way in which its values are coded. Of such a type what the
 /// way does is asked for, since that costs the check less.
 pub fn answer_of_described<'a, T: Described + Drop>(
@@ -160,6 +169,29 @@ where
     T::By: DecodeWay<'a, SliceReader<'a>, T> + TagWay<T>,
 {
     answer_of::<T>(alloc, question)
+}
+
+/// The answer of such a type that says its tag itself.
+pub fn answer_of_tagged<'a, T: Described + FixedTag + Drop>(
+    alloc: Global,
+    question: &Question<'a>,
+) -> Result<String, Refusal>
+where
+    T::By: DecodeWay<'a, SliceReader<'a>, T>,
+{
+    answer_of::<T>(alloc, question)
+}
+
+/// The answer of a list of values of such a type. They are any here: what their way gives is then
+/// checked once, and not for each list.
+pub fn answer_of_members<'a, T: Described + FixedTag + Drop>(
+    alloc: Global,
+    question: &Question<'a>,
+) -> Result<String, Refusal>
+where
+    T::By: DecodeWay<'a, SliceReader<'a>, T>,
+{
+    answer_of_value::<Vec<T>>(alloc, question)
 }
 
 /// The answer of such a type that is compared, too.

@@ -137,7 +137,7 @@ pub fn members(alloc: Global, octets: &str) -> Result<String, Refusal> {
 pub fn listed(alloc: Global, octets: &str) -> Result<String, Refusal> {
     let set = AttributeSet::from(relative_name_of(alloc, octets)?);
     let attributes = set.into_vec()?;
-    members_in(alloc, SetOfIter::of_members(attributes.as_slice()))
+    members_in(alloc, attributes.as_slice().iter())
 }
 
 /// How many attributes these are, and what is written of each.

@@ -2,23 +2,24 @@
 
 use crate::profiles;
 use crate::questions::{
-    Question, answer_of_copied, answer_of_described, answer_of_ordered_list, answer_of_value,
+    Question, answer_of_copied, answer_of_described, answer_of_members, answer_of_ordered_list,
+    answer_of_value,
 };
 use crate::refusals::Refusal;
 use crate::shown::{any_written, described, joined, octets_of, read, shown};
 use der_core::{FromDer, StrictSetOf};
 use std::alloc::Global;
 use x509_cert::{
-    Attribute, AttributeTypeAndValue, AttributeValue, CertReq, CertReqInfo, ExtensionReq, Name,
-    PkiPath, RdnSequence, RelativeDistinguishedName,
+    Attribute, AttributeTypeAndValue, AttributeValue, CertReq, CertReqInfo, Certificate,
+    ExtensionReq, Name, RdnSequence, RelativeDistinguishedName,
 };
 
-/// The answer of a type that this page names, or one behind it.
+/// The answer of a type that this page names, or one after it.
 pub fn answer(alloc: Global, kind: &str, question: &Question<'_>) -> Result<String, Refusal> {
     match kind {
         "CertReq" => answer_of_copied(alloc, question, CertReq::clone),
         "CertReqInfo" => answer_of_copied(alloc, question, CertReqInfo::clone),
-        "PkiPath" => answer_of_value::<PkiPath>(alloc, question),
+        "PkiPath" => answer_of_members::<Certificate>(alloc, question),
         "ExtensionReq" => answer_of_ordered_list(
             alloc,
             question,
@@ -29,7 +30,7 @@ pub fn answer(alloc: Global, kind: &str, question: &Question<'_>) -> Result<Stri
     }
 }
 
-/// The answer of a name or a part of one, or of a type behind it.
+/// The answer of a name or a part of one, or of a type after it.
 fn answer_of_names(alloc: Global, kind: &str, question: &Question<'_>) -> Result<String, Refusal> {
     match kind {
         "Name" => answer_of_value::<Name>(alloc, question),

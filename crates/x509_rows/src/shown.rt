@@ -5,11 +5,11 @@
 
 use crate::refusals::Refusal;
 use der_core::describing::{DecodeWay, Described};
-use der_core::{Encode, Error, FixedTag, FromDer, SliceReader, ToDer};
+use der_core::{Decode, Encode, Error, FixedTag, FromDer, SliceReader, ToDer};
 use std::alloc::Global;
 use std::fmt;
 use std::fmt::Display;
-use x509_cert::Any;
+use x509_cert::{Any, Rfc5280, SerialNumber};
 
 /// What a value prints.
 pub fn shown<T: Display + Drop>(alloc: Global, value: T) -> Result<String, Refusal> {
@@ -56,6 +56,15 @@ where
     T::from_der(alloc, octets)
 }
 
+/// The values of the list that octets spell by DER. They are any here, so that the list is checked
+/// here alone.
+pub fn list_in<'a, T: Decode<'a, SliceReader<'a>>>(
+    alloc: Global,
+    octets: &'a [u8],
+) -> Result<Vec<T>, Error> {
+    Vec::from_der(alloc, octets)
+}
+
 /// As `written`, of such a type.
 pub fn described<T: Described + FixedTag>(alloc: Global, value: &T) -> Result<String, Refusal> {
     written(alloc, value)
@@ -67,6 +76,14 @@ pub fn described_in<T: Described + FixedTag + Drop>(
     outcome: Result<T, Error>,
 ) -> Result<String, Refusal> {
     written(alloc, &outcome?)
+}
+
+/// As `written_in`, of a serial number.
+pub fn serial_written_in(
+    alloc: Global,
+    outcome: Result<SerialNumber<Rfc5280>, Error>,
+) -> Result<String, Refusal> {
+    described_in(alloc, outcome)
 }
 
 /// The octets of any value, in hex.

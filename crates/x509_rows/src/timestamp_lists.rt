@@ -26,7 +26,7 @@ fn members_in(alloc: Global, members: &[SerializedSct]) -> Result<String, Refusa
     Ok(text)
 }
 
-/// The octets of a member of a list, which stand behind two octets that count them.
+/// The octets of a member of a list, which stand after two octets that count them.
 fn member_octets(alloc: Global, member: &SerializedSct) -> Result<Vec<u8>, Refusal> {
     let counted = member.tls_serialize(alloc)?;
     match counted.as_slice() {
@@ -35,7 +35,7 @@ fn member_octets(alloc: Global, member: &SerializedSct) -> Result<Vec<u8>, Refus
     }
 }
 
-/// The member of a list of these octets: they are read behind two octets that count them.
+/// The member of a list of these octets: they are read after two octets that count them.
 pub fn member_of(alloc: Global, octets: &str) -> Result<SerializedSct, Refusal> {
     let octets = dashed_octets_of(alloc, octets)?;
     let Ok(len) = u16::try_from(octets.len()) else {

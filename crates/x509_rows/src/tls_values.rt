@@ -11,7 +11,7 @@ use x509_cert::timestamps::{
     TlsValue, Version,
 };
 
-/// What is written of the value of a type that octets begin with, and the octets behind it.
+/// What is written of the value of a type that octets begin with, and the octets after it.
 pub fn rewritten(alloc: Global, kind: &str, octets: &str) -> Result<String, Refusal> {
     let octets = dashed_octets_of(alloc, octets)?;
     let octets = octets.as_slice();
@@ -28,7 +28,7 @@ pub fn rewritten(alloc: Global, kind: &str, octets: &str) -> Result<String, Refu
     }
 }
 
-/// What is written of the value that octets begin with, and the octets behind it.
+/// What is written of the value that octets begin with, and the octets after it.
 fn written<T: TlsValue>(alloc: Global, octets: &[u8]) -> Result<String, Refusal> {
     let (value, rest) = T::tls_deserialize_bytes(alloc, octets)?;
     let output = value.tls_serialize(alloc)?;

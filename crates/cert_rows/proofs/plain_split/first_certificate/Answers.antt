@@ -1,5 +1,6 @@
 -- A front that spells a certificate is the first one's, and where none does, none begins the octets.
 use Rattle.std.proofs.Common.{ℕ, ◌≤◌, length, arith, below_more}
+use Rattle.std.proofs.lemmas.Bool.{both_ways}
 use Rattle.x509_cert_certificates.specs.Views.{certificate_plain}
 use Rattle.cert_rows.proofs.SplitFronts.{front_of, no_front}
 use Rattle.cert_rows.proofs.plain_split.first_certificate.Goals as goal
@@ -14,7 +15,7 @@ returns-in-Ok c =
     front_of Bound c.args.limit c.args.octets.now (certificate_plain c.in-Ok.certificate) c.loop-len.len (omega arith) (omega arith) c.in-Ok.ensures.spelled
 
 pub loop-len-preserved : goal.loop-len-preserved
-loop-len-preserved c = below_more _ _ c.loop-len.invariant (c.in-Err.ensures.refused c.in_default.not-OutOfMemory)
+loop-len-preserved c = below_more _ _ c.loop-len.invariant (c.in-Err.ensures.refused (λ memory. both_ways _ c.if-is_want_of_memory.false (c.is_want_of_memory.ensures.1 memory)))
 
 pub returns : goal.returns
 returns c =
