@@ -73,9 +73,9 @@ REASONS = {
     "remove_from_crl": "removeFromCRL",
 }
 LIMITS = {
-    "only_contains_user_certs": "certificates of users alone",
-    "only_contains_ca_certs": "certificates of authorities alone",
-    "only_contains_attribute_certs": "certificates of attributes alone",
+    "only_contains_user_certs": "end-entity certificates alone",
+    "only_contains_ca_certs": "CA certificates alone",
+    "only_contains_attribute_certs": "attribute certificates alone",
     "indirect_crl": "certificates of other issuers too",
 }
 FEATURES = {5: "status_request (5)", 17: "status_request_v2 (17)"}
@@ -445,14 +445,14 @@ def content_lines(content, encoded):
                 yield f"  serial {natural(content.authority_cert_serial_number)}"
         case x509.PolicyConstraints():
             if content.require_explicit_policy is not None:
-                yield f"  explicit policy behind {content.require_explicit_policy}"
+                yield f"  explicit policy after {content.require_explicit_policy}"
             if content.inhibit_policy_mapping is not None:
-                yield f"  no mapping behind {content.inhibit_policy_mapping}"
+                yield f"  no mapping after {content.inhibit_policy_mapping}"
         case x509.ExtendedKeyUsage():
             for use in content:
                 yield f"  {use.dotted_string}"
         case x509.InhibitAnyPolicy():
-            yield f"  not any policy behind {content.skip_certs}"
+            yield f"  not anyPolicy after {content.skip_certs}"
         case x509.AuthorityInformationAccess() | x509.SubjectInformationAccess():
             for each in content:
                 label = f"  {each.access_method.dotted_string} "

@@ -171,9 +171,9 @@ WORDS = {
     "reason": "",
     "date": "",
     "octets": "octets ",
-    "requireExplicitPolicy": "explicit policy behind ",
-    "inhibitPolicyMapping": "no mapping behind ",
-    "skipCerts": "not any policy behind ",
+    "requireExplicitPolicy": "explicit policy after ",
+    "inhibitPolicyMapping": "no mapping after ",
+    "skipCerts": "not anyPolicy after ",
     "authorityCertSerialNumber": "serial ",
 } | {
     word: f"{word} "
@@ -182,9 +182,9 @@ WORDS = {
     + ["key-bits-sha1"]
 }
 SCOPES = {
-    "onlyContainsUserCerts": "certificates of users alone",
-    "onlyContainsCACerts": "certificates of authorities alone",
-    "onlyContainsAttributeCerts": "certificates of attributes alone",
+    "onlyContainsUserCerts": "end-entity certificates alone",
+    "onlyContainsCACerts": "CA certificates alone",
+    "onlyContainsAttributeCerts": "attribute certificates alone",
     "indirectCRL": "certificates of other issuers too",
     "malformed": "malformed",
     "malformedParameters": "malformed",

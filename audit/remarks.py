@@ -138,10 +138,10 @@ def mappings(content):
 def scope(content):
     tags = {tag for tag, flag, _ in inside(content) if flag == b"\xff"}
     if {0x81, 0x82} <= tags:
-        text = "a list has only certificates of subscribers, and of authorities"
+        text = "a CRL has only certificates of end entities, and only of CAs"
         yield f"{text} (RFC 5280 5.2.5)"
     if 0x85 in tags:
-        yield "a list has only attribute certificates (RFC 5280 5.2.5)"
+        yield "a CRL has only attribute certificates (RFC 5280 5.2.5)"
 
 
 def issuer_key(content):
@@ -287,7 +287,7 @@ def of_certificate(octets):
     self_issued = issuer[2] == subject[2]
     yield from (text for holds, text in [
         (within[2] != outside[2],
-         "another algorithm is signed than stands outside (RFC 5280 4.1.1.2)"),
+         "signature and signatureAlgorithm differ (RFC 5280 4.1.1.2)"),
         (listed and version != 3,
          "extensions stand in a certificate that isn't of version 3 (RFC 5280 4.1.2.1)"),
         (listed and not extensions, "the list of extensions is empty (RFC 5280 4.1.2.9)"),
@@ -300,18 +300,18 @@ def of_certificate(octets):
         (moment(*last[:2]) < moment(*first[:2]),
          "notAfter is before notBefore (RFC 5280 4.1.2.5)"),
         (unnamed and authority,
-         "the subject of an authority is an empty name (RFC 5280 4.1.2.6)"),
+         "the subject of a CA is an empty name (RFC 5280 4.1.2.6)"),
         (unnamed and not critical.get(standard(17)),
          "the subject is empty, and no critical subjectAltName names it (RFC 5280 4.1.2.6)"),
         (not self_issued and not has_key(contents.get(standard(35))),
          "no authorityKeyIdentifier has a key's identifier (RFC 5280 4.2.1.1)"),
         (authority and standard(14) not in contents,
-         "an authority has no subjectKeyIdentifier (RFC 5280 4.2.1.2)"),
+         "a CA has no subjectKeyIdentifier (RFC 5280 4.2.1.2)"),
         (authority and standard(15) not in contents,
-         "an authority has no keyUsage (RFC 5280 4.2.1.3)"),
+         "a CA has no keyUsage (RFC 5280 4.2.1.3)"),
         (signs and not authority, "keyCertSign stands without cA (RFC 5280 4.2.1.3)"),
         (authority and not critical[standard(19)],
-         "basicConstraints of an authority aren't critical (RFC 5280 4.2.1.9)"),
+         "basicConstraints of a CA aren't critical (RFC 5280 4.2.1.9)"),
         (length and not authority, "a path length stands without cA (RFC 5280 4.2.1.9)"),
         (length and uses is not None and not signs,
          "a path length stands without keyCertSign (RFC 5280 4.2.1.9)"),
@@ -343,9 +343,9 @@ def of_list(octets):
     number = contents.get(standard(20))
     yield from (text for holds, text in [
         (within[2] != outside[2],
-         "another algorithm is signed than stands outside (RFC 5280 5.1.1.2)"),
+         "signature and signatureAlgorithm differ (RFC 5280 5.1.1.2)"),
         ((listed or of_entries) and version != 2,
-         "extensions stand in a list that isn't of version 2 (RFC 5280 5.1.2.1)"),
+         "extensions stand in a CRL that isn't of version 2 (RFC 5280 5.1.2.1)"),
         (issuer[1] == b"", "the issuer is an empty name (RFC 5280 5.1.2.3)"),
         (0x30 in rest and not entries, "the list of entries is empty (RFC 5280 5.1.2.6)"),
         (listed and not extensions, "the list of extensions is empty (RFC 5280 5.1.2.7)"),
@@ -370,7 +370,7 @@ def of_list(octets):
         (len((value_in(number) or b"").removeprefix(b"\0")) > 20,
          "the cRLNumber has more than 20 octets (RFC 5280 5.2.3)"),
         (standard(27) in contents and standard(46) in contents,
-         "freshestCRL stands in a list that adds to another (RFC 5280 5.2.6)"),
+         "freshestCRL stands in a delta CRL (RFC 5280 5.2.6)"),
     ] if holds)
     yield from of_name(issuer[1])
     yield from of_extensions(extensions, OF_LISTS)

@@ -65,7 +65,7 @@ def figures():
     yield "README.md", r"# else (\S+) minutes of processor more", [first("cert_desk")]
     yield "README.md", r"`N passed, 0 failed`;\s(\S+)\stook\s(\S+)\sminutes", [version, spent]
     for name in ("const_oid", "der_core", "der_types", "x509_cert", "cert_desk"):
-        yield "docs/GUIDE.md", rf"(?m)^\| [^|]+ \| `{name}` \| [^|]+ \| (\S+) \|$", [first(name)]
+        yield "docs/GUIDE.md", rf"(?m)^\|[^|]+\| `{name}`\|[^|]+\| ([^\s|]+)\|$", [first(name)]
     told = r"in\sminutes\sof\sprocessor\s\((\S+),\s([\d-]+)\)"
     yield "docs/GUIDE.md", told, [version, day]
     told = (r"Of\s(\S+)'s\scrates\son\s(\S+),\sfrom\snothing,\swith\skit\s(\S+)\son\s(\w+\s\w+):\s"

@@ -1,7 +1,7 @@
 #!/usr/bin/env python3
 """issue_rows.py FOLDER: writes the rows of cert_rows about orders and what is issued.
 
-They go to FOLDER/stdin and FOLDER/stdout, and stand at the end of those of cert_rows.
+They go to FOLDER/stdin and FOLDER/stdout, and stand in those of cert_rows before HOSTILE USE.
 
 The certificates in the answers are put together here, with nothing but Python's own library, from
 RFC 5280 and X.690; the lines and statuses are written out by hand. Nothing comes from the
@@ -606,10 +606,11 @@ say(
     "without memory for it."
 )
 for place in (0, 1, 2):
-    serial = "A003020102020" + str([1, 3, 2][place])
     serial = "A00302010202010" + str([1, 3, 2][place])
     audits([ROOT, MIDDLE, LEAF], f"Signer {{ place: {place} }}", signers=f"refuses:{serial}")
     audits([ROOT, MIDDLE, LEAF], "memory", signers=f"memory:{serial}")
+say("A signer that refuses all certificates: the first is named, since they are signed in turn.")
+audits([ROOT, MIDDLE, LEAF], "Signer { place: 0 }", signers="refuses:A00302010202")
 say(
     "Signers of other keys, at the first place and at a later one; that of the last order signs "
     "nothing."
