@@ -1,11 +1,11 @@
 #!/usr/bin/env python3
 """Verifies a chain in PEM, as a server sends it, under roots in PEM: one command to a verdict.
 
-    examples/verify_pem.py ROOTS CHAIN [--at MOMENT] [--purpose PURPOSE] [--tool CERT_TOOL]
+    examples/verify_pem.py ROOTS CHAIN [--at TIME] [--purpose PURPOSE] [--tool CERT_TOOL]
 
 ROOTS holds the certificates that are trusted (/etc/ssl/certs/ca-certificates.crt, say); CHAIN the
 server's certificate first and its issuers behind it. Text around the certificates is passed over. A
-certificate of CHAIN that is a root stays out. MOMENT and PURPOSE are those of `cert_tool verify`:
+certificate of CHAIN that is a root stays out. TIME and PURPOSE are those of `cert_tool verify`:
 now and serverAuth, where nothing is said.
 
 It turns the chain round, has `cert_tool questions` say what its signatures ask, `answer.py` answer,

@@ -7,7 +7,8 @@
     tools/definitions.py CALL..     each definition that the contract of a call rests on
 
 A CALL is a function (`check`), or one of a type (`Issued::audit`). A variable that has the name of
-a definition counts as that one, so the list may be too long by such names, and never too short.
+a definition counts as that one, so the list may be too long by such names, and never too short but
+for the kit's `std/specs`, which isn't counted.
 """
 
 import sys
@@ -45,9 +46,9 @@ Written by `tools/definitions.py` from the sources; change those, and run it aga
 CONTENTS
 
 A proof says that a function meets its contract. What the contract means is said by the definitions
-that it cites, so these have to be read and judged, and nothing else of a proof. They stand in
-`crates/CRATE/specs/`. For one call, the script prints each definition that its contract rests on,
-with its file and line:
+that it cites, so these have to be read and judged, with the kit's `std/specs`, which aren't
+counted here, and nothing else of a proof. They stand in `crates/CRATE/specs/`. For one call, the
+script prints each definition that its contract rests on, with its file and line:
 
 ```sh
 tools/definitions.py Issued::audit

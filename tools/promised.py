@@ -4,10 +4,11 @@
     tools/promised.py COMMIT
 
 A line names each part that is gone, says otherwise, or is new: of the facades the declaration of a
-public item, with its fields that are public, each impl of a trait, and of each function the
-signature and each clause; of wurstdrape.h calls and numbers; what the Rust crate and the Python
-module have public. The last line says which part of the number rises. Whether a definition that a
-clause cites means the same, and what CLI promises of the programs, it doesn't know.
+public item, with its fields that are public, each trait that an impl or a derive gives it, and of
+each function the signature and each clause; of wurstdrape.h calls and numbers; what the Rust crate
+and the Python module have public. The last line says which part of the number rises. Whether a
+definition that a clause cites means the same, and what CLI promises of the programs, it doesn't
+know.
 """
 
 import pathlib
@@ -49,14 +50,26 @@ def declaration(item):
     return " ".join(line.strip() for line in lines)
 
 
+def derived(item):
+    """The traits that are derived above a declaration."""
+    at = item.line - 2
+    while item.source.lines[at].startswith(("#", "/")):
+        for traits in re.findall(r"^#\[derive(?:_where)?\(([\w, ]+)", item.source.lines[at]):
+            yield from (trait for trait in re.findall(r"\w+", traits) if trait != "Drop")
+        at -= 1
+
+
 def of_item(path, item):
     if item.call:
         return clauses(path, item.call)
     found = {path: declaration(item)}
     for call in item.methods:
         found |= clauses(f"{path}::{call.name}", call)
-    found |= {f"{path}: {impl.header}": "" for impl in item.impls if impl.trait}
-    return found
+    for impl in item.impls:
+        trait, of = sources.stated_of(impl.header)
+        if of:
+            found[f"{path}: {trait}" + (" of a reference" if of.startswith("&") else "")] = ""
+    return found | {f"{path}: {trait}": "" for trait in derived(item)}
 
 
 def promised(top):

@@ -13,6 +13,7 @@ import re
 import sys
 
 import sources
+import wrap
 
 CALLS = sources.TOP / "tools" / "reference" / "calls.md"
 PAGES = [sources.TOP / "docs" / "TRUST.md", CALLS]
@@ -57,9 +58,9 @@ def rows(page=CALLS):
     for number, line in enumerate(page.read_text().splitlines(), 1):
         if line.startswith("**`"):
             crates = re.findall(r"\*\*`([a-z0-9_]+)`\*\*", line)
-        cells = [cell.strip() for cell in line.strip("|").split(" | ")]
+        cells = wrap.cells(line)
         if line.startswith("|") and len(cells) == (2 if page == CALLS else 4):
-            if cells[0] not in ("Call", "---", "---|---"):
+            if cells[0] not in ("Call", "---"):
                 yield Row(number, crates, cells)
 
 

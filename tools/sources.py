@@ -234,13 +234,9 @@ class Call:
         return self.text.startswith('pub extern "C"')
 
 
-def owner_of(header):
-    """The type of an `impl`, the name of a trait."""
-    header = header.rstrip("{ ").strip()
-    trait = re.match(r"(?:pub )?trait (\w+)", header)
-    if trait:
-        return trait[1], None
-    body = re.sub(r"^impl\s*", "", header)
+def stated_of(header):
+    """What an `impl` states, a trait or a type; and of which type, where it is a trait."""
+    body = re.sub(r"^impl\s*", "", header.rstrip("{ ").strip())
     if body.startswith("<"):
         depth = 0
         for at, char in enumerate(body):
@@ -249,6 +245,15 @@ def owner_of(header):
                 body = body[at + 1 :].strip()
                 break
     stated, _, of = body.partition(" for ")
+    return stated, of
+
+
+def owner_of(header):
+    """The type of an `impl`, the name of a trait."""
+    trait = re.match(r"\s*(?:pub )?trait (\w+)", header)
+    if trait:
+        return trait[1], None
+    stated, of = stated_of(header.strip())
     target = of or stated
     name = re.match(r"&?(?:'\w+ )?(?:mut )?([\w:\[(]+)", target)
     word = name[1] if name else target

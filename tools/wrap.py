@@ -1,5 +1,6 @@
 #!/usr/bin/env python3
-"""Lays out documents: lines of at most 100 columns, but for tables and fenced blocks.
+"""Lays out documents: lines of at most 100 columns, but for tables and fenced blocks; the bars of a
+table stand at its words, so that `wc -w` counts words alone.
 
     tools/wrap.py FILE..            lays out each file in place
     tools/wrap.py --check FILE..    changes nothing; its status is 1 where a line is too long
@@ -11,6 +12,20 @@ import sys
 
 WIDTH = 100
 MARK = re.compile(r"^(\s*)([-*] |\d+\. )")
+BAR = re.compile(r"(?<!\\)\|")
+
+
+def cells(row):
+    """The cells of a row of a table."""
+    return [cell.strip() for cell in BAR.split(row.strip())[1:-1]]
+
+
+def closed(row):
+    """A row of a table, as its bars stand at the words before them."""
+    found = cells(row)
+    if all(re.fullmatch("-+", cell) for cell in found):
+        return row
+    return "|" + "".join(f"{' ' * bool(cell and at)}{cell}|" for at, cell in enumerate(found))
 
 
 def filled(first, rest, words):
@@ -25,8 +40,10 @@ def filled(first, rest, words):
     return lines + [line]
 
 
-def wrapped(text):
-    """Paragraphs and items of lists that have a line that is too long, filled again."""
+def wrapped(text, row=str):
+    """Paragraphs and items of lists that have a line that is too long, filled again.
+
+    Rows of tables are laid out by `row`."""
     out, block, fenced = [], [], False
 
     def flush():
@@ -48,7 +65,7 @@ def wrapped(text):
             out.append(line)
         elif fenced or not line.strip() or line.lstrip().startswith(("|", "#", "<", ">")):
             flush()
-            out.append(line)
+            out.append(row(line) if line.startswith("|") and not fenced else line)
         else:
             if MARK.match(line):
                 flush()
@@ -88,7 +105,7 @@ def main(words):
                 print(f"{name}:{number}: more than {WIDTH} columns")
                 status = 1
         else:
-            path.write_text(wrapped(text))
+            path.write_text(wrapped(text, closed))
     return status
 
 
