@@ -174,9 +174,9 @@ class Kit:
 class Leads:
     """Where the names of a file lead."""
 
-    def __init__(self, book, imports, own=None, scope=None, ghosts=()):
+    def __init__(self, book, imports, own=None, scope=None, ghosts=(), lines=()):
         self.book, self.imports, self.own, self.scope = book, imports, own, scope or {}
-        self.ghosts = ghosts
+        self.ghosts, self.text = ghosts, "\n".join(lines)
         self.known = {}
 
     def __call__(self, sort, word):
@@ -204,8 +204,18 @@ class Leads:
         if rest and head[0].isupper() and isinstance(self.scope.get(head), items.Item):
             return self.book.part_of(self.scope[head], rest[0])
         if rest and head[0].isupper() or word in self.ghosts:
-            return self.book.ghosts.get(rest[0] if rest else word)
+            return self.of_member(head, rest[0] if rest else word)
         return self.of_code(head)
+
+    def of_member(self, head, name):
+        """A ghost member, of the trait that bounds a type parameter where several have the name."""
+        found = self.book.ghosts.get(name, {})
+        for fits in (
+            lambda trait: trait in self.scope.values(),
+            lambda trait: re.search(rf"\b{head}: [^,>{{]*\b{trait.name}\b", self.text),
+        ):
+            found = {trait: url for trait, url in found.items() if fits(trait)} or found
+        return next(iter(found.values()), None)
 
 
 class Book:
@@ -257,7 +267,7 @@ class Book:
         if item.call:
             give(item.call, item.name, item.name)
         for ghost in item.ghosts:
-            self.ghosts.setdefault(ghost, f"{page}#{ghost}")
+            self.ghosts.setdefault(ghost, {})[item] = f"{page}#{ghost}"
         for call in item.methods:
             give(call, call.name, f"{item.name}::{call.name}")
         for impl in item.impls:
@@ -380,7 +390,8 @@ class Book:
     def leads_of(self, source):
         own = self.house.own[(source.crate, source.name)]
         ghosts = {ghost for item in own.values() for ghost in item.ghosts}
-        return Leads(self, source.imports, None, self.house.names_in(source), ghosts)
+        scope = self.house.names_in(source)
+        return Leads(self, source.imports, None, scope, ghosts, source.lines)
 
     @functools.cache
     def leads_of_specs(self, file):
