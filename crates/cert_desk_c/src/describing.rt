@@ -4,36 +4,31 @@ ghost use Rattle.cert_desk_io.specs.declared.exit_status.ExitStatus.TheVariants.
 ghost use Rattle.cert_desk_io.specs.Statuses.{code_of};
 
 use crate::rooms::{code, give};
-use cert_desk_io::{ExitStatus, ToWrite};
-use cert_tool_explain::{Kind, describe};
+use cert_desk_io::ExitStatus;
+use cert_tool_describe::{Lines, add_certificate, add_list, add_request};
+use der_core::ErrorKind;
 use std::alloc::Global;
 
-// Writes the description of a value of a kind, as lines or as JSON.
-fn give_description(
-    alloc: Global,
-    kind: Kind,
-    octets: &[u8],
-    json: bool,
-    out: &mut [u8],
-    size: &mut usize,
-) -> u32
+// Writes a description, unless octets have a fault.
+fn give_lines(lines: Lines, fault: Option<ErrorKind>, out: &mut [u8], size: &mut usize) -> u32
     ensures no_room { result ≡ code_of Device → length out.old < size.new }
     ensures untouched { result ≢ code_of Done → out.new ≡ out.old }
 {
     *size = 0;
-    let mut text = ToWrite::new(Vec::new(alloc));
-    let mut why = ToWrite::new(Vec::new(alloc));
-    let status = describe(alloc, kind, octets, json, false, &mut text, &mut why);
-    match status {
-        ExitStatus::Done => give(text.into_inner().as_slice(), out, size),
-        ExitStatus::Faulty => code(ExitStatus::Faulty),
-        _ => code(ExitStatus::Memory),
+    match fault {
+        None => {}
+        Some(ErrorKind::OutOfMemory) => return code(ExitStatus::Memory),
+        Some(_) => return code(ExitStatus::Faulty),
     }
+    let Ok(text) = lines.finish() else {
+        return code(ExitStatus::Memory);
+    };
+    give(text.as_slice(), out, size)
 }
 
 /// The description of a certificate, as `cert_tool describe certificate` writes it, as lines or as
-/// JSON: 0 where it stands in `out`, 2 where the octets are no certificate, 5 where the buffer is
-/// too small, 6 out of memory.
+/// JSON: 0 where it stands in `out`, 2 where octets spell no certificate, 5 where the room is too
+/// small, 6 where there is no memory.
 #[unsafe(no_mangle)]
 pub extern "C" fn wd_describe_certificate(
     alloc: Global,
@@ -45,10 +40,12 @@ pub extern "C" fn wd_describe_certificate(
     ensures no_room { result ≡ code_of Device → length out.old < size.new }
     ensures untouched { result ≢ code_of Done → out.new ≡ out.old }
 {
-    give_description(alloc, Kind::Certificate, octets, json, out, size)
+    let mut lines = Lines::new(alloc, json);
+    let fault = add_certificate(&mut lines, octets);
+    give_lines(lines, fault, out, size)
 }
 
-/// The description of a CRL, in the same way.
+/// The description of a revocation list, in the same way.
 #[unsafe(no_mangle)]
 pub extern "C" fn wd_describe_list(
     alloc: Global,
@@ -60,10 +57,12 @@ pub extern "C" fn wd_describe_list(
     ensures no_room { result ≡ code_of Device → length out.old < size.new }
     ensures untouched { result ≢ code_of Done → out.new ≡ out.old }
 {
-    give_description(alloc, Kind::List, octets, json, out, size)
+    let mut lines = Lines::new(alloc, json);
+    let fault = add_list(&mut lines, octets);
+    give_lines(lines, fault, out, size)
 }
 
-/// The description of a CSR, in the same way.
+/// The description of a certification request, in the same way.
 #[unsafe(no_mangle)]
 pub extern "C" fn wd_describe_request(
     alloc: Global,
@@ -75,5 +74,7 @@ pub extern "C" fn wd_describe_request(
     ensures no_room { result ≡ code_of Device → length out.old < size.new }
     ensures untouched { result ≢ code_of Done → out.new ≡ out.old }
 {
-    give_description(alloc, Kind::Request, octets, json, out, size)
+    let mut lines = Lines::new(alloc, json);
+    let fault = add_request(&mut lines, octets);
+    give_lines(lines, fault, out, size)
 }
