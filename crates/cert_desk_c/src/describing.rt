@@ -27,8 +27,8 @@ fn give_lines(lines: Lines, fault: Option<ErrorKind>, out: &mut [u8], size: &mut
 }
 
 /// The description of a certificate, as `cert_tool describe certificate` writes it, as lines or as
-/// JSON: 0 where it stands in `out`, 2 where octets spell no certificate, 5 where the room is too
-/// small, 6 where there is no memory.
+/// JSON: 0 where it stands in `out`, 2 where the octets are no certificate, 5 where the buffer is
+/// too small, 6 out of memory.
 #[unsafe(no_mangle)]
 pub extern "C" fn wd_describe_certificate(
     alloc: Global,
@@ -45,7 +45,7 @@ pub extern "C" fn wd_describe_certificate(
     give_lines(lines, fault, out, size)
 }
 
-/// The description of a revocation list, in the same way.
+/// The description of a CRL, in the same way.
 #[unsafe(no_mangle)]
 pub extern "C" fn wd_describe_list(
     alloc: Global,
@@ -62,7 +62,7 @@ pub extern "C" fn wd_describe_list(
     give_lines(lines, fault, out, size)
 }
 
-/// The description of a certification request, in the same way.
+/// The description of a CSR, in the same way.
 #[unsafe(no_mangle)]
 pub extern "C" fn wd_describe_request(
     alloc: Global,
