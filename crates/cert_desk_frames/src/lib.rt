@@ -1,0 +1,12 @@
+//! Frames: octets that come behind their number, one frame behind the other.
+//!
+//! A frame is four octets, the number of those that follow, the highest first, and these octets.
+//! [`read_frame`] reads one of any [`Input`](cert_desk_io::Input), [`split_frame`] takes one off
+//! octets, and [`append_frame`] puts one behind others.
+#![tactic(auto)]
+
+mod frame_error;
+mod frames;
+
+pub use frame_error::FrameError;
+pub use frames::{append_frame, read_frame, split_frame};
