@@ -1,8 +1,13 @@
 //! Judges real chains by answers from outside, explains refusals, describes certificates, and takes
 //! streams of certificates apart. `cert_tool --help` says how it is called.
+//! `cert_tool serve` answers requests in frames on standard input, until it ends.
 #![tactic(auto)]
 
-use cert_desk_io::{ExitStatus, ToWrite, tell_memory};
+mod sent;
+mod serving;
+
+use crate::serving::serve;
+use cert_desk_io::{ExitStatus, FromRead, ToWrite, tell_memory};
 use cert_tool_runs::{HostFiles, obey};
 use std::alloc::{AllocError, Global};
 use std::io::IsTerminal;
@@ -44,12 +49,17 @@ fn run(rt: &HostRuntime) -> ExitStatus {
     let Ok(texts) = texts_of(rt.alloc(), words.as_slice()) else {
         return tell_memory(&mut err);
     };
+    let mut out = ToWrite::new(io::writer(rt));
+    if let ["serve"] = texts.as_slice() {
+        let mut input = FromRead::new(rt.stdin());
+        return serve(rt.alloc(), rt, &mut input, &mut out, &mut err);
+    }
     obey(
         rt.alloc(),
         rt,
         &HostFiles::new(rt),
         texts.as_slice(),
-        &mut ToWrite::new(io::writer(rt)),
+        &mut out,
         &mut err,
         rt.stderr().is_terminal() && !rt.stdout().is_terminal(),
     )

@@ -1,0 +1,48 @@
+//! Inputs that were sent with a request.
+ghost use Rattle.std.specs.Prelude.{List, ℕ, IfSome};
+ghost use Rattle.cert_tool.specs.Sending.{IsSent};
+
+use cert_desk_frames::split_frame;
+use cert_desk_io::{MemoryInput, NamedInputs, OpenError};
+
+/// Inputs that were sent: frames of names and of octets, in turn.
+#[derive(Clone, Copy)]
+pub struct Sent<'a> {
+    /// The frames.
+    pub parts: &'a [u8],
+}
+
+impl<'a> NamedInputs<MemoryInput<'a>> for Sent<'a> {
+    ghost use Rattle.cert_desk_io.specs.Memory.{octets_left};
+    ghost use Rattle.cert_tool.specs.Sending.{IsSent};
+
+    ghost is_opened = { λ sent name input. IsSent name (octets_left input) sent.parts.now };
+
+    fn open(&self, name: &str) -> Result<MemoryInput<'a>, OpenError> {
+        match find(name.as_bytes(), self.parts) {
+            Some(octets) => Ok(MemoryInput::new(octets, &[], None)),
+            None => Err(OpenError::Device),
+        }
+    }
+
+    fn has_failed(&self, _input: &MemoryInput<'a>) -> bool {
+        false
+    }
+}
+
+// The octets of the first input of a name, if there is one.
+fn find<'a>(name: &[u8], parts: &'a [u8]) -> Option<&'a [u8]>
+    ensures { IfSome result (λ octets. IsSent name.now octets.now parts.now) }
+{
+    let mut left = parts;
+    'inputs: while let Some((this, behind)) = split_frame(left) {
+        let Some((octets, others)) = split_frame(behind) else {
+            return None;
+        };
+        if this == name {
+            return Some(octets);
+        }
+        left = others;
+    }
+    None
+}
