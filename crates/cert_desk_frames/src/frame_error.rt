@@ -1,6 +1,6 @@
 // Why there is no frame.
 
-/// Why a frame isn't read, or isn't put behind octets.
+/// Why a frame isn't read, or isn't put after octets.
 #[derive(Clone, Copy, Debug, PartialEq, Eq)]
 pub enum FrameError {
     /// More octets than are wanted, or than four octets number.

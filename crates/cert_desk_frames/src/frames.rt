@@ -85,7 +85,7 @@ pub fn read_frame<I: Input>(
     Ok(Some(content))
 }
 
-/// The content of the frame with which octets begin, and what stands behind it; none where they
+/// The content of the frame with which octets begin, and what stands after it; none where they
 /// begin with no whole frame.
 pub fn split_frame(octets: &[u8]) -> Option<(&[u8], &[u8])>
     ensures some { IfSome result (λ p. octets.now ≡ frame p.0.now ++ p.1.now) }
@@ -103,7 +103,7 @@ pub fn split_frame(octets: &[u8]) -> Option<(&[u8], &[u8])>
     Some(rest.split_at(count))
 }
 
-/// Puts a frame of this content behind other octets.
+/// Puts a frame of this content after other octets.
 ///
 /// # Errors
 ///

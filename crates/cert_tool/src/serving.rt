@@ -74,6 +74,7 @@ pub fn serve<C: Clock, I: Input, O: Output, E: Output>(
     output: &mut O,
     err: &mut E,
 ) -> ExitStatus {
+    // More requests than ever come: a bound, so that the loop is seen to end.
     for _ in 0..u64::MAX {
         let request = match read_frame(alloc, input, MOST) {
             Ok(Some(request)) => request,
