@@ -131,18 +131,25 @@ def written(proved):
     return "\n".join(rows) + "\n"
 
 
-def read(release):
-    """PROVED of a release; it stops at the first file that hasn't the sum of SUMS."""
-    release = pathlib.Path(release)
-    if not (release / "SUMS").is_file():
+def sums_of(release):
+    """What SUMS of a release says: the sum of each other file, by its path."""
+    path = pathlib.Path(release) / "SUMS"
+    if not path.is_file():
         stop(f"{release} is no release: it has no file SUMS")
-    wanted = {}
-    for row in (release / "SUMS").read_text(errors="replace").splitlines():
-        digest, _, path = row.partition("  ")
-        wanted[path] = digest
+    rows = (row.partition("  ") for row in path.read_text(errors="replace").splitlines())
+    return {path: digest for digest, _, path in rows}
+
+
+def read(release, whole=True):
+    """PROVED of a release; it stops at the first file that hasn't the sum of SUMS.
+
+    Unless it has to be whole, others than PROVED may not be there."""
+    release, wanted = pathlib.Path(release), sums_of(release)
     there = listing(release)
     there.pop("SUMS")
     for path in sorted(wanted.keys() | there.keys()):
+        if path not in there and not whole and path != "PROVED":
+            continue
         if path not in there:
             stop(f"{path}: SUMS names it, and it is not there")
         if path not in wanted:
