@@ -1,4 +1,3 @@
-pub mod Contents
 pub mod Lists
 pub mod InTurn
 pub mod Headed

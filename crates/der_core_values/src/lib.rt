@@ -16,6 +16,7 @@ mod in_range;
 mod integers;
 mod leaf_ways;
 mod leaves;
+mod members;
 mod now;
 mod numbered;
 mod object_identifier;
@@ -39,6 +40,7 @@ pub use fields::{
 pub use in_range::{InRange, InRangeFields, InRangeValue, octets_in_range, text_in_range};
 pub use integers::Integer;
 pub use leaves::{Leaf, decode_leaf, read_content};
+pub use members::{encode_members, members_len};
 pub use now::decode_leaf_of_tag;
 pub use one_of_four::{OneOf4, OneOf5, OneOf6, OneOf7, OneOf8, OneOf9};
 pub use one_of_two::{OneOf2, OneOf3};

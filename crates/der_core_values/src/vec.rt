@@ -11,8 +11,9 @@ use crate::elements::{ApartValue, AsRead, AsReadValue, Element, Member};
 use crate::encode::{Encode, EncodeValue};
 use crate::fields::{DecodeFields, Fields, read_fields};
 use crate::in_range::{InRange, InRangeValue};
+use crate::members::{encode_members, members_len};
 use der_core_head::{Error, ErrorKind, Length, Tag};
-use der_core_octets::{Header, Reader, Writer, sum_len};
+use der_core_octets::{Header, Reader, Writer};
 use std::alloc::Global;
 
 /// SEQUENCE OF (X.690 8.10).
@@ -77,18 +78,11 @@ impl<'a, R: Reader<'a>, T: Decode<'a, R>> DecodeValue<'a, R> for Vec<T> {
 
 impl<T: Encode> EncodeValue for Vec<T> {
     fn value_len(&self) -> Result<Length, Error> {
-        let mut len = Length { value: 0 };
-        for value in self {
-            len = sum_len(len, value.encoded_len()?)?;
-        }
-        Ok(len)
+        members_len(self.as_slice())
     }
 
     fn encode_value<W: Writer>(&self, writer: &mut W) -> Result<(), Error> {
-        for value in self {
-            value.encode(writer)?;
-        }
-        Ok(())
+        encode_members(self.as_slice(), writer)
     }
 }
 

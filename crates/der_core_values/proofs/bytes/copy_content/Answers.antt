@@ -1,6 +1,6 @@
 use Rattle.std.proofs.Common.{arith}
 use Rattle.der_core_octets.proofs.ReadCases.{slice_few}
-use Rattle.der_core_values.proofs.Contents.{counted_fits}
+use Rattle.der_core_values.proofs.Headed.{counted_fits}
 use Rattle.der_core_values.proofs.bytes.copy_content.Goals as goal
 
 pub returns-in-Err : goal.returns-in-Err

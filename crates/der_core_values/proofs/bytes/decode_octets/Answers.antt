@@ -1,4 +1,4 @@
-use Rattle.der_core_values.proofs.Contents.{content_reads}
+use Rattle.der_core_values.proofs.Headed.{content_reads}
 use Rattle.der_core_values.proofs.bytes.decode_octets.Goals as goal
 
 pub returns-clause-content : goal.returns-clause-content

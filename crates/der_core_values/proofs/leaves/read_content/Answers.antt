@@ -4,7 +4,7 @@ use Rattle.der_core_head.specs.Heads.{Fits}
 use Rattle.der_core_head.specs.declared.error.Error.{Error}
 use Rattle.der_core_head.specs.Reading.{State, ReadsNow, TakesContent}
 use Rattle.der_core_head.specs.Grammar.{slice_at}
-use Rattle.der_core_values.proofs.Contents.{content_ok, content_err}
+use Rattle.der_core_values.proofs.Headed.{content_ok, content_err}
 use Rattle.der_core_octets.proofs.ReadCases.{slice_few}
 use Rattle.der_core_values.proofs.leaves.read_content.Goals as goal
 

@@ -1,0 +1,41 @@
+//! Encodings of members, one after the other.
+
+ghost use Rattle.der_core_head.specs.Shapes.{many};
+ghost use Rattle.der_core_head.specs.Grammar.{plain_list};
+ghost use Rattle.der_core_head.specs.Reading.{GivesNow};
+ghost use Rattle.der_core_head.specs.Writing.{Writes, size_body, write_body};
+ghost use Rattle.der_core_octets.specs.Outputs.{Continues};
+
+use crate::encode::Encode;
+use der_core_head::{Error, Length};
+use der_core_octets::{Writer, sum_len};
+
+/// The number of octets of the encodings.
+///
+/// # Errors
+/// `Overflow` from 2^32 on.
+pub fn members_len<T: Encode>(members: &[T]) -> Result<Length, Error>
+    ensures { GivesNow (λ l. l.value) result
+        (size_body (many T.shape) (plain_list T.written members.now)) }
+{
+    let mut len = Length { value: 0 };
+    for member in members {
+        len = sum_len(len, member.encoded_len()?)?;
+    }
+    Ok(len)
+}
+
+/// Writes the encodings.
+///
+/// # Errors
+/// `Overflow` where a length passes 2^32 - 1, and those of the writer.
+pub fn encode_members<T: Encode, W: Writer>(members: &[T], writer: &mut W) -> Result<(), Error>
+    ensures exact { Writes W.takes_memory (W.out writer.old) (W.out writer.new) result
+        (write_body (many T.shape) (plain_list T.written members.now)) }
+    ensures kept { Continues (W.out writer.old) (W.out writer.new) }
+{
+    for member in members {
+        member.encode(writer)?;
+    }
+    Ok(())
+}
