@@ -1,8 +1,4 @@
-mod Members
 mod Windows
 mod Rooms
-mod HeadersWritten
-mod Puts
-mod Encodable
 mod Fronts
 mod Defaults

@@ -1,17 +1,21 @@
 -- What is written to a slice, and that a valid value is written where there is room for it.
-use Rattle.std.proofs.Common.{◌≡◌, ℕ, ◌-◌, ◌≤◌, false, List, length, Some, Result, Ok, Err, refl, sym, ap, ◌∙◌, arith, le-ltb, IfOk, IsOkAnd}
+use Rattle.std.proofs.Common.{◌≡◌, ℕ, ◌-◌, ◌≤◌, false, List, length, Some, Result, Ok, Err, refl, sym, ap, ◌∙◌, arith, le-ltb, IfOk, IsOkAnd, ◌++◌, Bool}
 use Rattle.der_core_head.specs.declared.error.Error.{Error}
 use Rattle.der_core_head.specs.declared.error.ErrorKind.{ErrorKind}
 use Rattle.der_core_head.specs.declared.error.ErrorKind.TheVariants as kinds
 use Rattle.der_core_head.specs.Octets.{◌>>=◌}
 use Rattle.der_core_head.specs.Heads.{Fits}
 use Rattle.der_core_head.specs.Shapes.{Shape, Content, Value, ContentValue, octets_of, contents, IsValid, IsContent}
-use Rattle.der_core_head.specs.Reading.{GivesNow}
-use Rattle.der_core_head.specs.Writing.{Out, put, write, write_content}
+use Rattle.der_core_head.specs.Reading.{GivesNow, Gives}
+use Rattle.der_core_head.specs.Writing.{Out, put, write, write_content, size, FailsTaking, Writes}
 use Rattle.der_core_head.proofs.Results.{ok_is, bind_ok, unless_ok}
 use Rattle.der_core_head.proofs.OkOctets.{writes_octets, writes_contents, writes_fitting}
-use Rattle.der_core_head.proofs.Written.{put_some-put, put_written, put_content}
-use Rattle.der_core_octets.specs.Outputs.{blank, finished, filled}
+use Rattle.der_core_head.proofs.Written.{put_some-put, put_written, put_content, out, put-append}
+use Rattle.der_core_octets.specs.Outputs.{blank, finished, filled, appended}
+use Rattle.std.specs.Prelude.{[]}
+use Rattle.der_core_head.specs.declared.length.Length.{Length}
+use Rattle.der_core_head.specs.Ranges.{IsInRange, IsContentInRange}
+use Rattle.der_core_head.proofs.WrittenValid.{written_valid, content_valid}
 
 -- octets that there is room for
 put_blank : (b : List ℕ) (room : ℕ) → length b ≤ room → put b (blank room) ≡ Ok (record { written = b; room = Some (room - length b); failed = false })
@@ -55,3 +59,33 @@ pub filled_contents : {T : Type 0} (c : Content) (v : ContentValue c) (room : �
     → IfOk r (λ x. view x ≡ contents c v)
 filled_contents c v room view (Ok x) e = let h = finished_is (write_content c v) room (view x) e in sym h.2 ∙ writes_contents c v (blank room) h.0 h.1
 filled_contents c v room view (Err e) h = tt
+
+-- What was answered by a call that writes has an encoding, where the parts of the value are in their ranges.
+
+pub ok_valid : {T : Type 0} (s : Shape) (v : Value s) (view : T → Out) (r : Result T Error) → Gives view r (write s v (out [])) → IfOk r (λ _. IsInRange s v → IsValid s v)
+ok_valid s v view (Ok x) e = written_valid s v (out []) (view x) e
+ok_valid s v view (Err d) e = tt
+
+pub filled_in_range : {T : Type 0} (s : Shape) (v : Value s) (room : ℕ) (view : T → List ℕ) (r : Result T Error) → GivesNow view r (filled (write s v) room) → IfOk r (λ _. IsInRange s v → IsValid s v)
+filled_in_range s v room view (Ok x) e = let p = bind_ok (write s v (blank room)) finished (view x) e in written_valid s v (blank room) p.0 p.1
+filled_in_range s v room view (Err d) e = tt
+
+pub content_in_range : {T : Type 0} (c : Content) (v : ContentValue c) (room : ℕ) (view : T → List ℕ) (r : Result T Error) → GivesNow view r (filled (write_content c v) room) → IfOk r (λ _. IsContentInRange c v → IsContent c v)
+content_in_range c v room view (Ok x) e = let p = bind_ok (write_content c v (blank room)) finished (view x) e in content_valid c v (blank room) p.0 p.1
+content_in_range c v room view (Err d) e = tt
+
+pub appended_in_range : (s : Shape) (v : Value s) (w new : List ℕ) (r : Result Length Error) → IfOk r (λ len. appended s v w ≡ Ok (len.value, new)) → IfOk r (λ _. IsInRange s v → IsValid s v)
+appended_in_range s v w new (Ok len) e =
+    let p = bind_ok (size s v) (λ n. write s v (out w) >>= λ o. Ok (n, o.written)) (len.value, new) e in
+    let q = bind_ok (write s v (out w)) (λ o. Ok (p.0, o.written)) (len.value, new) p.2 in
+    written_valid s v (out w) q.0 q.1
+appended_in_range s v w new (Err d) e = tt
+
+-- What is written in two pieces is what is written at once.
+
+pub first_refused : (memory : Bool) (a b : List ℕ) (o : Out) (k : ErrorKind) → FailsTaking memory k (put a o) → FailsTaking memory k (put (a ++ b) o)
+first_refused memory a b o k h = λ other. sym (put-append a b o) ∙ ap (λ r. r >>= put b) (h other)
+
+pub writes_both : (memory : Bool) (a b : List ℕ) (old mid new : Out) (r : Result (Unit {0}) Error) → put a old ≡ Ok mid → Writes memory mid new r (put b) → Writes memory old new r (put (a ++ b))
+writes_both memory a b old mid new (Ok x) e h = sym (put-append a b old) ∙ ap (λ r. r >>= put b) e ∙ h
+writes_both memory a b old mid new (Err x) e h = λ other. sym (put-append a b old) ∙ ap (λ r. r >>= put b) e ∙ h other

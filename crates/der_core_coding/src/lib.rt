@@ -36,6 +36,6 @@ pub use sliced::decode_sliced;
 pub use slices::{encode_value_to_slice, value_header};
 pub use tagged::{EncodeValueRef, IsConstructed, Tagged};
 pub use tagged_fields::{explicit_of, explicit_ref, implicit_of, implicit_ref};
-pub use tagging::{encode_explicit, encode_implicit};
+pub use tagging::{encode_explicit, encode_implicit, encode_tagged};
 pub use whole::{FromDer, leaf_from_der, read_whole};
 pub use with_default::WithDefault;

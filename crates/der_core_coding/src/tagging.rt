@@ -1,4 +1,4 @@
-//! Values after context-specific tags whose number is known when they are written.
+//! Values after tags that are known when they are written.
 
 ghost use Rattle.std.specs.Prelude.{◌≡◌, true};
 ghost use Rattle.der_core_head.specs.Tags.{context, implicit_tag};
@@ -6,15 +6,35 @@ ghost use Rattle.der_core_head.specs.Shapes.{nested, only, tagged};
 ghost use Rattle.der_core_head.specs.Writing.{Writes, write};
 ghost use Rattle.der_core_octets.specs.Outputs.{Continues};
 
+use crate::encode_ref::EncodeRef;
+use crate::explicit::Explicit;
 use der_core_head::{Error, Tag, TagNumber, is_constructed};
 use der_core_octets::{Writer, encode_header};
 use der_core_values::{Encode, EncodeValue, FixedTag};
+
+/// Writes a content behind a tag.
+///
+/// # Errors
+/// `Overflow` where a length passes 2^32 - 1, and those of the writer.
+#[tactic(auto, unfolding(der_core_head::specs::Writing::write_tlv))]
+pub fn encode_tagged<W: Writer, T: EncodeValue>(
+    writer: &mut W,
+    tag: Tag,
+    value: &T,
+) -> Result<(), Error>
+    ensures exact { Writes W.takes_memory (W.out writer.old) (W.out writer.new) result
+        (write (tagged tag T.content) (T.value_written value.now)) }
+    ensures kept { Continues (W.out writer.old) (W.out writer.new) }
+{
+    let len = value.value_len()?;
+    encode_header(writer, tag, len)?;
+    value.encode_value(writer)
+}
 
 /// Writes a value behind a context-specific tag in front of its own (X.690 8.14.2).
 ///
 /// # Errors
 /// `Overflow` where a length passes 2^32 - 1, and those of the writer.
-#[tactic(auto, unfolding(der_core_head::specs::Writing::write_tlv))]
 pub fn encode_explicit<W: Writer, T: Encode>(
     writer: &mut W,
     number: TagNumber,
@@ -25,23 +45,21 @@ pub fn encode_explicit<W: Writer, T: Encode>(
     ensures kept { Continues (W.out writer.old) (W.out writer.new) }
 {
     let constructed = true;
-    let len = value.encoded_len()?;
-    encode_header(
-        writer,
-        Tag::ContextSpecific {
-            constructed,
-            number,
-        },
-        len,
-    )?;
-    value.encode(writer)
+    let tag = Tag::ContextSpecific {
+        constructed,
+        number,
+    };
+    // The number of its type stands for none: the tag is the one above.
+    let field: Explicit<EncodeRef<'_, T>, 0> = Explicit {
+        value: EncodeRef(value),
+    };
+    encode_tagged(writer, tag, &field)
 }
 
 /// Writes a value whose own tag is replaced by a context-specific one (X.690 8.14.3).
 ///
 /// # Errors
 /// `Overflow` where a length passes 2^32 - 1, and those of the writer.
-#[tactic(auto, unfolding(der_core_head::specs::Writing::write_tlv))]
 pub fn encode_implicit<W: Writer, T: EncodeValue + FixedTag>(
     writer: &mut W,
     number: TagNumber,
@@ -53,14 +71,9 @@ pub fn encode_implicit<W: Writer, T: EncodeValue + FixedTag>(
     ensures kept { Continues (W.out writer.old) (W.out writer.new) }
 {
     let constructed = is_constructed(T::tag());
-    let len = value.value_len()?;
-    encode_header(
-        writer,
-        Tag::ContextSpecific {
-            constructed,
-            number,
-        },
-        len,
-    )?;
-    value.encode_value(writer)
+    let tag = Tag::ContextSpecific {
+        constructed,
+        number,
+    };
+    encode_tagged(writer, tag, value)
 }

@@ -1,7 +1,7 @@
 use Rattle.std.proofs.Common.{◌≡◌, ◌++◌, ◌-◌, List, ℕ, Ok, length, take, drop, ap, sym, ◌∙◌, arith}
 use Rattle.der_core_head.specs.Grammar.{read, read_by}
 use Rattle.der_core_head.specs.Reading.{read_at}
-use Rattle.der_core_coding.proofs.Members.{consumed, passed_over}
+use Rattle.der_core_coding.proofs.Fronts.{consumed, passed_over}
 use Rattle.der_core_coding.proofs.sliced.decode_sliced.Goals as goal
 
 pub returns-clause-octets : goal.returns-clause-octets
