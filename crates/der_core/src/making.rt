@@ -9,8 +9,8 @@ pub use crate::lists::elements_cmp;
 pub use crate::order::cmp_behind;
 pub use crate::placing::{place_of, stands_among};
 pub use der_core_coding::{
-    decode_sliced, encode_behind, encode_explicit, encode_implicit, explicit_of, explicit_ref,
-    implicit_of, implicit_ref, is_zero, leaf_from_der, len_behind, optional_explicit,
+    decode_sliced, encode_behind, encode_explicit, encode_implicit, encode_tagged, explicit_of,
+    explicit_ref, implicit_of, implicit_ref, is_zero, leaf_from_der, len_behind, optional_explicit,
     optional_implicit, read_explicit, read_rising, read_whole,
 };
 pub use der_core_head::{header_len, is_constructed, is_same_tag, leading_octet_of, number_of};
@@ -20,8 +20,8 @@ pub use der_core_octets::{
     unsigned_of,
 };
 pub use der_core_values::{
-    decode_leaf, decode_leaf_of_tag, list_in_range, octets_in_range, read_content, read_fields,
-    text_in_range,
+    decode_leaf, decode_leaf_of_tag, encode_members, list_in_range, members_len, octets_in_range,
+    read_content, read_fields, text_in_range,
 };
 
 /// Whether an error says that memory ran out.
