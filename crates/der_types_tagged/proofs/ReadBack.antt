@@ -3,7 +3,6 @@ use Rattle.std.proofs.Common.{◌≡◌, ◌/◌, ℕ, Bool, true, false, List, 
 use Rattle.std.proofs.lemmas.Bool.Decides.{nat_tests}
 use Rattle.der_core_head.specs.declared.encoding_rules.EncodingRules.TheVariants as encodings
 use Rattle.der_core_head.specs.declared.tag.Tag.{Tag}
-use Rattle.der_core_head.specs.declared.tag.Tag.TheVariants as tags
 use Rattle.der_core_head.specs.Tags.{IsTag, class_tag, number_of, same_tag, tag_at, tag_octets}
 use Rattle.der_core_head.specs.Heads.{Head, Fits, head_at, head_octets, tlv}
 use Rattle.der_core_head.specs.Shapes.{Shape, Content, Value, ContentValue, tagged, optional, nested, only, contents, octets_of, IsValid}

@@ -3,10 +3,9 @@
 ghost use Rattle.std.specs.Prelude.{[], Ok, None, false};
 ghost use Rattle.der_core_head.specs.Shapes.{nested, only, tagged, IsValid, octets_of};
 ghost use Rattle.der_core_head.specs.Reading.{Gives, GivesNow};
-ghost use Rattle.der_core_head.specs.Writing.{Writes, size, write};
-ghost use Rattle.der_core_octets.specs.Outputs.{Continues};
+ghost use Rattle.der_core_head.specs.Writing.{size, write};
 
-use der_core::making::encode_header;
+use der_core::making::encode_tagged;
 use der_core::{
     DerOrd, Encode, EncodeValue, Error, Length, Shaped, ShapedValue, Tag, ValueOrd, Writer,
 };
@@ -52,22 +51,6 @@ pub fn len_behind<T: EncodeValue>(tag: Tag, value: &T) -> Result<Length, Error>
     len.for_tlv(tag)
 }
 
-/// Writes a header and a content.
-#[tactic(auto, unfolding(der_core_head::specs::Writing::write_tlv))]
-pub fn encode_behind<W: Writer, T: EncodeValue>(
-    writer: &mut W,
-    tag: Tag,
-    value: &T,
-) -> Result<(), Error>
-    ensures exact { Writes W.takes_memory (W.out writer.old) (W.out writer.new) result
-        (write (tagged tag T.content) (T.value_written value.now)) }
-    ensures kept { Continues (W.out writer.old) (W.out writer.new) }
-{
-    let len = value.value_len()?;
-    encode_header(writer, tag, len)?;
-    value.encode_value(writer)
-}
-
 /// The octets that writing a header and a content gives.
 fn written_behind<T: EncodeValue>(alloc: Global, tag: Tag, value: &T) -> Result<Vec<u8>, Error>
     ensures { Gives (λ v. record { written = v.items; room = None; failed = false }) result
@@ -75,7 +58,7 @@ fn written_behind<T: EncodeValue>(alloc: Global, tag: Tag, value: &T) -> Result<
         (record { written = []; room = None; failed = false })) }
 {
     let mut out = Vec::new(alloc);
-    encode_behind(&mut out, tag, value)?;
+    encode_tagged(&mut out, tag, value)?;
     Ok(out)
 }
 

@@ -10,8 +10,8 @@ ghost use Rattle.der_core.specs.Orders.{contents_cmp, octets_cmp, Overflows};
 ghost use Rattle.der_types_tagged.specs.Fields.{field_tag, explicit_field, implicit_field};
 ghost use Rattle.der_core_octets.specs.Outputs.{Continues};
 
-use crate::behind::{Whole, der_behind, encode_behind, len_behind};
-use der_core::making::{cmp_behind, is_constructed};
+use crate::behind::{Whole, der_behind, len_behind};
+use der_core::making::{cmp_behind, encode_tagged, is_constructed};
 use der_core::{
     Encode, EncodeValue, Error, FixedTag, Length, Tag, TagMode, TagNumber, ValueOrd, Writer,
 };
@@ -128,8 +128,8 @@ pub fn encode_field<W: Writer, T: EncodeValue + FixedTag>(
 {
     let tag = tag_of_field(class, mode, number, T::tag());
     match mode {
-        TagMode::Explicit => encode_behind(writer, tag, &Whole(value)),
-        TagMode::Implicit => encode_behind(writer, tag, value),
+        TagMode::Explicit => encode_tagged(writer, tag, &Whole(value)),
+        TagMode::Implicit => encode_tagged(writer, tag, value),
     }
 }
 

@@ -10,6 +10,6 @@ pub returns-in-Explicit-clause-explicit : goal.returns-in-Explicit-clause-explic
 returns-in-Explicit-clause-explicit g c = λ is.
     let n = c.args.number.value in
     let tag : c.tag_of_field-tag.result ≡ class_tag (c.args.class / 64) true n = c.tag_of_field-tag.ensures ∙ ap (λ m. field_tag c.args.class m n c.tag.result) is in
-    let P : Tag → Type 0 = λ t. Writes g.W.Writer.takes_memory (g.W.Writer.out c.args.writer.now) (g.W.Writer.out c.encode_behind.new.writer) c.encode_behind.result
+    let P : Tag → Type 0 = λ t. Writes g.W.Writer.takes_memory (g.W.Writer.out c.args.writer.now) (g.W.Writer.out c.encode_tagged.new.writer) c.encode_tagged.result
     (write (tagged t (nested (only (tagged g.T.FixedTag.fixed_tag g.T.ShapedValue.content)))) (g.T.ShapedValue.value_written c.args.value.now)) in
-    subst P tag c.encode_behind.ensures.exact
+    subst P tag c.encode_tagged.ensures.exact
