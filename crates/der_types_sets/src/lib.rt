@@ -7,7 +7,6 @@ mod iter;
 mod joined;
 pub mod laws;
 pub mod making;
-mod members;
 mod places;
 mod sequence_of;
 mod set_of;

@@ -12,9 +12,8 @@ ghost use Rattle.der_core_head.specs.Shapes.{nested, few};
 ghost use Rattle.der_core_head.specs.Grammar.{plain_list};
 
 use crate::iter::SequenceOfIter;
-use crate::members::{encode_members, members_len};
 use arrayvec::ArrayVec;
-use der_core::making::{elements_cmp, list_in_range, read_fields};
+use der_core::making::{elements_cmp, encode_members, list_in_range, members_len, read_fields};
 use der_core::{
     ApartValue, AsRead, AsReadValue, Decode, DecodeFields, DecodeValue, DerOrd, Element, Encode,
     EncodeValue, Error, ErrorKind, Fields, FixedTag, Header, InRange, InRangeValue, Length, Member,

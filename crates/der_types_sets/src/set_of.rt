@@ -21,12 +21,11 @@ ghost use Rattle.der_types_sets.specs.Sets.{IsBelowLast, IsPutAtPlace};
 
 use crate::any_order::AnyOrder;
 use crate::iter::SetOfIter;
-use crate::members::{encode_members, members_len};
 use crate::places::{arrange, check_last, place_of};
 use crate::sequence_of::SequenceOf;
 use crate::set_of_ref::SetOfRef;
 use arrayvec::ArrayVec;
-use der_core::making::elements_cmp;
+use der_core::making::{elements_cmp, encode_members, members_len};
 use der_core::{
     AsRead, Decode, DecodeValue, DerOrd, Encode, EncodeValue, Error, ErrorKind, FixedTag, FromDer,
     Header, Length, Member, Reader, Shaped, ShapedValue, SliceReader, Tag, ValueOrd, Writer,

@@ -17,11 +17,10 @@ ghost use Rattle.der_types_sets.specs.Lent.{IsUncompared};
 
 use crate::ascending::count_ascending;
 use crate::joined::joined_cmp;
-use crate::members::{encode_members, members_len};
 use crate::places::check_ascending;
 use crate::set_of_ref_iter::SetOfRefIter;
 use crate::set_of_vec::SetOfVec;
-use der_core::making::{elements_cmp, list_in_range, read_fields};
+use der_core::making::{elements_cmp, encode_members, list_in_range, members_len, read_fields};
 use der_core::{
     ApartValue, AsRead, AsReadValue, Decode, DecodeFields, DecodeValue, DerOrd, Element, Encode,
     EncodeValue, Error, ErrorKind, Fields, FixedTag, Header, InRange, InRangeValue, Length, Member,

@@ -1,9 +1,0 @@
-use Rattle.std.proofs.Common.{◌≡◌, drop}
-use Rattle.der_core_head.specs.Grammar.{plain_list}
-use Rattle.der_core_head.specs.Writing.{size, many_len}
-use Rattle.der_types_sets.proofs.members.members_len.Given as goal
-
-abbrev pub invariant-loop-member : goal.invariant-loop-member
-invariant-loop-member g l =
-    let F = size g.T.Shaped.shape in
-    many_len F (plain_list g.T.Shaped.written (drop l.member-index l.members)) l.len.value ≡ many_len F (plain_list g.T.Shaped.written l.members) 0
