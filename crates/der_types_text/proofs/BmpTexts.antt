@@ -1,19 +1,23 @@
 -- Pairs of octets, and the characters that they spell.
-use Rattle.std.proofs.Common.{◌≡◌, ℕ, zero, suc, ◌<◌, ◌%◌, Bool, true, false, List, [], ◌∷◌, ◌++◌, length, get_or, map, Ok, Err, refl, ap, sym, ◌∙◌, arith, ◌&&◌, nat_eq}
+use Rattle.std.proofs.Common.{◌≡◌, ℕ, zero, suc, ◌<◌, ◌%◌, Bool, true, false, List, [], ◌∷◌, ◌++◌, length, get_or, map, Ok, Err, refl, ap, sym, ◌∙◌, arith, ◌&&◌, nat_eq, cond, ⊎_elim, encode_utf8_all, chars, IsUtf8}
 use Rattle.std.specs.Cmp.Lexicographic.{pointwise}
 use Rattle.std.specs.List.{list_all}
-use Rattle.std.proofs.lemmas.Bool.{and_parts, cond-true, cond-false}
+use Rattle.std.proofs.lemmas.Bool.{and_parts, cond-true, cond-false, and_from}
 use Rattle.std.proofs.lemmas.Bool.Decides.{same_from_decides, Decides-eqb, nat_tests}
 use Rattle.std.proofs.lemmas.Grind.{flat_map-append}
 use Rattle.std.proofs.lemmas.List.Folds.{list_all-append}
 use Rattle.std.proofs.lemmas.Slice.Eq.{slice_eq-Decides}
 use Rattle.der_core_head.specs.declared.error.ErrorKind.TheVariants as kinds
 use Rattle.der_core_head.specs.declared.tag.Tag.TheVariants as tags
-use Rattle.der_core_head.specs.BmpStrings.{is_unit, unit_octets, bmp_octets, are_pairs, units}
+use Rattle.der_core_head.specs.BmpStrings.{is_unit, unit_octets, bmp_octets, are_pairs, units, IsBmp}
 use Rattle.der_core_head.proofs.Bytes.{IsBytes, octets_are}
-use Rattle.der_core_head.proofs.Results.{fine}
+use Rattle.der_core_head.proofs.Results.{fine, ok_is, if_ok}
 use Rattle.der_core_head.proofs.BmpLaws.{bmp_octets-units, units-octets}
 use Rattle.der_types_text.specs.BmpStrings.{are_bmp, bmp_from}
+use Rattle.std.proofs.Math.Utf8.{scalar, scalars, low_scalar}
+use Rattle.std.proofs.lemmas.Str.{chars-encodes, encodes-chars, IsUtf8-from_ascii}
+use Rattle.der_core_head.specs.Octets.{IsOctets}
+use Rattle.der_core_head.proofs.TextLaws.{all_ascii}
 
 -- pairs are an even number of octets
 pub are_pairs-even : (w : List ℕ) → are_pairs w ≡ nat_eq (length w % 2) 0
@@ -62,3 +66,42 @@ pub bmp_from-refused : (cs : List ℕ) → list_all is_unit cs ≡ false → bmp
 bmp_from-refused cs h = cond-false (list_all is_unit cs) (fine cs) (Err (kinds.Value tags.BmpString)) h
 
 pub ruleset pairs = (are_pairs-even, are_bmp-spelled)
+
+-- The characters of a BMPString are characters of a text.
+
+-- octets are of one list of characters
+pub one_string : (us vs : List ℕ) → bmp_octets us ≡ bmp_octets vs → us ≡ vs
+one_string us vs e = sym (units-octets us) ∙ ap units e ∙ units-octets vs
+
+unit_scalar : (u : ℕ) → is_unit u ≡ true → scalar u ≡ true
+unit_scalar u e = grind (arith, nat_tests)
+
+pub bmp_scalars : (us : List ℕ) → IsBmp us → scalars us ≡ true
+bmp_scalars [] h = refl
+bmp_scalars (u ∷ us) h =
+    let parts = and_parts (is_unit u) (list_all is_unit us) h in
+    and_from (scalar u) (scalars us) (unit_scalar u parts.0) (bmp_scalars us parts.1)
+
+-- what a string prints is read as it
+pub printed_read : (us : List ℕ) → IsBmp us → bmp_from (chars (encode_utf8_all us)) ≡ Ok us
+printed_read us h =
+    let same : chars (encode_utf8_all us) ≡ us = chars-encodes us (bmp_scalars us h) in
+    rw same (bmp_from-ok us h)
+
+-- what is read of a text prints it
+pub read_printed : (text us : List ℕ) → IsUtf8 text → bmp_from (chars text) ≡ Ok us → encode_utf8_all us ≡ text
+read_printed text us utf8 e =
+    let parts = if_ok (list_all is_unit (chars text)) (kinds.Value tags.BmpString) (fine (chars text)) us e in
+    ap encode_utf8_all (sym (ok_is (chars text) us parts.1)) ∙ encodes-chars text utf8
+
+-- Texts of ASCII characters are UTF-8.
+
+pub ascii_is_utf8 : (p : ℕ → Bool) (w : List ℕ) → ((b : ℕ) → p b ≡ true → b < 128) → list_all p w ≡ true → IsUtf8 w
+ascii_is_utf8 p w below e = IsUtf8-from_ascii w (all_ascii p w below e)
+
+pub ascii_octets : (p : ℕ → Bool) (w : List ℕ) → ((b : ℕ) → p b ≡ true → b < 128) → list_all p w ≡ true → IsOctets w
+ascii_octets p [] below e = tt
+ascii_octets p (b ∷ w) below e =
+    let parts = and_parts (p b) (list_all p w) e in
+    let small = below b parts.0 in
+    (omega arith, ascii_octets p w below parts.1)

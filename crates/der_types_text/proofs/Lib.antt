@@ -1,4 +1,2 @@
 pub mod AnyTexts
-pub mod AsciiTexts
 pub mod BmpTexts
-pub mod Characters

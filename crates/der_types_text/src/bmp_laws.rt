@@ -10,7 +10,7 @@ ghost use Rattle.der_core.specs.Orders.{octets_cmp};
 ghost use Rattle.der_types_text.specs.BmpStrings.{bmp_from};
 
 /// Strings of the same octets have the same characters.
-#[tactic(auto, using(crate::proofs::Characters::one_string))]
+#[tactic(auto, using(crate::proofs::BmpTexts::one_string))]
 pub fn octets_identify()
     ensures { (us vs : List ℕ) → bmp_octets us ≡ bmp_octets vs → us ≡ vs }
 {}
@@ -22,15 +22,11 @@ pub fn order_is_that_of_octets()
         ≡ octets_cmp (bmp_octets us) (bmp_octets vs) }
 {}
 
-/// What a string prints is made into the same string by `from_utf8`.
-#[tactic(auto, using(crate::proofs::Characters::printed_read))]
+/// What a string prints is made into the same string by `from_utf8`, and the string that
+/// `from_utf8` makes of a text prints it.
+#[tactic(auto, using(crate::proofs::BmpTexts::printed_read, crate::proofs::BmpTexts::read_printed))]
 pub fn printed_strings_are_read_back()
-    ensures { (us : List ℕ) → IsBmp us → bmp_from (chars (encode_utf8_all us)) ≡ Ok us }
-{}
-
-/// The string that `from_utf8` makes of a text prints it.
-#[tactic(auto, using(crate::proofs::Characters::read_printed))]
-pub fn read_texts_are_printed()
-    ensures { (text us : List ℕ) → IsUtf8 text → bmp_from (chars text) ≡ Ok us → encode_utf8_all us
-        ≡ text }
+    ensures read { (us : List ℕ) → IsBmp us → bmp_from (chars (encode_utf8_all us)) ≡ Ok us }
+    ensures printed { (text us : List ℕ) → IsUtf8 text → bmp_from (chars text) ≡ Ok us
+        → encode_utf8_all us ≡ text }
 {}

@@ -23,8 +23,9 @@ pub fn forms_read_alike<T: AsciiType>()
     ensures { ⟦<AsciiStringRef<'static, T> as Shaped>⟧.shape ≡ ⟦<AsciiString<T> as Shaped>⟧.shape }
 {}
 
-/// Both forms have the same contents and the same encoding.
-pub fn forms_encode_alike<T: AsciiType>(borrowed: &AsciiStringRef<'_, T>, owned: &AsciiString<T>)
+/// Both forms have the same contents and the same encoding, print alike, and lend the same octets
+/// and the same text.
+pub fn forms_answer_alike<T: AsciiType>(borrowed: &AsciiStringRef<'_, T>, owned: &AsciiString<T>)
     requires { borrowed.now.text.now ≡ owned.now }
     ensures contents { contents ⟦<AsciiStringRef<'static, T> as ShapedValue>⟧.content
         (⟦<AsciiStringRef<'static, T> as ShapedValue>⟧.value_plain borrowed.now)
@@ -34,6 +35,12 @@ pub fn forms_encode_alike<T: AsciiType>(borrowed: &AsciiStringRef<'_, T>, owned:
         (⟦<AsciiStringRef<'static, T> as Shaped>⟧.plain borrowed.now)
         ≡ octets_of ⟦<AsciiString<T> as Shaped>⟧.shape
         (⟦<AsciiString<T> as Shaped>⟧.plain owned.now) }
+    ensures printed { ⟦<AsciiStringRef<'static, T> as Display>⟧.output borrowed.now
+        ≡ ⟦<AsciiString<T> as Display>⟧.output owned.now }
+    ensures octets { ⟦<AsciiStringRef<'static, T> as AsSlice<u8>>⟧.items borrowed.now
+        ≡ ⟦<AsciiString<T> as AsSlice<u8>>⟧.items owned.now }
+    ensures text { ⟦<AsciiStringRef<'static, T> as AsStr>⟧.text borrowed.now
+        ≡ ⟦<AsciiString<T> as AsStr>⟧.text owned.now }
 {}
 
 /// Two texts are equal, hash, and stand in each order alike in both forms: by `cmp`, `partial_cmp`,
@@ -68,24 +75,14 @@ pub fn forms_compare_alike<T: AsciiType>(
         (⟦<AsciiString<T> as Shaped>⟧.plain owned_b.now) }
 {}
 
-/// Both forms print alike, and lend the same octets and the same text.
-pub fn forms_answer_alike<T: AsciiType>(borrowed: &AsciiStringRef<'_, T>, owned: &AsciiString<T>)
-    requires { borrowed.now.text.now ≡ owned.now }
-    ensures printed { ⟦<AsciiStringRef<'static, T> as Display>⟧.output borrowed.now
-        ≡ ⟦<AsciiString<T> as Display>⟧.output owned.now }
-    ensures octets { ⟦<AsciiStringRef<'static, T> as AsSlice<u8>>⟧.items borrowed.now
-        ≡ ⟦<AsciiString<T> as AsSlice<u8>>⟧.items owned.now }
-    ensures text { ⟦<AsciiStringRef<'static, T> as AsStr>⟧.text borrowed.now
-        ≡ ⟦<AsciiString<T> as AsStr>⟧.text owned.now }
-{}
-
 /// Octets are read as a `Utf8StringRef` and as a `String` alike, and refused alike.
 pub fn utf8_forms_read_alike()
     ensures { ⟦<Utf8StringRef<'static> as Shaped>⟧.shape ≡ ⟦<String as Shaped>⟧.shape }
 {}
 
-/// A `Utf8StringRef` and its `String` have the same contents and the same encoding.
-pub fn utf8_forms_encode_alike(borrowed: &Utf8StringRef<'_>, owned: &String)
+/// A `Utf8StringRef` and its `String` have the same contents and the same encoding, print alike,
+/// and lend the same text.
+pub fn utf8_forms_answer_alike(borrowed: &Utf8StringRef<'_>, owned: &String)
     requires { borrowed.now.text.now ≡ string_bytes owned.now }
     ensures contents { contents ⟦<Utf8StringRef<'static> as ShapedValue>⟧.content
         (⟦<Utf8StringRef<'static> as ShapedValue>⟧.value_plain borrowed.now)
@@ -94,6 +91,10 @@ pub fn utf8_forms_encode_alike(borrowed: &Utf8StringRef<'_>, owned: &String)
     ensures encoding { octets_of ⟦<Utf8StringRef<'static> as Shaped>⟧.shape
         (⟦<Utf8StringRef<'static> as Shaped>⟧.plain borrowed.now)
         ≡ octets_of ⟦<String as Shaped>⟧.shape (⟦<String as Shaped>⟧.plain owned.now) }
+    ensures printed { ⟦<Utf8StringRef<'static> as Display>⟧.output borrowed.now
+        ≡ ⟦<String as Display>⟧.output owned.now }
+    ensures text { ⟦<Utf8StringRef<'static> as AsStr>⟧.text borrowed.now
+        ≡ ⟦<String as AsStr>⟧.text owned.now }
 {}
 
 /// Two `Utf8StringRef`s are equal, hash, and stand in each order as their `String`s do.
@@ -124,13 +125,4 @@ pub fn utf8_forms_compare_alike(
         (⟦<Utf8StringRef<'static> as Shaped>⟧.plain b.now)
         ≡ encodings_cmp ⟦<String as Shaped>⟧.shape (⟦<String as Shaped>⟧.plain owned_a.now)
         (⟦<String as Shaped>⟧.plain owned_b.now) }
-{}
-
-/// A `Utf8StringRef` and its `String` print alike, and lend the same text.
-pub fn utf8_forms_answer_alike(borrowed: &Utf8StringRef<'_>, owned: &String)
-    requires { borrowed.now.text.now ≡ string_bytes owned.now }
-    ensures printed { ⟦<Utf8StringRef<'static> as Display>⟧.output borrowed.now
-        ≡ ⟦<String as Display>⟧.output owned.now }
-    ensures text { ⟦<Utf8StringRef<'static> as AsStr>⟧.text borrowed.now
-        ≡ ⟦<String as AsStr>⟧.text owned.now }
 {}
