@@ -1,3 +1,1 @@
-pub mod Days
 pub mod SecondsOrders
-pub mod TextLaws

@@ -24,14 +24,10 @@ pub fn order_is_that_of_seconds()
         → ⟦<GeneralizedTime as Ord>⟧.cmp c d ≡ nat_cmp (unix_seconds c) (unix_seconds d) }
 {}
 
-/// Of one number of seconds there is one date.
-pub fn one_date_by_seconds()
-    ensures { (c d : Civil) → is_civil c ≡ true → is_civil d ≡ true → unix_seconds c
-        ≡ unix_seconds d → c ≡ d }
-{}
-
-/// Of one text there is one date.
-pub fn one_date_by_text()
-    ensures { (c d : Civil) → is_civil c ≡ true → is_civil d ≡ true → date_text c ≡ date_text d
-        → c ≡ d }
+/// Of one number of seconds there is one date, and of one text.
+pub fn one_date()
+    ensures by_seconds { (c d : Civil) → is_civil c ≡ true → is_civil d ≡ true
+        → unix_seconds c ≡ unix_seconds d → c ≡ d }
+    ensures by_text { (c d : Civil) → is_civil c ≡ true → is_civil d ≡ true
+        → date_text c ≡ date_text d → c ≡ d }
 {}

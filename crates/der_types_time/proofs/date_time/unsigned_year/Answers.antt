@@ -1,6 +1,6 @@
 use Rattle.std.proofs.Common.{arith, pos, ◌≤ℤ◌}
 use Rattle.jiff_core.proofs.SignedLemmas.{signed_casts}
-use Rattle.der_types_time.proofs.Days.{year_is}
+use Rattle.der_types_time.proofs.SecondsOrders.{year_is}
 use Rattle.der_types_time.proofs.date_time.unsigned_year.Goals as goal
 
 pub overflow_cast-result : goal.overflow_cast-result

@@ -4,7 +4,7 @@ use Rattle.jiff_core.proofs.SignedLemmas.{back_small}
 use Rattle.der_core_head.proofs.DateLaws.{civil_ranges}
 use Rattle.der_types_time.specs.Seconds.{unix_days}
 use Rattle.der_types_time.specs.DateTimes.{civil_of}
-use Rattle.der_types_time.proofs.Days.{date_is, unix_day_number}
+use Rattle.der_types_time.proofs.SecondsOrders.{date_is, unix_day_number}
 use Rattle.der_types_time.proofs.date_time.DateTime.date.Goals as goal
 
 pub invariant_of-result : goal.invariant_of-result

@@ -5,7 +5,7 @@ use Rattle.jiff_core.specs.Calendar.{IsCivilDate, days_from_civil}
 use Rattle.jiff_core.specs.Date.{epoch_day}
 use Rattle.jiff_core.proofs.SignedLemmas.{signed_casts}
 use Rattle.der_core_head.specs.Dates.{Civil, is_civil}
-use Rattle.der_types_time.proofs.Days.{civil_is, year_is, seconds_are}
+use Rattle.der_types_time.proofs.SecondsOrders.{civil_is, year_is, seconds_are}
 use Rattle.der_types_time.proofs.date_time.DateTime.from_unix_seconds.Goals as goal
 
 abbrev date_of : goal.After-new → Civil

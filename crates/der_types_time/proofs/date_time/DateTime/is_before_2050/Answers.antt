@@ -2,7 +2,7 @@ use Rattle.std.proofs.Common.{◌<◌, IsTrue, subst, arith, ltb, ◌↔◌, ltb
 use Rattle.der_core_head.specs.Dates.{Civil}
 use Rattle.der_types_time.specs.Seconds.{unix_seconds}
 use Rattle.der_types_time.specs.DateTimes.{civil_of}
-use Rattle.der_types_time.proofs.Days.{utc_seconds}
+use Rattle.der_types_time.proofs.SecondsOrders.{utc_seconds}
 use Rattle.der_types_time.proofs.date_time.DateTime.is_before_2050.Goals as goal
 
 pub returns-clause-seconds : goal.returns-clause-seconds

@@ -1,6 +1,6 @@
 use Rattle.std.proofs.Common.{◌≡◌, Some, None, sym, ap, ◌∙◌}
 use Rattle.der_types_time.specs.DateTexts.{text_at}
-use Rattle.der_types_time.proofs.TextLaws.{text_at-sound, text_at-again}
+use Rattle.der_types_time.proofs.SecondsOrders.{text_at-sound, text_at-again}
 use Rattle.der_types_time.proofs.date_time.DateTimeFromStr.from_str.Goals as goal
 
 pub returns-in-Some : goal.returns-in-Some
