@@ -7,12 +7,11 @@ pub use der_types_numbers::laws::{integer_forms_agree, natural_forms_agree};
 pub use der_types_sets::laws::{borrowed_and_owned_agree, order_of_insertions};
 pub use der_types_tagged::laws::{others_are_absent, written_is_read_back};
 pub use der_types_text::bmp_laws::{
-    octets_identify, order_is_that_of_octets, printed_strings_are_read_back, read_texts_are_printed,
+    octets_identify, order_is_that_of_octets, printed_strings_are_read_back,
 };
 pub use der_types_text::laws::{
-    forms_answer_alike, forms_compare_alike, forms_encode_alike, forms_read_alike,
-    utf8_forms_answer_alike, utf8_forms_compare_alike, utf8_forms_encode_alike,
-    utf8_forms_read_alike,
+    forms_answer_alike, forms_compare_alike, forms_read_alike, utf8_forms_answer_alike,
+    utf8_forms_compare_alike, utf8_forms_read_alike,
 };
-pub use der_types_time::laws::{one_date_by_seconds, one_date_by_text, order_is_that_of_seconds};
+pub use der_types_time::laws::{one_date, order_is_that_of_seconds};
 pub use der_types_values::laws::{bit_forms_agree, octet_forms_agree};
