@@ -13,7 +13,7 @@ use Rattle.der_core_head.proofs.Complete.{element_some, not_begins}
 use Rattle.der_core.specs.Orders.{octets_cmp, encodings_cmp, StartsWith, next_cmp}
 use Rattle.der_core.proofs.OrderLaws.{then_first, octets_cmp-append}
 use Rattle.der_core.proofs.HeadOrders.{tag_splits, tag_cmp-equal}
-use Rattle.der_core.proofs.RowOrders.{TagIs}
+use Rattle.der_core.proofs.ShapeOrders.{TagIs}
 
 -- Values of one alternative
 

@@ -2,10 +2,13 @@
 use Rattle.std.proofs.Common.{◌≡◌, ℕ, List, [], ◌∷◌, ◌++◌, take, drop, Bool, false, refl, sym, ap, subst, ◌∙◌, ◌||◌, if◌then◌else◌, Ordering, Less, Equal, Greater}
 use Rattle.std.specs.Ordering.{ordering_reverse}
 use Rattle.std.proofs.lemmas.Cmp.{nat_list_cmp_total}
-use Rattle.der_core_head.specs.Grammar.{plain_list}
-use Rattle.der_core_head.specs.Shapes.{Shape, Value, octets_of, AllRising}
+use Rattle.der_core_head.specs.Grammar.{plain_list, plain_option}
+use Rattle.der_core_head.specs.Shapes.{Shape, Value, octets_of, AllRising, above, IsValid}
 use Rattle.der_core.specs.Orders.{octets_cmp, encodings_cmp}
 use Rattle.der_core.specs.Placed.{is_equal, is_less, put_in_front, placed, stands_among}
+use Rattle.std.specs.Prelude.{Option, None, IfSome}
+use Rattle.std.specs.List.{AllByRecursion}
+use Rattle.der_core_head.specs.Writing.{all_follow}
 
 -- so many stand in front of it, and it goes among the others
 abbrev pub IsPast : {A P : Type 0} → (A → P) → (P → P → Bool) → P → List A → ℕ → Type 0
@@ -43,3 +46,11 @@ placed_rises s v (w ∷ ws) rises none = first s v w ws (encodings_cmp s v w) re
 
 pub still_rises : (s : Shape) (v : Value s) (ws new : List (Value s)) → new ≡ placed s v ws → stands_among s v ws ≡ false → Rises s ws → Rises s new
 still_rises s v ws new is none rises = subst (Rises s) (sym is) (placed_rises s v ws rises none)
+
+-- The members of a set, compared one by one.
+
+-- what is left of a list is compared as all of it is
+pub record Left {A : Type 0} (s : Shape) (f : A → Value s) (v : List A) (i : ℕ) (last : Option (Value s)) : Type 0 where
+  pub valid : AllByRecursion (λ x. IsValid s x) (plain_list f (drop i v))
+  pub before : IfSome last (IsValid s)
+  pub order : all_follow above (octets_of s) (plain_option (octets_of s) last) (plain_list f (drop i v)) ≡ all_follow above (octets_of s) None (plain_list f v)

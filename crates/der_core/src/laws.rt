@@ -41,13 +41,10 @@ pub fn in_range_is_spelled<T: InRange + Element + Member>(value: &T)
     written_is_read();
 }
 
-/// The order is `Equal` exactly where the octets are the same.
-pub fn equal_octets_alone()
-    ensures { (a b : List ℕ) → (octets_cmp a b ≡ Equal) ↔ (a ≡ b) }
-{}
-
-/// The order is total: one way round it is the reverse of the other, and it goes on.
+/// The order is total: it is `Equal` exactly where the octets are the same, one way round it is the
+/// reverse of the other, and it goes on.
 pub fn order_is_total()
+    ensures equal { (a b : List ℕ) → (octets_cmp a b ≡ Equal) ↔ (a ≡ b) }
     ensures reversed { (a b : List ℕ) → octets_cmp a b ≡ ordering_reverse (octets_cmp b a) }
     ensures goes_on { (a b c : List ℕ) → octets_cmp a b ≡ Less → octets_cmp b c ≡ Less
         → octets_cmp a c ≡ Less }

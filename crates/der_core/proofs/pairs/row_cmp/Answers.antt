@@ -1,6 +1,6 @@
 use Rattle.std.proofs.Common.{rules}
 use Rattle.std.proofs.lemmas.Result.{IfErr-weaker}
-use Rattle.der_core.proofs.RowOrders.{first_long, others_long}
+use Rattle.der_core.proofs.ShapeOrders.{first_long, others_long}
 use Rattle.der_core.proofs.pairs.row_cmp.Goals as goal
 
 pub returns-in_err-first-clause-refused : goal.returns-in_err-first-clause-refused

@@ -1,7 +1,7 @@
 use Rattle.std.proofs.Common.{Ok, ap, ◌∙◌}
 use Rattle.std.specs.Ordering.{ordering_reverse}
 use Rattle.std.proofs.lemmas.Result.{IfErr-weaker}
-use Rattle.der_core.proofs.RowOrders.{neither_stands, both_stand, first_stands, second_stands, others_long}
+use Rattle.der_core.proofs.ShapeOrders.{neither_stands, both_stand, first_stands, second_stands, others_long}
 use Rattle.der_core.proofs.pairs.Tuple2FieldsOrd.fields_cmp.Goals as goal
 
 pub returns-in-None-Some-clause-order : goal.returns-in-None-Some-clause-order

@@ -1,4 +1,4 @@
-use Rattle.der_core.proofs.RowOrders.{first_starts, next_starts}
+use Rattle.der_core.proofs.ShapeOrders.{first_starts, next_starts}
 use Rattle.der_core.proofs.pairs.Tuple2FieldsOrd.fields_tag.Goals as goal
 
 pub returns-in-Some : goal.returns-in-Some

@@ -1,5 +1,5 @@
 use Rattle.std.proofs.Common.{Ok, ap}
-use Rattle.der_core.proofs.DefaultOrders.{both_default, first_default, second_default, neither_default, default_long}
+use Rattle.der_core.proofs.ShapeOrders.{both_default, first_default, second_default, neither_default, default_long}
 use Rattle.der_core.proofs.with_default.WithDefaultDerOrd.der_cmp.Goals as goal
 
 pub returns-in-true-true-clause-order : goal.returns-in-true-true-clause-order

@@ -1,7 +1,7 @@
 use Rattle.std.proofs.Common.{subst}
 use Rattle.der_core_head.specs.Shapes.{Value, IsValid, octets_of, begins}
 use Rattle.der_core.specs.Orders.{StartsWith}
-use Rattle.der_core.proofs.DefaultOrders.{default_absent, default_starts}
+use Rattle.der_core.proofs.ShapeOrders.{default_absent, default_starts}
 use Rattle.der_core.proofs.with_default.WithDefaultFirstTag.first_tag.Goals as goal
 
 pub returns-then-is_default : goal.returns-then-is_default
