@@ -13,9 +13,8 @@ use Rattle.der_core_octets.specs.declared.header.Header.{Header}
 use Rattle.der_core_head.specs.declared.tag.Tag.{Tag}
 use Rattle.der_core_octets.specs.Headers.{head_of, wanted_at}
 use Rattle.der_core_octets.specs.Nesting.{Enters, IsNested, CalledWithin, Answered, RefusesNested}
-use Rattle.der_core_octets.proofs.Wanted.{wanted_ok}
+use Rattle.der_core_octets.proofs.GoingOn.{wanted_ok, reads_after, tlv_wanted}
 use Rattle.der_core_octets.proofs.ReadCases.{or_true}
-use Rattle.der_core_octets.proofs.GoingOn.{reads_after, tlv_wanted}
 use Rattle.der_core_octets.proofs.Nested.{is_kept, at_length, gives, trails}
 
 -- the reader stands behind a header that was wanted

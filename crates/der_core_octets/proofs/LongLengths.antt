@@ -1,13 +1,24 @@
 -- Lengths of two to five octets.
-use Rattle.std.proofs.Common.{◌≡◌, ℕ, ◌+◌, ◌-◌, ◌*◌, ◌<◌, ◌≤◌, Bool, true, false, cond, ltb, eqb, List, [], ◌∷◌, length, get_or, take, drop, ◌%◌, suc, Result, Ok, Err, arith, refl, ap, ◌∙◌, length-drop, inl, inr, IsErr, ◌≢◌, take_all}
+use Rattle.std.proofs.Common.{◌≡◌, ℕ, ◌+◌, ◌-◌, ◌*◌, ◌<◌, ◌≤◌, Bool, true, false, cond, ltb, eqb, List, [], ◌∷◌, length, get_or, take, drop, ◌%◌, suc, Result, Ok, Err, arith, refl, ap, ◌∙◌, length-drop, inl, inr, IsErr, ◌≢◌, take_all, ◌++◌, IfOk}
 use Rattle.der_core_head.specs.declared.error.ErrorKind.{ErrorKind}
 use Rattle.std.proofs.lemmas.Bool.Decides.{nat_tests}
 use Rattle.std.proofs.lemmas.Bool.{cases_lt, le-ltb, lt-ltb, ne_eqb, eq-eqb}
 use Rattle.der_core_head.specs.declared.error.ErrorKind.TheVariants as kinds
 use Rattle.der_core_head.specs.declared.tag.Tag.{Tag}
-use Rattle.der_core_head.specs.Tags.{tag_at}
-use Rattle.der_core_head.specs.Heads.{shortest, length_at, head_at}
+use Rattle.der_core_head.specs.Tags.{tag_at, IsTag}
+use Rattle.der_core_head.specs.Heads.{shortest, length_at, head_at, length_octets, head_octets}
 use Rattle.der_core_head.proofs.LengthForms.{length_at-indefinite, length_at-large, length_at-cut, length_at-1, length_at-2, length_at-3, length_at-4}
+use Rattle.der_core_head.specs.declared.error.Error.{Error}
+use Rattle.der_core_head.specs.declared.length.Length.{Length}
+use Rattle.der_core_head.specs.declared.tag.Tag.TheVariants as tags
+use Rattle.der_core_head.specs.Limits.{IsLength}
+use Rattle.der_core_head.specs.Fronts.{ReadsFront}
+use Rattle.der_core_head.proofs.Bytes.{IsBytes}
+use Rattle.der_core_head.proofs.HeadLaws.{length_again, length_sound, head_sound}
+use Rattle.der_core_octets.specs.LoneLengths.{lone, lone_fault, lone_length_at}
+use Rattle.std.specs.Prelude.{}
+use Rattle.der_core_octets.specs.declared.header.Header.{Header}
+use Rattle.der_core_octets.specs.Headers.{head_of}
 
 -- the octets behind the first one
 fewest-1 : (t : Tag) (first : ℕ) (w : List ℕ) → first ≡ 129 → 1 ≤ length w → get_or w 0 0 < 256
@@ -148,3 +159,34 @@ plain (a ∷ w) t n count l tag len =
 
 pub behind-le : (w : List ℕ) (n : ℕ) → 1 ≤ length w → n ≤ length (behind w) → 1 + n ≤ length w
 behind-le w n l h = omega (arith, ap (λ (u : List ℕ). length u) (behind-is w), length-drop 1 w)
+
+-- A length alone is read as one behind a tag, but for the fault of a form that isn't the shortest.
+
+pub lone_is : (w : List ℕ) (r : Result (ℕ × List ℕ) ErrorKind) → length_at tags.Null w ≡ r → lone_length_at w ≡ lone r
+unfolding lone_length_at
+lone_is w r e = ap lone e
+
+pub other_fault : (k : ErrorKind) → ((t : Tag) → k ≢ kinds.Length t) → lone_fault k ≡ k
+other_fault (kinds.Length t) h = absurd (h t refl)
+other_fault k h = refl
+
+pub lone_spelled : (w : List ℕ) (r : Result (Length × ℕ) Error) → IsBytes w → ReadsFront (λ (l : Length). l.value) w r lone_length_at
+    → IfOk r (λ x. w ≡ length_octets x.0.value ++ drop x.1 w)
+unfolding lone_length_at
+lone_spelled w (Ok x) bytes h = (length_sound tags.Null w x.0.value (drop x.1 w) bytes (grind (arith, nat_tests))).0
+lone_spelled w (Err e) bytes h = tt
+
+pub lone_again : (n : ℕ) (r : List ℕ) → IsLength n → lone_length_at (length_octets n ++ r) ≡ Ok (n, r)
+lone_again n r fits = lone_is (length_octets n ++ r) (Ok (n, r)) (length_again tags.Null n r fits)
+
+-- Lengths and headers at the front of octets, as the grammar spells them.
+
+pub length_spelled : (t : Tag) (w : List ℕ) (r : Result (Length × ℕ) Error) → IsBytes w → ReadsFront (λ (l : Length). l.value) w r (length_at t) → IfOk r (λ x. w ≡ length_octets x.0.value ++ drop x.1 w)
+length_spelled t w (Ok x) bytes h = (length_sound t w x.0.value (drop x.1 w) bytes h.0).0
+length_spelled t w (Err e) bytes h = tt
+
+pub head_spelled : (w : List ℕ) (r : Result (Header × ℕ) Error) → IsBytes w → ReadsFront head_of w r head_at → IfOk r (λ x. IsTag x.0.tag × (w ≡ head_octets x.0.tag x.0.length.value ++ drop x.1 w))
+head_spelled w (Ok x) bytes h =
+    let s = head_sound w (head_of x.0) (drop x.1 w) bytes h.0 in
+    (s.1, s.0)
+head_spelled w (Err e) bytes h = tt

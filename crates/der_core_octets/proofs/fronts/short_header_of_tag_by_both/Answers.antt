@@ -4,7 +4,7 @@ use Rattle.der_core_head.specs.Heads.{head_at}
 use Rattle.der_core_head.specs.Bodies.{head_ber_at}
 use Rattle.der_core_head.proofs.BodyLaws.{head_ber_more}
 use Rattle.der_core_octets.specs.Headers.{head_of}
-use Rattle.der_core_octets.proofs.Wanted.{wanted_is}
+use Rattle.der_core_octets.proofs.GoingOn.{wanted_is}
 use Rattle.der_core_octets.proofs.fronts.short_header_of_tag_by_both.Goals as goal
 
 -- What DER reads, BER reads.

@@ -1,6 +1,6 @@
 use Rattle.std.proofs.Common.{Ok, Err, drop}
 use Rattle.der_core_head.specs.declared.tag.Tag.TheVariants as tags
-use Rattle.der_core_octets.proofs.LoneLaws.{lone_is}
+use Rattle.der_core_octets.proofs.LongLengths.{lone_is}
 use Rattle.der_core_octets.proofs.parse.lone_length_of.Goals as goal
 
 pub returns-in-Some : goal.returns-in-Some

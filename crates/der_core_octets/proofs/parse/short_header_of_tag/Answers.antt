@@ -1,6 +1,6 @@
 use Rattle.std.proofs.Common.{arith}
 use Rattle.der_core_octets.proofs.LongLengths.{plain, behind-le}
-use Rattle.der_core_octets.proofs.Wanted.{by_octet}
+use Rattle.der_core_octets.proofs.GoingOn.{by_octet}
 use Rattle.der_core_octets.proofs.parse.short_header_of_tag.Goals as goal
 
 pub returns-clause-front : goal.returns-clause-front

@@ -1,5 +1,5 @@
 use Rattle.std.proofs.Common.{sym}
-use Rattle.der_core_octets.proofs.LoneLaws.{other_fault}
+use Rattle.der_core_octets.proofs.LongLengths.{other_fault}
 use Rattle.der_core_octets.proofs.parse.without_tag.Goals as goal
 
 pub returns-in_default : goal.returns-in_default

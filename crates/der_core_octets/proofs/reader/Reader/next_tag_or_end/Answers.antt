@@ -2,7 +2,7 @@ use Rattle.std.proofs.Common.{[], ap, sym, ◌∙◌, ◌≢◌}
 use Rattle.std.proofs.lemmas.Result.{err_from_is_err_and}
 use Rattle.der_core_head.specs.Bodies.{tag_by}
 use Rattle.der_core_head.specs.Fronts.{alone}
-use Rattle.der_core_octets.proofs.Wanted.{peek_ok, peek_err, some_left}
+use Rattle.der_core_octets.proofs.GoingOn.{peek_ok, peek_err, some_left}
 use Rattle.der_core_octets.proofs.reader.Reader.next_tag_or_end.Goals as goal
 use Rattle.der_core_octets.proofs.reader.Reader.next_tag_or_end.Goals.{then-not-is_failed+else-is_empty+in_default, else-not-is_failed}
 
