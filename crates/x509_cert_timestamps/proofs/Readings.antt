@@ -1,13 +1,40 @@
 -- Octets begin with the spelling of one value at most, and where they do, nothing refuses them.
-use Rattle.std.proofs.Common.{◌≡◌, ◌≢◌, ℕ, ◌^◌, ◌<◌, List, [], ◌∷◌, ◌++◌, length, refl, sym, ap, subst, ◌∙◌, append_assoc, arith, inl, inr, IsTrue, ◌==◌, length-append}
-use Rattle.std.specs.List.{AllByRecursion, list_any}
+use Rattle.std.proofs.Common.{◌≡◌, ℕ, ◌+◌, ◌<◌, List, length, get_or, refl, arith, length-append, ◌≢◌, ◌^◌, [], ◌∷◌, ◌++◌, sym, ap, subst, ◌∙◌, append_assoc, inl, inr, IsTrue, ◌==◌, take, flat_map, All, Bool, false}
 use Rattle.std.specs.Int.{w16, w64, from_be_bytes}
+use Rattle.std.proofs.lemmas.Nat.{be_bytes_2, be_bytes_8, from_be_bytes-to_be_bytes_2, from_be_bytes-to_be_bytes_8}
+use Rattle.x509_cert_timestamps.specs.Forms.{short_octets, long_octets, vector, octets, Form, Plain, named, long, exactly, pair, Spells, Refuses, RefusesWhole, FailsOn, Appends}
+use Rattle.std.specs.List.{AllByRecursion, list_any}
 use Rattle.std.proofs.lemmas.Bool.Decides.{nat_tests}
-use Rattle.std.proofs.lemmas.Nat.{from_be_bytes-to_be_bytes_2, from_be_bytes-to_be_bytes_8}
 use Rattle.const_oid.proofs.DigitLaws.{split-same_length}
 use Rattle.x509_cert_timestamps.specs.declared.tls_error.TlsError.{TlsError}
-use Rattle.x509_cert_timestamps.specs.Forms.{Form, Plain, named, long, exactly, vector, pair, octets, Spells, Refuses, RefusesWhole, short_octets, long_octets}
-use Rattle.x509_cert_timestamps.proofs.NumberOctets.{length-short, length-long}
+use Rattle.std.proofs.lemmas.List.{flat_map_more, take_more}
+use Rattle.x509_cert_timestamps.specs.declared.serialized_sct.SerializedSct.{SerializedSct}
+use Rattle.x509_cert_timestamps.specs.Lists.{IsMember, sct_octets, ReadsNoMembers}
+use Rattle.x509_cert_timestamps.specs.declared.signed_certificate_timestamp.SignedCertificateTimestamp.{SignedCertificateTimestamp}
+use Rattle.x509_cert_timestamps.specs.Timestamps.{timestamp_form, timestamp_plain, signed_form, signed_plain}
+
+-- Numbers of two and of eight octets.
+
+-- the number of two octets is spelled by them
+pub short_of : (bytes : List ℕ) (n : ℕ) → length bytes ≡ 2 → ((i : ℕ) → get_or bytes i 0 < 256) → n ≡ from_be_bytes w16 bytes → short_octets n ≡ bytes
+unfolding short_octets
+short_of bytes n len fits is = be_bytes_2 bytes n len fits is
+
+-- the number of eight octets is spelled by them
+pub long_of : (bytes : List ℕ) (n : ℕ) → length bytes ≡ 8 → ((i : ℕ) → get_or bytes i 0 < 256) → n ≡ from_be_bytes w64 bytes → long_octets n ≡ bytes
+unfolding long_octets
+long_of bytes n len fits is = be_bytes_8 bytes n len fits is
+
+pub length-short : (n : ℕ) → length (short_octets n) ≡ 2
+unfolding short_octets
+length-short n = refl
+
+pub length-long : (n : ℕ) → length (long_octets n) ≡ 8
+unfolding long_octets
+length-long n = refl
+
+pub vector_length : (v : List ℕ) → length (octets vector v) ≡ length v + 2
+vector_length v = omega (arith, length-append (short_octets (length v)) v, length-short (length v))
 
 same_short : (n m : ℕ) → n < 2 ^ 16 → m < 2 ^ 16 → short_octets n ≡ short_octets m → n ≡ m
 unfolding short_octets
@@ -87,3 +114,43 @@ refused_once (pair f g) input d e (inr (v, rest, spelled, p)) (inr (w, other, sp
     let parts = spelled_once f v w input rest other spelled spelled_also in
     let P : List ℕ → Type 0 = λ z. Refuses g z d in
     refused_once g other d e (subst P parts.1 p) q
+
+-- One more member of a list, written or read.
+
+taken : (xs : List SerializedSct) (i : ℕ) (d : SerializedSct) → i < length xs → flat_map sct_octets (take (i + 1) xs) ≡ flat_map sct_octets (take i xs) ++ sct_octets (get_or xs i d)
+taken xs i d h = ap (λ (z : List SerializedSct). flat_map sct_octets z) (take_more xs i d h) ∙ sym (flat_map_more sct_octets [] (take i xs) (get_or xs i d))
+
+-- where octets are left, they aren't none
+pub some_left : (w : List ℕ) (is_empty : Bool) → is_empty ≡ (length w == 0) → is_empty ≡ false → w ≢ []
+some_left [] is_empty is more = λ e. absurd cc
+some_left (x ∷ w) is_empty is more = λ e. absurd cc
+
+pub one_more_written : (xs : List SerializedSct) (i : ℕ) (x : SerializedSct) (old new : List ℕ) → i < length xs → x ≡ get_or xs i x → old ≡ flat_map sct_octets (take i xs) → Appends vector x.data.items old new → new ≡ flat_map sct_octets (take (i + 1) xs)
+one_more_written xs i x old new h is so_far appended =
+    appended.octets_behind ∙ ap (λ (t : List ℕ). t ++ sct_octets x) so_far ∙ ap (λ (s : SerializedSct). flat_map sct_octets (take i xs) ++ sct_octets s) is ∙ sym (taken xs i x h)
+
+pub one_more_read : (xs ys : List SerializedSct) (x : SerializedSct) (body more rest : List ℕ) → ys ≡ xs ++ x ∷ [] → body ≡ flat_map sct_octets xs ++ more → Spells vector x.data.items more rest → body ≡ flat_map sct_octets ys ++ rest
+one_more_read xs ys x body more rest is parts spelled =
+    parts ∙ ap (λ (t : List ℕ). flat_map sct_octets xs ++ t) spelled.split
+    ∙ sym (append_assoc (flat_map sct_octets xs) (sct_octets x) rest)
+    ∙ ap (λ (t : List ℕ). t ++ rest) (flat_map_more sct_octets [] xs x ∙ ap (λ (z : List SerializedSct). flat_map sct_octets z) (sym is))
+
+pub less_is_left : (v input rest : List ℕ) → Spells vector v input rest → length rest < length input
+less_is_left v input rest spelled = omega (arith, ap length spelled.split, length-append (octets vector v) rest, vector_length v)
+
+pub member_refused : (xs : List SerializedSct) (body more : List ℕ) (e : TlsError) → All IsMember xs → body ≡ flat_map sct_octets xs ++ more → more ≢ [] → FailsOn vector more e → ReadsNoMembers body e
+member_refused xs body more e each parts is_more (inl memory) = inl memory
+member_refused xs body more e each parts is_more (inr refused) = inr (record { scts = xs; more = more; each = each; parts = parts; is_more = is_more; refused = refused })
+
+-- a list that was written is far from the greatest length of an OCTET STRING
+pub list_is_short : (body old new : List ℕ) → old ≡ [] → Appends vector body old new → length new < 2 ^ 32
+list_is_short body old new empty written =
+    omega (arith, written.value, ap length empty, ap length written.octets_behind, length-append old (octets vector body), vector_length body)
+
+-- How many octets spell a timestamp.
+
+pub timestamp_length : (t : SignedCertificateTimestamp) → length (octets timestamp_form (timestamp_plain t)) ≡ length t.log_id.key_id + 9 + length (octets vector t.extensions.items) + length (octets signed_form (signed_plain t.signature))
+timestamp_length t =
+    let e = octets vector t.extensions.items in
+    let s = octets signed_form (signed_plain t.signature) in
+    omega (arith, length-append t.log_id.key_id (long_octets t.timestamp ++ (e ++ s)), length-append (long_octets t.timestamp) (e ++ s), length-append e s, length-long t.timestamp)

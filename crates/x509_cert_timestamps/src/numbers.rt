@@ -8,7 +8,7 @@ ghost use Rattle.x509_cert_timestamps.specs.Forms.{FailsOn, Appends, CannotWrite
 use crate::tls_error::TlsError;
 
 /// The number of the first two octets, and the octets after them; none where there are fewer.
-#[tactic(auto, using(crate::proofs::NumberOctets::short_of))]
+#[tactic(auto, using(crate::proofs::Readings::short_of))]
 pub(crate) fn split_short(input: &[u8]) -> Option<(u16, &[u8])>
     ensures some { IfSome result (λ p. input.now ≡ short_octets p.0 ++ p.1.now) }
     ensures none { IsNone result ↔ (length input.now < 2) }
@@ -22,7 +22,7 @@ pub(crate) fn split_short(input: &[u8]) -> Option<(u16, &[u8])>
 }
 
 /// The number of the first eight octets, and the octets after them; none where there are fewer.
-#[tactic(auto, using(crate::proofs::NumberOctets::long_of))]
+#[tactic(auto, using(crate::proofs::Readings::long_of))]
 pub(crate) fn split_long(input: &[u8]) -> Option<(u64, &[u8])>
     ensures some { IfSome result (λ p. input.now ≡ long_octets p.0 ++ p.1.now) }
     ensures none { IsNone result ↔ (length input.now < 8) }

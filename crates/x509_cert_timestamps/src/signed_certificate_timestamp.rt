@@ -90,7 +90,7 @@ impl TlsValue for SignedCertificateTimestamp {
         Ok(())
     }
 
-    #[tactic(auto, using(crate::proofs::TimestampLengths::timestamp_length))]
+    #[tactic(auto, using(crate::proofs::Readings::timestamp_length))]
     fn tls_serialized_len(&self) -> usize {
         let fixed = self.version.tls_serialized_len() + self.log_id.tls_serialized_len() + 8;
         fixed

@@ -62,7 +62,7 @@ impl SignedCertificateTimestampList {
     /// # Errors
     /// `InvalidVectorLength` where one of them has more than 65535 octets, or all have with their
     /// lengths; `OutOfMemory`.
-    #[tactic(auto, using(crate::proofs::Members::list_is_short))]
+    #[tactic(auto, using(crate::proofs::Readings::list_is_short))]
     pub fn new(
         alloc: Global,
         serialized_scts: &[SerializedSct],

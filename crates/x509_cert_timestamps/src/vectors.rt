@@ -50,7 +50,7 @@ pub(crate) fn append_vector(items: &[u8], output: &mut Vec<u8>) -> Result<(), Tl
 }
 
 /// How many octets spell a vector, or `usize::MAX` if there are more.
-#[tactic(auto, using(crate::proofs::NumberOctets::vector_length))]
+#[tactic(auto, using(crate::proofs::Readings::vector_length))]
 pub(crate) fn vector_len(items: &[u8]) -> usize
     ensures { result ≡ min (length (octets vector items.now)) (2 ^ 64 - 1) }
 {

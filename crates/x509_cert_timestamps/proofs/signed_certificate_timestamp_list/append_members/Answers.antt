@@ -2,7 +2,7 @@ use Rattle.std.proofs.Common.{subst}
 use Rattle.std.proofs.lemmas.List.Elements.{All-more}
 use Rattle.x509_cert_timestamps.specs.declared.serialized_sct.SerializedSct.{SerializedSct}
 use Rattle.x509_cert_timestamps.specs.Forms.{vector, IsValue}
-use Rattle.x509_cert_timestamps.proofs.Members.{one_more_written}
+use Rattle.x509_cert_timestamps.proofs.Readings.{one_more_written}
 use Rattle.x509_cert_timestamps.proofs.signed_certificate_timestamp_list.append_members.Goals as goal
 
 pub loop-sct-preserved : goal.loop-sct-preserved

@@ -3,7 +3,7 @@ use Rattle.std.proofs.lemmas.List.Elements.{All-push}
 use Rattle.std.proofs.lemmas.Result.{err_from_is_err_and}
 use Rattle.x509_cert_timestamps.specs.declared.serialized_sct.SerializedSct.{SerializedSct}
 use Rattle.x509_cert_timestamps.specs.Forms.{vector, IsValue}
-use Rattle.x509_cert_timestamps.proofs.Members.{one_more_read, less_is_left, member_refused, some_left}
+use Rattle.x509_cert_timestamps.proofs.Readings.{one_more_read, less_is_left, member_refused, some_left}
 use Rattle.x509_cert_timestamps.proofs.signed_certificate_timestamp_list.read_members.Goals as goal
 
 pub loop-more-preserved : goal.loop-more-preserved
