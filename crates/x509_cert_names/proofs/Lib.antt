@@ -1,4 +1,3 @@
-pub mod Distinct
 pub mod Lists
 pub mod PlainTexts
 pub mod Printed
@@ -7,5 +6,5 @@ pub mod NameBounds
 pub mod OneName
 mod TextBounds
 mod PlainSpelled
-mod SameOctets
+pub mod SameOctets
 pub mod ValueEquality

@@ -29,23 +29,15 @@ of_name n = each_name n
 
 -- one shape for each bound
 
-name_octets_alike : (bound : ℕ) (n : PlainName) → octets_of (name bound) n ≡ octets_of (name 0) n
-unfolding octets_of
-name_octets_alike bound n = refl
-
-to_bound : (bound : ℕ) (n : PlainName) → IsValid (name bound) n → IsValidUnder bound (name 0) n
+bounds_alike : (bound : ℕ) (n : PlainName) → (IsValid (name bound) n ↔ IsValidUnder bound (name 0) n) × (octets_of (name bound) n ≡ octets_of (name 0) n)
 unfolding IsValid IsValidUnder octets_of
-to_bound bound n h = h
-
-from_bound : (bound : ℕ) (n : PlainName) → IsValidUnder bound (name 0) n → IsValid (name bound) n
-unfolding IsValid IsValidUnder octets_of
-from_bound bound n h = h
+bounds_alike bound n = ((λ h. h, λ h. h), refl)
 
 abbrev names : Family (name 0) name
 names = record {
   at = λ b n. n;
-  judged = λ b n. (to_bound b n, from_bound b n);
-  spelled = λ b n. name_octets_alike b n;
+  judged = λ b n. (bounds_alike b n).0;
+  spelled = λ b n. (bounds_alike b n).1;
   element = λ b. refl;
   apart = λ b. refl;
   enough = λ b. refl;

@@ -22,7 +22,6 @@ use Rattle.x509_cert_names.proofs.Lists.{all_more}
 use Rattle.std.specs.Prelude.{⊤}
 use Rattle.std.proofs.lemmas.Bool.{cases_lt}
 use Rattle.const_oid.proofs.DigitLaws.{split-same_length}
-use Rattle.der_core_head.specs.declared.tag.Tag.TheVariants as tags
 
 -- A text is one list of pieces.
 inside : (p r q w : List ℕ) (separator : ℕ) → p ++ (separator ∷ r) ≡ q ++ w → length p < length q → (get_or q (length p) 0 ≡ separator) × (take (length p) q ≡ p)

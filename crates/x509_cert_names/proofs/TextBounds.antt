@@ -1,5 +1,5 @@
 -- Name texts under two bounds of arcs.
-use Rattle.std.proofs.Common.{◌≡◌, ℕ, ◌<◌, ◌≤◌, List, [], ◌∷◌, ◌++◌, reverse, Option, Some, None, Result, Ok, Err, refl, sym, ap, ◌∙◌, subst, arith, inl, inr, Bool, true, false, nat_lt}
+use Rattle.std.proofs.Common.{◌≡◌, ◌↔◌, ℕ, ◌<◌, ◌≤◌, List, [], ◌∷◌, ◌++◌, reverse, Option, Some, None, Result, Ok, Err, refl, sym, ap, ◌∙◌, subst, arith, inl, inr, Bool, true, false, nat_lt}
 use Rattle.std.specs.Prelude.{⊤, ◌↔◌, map, IsPermutation}
 use Rattle.std.specs.List.{AllByRecursion, find, list_all}
 use Rattle.std.proofs.lemmas.List.Elements.{All-from_recursion, recursion_from_All}
@@ -169,23 +169,15 @@ low_name bound lt text n (ReadsName.pieces rs some h) =
 
 -- The encodings of attributes
 
-pair_octets : (bound : ℕ) (a : TypeAndValue) → octets_of (type_and_value bound) a ≡ octets_of (type_and_value 0) a
-unfolding octets_of
-pair_octets bound a = refl
-
-pair_to : (bound : ℕ) (a : TypeAndValue) → IsValid (type_and_value bound) a → IsValidUnder bound (type_and_value 0) a
+pair_bounds : (bound : ℕ) (a : TypeAndValue) → (IsValid (type_and_value bound) a ↔ IsValidUnder bound (type_and_value 0) a) × (octets_of (type_and_value bound) a ≡ octets_of (type_and_value 0) a)
 unfolding IsValid IsValidUnder octets_of
-pair_to bound a h = h
-
-pair_from : (bound : ℕ) (a : TypeAndValue) → IsValidUnder bound (type_and_value 0) a → IsValid (type_and_value bound) a
-unfolding IsValid IsValidUnder octets_of
-pair_from bound a h = h
+pair_bounds bound a = ((λ h. h, λ h. h), refl)
 
 abbrev pairs : Family (type_and_value 0) type_and_value
 pairs = record {
   at = λ b a. a;
-  judged = λ b a. (pair_to b a, pair_from b a);
-  spelled = λ b a. pair_octets b a;
+  judged = λ b a. (pair_bounds b a).0;
+  spelled = λ b a. (pair_bounds b a).1;
   element = λ b. refl;
   apart = λ b. refl;
   enough = λ b. refl;

@@ -10,8 +10,7 @@ ghost use Rattle.x509_cert_name_texts.specs.Escapes.{escaped, in_hex};
 ghost use Rattle.x509_cert_names.specs.NameTexts.{ReadsAttribute, ReadsEncoding};
 ghost use Rattle.x509_cert_names.specs.ValueTexts.{attribute_read, encoding_of};
 ghost use Rattle.x509_cert_names.specs.Names.{type_and_value, type_and_value_fields};
-ghost use Rattle.x509_cert_names.specs.Pairs.{pair_plain, same_pair, same_pair_per};
-ghost use Rattle.x509_cert_names.specs.Pairs.{same_pair_equiv, pair_fed, pair_fed_alike};
+ghost use Rattle.x509_cert_names.specs.Pairs.{pair_plain};
 
 use crate::value_texts::{text_of, value_of, write_encoding};
 use const_oid::ObjectIdentifier;
@@ -22,7 +21,6 @@ use der_core::{
 use der_types_any::Any;
 use std::alloc::{AllocError, Global};
 use std::fmt;
-use std::hash::{Hash, Hasher};
 use x509_cert_name_texts::{FromText, key_of, split_member, type_of_key, write_escaped};
 
 /// What an attribute is of (RFC 5280 appendix A.1).
@@ -44,7 +42,7 @@ pub type AttributeValue = Any;
 /// ```text
 /// AttributeTypeAndValue ::= SEQUENCE { type AttributeType, value AttributeValue }
 /// ```
-#[derive(Debug, Drop, PartialOrd, Ord)]
+#[derive(Debug, Drop, PartialEq, Eq, PartialOrd, Ord, Hash)]
 pub struct AttributeTypeAndValue {
     /// The type.
     pub oid: AttributeType,
@@ -80,33 +78,6 @@ impl InRangeValue for AttributeTypeAndValue {
     fn value_in_range(&self) {
         self.oid.in_range();
         self.value.in_range();
-    }
-}
-
-/// Whether type and value are equal.
-impl PartialEq for AttributeTypeAndValue {
-    ghost eq = { same_pair };
-
-    ghost laws = { same_pair_per };
-
-    fn eq(&self, other: &Self) -> bool {
-        self.oid == other.oid && self.value == other.value
-    }
-}
-
-impl Eq for AttributeTypeAndValue {
-    ghost laws = { same_pair_equiv };
-}
-
-/// The octets of the type, and the value.
-impl Hash for AttributeTypeAndValue {
-    ghost hash_input = { pair_fed };
-
-    ghost respects_eq = { pair_fed_alike };
-
-    fn hash<H: Hasher>(&self, state: &mut H) {
-        self.oid.hash(state);
-        self.value.hash(state);
     }
 }
 

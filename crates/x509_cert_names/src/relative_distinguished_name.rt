@@ -18,8 +18,7 @@ ghost use Rattle.x509_cert_names.specs.NameTexts.{ReadsRelative, relative_printe
 ghost use Rattle.x509_cert_names.specs.ValueTexts.{attribute_printed};
 ghost use Rattle.x509_cert_names.specs.Names.{type_and_value};
 ghost use Rattle.x509_cert_names.specs.Ordered.{DifferInTurn, IsOrdered};
-ghost use Rattle.x509_cert_names.specs.Pairs.{pair_plain, same_pair, same_pair_per};
-ghost use Rattle.x509_cert_names.specs.Pairs.{same_pair_equiv, pair_fed, pair_fed_alike};
+ghost use Rattle.x509_cert_names.specs.Pairs.{pair_plain, same_pair, same_pair_equiv};
 ghost use Rattle.x509_cert_names.specs.Pairs.{relative_plain};
 ghost use Rattle.x509_cert_names.specs.Alone.{StandsAlone};
 
@@ -394,7 +393,7 @@ impl Clone for RelativeDistinguishedName {
 impl PartialEq for RelativeDistinguishedName {
     ghost eq = { pointwise same_pair };
 
-    ghost laws = { lists_per same_pair_per };
+    ghost laws = { lists_per ⟦<AttributeTypeAndValue as PartialEq>⟧.laws };
 
     fn eq(&self, other: &Self) -> bool {
         self.attributes.as_slice() == other.attributes.as_slice()
@@ -407,9 +406,10 @@ impl Eq for RelativeDistinguishedName {
 
 /// How many attributes there are, and each of them.
 impl Hash for RelativeDistinguishedName {
-    ghost hash_input = { fed.slice pair_fed };
+    ghost hash_input = { fed.slice ⟦<AttributeTypeAndValue as Hash>⟧.hash_input };
 
-    ghost respects_eq = { (items_Alike (record { fed = pair_fed_alike })).fed };
+    ghost respects_eq = { (items_Alike
+        (record { fed = ⟦<AttributeTypeAndValue as Hash>⟧.respects_eq })).fed };
 
     fn hash<H: Hasher>(&self, state: &mut H) {
         self.attributes.as_slice().hash(state);

@@ -1,4 +1,4 @@
-use Rattle.x509_cert_names.proofs.Distinct.{none_distinct}
+use Rattle.x509_cert_names.proofs.SameOctets.{none_distinct}
 use Rattle.x509_cert_names.proofs.relative_distinguished_name.RelativeDistinguishedName.default.Goals as goal
 
 pub invariant_of-result : goal.invariant_of-result

@@ -7,7 +7,7 @@ use Rattle.der_types_sets.proofs.SetSteps.{placed}
 use Rattle.x509_cert_names.specs.Names.{type_and_value}
 use Rattle.x509_cert_names.specs.Pairs.{pair_plain, same_pair}
 use Rattle.x509_cert_names.specs.declared.attribute_type_and_value.AttributeTypeAndValue.{AttributeTypeAndValue}
-use Rattle.x509_cert_names.proofs.Distinct.{distinct_insert}
+use Rattle.x509_cert_names.proofs.SameOctets.{distinct_insert}
 use Rattle.x509_cert_names.proofs.relative_distinguished_name.RelativeDistinguishedName.insert.Goals as goal
 
 pub invariant_of-self-2 : goal.invariant_of-self-2

@@ -1,6 +1,6 @@
 use Rattle.std.proofs.Common.{[], ◌∷◌, refl, ◌≡◌, ℕ, zero, suc, ◌<◌, ◌≤◌, List, length, take, drop, Ok, sym, ap, ◌∙◌, arith, append-nil, le-ltb}
 use Rattle.x509_cert_names.specs.Pairs.{pair_plain}
-use Rattle.x509_cert_names.proofs.Distinct.{rising_distinct}
+use Rattle.x509_cert_names.proofs.SameOctets.{rising_distinct}
 use Rattle.const_oid.specs.Bound.{Bound}
 use Rattle.der_core_head.specs.Grammar.{read_body, read_content_by, value_at, whole}
 use Rattle.der_core_head.specs.Octets.{◌>>=◌}
