@@ -54,6 +54,7 @@ pub fn serial_numbers_by_profile()
 
 /// Which dates are re-encoded: under RFC 5280 those of a GeneralizedTime through 2049, and none
 /// under `Raw`.
+#[tactic(auto, using(crate::proofs::Respelled::validity_same))]
 pub fn dates_by_profile()
     ensures rfc5280 { (v : PlainValidity) → (validity_by ⟦<Rfc5280 as Profile>⟧.respells v ≡ v)
         ↔ ((is_early_generalized (not_before v) ≡ false)
@@ -63,6 +64,7 @@ pub fn dates_by_profile()
 
 /// A validity that has an encoding has one where its dates are re-encoded, and it is the same one
 /// exactly where no date was a GeneralizedTime through 2049.
+#[tactic(auto, using(crate::proofs::Respelled::validity_valid, crate::proofs::Respelled::octets_same))]
 pub fn respelled_dates_are_spelled()
     ensures valid { (r : Bool) (v : PlainValidity) → IsValid validity v
         → IsValid validity (validity_by r v) }
