@@ -1,5 +1,5 @@
 -- Certificates under two bounds of arcs.
-use Rattle.std.proofs.Common.{◌≡◌, ℕ, zero, suc, ◌≤◌, ◌⊎◌, inl, inr, List, [], ◌∷◌, Option, refl, arith}
+use Rattle.std.proofs.Common.{◌≡◌, ◌↔◌, ℕ, zero, suc, ◌≤◌, ◌⊎◌, inl, inr, List, [], ◌∷◌, Option, refl, arith}
 use Rattle.std.specs.List.{AllByRecursion}
 use Rattle.der_core_head.specs.Shapes.{IsValid, octets_of}
 use Rattle.der_core_head.specs.Bounds.{IsValidUnder, identifiers_of, AreBelow, HoldsLarge}
@@ -8,25 +8,16 @@ use Rattle.x509_cert_certificates.specs.Certificates.{PlainCertificate, certific
 use Rattle.der_core_head.proofs.BoundLaws.{below_or_large}
 use Rattle.der_core_head.proofs.Families.{Family, valid_wider, valid_narrow}
 
--- the octets are the same
-pub one_octets : (bound : ℕ) (limit : Option ℕ) (c : PlainCertificate) → octets_of (certificate bound limit) c ≡ octets_of (certificate 0 limit) c
-unfolding octets_of
-one_octets bound limit c = refl
-
--- what is valid is judged by the bound of its shape
-pub to_bound : (bound : ℕ) (limit : Option ℕ) (c : PlainCertificate) → IsValid (certificate bound limit) c → IsValidUnder bound (certificate 0 limit) c
+-- the octets are the same, and what is valid is judged by the bound of its shape
+pub bounds_alike : (bound : ℕ) (limit : Option ℕ) (c : PlainCertificate) → (IsValid (certificate bound limit) c ↔ IsValidUnder bound (certificate 0 limit) c) × (octets_of (certificate bound limit) c ≡ octets_of (certificate 0 limit) c)
 unfolding IsValid IsValidUnder octets_of
-to_bound bound limit c h = h
-
-pub from_bound : (bound : ℕ) (limit : Option ℕ) (c : PlainCertificate) → IsValidUnder bound (certificate 0 limit) c → IsValid (certificate bound limit) c
-unfolding IsValid IsValidUnder octets_of
-from_bound bound limit c h = h
+bounds_alike bound limit c = ((λ h. h, λ h. h), refl)
 
 abbrev pub certificates : (limit : Option ℕ) → Family (certificate 0 limit) (λ bound. certificate bound limit)
 certificates limit = record {
   at = λ b v. v;
-  judged = λ b v. (to_bound b limit v, from_bound b limit v);
-  spelled = λ b v. one_octets b limit v;
+  judged = λ b v. (bounds_alike b limit v).0;
+  spelled = λ b v. (bounds_alike b limit v).1;
   element = λ b. refl;
   apart = λ b. refl;
   enough = λ b. refl;

@@ -11,10 +11,9 @@ use Rattle.der_core_head.specs.Shapes.{Shape, Body, Value, BodyValue, tagged, le
 use Rattle.der_core_head.specs.Shapes.{field, done, sequence, explicit, octets_of, body_octets}
 use Rattle.der_core_head.specs.Tags.{context}
 use Rattle.x509_cert_names.specs.Names.{PlainName, name}
-use Rattle.x509_cert_parts.specs.Grammar.{Algorithm, PublicKey, PlainValidity, PlainExtension}
-use Rattle.x509_cert_parts.specs.Grammar.{bit_string, algorithm_identifier, public_key_info}
-use Rattle.x509_cert_parts.specs.Grammar.{version_field, serial_number, validity, extensions}
-use Rattle.x509_cert_parts.specs.Grammar.{civil_of}
+use Rattle.x509_cert_parts.specs.Grammar.{Algorithm, PublicKey, validity, extensions, civil_of}
+use Rattle.x509_cert_parts.specs.Grammar.{PlainValidity, bit_string, version_field, serial_number}
+use Rattle.x509_cert_parts.specs.Grammar.{PlainExtension, algorithm_identifier, public_key_info}
 use Rattle.x509_cert_parts.specs.Grammar as parts
 use Rattle.x509_cert_parts.specs.Respelling.{validity_by}
 

@@ -63,11 +63,5 @@ parts c =
     (identifiers_of (algorithm_identifier 0) (outer_algorithm c))
     (of_validity (tbs_validity (tbs c))) (of_unique 1 (tbs_issuer_unique_id (tbs c))) (of_unique 2 (tbs_subject_unique_id (tbs c)))
 
-identifiers_are : (c : PlainCertificate) → certificate_identifiers c
-    ≡ algorithm_arcs (inner_algorithm c) ∷ (map type_of (all_of (issuer c)) ++ (map type_of (all_of (subject c))
-    ++ (algorithm_arcs (key_algorithm (public_key c)) ∷ (map extension_arcs (extensions_of c) ++ (algorithm_arcs (outer_algorithm c) ∷ [])))))
-identifiers_are c =
-    parts c ∙ rw (of_algorithm (inner_algorithm c), of_name (issuer c), of_name (subject c), of_key (public_key c), of_extensions (tbs_extensions (tbs c)), of_algorithm (outer_algorithm c)) refl
-
 pub returns : goal.returns
-returns c = identifiers_are
+returns _ = λ c. parts c ∙ rw (of_algorithm (inner_algorithm c), of_name (issuer c), of_name (subject c), of_key (public_key c), of_extensions (tbs_extensions (tbs c)), of_algorithm (outer_algorithm c)) refl

@@ -2,8 +2,5 @@ use Rattle.der_core_head.proofs.Families.{same_octets, spelled_wider}
 use Rattle.x509_cert_certificates.proofs.Bounds.{certificates}
 use Rattle.x509_cert_certificates.proofs.laws.wider_bounds_keep_certificates.Goals as goal
 
-pub returns-clause-spelled : goal.returns-clause-spelled
-returns-clause-spelled c = λ small large limit. spelled_wider _ _ (certificates limit) small large
-
-pub returns-clause-octets : goal.returns-clause-octets
-returns-clause-octets c = λ small large limit. same_octets _ _ (certificates limit) small large
+pub returns : goal.returns
+returns c = record { spelled = λ small large limit. spelled_wider _ _ (certificates limit) small large; octets = λ small large limit. same_octets _ _ (certificates limit) small large }

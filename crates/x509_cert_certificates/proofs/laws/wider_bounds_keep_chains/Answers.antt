@@ -1,8 +1,5 @@
 use Rattle.x509_cert_certificates.proofs.Bounds.{chains_wider, chains_new}
 use Rattle.x509_cert_certificates.proofs.laws.wider_bounds_keep_chains.Goals as goal
 
-pub returns-clause-kept : goal.returns-clause-kept
-returns-clause-kept c = chains_wider
-
-pub returns-clause-new : goal.returns-clause-new
-returns-clause-new c = chains_new
+pub returns : goal.returns
+returns c = record { kept = chains_wider; new = chains_new }

@@ -2,8 +2,5 @@ use Rattle.der_core_head.proofs.Families.{front_wider, whole_wider}
 use Rattle.x509_cert_certificates.proofs.Bounds.{certificates}
 use Rattle.x509_cert_certificates.proofs.laws.wider_bounds_read_certificates_alike.Goals as goal
 
-pub returns-clause-whole : goal.returns-clause-whole
-returns-clause-whole c = λ small large limit. whole_wider _ _ (certificates limit) small large
-
-pub returns-clause-front : goal.returns-clause-front
-returns-clause-front c = λ small large limit. front_wider _ _ (certificates limit) small large
+pub returns : goal.returns
+returns c = record { whole = λ small large limit. whole_wider _ _ (certificates limit) small large; front = λ small large limit. front_wider _ _ (certificates limit) small large }
