@@ -8,14 +8,13 @@ pub use Rattle.x509_cert_names.specs.Pairs.{relative_plain}
 pub use Rattle.x509_cert_names.specs.Views.{name_plain, attribute_plain}
 pub use Rattle.x509_cert_parts.specs.ExtensionSearch.{of_identifier, only_one, value_in}
 pub use Rattle.x509_cert_parts.specs.ExtensionSearch.{value_if, only_value, extensions_in_field}
-pub use Rattle.x509_cert_parts.specs.Grammar.{object_identifier, octet_string, false_by_default}
-pub use Rattle.x509_cert_parts.specs.Grammar.{Algorithm, PublicKey, PlainExtension, PlainTime}
-pub use Rattle.x509_cert_parts.specs.Grammar.{civil_of, algorithm_identifier, public_key_info}
-pub use Rattle.x509_cert_parts.specs.Grammar.{bit_string, algorithm_arcs, algorithm_parameters}
-pub use Rattle.x509_cert_parts.specs.Grammar.{PlainValidity, validity, plain_algorithm}
-pub use Rattle.x509_cert_parts.specs.Grammar.{key_algorithm, key_bits, extension_arcs}
-pub use Rattle.x509_cert_parts.specs.Grammar.{is_critical, extension_octets, version}
-pub use Rattle.x509_cert_parts.specs.Grammar.{serial_number, time, extension, extensions}
+pub use Rattle.x509_cert_parts.specs.Grammar.{object_identifier, false_by_default, extension_octets}
+pub use Rattle.x509_cert_parts.specs.Grammar.{octet_string, PublicKey, key_algorithm, serial_number}
+pub use Rattle.x509_cert_parts.specs.Grammar.{Algorithm, algorithm_identifier, algorithm_parameters}
+pub use Rattle.x509_cert_parts.specs.Grammar.{PlainExtension, public_key_info, plain_algorithm}
+pub use Rattle.x509_cert_parts.specs.Grammar.{PlainTime, bit_string, is_critical, extensions}
+pub use Rattle.x509_cert_parts.specs.Grammar.{civil_of, validity, key_bits, version, extension}
+pub use Rattle.x509_cert_parts.specs.Grammar.{algorithm_arcs, PlainValidity, extension_arcs, time}
 pub use Rattle.x509_cert_parts.specs.Respelling.{respelled}
 pub use Rattle.x509_cert_parts.specs.SerialNumbers.{new_serial}
 pub use Rattle.x509_cert_parts.specs.Times.{time_of}
