@@ -290,13 +290,14 @@ pub fn is_constructed(tag: Tag) -> bool
     }
 }
 
-/// Whether two tags have the same octets. Inlined, so that against a tag that is known it is one
-/// comparison.
+/// Whether two tags have the same octets: a leading octet has a number below 31 whole. Inlined, so
+/// that against a tag that is known it is one comparison.
 #[inline(always)]
 pub fn is_same_tag(a: Tag, b: Tag) -> bool
     ensures { result ≡ same_tag a b }
 {
-    leading_octet_of(a) == leading_octet_of(b) && number_of(a) == number_of(b)
+    let first = leading_octet_of(a);
+    first == leading_octet_of(b) && (first % 32 < 31 || number_of(a) == number_of(b))
 }
 
 /// Writes the name of a tag of another class than the universal one.
