@@ -19,6 +19,7 @@ ghost use Rattle.der_core.specs.Orders.{octets_cmp};
 ghost use Rattle.der_types_any.specs.Contents.{content_as, content_by, written_as};
 
 use crate::any_ref::AnyRef;
+use der_core::making::is_same_tag;
 use der_core::{
     Choice, Decode, DecodeValue, DerOrd, Encode, EncodeValue, EncodingRules, Error, ErrorKind,
     FirstTag, FixedTag, Header, Length, Reader, Shaped, SliceReader, Tag, Writer,
@@ -268,7 +269,12 @@ impl PartialEq for Any {
     ghost laws = { on_per any_key (partial_equiv_from_equiv nat_list_eq_equiv) };
 
     fn eq(&self, other: &Self) -> bool {
-        self.to_ref() == other.to_ref()
+        match (self.tag, other.tag) {
+            // Those of most names.
+            (Tag::Utf8String, Tag::Utf8String) => self.bytes == other.bytes,
+            (Tag::PrintableString, Tag::PrintableString) => self.bytes == other.bytes,
+            _ => is_same_tag(self.tag, other.tag) && self.bytes == other.bytes,
+        }
     }
 }
 

@@ -238,8 +238,7 @@ impl<'a> PartialEq for AnyRef<'a> {
     ghost laws = { on_per key_lent (partial_equiv_from_equiv nat_list_eq_equiv) };
 
     fn eq(&self, other: &Self) -> bool {
-        leading_octet_of(self.tag) == leading_octet_of(other.tag)
-            && (number_of(self.tag) == number_of(other.tag) && self.bytes == other.bytes)
+        is_same_tag(self.tag, other.tag) && self.bytes == other.bytes
     }
 }
 

@@ -1,6 +1,8 @@
 //! Lists of octets, few of them in place.
 
-ghost use Rattle.std.specs.Prelude.{◌≡◌, ◌≤◌, length, IfOk};
+ghost use Rattle.std.specs.Prelude.{◌≡◌, ◌≤◌, length, nat_eq, IfOk};
+ghost use Rattle.std.specs.Cmp.{partial_equiv_from_equiv};
+ghost use Rattle.std.specs.Cmp.Lexicographic.{pointwise, nat_list_eq_equiv};
 
 use std::alloc::{AllocError, Global};
 use std::fmt;
@@ -98,6 +100,23 @@ impl KeptOctets {
     /// The allocator of the memory that copies need.
     pub fn allocator(&self) -> &Global {
         &self.alloc
+    }
+}
+
+/// Whether the octets are the same. Arrays that are the same, which takes the least time, have the
+/// same front.
+impl PartialEq for KeptOctets {
+    ghost eq = { pointwise nat_eq };
+
+    ghost laws = { partial_equiv_from_equiv nat_list_eq_equiv };
+
+    fn eq(&self, other: &Self) -> bool {
+        if let (Store::Few(few), Store::Few(others)) = (&self.store, &other.store) {
+            if few.len == others.len && few.bytes == others.bytes {
+                return true;
+            }
+        }
+        self.as_slice() == other.as_slice()
     }
 }
 
