@@ -396,7 +396,10 @@ impl PartialEq for RelativeDistinguishedName {
     ghost laws = { lists_per ⟦<AttributeTypeAndValue as PartialEq>⟧.laws };
 
     fn eq(&self, other: &Self) -> bool {
-        self.attributes.as_slice() == other.attributes.as_slice()
+        match (self.attributes.as_slice(), other.attributes.as_slice()) {
+            ([one], [other]) => one == other,
+            (these, others) => these == others,
+        }
     }
 }
 
