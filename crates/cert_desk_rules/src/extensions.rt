@@ -104,7 +104,7 @@ fn is_alone(extension: &Extension, others: &[Extension]) -> bool
 {
     !others
         .iter()
-        .any(|other| are_equal(&extension.extn_id, &other.extn_id))
+        .any(|other| extension.extn_id == other.extn_id)
 }
 
 // The number of an identifier below 2.5.29, where that is one octet.
@@ -117,14 +117,4 @@ pub fn number_of(identifier: &ObjectIdentifier<39>) -> Option<u8>
         return None;
     }
     Some(octets[2])
-}
-
-// Whether two identifiers are equal. Their last octets are looked at first, since what stands in
-// one place mostly differs there.
-fn are_equal(one: &ObjectIdentifier<39>, other: &ObjectIdentifier<39>) -> bool
-    ensures { result ≡ owned_eq one.now other.now }
-{
-    let octets = one.as_bytes();
-    let others = other.as_bytes();
-    octets.last() == others.last() && octets == others
 }

@@ -2,7 +2,7 @@
 use Rattle.std.proofs.Common.{◌≡◌, ℕ, zero, suc, ◌+◌, ◌-◌, ◌<◌, ◌≤◌, List, [], ◌∷◌, ◌++◌, length, get_or, take, drop, replicate, map, ◌⊎◌, inl, inr, length-take-le, sym, refl, ap, ◌∙◌, arith, append_assoc, length-append, min}
 use Rattle.std.proofs.lemmas.Bool.{lt-ltb, le-ltb, cases_lt}
 use Rattle.std.proofs.lemmas.Bool.Decides.{nat_tests}
-use Rattle.std.proofs.lemmas.List.{drop-replicate, take_more}
+use Rattle.std.proofs.lemmas.List.{drop-replicate, take_more, take-take}
 use Rattle.std.proofs.Math.Seq.{take-append_seam, drop-append-add}
 use Rattle.const_oid.specs.Arcs.{SpellsIdentifier, arcs_of}
 use Rattle.const_oid.specs.IdentifierOctets.{identifier_octets, IsIdentifier, arc_octets}
@@ -116,6 +116,15 @@ pub packed_take : (size count : ℕ) (bytes : List ℕ) → IsPacked size bytes 
 packed_take size count bytes p =
     let w = unmarked_front bytes in
     ap (take (length w)) p.padded ∙ take-append_seam w (replicate (size - length w) 128)
+
+-- so many octets that fit a front of their array are those of another whose array has that front
+pub same_front : (size k c d : ℕ) (a b : List ℕ) → IsPacked size a c → IsPacked size b d → c ≡ d → c ≤ k → k < 255 → take k a ≡ take k b
+    → unmarked_front a ≡ unmarked_front b
+same_front size k c d a b p q e within small fronts =
+    let mine : length (unmarked_front a) ≡ c = omega (arith, p.counted) in
+    let others : length (unmarked_front b) ≡ c = omega (arith, q.counted) in
+    sym (packed_take size c a p) ∙ ap (λ n. take n a) mine ∙ sym (take-take c k a within) ∙ ap (take c) fronts
+    ∙ take-take c k b within ∙ ap (λ n. take n b) (sym others) ∙ packed_take size d b q
 
 -- the octets of an arc, written behind them
 pub packed_push : (size count end counts arc : ℕ) (bytes new : List ℕ) → IsPacked size bytes count

@@ -1,6 +1,9 @@
 //! Octets of an identifier in place, in one octet more than the greatest number of them.
 
 ghost use Rattle.std.specs.Prelude.{◌≡◌, ◌+◌, ◌<◌, ◌≤◌, ◌++◌, length, min, take, MatchResult};
+ghost use Rattle.std.specs.Prelude.{nat_eq};
+ghost use Rattle.std.specs.Cmp.{partial_equiv_from_equiv};
+ghost use Rattle.std.specs.Cmp.Lexicographic.{pointwise, nat_list_eq_equiv};
 ghost use Rattle.const_oid.specs.IdentifierOctets.{arc_octets};
 ghost use Rattle.const_oid.specs.declared.error.Error.TheVariants as errors;
 ghost use Rattle.const_oid.specs.PackedOctets.{unmarked_front};
@@ -105,6 +108,34 @@ impl<const SIZE: usize> Packed<SIZE> {
         write_arc(&mut self.bytes, end, arc);
         self.count = counted(end);
         Ok(start)
+    }
+}
+
+/// Whether the octets are the same. Most identifiers are told by how many they are and by the first
+/// eight places.
+impl<const SIZE: usize> PartialEq for Packed<SIZE> {
+    ghost eq = { pointwise nat_eq };
+
+    ghost laws = { partial_equiv_from_equiv nat_list_eq_equiv };
+
+    #[inline]
+    fn eq(&self, other: &Self) -> bool {
+        if self.count != other.count {
+            return false;
+        }
+        let fronts = (
+            self.bytes.first_chunk::<8>(),
+            other.bytes.first_chunk::<8>(),
+        );
+        if let (Some(front), Some(other_front)) = fronts {
+            if front != other_front {
+                return false;
+            }
+            if self.count <= 8 {
+                return true;
+            }
+        }
+        self.as_bytes() == other.as_bytes()
     }
 }
 
