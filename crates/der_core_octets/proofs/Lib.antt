@@ -1,3 +1,4 @@
+mod AtOnce
 mod Magnitudes
 pub mod ReadCases
 pub mod Nested

@@ -1,7 +1,7 @@
 //! Headers as they are written, and numbers of octets.
 
-ghost use Rattle.std.specs.Prelude.{◌≡◌, length};
-ghost use Rattle.der_core_head.specs.Tags.{tag_octets};
+ghost use Rattle.std.specs.Prelude.{◌≡◌, ◌<◌, ◌++◌, length};
+ghost use Rattle.der_core_head.specs.Tags.{number_of, tag_octets};
 ghost use Rattle.der_core_head.specs.Heads.{length_octets};
 ghost use Rattle.der_core_head.specs.Reading.{GivesNow};
 ghost use Rattle.der_core_head.specs.Writing.{Writes, put, put_head, sum_len, fit_len};
@@ -89,6 +89,22 @@ pub fn encode_length<W: Writer>(writer: &mut W, len: Length) -> Result<(), Error
     writer.write(&[132, d3, d2, d1, last])
 }
 
+/// Writes a header of two octets: that of a tag whose number is below 31, with a length below 128.
+///
+/// # Errors
+/// Those of the writer.
+#[inline(always)]
+#[tactic(auto, using(der_core_head::proofs::TagForms::tag_forms, der_core_head::proofs::LengthForms::length_forms))]
+fn encode_short_header<W: Writer>(writer: &mut W, tag: Tag, len: Length) -> Result<(), Error>
+    requires tag { number_of tag < 31 }
+    requires length { len.value < 128 }
+    ensures exact { Writes W.takes_memory (W.out writer.old) (W.out writer.new) result
+        (put (tag_octets tag ++ length_octets len.value)) }
+    ensures kept { Continues (W.out writer.old) (W.out writer.new) }
+{
+    writer.write(&[leading_octet_of(tag), len.value as u8])
+}
+
 /// Writes a header.
 ///
 /// # Errors
@@ -102,6 +118,9 @@ pub fn encode_header<W: Writer>(writer: &mut W, tag: Tag, len: Length) -> Result
     ensures kept { Continues (W.out writer.old) (W.out writer.new) }
 {
     let _whole = len.for_tlv(tag)?;
+    if number_of(tag) < 31 && len.value < 0x80 {
+        return encode_short_header(writer, tag, len);
+    }
     encode_tag(writer, tag)?;
     encode_length(writer, len)
 }
