@@ -1,5 +1,5 @@
 -- A step of a loop over anchors, and names that are compared.
-use Rattle.std.proofs.Common.{◌≡◌, ℕ, ◌+◌, ◌<◌, ◌≤◌, Bool, true, false, cond, ◌&&◌, ◌||◌, List, length, get_or, map, drop, IsTrue, ◌↔◌, bytes_eq, refl, sym, ap, ◌∙◌, arith}
+use Rattle.std.proofs.Common.{◌≡◌, ℕ, zero, suc, ◌+◌, ◌<◌, ◌≤◌, Bool, true, false, cond, ◌&&◌, ◌||◌, List, [], ◌∷◌, length, get_or, map, drop, IsTrue, ◌↔◌, bytes_eq, refl, sym, ap, ◌∙◌, arith}
 use Rattle.std.specs.List.{list_any}
 use Rattle.std.proofs.lemmas.List.{at_drop_more, at_drop_all}
 use Rattle.std.proofs.lemmas.Slice.Eq.{bytes_eq-Decides}
@@ -30,6 +30,16 @@ any_yes p xs i d h e = at_drop_more (any_left p) xs i d h ∙ ap (λ b. b || any
 pub any_no : (p : PlainAnchor → Bool) (xs : List Anchor) (i : ℕ) (d : Anchor) → i < length xs → p (anchor_plain (get_or xs i d)) ≡ false
     → list_any p (map anchor_plain (drop (i + 1) xs)) ≡ list_any p (map anchor_plain (drop i xs))
 any_no p xs i d h e = sym (at_drop_more (any_left p) xs i d h ∙ ap (λ b. b || any_left p (drop (i + 1) xs)) e)
+
+-- an only anchor passes what one of all does
+pub only_one : (p : PlainAnchor → Bool) (xs : List Anchor) (i : ℕ) (d : Anchor) → length xs ≡ 1 → i < length xs → list_any p (map anchor_plain xs) ≡ true → p (anchor_plain (get_or xs i d)) ≡ true
+only_one p (a ∷ []) zero d one within some = or_none (p (anchor_plain a)) some
+  where
+    or_none : (b : Bool) → (b || false) ≡ true → b ≡ true
+    or_none true e = refl
+    or_none false e = e
+only_one p (a ∷ []) (suc i) d one within some = absurd (omega arith)
+only_one p _ i d one within some = absurd (omega arith)
 
 -- what a judge that answers the same says of an anchor
 pub signs_is : (bound : ℕ) (a b : Answers) (signed : List ℕ) (c : PlainCertificate) (anchor : PlainAnchor) (r t : Bool) → a ≡ b → r ≡ signs bound a signed c anchor → r ≡ t → signs bound b signed c anchor ≡ t

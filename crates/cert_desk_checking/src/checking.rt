@@ -1,6 +1,6 @@
 //! Streams are judged: certification path validation (RFC 5280 6.1, in part).
 ghost use Rattle.std.specs.Prelude.{◌≡◌, ◌≢◌, ℕ, ◌+◌, ◌<◌, ◌↔◌, ◌⊎◌, List, length, map};
-ghost use Rattle.std.specs.Prelude.{IfOk, OnErr, nat_le, not, true, ◌&&◌};
+ghost use Rattle.std.specs.Prelude.{IfOk, OnErr, IsTrue, nat_le, not, true, ◌&&◌};
 ghost use Rattle.std.specs.List.{list_any};
 ghost use Rattle.std.specs.Option.{is_some};
 ghost use Rattle.const_oid.specs.Bound.{Bound};
@@ -168,16 +168,21 @@ fn is_anchored(certificate: &CertificateInner<Raw>, anchors: &[Anchor]) -> bool
     false
 }
 
-// Whether the anchor has the issuer's name and the judge says yes under its key. An anchor of
-// another name isn't asked.
+// Whether the anchor has the issuer's name, as may be known, and the judge says yes under its key.
+// An anchor of another name isn't asked.
 #[tactic(auto, unfolding(crate::specs::Places::signs, crate::specs::Places::asked_once, crate::specs::Anchors::anchor_plain))]
 fn is_signed_under<J: SignatureJudge>(
     anchor: &Anchor,
     entry: &Entry<'_>,
+    known: bool,
     judge: &mut J,
     calls: &mut u64,
 ) -> bool
-    requires { IsValid (raw_certificate Bound) (certificate_plain entry.now.certificate.now) }
+    requires valid { IsValid (raw_certificate Bound)
+        (certificate_plain entry.now.certificate.now) }
+    requires known { IsTrue known
+        → is_named Bound (certificate_plain entry.now.certificate.now) (anchor_plain anchor.now)
+        ≡ true }
     ensures answered { result
         ≡ signs Bound (J.answers judge.old) entry.now.signed.now
         (certificate_plain entry.now.certificate.now) (anchor_plain anchor.now) }
@@ -186,21 +191,37 @@ fn is_signed_under<J: SignatureJudge>(
         (asked_once Bound (certificate_plain entry.now.certificate.now) (anchor_plain anchor.now))
         (J.questions judge.old) calls.old (J.questions judge.new) calls.new }
 {
+    if known {
+        return ask(anchor.key(), entry, judge, calls);
+    }
     if !is_issued_by(entry.certificate, anchor.name()) {
         return false;
     }
     ask(anchor.key(), entry, judge, calls)
 }
 
+// Whether it is known that an anchor has the issuer's name, and there is one anchor.
+fn is_only(linked: bool, anchors: &[Anchor]) -> bool
+    ensures { IsTrue result → IsTrue linked × (length anchors.now ≡ 1) }
+{
+    linked && anchors.len() == 1
+}
+
 // Whether the judge says yes under the key of an anchor of the issuer's name. The anchors are asked
-// in turn, up to the first yes.
+// in turn, up to the first yes. Where it is known that one of them has the name, an only one isn't
+// compared.
 fn is_signed_by_anchor<J: SignatureJudge>(
     anchors: &[Anchor],
     entry: &Entry<'_>,
+    linked: bool,
     judge: &mut J,
     calls: &mut u64,
 ) -> bool
-    requires { IsValid (raw_certificate Bound) (certificate_plain entry.now.certificate.now) }
+    requires valid { IsValid (raw_certificate Bound)
+        (certificate_plain entry.now.certificate.now) }
+    requires linked { IsTrue linked
+        → list_any (is_named Bound (certificate_plain entry.now.certificate.now))
+        (map anchor_plain anchors.now) ≡ true }
     ensures answered { result
         ≡ list_any
         (signs Bound (J.answers judge.old) entry.now.signed.now
@@ -211,8 +232,9 @@ fn is_signed_by_anchor<J: SignatureJudge>(
         (certificate_plain entry.now.certificate.now) (map anchor_plain anchors.now))
         (J.questions judge.old) calls.old (J.questions judge.new) calls.new }
 {
+    let known = is_only(linked, anchors);
     for anchor in anchors {
-        if is_signed_under(anchor, entry, judge, calls) {
+        if is_signed_under(anchor, entry, known, judge, calls) {
             return true;
         }
     }
@@ -232,14 +254,18 @@ fn is_linked(certificate: &CertificateInner<Raw>, issuer: &Issuer<'_>) -> bool
 }
 
 // Whether the judge says yes under the key of an anchor of the issuer's name, or of the certificate
-// before.
+// before. That the issuer's name is one of these may be known.
 pub(crate) fn is_signed<J: SignatureJudge>(
     entry: &Entry<'_>,
     issuer: &Issuer<'_>,
+    linked: bool,
     judge: &mut J,
     calls: &mut u64,
 ) -> bool
-    requires { IsValid (raw_certificate Bound) (certificate_plain entry.now.certificate.now) }
+    requires valid { IsValid (raw_certificate Bound)
+        (certificate_plain entry.now.certificate.now) }
+    requires linked { IsTrue linked
+        → linked_to Bound issuer.now (certificate_plain entry.now.certificate.now) ≡ true }
     ensures answered { result
         ≡ signed_by Bound (J.answers judge.old) entry.now.signed.now
         (certificate_plain entry.now.certificate.now) issuer.now }
@@ -250,7 +276,7 @@ pub(crate) fn is_signed<J: SignatureJudge>(
         (J.questions judge.old) calls.old (J.questions judge.new) calls.new }
 {
     match *issuer {
-        Issuer::Anchors(anchors) => is_signed_by_anchor(anchors, entry, judge, calls),
+        Issuer::Anchors(anchors) => is_signed_by_anchor(anchors, entry, linked, judge, calls),
         Issuer::Before(before) => {
             let key = before.tbs_certificate().subject_public_key_info();
             ask(key, entry, judge, calls)
@@ -323,6 +349,8 @@ pub(crate) fn rules_kept(
         → StandsAt cs anchors place (certificate_plain certificate.now) is_last issuer.now room.old
         → (rule : Rule) → number rule < number Rule.WrongSignature → kept_by kept rule
         ≡ keeps_at rule (terms_of anchors moment purpose.now answers) cs stream place) }
+    ensures linked { IfOk result
+        (λ kept. kept.linked ≡ linked_to Bound issuer.now (certificate_plain certificate.now)) }
     ensures signed { IfOk result (λ kept. kept_by kept Rule.WrongSignature ≡ signed) }
     ensures room { IfOk result
         (λ kept. (cs : List PlainCertificate) (anchors : List Anchor) (place : ℕ)
@@ -399,7 +427,7 @@ fn check_chain<J: SignatureJudge>(
             let verdict = Verdict::Refused { place, rule };
             return Ok(Checked { verdict, calls });
         }
-        if !is_signed(&entry, &issuer, judge, &mut calls) {
+        if !is_signed(&entry, &issuer, kept.linked, judge, &mut calls) {
             let rule = Rule::WrongSignature;
             let verdict = Verdict::Refused { place, rule };
             return Ok(Checked { verdict, calls });

@@ -46,7 +46,7 @@ pub fn judge_each<J: SignatureJudge>(
         let entry = bundle.get(place).unwrap();
         let certificate = entry.certificate;
         let is_last = place + 1 == len;
-        let signed = is_signed(&entry, &issuer, judge, &mut calls);
+        let signed = is_signed(&entry, &issuer, false, judge, &mut calls);
         let kept = rules_kept(
             alloc,
             certificate,

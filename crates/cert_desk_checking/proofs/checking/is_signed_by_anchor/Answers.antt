@@ -3,10 +3,17 @@ use Rattle.const_oid.specs.Bound.{Bound}
 use Rattle.x509_cert_certificates.specs.Views.{certificate_plain}
 use Rattle.cert_desk_checking.specs.declared.anchor.Anchor.{Anchor}
 use Rattle.cert_desk_checking.specs.Anchors.{anchor_plain}
+use Rattle.cert_desk_rules.specs.Judging.{is_named}
 use Rattle.cert_desk_checking.specs.Places.{signs, asked_once}
-use Rattle.cert_desk_checking.proofs.AnchorSteps.{any_yes, any_no, signs_is, asked_until_yes, asked_until_no, asked_until_none}
+use Rattle.cert_desk_checking.proofs.AnchorSteps.{any_yes, any_no, only_one, signs_is, asked_until_yes, asked_until_no, asked_until_none}
 use Rattle.cert_desk_checking.proofs.Counts.{Rises-more, Rises-by}
 use Rattle.cert_desk_checking.proofs.checking.is_signed_by_anchor.Goals as goal
+
+pub is_signed_under-requires-clause-known : goal.is_signed_under-requires-clause-known
+is_signed_under-requires-clause-known g c = λ known.
+    let named = is_named Bound (certificate_plain c.args.entry.now.certificate.now) in
+    let both = c.is_only-known.ensures known in
+    ap (λ (x : Anchor). named (anchor_plain x)) c.anchor-item.is ∙ only_one named c.args.anchors.now c.loop-anchor.anchor-index _ both.1 c.loop-anchor-test.true (c.requires.linked both.0)
 
 pub returns-then-is_signed_under-clause-answered : goal.returns-then-is_signed_under-clause-answered
 returns-then-is_signed_under-clause-answered g c =
