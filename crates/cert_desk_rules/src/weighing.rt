@@ -1,8 +1,11 @@
 //! The extensions by which a chain is judged, read (RFC 5280 4.2.1.3, 4.2.1.6, 4.2.1.9, 4.2.1.12).
-ghost use Rattle.std.specs.Prelude.{◌≡◌, ◌≢◌, ℕ, List, true, IfOk, OnErr};
+ghost use Rattle.std.specs.Prelude.{◌≡◌, ◌≢◌, ℕ, List, [], true, IfOk, OnErr};
 ghost use Rattle.const_oid.specs.Bound.{Bound};
 ghost use Rattle.const_oid.specs.Comparing.{owned_eq};
 ghost use Rattle.der_core_head.specs.declared.error.ErrorKind.{ErrorKind};
+ghost use Rattle.der_core_head.specs.Grammar.{plain_list, read_whole};
+ghost use Rattle.der_core_head.specs.Reading.{Gives};
+ghost use Rattle.der_core_head.specs.Shapes.{sequence_of};
 ghost use Rattle.x509_cert_parts.specs.Views.{extension_plain, extensions_plain};
 ghost use Rattle.cert_desk_rules.specs.Findings.{found, weight_of};
 ghost use Rattle.cert_desk_rules.specs.Weighing.{any_purpose, extended_key_usage, has_list};
@@ -16,11 +19,11 @@ use crate::findings::Findings;
 use crate::weight::Weight;
 use const_oid::ObjectIdentifier;
 use der_core::making::{leaf_from_der, read_whole};
-use der_core::{Error, ErrorKind, Explicit, FromDer, Implicit, OneOf8};
+use der_core::{Decode, Error, ErrorKind, Explicit, Implicit, OneOf8, SliceReader};
 use der_types_text::Ia5StringRef;
 use der_types_values::{FlagSet, OctetStringRef};
 use std::alloc::{AllocError, Global};
-use x509_cert_extensions::{ExtendedKeyUsage, KeyUsage, KeyUsages};
+use x509_cert_extensions::{KeyUsage, KeyUsages};
 use x509_cert_general_names::{EdiPartyName, OtherName};
 use x509_cert_names::Name;
 use x509_cert_parts::Extension;
@@ -100,12 +103,24 @@ fn weigh_key_usage(alloc: Global, octets: &[u8]) -> Weight
     }
 }
 
+// The values of the list that octets spell, all of them. They are any here, so that the list is
+// checked here alone.
+fn list_in<'a, T: Decode<'a, SliceReader<'a>>>(
+    alloc: Global,
+    octets: &'a [u8],
+) -> Result<Vec<T>, Error>
+    ensures { Gives (λ list. (plain_list T.plain list.items, [])) result
+        (read_whole (sequence_of T.shape) octets.now) }
+{
+    read_whole(alloc, octets)
+}
+
 // What other names of the subject weigh.
 fn weigh_names(alloc: Global, octets: &[u8]) -> Result<Weight, AllocError>
     ensures { IfOk result (λ weight. (purpose : List ℕ)
         → weight ≡ weight_of purpose (meaning_by (subject_alt_name Bound) other_names octets.now)) }
 {
-    match read_whole::<Vec<NameLent<'_>>>(alloc, octets) {
+    match list_in::<NameLent<'_>>(alloc, octets) {
         Ok(_) => Ok(Weight::AlternativeNames),
         Err(error) => malformed(error),
     }
@@ -121,9 +136,9 @@ fn weigh_purposes(
         (λ weight. weight
         ≡ weight_of purpose.now (meaning_by (extended_key_usage Bound) purposes octets.now)) }
 {
-    match ExtendedKeyUsage::from_der(alloc, octets) {
-        Ok(usage) => Ok(Weight::Purposes {
-            serves: is_listed(purpose, usage.0.as_slice()),
+    match list_in::<ObjectIdentifier<39>>(alloc, octets) {
+        Ok(listed) => Ok(Weight::Purposes {
+            serves: is_listed(purpose, listed.as_slice()),
         }),
         Err(error) => malformed(error),
     }
