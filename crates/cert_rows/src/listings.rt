@@ -2,12 +2,11 @@
 
 use crate::refusal::Refusal;
 use crate::schedules::{Devices, Schedule};
-use crate::words::{kind_of, octets_of, told};
+use crate::words::{kind_of, octets_of, read, told};
 use cert_desk::{
     CertReq, CertificateInner, CertificateList, FileKind, MemoryOutput, Raw, ShowError, run_show,
     show_certificate, show_list, show_request,
 };
-use der_core::FromDer;
 use std::alloc::Global;
 use std::str;
 
@@ -97,7 +96,7 @@ fn call_for_list(
     octets: &[u8],
     output: &mut MemoryOutput<'_>,
 ) -> Result<Result<(), ShowError>, Refusal> {
-    let list = CertificateList::<Raw>::from_der(alloc, octets)?;
+    let list = read::<CertificateList<Raw>>(alloc, octets)?;
     Ok(show_list(alloc, &list, output))
 }
 

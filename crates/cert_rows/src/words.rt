@@ -3,7 +3,8 @@
 use crate::refusal::Refusal;
 use cert_desk::{Checked, FileKind, SubjectPublicKeyInfo, Verdict};
 use const_oid::ObjectIdentifier;
-use der_core::FromDer;
+use der_core::describing::{DecodeWay, Described};
+use der_core::{DecodeValue, Error, FixedTag, FromDer, SliceReader};
 use std::alloc::Global;
 use std::{fmt, str};
 
@@ -76,10 +77,27 @@ pub fn number_of(word: &str) -> Result<u32, Refusal> {
     word.parse().ok().ok_or(Refusal::Unread)
 }
 
+/// The value of a type that names its way, which octets spell. What the way gives is then checked
+/// here, and not where the type is named.
+pub fn read<'a, T: Described + FixedTag + Drop>(alloc: Global, octets: &'a [u8]) -> Result<T, Error>
+where
+    T::By: DecodeWay<'a, SliceReader<'a>, T>,
+{
+    value_in(alloc, octets)
+}
+
+/// The value of a type with one tag, which octets spell.
+fn value_in<'a, T: DecodeValue<'a, SliceReader<'a>> + FixedTag>(
+    alloc: Global,
+    octets: &'a [u8],
+) -> Result<T, Error> {
+    T::from_der(alloc, octets)
+}
+
 /// The key whose encoding a word spells in base 16.
 pub fn key_of(alloc: Global, word: &str) -> Result<SubjectPublicKeyInfo, Refusal> {
     let octets = octets_of(alloc, word)?;
-    Ok(SubjectPublicKeyInfo::from_der(alloc, octets.as_slice())?)
+    Ok(read(alloc, octets.as_slice())?)
 }
 
 /// The purpose that a word spells, as dotted arcs.
