@@ -2,8 +2,7 @@
 
 use crate::builders::{Asked, Change, Manner, part_of, whole_of};
 use crate::refusals::Refusal;
-use crate::words::{Words, octets_of, time_of, written_in};
-use der_core::FromDer;
+use crate::words::{Words, octets_of, read, time_of, written_in};
 use std::alloc::Global;
 use std::str::FromStr;
 use x509_cert::builder::CrlBuilder;
@@ -12,8 +11,7 @@ use x509_cert::{Certificate, CertificateList, CrlNumber, RevokedCert, Time};
 /// The entry of a list that is the encoding of these octets.
 fn entry_of(alloc: Global, word: &str) -> Result<RevokedCert, Refusal> {
     let octets = octets_of(alloc, word)?;
-    let entry = FromDer::from_der(alloc, octets.as_slice())?;
-    Ok(entry)
+    read(alloc, octets.as_slice())
 }
 
 impl Change for CrlBuilder {
@@ -58,7 +56,7 @@ fn next_of(word: &str) -> Result<Option<Time>, Refusal> {
 }
 
 /// The builder of the list of an issuer, with the number that a word tells.
-fn builder_under(
+fn builder_by(
     alloc: Global,
     issuer: &Certificate,
     number: &str,
@@ -69,14 +67,24 @@ fn builder_under(
     Ok(builder)
 }
 
+/// The builder of the list of the issuer whose certificate a word tells.
+fn builder_under(
+    alloc: Global,
+    issuer: &str,
+    number: &str,
+    this_update: Time,
+) -> Result<CrlBuilder, Refusal> {
+    let issuer = issuer_of(alloc, issuer)?;
+    builder_by(alloc, &issuer, number, this_update)
+}
+
 /// The next words: `ISSUER NUMBER THIS NEXT`, the builder of the list.
 fn builder_of(alloc: Global, words: &mut Words<'_>) -> Result<CrlBuilder, Refusal> {
     let issuer = words.next()?;
     let number = words.next()?;
     let this_update = time_of(words.next()?)?;
     let next_update = next_of(words.next()?)?;
-    let issuer = issuer_of(alloc, issuer)?;
-    let builder = builder_under(alloc, &issuer, number, this_update)?;
+    let builder = builder_under(alloc, issuer, number, this_update)?;
     Ok(builder.with_next_update(next_update))
 }
 
