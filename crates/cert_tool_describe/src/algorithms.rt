@@ -1,9 +1,9 @@
 //! Algorithms, and the parameters of RSASSA-PSS (RFC 4055 3.1).
 
 use crate::lines::Lines;
-use crate::values::values_in;
+use crate::values::{read, values_in};
+use der_core::Error;
 use der_core::making::leaf_from_der;
-use der_core::{Error, FromDer};
 use der_types_any::Any;
 use der_types_values::BitString;
 use std::alloc::Global;
@@ -11,7 +11,7 @@ use x509_cert_parts::AlgorithmIdentifier;
 
 // The algorithm that octets spell.
 fn algorithm_in(alloc: Global, octets: &[u8]) -> Result<AlgorithmIdentifier, Error> {
-    AlgorithmIdentifier::from_der(alloc, octets)
+    read(alloc, octets)
 }
 
 // Adds the name of the algorithm that octets spell, and of the one that is its parameter.

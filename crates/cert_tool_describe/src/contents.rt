@@ -3,10 +3,11 @@
 use crate::describe::Describe;
 use crate::general_names::{add_general_names, names_in};
 use crate::lines::Lines;
+use crate::values::{read, read_list};
 use const_oid::ObjectIdentifier;
 use der_core::describing::{DecodeWay, Described};
 use der_core::making::leaf_from_der;
-use der_core::{ErrorKind, FixedTag, FromDer, Leaf, SliceReader};
+use der_core::{ErrorKind, FixedTag, Leaf, SliceReader};
 use der_types_numbers::Uint;
 use der_types_time::GeneralizedTime;
 use der_types_values::{FlagSet, OctetString};
@@ -55,19 +56,18 @@ where
     T::By: DecodeWay<'a, SliceReader<'a>, T>,
     C: From<Vec<T>> + Describe + Drop,
 {
-    match Vec::<T>::from_der(lines.alloc, octets) {
+    match read_list::<T>(lines.alloc, octets) {
         Ok(list) => C::from(list).describe(lines),
         Err(error) => add_malformed(lines, octets, error.kind),
     }
 }
 
-// Adds the lines of a content that is a record or a named number, or that it isn't one. What the
-// way of the type gives is checked here, and not where the type is named.
+// Adds the lines of a content that is a record or a named number, or that it isn't one.
 fn add_record<'a, T: Described + FixedTag + Describe + Drop>(lines: &mut Lines, octets: &'a [u8])
 where
     T::By: DecodeWay<'a, SliceReader<'a>, T>,
 {
-    match T::from_der(lines.alloc, octets) {
+    match read::<T>(lines.alloc, octets) {
         Ok(record) => record.describe(lines),
         Err(error) => add_malformed(lines, octets, error.kind),
     }

@@ -3,8 +3,8 @@
 ghost use Rattle.std.specs.Prelude.{◌≡◌, length};
 
 use crate::lines::Lines;
-use crate::values::{add_name_members, add_value};
-use der_core::{Error, FromDer};
+use crate::values::{add_name_members, add_value, read_list};
+use der_core::Error;
 use std::alloc::Global;
 use std::net::{Ipv4Addr, Ipv6Addr};
 use x509_cert_general_names::{EdiPartyName, GeneralName};
@@ -134,5 +134,5 @@ pub fn add_general_names(lines: &mut Lines, word: &str, key: &str, listed: &[Gen
 
 // The names that octets list.
 pub fn names_in(alloc: Global, octets: &[u8]) -> Result<Vec<GeneralName>, Error> {
-    FromDer::from_der(alloc, octets)
+    read_list(alloc, octets)
 }

@@ -6,8 +6,8 @@ use crate::describe::Describe;
 use crate::description::add_kind;
 use crate::keys::add_digests;
 use crate::lines::Lines;
-use crate::values::add_name;
-use der_core::{Error, ErrorKind, FromDer};
+use crate::values::{add_name, read};
+use der_core::{Error, ErrorKind};
 use std::alloc::Global;
 use x509_cert_extensions::{CrlNumber, CrlReason};
 use x509_cert_lists::{CertificateList, RevokedCert, TbsCertList};
@@ -81,7 +81,7 @@ fn add_signed(lines: &mut Lines, signed: &TbsCertList<Raw>) {
 
 /// The CRL of which octets are the encoding.
 pub fn list_of(alloc: Global, octets: &[u8]) -> Result<CertificateList<Raw>, Error> {
-    FromDer::from_der(alloc, octets)
+    read(alloc, octets)
 }
 
 /// Adds what a list says, and digests of its octets; answers why the octets are none, if they

@@ -2,7 +2,8 @@
 
 use crate::lines::Lines;
 use der_core::describing::{DecodeWay, Described};
-use der_core::{Error, FixedTag, SliceReader, Tag};
+use der_core::making::read_whole;
+use der_core::{Decode, Error, FixedTag, SliceReader, Tag};
 use der_types_any::Any;
 use std::alloc::Global;
 use std::str;
@@ -88,6 +89,23 @@ pub fn add_value(lines: &mut Lines, value: &Any) {
         lines.key("octets");
         lines.octets(value.value());
     }
+}
+
+// The value that octets spell, of a type that names its way. What the way gives is checked here,
+// and not where the type is named.
+pub fn read<'a, T: Described + FixedTag + Drop>(alloc: Global, octets: &'a [u8]) -> Result<T, Error>
+where
+    T::By: DecodeWay<'a, SliceReader<'a>, T>,
+{
+    read_whole(alloc, octets)
+}
+
+// The values that octets list. They are any here, so that the list is checked here alone.
+pub fn read_list<'a, T: Decode<'a, SliceReader<'a>>>(
+    alloc: Global,
+    octets: &'a [u8],
+) -> Result<Vec<T>, Error> {
+    read_whole(alloc, octets)
 }
 
 // The values that stand in a SEQUENCE.
