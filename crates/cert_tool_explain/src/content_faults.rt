@@ -6,8 +6,8 @@ use crate::parts::{Node, Part};
 use cert_tool_describe::Lines;
 use const_oid::ObjectIdentifier;
 use der_core::describing::{DecodeWay, Described};
-use der_core::making::leaf_from_der;
-use der_core::{Decode, Error, ErrorKind, FixedTag, FromDer, Leaf, SliceReader, Tag};
+use der_core::making::{leaf_from_der, read_whole};
+use der_core::{Decode, Error, ErrorKind, FixedTag, Leaf, SliceReader, Tag};
 use der_types_numbers::Uint;
 use der_types_time::GeneralizedTime;
 use der_types_values::{FlagSet, OctetString};
@@ -37,7 +37,7 @@ fn value_fault<'a, T: Described + FixedTag + Drop>(alloc: Global, octets: &'a [u
 where
     T::By: DecodeWay<'a, SliceReader<'a>, T>,
 {
-    T::from_der(alloc, octets).err()
+    read_whole::<T>(alloc, octets).err()
 }
 
 // Why octets aren't one list of any such values, if they aren't.
@@ -45,7 +45,7 @@ fn any_list_fault<'a, T: Decode<'a, SliceReader<'a>>>(
     alloc: Global,
     octets: &'a [u8],
 ) -> Option<Error> {
-    Vec::<T>::from_der(alloc, octets).err()
+    read_whole::<Vec<T>>(alloc, octets).err()
 }
 
 // Why octets aren't one list of values of a type that names its way, if they aren't.

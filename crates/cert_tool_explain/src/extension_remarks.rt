@@ -6,7 +6,8 @@ use crate::remark_lines::{Seen, add_each, begin_remark, end_remark};
 use cert_tool_describe::Lines;
 use const_oid::ObjectIdentifier;
 use der_core::describing::{DecodeWay, Described};
-use der_core::{Decode, FixedTag, FromDer, SliceReader};
+use der_core::making::read_whole;
+use der_core::{Decode, FixedTag, SliceReader};
 use x509_cert_general_names::{
     AuthorityKeyIdentifier, DistributionPoint, GeneralName, GeneralSubtree,
     IssuingDistributionPoint, NameConstraints,
@@ -113,7 +114,7 @@ pub fn value_in<'a, T: Described + FixedTag + Drop>(
 where
     T::By: DecodeWay<'a, SliceReader<'a>, T>,
 {
-    match T::from_der(lines.alloc, octets) {
+    match read_whole::<T>(lines.alloc, octets) {
         Ok(value) => Some(value),
         Err(error) => {
             lines.note(error.kind);
@@ -127,7 +128,7 @@ fn any_list_in<'a, T: Decode<'a, SliceReader<'a>>>(
     lines: &mut Lines,
     octets: &'a [u8],
 ) -> Option<Vec<T>> {
-    match Vec::from_der(lines.alloc, octets) {
+    match read_whole::<Vec<T>>(lines.alloc, octets) {
         Ok(list) => Some(list),
         Err(error) => {
             lines.note(error.kind);
