@@ -2,7 +2,7 @@
 
 use crate::refusals::Refusal;
 use crate::relative_names::rdn_written_in;
-use crate::shown::{hex_in, octets_of, printed as printed_in, written_in};
+use crate::shown::{hex_in, octets_of, printed as printed_in, read, written_in};
 use der_core::describing::{DecodeWay, Described};
 use der_core::{Decode, Error, FixedTag, FromDer, SliceReader};
 use std::alloc::Global;
@@ -62,7 +62,7 @@ fn described_text_of<'a, T: Described + FixedTag + Display + Drop>(
 where
     T::By: DecodeWay<'a, SliceReader<'a>, T>,
 {
-    text_of::<T>(alloc, octets)
+    printed_in(alloc, read::<T>(alloc, octets))
 }
 
 /// The text of the DirectoryString that octets spell.

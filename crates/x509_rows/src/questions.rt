@@ -6,7 +6,7 @@
 use crate::copies::{copied, exchanged};
 use crate::distinguished_names::name_in;
 use crate::refusals::Refusal;
-use crate::shown::{hex_of, joined, or_refusal, written, written_in};
+use crate::shown::{hex_of, joined, or_refusal, read, written, written_in};
 use crate::whole_extensions::got;
 use const_oid::AssociatedOid;
 use der_core::describing::{DecodeWay, Described, OrderWay, Ordered, TagWay};
@@ -168,7 +168,7 @@ pub fn answer_of_described<'a, T: Described + Drop>(
 where
     T::By: DecodeWay<'a, SliceReader<'a>, T> + TagWay<T>,
 {
-    answer_of::<T>(alloc, question)
+    answer_of_tagged::<T>(alloc, question)
 }
 
 /// The answer of such a type that says its tag itself.
@@ -179,7 +179,7 @@ pub fn answer_of_tagged<'a, T: Described + FixedTag + Drop>(
 where
     T::By: DecodeWay<'a, SliceReader<'a>, T>,
 {
-    answer_of::<T>(alloc, question)
+    answer_of_value::<T>(alloc, question)
 }
 
 /// The answer of a list of values of such a type. They are any here: what their way gives is then
@@ -202,7 +202,7 @@ pub fn answer_of_ordered<'a, T: Ordered + FixedTag + Drop>(
 where
     T::By: DecodeWay<'a, SliceReader<'a>, T> + OrderWay<T>,
 {
-    answer_with_order::<T>(alloc, question)
+    answer_of_value_with_order::<T>(alloc, question)
 }
 
 /// The answer of such a type that is copied, too.
@@ -215,7 +215,10 @@ where
     T::By: DecodeWay<'a, SliceReader<'a>, T> + TagWay<T>,
     requires { C.IsAlwaysCallable copy }
 {
-    answer_with_copy(alloc, question, copy)
+    match question.asked {
+        Asked::Copy => copied(alloc, read::<T>(alloc, question.first), copy),
+        _ => answer_of_described::<T>(alloc, question),
+    }
 }
 
 /// The answer of such a type that is compared and copied, too.
@@ -228,7 +231,10 @@ where
     T::By: DecodeWay<'a, SliceReader<'a>, T> + OrderWay<T>,
     requires { C.IsAlwaysCallable copy }
 {
-    answer_with_order_and_copy(alloc, question, copy)
+    match question.asked {
+        Asked::Copy => copied(alloc, read::<T>(alloc, question.first), copy),
+        _ => answer_of_ordered::<T>(alloc, question),
+    }
 }
 
 /// The answer of a type with one tag and one field, which is copied, too.
@@ -244,7 +250,7 @@ where
 {
     match question.asked {
         Asked::Exchange => exchange_of::<T, F>(alloc, question),
-        _ => answer_with_copy(alloc, question, copy),
+        _ => answer_of_copied(alloc, question, copy),
     }
 }
 
@@ -262,7 +268,7 @@ where
 {
     match question.asked {
         Asked::Default => written_of(alloc, none),
-        Asked::Order => order_of::<T>(alloc, question),
+        Asked::Order => answer_of_ordered::<T>(alloc, question),
         _ => answer_of_field::<T, Vec<M>, C>(alloc, question, copy),
     }
 }
@@ -278,10 +284,10 @@ where
     match question.asked {
         Asked::Extension => {
             let subject = name_in(alloc, question.first)?;
-            given(alloc, &subject, &T::from_der(alloc, question.second)?)
+            given(alloc, &subject, &read::<T>(alloc, question.second)?)
         }
         Asked::Get(certificate) => got::<T>(alloc, certificate),
-        _ => answer_of::<T>(alloc, question),
+        _ => answer_of_tagged::<T>(alloc, question),
     }
 }
 
@@ -311,7 +317,7 @@ where
     requires { C.IsAlwaysCallable copy }
 {
     match question.asked {
-        Asked::Copy => copied(alloc, T::from_der(alloc, question.first), copy),
+        Asked::Copy => copied(alloc, read::<T>(alloc, question.first), copy),
         _ => answer_with_field::<T, F>(alloc, question),
     }
 }
@@ -343,7 +349,7 @@ where
 {
     match question.asked {
         Asked::Debug => {
-            let value = T::from_der(alloc, question.first)?;
+            let value = read::<T>(alloc, question.first)?;
             Ok(format!(in alloc; "{value:?}")?)
         }
         _ => answer_of_content::<T>(alloc, question),
@@ -359,7 +365,7 @@ where
     T::By: DecodeWay<'a, SliceReader<'a>, T> + OrderWay<T>,
 {
     match question.asked {
-        Asked::Order => order_of::<T>(alloc, question),
+        Asked::Order => answer_of_ordered::<T>(alloc, question),
         _ => answer_with_debug::<T>(alloc, question),
     }
 }
@@ -375,7 +381,7 @@ where
     requires { C.IsAlwaysCallable copy }
 {
     match question.asked {
-        Asked::Copy => copied(alloc, T::from_der(alloc, question.first), copy),
+        Asked::Copy => copied(alloc, read::<T>(alloc, question.first), copy),
         _ => answer_with_debug::<T>(alloc, question),
     }
 }
@@ -402,12 +408,15 @@ fn written_of<T: Encode + Drop>(alloc: Global, value: T) -> Result<String, Refus
 }
 
 /// What is written of the two values that octets spell, once each has the other's field.
-fn exchange_of<'a, T: Decode<'a, SliceReader<'a>> + Encode + AsMut<F>, F>(
+fn exchange_of<'a, T: Described + FixedTag + AsMut<F> + Drop, F>(
     alloc: Global,
     question: &Question<'a>,
-) -> Result<String, Refusal> {
-    let first = T::from_der(alloc, question.first)?;
-    exchanged(alloc, first, T::from_der(alloc, question.second)?)
+) -> Result<String, Refusal>
+where
+    T::By: DecodeWay<'a, SliceReader<'a>, T>,
+{
+    let first = read::<T>(alloc, question.first)?;
+    exchanged(alloc, first, read::<T>(alloc, question.second)?)
 }
 
 /// The extension that a value gives.
