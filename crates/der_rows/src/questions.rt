@@ -3,7 +3,7 @@
 use crate::any_values::{Conversion, converted};
 use crate::refusals::Refusal;
 use crate::shown::{
-    debugged, hex_of, joined, name_of, named, or_refusal, printed, written, written_in,
+    debugged, hex_of, joined, name_of, named, or_refusal, printed, read, written, written_in,
 };
 use der_core::describing::{DecodeWay, OrderWay, Ordered};
 use der_core::{
@@ -293,8 +293,8 @@ where
     T::By: DecodeWay<'a, SliceReader<'a>, T> + OrderWay<T>,
 {
     match question.asked {
-        Asked::Text => printed(alloc, T::from_der(alloc, question.first)),
-        _ => answer_with_order::<T>(alloc, question),
+        Asked::Text => printed(alloc, read::<T>(alloc, question.first)),
+        _ => answer_of_ordered::<T>(alloc, question),
     }
 }
 

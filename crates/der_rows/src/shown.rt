@@ -5,7 +5,7 @@
 
 use crate::refusals::Refusal;
 use der_core::describing::{DecodeWay, Described};
-use der_core::{Encode, Error, FixedTag, FromDer, SliceReader, ToDer};
+use der_core::{DecodeValue, Encode, Error, FixedTag, FromDer, SliceReader, ToDer};
 use std::alloc::Global;
 use std::cmp::Ordering;
 use std::fmt::{Debug, Display};
@@ -61,6 +61,14 @@ pub fn read<'a, T: Described + FixedTag + Drop>(alloc: Global, octets: &'a [u8])
 where
     T::By: DecodeWay<'a, SliceReader<'a>, T>,
 {
+    value_in(alloc, octets)
+}
+
+/// The value of a type with one tag, which octets spell by DER.
+fn value_in<'a, T: DecodeValue<'a, SliceReader<'a>> + FixedTag>(
+    alloc: Global,
+    octets: &'a [u8],
+) -> Result<T, Error> {
     T::from_der(alloc, octets)
 }
 

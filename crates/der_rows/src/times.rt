@@ -5,7 +5,7 @@ use crate::questions::{Asked, Question, answer_of_lent};
 use crate::refusals::Refusal;
 use crate::shown::{printed, read, shown};
 use der_core::describing::{DecodeWay, Described};
-use der_core::{Error, FixedTag, FromDer, SliceReader};
+use der_core::{Error, FixedTag, SliceReader};
 use der_types::{DateTime, GeneralizedTime, UtcTime};
 use std::alloc::Global;
 
@@ -51,7 +51,7 @@ fn date_in<'a, T: Described + FixedTag + Into<DateTime> + Drop>(
 where
     T::By: DecodeWay<'a, SliceReader<'a>, T>,
 {
-    let time = T::from_der(alloc, octets)?;
+    let time = read::<T>(alloc, octets)?;
     Ok(time.into())
 }
 
