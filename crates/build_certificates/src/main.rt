@@ -126,6 +126,12 @@ fn domain(alloc: Global) -> Result<SubjectAltName, Error> {
     Ok(SubjectAltName(names))
 }
 
+/// Adds the server's domain to the builder of its certificate.
+fn add_domain(alloc: Global, builder: &mut CertificateBuilder<Subscriber>) -> Result<(), Error> {
+    builder.add_extension(alloc, &domain(alloc)?)?;
+    Ok(())
+}
+
 /// The profile of a server of this name whose domain was validated.
 pub(crate) fn profile_of_server(
     alloc: Global,
@@ -153,7 +159,7 @@ fn server(
     let subject = Name::from_str(alloc, "CN=server.example")?;
     let profile = profile_of_server(alloc, subject, authority)?;
     let mut builder = builder_of(alloc, profile, 3, SERVER)?;
-    builder.add_extension(alloc, &domain(alloc)?)?;
+    add_domain(alloc, &mut builder)?;
     let certificate = builder.build(alloc, signer)?;
     Ok(certificate)
 }
@@ -199,6 +205,12 @@ fn request(alloc: Global, signer: &DigestSigner) -> Result<CertReq, Error> {
     builder.add_extension(alloc, &domain(alloc)?)?;
     let request = builder.build(alloc, signer)?;
     Ok(request)
+}
+
+/// The request of the server, which its own key signs.
+fn request_of_server(alloc: Global) -> Result<CertReq, Error> {
+    let signer = signer_of(alloc, SERVER)?;
+    request(alloc, &signer)
 }
 
 /// The signer of the key that is the encoding of these octets.
@@ -288,9 +300,21 @@ fn add_request(
     authority: &Certificate,
     signer: &DigestSigner,
 ) -> Result<(), Error> {
-    let request = request(alloc, &signer_of(alloc, SERVER)?)?;
+    let request = request_of_server(alloc)?;
     add_line(alloc, text, &request)?;
-    add_certificate(alloc, text, &issued(alloc, &request, authority, signer)?)
+    add_issued(alloc, text, &request, authority, signer)
+}
+
+/// Adds the certificate that an authority issues for a request.
+fn add_issued(
+    alloc: Global,
+    text: &mut String,
+    request: &CertReq,
+    authority: &Certificate,
+    signer: &DigestSigner,
+) -> Result<(), Error> {
+    let certificate = issued(alloc, request, authority, signer)?;
+    add_certificate(alloc, text, &certificate)
 }
 
 /// All of them, each a line.
