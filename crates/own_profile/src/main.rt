@@ -72,16 +72,13 @@ fn builder(alloc: Global, level: u8) -> Result<CertificateBuilder<Badge>, Error>
 /// What is to be signed, in hex.
 fn signed_part(alloc: Global, level: u8) -> Result<String, Error> {
     let mut builder = builder(alloc, level)?;
-    part_of(alloc, &mut builder, &OutsideKey::new(key(alloc)?)?)
+    part_of(alloc, &mut builder)
 }
 
-/// What a builder has signed by this key, in hex.
-fn part_of(
-    alloc: Global,
-    builder: &mut CertificateBuilder<Badge>,
-    key: &OutsideKey,
-) -> Result<String, Error> {
-    let part = builder.finalize(alloc, key)?;
+/// What a builder has signed by the key, in hex.
+fn part_of(alloc: Global, builder: &mut CertificateBuilder<Badge>) -> Result<String, Error> {
+    let key = OutsideKey::new(key(alloc)?)?;
+    let part = builder.finalize(alloc, &key)?;
     Ok(hex::encode(alloc, part)?)
 }
 
