@@ -293,7 +293,7 @@ fn has_one_algorithm(certificate: &CertificateInner<Raw>) -> bool
     signed.has_octets_of(certificate.signature_algorithm())
 }
 
-// Whether its first moment isn't after this one.
+// Whether notBefore isn't after this moment (RFC 5280 4.1.2.5).
 fn has_begun(certificate: &CertificateInner<Raw>, moment: u64) -> bool
     ensures { result ≡ nat_le (unix_seconds (not_before (certificate_plain certificate.now)))
         moment }
@@ -302,7 +302,7 @@ fn has_begun(certificate: &CertificateInner<Raw>, moment: u64) -> bool
     validity.not_before.to_date_time().unix_seconds() <= moment
 }
 
-// Whether its last moment isn't before this one.
+// Whether notAfter isn't before this moment (RFC 5280 4.1.2.5).
 fn lasts(certificate: &CertificateInner<Raw>, moment: u64) -> bool
     ensures { result
         ≡ nat_le moment (unix_seconds (not_after (certificate_plain certificate.now))) }

@@ -1,7 +1,7 @@
 //! What the program says of itself.
 
 // Which program it is.
-pub(crate) const VERSION: &str = "cert_tool 0.15.0\n";
+pub(crate) const VERSION: &str = "cert_tool 0.16.0\n";
 
 // How the program is called.
 const USAGE: &str = "usage: cert_tool COMMAND OPTIONS FILE, where COMMAND is one of
@@ -15,6 +15,7 @@ const USAGE: &str = "usage: cert_tool COMMAND OPTIONS FILE, where COMMAND is one
   describe stream     what each certificate of a stream of any length says
   split               where certificates stand, or one
   reverse             certificates in the other order
+  serve               answer requests in frames of standard input
 cert_tool COMMAND --help tells more of a command, cert_tool --version which program this is.
 ";
 

@@ -32,9 +32,9 @@ use std::time::Duration;
 /// ```
 #[derive_where(Clone, Copy, Debug, PartialEq, Eq)]
 pub struct Validity<P = Rfc5280> {
-    /// The first moment.
+    /// notBefore: the date on which validity begins.
     pub not_before: Time,
-    /// The last moment.
+    /// notAfter: the date on which validity ends, itself included.
     pub not_after: Time,
     profile: PhantomData<P>,
 }

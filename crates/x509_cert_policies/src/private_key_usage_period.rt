@@ -18,9 +18,9 @@ use std::alloc::Global;
 /// ```
 #[derive(Clone, Copy, Debug, PartialEq, Eq)]
 pub struct PrivateKeyUsagePeriod {
-    /// The first moment.
+    /// notBefore: the key isn't used before it.
     pub not_before: Option<GeneralizedTime>,
-    /// The last moment.
+    /// notAfter: the key isn't used after it.
     pub not_after: Option<GeneralizedTime>,
 }
 
