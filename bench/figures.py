@@ -62,7 +62,7 @@ def figures():
         proofs = (minutes.get(crate, (0, 0))[0] for crate in sources.closure([name]))
         return f"{sum(proofs):.0f}"
 
-    yield "README.md", r"# else (\S+) minutes of processor more", [first("cert_desk")]
+    yield "README.md", r"# without: (\S+) minutes of processor more", [first("cert_desk")]
     yield "README.md", r"`N passed, 0 failed`;\s(\S+)\stook\s(\S+)\sminutes", [version, spent]
     for name in ("const_oid", "der_core", "der_types", "x509_cert", "cert_desk"):
         yield "docs/GUIDE.md", rf"(?m)^\|[^|]+\| `{name}`\|[^|]+\| ([^\s|]+)\|$", [first(name)]
