@@ -19,6 +19,8 @@ ghost use Rattle.x509_cert_names.specs.ValueTexts.{attribute_printed};
 ghost use Rattle.x509_cert_names.specs.Names.{type_and_value};
 ghost use Rattle.x509_cert_names.specs.Ordered.{DifferInTurn, IsOrdered};
 ghost use Rattle.x509_cert_names.specs.Pairs.{pair_plain, same_pair, same_pair_equiv};
+ghost use Rattle.x509_cert_names.specs.Pairs.{pair_fed, pair_fed_alike};
+ghost use Rattle.std.specs.Cmp.{partial_equiv_from_equiv};
 ghost use Rattle.x509_cert_names.specs.Pairs.{relative_plain};
 ghost use Rattle.x509_cert_names.specs.Alone.{StandsAlone};
 
@@ -393,7 +395,7 @@ impl Clone for RelativeDistinguishedName {
 impl PartialEq for RelativeDistinguishedName {
     ghost eq = { pointwise same_pair };
 
-    ghost laws = { lists_per ⟦<AttributeTypeAndValue as PartialEq>⟧.laws };
+    ghost laws = { lists_per (partial_equiv_from_equiv same_pair_equiv) };
 
     fn eq(&self, other: &Self) -> bool {
         match (self.attributes.as_slice(), other.attributes.as_slice()) {
@@ -409,10 +411,9 @@ impl Eq for RelativeDistinguishedName {
 
 /// How many attributes there are, and each of them.
 impl Hash for RelativeDistinguishedName {
-    ghost hash_input = { fed.slice ⟦<AttributeTypeAndValue as Hash>⟧.hash_input };
+    ghost hash_input = { fed.slice pair_fed };
 
-    ghost respects_eq = { (items_Alike
-        (record { fed = ⟦<AttributeTypeAndValue as Hash>⟧.respects_eq })).fed };
+    ghost respects_eq = { (items_Alike (record { fed = pair_fed_alike })).fed };
 
     fn hash<H: Hasher>(&self, state: &mut H) {
         self.attributes.as_slice().hash(state);
