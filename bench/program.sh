@@ -1,5 +1,6 @@
 # What the scripts share that measure a program of their own: a copy of the crates, in which that
-# program is proved and built. To be sourced.
+# program is proved and built. To be sourced. Where BUILT names a checkout of the same text, its
+# libraries are taken as they stand there (`out/rlib`, with the stamp by which rt knows them).
 set -euo pipefail
 top=$(cd "$(dirname "$0")/.." && pwd)
 work=$(mktemp -d)
@@ -12,6 +13,11 @@ build() {
     # without what was built of them, which rt finds by itself
     if [ ! -d "$work/crates" ]; then
         tar -C "$top" -c --exclude='crates/*/out' crates.txt crates | tar -C "$work" -x
+        for library in ${BUILT:+"$BUILT"/crates/*/out/rlib}; do
+            local out=$work/crates/$(basename "${library%/out/rlib}")/out
+            mkdir -p "$out"
+            cp -rl "$library" "$out/" 2>/dev/null || cp -r "$library" "$out/"
+        done
     fi
     mkdir -p "$crate"/{src,specs}
     touch "$crate/specs/Lib.antt"

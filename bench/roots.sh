@@ -27,9 +27,12 @@ wants() {
 }
 # memory NAME COMMAND..: how often a certificate asks for memory
 memory() {
-    local name=$1
+    local name=$1 few many
     shift
-    echo "$name: $((($(wants "$@" 11) - $(wants "$@" 1)) / (10 * count))) calls for memory"
+    few=$(wants "$@" 1)
+    many=$(wants "$@" 11)
+    awk -v name="$name" -v all=$((many - few)) -v count=$((10 * count)) \
+        'BEGIN { printf "%s: %.2f calls for memory\n", name, all / count }'
 }
 
 echo "$count roots"
