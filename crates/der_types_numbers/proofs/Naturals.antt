@@ -1,16 +1,17 @@
 -- The contents of numbers that aren't negative: their digits, behind a zero where the first bit would be one.
-use Rattle.std.proofs.Common.{◌≡◌, ℕ, ◌<◌, ◌≤◌, Bool, true, false, List, [], ◌∷◌, length, Ok, Err, refl, sym, ap, ◌∙◌, arith, pos, nat_lt}
+use Rattle.std.proofs.Common.{◌≡◌, ℕ, ◌<◌, ◌≤◌, Bool, true, false, List, [], ◌∷◌, length, Ok, Err, refl, sym, ap, ◌∙◌, arith, pos, nat_lt, ◌⊎◌, inl, inr, drop, ◌==◌, ◌&&◌, not}
 use Rattle.std.specs.Int.Digits.{number_from_digits}
-use Rattle.std.proofs.lemmas.Bool.{not-true, not-false}
+use Rattle.std.proofs.lemmas.Bool.{not-true, not-false, eqb-true, eqb-false, or_cases, and_parts}
 use Rattle.std.proofs.lemmas.Bool.Decides.{nat_tests}
 use Rattle.const_oid.specs.Digits.{digits}
 use Rattle.der_core_head.specs.declared.error.ErrorKind.TheVariants as kinds
 use Rattle.der_core_head.specs.declared.tag.Tag.{Tag}
 use Rattle.der_core_head.specs.Integers.{positive, natural, integer_octets, integer_of, integer_read, is_redundant, shortest_integer}
-use Rattle.der_core_head.proofs.Bytes.{IsBytes}
+use Rattle.der_core_head.proofs.Bytes.{IsBytes, octets_are}
 use Rattle.der_core_head.proofs.IntegerLaws.{integer_octets-of, integer_octets-some, integer_octets-not_redundant, integer_of-octets}
-use Rattle.der_types_numbers.specs.Numbers.{is_first_bit_set}
+use Rattle.der_types_numbers.specs.Numbers.{is_first_bit_set, has_leading_zero}
 use Rattle.der_types_numbers.specs.NumberOrders.{number-content}
+use Rattle.const_oid.proofs.DigitLaws.{digits-number_from_digits}
 
 positive-set : (w : List ℕ) → is_first_bit_set w ≡ true → positive w ≡ 0 ∷ w
 positive-set [] e = absurd cc
@@ -66,3 +67,38 @@ pub ruleset natural_contents = (content-set, content-clear)
 pub ruleset natural_reads = (natural_empty, natural_redundant, natural_negative, natural_is)
 
 pub ruleset contents = (integer_octets-some, integer_octets-not_redundant, integer_of-octets, number-content)
+
+-- A number stays the same where octets that count for nothing are left out.
+
+pub redundant_some : (w : List ℕ) → is_redundant w ≡ true → 1 < length w
+redundant_some (a ∷ b ∷ w) e = omega arith
+redundant_some w e = absurd cc
+
+pub integer_of-shorter : (w : List ℕ) → is_redundant w ≡ true → integer_of (drop 1 w) ≡ integer_of w
+unfolding integer_of
+integer_of-shorter (a ∷ b ∷ w) e = elim (or_cases (a == 0 && nat_lt b 128) (a == 255 && not (nat_lt b 128)) e) [
+  | inl h ↦
+      let p = and_parts (a == 0) (nat_lt b 128) h in
+      rw (eqb-true a 0 p.0, p.1) refl
+  | inr h ↦
+      let p = and_parts (a == 255) (not (nat_lt b 128)) h in
+      rw (eqb-true a 255 p.0, not-true (nat_lt b 128) p.1) refl
+]
+integer_of-shorter w e = absurd cc
+
+pub zero_some : (w : List ℕ) → has_leading_zero w ≡ true → 1 < length w
+zero_some (a ∷ b ∷ w) e = omega arith
+zero_some w e = absurd cc
+
+pub number-shorter : (w : List ℕ) → has_leading_zero w ≡ true → number_from_digits 256 (drop 1 w) ≡ number_from_digits 256 w
+number-shorter (a ∷ b ∷ w) e = rw (eqb-true a 0 e) refl
+number-shorter w e = absurd cc
+
+pub digits-fewest : (w : List ℕ) → IsBytes w → 0 < length w → has_leading_zero w ≡ false → digits 256 (number_from_digits 256 w) ≡ w
+digits-fewest [] h some e = absurd (omega arith)
+digits-fewest (a ∷ []) h some e = digits-number_from_digits 256 (a ∷ []) (omega arith) (octets_are (a ∷ []) h) (inl refl)
+digits-fewest (a ∷ b ∷ w) h some e =
+    let first : a ≡ 0 → ⊥ = eqb-false a 0 e in
+    digits-number_from_digits 256 (a ∷ b ∷ w) (omega arith) (octets_are (a ∷ b ∷ w) h) (inr (omega arith))
+
+pub ruleset shorter = (integer_of-shorter, redundant_some)

@@ -16,7 +16,7 @@ use std::alloc::{AllocError, Global};
 use std::cmp::Ordering;
 
 /// The fewest octets of the same number in two's complement.
-#[tactic(auto, using(crate::proofs::Shorter::shorter))]
+#[tactic(auto, using(crate::proofs::Naturals::shorter))]
 pub fn fewest_signed(octets: &[u8]) -> &[u8]
     requires { 0 < length octets.now }
     ensures octets { result.now ≡ integer_octets (integer_of octets.now) }
