@@ -4,9 +4,11 @@
 
 ghost use Rattle.std.specs.Prelude.{◌≡◌};
 ghost use Rattle.der_core_head.specs.Shapes.{contents};
+ghost use Rattle.der_types_values.specs.BitStrings.{bits_lent};
 ghost use Rattle.der_types_values.specs.OctetStrings.{octets_lent};
 
-pub use crate::bit_laws::bit_forms_agree;
+use crate::bit_string::BitString;
+use crate::bit_string_ref::BitStringRef;
 use crate::octet_string::OctetString;
 use crate::octet_string_ref::OctetStringRef;
 use der_core::ShapedValue;
@@ -26,4 +28,20 @@ pub fn octet_forms_agree()
         ≡ ⟦<OctetString as Ord>⟧.cmp (octets_lent a) (octets_lent b) }
     ensures hash { (o : OctetStringRef) → ⟦<OctetStringRef<'static> as Hash>⟧.hash_input o
         ≡ ⟦<OctetString as Hash>⟧.hash_input (octets_lent o) }
+{}
+
+/// A borrowed bit string and its owned form have the same content, are equal to the same bit
+/// strings, stand in the same order and are hashed alike. Nothing is done.
+pub fn bit_forms_agree()
+    ensures contents { (b : BitStringRef)
+        → contents ⟦<BitStringRef<'static> as ShapedValue>⟧.content
+        (⟦<BitStringRef<'static> as ShapedValue>⟧.value_plain b)
+        ≡ contents ⟦<BitString as ShapedValue>⟧.content
+        (⟦<BitString as ShapedValue>⟧.value_plain (bits_lent b)) }
+    ensures equality { (a b : BitStringRef) → ⟦<BitStringRef<'static> as PartialEq>⟧.eq a b
+        ≡ ⟦<BitString as PartialEq>⟧.eq (bits_lent a) (bits_lent b) }
+    ensures order { (a b : BitStringRef) → ⟦<BitStringRef<'static> as Ord>⟧.cmp a b
+        ≡ ⟦<BitString as Ord>⟧.cmp (bits_lent a) (bits_lent b) }
+    ensures hash { (b : BitStringRef) → ⟦<BitStringRef<'static> as Hash>⟧.hash_input b
+        ≡ ⟦<BitString as Hash>⟧.hash_input (bits_lent b) }
 {}
