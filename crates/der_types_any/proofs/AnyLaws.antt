@@ -12,6 +12,12 @@ use Rattle.der_core_head.specs.Grammar.{read_content_by, whole, value_at}
 use Rattle.der_core_head.specs.Reading.{Fails}
 use Rattle.der_core_head.specs.Fronts.{alone}
 use Rattle.der_types_any.specs.Contents.{content_by}
+use Rattle.der_core_head.proofs.TagLaws.{same_tag-eq}
+use Rattle.der_core_head.specs.Limits.{length_max}
+use Rattle.der_core_head.specs.Heads.{Fits}
+use Rattle.der_core_head.specs.Texts.{Repertoire, text_read, utf8_read}
+use Rattle.der_types_text.specs.Texts.{text_from, utf8_from}
+use Rattle.der_types_text.proofs.AnyTexts.{any_read}
 
 pub value_whole : {P : Type 0} (f : Readings P) (w : List ℕ) → value_at f (length w) w ≡ (f w >>= whole >>= λ x. Ok (x.0, []))
 unfolding value_at
@@ -48,3 +54,18 @@ pub read_err : (rules : EncodingRules) (t : Tag) (c : Content) (a : AnyValue) (k
     → by ≡ rules → tag ≡ a.tag → n ≡ length a.contents → room ≡ 64 → w ≡ a.contents
     → same_tag a.tag t ≡ true → Fails k (value_at (read_content_by by c tag room) n w) → Fails k (content_by rules t c a)
 read_err rules t c a k by tag n room w o p q s u e h = as_err rules t c a k e (λ memory. rw (o, p, q, s, u) at (h memory))
+
+-- Tags that are told apart by nothing are equal.
+
+pub same_tags : (a b : Tag) → same_tag a b ≡ true → a ≡ b
+same_tags a b e = same_tag-eq a b e
+
+-- A content that a length can count is read as a text as octets are.
+
+pub text_from-short : (r : Repertoire) (t : Tag) (w : List ℕ) → Fits w → text_from r t w ≡ text_read r t w
+text_from-short r t w few = rw (le-ltb length_max (length w) (omega arith)) refl
+
+pub utf8_from-short : (w : List ℕ) → Fits w → utf8_from w ≡ utf8_read w
+utf8_from-short w few = rw (le-ltb length_max (length w) (omega arith)) refl
+
+pub ruleset text_contents = (text_from-short, utf8_from-short, any_read)

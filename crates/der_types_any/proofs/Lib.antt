@@ -1,4 +1,2 @@
 mod AnyLaws
-mod SameTags
-mod TextContents
 pub mod AnyEquality

@@ -21,7 +21,7 @@ impl<'a, T: AsciiType> TryFrom<AnyRef<'a>> for AsciiStringRef<'a, T> {
     ghost try_from_gives = { λ a r. GivesNow (λ t. t.text.now) r
         (leaf_as T.string_tag (text T.repertoire) (any_lent a)) };
 
-    #[tactic(auto, unfolding(crate::specs::Contents::leaf_as), using(crate::proofs::TextContents::text_contents))]
+    #[tactic(auto, unfolding(crate::specs::Contents::leaf_as), using(crate::proofs::AnyLaws::text_contents))]
     fn try_from(any: AnyRef<'a>) -> Result<AsciiStringRef<'a, T>, Error> {
         check_tag(any.tag(), T::tag())?;
         Ok(AsciiStringRef::new(any.value())?)
@@ -47,7 +47,7 @@ impl<'a> TryFrom<AnyRef<'a>> for Utf8StringRef<'a> {
     ghost try_from_gives = { λ a r. GivesNow (λ t. t.text.now) r
         (leaf_as tags.Utf8String utf8 (any_lent a)) };
 
-    #[tactic(auto, unfolding(crate::specs::Contents::leaf_as), using(crate::proofs::TextContents::text_contents))]
+    #[tactic(auto, unfolding(crate::specs::Contents::leaf_as), using(crate::proofs::AnyLaws::text_contents))]
     fn try_from(any: AnyRef<'a>) -> Result<Utf8StringRef<'a>, Error> {
         check_tag(any.tag(), Tag::Utf8String)?;
         Ok(Utf8StringRef::new(any.value())?)
@@ -97,7 +97,7 @@ impl<'a> TryFrom<AnyRef<'a>> for GeneralStringRef<'a> {
     ghost try_from_gives = { λ a r. GivesNow (λ s. s.bytes.now) r
         (leaf_as tags.GeneralString (text any_octet) (any_lent a)) };
 
-    #[tactic(auto, unfolding(crate::specs::Contents::leaf_as), using(crate::proofs::TextContents::text_contents))]
+    #[tactic(auto, unfolding(crate::specs::Contents::leaf_as), using(crate::proofs::AnyLaws::text_contents))]
     fn try_from(any: AnyRef<'a>) -> Result<GeneralStringRef<'a>, Error> {
         check_tag(any.tag(), Tag::GeneralString)?;
         Ok(GeneralStringRef::new(any.value())?)
