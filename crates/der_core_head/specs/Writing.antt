@@ -6,10 +6,9 @@ use Rattle.der_core_head.specs.declared.error.ErrorKind.{ErrorKind}
 use Rattle.der_core_head.specs.declared.error.ErrorKind.TheVariants as kinds
 use Rattle.std.proofs.Common.{inl, inr}
 use Rattle.der_core_head.specs.Leaves.{leaf_contents}
-use Rattle.der_core_head.specs.Shapes.{Step, Shape, Content, Body, tagged, any, either, optional}
-use Rattle.der_core_head.specs.Shapes.{defaulted, nothing, leaf, nested, done, field, only, many}
-use Rattle.der_core_head.specs.Shapes.{exactly, few, in_order, Value, ContentValue, BodyValue}
-use Rattle.der_core_head.specs.Shapes.{octets_of}
+use Rattle.der_core_head.specs.Shapes.{Step, Shape, Body, leaf, done, field, only, many, few, Value}
+use Rattle.der_core_head.specs.Shapes.{Content, tagged, either, nothing, nested, exactly, in_order}
+use Rattle.der_core_head.specs.Shapes.{any, optional, defaulted, ContentValue, BodyValue, octets_of}
 use Rattle.der_core_head.specs.declared.tag.Tag.{Tag}
 use Rattle.der_core_head.specs.Octets.{◌>>=◌}
 use Rattle.der_core_head.specs.Limits.{length_max}

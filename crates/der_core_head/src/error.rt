@@ -1,9 +1,8 @@
 //! Why octets could not be read or written.
 
 ghost use Rattle.std.specs.Prelude.{◌≡◌, ◌≢◌, ◌⊎◌, Some, None, IsSome};
-ghost use Rattle.der_core_head.specs.declared.error.ErrorKind.TheVariants.{OidMalformed};
-ghost use Rattle.der_core_head.specs.declared.error.ErrorKind.TheVariants.{OutOfMemory, Overflow};
-ghost use Rattle.der_core_head.specs.declared.error.ErrorKind.TheVariants.{Utf8};
+ghost use Rattle.der_core_head.specs.declared.error.ErrorKind.TheVariants.{OidMalformed, Overflow};
+ghost use Rattle.der_core_head.specs.declared.error.ErrorKind.TheVariants.{OutOfMemory, Utf8};
 
 use crate::length::Length;
 use crate::tag::Tag;
