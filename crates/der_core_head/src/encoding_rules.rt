@@ -23,20 +23,14 @@ impl EncodingRules {
     pub fn is_ber(self) -> bool
         ensures { IsTrue result ↔ (self ≡ Ber) }
     {
-        match self {
-            EncodingRules::Ber => true,
-            EncodingRules::Der => false,
-        }
+        matches!(self, EncodingRules::Ber)
     }
 
     /// Whether they are the distinguished rules.
     pub fn is_der(self) -> bool
         ensures { IsTrue result ↔ (self ≡ Der) }
     {
-        match self {
-            EncodingRules::Ber => false,
-            EncodingRules::Der => true,
-        }
+        matches!(self, EncodingRules::Der)
     }
 }
 

@@ -137,10 +137,7 @@ impl Add<Length> for Result<Length, Error> {
     ghost add_gives = { AddsTo };
 
     fn add(self, other: Length) -> Result<Length, Error> {
-        match self {
-            Ok(length) => length + other,
-            Err(error) => Err(error),
-        }
+        self? + other
     }
 }
 
@@ -180,10 +177,7 @@ impl Add<usize> for Length {
     ghost add_gives = { λ a n r. GivesNow (λ l. l.value) r (sum_len a.value n) };
 
     fn add(self, other: usize) -> Result<Length, Error> {
-        match u32::try_from(other) {
-            Ok(other) => self + other,
-            Err(_) => Err(Error::from(ErrorKind::Overflow)),
-        }
+        self + Length::try_from(other)?
     }
 }
 
@@ -208,10 +202,7 @@ impl Sub<Length> for Result<Length, Error> {
     ghost sub_gives = { TakesFrom };
 
     fn sub(self, other: Length) -> Result<Length, Error> {
-        match self {
-            Ok(length) => length - other,
-            Err(error) => Err(error),
-        }
+        self? - other
     }
 }
 
@@ -251,10 +242,7 @@ impl Sub<usize> for Length {
     ghost sub_gives = { λ a n r. GivesNow (λ l. l.value) r (difference_len a.value n) };
 
     fn sub(self, other: usize) -> Result<Length, Error> {
-        match u32::try_from(other) {
-            Ok(other) => self - other,
-            Err(_) => Err(Error::from(ErrorKind::Overflow)),
-        }
+        self - Length::try_from(other)?
     }
 }
 
