@@ -82,10 +82,7 @@ fn unit_of(character: char) -> Option<u16>
     ensures { MatchOption result (is_unit character ≡ false) (λ unit. (unit ≡ character)
         × (is_unit character ≡ true)) }
 {
-    match u16::try_from(u32::from(character)) {
-        Ok(unit) => Some(unit),
-        Err(_) => None,
-    }
+    u16::try_from(u32::from(character)).ok()
 }
 
 /// Appends the octets of a character.

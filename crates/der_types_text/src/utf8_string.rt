@@ -12,7 +12,7 @@ ghost use Rattle.der_types_text.specs.Texts.{utf8_from};
 
 use der_core::describing::{AsOctets, Described, Octets, Ordered, Primitive};
 use der_core::making::{slice_len, text_in_range};
-use der_core::{Error, ErrorKind, FixedTag, Leaf, OrdIsValueOrd, Tag};
+use der_core::{Error, FixedTag, Leaf, OrdIsValueOrd, Tag};
 use std::alloc::{AllocError, Global};
 use std::convert::{AsSlice, AsStr};
 use std::fmt;
@@ -32,14 +32,12 @@ pub struct Utf8StringRef<'a> {
 ///
 /// # Errors
 /// `Utf8` where they are none.
+#[tactic(auto, using(der_core_head::proofs::Utf8Reads::utf8_reads))]
 fn utf8_of(octets: &[u8]) -> Result<&str, Error>
     ensures same { IfOk result (λ s. s.now ≡ octets.now) }
     ensures exact { GivesNow (λ s. s.now) result (utf8_read octets.now) }
 {
-    match str::from_utf8(octets) {
-        Ok(text) => Ok(text),
-        Err(_) => Err(Error::from(ErrorKind::Utf8)),
-    }
+    Ok(str::from_utf8(octets)?)
 }
 
 impl<'a> Utf8StringRef<'a> {
