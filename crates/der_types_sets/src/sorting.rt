@@ -23,20 +23,14 @@ fn order_of<T: DerOrd + Member>(member: &T, other: &T) -> Ordering
     ensures { IsValid T.shape (T.written member.now) → IsValid T.shape (T.written other.now)
         → result ≡ encodings_cmp T.shape (T.written member.now) (T.written other.now) }
 {
-    match member.der_cmp(other) {
-        Ok(order) => order,
-        Err(_) => Ordering::Equal,
-    }
+    member.der_cmp(other).unwrap_or(Ordering::Equal)
 }
 
 /// The member at a place, and another one where there is none.
 fn at<'m, T>(members: &'m [T], place: usize, other: &'m T) -> &'m T
     ensures { result.now ≡ member_at members.now other.now place }
 {
-    match members.get(place) {
-        Some(member) => member,
-        None => other,
-    }
+    members.get(place).unwrap_or(other)
 }
 
 /// The order of the encodings of the members at two places, where they have one. For a place at
