@@ -16,8 +16,7 @@ pub use der_core_coding::{
 pub use der_core_head::{header_len, is_constructed, is_same_tag, leading_octet_of, number_of};
 use der_core_head::{Error, ErrorKind};
 pub use der_core_octets::{
-    encode_header, fit_len, has_redundant_octet, integer_octets_of, signed_of, slice_len, sum_len,
-    unsigned_of,
+    encode_header, has_redundant_octet, integer_octets_of, signed_of, slice_len, unsigned_of,
 };
 pub use der_core_values::{
     decode_leaf, decode_leaf_of_tag, encode_members, list_in_range, members_len, octets_in_range,

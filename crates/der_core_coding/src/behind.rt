@@ -6,7 +6,7 @@ ghost use Rattle.der_core_head.specs.Writing.{Writes, put, fit_len};
 ghost use Rattle.der_core_octets.specs.Outputs.{Continues};
 
 use der_core_head::{Error, Length};
-use der_core_octets::{Writer, sum_len};
+use der_core_octets::Writer;
 
 /// A number of octets and one more.
 ///
@@ -15,7 +15,7 @@ use der_core_octets::{Writer, sum_len};
 pub fn len_behind(octets: Length) -> Result<Length, Error>
     ensures { GivesNow (λ l. l.value) result (fit_len (octets.value + 1)) }
 {
-    sum_len(octets, Length { value: 1 })
+    octets + Length { value: 1 }
 }
 
 /// Writes an octet, and then octets.

@@ -5,7 +5,7 @@ ghost use Rattle.der_core_head.specs.Writing.{Writes, size_body, write_body};
 ghost use Rattle.der_core_octets.specs.Outputs.{Continues};
 
 use der_core_head::{Error, Length};
-use der_core_octets::{Writer, sum_len};
+use der_core_octets::Writer;
 use der_core_values::{Encode, FieldRow};
 use std::marker::PhantomData;
 
@@ -45,7 +45,7 @@ impl<A: Encode, B: EncodeFields> EncodeFields for (A, B) {
     fn fields_len(&self) -> Result<Length, Error> {
         let first = self.0.encoded_len()?;
         let others = self.1.fields_len()?;
-        sum_len(first, others)
+        first + others
     }
 
     fn encode_fields<W: Writer>(&self, writer: &mut W) -> Result<(), Error> {

@@ -78,10 +78,7 @@ impl<'a> SliceWriter<'a> {
         ensures failed { output self.new ≡ failing (output self.old) }
     {
         self.failed = true;
-        let position = match u32::try_from(self.position) {
-            Ok(value) => Some(Length { value }),
-            Err(_) => None,
-        };
+        let position = Length::try_from(self.position).ok();
         Err(Error { kind, position })
     }
 

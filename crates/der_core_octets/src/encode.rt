@@ -4,21 +4,11 @@ ghost use Rattle.std.specs.Prelude.{◌≡◌, ◌<◌, ◌++◌, length};
 ghost use Rattle.der_core_head.specs.Tags.{number_of, tag_octets};
 ghost use Rattle.der_core_head.specs.Heads.{length_octets};
 ghost use Rattle.der_core_head.specs.Reading.{GivesNow};
-ghost use Rattle.der_core_head.specs.Writing.{Writes, put, put_head, sum_len, fit_len};
+ghost use Rattle.der_core_head.specs.Writing.{Writes, put, put_head, fit_len};
 ghost use Rattle.der_core_octets.specs.Outputs.{Continues};
 
 use crate::writer::Writer;
-use der_core_head::{Error, ErrorKind, Length, Tag, leading_octet_of, number_of};
-
-/// The sum of two lengths.
-///
-/// # Errors
-/// `Overflow` from 2^32 on.
-pub fn sum_len(a: Length, b: Length) -> Result<Length, Error>
-    ensures { GivesNow (λ l. l.value) result (sum_len a.value b.value) }
-{
-    a + b
-}
+use der_core_head::{Error, Length, Tag, leading_octet_of, number_of};
 
 /// Writes the octets of a tag (X.690 8.1.2).
 ///
@@ -125,19 +115,6 @@ pub fn encode_header<W: Writer>(writer: &mut W, tag: Tag, len: Length) -> Result
     encode_length(writer, len)
 }
 
-/// A number of octets.
-///
-/// # Errors
-/// `Overflow` from 2^32 on.
-pub fn fit_len(len: usize) -> Result<Length, Error>
-    ensures { GivesNow (λ l. l.value) result (fit_len len) }
-{
-    match u32::try_from(len) {
-        Ok(value) => Ok(Length { value }),
-        Err(_) => Err(Error::from(ErrorKind::Overflow)),
-    }
-}
-
 /// The number of octets of a slice.
 ///
 /// # Errors
@@ -145,5 +122,5 @@ pub fn fit_len(len: usize) -> Result<Length, Error>
 pub fn slice_len(octets: &[u8]) -> Result<Length, Error>
     ensures { GivesNow (λ l. l.value) result (fit_len (length octets.now)) }
 {
-    Ok(fit_len(octets.len())?)
+    Ok(Length::try_from(octets.len())?)
 }

@@ -21,7 +21,7 @@ mod writer;
 
 pub use bytes_owned::BytesOwned;
 pub use bytes_ref::BytesRef;
-pub use encode::{encode_header, encode_length, encode_tag, fit_len, slice_len, sum_len};
+pub use encode::{encode_header, encode_length, encode_tag, slice_len};
 pub use fronts::{
     any_header_of_tag, header_by, short_header_by_both, short_header_of_tag_by_both,
     short_tag_by_both, tag_by,

@@ -8,7 +8,7 @@ ghost use Rattle.der_core_octets.specs.Outputs.{Continues};
 
 use crate::encode::Encode;
 use der_core_head::{Error, Length};
-use der_core_octets::{Writer, sum_len};
+use der_core_octets::Writer;
 
 /// The number of octets of the encodings.
 ///
@@ -20,7 +20,7 @@ pub fn members_len<T: Encode>(members: &[T]) -> Result<Length, Error>
 {
     let mut len = Length { value: 0 };
     for member in members {
-        len = sum_len(len, member.encoded_len()?)?;
+        len = (len + member.encoded_len()?)?;
     }
     Ok(len)
 }

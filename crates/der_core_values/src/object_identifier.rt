@@ -10,7 +10,7 @@ use crate::leaf_ways::{AsOctets, Octets};
 use crate::leaves::{Leaf, Primitive};
 use crate::ways::Described;
 use const_oid::ObjectIdentifier;
-use der_core_head::{Error, ErrorKind, Tag};
+use der_core_head::{Error, Tag};
 use std::alloc::Global;
 
 impl<const MAX_SIZE: usize> FixedTag for ObjectIdentifier<MAX_SIZE> {
@@ -42,10 +42,7 @@ impl<'a, const MAX_SIZE: usize> Leaf<'a> for ObjectIdentifier<MAX_SIZE> {
         _tag: Tag,
         octets: &'a [u8],
     ) -> Result<ObjectIdentifier<MAX_SIZE>, Error> {
-        match ObjectIdentifier::from_bytes_sized(octets) {
-            Ok(identifier) => Ok(identifier),
-            Err(_) => Err(Error::from(ErrorKind::OidMalformed)),
-        }
+        Ok(ObjectIdentifier::from_bytes_sized(octets)?)
     }
 }
 

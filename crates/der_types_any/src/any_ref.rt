@@ -20,7 +20,6 @@ ghost use Rattle.der_types_any.specs.Contents.{content_as, content_by};
 use crate::any::Any;
 use der_core::making::{
     cmp_behind, encode_header, header_len, is_same_tag, leading_octet_of, number_of, slice_len,
-    sum_len,
 };
 use der_core::{
     Choice, Decode, DecodeValue, DerOrd, Encode, EncodingRules, Error, ErrorKind, FirstTag,
@@ -105,10 +104,7 @@ impl<'a> AnyRef<'a> {
     pub fn is_null(&self) -> bool
         ensures { IsTrue result ↔ (any_lent self.now ≡ record { tag = Tag.Null; contents = [] }) }
     {
-        match self.tag {
-            Tag::Null => self.bytes.is_empty(),
-            _ => false,
-        }
+        matches!(self.tag, Tag::Null) && self.bytes.is_empty()
     }
 
     /// The value of a type that has this tag and this content.
@@ -333,7 +329,7 @@ impl<'a> Encode for AnyRef<'a> {
     #[tactic(auto, unfolding(der_core_head::specs::Writing::tlv_len, der_core_head::specs::Writing::head_len))]
     fn encoded_len(&self) -> Result<Length, Error> {
         let len = slice_len(self.bytes)?;
-        sum_len(header_len(self.tag, len), len)
+        header_len(self.tag, len) + len
     }
 
     // Inlined, so that what is answered isn't moved.

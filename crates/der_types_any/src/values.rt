@@ -120,10 +120,7 @@ impl<'a, const MAX_SIZE: usize> TryFrom<AnyRef<'a>> for ObjectIdentifier<MAX_SIZ
     #[tactic(auto, unfolding(crate::specs::Contents::leaf_as))]
     fn try_from(any: AnyRef<'a>) -> Result<ObjectIdentifier<MAX_SIZE>, Error> {
         check_tag(any.tag(), Tag::ObjectIdentifier)?;
-        match ObjectIdentifier::from_bytes_sized(any.value()) {
-            Ok(identifier) => Ok(identifier),
-            Err(_) => Err(Error::from(ErrorKind::OidMalformed)),
-        }
+        Ok(ObjectIdentifier::from_bytes_sized(any.value())?)
     }
 }
 

@@ -20,7 +20,7 @@ ghost use Rattle.der_types_numbers.specs.Numbers.{unsigned_number};
 use crate::fewest::{begins_with_one_bit, content_len, encode_natural, fewest_unsigned, sized_cmp};
 use crate::uint::Uint;
 use der_core::describing::{AsLeaf, Described, EncodeLeaf, Primitive};
-use der_core::making::{fit_len, has_redundant_octet};
+use der_core::making::has_redundant_octet;
 use der_core::{Error, ErrorKind, FixedTag, Leaf, Length, Tag, Writer};
 use std::alloc::{AllocError, Global};
 use std::cmp::Ordering;
@@ -248,7 +248,7 @@ impl<'a> Leaf<'a> for UintRef<'a> {
 
 impl<'a> EncodeLeaf for UintRef<'a> {
     fn leaf_len(&self) -> Result<Length, Error> {
-        fit_len(content_len(self.bytes))
+        Ok(Length::try_from(content_len(self.bytes))?)
     }
 
     fn encode_leaf<W: Writer>(&self, writer: &mut W) -> Result<(), Error> {
