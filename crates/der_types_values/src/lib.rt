@@ -2,7 +2,6 @@
 #![tactic(auto)]
 
 mod allowed_len;
-mod bit_ordering;
 mod bit_string;
 mod bit_string_iter;
 mod bit_string_ref;
