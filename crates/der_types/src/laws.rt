@@ -6,11 +6,9 @@ pub use der_types_any::laws::any_forms_agree;
 pub use der_types_numbers::laws::{integer_forms_agree, natural_forms_agree};
 pub use der_types_sets::laws::{borrowed_and_owned_agree, order_of_insertions};
 pub use der_types_tagged::laws::{others_are_absent, written_is_read_back};
-pub use der_types_text::bmp_laws::{
-    octets_identify, order_is_that_of_octets, printed_strings_are_read_back,
-};
 pub use der_types_text::laws::{
-    forms_answer_alike, forms_compare_alike, forms_read_alike, utf8_forms_answer_alike,
+    forms_answer_alike, forms_compare_alike, forms_read_alike, octets_identify,
+    order_is_that_of_octets, printed_strings_are_read_back, utf8_forms_answer_alike,
     utf8_forms_compare_alike, utf8_forms_read_alike,
 };
 pub use der_types_time::laws::{one_date, order_is_that_of_seconds};

@@ -5,7 +5,6 @@ mod ascii_string;
 mod ascii_string_ref;
 mod ascii_type;
 mod bmp_chars;
-pub mod bmp_laws;
 mod bmp_string;
 mod general_string;
 mod ia5_string;
