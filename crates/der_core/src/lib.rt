@@ -15,7 +15,6 @@ mod encode_ref;
 mod explicit;
 mod headers;
 mod implicit;
-mod iterators;
 pub mod laws;
 mod leaves;
 mod lists;
@@ -23,7 +22,6 @@ pub mod making;
 mod options;
 mod order;
 mod pairs;
-mod placing;
 mod records;
 mod strict_set_of;
 mod unit;
@@ -52,7 +50,7 @@ pub use der_core_values::{
     decode_octets,
 };
 pub use headers::{header_cmp, length_cmp, tag_cmp};
-pub use iterators::{iter_cmp, iter_cmp_owned};
+pub use lists::{iter_cmp, iter_cmp_owned};
 pub use order::{DerOrd, FirstTag, ValueOrd};
 pub use pairs::FieldsOrd;
 pub use strict_set_of::StrictSetOf;

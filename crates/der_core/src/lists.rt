@@ -1,15 +1,16 @@
-//! Comparison of values that stand one after the other.
+//! Comparison of values that stand one after the other, and of those that iterators give.
 
-ghost use Rattle.std.specs.Prelude.{◌≡◌, true, Ok, IfErr};
-ghost use Rattle.der_core_head.specs.Shapes.{many, IsBody};
+ghost use Rattle.std.specs.Prelude.{◌≡◌, true, Ok, IfErr, List};
+ghost use Rattle.der_core_head.specs.Shapes.{many, IsBody, Value};
 ghost use Rattle.der_core_head.specs.Spelling.{is_body_apart};
 ghost use Rattle.der_core_head.specs.Grammar.{plain_list};
 ghost use Rattle.der_core_head.specs.Writing.{size_body};
 ghost use Rattle.der_core.specs.Orders.{bodies_cmp, Overflows};
+ghost use Rattle.std.specs.Iterator.{AlwaysYields, IsFinite};
 
-use crate::iterators::iter_cmp;
 use crate::order::{DerOrd, ValueOrd};
 use crate::strict_set_of::StrictSetOf;
+use der_core_coding::EncodeRef;
 use der_core_head::Error;
 use std::cmp::Ordering;
 
@@ -46,4 +47,74 @@ impl<T: DerOrd> ValueOrd for StrictSetOf<T> {
     fn value_cmp(&self, other: &Self) -> Result<Ordering, Error> {
         elements_cmp(self.values.as_slice(), other.values.as_slice())
     }
+}
+
+/// The order of the joined encodings of the values that two iterators give: that of the first that
+/// differ, and else of how many there are.
+///
+/// # Errors
+/// `Overflow` where the encodings of one of the two have 2^32 octets or more.
+pub fn iter_cmp_owned<T: DerOrd + Drop, I: Iterator<Item = T> + Drop>(
+    a: I,
+    b: I,
+) -> Result<Ordering, Error>
+    requires can { I.can_next a }
+    requires finite { IsFinite (I.remaining a) }
+    requires other_can { I.can_next b }
+    ensures order { (xs ys : List (Value T.shape)) → AlwaysYields I.next_gives T.written a xs
+        → AlwaysYields I.next_gives T.written b ys
+        → is_body_apart (many T.shape) ≡ true → IsBody (many T.shape) xs → IsBody (many T.shape) ys
+        → result ≡ Ok (bodies_cmp (many T.shape) xs ys) }
+    ensures refused { (xs ys : List (Value T.shape)) → AlwaysYields I.next_gives T.written a xs
+        → AlwaysYields I.next_gives T.written b ys
+        → IfErr result
+        (λ e. Overflows e (size_body (many T.shape) xs) (size_body (many T.shape) ys)) }
+{
+    let mut others = b;
+    for value in a {
+        let Some(other) = others.next() else {
+            return Ok(Ordering::Greater);
+        };
+        let order = value.der_cmp(&other)?;
+        if order.is_ne() {
+            return Ok(order);
+        }
+    }
+    match others.next() {
+        Some(_) => Ok(Ordering::Less),
+        None => Ok(Ordering::Equal),
+    }
+}
+
+/// A value, behind a reference.
+fn lent<'a, T>(value: &'a T) -> EncodeRef<'a, T>
+    ensures { result.0.now ≡ value.now }
+{
+    EncodeRef(value)
+}
+
+/// The order of the joined encodings of the values that two iterators lend: that of the first that
+/// differ, and else of how many there are.
+///
+/// # Errors
+/// `Overflow` where the encodings of one of the two have 2^32 octets or more.
+pub fn iter_cmp<'a, T: DerOrd + 'a, I: Iterator<Item = &'a T> + Drop>(
+    a: I,
+    b: I,
+) -> Result<Ordering, Error>
+    requires can { I.can_next a }
+    requires finite { IsFinite (I.remaining a) }
+    requires other_can { I.can_next b }
+    ensures order { (xs ys : List (Value T.shape))
+        → AlwaysYields I.next_gives (λ r. T.written r.now) a xs
+        → AlwaysYields I.next_gives (λ r. T.written r.now) b ys
+        → is_body_apart (many T.shape) ≡ true → IsBody (many T.shape) xs → IsBody (many T.shape) ys
+        → result ≡ Ok (bodies_cmp (many T.shape) xs ys) }
+    ensures refused { (xs ys : List (Value T.shape))
+        → AlwaysYields I.next_gives (λ r. T.written r.now) a xs
+        → AlwaysYields I.next_gives (λ r. T.written r.now) b ys
+        → IfErr result
+        (λ e. Overflows e (size_body (many T.shape) xs) (size_body (many T.shape) ys)) }
+{
+    iter_cmp_owned(a.map(lent::<T>), b.map(lent::<T>))
 }

@@ -7,7 +7,7 @@ pub use crate::contents::{value_cmp_behind, value_cmp_by_contents};
 pub use crate::copies::{copies_of, copies_of_option, copy_of_option};
 pub use crate::lists::elements_cmp;
 pub use crate::order::cmp_behind;
-pub use crate::placing::{place_of, stands_among};
+pub use crate::strict_set_of::{place_of, stands_among};
 pub use der_core_coding::{
     decode_sliced, encode_behind, encode_explicit, encode_implicit, encode_tagged, explicit_of,
     explicit_ref, implicit_of, implicit_ref, is_zero, leaf_from_der, len_behind, optional_explicit,

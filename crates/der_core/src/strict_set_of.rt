@@ -1,7 +1,8 @@
-//! SET OF, whose members rise (X.690 8.12, 11.6).
+//! SET OF, whose members rise (X.690 8.12, 11.6), and the places of values among such.
 
 ghost use Rattle.std.specs.Prelude.{◌≡◌, ◌==◌, None, IfSome, IfErr, OnOk, OnErr, false, length};
-ghost use Rattle.std.specs.Prelude.{◌∷◌, slice_get, IsPermutation, option_copied};
+ghost use Rattle.std.specs.Prelude.{◌∷◌, slice_get, IsPermutation, option_copied, ◌≤◌, IfOk, IsOk};
+ghost use Rattle.std.specs.Prelude.{insert};
 ghost use Rattle.std.specs.List.{AllByRecursion};
 ghost use Rattle.std.specs.Slice.Iter.{iter_rest};
 ghost use Rattle.der_core_head.specs.declared.tag.Tag.TheVariants.{Set};
@@ -12,7 +13,6 @@ ghost use Rattle.der_core_head.specs.Writing.{all_follow};
 ghost use Rattle.der_core.specs.Placed.{AllValid, IsNotPlaced, placed, stands_among};
 
 use crate::order::DerOrd;
-use crate::placing::{place_of, stands_among};
 use der_core_coding::read_rising;
 use der_core_head::{Error, ErrorKind, Length, Tag};
 use der_core_octets::{Header, Reader, Writer};
@@ -219,4 +219,50 @@ impl<T: InRange> InRangeValue for StrictSetOf<T> {
     fn value_in_range(&self) {
         self.values.value_in_range();
     }
+}
+
+/// The place of a value among others: in front of the first whose encoding is above its own (X.690
+/// 11.6).
+///
+/// # Errors
+/// `Overflow` where an encoding has 2^32 octets or more.
+pub fn place_of<T: DerOrd + Member>(values: &[T], item: &T) -> Result<usize, Error>
+    ensures within { IfOk result (λ i. i ≤ length values.now) }
+    ensures place { AllValid T.shape T.written values.now → IsValid T.shape (T.written item.now)
+        → IfOk result (λ i. plain_list T.written (insert values.now i item.now)
+        ≡ placed T.shape (T.written item.now) (plain_list T.written values.now)) }
+    // An answer comes wherever all have an encoding.
+    ensures answered { AllValid T.shape T.written values.now
+        → IsValid T.shape (T.written item.now) → IsOk result }
+    ensures refused { IfErr result (λ e. e.kind ≡ ErrorKind.Overflow) }
+{
+    for place in 0..values.len() {
+        match item.der_cmp(&values[place])? {
+            Ordering::Less => return Ok(place),
+            Ordering::Equal | Ordering::Greater => {}
+        }
+    }
+    Ok(values.len())
+}
+
+/// Whether one of the others has the encoding of a value.
+///
+/// # Errors
+/// `Overflow` where an encoding has 2^32 octets or more.
+pub fn stands_among<T: DerOrd + Member>(values: &[T], item: &T) -> Result<bool, Error>
+    ensures found { AllValid T.shape T.written values.now → IsValid T.shape (T.written item.now)
+        → IfOk result
+        (λ b. b ≡ stands_among T.shape (T.written item.now) (plain_list T.written values.now)) }
+    // An answer comes wherever all have an encoding.
+    ensures answered { AllValid T.shape T.written values.now
+        → IsValid T.shape (T.written item.now) → IsOk result }
+    ensures refused { IfErr result (λ e. e.kind ≡ ErrorKind.Overflow) }
+{
+    for place in 0..values.len() {
+        match item.der_cmp(&values[place])? {
+            Ordering::Equal => return Ok(true),
+            Ordering::Less | Ordering::Greater => {}
+        }
+    }
+    Ok(false)
 }

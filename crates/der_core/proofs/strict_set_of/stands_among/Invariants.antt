@@ -2,7 +2,7 @@ use Rattle.std.proofs.Common.{◌≡◌, drop}
 use Rattle.der_core_head.specs.Grammar.{plain_list}
 use Rattle.der_core_head.specs.Shapes.{IsValid}
 use Rattle.der_core.specs.Placed.{AllValid, stands_among}
-use Rattle.der_core.proofs.placing.stands_among.Given as goal
+use Rattle.der_core.proofs.strict_set_of.stands_among.Given as goal
 
 abbrev pub invariant-loop-place : goal.invariant-loop-place
 invariant-loop-place g l =

@@ -1,6 +1,6 @@
 use Rattle.std.proofs.Common.{rules, Ok, ap, sym, ◌∙◌}
 use Rattle.der_core.proofs.IterOrders.{at_next, at_decided, at_not_refused, at_long, at_second_ended, at_first_ended, at_both_ended}
-use Rattle.der_core.proofs.iterators.iter_cmp_owned.Goals as goal
+use Rattle.der_core.proofs.lists.iter_cmp_owned.Goals as goal
 
 pub returns-in_default-clause-order : goal.returns-in_default-clause-order
 returns-in_default-clause-order g c = λ xs ys p q apart v w.

@@ -2,7 +2,7 @@ use Rattle.std.proofs.Common.{rules}
 use Rattle.std.proofs.lemmas.Iterator.{YieldsList}
 use Rattle.std.specs.Iterator.Adapters.{map_source}
 use Rattle.der_core.proofs.IterOrders.{lent_further}
-use Rattle.der_core.proofs.iterators.iter_cmp.Goals as goal
+use Rattle.der_core.proofs.lists.iter_cmp.Goals as goal
 
 pub returns-clause-order : goal.returns-clause-order
 returns-clause-order g c = λ xs ys p q.

@@ -2,7 +2,7 @@ use Rattle.std.proofs.Common.{List}
 use Rattle.std.specs.Iterator.{AlwaysYields}
 use Rattle.der_core_head.specs.Shapes.{Value}
 use Rattle.der_core.proofs.IterOrders.{At}
-use Rattle.der_core.proofs.iterators.iter_cmp_owned.Given as goal
+use Rattle.der_core.proofs.lists.iter_cmp_owned.Given as goal
 
 abbrev pub invariant-loop-value : goal.invariant-loop-value
 invariant-loop-value g l =
