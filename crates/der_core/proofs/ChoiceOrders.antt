@@ -1,19 +1,21 @@
--- The order of values of a choice, and the tags with which they begin.
-use Rattle.std.proofs.Common.{◌≡◌, ℕ, Bool, true, List, [], Option, Some, None, Result, Ok, sym, ap, subst, ◌∙◌, arith, inl, inr, ◌⊎◌, ◌≢◌, Ordering}
+-- The order of values of a choice and of those that may be absent, and the tags with which they begin.
+use Rattle.std.proofs.Common.{◌≡◌, ℕ, Bool, true, List, [], Option, Some, None, Result, Ok, sym, ap, subst, ◌∙◌, arith, inl, inr, ◌⊎◌, ◌≢◌, Ordering, refl, Less, Equal, Greater}
 use Rattle.std.specs.Ordering.{ordering_reverse}
 use Rattle.std.specs.Cmp.Lexicographic.{nat_list_cmp_total}
-use Rattle.std.proofs.lemmas.Bool.{or_left, or_right, false≢true}
+use Rattle.std.proofs.lemmas.Bool.{or_left, or_right, false≢true, and_parts}
 use Rattle.std.proofs.lemmas.Bool.Decides.{nat_tests}
 use Rattle.der_core_head.specs.declared.error.Error.{Error}
 use Rattle.der_core_head.specs.declared.tag.Tag.{Tag}
 use Rattle.der_core_head.specs.Tags.{tag_octets}
-use Rattle.der_core_head.specs.Shapes.{Shape, either, Value, octets_of, IsValid, begins}
+use Rattle.der_core_head.specs.Shapes.{Shape, either, Value, octets_of, IsValid, begins, Content, tagged, any, optional, ContentValue, AnyValue, contents}
 use Rattle.der_core_head.specs.Spelling.{is_apart, is_element, none_of}
-use Rattle.der_core_head.proofs.Complete.{element_some, not_begins}
+use Rattle.der_core_head.proofs.Complete.{element_some, not_begins, tlv_first}
 use Rattle.der_core.specs.Orders.{octets_cmp, encodings_cmp, StartsWith, next_cmp}
-use Rattle.der_core.proofs.OrderLaws.{then_first, octets_cmp-append}
-use Rattle.der_core.proofs.HeadOrders.{tag_splits, tag_cmp-equal}
+use Rattle.der_core.proofs.OrderLaws.{then_first, octets_cmp-append, tag_splits, tag_cmp-equal}
 use Rattle.der_core.proofs.ShapeOrders.{TagIs}
+use Rattle.der_core_head.proofs.TagLaws.{same_tag-refl}
+
+-- The order of values of a choice, and the tags with which they begin.
 
 -- Values of one alternative
 
@@ -68,12 +70,49 @@ mixed_turned a b x y v w o i j h apart p q =
 
 -- The tag of a value
 
-pub first_starts : (a b : Shape) (x : Value a ⊎ Value b) (v : Value a) (t : Option Tag) → x ≡ inl v → TagIs a v t → TagIs (either a b) x t
+pub left_starts : (a b : Shape) (x : Value a ⊎ Value b) (v : Value a) (t : Option Tag) → x ≡ inl v → TagIs a v t → TagIs (either a b) x t
 unfolding octets_of IsValid
-first_starts a b x v None i h = rw i h
-first_starts a b x v (Some t) i h = rw i (λ p. let s = h p in (s.0, s.1, s.2, or_left (begins a t) (begins b t) s.3))
+left_starts a b x v None i h = rw i h
+left_starts a b x v (Some t) i h = rw i (λ p. let s = h p in (s.0, s.1, s.2, or_left (begins a t) (begins b t) s.3))
 
-pub second_starts : (a b : Shape) (x : Value a ⊎ Value b) (w : Value b) (t : Option Tag) → x ≡ inr w → TagIs b w t → TagIs (either a b) x t
+pub right_starts : (a b : Shape) (x : Value a ⊎ Value b) (w : Value b) (t : Option Tag) → x ≡ inr w → TagIs b w t → TagIs (either a b) x t
 unfolding octets_of IsValid
-second_starts a b x w None i h = rw i h
-second_starts a b x w (Some t) i h = rw i (λ p. let s = h p in (s.0, s.1, s.2, or_right (begins a t) (begins b t) s.3))
+right_starts a b x w None i h = rw i h
+right_starts a b x w (Some t) i h = rw i (λ p. let s = h p in (s.0, s.1, s.2, or_right (begins a t) (begins b t) s.3))
+
+-- With which tag a value begins, and the order of values that may be absent.
+
+pub tagged_starts : (t : Tag) (c : Content) (v : ContentValue c) → IsValid (tagged t c) v → StartsWith (begins (tagged t c)) (Some t) (octets_of (tagged t c) v)
+unfolding octets_of IsValid
+tagged_starts t c v h = let f = tlv_first t (contents c v) in (f.0, f.1, h.1, same_tag-refl t)
+
+pub any_starts : (v : AnyValue) → IsValid any v → StartsWith (begins any) (Some v.tag) (octets_of any v)
+unfolding octets_of IsValid
+any_starts v h = let f = tlv_first v.tag v.contents in (f.0, f.1, h.1, refl)
+
+-- Optional values
+
+pub both_stand : (s : Shape) (v w : Value s) → encodings_cmp (optional s) (Some v) (Some w) ≡ encodings_cmp s v w
+unfolding octets_of
+both_stand s v w = refl
+
+pub none_stands : (s : Shape) → encodings_cmp (optional s) None None ≡ Equal
+unfolding octets_of
+none_stands s = refl
+
+pub second_stands : (s : Shape) (w : Value s) → is_apart (optional s) ≡ true → IsValid (optional s) (Some w) → encodings_cmp (optional s) None (Some w) ≡ Less
+unfolding octets_of IsValid
+second_stands s w a h = rw (element_some s w (and_parts (is_element s) (is_apart s) a).0 h).2 refl
+
+pub first_stands : (s : Shape) (v : Value s) → is_apart (optional s) ≡ true → IsValid (optional s) (Some v) → encodings_cmp (optional s) (Some v) None ≡ Greater
+unfolding octets_of IsValid
+first_stands s v a h = rw (element_some s v (and_parts (is_element s) (is_apart s) a).0 h).2 refl
+
+pub some_order : (s : Shape) (a b : Option (Value s)) (v w : Value s) (r : Result Ordering Error) → a ≡ Some v → b ≡ Some w
+    → (is_apart s ≡ true → IsValid s v → IsValid s w → r ≡ Ok (encodings_cmp s v w))
+    → is_apart (optional s) ≡ true → IsValid (optional s) a → IsValid (optional s) b → r ≡ Ok (encodings_cmp (optional s) a b)
+unfolding octets_of IsValid
+some_order s a b v w r i j h =
+    rw (i, j) (λ apart p q. h (and_parts (is_element s) (is_apart s) apart).1 p q)
+
+pub ruleset option_orders = (both_stand, none_stands, second_stands, first_stands)

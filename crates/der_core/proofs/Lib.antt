@@ -1,12 +1,7 @@
 pub mod OrderLaws
-pub mod HeadOrders
 pub mod Sizes
 pub mod ShapeOrders
-pub mod FirstTags
-pub mod TagOrders
-pub mod LeafOrders
 pub mod IterOrders
 pub mod ChoiceOrders
 pub mod Rows
-pub mod Past
 pub mod ValueEquality

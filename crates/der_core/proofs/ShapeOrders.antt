@@ -14,8 +14,7 @@ use Rattle.der_core_head.proofs.Fits.{fits_contents}
 use Rattle.der_core_head.proofs.TagLaws.{tag_octets-some}
 use Rattle.der_core_head.proofs.Complete.{element_some, not_begins, end_empty}
 use Rattle.der_core.specs.Orders.{octets_cmp, encodings_cmp, bodies_cmp, StartsWith, next_cmp, Overflows}
-use Rattle.der_core.proofs.OrderLaws.{then_first, octets_cmp-append, Splits}
-use Rattle.der_core.proofs.HeadOrders.{tag_splits, tag_cmp-equal, tlv_splits}
+use Rattle.der_core.proofs.OrderLaws.{then_first, octets_cmp-append, Splits, tag_splits, tag_cmp-equal, tlv_splits}
 use Rattle.der_core_head.specs.declared.error.Error.{Error}
 use Rattle.der_core_head.specs.Writing.{both_len, size, size_body, default_len}
 use Rattle.der_core.proofs.Sizes.{size_only, first_over, second_over, longer}

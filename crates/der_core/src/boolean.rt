@@ -10,7 +10,7 @@ use std::cmp::Ordering;
 
 /// False, `00`, is below true, `FF` (X.690 11.1).
 impl ValueOrd for bool {
-    #[tactic(auto, using(crate::proofs::LeafOrders::bool_contents))]
+    #[tactic(auto, using(crate::proofs::OrderLaws::bool_contents))]
     fn value_cmp(&self, other: &Self) -> Result<Ordering, Error> {
         Ok(self.cmp(other))
     }

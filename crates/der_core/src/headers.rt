@@ -54,7 +54,7 @@ pub fn tag_cmp(a: Tag, b: Tag) -> Ordering
 }
 
 /// The order of the octets of two definite lengths (X.690 8.1.3, 10.1).
-#[tactic(auto, using(crate::proofs::HeadOrders::length_octets_cmp))]
+#[tactic(auto, using(crate::proofs::OrderLaws::length_octets_cmp))]
 pub fn length_cmp(a: Length, b: Length) -> Ordering
     ensures { result ≡ octets_cmp (length_octets a.value) (length_octets b.value) }
 {
@@ -62,7 +62,7 @@ pub fn length_cmp(a: Length, b: Length) -> Ordering
 }
 
 /// The order of the octets of two headers: that of their tags, and then that of their lengths.
-#[tactic(auto, using(crate::proofs::HeadOrders::head_cmp))]
+#[tactic(auto, using(crate::proofs::OrderLaws::head_cmp))]
 pub fn header_cmp(a: Header, b: Header) -> Ordering
     ensures { result ≡ octets_cmp (head_octets a.tag a.length.value)
         (head_octets b.tag b.length.value) }

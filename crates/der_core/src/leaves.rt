@@ -26,14 +26,14 @@ fn integer_cmp<T: Integer>(a: &T, b: &T) -> Ordering
 }
 
 impl<T: Integer> OrderWay<T> for AsInteger {
-    #[tactic(auto, using(crate::proofs::LeafOrders::leaf_contents))]
+    #[tactic(auto, using(crate::proofs::OrderLaws::leaf_contents))]
     fn cmp_by(value: &T, other: &T) -> Result<Ordering, Error> {
         Ok(integer_cmp(value, other))
     }
 }
 
 impl<T: Numbered, K> OrderWay<T> for AsNumbered<K> {
-    #[tactic(auto, using(crate::proofs::LeafOrders::leaf_contents))]
+    #[tactic(auto, using(crate::proofs::OrderLaws::leaf_contents))]
     fn cmp_by(value: &T, other: &T) -> Result<Ordering, Error> {
         Ok(integer_cmp(&value.to_number(), &other.to_number()))
     }
@@ -41,7 +41,7 @@ impl<T: Numbered, K> OrderWay<T> for AsNumbered<K> {
 
 /// The octets themselves.
 impl<T: Octets> OrderWay<T> for AsOctets {
-    #[tactic(auto, using(crate::proofs::LeafOrders::leaf_contents))]
+    #[tactic(auto, using(crate::proofs::OrderLaws::leaf_contents))]
     fn cmp_by(value: &T, other: &T) -> Result<Ordering, Error> {
         Ok(value.content().cmp(other.content()))
     }

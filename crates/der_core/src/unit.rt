@@ -10,7 +10,7 @@ use std::cmp::Ordering;
 
 /// There is one content, of no octets.
 impl ValueOrd for () {
-    #[tactic(auto, using(crate::proofs::LeafOrders::null_contents))]
+    #[tactic(auto, using(crate::proofs::OrderLaws::null_contents))]
     fn value_cmp(&self, _other: &Self) -> Result<Ordering, Error> {
         Ok(Ordering::Equal)
     }

@@ -20,7 +20,7 @@ use Rattle.der_core_head.specs.Leaves.{integer}
 use Rattle.der_core_head.specs.Shapes.{leaf, contents, IsContent}
 use Rattle.der_core_head.proofs.IntegerLaws.{integer_octets-below}
 use Rattle.der_core.specs.Orders.{contents_cmp}
-use Rattle.der_core.proofs.HeadOrders.{split_cmp, after_cmp}
+use Rattle.der_core.proofs.OrderLaws.{split_cmp, after_cmp}
 use Rattle.der_core.proofs.OrderLaws.{then_equal, octets_cmp-append, splits_lengths}
 
 -- The order of whole numbers of either sign: the number of content octets, and then the octets.

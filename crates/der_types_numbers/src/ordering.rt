@@ -19,7 +19,7 @@ impl<'a> OrdIsValueOrd for IntRef<'a> {
 
 /// Two's complement in the fewest octets (X.690 8.3), as octets: 128, `00 80`, is below 127, `7F`.
 impl ValueOrd for Int {
-    #[tactic(auto, using(der_core::proofs::LeafOrders::leaf_contents))]
+    #[tactic(auto, using(der_core::proofs::OrderLaws::leaf_contents))]
     fn value_cmp(&self, other: &Self) -> Result<Ordering, Error> {
         Ok(value_cmp_by_contents(self.as_bytes(), other.as_bytes()))
     }
@@ -31,7 +31,7 @@ impl OrdIsValueOrd for Int {
 
 /// The digits, after a zero where their first bit is one (X.690 8.3).
 impl<'a> ValueOrd for UintRef<'a> {
-    #[tactic(auto, using(der_core::proofs::LeafOrders::leaf_contents))]
+    #[tactic(auto, using(der_core::proofs::OrderLaws::leaf_contents))]
     fn value_cmp(&self, other: &Self) -> Result<Ordering, Error> {
         Ok(value_cmp_behind(
             lead_of(self.as_bytes()),

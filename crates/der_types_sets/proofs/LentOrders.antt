@@ -13,10 +13,9 @@ use Rattle.der_core_head.specs.Reading.{Gives}
 use Rattle.der_core_head.specs.Writing.{size, size_content, size_body, write, Out, put, put_head, head_len, sum_len, fit_len, tlv_len, both_len, many_len, default_len, write_tlv, write_many, all_follow, write_in_order, default_write, write_content, write_body}
 use Rattle.der_core_head.proofs.Written.{out, put_is, unsized}
 use Rattle.der_core_head.specs.declared.tag.Tag.{Tag}
-use Rattle.der_core.proofs.TagOrders.{long_inside}
+use Rattle.der_core.proofs.OrderLaws.{long_inside, then_same, nat_cmp-equal, octets_cmp-self, octets_cmp-append, splits_lengths}
 use Rattle.der_core.proofs.Sizes.{size_only, many_over}
 use Rattle.der_core.specs.Orders.{octets_cmp, Overflows}
-use Rattle.der_core.proofs.OrderLaws.{then_same, nat_cmp-equal, octets_cmp-self, octets_cmp-append, splits_lengths}
 use Rattle.der_types_sets.specs.Lent.{Lent, IsLent, IsMisplaced, IsUnwritten, IsUncompared, members_lent}
 use Rattle.der_types_sets.proofs.FewSteps.{length_plain_list}
 use Rattle.der_types_sets.proofs.LentWrites.{of_octets}

@@ -8,7 +8,7 @@ use Rattle.der_core_head.specs.Leaves.{bmp}
 use Rattle.der_core_head.specs.Shapes.{leaf, contents, IsContent}
 use Rattle.der_core.specs.Orders.{contents_cmp}
 use Rattle.der_core.specs.OrdLaws.{octets_order}
-use Rattle.der_core.proofs.HeadOrders.{split_cmp}
+use Rattle.der_core.proofs.OrderLaws.{split_cmp}
 use Rattle.der_core.proofs.OrderLaws.{then_assoc}
 
 -- characters are in the order of their octets, of which the higher stands first

@@ -9,7 +9,7 @@ use Rattle.der_core_head.specs.Dates.{Civil, two_digits, after_year, generalized
 use Rattle.der_core_head.specs.Leaves.{generalized_time}
 use Rattle.der_core_head.specs.Shapes.{leaf, contents, IsContent}
 use Rattle.der_core.specs.Orders.{contents_cmp}
-use Rattle.der_core.proofs.HeadOrders.{split_cmp}
+use Rattle.der_core.proofs.OrderLaws.{split_cmp}
 use Rattle.der_core.proofs.OrderLaws.{then_assoc, then_equal}
 
 abbrev pub civil_cmp : Civil → Civil → Ordering

@@ -199,7 +199,7 @@ impl From<&GeneralizedTime> for DateTime {
 
 /// `YYYYMMDDHHMMSSZ`, which is in the order of time.
 impl ValueOrd for GeneralizedTime {
-    #[tactic(auto, using(der_core::proofs::LeafOrders::leaf_contents))]
+    #[tactic(auto, using(der_core::proofs::OrderLaws::leaf_contents))]
     fn value_cmp(&self, other: &Self) -> Result<Ordering, Error> {
         let octets = self.to_content();
         let other_octets = other.to_content();

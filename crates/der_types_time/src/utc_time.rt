@@ -220,7 +220,7 @@ impl From<&UtcTime> for DateTime {
 /// `YYMMDDHHMMSSZ`. It isn't the order of time: the years from 2000 stand before those of the
 /// century before.
 impl ValueOrd for UtcTime {
-    #[tactic(auto, using(der_core::proofs::LeafOrders::leaf_contents))]
+    #[tactic(auto, using(der_core::proofs::OrderLaws::leaf_contents))]
     fn value_cmp(&self, other: &Self) -> Result<Ordering, Error> {
         let octets = self.to_content();
         let other_octets = other.to_content();

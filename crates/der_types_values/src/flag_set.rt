@@ -236,7 +236,7 @@ impl<F: NamedBits> EncodeLeaf for FlagSet<F> {
 
 /// The count of unused bits, and then the bits.
 impl<F: NamedBits> ValueOrd for FlagSet<F> {
-    #[tactic(auto, using(der_core::proofs::LeafOrders::leaf_contents))]
+    #[tactic(auto, using(der_core::proofs::OrderLaws::leaf_contents))]
     fn value_cmp(&self, other: &Self) -> Result<Ordering, Error> {
         let (octets, len) = named_octets_of(self.flags.to_number());
         let (others, other_len) = named_octets_of(other.flags.to_number());

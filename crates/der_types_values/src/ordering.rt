@@ -25,7 +25,7 @@ impl OrdIsValueOrd for OctetString {
 
 /// There is one content, of no octets.
 impl ValueOrd for Null {
-    #[tactic(auto, using(der_core::proofs::LeafOrders::null_contents))]
+    #[tactic(auto, using(der_core::proofs::OrderLaws::null_contents))]
     fn value_cmp(&self, _other: &Self) -> Result<Ordering, Error> {
         Ok(Ordering::Equal)
     }
@@ -41,7 +41,7 @@ impl<'a> OrdIsValueOrd for SequenceRef<'a> {
 
 /// The number of unused bits, then the octets (X.690 8.6.2).
 impl<'a> ValueOrd for BitStringRef<'a> {
-    #[tactic(auto, using(der_core::proofs::LeafOrders::leaf_contents))]
+    #[tactic(auto, using(der_core::proofs::OrderLaws::leaf_contents))]
     fn value_cmp(&self, other: &Self) -> Result<Ordering, Error> {
         Ok(value_cmp_behind(
             Some(self.unused_bits()),

@@ -237,7 +237,7 @@ impl<P> fmt::Display for SerialNumber<P> {
 
 /// The order of the content octets.
 impl<P: Profile> ValueOrd for SerialNumber<P> {
-    #[tactic(auto, using(der_core::proofs::LeafOrders::leaf_contents))]
+    #[tactic(auto, using(der_core::proofs::OrderLaws::leaf_contents))]
     fn value_cmp(&self, other: &Self) -> Result<Ordering, Error> {
         Ok(value_cmp_by_contents(self.as_bytes(), other.as_bytes()))
     }

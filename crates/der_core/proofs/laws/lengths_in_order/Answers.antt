@@ -1,4 +1,4 @@
-use Rattle.der_core.proofs.HeadOrders.{length_octets_cmp}
+use Rattle.der_core.proofs.OrderLaws.{length_octets_cmp}
 use Rattle.der_core.proofs.laws.lengths_in_order.Goals as goal
 
 pub returns : goal.returns

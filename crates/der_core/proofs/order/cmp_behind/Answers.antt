@@ -1,6 +1,5 @@
 use Rattle.std.proofs.Common.{rules, Ok, ap, sym, ◌∙◌}
-use Rattle.der_core.proofs.OrderLaws.{then_both}
-use Rattle.der_core.proofs.TagOrders.{never_long, tagged_content, first_long, second_long, headers_decide, contents_decide}
+use Rattle.der_core.proofs.OrderLaws.{then_both, never_long, tagged_content, first_long, second_long, headers_decide, contents_decide}
 use Rattle.der_core.proofs.order.cmp_behind.Goals as goal
 
 pub returns-in_err-len-clause-order : goal.returns-in_err-len-clause-order

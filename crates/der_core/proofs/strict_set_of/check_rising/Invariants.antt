@@ -1,5 +1,5 @@
 use Rattle.der_core_head.specs.Grammar.{plain_option}
-use Rattle.der_core.proofs.Past.{Left}
+use Rattle.der_core.proofs.IterOrders.{Left}
 use Rattle.der_core.proofs.strict_set_of.check_rising.Given as goal
 
 abbrev pub invariant-loop-value : goal.invariant-loop-value

@@ -1,6 +1,6 @@
 use Rattle.der_core_head.specs.Shapes.{IsValid}
 use Rattle.der_core.specs.Placed.{AllValid, is_below}
-use Rattle.der_core.proofs.Past.{IsPast}
+use Rattle.der_core.proofs.IterOrders.{IsPast}
 use Rattle.der_core.proofs.strict_set_of.place_of.Given as goal
 
 abbrev pub invariant-loop-place : goal.invariant-loop-place

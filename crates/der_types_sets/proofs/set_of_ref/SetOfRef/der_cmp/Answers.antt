@@ -3,7 +3,7 @@ use Rattle.std.proofs.lemmas.Result.{err_from_is_err_and, IfErr-weaker}
 use Rattle.der_core_head.specs.declared.tag.Tag.TheVariants as tags
 use Rattle.der_core_head.specs.Shapes.{nested, many}
 use Rattle.der_core_head.specs.Reading.{Gives}
-use Rattle.der_core.proofs.TagOrders.{tagged_content, never_long, first_long, second_long, headers_decide, contents_decide, one_tag}
+use Rattle.der_core.proofs.OrderLaws.{tagged_content, never_long, first_long, second_long, headers_decide, contents_decide, one_tag}
 use Rattle.der_types_sets.specs.Lent.{members_lent}
 use Rattle.der_types_sets.proofs.LentOrders.{inside_long}
 use Rattle.der_types_sets.proofs.set_of_ref.SetOfRef.der_cmp.Goals as goal
