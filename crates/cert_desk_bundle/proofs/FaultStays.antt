@@ -6,7 +6,7 @@ use Rattle.der_core_head.specs.declared.error.ErrorKind.TheVariants as errors
 use Rattle.der_core_head.specs.declared.tag.Tag.TheVariants as tags
 use Rattle.der_core_head.specs.Heads.{head_octets, head_at}
 use Rattle.der_core_head.specs.Shapes.{Shape, Body, Value, sequence}
-use Rattle.der_core_head.proofs.LongerLaws.{fault_stays as head_fault_stays}
+use Rattle.der_core_head.proofs.LeafLaws.{fault_stays as head_fault_stays}
 use Rattle.x509_cert_certificates.specs.Certificates.{PlainCertificate, raw_certificate_fields}
 use Rattle.cert_desk_bundle.specs.declared.fault_kind.FaultKind.{FaultKind}
 use Rattle.cert_desk_bundle.specs.declared.fault_kind.FaultKind.TheVariants as kinds

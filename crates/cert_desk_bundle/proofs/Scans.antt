@@ -11,11 +11,9 @@ use Rattle.der_core_head.specs.Octets.{◌>>=◌}
 use Rattle.der_core_head.specs.Tags.{universal_tag, tag_octets, tag_at}
 use Rattle.der_core_head.specs.Heads.{Head, length_octets, head_octets, tlv, Fits, length_at, head_at}
 use Rattle.der_core_head.specs.Shapes.{Shape, Body, Value, sequence, IsValid, octets_of, body_octets, contents}
-use Rattle.der_core_head.proofs.Bytes.{IsBytes}
-use Rattle.der_core_head.proofs.HeadLaws.{head_again, head_sound}
-use Rattle.der_core_head.proofs.LengthForms.{length_at-short, length_at-indefinite, length_at-large, length_at-cut}
-use Rattle.der_core_head.proofs.LongerLaws.{read_stays}
-use Rattle.der_core_head.proofs.Results.{ok_is, bind_ok}
+use Rattle.der_core_head.proofs.Results.{IsBytes, ok_is, bind_ok}
+use Rattle.der_core_head.proofs.HeadLaws.{head_again, head_sound, length_at-short, length_at-indefinite, length_at-large, length_at-cut}
+use Rattle.der_core_head.proofs.LeafLaws.{read_stays}
 use Rattle.der_core_octets.specs.declared.header.Header.{Header}
 use Rattle.der_core_octets.specs.Headers.{Scans, head_of}
 use Rattle.cert_desk_bundle.specs.declared.fault_kind.FaultKind.{FaultKind}

@@ -5,7 +5,7 @@ use Rattle.std.specs.Option.{option_map_or}
 use Rattle.const_oid.specs.Bound.{Bound}
 use Rattle.der_core_head.specs.Octets.{IsOctets}
 use Rattle.der_core_head.specs.Shapes.{IsValid, IsContent, IsBody, octets_of}
-use Rattle.der_core_head.proofs.Below.{octets_below}
+use Rattle.der_core_head.proofs.OneEncoding.{octets_below}
 use Rattle.der_core_head.proofs.BoundLaws.{both_all}
 use Rattle.x509_cert_certificates.specs.Certificates.{PlainCertificate, raw_certificate}
 use Rattle.x509_cert_certificates.specs.Certificates.{raw_tbs_certificate, subject, tbs}

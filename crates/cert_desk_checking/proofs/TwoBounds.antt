@@ -13,8 +13,7 @@ use Rattle.der_core_head.specs.Octets.{IsOctets, ◌>>=◌}
 use Rattle.der_core_head.specs.declared.tag.Tag.TheVariants as tags
 use Rattle.der_core_head.specs.Leaves.{octets}
 use Rattle.der_core_head.specs.Shapes.{Shape, Value, IsValid, IsContent, IsBody, done, explicit, field, leaf, octets_of, optional, sequence, sequence_of, tagged}
-use Rattle.der_core_head.proofs.BoundLaws.{below_or_large}
-use Rattle.der_core_head.proofs.Families.{Family, same_octets, valid_wider, valid_narrow, whole_wider, whole_new}
+use Rattle.der_core_head.proofs.BoundLaws.{below_or_large, Family, same_octets, valid_wider, valid_narrow, whole_wider, whole_new}
 use Rattle.x509_cert_certificates.specs.Certificates.{PlainCertificate, extensions_of}
 use Rattle.x509_cert_certificates.specs.Certificates.{raw_certificate}
 use Rattle.x509_cert_parts.specs.ExtensionTypes as types

@@ -8,9 +8,8 @@ use Rattle.der_core_head.specs.Grammar.{read_whole}
 use Rattle.der_core_head.specs.Heads.{head_octets, tlv}
 use Rattle.der_core_head.specs.Octets.{IsOctets}
 use Rattle.der_core_head.specs.Shapes.{IsValid, Spells, body_octets, contents, octets_of}
-use Rattle.der_core_head.proofs.AllOctets.{is_spelled, whole_again}
-use Rattle.der_core_head.proofs.Below.{bytes_are, octets_below}
-use Rattle.der_core_head.proofs.Fits.{valid_fits}
+use Rattle.der_core_head.proofs.OneEncoding.{is_spelled, whole_again, bytes_are, octets_below}
+use Rattle.der_core_head.proofs.HeadLaws.{valid_fits}
 use Rattle.x509_cert_certificates.specs.Certificates.{PlainCertificate, raw_certificate}
 use Rattle.x509_cert_certificates.specs.Certificates.{raw_certificate_fields}
 use Rattle.cert_desk_bundle.specs.declared.fault_kind.FaultKind.{FaultKind}

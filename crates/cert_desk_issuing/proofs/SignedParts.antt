@@ -9,7 +9,7 @@ use Rattle.der_core_head.specs.Dates.{Civil}
 use Rattle.der_core_head.specs.Integers.{integer_octets}
 use Rattle.der_core_head.specs.Ranges.{IsInRange}
 use Rattle.der_core_head.specs.Shapes.{IsBody, IsContent, IsValid, body_octets, contents, octets_of}
-use Rattle.der_core_head.proofs.WrittenValid.{valid_in_range}
+use Rattle.der_core_head.proofs.Written.{valid_in_range}
 use Rattle.x509_cert_builders.specs.Refusals.{IsUnsigned, IsWantOfMemory, HasNoEncoding, IsUnwritten}
 use Rattle.x509_cert_builders.specs.declared.build_error.Error.{Error as BuilderError}
 use Rattle.x509_cert_builders.specs.declared.build_error.Error.TheVariants as builders

@@ -7,8 +7,8 @@ use Rattle.const_oid.specs.Bound.{Bound}
 use Rattle.const_oid.specs.Comparing.{owned_eq}
 use Rattle.const_oid.specs.Digits.{digits, digits_within, marked}
 use Rattle.const_oid.specs.IdentifierOctets.{identifier_octets, arc_octets}
-use Rattle.der_core_head.proofs.AllOctets.{whole_again}
-use Rattle.der_core_head.proofs.Fits.{fits_front, fits_rest, fits_contents}
+use Rattle.der_core_head.proofs.OneEncoding.{whole_again}
+use Rattle.der_core_head.proofs.HeadLaws.{fits_front, fits_rest, fits_contents}
 use Rattle.der_core_head.specs.Grammar.{plain_option}
 use Rattle.der_core_head.specs.Heads.{Fits, tlv}
 use Rattle.der_core_head.specs.Limits.{levels_max}

@@ -14,10 +14,9 @@ use Rattle.der_core_head.specs.Leaves.{boolean, integer}
 use Rattle.der_core_head.specs.Octets.{◌>>=◌}
 use Rattle.der_core_head.specs.Shapes.{Shape, Spells, IsValid, Value, leaf, octets_of, body_octets, optional, tagged, unless}
 use Rattle.der_core_head.specs.Tags.{tag_octets}
-use Rattle.der_core_head.proofs.AllOctets.{is_spelled, whole_again}
-use Rattle.der_core_head.proofs.Bytes.{IsBytes}
-use Rattle.der_core_head.proofs.LengthForms.{length-short}
-use Rattle.der_core_head.proofs.Results.{bind_ok, unless_ok, whole_ok}
+use Rattle.der_core_head.proofs.OneEncoding.{is_spelled, whole_again}
+use Rattle.der_core_head.proofs.Results.{IsBytes, bind_ok, unless_ok, whole_ok}
+use Rattle.der_core_head.proofs.HeadLaws.{length-short}
 use Rattle.x509_cert_policies.specs.Grammar.{basic_constraints_fields}
 use Rattle.cert_desk_rules.specs.Weighing.{basic_constraints, ca_octets, constraints, constraints_of, malformed, meaning_by, meaning_of}
 

@@ -8,8 +8,7 @@ use Rattle.std.proofs.lemmas.List.Splits.{slice_split_at, slice_split_none}
 use Rattle.der_core_head.specs.Octets.{IsOctets}
 use Rattle.der_core_head.specs.Shapes.{Shape, Value, IsValid, octets_of}
 use Rattle.der_core_head.specs.Spelling.{are_enough, is_apart}
-use Rattle.der_core_head.proofs.AllOctets.{whole_again}
-use Rattle.der_core_head.proofs.Below.{bytes_are, octets_below}
+use Rattle.der_core_head.proofs.OneEncoding.{whole_again, bytes_are, octets_below}
 use Rattle.der_core_head.proofs.BoundLaws.{both_all}
 use Rattle.hex.specs.Hex.{encode_lower}
 use Rattle.hex.proofs.HexLemmas.{decode_of-encode_lower}

@@ -17,13 +17,11 @@ use Rattle.der_core_head.specs.Tags.{IsTag, tag_octets, tag_at}
 use Rattle.der_core_head.specs.Heads.{length_octets, length_at, head_octets, tlv, Fits}
 use Rattle.der_core_head.proofs.Results.{ok_is}
 use Rattle.der_core_head.proofs.TagLaws.{tag_again}
-use Rattle.der_core_head.proofs.LengthForms.{length-short, length-long}
-use Rattle.der_core_head.proofs.HeadLaws.{length_again, split-tlv}
+use Rattle.der_core_head.proofs.HeadLaws.{length-short, length-long, length_again, split-tlv, fits_contents}
 use Rattle.der_core_head.specs.declared.error.Error.{Error}
 use Rattle.der_core_head.specs.declared.error.ErrorKind.{ErrorKind}
 use Rattle.der_core_head.specs.Shapes.{Content, ContentValue, tagged, contents, octets_of, IsValid, IsContent, leaf}
 use Rattle.der_core_head.specs.Writing.{size, size_content}
-use Rattle.der_core_head.proofs.Fits.{fits_contents}
 use Rattle.der_core_head.proofs.Written.{sized_content}
 use Rattle.der_core.proofs.Sizes.{content_only, tlv_over, longer}
 use Rattle.der_core_head.specs.Leaves.{Leaf, LeafValue, boolean, null, leaf_contents as octets_of_leaf}

@@ -10,7 +10,7 @@ use Rattle.der_core_head.specs.Tags.{IsTag, tag_octets}
 use Rattle.der_core_head.specs.Heads.{Fits, tlv}
 use Rattle.der_core_head.specs.Shapes.{Shape, Body, tagged, any, either, optional, defaulted, nothing, field, Value, BodyValue, octets_of, contents, body_octets, unless, IsValid, IsBody, begins}
 use Rattle.der_core_head.specs.Spelling.{is_apart, is_body_apart, is_element, is_clear, is_end, none_of, body_begins}
-use Rattle.der_core_head.proofs.Fits.{fits_contents}
+use Rattle.der_core_head.proofs.HeadLaws.{fits_contents}
 use Rattle.der_core_head.proofs.TagLaws.{tag_octets-some}
 use Rattle.der_core_head.proofs.Complete.{element_some, not_begins, end_empty}
 use Rattle.der_core.specs.Orders.{octets_cmp, encodings_cmp, bodies_cmp, StartsWith, next_cmp, Overflows}

@@ -10,7 +10,7 @@ use der_core_octets::Header;
 use std::cmp::Ordering;
 
 /// The octets of a tag (X.690 8.1.2): those of the array up to a place.
-#[tactic(auto, using(der_core_head::proofs::TagForms::tag_forms))]
+#[tactic(auto, using(der_core_head::proofs::TagLaws::tag_forms))]
 fn tag_octets_of(tag: Tag) -> ([u8; 6], usize)
     ensures octets { take result.1 result.0 ≡ tag_octets tag }
     ensures within { result.1 ≤ 6 }

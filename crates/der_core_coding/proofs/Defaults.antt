@@ -4,10 +4,10 @@ use Rattle.std.proofs.lemmas.Bool.{cases_lt, ltb-true}
 use Rattle.std.proofs.lemmas.Bool.Decides.{same_from_decides, Decides-eqb, Decides-like, nat_tests}
 use Rattle.std.proofs.lemmas.List.{append_assoc, append_cancel_left, append-nil}
 use Rattle.std.proofs.lemmas.Slice.Eq.{bytes_eq-Decides}
-use Rattle.der_core_head.proofs.Bytes.{IsBytes}
+use Rattle.der_core_head.proofs.Results.{IsBytes}
 use Rattle.der_core_head.proofs.IntegerLaws.{integer_of-octets, integer_octets-of}
-use Rattle.der_core_head.proofs.LengthForms.{length-short, length-long, number-1}
-use Rattle.der_core_head.proofs.TagForms.{tag-0, tag-1, tag-2, tag-3, tag-4, tag-5}
+use Rattle.der_core_head.proofs.HeadLaws.{length-short, length-long, number-1}
+use Rattle.der_core_head.proofs.TagLaws.{tag-0, tag-1, tag-2, tag-3, tag-4, tag-5}
 use Rattle.der_core_head.specs.declared.tag.Tag.{Tag}
 use Rattle.der_core_head.specs.Grammar.{read}
 use Rattle.der_core_head.specs.Heads.{tlv, head_octets, length_octets}

@@ -9,9 +9,8 @@ use Rattle.der_core_head.specs.Shapes.{Shape, Value, IsValid, octets_of}
 use Rattle.der_core_head.specs.Grammar.{read}
 use Rattle.der_core_head.specs.Reading.{Gives, IsRest}
 use Rattle.der_core_head.specs.Spelling.{is_apart, are_enough, is_element}
-use Rattle.der_core_head.proofs.Results.{unless_ok}
-use Rattle.der_core_head.proofs.Bytes.{IsBytes}
-use Rattle.der_core_head.proofs.Sound.{sound}
+use Rattle.der_core_head.proofs.Results.{unless_ok, IsBytes}
+use Rattle.der_core_head.proofs.OneEncoding.{sound}
 use Rattle.der_core_head.proofs.Complete.{complete_element}
 use Rattle.der_core_octets.specs.Fronts.{read_front}
 use Rattle.std.proofs.lemmas.Bool.{cases_lt}

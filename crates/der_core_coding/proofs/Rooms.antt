@@ -9,13 +9,11 @@ use Rattle.der_core_head.specs.Shapes.{Shape, Content, Value, ContentValue, octe
 use Rattle.der_core_head.specs.Reading.{GivesNow, Gives}
 use Rattle.der_core_head.specs.Writing.{Out, put, write, write_content, size, FailsTaking, Writes}
 use Rattle.der_core_head.proofs.Results.{ok_is, bind_ok, unless_ok}
-use Rattle.der_core_head.proofs.OkOctets.{writes_octets, writes_contents, writes_fitting}
-use Rattle.der_core_head.proofs.Written.{put_some-put, put_written, put_content, out, put-append}
+use Rattle.der_core_head.proofs.Written.{writes_octets, writes_contents, writes_fitting, put_some-put, put_written, put_content, out, put-append, written_valid, content_valid}
 use Rattle.der_core_octets.specs.Outputs.{blank, finished, filled, appended}
 use Rattle.std.specs.Prelude.{[]}
 use Rattle.der_core_head.specs.declared.length.Length.{Length}
 use Rattle.der_core_head.specs.Ranges.{IsInRange, IsContentInRange}
-use Rattle.der_core_head.proofs.WrittenValid.{written_valid, content_valid}
 
 -- octets that there is room for
 put_blank : (b : List ℕ) (room : ℕ) → length b ≤ room → put b (blank room) ≡ Ok (record { written = b; room = Some (room - length b); failed = false })

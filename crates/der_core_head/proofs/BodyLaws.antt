@@ -10,12 +10,10 @@ use Rattle.der_core_head.specs.Octets.{◌>>=◌}
 use Rattle.der_core_head.specs.Tags.{tag_octets, universal_tag, tag_at}
 use Rattle.der_core_head.specs.Heads.{Head, Fits, length_octets, length_at, head_at}
 use Rattle.der_core_head.specs.Bodies.{SpellsTag, is_constructed_at, IsDefinite, IsIndefinite, IsIndefiniteBody, SpellsLength, SpellsHead, tag_ber_at, Mark, length_ber_at, mark_at, Piece, ending, opening, encoding, end_at, content_at, piece_at, levels_after, closed_at, body_len_at, len_at, head_ber_at}
-use Rattle.der_core_head.proofs.Results.{ok_is, bind_ok, if_ok, unless_ok, either_ok}
-use Rattle.der_core_head.proofs.Bytes.{IsBytes, bytes_rest}
-use Rattle.der_core_head.proofs.Below.{bytes_are}
+use Rattle.der_core_head.proofs.Results.{ok_is, bind_ok, if_ok, unless_ok, either_ok, IsBytes, bytes_rest}
+use Rattle.der_core_head.proofs.OneEncoding.{bytes_are}
 use Rattle.der_core_head.proofs.TagLaws.{tag_again, tag_sound}
-use Rattle.der_core_head.proofs.LengthForms.{length_at-none, length_at-indefinite}
-use Rattle.der_core_head.proofs.HeadLaws.{length_again, length_sound}
+use Rattle.der_core_head.proofs.HeadLaws.{length_at-none, length_at-indefinite, length_again, length_sound}
 use Rattle.der_core_head.specs.Limits.{IsLength, length_max}
 
 -- Tags

@@ -1,11 +1,16 @@
--- What results that are passed on tell of their parts.
-use Rattle.std.proofs.Common.{◌≡◌, ◌≢◌, ℕ, Bool, true, false, cond, List, [], ◌∷◌, Result, Ok, Err, refl, ◌⊎◌, inl, inr, IfErr}
+-- Cases of results, octets, orders and readings of so many octets.
+use Rattle.std.proofs.Common.{◌≡◌, ◌≢◌, ℕ, Bool, true, false, cond, List, [], ◌∷◌, Result, Ok, Err, refl, ◌⊎◌, inl, inr, IfErr, ◌+◌, ◌<◌, ◌++◌, length, get_or, take, drop, ap, subst, ◌∙◌, arith, ◌≤◌, le-ltb, lt-ltb}
 use Rattle.der_core_head.specs.declared.error.Error.{Error}
 use Rattle.der_core_head.specs.declared.error.ErrorKind.{ErrorKind}
 use Rattle.der_core_head.specs.declared.error.ErrorKind.TheVariants as kinds
-use Rattle.der_core_head.specs.Octets.{◌>>=◌}
+use Rattle.der_core_head.specs.Octets.{◌>>=◌, IsOctets, Readings}
 use Rattle.der_core_head.specs.Reading.{Gives}
-use Rattle.der_core_head.specs.Grammar.{whole}
+use Rattle.der_core_head.specs.Grammar.{whole, follows, slice_at, value_at}
+use Rattle.std.proofs.lemmas.Bool.Decides.{nat_tests}
+use Rattle.std.proofs.lemmas.List.{drop_at, length-take, get_or-take, get_or-drop, get_or_past}
+use Rattle.der_core_head.specs.Shapes.{Step, above, not_below, Follows}
+
+-- What results that are passed on tell of their parts.
 
 abbrev pub fine : {A : Type 0} → A → Result A ErrorKind
 fine x = Ok x
@@ -44,3 +49,54 @@ pub memory_alone : {X P : Type 0} (view : X → P) (given : P → Type 0) (r : R
     → IfErr r (λ e. e.kind ≢ kinds.OutOfMemory → (v : P) → given v → ⊥)
 memory_alone view given (Ok x) h = tt
 memory_alone view given (Err e) h = λ n v s. let wrong = h v s n in absurd cc
+
+-- Lists of octets, and their parts.
+
+abbrev pub IsBytes : List ℕ → Type 0
+IsBytes w = (i : ℕ) → get_or w i 0 < 256
+
+pub bytes_drop : (n : ℕ) (w : List ℕ) → IsBytes w → IsBytes (drop n w)
+bytes_drop n w h i = rw get_or-drop (h (n + i))
+
+pub bytes_take : (n : ℕ) (w : List ℕ) → IsBytes w → IsBytes (take n w)
+bytes_take n w h i = grind (arith, nat_tests, get_or-take n w i 0, get_or_past (take n w) i 0, length-take n w, h i)
+
+pub bytes_rest : (u r w : List ℕ) → w ≡ u ++ r → IsBytes w → IsBytes r
+bytes_rest u r w e h = subst IsBytes (ap (drop (length u)) e ∙ drop_at u r (length u) refl) (bytes_drop (length u) w h)
+
+pub bytes_tail : (b : ℕ) (w : List ℕ) → IsBytes (b ∷ w) → IsBytes w
+bytes_tail b w h = bytes_rest (b ∷ []) w (b ∷ w) refl h
+
+-- the two ways to say it
+pub octets_are : (w : List ℕ) → IsBytes w → IsOctets w
+octets_are [] h = tt
+octets_are (b ∷ w) h = (h 0, octets_are w (bytes_tail b w h))
+
+-- Octets in order, and what tells that they are.
+
+pub follows_ok : (how : Step) (a b : List ℕ) → Follows how a b → follows how a b ≡ Ok tt
+follows_ok above a b h = rw h refl
+follows_ok not_below a b h = grind arith
+
+-- what follows is in order
+pub ok_follows : (how : Step) (a b : List ℕ) (y : Unit {0}) → follows how a b ≡ Ok y → Follows how a b
+ok_follows above a b y e = grind arith
+ok_follows not_below a b y e = grind arith
+
+-- Reading of so many octets, by cases of how many are there.
+
+pub slice_short : (n : ℕ) (w : List ℕ) → length w < n → slice_at n w ≡ Err kinds.Incomplete
+unfolding slice_at
+slice_short n w h = rw (lt-ltb (length w) n h) refl
+
+pub slice_ok : (n : ℕ) (w : List ℕ) → n ≤ length w → slice_at n w ≡ Ok (take n w, drop n w)
+unfolding slice_at
+slice_ok n w h = rw (le-ltb (length w) n h) refl
+
+pub value_short : {P : Type 0} (f : Readings P) (n : ℕ) (w : List ℕ) → length w < n → value_at f n w ≡ Err kinds.Incomplete
+unfolding value_at
+value_short f n w h = rw (lt-ltb (length w) n h) refl
+
+pub value_enough : {P : Type 0} (f : Readings P) (n : ℕ) (w : List ℕ) → n ≤ length w → value_at f n w ≡ (f (take n w) >>= whole >>= λ x. Ok (x.0, drop n w))
+unfolding value_at
+value_enough f n w h = rw (le-ltb (length w) n h) refl

@@ -1,17 +1,20 @@
--- A tag is read from its octets, and what is read has these octets (X.690 8.1.2).
+-- Tags: their octets, their numbers, when two are one.
 use Rattle.std.proofs.lemmas.Bool.Decides.{nat_tests}
-use Rattle.std.proofs.Common.{◌≡◌, ℕ, ◌+◌, ◌*◌, ◌/◌, ◌%◌, ◌<◌, ◌≤◌, Bool, true, false, cond, ltb, eqb, List, [], ◌∷◌, ◌++◌, length, get_or, Option, Some, None, Ok, sym, refl, ap, subst, ◌∙◌, arith, ◌⊎◌, inl, inr, find}
+use Rattle.std.proofs.Common.{◌≡◌, ℕ, ◌+◌, ◌*◌, ◌/◌, ◌%◌, ◌<◌, ◌≤◌, Bool, true, false, cond, ltb, eqb, List, [], ◌∷◌, ◌++◌, length, get_or, Option, Some, None, Ok, sym, refl, ap, subst, ◌∙◌, arith, ◌⊎◌, inl, inr, find, drop, Err, ◌≢◌}
 use Rattle.std.proofs.lemmas.Bool.{cases_lt, cases_eq, lt-ltb, le-ltb, eq-eqb, ne_eqb, eqb-true, and_parts, and_from}
 use Rattle.std.specs.Int.Digits.{number_from_digits_after, AllBelowBase}
 use Rattle.std.proofs.lemmas.Int.Digits.{number_after_ge}
 use Rattle.const_oid.specs.Digits.{digits, marked}
-use Rattle.const_oid.proofs.DigitLaws.{Digits, digits-Digits, first_of_digits-pos, digits-number_from_digits, marked_below}
+use Rattle.const_oid.proofs.DigitLaws.{Digits, digits-Digits, first_of_digits-pos, digits-number_from_digits, marked_below, digits-one, digits-more}
 use Rattle.der_core_head.specs.declared.tag.Tag.{Tag}
 use Rattle.der_core_head.specs.declared.tag.Tag.TheVariants as tags
 use Rattle.der_core_head.specs.Octets.{◌>>=◌, IsOctets}
 use Rattle.der_core_head.specs.Tags.{leading, low_bits, leading_octet, number_of, number_octets, tag_octets, IsTag, same_tag, universal_tags, universal_tag, class_tag, known_tag, tag_at, digits_at, number_at}
-use Rattle.der_core_head.proofs.Results.{fine, ok_is, bind_ok}
-use Rattle.der_core_head.proofs.Bytes.{IsBytes, bytes_tail}
+use Rattle.der_core_head.proofs.Results.{fine, ok_is, bind_ok, IsBytes, bytes_tail}
+use Rattle.std.proofs.lemmas.List.{drop_all, drop_more}
+use Rattle.der_core_head.specs.declared.error.ErrorKind.TheVariants as kinds
+
+-- A tag is read from its octets, and what is read has these octets (X.690 8.1.2).
 
 -- The parts of a leading octet
 
@@ -287,3 +290,94 @@ tag_octets-below (tags.Application c number) h = (leading-lt 1 c _ (omega arith)
 tag_octets-below (tags.ContextSpecific c number) h = (leading-lt 2 c _ (omega arith) (low-lt number.value), number_octets-below number.value)
 tag_octets-below (tags.Private c number) h = (leading-lt 3 c _ (omega arith) (low-lt number.value), number_octets-below number.value)
 tag_octets-below t h = (omega arith, tt)
+
+-- The forms of a tag, by the size of its number (X.690 8.1.2).
+
+digits-2 : (n : ℕ) → 128 ≤ n → n < 16384 → digits 128 n ≡ n / 128 ∷ n % 128 ∷ []
+digits-2 n l h = rw (digits-more 128 n (omega arith) l, digits-one 128 (n / 128) (omega arith)) refl
+
+digits-3 : (n : ℕ) → 16384 ≤ n → n < 2097152 → digits 128 n ≡ n / 16384 ∷ n / 128 % 128 ∷ n % 128 ∷ []
+digits-3 n l h =
+    let high : n / 128 / 128 ≡ n / 16384 = omega arith in
+    rw (digits-more 128 n (omega arith) (omega arith), digits-2 (n / 128) (omega arith) (omega arith), high) refl
+
+digits-4 : (n : ℕ) → 2097152 ≤ n → n < 268435456 → digits 128 n ≡ n / 2097152 ∷ n / 16384 % 128 ∷ n / 128 % 128 ∷ n % 128 ∷ []
+digits-4 n l h =
+    let high : n / 128 / 16384 ≡ n / 2097152 = omega arith in
+    let next : n / 128 / 128 ≡ n / 16384 = omega arith in
+    rw (digits-more 128 n (omega arith) (omega arith), digits-3 (n / 128) (omega arith) (omega arith), high, next) refl
+
+digits-5 : (n : ℕ) → 268435456 ≤ n → n < 4294967296 → digits 128 n ≡ n / 268435456 ∷ n / 2097152 % 128 ∷ n / 16384 % 128 ∷ n / 128 % 128 ∷ n % 128 ∷ []
+digits-5 n l h =
+    let high : n / 128 / 2097152 ≡ n / 268435456 = omega arith in
+    let third : n / 128 / 16384 ≡ n / 2097152 = omega arith in
+    let next : n / 128 / 128 ≡ n / 16384 = omega arith in
+    rw (digits-more 128 n (omega arith) (omega arith), digits-4 (n / 128) (omega arith) (omega arith), high, third, next) refl
+
+pub tag-0 : (t : Tag) → number_of t < 31 → tag_octets t ≡ leading_octet t ∷ []
+unfolding tag_octets
+tag-0 t l = rw (lt-ltb (number_of t) 31 l) refl
+
+long : (t : Tag) (ds : List ℕ) → 31 ≤ number_of t → digits 128 (number_of t) ≡ ds → tag_octets t ≡ leading_octet t ∷ marked ds
+unfolding tag_octets
+long t ds l e = rw (le-ltb (number_of t) 31 l, e) refl
+
+pub tag-1 : (t : Tag) → 31 ≤ number_of t → number_of t < 128 → tag_octets t ≡ leading_octet t ∷ number_of t ∷ []
+unfolding marked
+tag-1 t l h = long t _ l (digits-one 128 (number_of t) h)
+
+pub tag-2 : (t : Tag) → 128 ≤ number_of t → number_of t < 16384 → tag_octets t ≡ leading_octet t ∷ (128 + number_of t / 128) ∷ number_of t % 128 ∷ []
+unfolding marked
+tag-2 t l h = long t _ (omega arith) (digits-2 (number_of t) l h)
+
+pub tag-3 : (t : Tag) → 16384 ≤ number_of t → number_of t < 2097152
+    → tag_octets t ≡ leading_octet t ∷ (128 + number_of t / 16384) ∷ (128 + number_of t / 128 % 128) ∷ number_of t % 128 ∷ []
+unfolding marked
+tag-3 t l h = long t _ (omega arith) (digits-3 (number_of t) l h)
+
+pub tag-4 : (t : Tag) → 2097152 ≤ number_of t → number_of t < 268435456
+    → tag_octets t ≡ leading_octet t ∷ (128 + number_of t / 2097152) ∷ (128 + number_of t / 16384 % 128) ∷ (128 + number_of t / 128 % 128) ∷ number_of t % 128 ∷ []
+unfolding marked
+tag-4 t l h = long t _ (omega arith) (digits-4 (number_of t) l h)
+
+pub tag-5 : (t : Tag) → 268435456 ≤ number_of t → number_of t < 4294967296
+    → tag_octets t ≡ leading_octet t ∷ (128 + number_of t / 268435456) ∷ (128 + number_of t / 2097152 % 128) ∷ (128 + number_of t / 16384 % 128) ∷ (128 + number_of t / 128 % 128) ∷ number_of t % 128 ∷ []
+unfolding marked
+tag-5 t l h = long t _ (omega arith) (digits-5 (number_of t) l h)
+
+pub ruleset tag_forms = (tag-0, tag-1, tag-2, tag-3, tag-4, tag-5)
+
+-- The number of a tag, octet by octet.
+
+abbrev next : ℕ → ℕ → ℕ
+next n d = 128 * n + d % 128
+
+pub number-past : (n i : ℕ) (w : List ℕ) → i < length w → 33554432 ≤ n → digits_at n (drop i w) ≡ Err kinds.TagNumberInvalid
+unfolding digits_at
+number-past n i w h large = rw (drop_more w i 0 h, le-ltb (next n (get_or w i 0)) 4294967296 (omega arith)) refl
+
+pub number-more : (n i : ℕ) (w : List ℕ) → i < length w → n < 33554432 → 128 ≤ get_or w i 0 → digits_at n (drop i w) ≡ digits_at (next n (get_or w i 0)) (drop (i + 1) w)
+unfolding digits_at
+number-more n i w h small d = rw (drop_more w i 0 h, lt-ltb (next n (get_or w i 0)) 4294967296 (omega arith), le-ltb (get_or w i 0) 128 d) refl
+
+pub number-last : (n i : ℕ) (w : List ℕ) → i < length w → n < 33554432 → get_or w i 0 < 128 → digits_at n (drop i w) ≡ Ok (next n (get_or w i 0), drop (i + 1) w)
+unfolding digits_at
+number-last n i w h small d =
+    let same : 128 * n + get_or w i 0 ≡ next n (get_or w i 0) = omega arith in
+    rw (drop_more w i 0 h, lt-ltb (next n (get_or w i 0)) 4294967296 (omega arith), lt-ltb (get_or w i 0) 128 d, same) refl
+
+pub number-none : (n i : ℕ) (w : List ℕ) → length w ≤ i → digits_at n (drop i w) ≡ Err kinds.Incomplete
+unfolding digits_at
+number-none n i w h = rw (drop_all i w h) refl
+
+pub ruleset digit_steps = (number-past, number-more, number-last, number-none)
+
+-- Tags with the same octets are the same tag.
+
+pub same : (a b : Tag) → same_tag a b ≡ true → a ≡ b
+same = same_tag-eq
+
+pub other : (a b : Tag) → same_tag a b ≡ false → a ≢ b
+other a b differ e = absurd (grind (arith, same_tag-refl a))
+
+pub ruleset tag_equality = (same, other)

@@ -55,7 +55,7 @@ pub fn spelled_is_read()
 {}
 
 /// What is read with so many levels is read alike with more.
-#[tactic(auto, using(crate::proofs::MoreLevels::more_read))]
+#[tactic(auto, using(crate::proofs::Complete::more_read))]
 pub fn more_levels_read_alike()
     ensures { (s : Shape) (room more : ℕ) (w : List ℕ) (v : Value s) (r : List ℕ) → room ≤ more
         → read s room w ≡ Ok (v, r) → read s more w ≡ Ok (v, r) }
@@ -65,7 +65,7 @@ pub fn more_levels_read_alike()
 /// a length can count; and the value has an encoding, where its parts are in their ranges.
 ///
 /// So a value that is too long is refused, and one with a set that doesn't rise (X.690 11.6).
-#[tactic(auto, using(crate::proofs::WrittenValid::as_written))]
+#[tactic(auto, using(crate::proofs::Written::as_written))]
 pub fn written_is_spelled()
     ensures octets { (s : Shape) (v : Value s) (o z : Out) → write s v o ≡ Ok z
         → (z.written ≡ o.written ++ octets_of s v) × Fits (octets_of s v) }
@@ -83,7 +83,7 @@ pub fn valid_is_written()
 
 /// What is written is read: from octets that were written for a value whose parts are in their
 /// ranges, whatever follows them, reading gives the value and what follows.
-#[tactic(auto, using(crate::proofs::WrittenValid::as_written))]
+#[tactic(auto, using(crate::proofs::Written::as_written))]
 pub fn written_is_read()
     ensures { (s : Shape) (room : ℕ) (v : Value s) (o z : Out) (r : List ℕ) → is_element s ≡ true
         → is_apart s ≡ true → are_enough s room ≡ true
@@ -102,7 +102,7 @@ pub fn headers_are_spelled()
 
 /// Further octets change nothing: the header that stands at the front of octets stands there before
 /// any more of them, and the fault in its place stays the fault, unless it was that octets ran out.
-#[tactic(auto, using(crate::proofs::LongerLaws::headers_stay))]
+#[tactic(auto, using(crate::proofs::LeafLaws::headers_stay))]
 pub fn headers_stay()
     ensures read { (h : Head) (r w more : List ℕ) → head_at w ≡ Ok (h, r)
         → head_at (w ++ more) ≡ Ok (h, r ++ more) }

@@ -76,7 +76,7 @@ impl Length {
 }
 
 /// The number of octets of a tag.
-#[tactic(auto, using(crate::proofs::TagForms::tag_forms))]
+#[tactic(auto, using(crate::proofs::TagLaws::tag_forms))]
 fn tag_len(tag: Tag) -> u32
     ensures octets { result ≡ length (tag_octets tag) }
     ensures few { result ≤ 6 }
@@ -92,7 +92,7 @@ fn tag_len(tag: Tag) -> u32
 }
 
 /// The number of octets of a length.
-#[tactic(auto, using(crate::proofs::LengthForms::length_forms))]
+#[tactic(auto, using(crate::proofs::HeadLaws::length_forms))]
 fn length_len(len: Length) -> u32
     ensures octets { result ≡ length (length_octets len.value) }
     ensures few { result ≤ 5 }

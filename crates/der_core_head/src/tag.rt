@@ -166,7 +166,7 @@ impl Tag {
     ///
     /// # Errors
     /// `TagUnexpected` for any other.
-    #[tactic(auto, using(crate::proofs::TagEquality::tag_equality))]
+    #[tactic(auto, using(crate::proofs::TagLaws::tag_equality))]
     pub fn assert_eq(self, expected: Tag) -> Result<Tag, Error>
         ensures ok { IfOk result (λ t. (t ≡ self) × (self ≡ expected)) }
         ensures err { IfErr result (λ e. (self ≢ expected) × (e.kind ≡ ErrorKind.TagUnexpected)) }

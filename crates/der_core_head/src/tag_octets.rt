@@ -104,7 +104,7 @@ pub fn short_tag_at(octets: &[u8]) -> Option<Tag>
 ///
 /// # Errors
 /// `Incomplete` where octets run out, `TagNumberInvalid` where the number passes 32 bits.
-#[tactic(auto, using(crate::proofs::TagNumbers::digit_steps))]
+#[tactic(auto, using(crate::proofs::TagLaws::digit_steps))]
 fn digits_of(octets: &[u8]) -> Result<(u32, usize), Error>
     ensures { ReadsFront (λ n. n) octets.now result (digits_at 0) }
 {
@@ -172,7 +172,7 @@ fn read_tag(octets: &[u8]) -> Result<(Tag, usize), Error>
 /// # Errors
 /// `Incomplete` where they run out, `TagUnknown` for a tag of the universal class that isn't read,
 /// `TagNumberInvalid` for a number from 31 on that isn't in its shortest form or passes 32 bits.
-#[tactic(auto, using(crate::proofs::Fronts::tag_fronts))]
+#[tactic(auto, using(crate::proofs::HeadLaws::tag_fronts))]
 pub fn tag_of(octets: &[u8]) -> Result<(Tag, usize), Error>
     // What is read is spelled so.
     ensures spelled { IfOk result (λ x.

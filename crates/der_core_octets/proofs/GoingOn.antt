@@ -13,8 +13,7 @@ use Rattle.der_core_octets.specs.Headers.{wanted_at}
 use Rattle.der_core_head.specs.declared.error.ErrorKind.TheVariants as kinds
 use Rattle.der_core_head.specs.Heads.{Head}
 use Rattle.der_core_head.specs.Tags.{leading_octet, number_of, same_tag, tag_octets, tag_at}
-use Rattle.der_core_head.proofs.TagForms.{tag-0}
-use Rattle.der_core_head.proofs.TagLaws.{tag_again, same_tag-refl}
+use Rattle.der_core_head.proofs.TagLaws.{tag-0, tag_again, same_tag-refl}
 use Rattle.der_core_head.specs.Fronts.{alone}
 
 -- a rest of a rest is a rest

@@ -9,7 +9,7 @@ use Rattle.der_core_head.specs.Octets.{◌>>=◌}
 use Rattle.der_core_head.specs.Heads.{Head, head_at}
 use Rattle.der_core_octets.specs.Headers.{wanted_at}
 use Rattle.der_core_octets.specs.Parts.{part_at, are_closed, joined, join_by, parts_at}
-use Rattle.der_core_head.proofs.SliceCases.{slice_short, slice_ok}
+use Rattle.der_core_head.proofs.Results.{slice_short, slice_ok}
 
 pub part_short : (t : Tag) (w r : List ℕ) (h : Head) → wanted_at t head_at w ≡ Ok (h, r) → length r < h.len → part_at t w ≡ Err kinds.Incomplete
 unfolding part_at

@@ -4,7 +4,7 @@ use Rattle.der_core_head.specs.declared.error.ErrorKind.{ErrorKind}
 use Rattle.der_core_head.specs.declared.error.ErrorKind.TheVariants as kinds
 use Rattle.der_core_head.specs.Octets.{◌>>=◌}
 use Rattle.der_core_head.specs.Bodies.{Piece, ending, opening, encoding, tag_ber_at, mark_at, piece_at, levels_after, closed_at, body_len_at}
-use Rattle.der_core_head.proofs.Bytes.{IsBytes, bytes_drop}
+use Rattle.der_core_head.proofs.Results.{IsBytes, bytes_drop}
 use Rattle.der_core_head.proofs.BodyLaws.{closed-step, piece_shorter}
 
 pub mark-none : (w : List ℕ) → length w < 1 → mark_at w ≡ Err kinds.Incomplete

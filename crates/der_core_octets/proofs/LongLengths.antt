@@ -7,14 +7,13 @@ use Rattle.der_core_head.specs.declared.error.ErrorKind.TheVariants as kinds
 use Rattle.der_core_head.specs.declared.tag.Tag.{Tag}
 use Rattle.der_core_head.specs.Tags.{tag_at, IsTag}
 use Rattle.der_core_head.specs.Heads.{shortest, length_at, head_at, length_octets, head_octets}
-use Rattle.der_core_head.proofs.LengthForms.{length_at-indefinite, length_at-large, length_at-cut, length_at-1, length_at-2, length_at-3, length_at-4}
+use Rattle.der_core_head.proofs.HeadLaws.{length_at-indefinite, length_at-large, length_at-cut, length_at-1, length_at-2, length_at-3, length_at-4, length_again, length_sound, head_sound}
 use Rattle.der_core_head.specs.declared.error.Error.{Error}
 use Rattle.der_core_head.specs.declared.length.Length.{Length}
 use Rattle.der_core_head.specs.declared.tag.Tag.TheVariants as tags
 use Rattle.der_core_head.specs.Limits.{IsLength}
 use Rattle.der_core_head.specs.Fronts.{ReadsFront}
-use Rattle.der_core_head.proofs.Bytes.{IsBytes}
-use Rattle.der_core_head.proofs.HeadLaws.{length_again, length_sound, head_sound}
+use Rattle.der_core_head.proofs.Results.{IsBytes}
 use Rattle.der_core_octets.specs.LoneLengths.{lone, lone_fault, lone_length_at}
 use Rattle.std.specs.Prelude.{}
 use Rattle.der_core_octets.specs.declared.header.Header.{Header}

@@ -5,7 +5,7 @@ use Rattle.der_core_head.specs.declared.error.Error.{Error}
 use Rattle.der_core_head.specs.declared.error.ErrorKind.TheVariants as kinds
 use Rattle.der_core_head.specs.Heads.{Head}
 use Rattle.der_core_head.proofs.Results.{ok_is}
-use Rattle.der_core_head.proofs.LongerLaws.{read_stays, fault_stays}
+use Rattle.der_core_head.proofs.LeafLaws.{read_stays, fault_stays}
 use Rattle.der_core_octets.specs.declared.header.Header.{Header}
 use Rattle.der_core_octets.specs.Headers.{AreAlike, Scans, head_of}
 

@@ -10,7 +10,7 @@ use Rattle.der_core_head.specs.declared.tag.Tag.{Tag}
 use Rattle.der_core_head.specs.Octets.{◌>>=◌}
 use Rattle.der_core_head.specs.Grammar.{whole, value_at, read_content_by, read_body_by}
 use Rattle.der_core_head.specs.Reading.{State, IsRest, Kept, Fails, Reads, Refuses, Closes, entered, restored, broken, read_content_at, read_body_at}
-use Rattle.der_core_head.proofs.SliceCases.{value_short, value_enough}
+use Rattle.der_core_head.proofs.Results.{value_short, value_enough}
 use Rattle.der_core_octets.proofs.ReadCases.{or_false, or_true}
 use Rattle.der_core_octets.proofs.GoingOn.{rest_more}
 

@@ -16,7 +16,7 @@ use der_core_head::{Error, Length, Tag, leading_octet_of, number_of};
 /// Those of the writer.
 // Inlined, so that a known tag is one octet and nothing that is answered is moved.
 #[inline(always)]
-#[tactic(auto, using(der_core_head::proofs::TagForms::tag_forms))]
+#[tactic(auto, using(der_core_head::proofs::TagLaws::tag_forms))]
 pub fn encode_tag<W: Writer>(writer: &mut W, tag: Tag) -> Result<(), Error>
     ensures exact { Writes W.takes_memory (W.out writer.old) (W.out writer.new) result
         (put (tag_octets tag)) }
@@ -53,7 +53,7 @@ pub fn encode_tag<W: Writer>(writer: &mut W, tag: Tag) -> Result<(), Error>
 /// Those of the writer.
 // Inlined, so that a known tag is one octet and nothing that is answered is moved.
 #[inline(always)]
-#[tactic(auto, using(der_core_head::proofs::LengthForms::length_forms))]
+#[tactic(auto, using(der_core_head::proofs::HeadLaws::length_forms))]
 pub fn encode_length<W: Writer>(writer: &mut W, len: Length) -> Result<(), Error>
     ensures exact { Writes W.takes_memory (W.out writer.old) (W.out writer.new) result
         (put (length_octets len.value)) }
@@ -84,7 +84,7 @@ pub fn encode_length<W: Writer>(writer: &mut W, len: Length) -> Result<(), Error
 /// # Errors
 /// Those of the writer.
 #[inline(always)]
-#[tactic(auto, using(der_core_head::proofs::TagForms::tag_forms, der_core_head::proofs::LengthForms::length_forms))]
+#[tactic(auto, using(der_core_head::proofs::TagLaws::tag_forms, der_core_head::proofs::HeadLaws::length_forms))]
 fn encode_short_header<W: Writer>(writer: &mut W, tag: Tag, len: Length) -> Result<(), Error>
     requires tag { number_of tag < 31 }
     requires length { len.value < 128 }

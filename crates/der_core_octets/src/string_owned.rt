@@ -107,7 +107,7 @@ impl StringOwned {
     }
 
     /// The octets.
-    #[tactic(auto, using(der_core_head::proofs::Utf8Reads::utf8_reads))]
+    #[tactic(auto, using(der_core_head::proofs::TextLaws::utf8_reads))]
     pub fn as_bytes(&self) -> &[u8]
         ensures octets { result.now ≡ self.now }
         ensures utf8 { is_utf8 result.now ≡ true }

@@ -37,7 +37,7 @@ impl<'a> StringRef<'a> {
     ///
     /// # Errors
     /// `Utf8` where they are no UTF-8, then `Overflow` for 2^32 octets or more.
-    #[tactic(auto, using(der_core_head::proofs::Utf8Reads::utf8_reads))]
+    #[tactic(auto, using(der_core_head::proofs::TextLaws::utf8_reads))]
     pub fn from_bytes(bytes: &'a [u8]) -> Result<StringRef<'a>, Error>
         ensures { GivesNow held_text result (counted_text bytes.now) }
     {
@@ -54,7 +54,7 @@ impl<'a> StringRef<'a> {
     }
 
     /// The octets.
-    #[tactic(auto, using(der_core_head::proofs::Utf8Reads::utf8_reads))]
+    #[tactic(auto, using(der_core_head::proofs::TextLaws::utf8_reads))]
     pub fn as_bytes(&self) -> &'a [u8]
         ensures octets { result.now ≡ held_text self.now }
         ensures utf8 { is_utf8 result.now ≡ true }

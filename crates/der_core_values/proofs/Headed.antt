@@ -19,8 +19,7 @@ use Rattle.der_core_head.specs.Lengths.{counted}
 use Rattle.der_core_head.specs.Leaves.{Leaf, LeafValue, leaf_read, octets}
 use Rattle.der_core_head.specs.declared.encoding_rules.EncodingRules.{EncodingRules}
 use Rattle.der_core_values.specs.Memory.{GivesTaking}
-use Rattle.der_core_head.proofs.Results.{ok_is}
-use Rattle.der_core_head.proofs.SliceCases.{slice_ok, slice_short, value_enough, value_short}
+use Rattle.der_core_head.proofs.Results.{ok_is, slice_ok, slice_short, value_enough, value_short}
 
 module _ (c : Content) (wanted tag : Tag) (same : wanted ≡ tag) (old : State) where
   abbrev value : Readings (ContentValue c)

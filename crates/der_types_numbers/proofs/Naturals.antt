@@ -7,7 +7,7 @@ use Rattle.const_oid.specs.Digits.{digits}
 use Rattle.der_core_head.specs.declared.error.ErrorKind.TheVariants as kinds
 use Rattle.der_core_head.specs.declared.tag.Tag.{Tag}
 use Rattle.der_core_head.specs.Integers.{positive, natural, integer_octets, integer_of, integer_read, is_redundant, shortest_integer}
-use Rattle.der_core_head.proofs.Bytes.{IsBytes, octets_are}
+use Rattle.der_core_head.proofs.Results.{IsBytes, octets_are}
 use Rattle.der_core_head.proofs.IntegerLaws.{integer_octets-of, integer_octets-some, integer_octets-not_redundant, integer_of-octets}
 use Rattle.der_types_numbers.specs.Numbers.{is_first_bit_set, has_leading_zero}
 use Rattle.der_types_numbers.specs.NumberOrders.{number-content}

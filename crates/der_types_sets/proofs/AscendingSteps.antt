@@ -10,11 +10,9 @@ use Rattle.der_core_head.specs.Shapes.{Step, above, not_below, nested, ascending
 use Rattle.der_core_head.specs.Spelling.{is_apart, is_element, are_enough}
 use Rattle.der_core_head.specs.Grammar.{value_at, read, read_many, read_body, read_content_by, read_in_order, follows_last, plain_list}
 use Rattle.der_core_head.specs.Reading.{State, IsDer, IsRest, read_at}
-use Rattle.der_core_head.proofs.Results.{fine, ok_is, bind_ok}
-use Rattle.der_core_head.proofs.Bytes.{IsBytes}
-use Rattle.der_core_head.proofs.Sound.{OrderedFrom, order_on, from_none}
-use Rattle.der_core_head.proofs.Complete.{complete_body}
-use Rattle.der_core_head.proofs.MoreLevels.{more_body}
+use Rattle.der_core_head.proofs.Results.{fine, ok_is, bind_ok, IsBytes}
+use Rattle.der_core_head.proofs.OneEncoding.{OrderedFrom, order_on, from_none}
+use Rattle.der_core_head.proofs.Complete.{complete_body, more_body}
 use Rattle.der_core_values.specs.Both.{both_true}
 use Rattle.der_core_values.proofs.InTurn.{InTurn, all_in_turn, none_in_turn, on_in_turn, done_in_turn}
 use Rattle.der_types_sets.specs.Sets.{Ascends}

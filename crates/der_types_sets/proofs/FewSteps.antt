@@ -10,7 +10,7 @@ use Rattle.der_core_head.specs.Shapes.{Shape, tagged, nested, many, few, Value, 
 use Rattle.der_core_head.specs.Spelling.{is_apart, is_element, are_content_enough}
 use Rattle.der_core_head.specs.Grammar.{value_at, read_content, plain_list}
 use Rattle.der_core_head.specs.Reading.{State, IsDer, read_content_at}
-use Rattle.der_core_head.proofs.Bytes.{IsBytes, bytes_take}
+use Rattle.der_core_head.proofs.Results.{IsBytes, bytes_take}
 use Rattle.der_core_head.proofs.Complete.{complete_content}
 use Rattle.der_core_values.specs.Both.{both_true}
 use Rattle.der_types_sets.specs.Sets.{Loose, SpellsLoosely}

@@ -3,7 +3,7 @@ use Rattle.std.specs.List.{AllByRecursion}
 use Rattle.der_core_head.specs.Shapes.{Shape, Value}
 use Rattle.der_core_head.specs.Grammar.{plain_list}
 use Rattle.der_core_head.specs.Ranges.{IsInRange}
-use Rattle.der_core_head.proofs.WrittenValid.{list_in_range}
+use Rattle.der_core_head.proofs.Written.{list_in_range}
 use Rattle.der_core_head.proofs.BoundLaws.{both_all}
 use Rattle.der_types_sets.specs.Lent.{Lent, IsLent, members_spelled, members_lent}
 

@@ -9,10 +9,9 @@ use Rattle.der_core_head.specs.declared.error.ErrorKind.TheVariants as kinds
 use Rattle.der_core_head.specs.Shapes.{Shape, Value, octets_of}
 use Rattle.der_core_head.specs.Spelling.{is_apart}
 use Rattle.der_core_head.specs.Grammar.{read, plain_list}
-use Rattle.der_core_head.proofs.Bytes.{IsBytes}
-use Rattle.der_core_head.proofs.Fits.{fits_rest}
-use Rattle.der_core_head.proofs.Sound.{sound}
-use Rattle.der_core_head.proofs.Results.{only_memory}
+use Rattle.der_core_head.proofs.Results.{IsBytes, only_memory}
+use Rattle.der_core_head.proofs.HeadLaws.{fits_rest}
+use Rattle.der_core_head.proofs.OneEncoding.{sound}
 use Rattle.der_core_octets.specs.Fronts.{read_front}
 use Rattle.der_types_sets.specs.Ascending.{first_of, values_at}
 use Rattle.der_types_sets.specs.Lent.{Lent, IsSpelled, members_lent, YieldsMember}

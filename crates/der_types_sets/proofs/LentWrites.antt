@@ -13,8 +13,7 @@ use Rattle.der_core_head.specs.Shapes.{not_below, Shape, many, nested, Value, Is
 use Rattle.der_core_head.specs.Grammar.{read, plain_list}
 use Rattle.der_core_head.specs.Reading.{GivesNow}
 use Rattle.der_core_head.specs.Writing.{Out, Writes, put, size_body, write_many, all_follow, write_in_order, write}
-use Rattle.der_core_head.proofs.Written.{sized_body, ordered_written, put_some, put_body}
-use Rattle.der_core_head.proofs.WrittenValid.{list_valid}
+use Rattle.der_core_head.proofs.Written.{sized_body, ordered_written, put_some, put_body, list_valid}
 use Rattle.der_types_sets.specs.Sets.{Ascends}
 use Rattle.der_types_sets.specs.Ascending.{JoinsAscending, values_at}
 use Rattle.der_types_sets.specs.Lent.{Lent, IsLent, members_spelled, members_lent}

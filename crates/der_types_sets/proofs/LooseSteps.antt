@@ -15,12 +15,10 @@ use Rattle.der_core_head.specs.Shapes.{Shape, Body, BodyValue, tagged, nested, m
 use Rattle.der_core_head.specs.Spelling.{is_apart, is_element, are_content_enough}
 use Rattle.der_core_head.specs.Grammar.{whole, value_at, read, read_many, read_content, read_content_by, read_body_by, plain_list}
 use Rattle.der_core_head.specs.Reading.{State, IsDer, IsBer, Fails, read_content_at}
-use Rattle.der_core_head.proofs.Results.{ok_is, bind_ok, whole_ok}
-use Rattle.der_core_head.proofs.Bytes.{IsBytes, bytes_take}
-use Rattle.der_core_head.proofs.Fits.{fits_front}
-use Rattle.der_core_head.proofs.Sound.{value_sound, many_sound, sound}
+use Rattle.der_core_head.proofs.Results.{ok_is, bind_ok, whole_ok, IsBytes, bytes_take}
+use Rattle.der_core_head.proofs.HeadLaws.{fits_front}
+use Rattle.der_core_head.proofs.OneEncoding.{value_sound, many_sound, sound, one_body}
 use Rattle.der_core_head.proofs.Complete.{complete_content}
-use Rattle.der_core_head.proofs.OneEncoding.{one_body}
 use Rattle.der_core_values.specs.Both.{both_true}
 use Rattle.der_core.specs.Placed.{AllValid}
 use Rattle.der_types_sets.specs.Sets.{Ascends, Loose, SpellsLoosely, TooLong}

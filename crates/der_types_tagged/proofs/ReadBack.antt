@@ -8,8 +8,7 @@ use Rattle.der_core_head.specs.Heads.{Head, Fits, head_at, head_octets, tlv}
 use Rattle.der_core_head.specs.Shapes.{Shape, Content, Value, ContentValue, tagged, optional, nested, only, contents, octets_of, IsValid}
 use Rattle.der_core_head.specs.Spelling.{is_apart, is_element, are_enough}
 use Rattle.der_core_head.specs.Grammar.{read, peek_at, opt_at}
-use Rattle.der_core_head.proofs.HeadLaws.{head_again}
-use Rattle.der_core_head.proofs.Fits.{fits_contents}
+use Rattle.der_core_head.proofs.HeadLaws.{head_again, fits_contents}
 use Rattle.der_core_head.proofs.Complete.{element_first, peek_again, complete_element}
 use Rattle.der_types_tagged.specs.Fields.{explicit_field, numbered_at}
 

@@ -32,7 +32,7 @@ pub struct Utf8StringRef<'a> {
 ///
 /// # Errors
 /// `Utf8` where they are none.
-#[tactic(auto, using(der_core_head::proofs::Utf8Reads::utf8_reads))]
+#[tactic(auto, using(der_core_head::proofs::TextLaws::utf8_reads))]
 fn utf8_of(octets: &[u8]) -> Result<&str, Error>
     ensures same { IfOk result (λ s. s.now ≡ octets.now) }
     ensures exact { GivesNow (λ s. s.now) result (utf8_read octets.now) }

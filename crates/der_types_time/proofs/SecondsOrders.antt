@@ -6,7 +6,7 @@ use Rattle.jiff_core.specs.Calendar.{IsCivilDate, day_count, days_from_civil, da
 use Rattle.jiff_core.proofs.CalendarLemmas.{day_count-epoch, day_count-next_year, day_count-day_of_year, day_count-lt_year, days_from_civil-day_count, days_of_months-zero, days_of_months_more, day_count-lt_month}
 use Rattle.jiff_core.proofs.SignedLemmas.{signed_arith}
 use Rattle.der_core_head.specs.Dates.{Civil, is_leap, days_in_month, is_civil, two_at}
-use Rattle.der_core_head.proofs.DateLaws.{civil_ranges, two_at-again, two_at-sound, zulu-sound, zulu-again}
+use Rattle.der_core_head.proofs.TextLaws.{civil_ranges, two_at-again, two_at-sound, zulu-sound, zulu-again}
 use Rattle.der_types_time.specs.Seconds.{days_of_years, days_of_months, unix_days, unix_seconds}
 use Rattle.std.proofs.lemmas.Option.{option_and_then_some, cond_some, same_Some}
 use Rattle.der_types_time.specs.DateTexts.{date_text, behind_mark, text_at}

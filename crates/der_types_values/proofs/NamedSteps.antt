@@ -9,8 +9,8 @@ use Rattle.std.proofs.lemmas.List.{take_more_set, take_all, append_assoc}
 use Rattle.der_core_head.specs.declared.error.ErrorKind.TheVariants as kinds
 use Rattle.der_core_head.specs.declared.tag.Tag.{Tag}
 use Rattle.der_core_head.specs.NamedBits.{set_octets, spelled_set, unused_bits, named_octets, ends_in_one, named_read}
-use Rattle.der_core_head.proofs.Bytes.{IsBytes}
-use Rattle.der_core_head.proofs.NamedLaws.{set_octets-zero, set_octets-step, named_sound}
+use Rattle.der_core_head.proofs.Results.{IsBytes}
+use Rattle.der_core_head.proofs.IntegerLaws.{set_octets-zero, set_octets-step, named_sound}
 use Rattle.der_types_values.proofs.AllBits.{last_place}
 
 none_of : (n : ℕ) → n ≡ 0 → length (set_octets n) ≡ 0

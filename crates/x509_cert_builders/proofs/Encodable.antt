@@ -7,7 +7,7 @@ use Rattle.std.proofs.lemmas.List.{length-append, length-map, length-reverse}
 use Rattle.const_oid.specs.Bound.{Bound}
 use Rattle.const_oid.specs.IdentifierOctets.{IsIdentifier, identifier_octets, arc_octets}
 use Rattle.const_oid.specs.Digits.{digits, digits_within, marked}
-use Rattle.der_core_head.proofs.LengthForms.{length-digits-le}
+use Rattle.der_core_head.proofs.HeadLaws.{length-digits-le}
 use Rattle.der_core_head.specs.declared.tag.Tag.{Tag}
 use Rattle.der_core_head.specs.declared.tag.Tag.TheVariants as tags
 use Rattle.der_core_head.specs.Grammar.{plain_option}

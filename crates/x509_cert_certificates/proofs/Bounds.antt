@@ -5,8 +5,7 @@ use Rattle.der_core_head.specs.Shapes.{IsValid, octets_of}
 use Rattle.der_core_head.specs.Bounds.{IsValidUnder, identifiers_of, AreBelow, HoldsLarge}
 use Rattle.x509_cert_certificates.specs.Bounds.{certificate_identifiers, SpellsEach, OneHoldsLarge}
 use Rattle.x509_cert_certificates.specs.Certificates.{PlainCertificate, certificate}
-use Rattle.der_core_head.proofs.BoundLaws.{below_or_large}
-use Rattle.der_core_head.proofs.Families.{Family, valid_wider, valid_narrow}
+use Rattle.der_core_head.proofs.BoundLaws.{below_or_large, Family, valid_wider, valid_narrow}
 
 -- the octets are the same, and what is valid is judged by the bound of its shape
 pub bounds_alike : (bound : ℕ) (limit : Option ℕ) (c : PlainCertificate) → (IsValid (certificate bound limit) c ↔ IsValidUnder bound (certificate 0 limit) c) × (octets_of (certificate bound limit) c ≡ octets_of (certificate 0 limit) c)

@@ -3,7 +3,7 @@ use Rattle.std.proofs.Common.{◌≡◌, ℕ, ◌≤◌, List, [], ◌++◌, len
 use Rattle.der_core_head.specs.declared.tag.Tag.TheVariants as tags
 use Rattle.der_core_head.specs.Shapes.{Body, IsValid, IsContent, IsBody, field, done, octets_of, contents, body_octets}
 use Rattle.der_core_head.proofs.OneEncoding.{one_value}
-use Rattle.der_core_head.proofs.Fits.{fits_contents}
+use Rattle.der_core_head.proofs.HeadLaws.{fits_contents}
 use Rattle.x509_cert_names.specs.Names.{name}
 use Rattle.x509_cert_parts.specs.Grammar.{PlainValidity, bit_string, algorithm_identifier, public_key_info, version_field, serial_number, validity, not_before, not_after}
 use Rattle.x509_cert_parts.specs.Respelling.{validity_by, is_early_generalized}

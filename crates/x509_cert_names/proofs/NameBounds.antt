@@ -5,7 +5,7 @@ use Rattle.der_core_head.specs.Bounds.{IsValidUnder, identifiers_of, AreBelow}
 use Rattle.der_core_head.specs.Grammar.{read_whole}
 use Rattle.der_core_head.specs.Octets.{IsOctets}
 use Rattle.der_core_head.specs.Shapes.{IsValid, Spells, octets_of}
-use Rattle.der_core_head.proofs.Families.{Family, valid_wider, valid_narrow, spelled_exactly, whole_wider}
+use Rattle.der_core_head.proofs.BoundLaws.{Family, valid_wider, valid_narrow, spelled_exactly, whole_wider}
 use Rattle.x509_cert_names.specs.Names.{PlainName, RelativeName, type_and_value, relative_name, name, type_of, all_of}
 
 -- the identifiers in a name are the types of its attributes

@@ -8,7 +8,7 @@ use Rattle.der_core_head.specs.Shapes.{octets_of, contents, body_octets, Spells,
 use Rattle.der_core_head.specs.Tags.{tag_octets, tag_at}
 use Rattle.der_core_head.specs.declared.tag.Tag.{Tag}
 use Rattle.der_core_head.specs.declared.tag.Tag.TheVariants as tags
-use Rattle.der_core_head.proofs.Bytes.{IsBytes, bytes_drop}
+use Rattle.der_core_head.proofs.Results.{IsBytes, bytes_drop}
 use Rattle.der_core_head.proofs.TagLaws.{tag_sound}
 use Rattle.x509_cert_names.specs.Names.{type_and_value}
 use Rattle.x509_cert_names.specs.Pairs.{pair}

@@ -17,14 +17,13 @@ use Rattle.x509_cert_names.proofs.ValueEquality.{pairs, names}
 use Rattle.der_core.proofs.Sizes.{size_only}
 use Rattle.der_core_head.specs.Writing.{size}
 use Rattle.der_core_head.specs.declared.error.Error.{Error}
-use Rattle.der_core_head.proofs.OkOctets.{counts_octets}
-use Rattle.der_core_head.proofs.Written.{sized}
+use Rattle.der_core_head.proofs.Written.{counts_octets, sized}
 use Rattle.der_types_sets.proofs.SetSteps.{valid_at}
 use Rattle.der_core_head.specs.Heads.{Fits}
 use Rattle.der_core_head.specs.Ranges.{IsInRange}
 use Rattle.der_core_head.specs.declared.tag.Tag.TheVariants as tags
 use Rattle.der_core_head.proofs.OneEncoding.{one_value}
-use Rattle.der_core_head.proofs.Fits.{fits_contents}
+use Rattle.der_core_head.proofs.HeadLaws.{fits_contents}
 use Rattle.der_core.specs.Placed.{AllValid}
 use Rattle.der_types_sets.specs.Sets.{Ascends, TooLong}
 use Rattle.x509_cert_names.specs.Ordered.{DifferInTurn, IsOrdered}

@@ -9,8 +9,7 @@ use Rattle.der_core_head.specs.Bounds.{IsValidUnder, identifiers_of, AreBelow, H
 use Rattle.der_core_head.specs.Grammar.{plain_list}
 use Rattle.der_core_head.specs.Octets.{◌>>=◌}
 use Rattle.der_core_head.specs.Shapes.{AnyValue, IsValid, octets_of}
-use Rattle.der_core_head.proofs.BoundLaws.{below_or_large}
-use Rattle.der_core_head.proofs.Families.{Family, valid_narrow}
+use Rattle.der_core_head.proofs.BoundLaws.{below_or_large, Family, valid_narrow}
 use Rattle.der_core_head.proofs.Results.{bind_ok, ok_is}
 use Rattle.der_types_sets.specs.Sets.{Ascends, NotAbove}
 use Rattle.x509_cert_name_texts.specs.Keys.{key_arcs, Named, named_types, type_named, dotted_arcs, arcs_or}

@@ -5,8 +5,7 @@ use Rattle.der_core_head.specs.declared.tag.Tag.{Tag}
 use Rattle.der_core_head.specs.Heads.{Fits, tlv, head_octets, length_octets}
 use Rattle.der_core_head.specs.Shapes.{Shape, Body, Value, BodyValue, field, octets_of, body_octets}
 use Rattle.der_core_head.specs.Tags.{tag_octets}
-use Rattle.der_core_head.proofs.LengthForms.{length-short, length-1, length-2, length-3, length-4}
-use Rattle.der_core_head.proofs.Fits.{fits_contents}
+use Rattle.der_core_head.proofs.HeadLaws.{length-short, length-1, length-2, length-3, length-4, fits_contents}
 
 -- at most so many octets, by the size of the length
 upper-1 : (n : ℕ) → n < 128 → length (length_octets n) ≤ 1

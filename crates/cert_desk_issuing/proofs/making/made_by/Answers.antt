@@ -6,7 +6,7 @@ use Rattle.der_core_head.specs.BitStrings.{Bits}
 use Rattle.der_core_head.specs.Integers.{integer_octets}
 use Rattle.der_core_head.specs.Ranges.{IsInRange}
 use Rattle.der_core_head.specs.Shapes.{IsValid}
-use Rattle.der_core_head.proofs.WrittenValid.{written_valid}
+use Rattle.der_core_head.proofs.Written.{written_valid}
 use Rattle.x509_cert_builders.specs.SignedParts.{part_shape}
 use Rattle.x509_cert_builders.specs.States.{part_for, as_written}
 use Rattle.x509_cert_certificates.specs.Certificates.{Tbs, signature_bits, certificate}

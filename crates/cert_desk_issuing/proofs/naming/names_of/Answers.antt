@@ -5,7 +5,7 @@ use Rattle.std.proofs.lemmas.Result.{err_from_is_err_and}
 use Rattle.std.specs.List.{AllByRecursion}
 use Rattle.std.specs.Prelude.{nat_lt, if◌then◌else◌}
 use Rattle.const_oid.specs.Bound.{Bound}
-use Rattle.der_core_head.proofs.Fits.{fits_contents}
+use Rattle.der_core_head.proofs.HeadLaws.{fits_contents}
 use Rattle.der_core_head.specs.Grammar.{plain_list}
 use Rattle.der_core_head.specs.Heads.{Fits}
 use Rattle.der_core_head.specs.Limits.{length_max}

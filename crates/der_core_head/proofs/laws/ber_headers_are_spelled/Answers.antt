@@ -1,4 +1,4 @@
-use Rattle.der_core_head.proofs.Below.{bytes_are}
+use Rattle.der_core_head.proofs.OneEncoding.{bytes_are}
 use Rattle.der_core_head.proofs.BodyLaws.{head_ber_sound, head_ber_again, head_ber_more}
 use Rattle.der_core_head.proofs.laws.ber_headers_are_spelled.Goals as goal
 

@@ -1,4 +1,4 @@
-use Rattle.der_core_head.proofs.Below.{bytes_are}
+use Rattle.der_core_head.proofs.OneEncoding.{bytes_are}
 use Rattle.der_core_head.proofs.HeadLaws.{head_again, head_sound}
 use Rattle.der_core_head.proofs.laws.headers_are_spelled.Goals as goal
 

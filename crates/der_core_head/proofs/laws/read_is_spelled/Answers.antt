@@ -1,5 +1,4 @@
-use Rattle.der_core_head.proofs.Below.{bytes_are}
-use Rattle.der_core_head.proofs.Sound.{sound}
+use Rattle.der_core_head.proofs.OneEncoding.{bytes_are, sound}
 use Rattle.der_core_head.proofs.laws.read_is_spelled.Goals as goal
 
 pub returns : goal.returns

@@ -1,8 +1,7 @@
 use Rattle.std.proofs.Common.{Ok, ap, ◌∙◌, arith}
 use Rattle.der_core_head.specs.Heads.{head_at}
-use Rattle.der_core_head.proofs.HeadLaws.{head_again}
+use Rattle.der_core_head.proofs.HeadLaws.{head_again, front_so}
 use Rattle.der_core_octets.specs.Headers.{head_of}
-use Rattle.der_core_head.proofs.Fronts.{front_so}
 use Rattle.der_core_octets.proofs.LongLengths.{head_spelled}
 use Rattle.der_core_octets.proofs.heads.header_of.Goals as goal
 

@@ -1,8 +1,7 @@
 use Rattle.std.proofs.Common.{Ok, ap, ◌∙◌, arith}
 use Rattle.der_core_head.specs.declared.length.Length.{Length}
 use Rattle.der_core_head.specs.Heads.{length_at}
-use Rattle.der_core_head.proofs.HeadLaws.{length_again}
-use Rattle.der_core_head.proofs.Fronts.{front_so}
+use Rattle.der_core_head.proofs.HeadLaws.{length_again, front_so}
 use Rattle.der_core_octets.proofs.LongLengths.{length_spelled}
 use Rattle.der_core_octets.proofs.heads.length_of.Goals as goal
 

@@ -2,7 +2,7 @@ use Rattle.std.proofs.Common.{Ok, ap, ◌∙◌, arith}
 use Rattle.der_core_head.specs.declared.length.Length.{Length}
 use Rattle.der_core_octets.specs.LoneLengths.{lone_length_at}
 use Rattle.der_core_octets.proofs.LongLengths.{lone_again, lone_spelled}
-use Rattle.der_core_head.proofs.Fronts.{front_so}
+use Rattle.der_core_head.proofs.HeadLaws.{front_so}
 use Rattle.der_core_octets.proofs.heads.lone_length_of.Goals as goal
 
 pub returns-clause-spelled : goal.returns-clause-spelled

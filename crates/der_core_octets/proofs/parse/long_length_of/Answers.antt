@@ -1,7 +1,7 @@
 use Rattle.std.proofs.Common.{◌≡◌, ◌<◌, ℕ, arith, ◌-◌, ◌∷◌, get_or}
 use Rattle.der_core_head.specs.declared.error.ErrorKind.TheVariants as kinds
 use Rattle.der_core_head.specs.Heads.{length_at}
-use Rattle.der_core_head.proofs.LengthForms.{length_at-indefinite, length_at-large, length_at-cut}
+use Rattle.der_core_head.proofs.HeadLaws.{length_at-indefinite, length_at-large, length_at-cut}
 use Rattle.der_core_octets.proofs.LongLengths.{is_fault, low-1, zero-more, long-1, long-2, long-3, long-4}
 use Rattle.der_core_octets.proofs.parse.long_length_of.Goals.{then-first-eq128-via-then-first-eq128, then-first-eq128-via-else-first-eq128+then-first-gt132}
 use Rattle.der_core_octets.proofs.parse.long_length_of.Goals as goal

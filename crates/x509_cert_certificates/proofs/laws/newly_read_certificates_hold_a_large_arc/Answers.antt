@@ -1,4 +1,4 @@
-use Rattle.der_core_head.proofs.Families.{front_new, new_spelled, spelled_exactly, spelled_narrow, whole_new}
+use Rattle.der_core_head.proofs.BoundLaws.{front_new, new_spelled, spelled_exactly, spelled_narrow, whole_new}
 use Rattle.der_core_head.specs.Bounds.{identifiers_of}
 use Rattle.x509_cert_certificates.specs.Bounds.{certificate_identifiers}
 use Rattle.x509_cert_certificates.proofs.Bounds.{certificates}

@@ -6,7 +6,7 @@ use Rattle.std.proofs.Common.{◌≡◌, ℕ, List, Option, Some, None, Ok}
 use Rattle.der_core_head.specs.Ranges.{IsInRange}
 use Rattle.der_core_head.specs.Shapes.{IsValid}
 use Rattle.der_core_head.specs.Writing.{Out, write}
-use Rattle.der_core_head.proofs.WrittenValid.{written_valid}
+use Rattle.der_core_head.proofs.Written.{written_valid}
 use Rattle.x509_cert_list_builders.proofs.writing.list_written.Goals as goal
 
 -- Signed parts of lists that were written have encodings, whatever serial numbers are read.

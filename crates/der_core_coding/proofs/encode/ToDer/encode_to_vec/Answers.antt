@@ -7,8 +7,7 @@ use Rattle.der_core_head.specs.Shapes.{Shape, Value, IsValid, octets_of}
 use Rattle.der_core_head.specs.Reading.{Fails, Gives}
 use Rattle.der_core_head.specs.Writing.{Out, size, write}
 use Rattle.der_core_head.proofs.Results.{ok_is, bind_ok}
-use Rattle.der_core_head.proofs.Written.{sized, written}
-use Rattle.der_core_head.proofs.OkOctets.{counts_octets, writes_octets}
+use Rattle.der_core_head.proofs.Written.{sized, written, counts_octets, writes_octets}
 use Rattle.der_core_octets.specs.Outputs.{appended}
 use Rattle.der_core_coding.proofs.encode.ToDer.encode_to_vec.Goals as goal
 

@@ -1,5 +1,5 @@
 use Rattle.std.proofs.Common.{arith, ap, length, refl}
-use Rattle.der_core_head.proofs.SliceCases.{slice_short, slice_ok}
+use Rattle.der_core_head.proofs.Results.{slice_short, slice_ok}
 use Rattle.der_core_octets.proofs.reader.Reader.drain.Goals as goal
 
 pub returns-then-remaining-amount : goal.returns-then-remaining-amount

@@ -1,6 +1,6 @@
 use Rattle.std.proofs.Common.{◌≡◌, length, refl, ap, sym, ◌∙◌, arith, Err, length-take}
 use Rattle.der_core_head.specs.Reading.{State, past}
-use Rattle.der_core_head.proofs.SliceCases.{slice_short, slice_ok}
+use Rattle.der_core_head.proofs.Results.{slice_short, slice_ok}
 use Rattle.der_core_octets.proofs.reader.Reader.read_into.Goals as goal
 
 pub returns-in-Ok-clause-reads : goal.returns-in-Ok-clause-reads

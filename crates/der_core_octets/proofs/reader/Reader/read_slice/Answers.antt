@@ -1,5 +1,5 @@
 use Rattle.std.proofs.Common.{arith, ap, length, refl}
-use Rattle.der_core_head.proofs.SliceCases.{slice_short, slice_ok}
+use Rattle.der_core_head.proofs.Results.{slice_short, slice_ok}
 use Rattle.der_core_octets.proofs.reader.Reader.read_slice.Goals as goal
 
 pub returns-then-octets-len : goal.returns-then-octets-len

@@ -5,7 +5,7 @@ use Rattle.der_core_octets.specs.Headers.{head_of}
 use Rattle.der_core_head.specs.Octets.{Readings}
 use Rattle.der_core_head.specs.Heads.{Head}
 use Rattle.der_core_octets.specs.Places.{encoding_at}
-use Rattle.der_core_head.proofs.SliceCases.{slice_short, slice_ok}
+use Rattle.der_core_head.proofs.Results.{slice_short, slice_ok}
 use Rattle.der_core_head.specs.declared.error.ErrorKind.TheVariants as kinds
 use Rattle.der_core_octets.proofs.reader.Reader.tlv_bytes.Goals as goal
 

@@ -12,11 +12,9 @@ use Rattle.der_core_head.specs.Spelling.{is_apart, are_enough}
 use Rattle.der_core_head.specs.Grammar.{read, read_content, whole, read_whole, value_at, tlv_at, kept}
 use Rattle.der_core_head.specs.Reading.{Gives}
 use Rattle.der_core_head.specs.Fronts.{alone}
-use Rattle.der_core_head.proofs.Fits.{fits_contents}
+use Rattle.der_core_head.proofs.HeadLaws.{fits_contents, head_again}
 use Rattle.der_core_head.proofs.TagLaws.{same_tag-eq}
-use Rattle.der_core_head.proofs.HeadLaws.{head_again}
-use Rattle.der_core_head.proofs.Below.{bytes_are, octets_below}
-use Rattle.der_core_head.proofs.AllOctets.{is_spelled, is_read}
+use Rattle.der_core_head.proofs.OneEncoding.{bytes_are, octets_below, is_spelled, is_read}
 use Rattle.der_types_any.specs.Contents.{content_as, content_by}
 use Rattle.der_types_any.proofs.AnyLaws.{value_whole}
 use Rattle.der_types_any.proofs.any_ref.AnyRef.decode_as.Goals as goal

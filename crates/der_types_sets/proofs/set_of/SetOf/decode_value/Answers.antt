@@ -3,7 +3,7 @@ use Rattle.std.proofs.lemmas.Result.{err_from_is_err_and}
 use Rattle.der_core_head.specs.Heads.{Fits}
 use Rattle.der_core_head.specs.Reading.{State, IsDer}
 use Rattle.der_core_head.specs.Shapes.{Value}
-use Rattle.der_core_head.proofs.Bytes.{IsBytes}
+use Rattle.der_core_head.proofs.Results.{IsBytes}
 use Rattle.der_core_octets.proofs.Nested.{broken_kept}
 use Rattle.der_core_octets.proofs.GoingOn.{kept_then}
 use Rattle.der_types_sets.proofs.FewSteps.{few_joins, few_again}

@@ -1,7 +1,7 @@
 use Rattle.std.proofs.Common.{◌≡◌, w16, ℤ, pos, arith, subst, sym, ◌∙◌, ap, to_z, of_z}
 use Rattle.jiff_core.specs.Calendar.{IsCivilDate, days_from_civil}
 use Rattle.jiff_core.proofs.SignedLemmas.{back_small}
-use Rattle.der_core_head.proofs.DateLaws.{civil_ranges}
+use Rattle.der_core_head.proofs.TextLaws.{civil_ranges}
 use Rattle.der_types_time.specs.Seconds.{unix_days}
 use Rattle.der_types_time.specs.DateTimes.{civil_of}
 use Rattle.der_types_time.proofs.SecondsOrders.{date_is, unix_day_number}
