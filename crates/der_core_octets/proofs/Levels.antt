@@ -1,11 +1,14 @@
 -- Bodies of indefinite length, level by level.
-use Rattle.std.proofs.Common.{◌≡◌, ℕ, zero, suc, ◌+◌, ◌-◌, ◌<◌, ◌≤◌, cond, ltb, List, [], ◌∷◌, length, take, drop, Ok, Err, sym, refl, ap, subst, ◌∙◌, arith, eq-eqb, ne_eqb, take_all, length-take, length-drop}
+use Rattle.std.proofs.Common.{◌≡◌, ℕ, zero, suc, ◌+◌, ◌-◌, ◌<◌, ◌≤◌, cond, ltb, List, [], ◌∷◌, length, take, drop, Ok, Err, sym, refl, ap, subst, ◌∙◌, arith, eq-eqb, ne_eqb, take_all, length-take, length-drop, Bool, true, false}
 use Rattle.der_core_head.specs.declared.error.ErrorKind.{ErrorKind}
 use Rattle.der_core_head.specs.declared.error.ErrorKind.TheVariants as kinds
 use Rattle.der_core_head.specs.Octets.{◌>>=◌}
 use Rattle.der_core_head.specs.Bodies.{Piece, ending, opening, encoding, tag_ber_at, mark_at, piece_at, levels_after, closed_at, body_len_at}
 use Rattle.der_core_head.proofs.Results.{IsBytes, bytes_drop}
 use Rattle.der_core_head.proofs.BodyLaws.{closed-step, piece_shorter}
+use Rattle.std.proofs.lemmas.Bool.Decides.{nat_tests}
+use mathlib.Core.Bool.{◌||◌}
+use Rattle.der_core_head.specs.Grammar.{slice_at}
 
 pub mark-none : (w : List ℕ) → length w < 1 → mark_at w ≡ Err kinds.Incomplete
 unfolding mark_at tag_ber_at
@@ -91,3 +94,18 @@ pub skipped : (octets : List ℕ) (levels : ℕ) (rest : List ℕ) (n : ℕ) →
     → Continues octets levels (take (length rest - n) (drop n rest))
 skipped octets levels rest n c some e =
     behind octets levels rest encoding n levels (64 - levels) c some e refl c.depth refl
+
+-- Reading, by cases of what is there.
+
+-- no more octets than that
+pub slice_few : (n : ℕ) (w x r : List ℕ) → slice_at n w ≡ Ok (x, r) → length x ≤ n
+unfolding slice_at
+slice_few n w x r e = grind (arith, nat_tests, length-take n w)
+
+pub or_true : (b : Bool) → b || true ≡ true
+or_true true = refl
+or_true false = refl
+
+pub or_false : (b : Bool) → b || false ≡ b
+or_false true = refl
+or_false false = refl

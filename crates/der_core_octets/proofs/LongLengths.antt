@@ -1,23 +1,27 @@
--- Lengths of two to five octets.
-use Rattle.std.proofs.Common.{◌≡◌, ℕ, ◌+◌, ◌-◌, ◌*◌, ◌<◌, ◌≤◌, Bool, true, false, cond, ltb, eqb, List, [], ◌∷◌, length, get_or, take, drop, ◌%◌, suc, Result, Ok, Err, arith, refl, ap, ◌∙◌, length-drop, inl, inr, IsErr, ◌≢◌, take_all, ◌++◌, IfOk}
+-- Lengths of several octets, and what is read of more octets.
+use Rattle.std.proofs.Common.{◌≡◌, ℕ, ◌+◌, ◌-◌, ◌*◌, ◌<◌, ◌≤◌, Bool, true, false, cond, ltb, eqb, List, [], ◌∷◌, length, get_or, take, drop, ◌%◌, suc, Result, Ok, Err, arith, refl, ap, ◌∙◌, length-drop, inl, inr, IsErr, ◌≢◌, take_all, ◌++◌, IfOk, Option, Some, None, sym}
 use Rattle.der_core_head.specs.declared.error.ErrorKind.{ErrorKind}
 use Rattle.std.proofs.lemmas.Bool.Decides.{nat_tests}
 use Rattle.std.proofs.lemmas.Bool.{cases_lt, le-ltb, lt-ltb, ne_eqb, eq-eqb}
 use Rattle.der_core_head.specs.declared.error.ErrorKind.TheVariants as kinds
 use Rattle.der_core_head.specs.declared.tag.Tag.{Tag}
 use Rattle.der_core_head.specs.Tags.{tag_at, IsTag}
-use Rattle.der_core_head.specs.Heads.{shortest, length_at, head_at, length_octets, head_octets}
+use Rattle.der_core_head.specs.Heads.{shortest, length_at, head_at, length_octets, head_octets, Head}
 use Rattle.der_core_head.proofs.HeadLaws.{length_at-indefinite, length_at-large, length_at-cut, length_at-1, length_at-2, length_at-3, length_at-4, length_again, length_sound, head_sound}
 use Rattle.der_core_head.specs.declared.error.Error.{Error}
 use Rattle.der_core_head.specs.declared.length.Length.{Length}
 use Rattle.der_core_head.specs.declared.tag.Tag.TheVariants as tags
 use Rattle.der_core_head.specs.Limits.{IsLength}
 use Rattle.der_core_head.specs.Fronts.{ReadsFront}
-use Rattle.der_core_head.proofs.Results.{IsBytes}
+use Rattle.der_core_head.proofs.Results.{IsBytes, ok_is}
 use Rattle.der_core_octets.specs.LoneLengths.{lone, lone_fault, lone_length_at}
 use Rattle.std.specs.Prelude.{}
 use Rattle.der_core_octets.specs.declared.header.Header.{Header}
-use Rattle.der_core_octets.specs.Headers.{head_of}
+use Rattle.der_core_octets.specs.Headers.{head_of, AreAlike, Scans}
+use Rattle.std.proofs.lemmas.List.{length-append, drop-append-le}
+use Rattle.der_core_head.proofs.LeafLaws.{read_stays, fault_stays}
+
+-- Lengths of two to five octets.
 
 -- the octets behind the first one
 fewest-1 : (t : Tag) (first : ℕ) (w : List ℕ) → first ≡ 129 → 1 ≤ length w → get_or w 0 0 < 256
@@ -189,3 +193,38 @@ head_spelled w (Ok x) bytes h =
     let s = head_sound w (head_of x.0) (drop x.1 w) bytes h.0 in
     (s.1, s.0)
 head_spelled w (Err e) bytes h = tt
+
+-- What was scanned is so before any further octets.
+
+pub scans_longer : (w more : List ℕ) (r : Result (Option (Header × ℕ)) Error) → Scans w r → r ≢ Ok None → Scans (w ++ more) r
+scans_longer w more (Ok (Some x)) h other =
+    let rest : drop x.1 (w ++ more) ≡ drop x.1 w ++ more = drop-append-le x.1 w more h.1 in
+    (read_stays (head_of x.0) (drop x.1 w) w more h.0 ∙ ap (λ (q : List ℕ). Ok (head_of x.0, q)) (sym rest), omega (arith, h.1, length-append w more))
+scans_longer w more (Ok None) h other = absurd (other refl)
+scans_longer w more (Err e) h other = (fault_stays e.kind w more h.0 h.1, h.1)
+
+-- what was scanned is scanned so alone
+
+front_is : (w : List ℕ) (x y : Header × ℕ) → Scans w (Ok (Some x)) → Scans w (Ok (Some y)) → x ≡ y
+front_is w x y h i =
+    let both = ok_is (head_of x.0, drop x.1 w) (head_of y.0, drop y.1 w) (sym h.0 ∙ i.0) in
+    let header : x.0 ≡ y.0 = ap (λ (q : Head × List ℕ). record { tag = q.0.tag; length = record { value = q.0.len } }) both in
+    let rest : drop x.1 w ≡ drop y.1 w = ap (λ (q : Head × List ℕ). q.1) both in
+    let count : x.1 ≡ y.1 = omega (arith, h.1, i.1, length-drop x.1 w, length-drop y.1 w, ap (λ (q : List ℕ). length q) rest) in
+    let pair : Header → ℕ → Header × ℕ = λ h n. (h, n) in
+    ap (λ h. pair h x.1) header ∙ ap (pair y.0) count
+
+pub scans_alike : (w : List ℕ) (r s : Result (Option (Header × ℕ)) Error) → Scans w r → Scans w s → AreAlike r s
+scans_alike w (Ok (Some x)) (Ok (Some y)) h i = ap Some (front_is w x y h i)
+scans_alike w (Ok (Some x)) (Ok None) h i = absurd (cc (h.0, i))
+scans_alike w (Ok (Some x)) (Err e) h i = absurd (cc (h.0, i.0))
+scans_alike w (Ok None) (Ok (Some y)) h i = absurd (cc (h, i.0))
+scans_alike w (Ok None) (Ok None) h i = refl
+scans_alike w (Ok None) (Err e) h i =
+    let ran_out : e.kind ≡ kinds.Incomplete = cc (h, i.0) in
+    absurd (i.1 ran_out)
+scans_alike w (Err d) (Ok (Some y)) h i = absurd (cc (h.0, i.0))
+scans_alike w (Err d) (Ok None) h i =
+    let ran_out : d.kind ≡ kinds.Incomplete = cc (h.0, i) in
+    absurd (h.1 ran_out)
+scans_alike w (Err d) (Err e) h i = cc (h.0, i.0)

@@ -10,8 +10,7 @@ use Rattle.der_core_head.specs.Shapes.{Content, ContentValue, tagged, leaf}
 use Rattle.der_core_head.specs.Grammar.{value_at, tlv_at, whole, slice_at, read_content_by, leaf_at, kept}
 use Rattle.der_core_head.specs.Reading.{State, Reads, ReadsNow, read_at, read_content_at, IsRest, Fails, Gives, broken}
 use Rattle.der_core_octets.specs.Headers.{wanted_at}
-use Rattle.der_core_octets.proofs.Nested.{broken_kept}
-use Rattle.der_core_octets.proofs.GoingOn.{reads_after, tlv_wanted, kept_then}
+use Rattle.der_core_octets.proofs.GoingOn.{broken_kept, reads_after, tlv_wanted, kept_then}
 use Rattle.std.proofs.lemmas.Bool.{cases_lt, le-ltb}
 use Rattle.der_core_head.specs.Limits.{length_max}
 use Rattle.der_core_head.specs.declared.error.ErrorKind.TheVariants as kinds

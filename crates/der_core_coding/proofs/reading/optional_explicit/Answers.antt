@@ -4,8 +4,7 @@ use Rattle.der_core_head.specs.Shapes.{tagged, nested, only, begins}
 use Rattle.der_core_head.specs.Tags.{same_tag}
 use Rattle.der_core_head.specs.Grammar.{peek_at, opt_at}
 use Rattle.der_core_head.specs.Reading.{State, Reads, read_at}
-use Rattle.der_core_octets.proofs.GoingOn.{opt_stops}
-use Rattle.der_core_octets.proofs.Nested.{broken_kept}
+use Rattle.der_core_octets.proofs.GoingOn.{opt_stops, broken_kept}
 use Rattle.der_core_coding.proofs.reading.optional_explicit.Goals as goal
 
 pub returns-in_err-read_explicit : goal.returns-in_err-read_explicit

@@ -1,4 +1,4 @@
-use Rattle.der_core_octets.proofs.AtOnce.{written_at_once}
+use Rattle.der_core_octets.proofs.GoingOn.{written_at_once}
 use Rattle.der_core_octets.proofs.encode.encode_header.Goals as goal
 
 pub returns-then-len-lt128-clause-exact : goal.returns-then-len-lt128-clause-exact

@@ -1,5 +1,5 @@
 use Rattle.std.proofs.Common.{◌++◌}
-use Rattle.der_core_octets.proofs.Longer.{scans_alike, scans_longer}
+use Rattle.der_core_octets.proofs.LongLengths.{scans_alike, scans_longer}
 use Rattle.der_core_octets.proofs.laws.scanned_in_one_way.Goals as goal
 
 pub returns : goal.returns

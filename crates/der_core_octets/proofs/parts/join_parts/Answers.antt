@@ -2,7 +2,7 @@ use Rattle.std.proofs.Common.{◌≤◌, ◌+◌, ◌-◌, ◌++◌, length, dro
 use Rattle.std.proofs.lemmas.List.{length-append, length-drop, take_rest}
 use Rattle.std.proofs.lemmas.Result.{err_from_is_err_and}
 use Rattle.der_core_octets.specs.Parts.{joined}
-use Rattle.der_core_octets.proofs.Joined.{goes_on, stops, is_done, is_over}
+use Rattle.der_core_octets.proofs.GoingOn.{goes_on, stops, is_done, is_over}
 use Rattle.der_core_octets.proofs.parts.join_parts.Goals as goal
 use Rattle.der_core_octets.proofs.parts.join_parts.Goals.{else-loop-test, then-loop-test+then-are_closed}
 

@@ -1,6 +1,6 @@
 use Rattle.std.proofs.Common.{◌≤◌, Err, refl, length, drop, sym, ap, ◌∙◌, arith}
 use Rattle.std.proofs.lemmas.List.{length-drop, drop-drop, take_rest}
-use Rattle.der_core_octets.proofs.Joined.{part_short, part_is}
+use Rattle.der_core_octets.proofs.GoingOn.{part_short, part_is}
 use Rattle.der_core_octets.specs.Headers.{head_of}
 use Rattle.der_core_octets.proofs.parts.part_of.Goals as goal
 

@@ -1,5 +1,5 @@
 use Rattle.std.proofs.Common.{arith}
-use Rattle.der_core_octets.proofs.ReadCases.{slice_few}
+use Rattle.der_core_octets.proofs.Levels.{slice_few}
 use Rattle.der_core_values.proofs.Headed.{counted_fits}
 use Rattle.der_core_values.proofs.bytes.copy_content.Goals as goal
 

@@ -5,7 +5,7 @@ use Rattle.der_core_head.specs.declared.error.Error.{Error}
 use Rattle.der_core_head.specs.Reading.{State, ReadsNow, TakesContent}
 use Rattle.der_core_head.specs.Grammar.{slice_at}
 use Rattle.der_core_values.proofs.Headed.{content_ok, content_err}
-use Rattle.der_core_octets.proofs.ReadCases.{slice_few}
+use Rattle.der_core_octets.proofs.Levels.{slice_few}
 use Rattle.der_core_values.proofs.leaves.read_content.Goals as goal
 
 takes : (n : ℕ) (old new : State) (r : Result (Bor (List ℕ)) Error) → ReadsNow (λ (s : Bor (List ℕ)). s.now) old new r (slice_at n) → TakesContent old new r n

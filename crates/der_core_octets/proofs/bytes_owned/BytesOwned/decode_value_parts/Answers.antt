@@ -1,10 +1,8 @@
 use Rattle.std.proofs.Common.{ap, arith}
 use Rattle.std.proofs.lemmas.Result.{err_from_is_err_and}
 use Rattle.der_core_head.specs.Reading.{State}
-use Rattle.der_core_octets.proofs.ReadCases.{slice_few}
-use Rattle.der_core_octets.proofs.Joined.{parts_none, parts_are, parts_stop}
-use Rattle.der_core_octets.proofs.Nested.{broken_kept}
-use Rattle.der_core_octets.proofs.GoingOn.{kept_then}
+use Rattle.der_core_octets.proofs.Levels.{slice_few}
+use Rattle.der_core_octets.proofs.GoingOn.{parts_none, parts_are, parts_stop, broken_kept, kept_then}
 use Rattle.der_core_octets.proofs.bytes_owned.BytesOwned.decode_value_parts.Goals as goal
 
 pub returns-in_err-octets : goal.returns-in_err-octets

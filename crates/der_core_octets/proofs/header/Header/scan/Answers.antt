@@ -1,5 +1,5 @@
 use Rattle.std.proofs.Common.{Some, Ok, Err}
-use Rattle.der_core_octets.proofs.Longer.{scans_longer}
+use Rattle.der_core_octets.proofs.LongLengths.{scans_longer}
 use Rattle.der_core_octets.proofs.header.Header.scan.Goals as goal
 
 pub returns-in-Ok-clause-longer : goal.returns-in-Ok-clause-longer

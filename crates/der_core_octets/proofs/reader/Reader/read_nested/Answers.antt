@@ -1,8 +1,7 @@
 use Rattle.std.proofs.Common.{length, refl, ap, subst, arith, Ok, Err, Bool}
 use Rattle.std.proofs.lemmas.Result.{err_from_is_err_and}
 use Rattle.der_core_head.specs.Reading.{State, Closes}
-use Rattle.der_core_octets.proofs.Nested.{refused, behind_long, broken_kept}
-use Rattle.der_core_octets.proofs.Closures.{not_opened, ran_there, nested_moved, nested_kept, nested_failed, nested_ran, nested_refused, nested_reads, left_failed, left_kept, left_refused, left_reads}
+use Rattle.der_core_octets.proofs.GoingOn.{refused, behind_long, broken_kept, not_opened, ran_there, nested_moved, nested_kept, nested_failed, nested_ran, nested_refused, nested_reads, left_failed, left_kept, left_refused, left_reads}
 use Rattle.der_core_octets.proofs.reader.Reader.read_nested.Goals as goal
 
 -- no end was set

@@ -9,9 +9,7 @@ use Rattle.der_core_head.specs.Grammar.{value_at}
 use Rattle.der_core_head.specs.Reading.{State, read_content_at}
 use Rattle.der_core_head.proofs.TagLaws.{same_tag-refl}
 use Rattle.der_core_octets.specs.Nesting.{Enters}
-use Rattle.der_core_octets.proofs.Closures.{by_failed, enters_wanted, wanted_reads}
-use Rattle.der_core_octets.proofs.Nested.{broken_kept}
-use Rattle.der_core_octets.proofs.GoingOn.{tlv_wanted, wanted_err}
+use Rattle.der_core_octets.proofs.GoingOn.{by_failed, enters_wanted, wanted_reads, broken_kept, tlv_wanted, wanted_err}
 use Rattle.der_core_octets.proofs.reader.Reader.sequence.Goals as goal
 
 pub returns-in_err-header-clause-reads : goal.returns-in_err-header-clause-reads

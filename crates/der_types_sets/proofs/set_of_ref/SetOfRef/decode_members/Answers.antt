@@ -5,7 +5,7 @@ use Rattle.der_core_head.specs.Shapes.{Value}
 use Rattle.der_core_head.specs.Grammar.{read}
 use Rattle.der_core_head.specs.Reading.{State}
 use Rattle.der_core_head.proofs.Results.{ok_is}
-use Rattle.der_core_octets.proofs.Nested.{broken_kept}
+use Rattle.der_core_octets.proofs.GoingOn.{broken_kept}
 use Rattle.der_types_sets.specs.Ascending.{JoinsAscending, values_at}
 use Rattle.der_types_sets.proofs.AscendingSteps.{counts, content_ascends}
 use Rattle.der_types_sets.proofs.set_of_ref.SetOfRef.decode_members.Goals as goal
