@@ -1,4 +1,3 @@
 pub mod Lists
-pub mod InTurn
 pub mod Headed
 mod NamedNumbers

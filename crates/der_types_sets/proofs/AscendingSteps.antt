@@ -14,7 +14,7 @@ use Rattle.der_core_head.proofs.Results.{fine, ok_is, bind_ok, IsBytes}
 use Rattle.der_core_head.proofs.OneEncoding.{OrderedFrom, order_on, from_none}
 use Rattle.der_core_head.proofs.Complete.{complete_body, more_body}
 use Rattle.der_core_values.specs.Both.{both_true}
-use Rattle.der_core_values.proofs.InTurn.{InTurn, all_in_turn, none_in_turn, on_in_turn, done_in_turn}
+use Rattle.der_core_values.proofs.Lists.{InTurn, all_in_turn, none_in_turn, on_in_turn, done_in_turn}
 use Rattle.der_types_sets.specs.Sets.{Ascends}
 use Rattle.der_types_sets.specs.Ascending.{JoinsAscending, IsCount, first_of, values_at}
 use Rattle.der_types_sets.proofs.FewSteps.{length_plain_list}
