@@ -1,20 +1,27 @@
 -- A value at the front of octets, as its spelling.
-use Rattle.std.proofs.Common.{◌≡◌, ℕ, true, ltb, List, ◌++◌, length, Result, Ok, Err, sym, ap, ◌∙◌, arith, le-ltb, ltb-false, IfOk, ◌≤◌, ◌-◌, [], take, drop, inl, inr, drop_of_length-le, take_at, take-append-drop, length-append, length-drop}
+use Rattle.std.proofs.Common.{◌≡◌, ℕ, true, ltb, List, ◌++◌, length, Result, Ok, Err, sym, ap, ◌∙◌, arith, le-ltb, ltb-false, IfOk, ◌≤◌, ◌-◌, [], take, drop, inl, inr, drop_of_length-le, take_at, take-append-drop, length-append, length-drop, false, Some, refl, IsOkAnd, Bool}
 use Rattle.der_core_head.specs.Limits.{length_max, levels_max}
 use Rattle.der_core_head.specs.declared.error.Error.{Error}
 use Rattle.der_core_head.specs.declared.error.ErrorKind.{ErrorKind}
 use Rattle.der_core_head.specs.declared.error.ErrorKind.TheVariants as kinds
 use Rattle.der_core_head.specs.Heads.{Fits}
-use Rattle.der_core_head.specs.Shapes.{Shape, Value, IsValid, octets_of}
+use Rattle.der_core_head.specs.Shapes.{Shape, Value, IsValid, octets_of, Content, ContentValue, contents, IsContent}
 use Rattle.der_core_head.specs.Grammar.{read}
-use Rattle.der_core_head.specs.Reading.{Gives, IsRest}
+use Rattle.der_core_head.specs.Reading.{Gives, IsRest, GivesNow}
 use Rattle.der_core_head.specs.Spelling.{is_apart, are_enough, is_element}
-use Rattle.der_core_head.proofs.Results.{unless_ok, IsBytes}
+use Rattle.der_core_head.proofs.Results.{unless_ok, IsBytes, ok_is, bind_ok}
 use Rattle.der_core_head.proofs.OneEncoding.{sound}
 use Rattle.der_core_head.proofs.Complete.{complete_element}
 use Rattle.der_core_octets.specs.Fronts.{read_front}
 use Rattle.std.proofs.lemmas.Bool.{cases_lt}
 use Rattle.std.proofs.Math.Seq.{drop-length}
+use Rattle.der_core_head.specs.Octets.{◌>>=◌}
+use Rattle.der_core_head.specs.Writing.{Out, put, write, write_content, size, FailsTaking, Writes}
+use Rattle.der_core_head.proofs.Written.{writes_octets, writes_contents, writes_fitting, put_some-put, put_written, put_content, out, put-append, written_valid, content_valid}
+use Rattle.der_core_octets.specs.Outputs.{blank, finished, filled, appended}
+use Rattle.std.specs.Prelude.{}
+use Rattle.der_core_head.specs.declared.length.Length.{Length}
+use Rattle.der_core_head.specs.Ranges.{IsInRange, IsContentInRange}
 
 pub front_spelled : {X : Type 0} (s : Shape) (view : X → Value s × List ℕ) (w : List ℕ) (r : Result X Error) → is_apart s ≡ true → IsBytes w → Gives view r (read_front s w)
     → IfOk r (λ x. IsValid s (view x).0 × (w ≡ octets_of s (view x).0 ++ (view x).1))
@@ -62,3 +69,78 @@ passed_over w r n =
           let m : length w - length r ≡ n.0 = omega (arith, long, length-drop n.0 w) in
           sym (take-append-drop n.0 w) ∙ ap (λ k. take k w ++ drop n.0 w) (sym m) ∙ ap (λ (x : List ℕ). take (length w - length r) w ++ x) (sym n.1)
     ]
+
+-- What is written to a slice, and that a valid value is written where there is room for it.
+
+-- octets that there is room for
+put_blank : (b : List ℕ) (room : ℕ) → length b ≤ room → put b (blank room) ≡ Ok (record { written = b; room = Some (room - length b); failed = false })
+unfolding put
+put_blank b room l = rw (le-ltb room (length b) l) refl
+
+filled_valid : (s : Shape) (v : Value s) (room : ℕ) → IsValid s v → length (octets_of s v) ≤ room → filled (write s v) room ≡ Ok (octets_of s v)
+filled_valid s v room h l = ap (λ r. r >>= finished) (put_written s v (blank room) h ∙ put_some-put (octets_of s v) (blank room) refl ∙ put_blank (octets_of s v) room l)
+
+filled_content : (c : Content) (v : ContentValue c) (room : ℕ) → IsContent c v → length (contents c v) ≤ room → filled (write_content c v) room ≡ Ok (contents c v)
+filled_content c v room h l = ap (λ r. r >>= finished) (put_content c v (blank room) refl h ∙ put_blank (contents c v) room l)
+
+-- what is given is this
+given_is : {T : Type 0} (view : T → List ℕ) (f : Result (List ℕ) ErrorKind) (w : List ℕ) (r : Result T Error) → GivesNow view r f → f ≡ Ok w → IsOkAnd r (λ x. view x ≡ w)
+given_is view f w (Ok x) h e = ok_is (view x) w (sym h ∙ e)
+given_is view f w (Err d) h e = absurd (cc (h, e))
+
+pub filled_spelled : {T : Type 0} (s : Shape) (v : Value s) (room : ℕ) (view : T → List ℕ) (r : Result T Error) → GivesNow view r (filled (write s v) room) → IsValid s v → length (octets_of s v) ≤ room
+    → IsOkAnd r (λ x. view x ≡ octets_of s v)
+filled_spelled s v room view r e h l = given_is view (filled (write s v) room) (octets_of s v) r e (filled_valid s v room h l)
+
+pub content_spelled : {T : Type 0} (c : Content) (v : ContentValue c) (room : ℕ) (view : T → List ℕ) (r : Result T Error) → GivesNow view r (filled (write_content c v) room) → IsContent c v
+    → length (contents c v) ≤ room → IsOkAnd r (λ x. view x ≡ contents c v)
+content_spelled c v room view r e h l = given_is view (filled (write_content c v) room) (contents c v) r e (filled_content c v room h l)
+
+-- what was written is what is given
+finished_is : (f : Out → Result Out ErrorKind) (room : ℕ) (w : List ℕ) → filled f room ≡ Ok w → (z : Out) × (f (blank room) ≡ Ok z) × (z.written ≡ w)
+finished_is f room w e =
+    let h = bind_ok (f (blank room)) finished w e in
+    (h.0, h.1, ok_is h.0.written w (unless_ok h.0.failed kinds.Failed (Ok h.0.written) w h.2).1)
+
+pub filled_octets : {T : Type 0} (s : Shape) (v : Value s) (room : ℕ) (view : T → List ℕ) (r : Result T Error) → GivesNow view r (filled (write s v) room)
+    → IfOk r (λ x. (view x ≡ octets_of s v) × Fits (view x))
+filled_octets s v room view (Ok x) e =
+    let h = finished_is (write s v) room (view x) e in
+    let same = sym h.2 ∙ writes_octets s v (blank room) h.0 h.1 in
+    (same, omega (arith, ap length same, writes_fitting s v (blank room) h.0 h.1))
+filled_octets s v room view (Err e) h = tt
+
+pub filled_contents : {T : Type 0} (c : Content) (v : ContentValue c) (room : ℕ) (view : T → List ℕ) (r : Result T Error) → GivesNow view r (filled (write_content c v) room)
+    → IfOk r (λ x. view x ≡ contents c v)
+filled_contents c v room view (Ok x) e = let h = finished_is (write_content c v) room (view x) e in sym h.2 ∙ writes_contents c v (blank room) h.0 h.1
+filled_contents c v room view (Err e) h = tt
+
+-- What was answered by a call that writes has an encoding, where the parts of the value are in their ranges.
+
+pub ok_valid : {T : Type 0} (s : Shape) (v : Value s) (view : T → Out) (r : Result T Error) → Gives view r (write s v (out [])) → IfOk r (λ _. IsInRange s v → IsValid s v)
+ok_valid s v view (Ok x) e = written_valid s v (out []) (view x) e
+ok_valid s v view (Err d) e = tt
+
+pub filled_in_range : {T : Type 0} (s : Shape) (v : Value s) (room : ℕ) (view : T → List ℕ) (r : Result T Error) → GivesNow view r (filled (write s v) room) → IfOk r (λ _. IsInRange s v → IsValid s v)
+filled_in_range s v room view (Ok x) e = let p = bind_ok (write s v (blank room)) finished (view x) e in written_valid s v (blank room) p.0 p.1
+filled_in_range s v room view (Err d) e = tt
+
+pub content_in_range : {T : Type 0} (c : Content) (v : ContentValue c) (room : ℕ) (view : T → List ℕ) (r : Result T Error) → GivesNow view r (filled (write_content c v) room) → IfOk r (λ _. IsContentInRange c v → IsContent c v)
+content_in_range c v room view (Ok x) e = let p = bind_ok (write_content c v (blank room)) finished (view x) e in content_valid c v (blank room) p.0 p.1
+content_in_range c v room view (Err d) e = tt
+
+pub appended_in_range : (s : Shape) (v : Value s) (w new : List ℕ) (r : Result Length Error) → IfOk r (λ len. appended s v w ≡ Ok (len.value, new)) → IfOk r (λ _. IsInRange s v → IsValid s v)
+appended_in_range s v w new (Ok len) e =
+    let p = bind_ok (size s v) (λ n. write s v (out w) >>= λ o. Ok (n, o.written)) (len.value, new) e in
+    let q = bind_ok (write s v (out w)) (λ o. Ok (p.0, o.written)) (len.value, new) p.2 in
+    written_valid s v (out w) q.0 q.1
+appended_in_range s v w new (Err d) e = tt
+
+-- What is written in two pieces is what is written at once.
+
+pub first_refused : (memory : Bool) (a b : List ℕ) (o : Out) (k : ErrorKind) → FailsTaking memory k (put a o) → FailsTaking memory k (put (a ++ b) o)
+first_refused memory a b o k h = λ other. sym (put-append a b o) ∙ ap (λ r. r >>= put b) (h other)
+
+pub writes_both : (memory : Bool) (a b : List ℕ) (old mid new : Out) (r : Result (Unit {0}) Error) → put a old ≡ Ok mid → Writes memory mid new r (put b) → Writes memory old new r (put (a ++ b))
+writes_both memory a b old mid new (Ok x) e h = sym (put-append a b old) ∙ ap (λ r. r >>= put b) e ∙ h
+writes_both memory a b old mid new (Err x) e h = λ other. sym (put-append a b old) ∙ ap (λ r. r >>= put b) e ∙ h other

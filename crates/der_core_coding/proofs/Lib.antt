@@ -1,4 +1,3 @@
 mod Windows
-mod Rooms
 mod Fronts
 mod Defaults

@@ -1,6 +1,6 @@
 use Rattle.std.proofs.Common.{[], ◌∷◌}
 use Rattle.std.proofs.lemmas.Result.{err_from_is_err_and}
-use Rattle.der_core_coding.proofs.Rooms.{first_refused, writes_both}
+use Rattle.der_core_coding.proofs.Fronts.{first_refused, writes_both}
 use Rattle.der_core_coding.proofs.behind.encode_behind.Goals as goal
 
 pub returns-in_err-write_byte-clause-exact : goal.returns-in_err-write_byte-clause-exact

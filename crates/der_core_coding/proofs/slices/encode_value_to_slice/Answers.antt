@@ -1,5 +1,5 @@
 use Rattle.std.proofs.Common.{Bor, ℕ, List, length}
-use Rattle.der_core_coding.proofs.Rooms.{content_spelled, filled_contents, content_in_range}
+use Rattle.der_core_coding.proofs.Fronts.{content_spelled, filled_contents, content_in_range}
 use Rattle.der_core_coding.proofs.slices.encode_value_to_slice.Goals as goal
 
 pub returns-clause-octets : goal.returns-clause-octets

@@ -1,5 +1,5 @@
 use Rattle.std.proofs.Common.{Bor, ℕ, List, length}
-use Rattle.der_core_coding.proofs.Rooms.{filled_spelled, filled_octets, filled_in_range}
+use Rattle.der_core_coding.proofs.Fronts.{filled_spelled, filled_octets, filled_in_range}
 use Rattle.der_core_coding.proofs.encode.ToDer.encode_to_slice.Goals as goal
 
 pub returns-clause-octets : goal.returns-clause-octets

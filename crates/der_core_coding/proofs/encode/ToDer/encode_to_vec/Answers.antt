@@ -1,4 +1,4 @@
-use Rattle.der_core_coding.proofs.Rooms.{appended_in_range}
+use Rattle.der_core_coding.proofs.Fronts.{appended_in_range}
 use Rattle.std.proofs.Common.{◌≡◌, ℕ, List, ◌++◌, length, None, false, Result, Ok, Err, refl, sym, ap, ◌∙◌, IfOk, IfErr}
 use Rattle.der_core_head.specs.declared.error.Error.{Error}
 use Rattle.der_core_head.specs.declared.length.Length.{Length}

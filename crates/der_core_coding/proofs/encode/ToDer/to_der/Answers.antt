@@ -1,5 +1,5 @@
 use Rattle.der_core_head.proofs.Written.{is_written, ok_octets}
-use Rattle.der_core_coding.proofs.Rooms.{ok_valid}
+use Rattle.der_core_coding.proofs.Fronts.{ok_valid}
 use Rattle.der_core_coding.proofs.encode.ToDer.to_der.Goals as goal
 
 pub returns-clause-octets : goal.returns-clause-octets
