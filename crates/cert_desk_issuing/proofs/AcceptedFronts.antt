@@ -20,9 +20,9 @@ use Rattle.x509_cert_names.specs.declared.attribute_type_and_value.AttributeType
 use Rattle.x509_cert_names.specs.PlainTexts.{SpellsName}
 use Rattle.x509_cert_parts.specs.SerialNumbers.{new_serial}
 use Rattle.cert_desk_orders.specs.declared.order.Order.{Order}
-use Rattle.der_types_sets.proofs.LentOwned.{plain-append}
+use Rattle.der_types_sets.proofs.LentOrders.{plain-append}
 use Rattle.x509_cert_names.proofs.OneName.{HasSome, read_some}
-use Rattle.der_types_sets.proofs.FewSteps.{length_plain_list}
+use Rattle.der_types_sets.proofs.AscendingSteps.{length_plain_list}
 use Rattle.cert_desk_issuing.specs.Acceptance.{AcceptedOrders, AcceptsFront, IsAccepted, IsAcceptedAt, IsKeyOf, IsNamedFor, names_subscriber}
 use Rattle.cert_desk_issuing.specs.PlainOrders.{AreKeys, AreReady, IsReady, PlainOrder, accepted_plain, orders_plain, CanBear}
 use Rattle.cert_desk_issuing.specs.Refusals.{IsRefusedAt, Refuses, RefusesAt, RefusesOrder, fault_at}

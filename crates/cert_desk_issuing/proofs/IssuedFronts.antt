@@ -30,9 +30,9 @@ use Rattle.cert_desk_issuing.specs.PlainOrders.{AreKeys, AreReady, IsReady, Plai
 use Rattle.cert_desk_issuing.specs.Refusals.{IsStoppedAt, Refuses, Stops, stop_at}
 use Rattle.cert_desk_issuing.specs.Roles.{place_above, role_at}
 use Rattle.cert_desk_issuing.proofs.AcceptedFronts.{each_more, key_there, plain_at}
-use Rattle.der_types_sets.proofs.FewSteps.{length_plain_list}
+use Rattle.der_types_sets.proofs.AscendingSteps.{length_plain_list}
 use Rattle.x509_cert_names.proofs.Lists.{all_more}
-use Rattle.der_types_sets.proofs.LentOwned.{plain-append}
+use Rattle.der_types_sets.proofs.LentOrders.{plain-append}
 
 -- so many certificates, from the first on, hold the orders and are signed, and the stream joins them
 pub record IsFront {S : Type 0} (algorithm : S → Algorithm) (signs : S → List ℕ → Bits → Type 0) (ps : List PlainOrder) (signers : List S) (cs : List PlainCertificate) (stream : List ℕ) : Type 0 where

@@ -1,30 +1,109 @@
--- The order of contents, whichever way sets are lent.
-use Rattle.std.proofs.Common.{◌≡◌, ℕ, zero, suc, ◌+◌, ◌<◌, ◌≤◌, eqb, true, false, List, [], ◌∷◌, ◌++◌, length, get_or, take, drop, drop-cons, Some, None, Result, Ok, Err, refl, sym, ap, subst, ◌∙◌, arith, ◌⊎◌, inl, inr, ◌≢◌, flat_map, slice_get, Ordering, Less, Bor, Bool, Option, bytes_eq, nat_cmp, Equal, Greater}
-use Rattle.std.specs.Ordering.{ordering_then}
-use Rattle.std.specs.Cmp.Lexicographic.{pointwise, slice_cmp}
-use Rattle.std.proofs.lemmas.Bool.Decides.{Decides-eqb}
-use Rattle.std.proofs.lemmas.List.{drop_all}
-use Rattle.std.proofs.lemmas.Slice.Eq.{strip_prefix_is}
+-- A set that is lent: what it writes and how it is compared, its members in a list, their range.
+use Rattle.std.proofs.Common.{◌≡◌, ℕ, zero, suc, ◌<◌, eqb, Bool, false, List, [], ◌∷◌, ◌++◌, length, None, Result, Ok, Err, refl, sym, ap, subst, ◌∙◌, arith, ◌+◌, ◌≤◌, true, get_or, take, drop, drop-cons, Some, ◌⊎◌, inl, inr, ◌≢◌, flat_map, slice_get, Ordering, Less, Bor, Option, bytes_eq, nat_cmp, Equal, Greater, append_assoc}
+use Rattle.std.specs.List.{AllByRecursion}
+use Rattle.std.proofs.lemmas.Bool.Decides.{nat_tests, Decides-eqb}
+use Rattle.std.proofs.lemmas.List.{append-nil, nil_from_length, drop_all}
+use Rattle.der_core_head.specs.Limits.{levels_max}
 use Rattle.der_core_head.specs.declared.error.Error.{Error}
 use Rattle.der_core_head.specs.declared.error.ErrorKind.{ErrorKind}
-use Rattle.der_core_head.specs.Shapes.{Shape, Content, ContentValue, tagged, many, Value, octets_of, body_octets, Step, above, not_below, Body, any, either, optional, defaulted, nothing, leaf, nested, done, field, only, exactly, few, in_order, BodyValue}
-use Rattle.der_core_head.specs.Grammar.{plain_list, plain_option, ordered, follows_last}
-use Rattle.der_core_head.specs.Reading.{Gives}
-use Rattle.der_core_head.specs.Writing.{size, size_content, size_body, write, Out, put, put_head, head_len, sum_len, fit_len, tlv_len, both_len, many_len, default_len, write_tlv, write_many, all_follow, write_in_order, default_write, write_content, write_body}
-use Rattle.der_core_head.proofs.Written.{out, put_is, unsized}
+use Rattle.der_core_head.specs.Heads.{Fits, length_octets}
+use Rattle.der_core_head.specs.Octets.{◌>>=◌}
+use Rattle.der_core_head.specs.Ranges.{IsInRange}
+use Rattle.der_core_head.specs.Shapes.{not_below, Shape, many, nested, Value, IsValid, IsBody, octets_of, contents, body_octets, AllAscending, Content, ContentValue, tagged, Step, above, Body, any, either, optional, defaulted, nothing, leaf, done, field, only, exactly, few, in_order, BodyValue}
+use Rattle.der_core_head.specs.Grammar.{read, plain_list, plain_option, ordered, follows_last}
+use Rattle.der_core_head.specs.Reading.{GivesNow, Gives}
+use Rattle.der_core_head.specs.Writing.{Out, Writes, put, size_body, write_many, all_follow, write_in_order, write, size, size_content, put_head, head_len, sum_len, fit_len, tlv_len, both_len, many_len, default_len, write_tlv, default_write, write_content, write_body}
+use Rattle.der_core_head.proofs.Written.{sized_body, ordered_written, put_some, put_body, list_valid, out, put_is, unsized, list_in_range}
+use Rattle.der_types_sets.specs.Sets.{Ascends}
+use Rattle.der_types_sets.specs.Ascending.{JoinsAscending, values_at}
+use Rattle.der_types_sets.specs.Lent.{Lent, IsLent, members_spelled, members_lent, IsMisplaced, IsUnwritten, IsUncompared}
+use Rattle.std.specs.Ordering.{ordering_then}
+use Rattle.std.specs.Cmp.Lexicographic.{pointwise, slice_cmp}
+use Rattle.std.proofs.lemmas.Slice.Eq.{strip_prefix_is}
 use Rattle.der_core_head.specs.declared.tag.Tag.{Tag}
 use Rattle.der_core.proofs.OrderLaws.{long_inside, then_same, nat_cmp-equal, octets_cmp-self, octets_cmp-append, splits_lengths}
 use Rattle.der_core.proofs.Sizes.{size_only, many_over}
 use Rattle.der_core.specs.Orders.{octets_cmp, Overflows}
-use Rattle.der_types_sets.specs.Lent.{Lent, IsLent, IsMisplaced, IsUnwritten, IsUncompared, members_lent}
-use Rattle.der_types_sets.proofs.FewSteps.{length_plain_list}
-use Rattle.der_types_sets.proofs.LentWrites.{of_octets}
-use Rattle.der_core_head.specs.Octets.{◌>>=◌}
+use Rattle.der_types_sets.proofs.AscendingSteps.{length_plain_list, ascends-plain, views}
 use Rattle.der_core_head.specs.Tags.{tag_octets}
-use Rattle.der_core_head.specs.Heads.{length_octets}
 use Rattle.der_core_head.specs.Leaves.{leaf_contents}
 use Rattle.der_core_head.proofs.Results.{bind_ok}
 use Rattle.der_core_head.specs.declared.error.ErrorKind.TheVariants as kinds
+use Rattle.std.proofs.lemmas.Bool.{cases_lt}
+use Rattle.der_core_head.proofs.BoundLaws.{both_all}
+
+-- What a lent set writes: its octets, where it has any, and else the encodings of its values.
+
+pub some_at : (n : ℕ) → eqb n 0 ≡ false → 0 < n
+some_at n e = grind (arith, nat_tests)
+
+-- The members are those of the values, or those that octets spell
+
+pub of_values : {A : Type 0} (s : Shape) (f : A → Value s) (l : Lent A) → IsLent s f l → length l.octets ≡ 0 → members_lent s f l ≡ plain_list f l.values
+of_values s f l h none =
+    let no_count : l.count ≡ 0 = grind (arith, h.some) in
+    ap (λ n. plain_list f l.values ++ values_at (read s levels_max) n l.octets) no_count ∙ append-nil (plain_list f l.values)
+
+some_spelled : (s : Shape) (n : ℕ) (w : List ℕ) → JoinsAscending s (values_at (read s levels_max) n w) w → 0 < length w → 0 < n
+some_spelled s zero w h some = absurd (omega (arith, ap (λ (u : List ℕ). length u) h.octets_are))
+some_spelled s (suc n) w h some = omega arith
+
+pub of_octets : {A : Type 0} (s : Shape) (f : A → Value s) (l : Lent A) → IsLent s f l → 0 < length l.octets → members_lent s f l ≡ members_spelled s l
+of_octets {A} s f l h some =
+    let none : l.values ≡ [] = nil_from_length l.values (h.has.one (some_spelled s l.count l.octets h.joined some)) in
+    ap (λ (v : List A). plain_list f v ++ members_spelled s l) none
+
+-- what these join to
+pub spelled_contents : {A : Type 0} (s : Shape) (f : A → Value s) (l : Lent A) → IsLent s f l → contents (nested (many s)) (members_spelled s l) ≡ l.octets
+unfolding contents body_octets
+spelled_contents s f l h = sym h.joined.octets_are
+
+-- As calls answer them
+
+pub values_sized : {A X : Type 0} (s : Shape) (f : A → Value s) (l : Lent A) (view : X → ℕ) (r : Result X Error) → IsLent s f l → length l.octets ≡ 0
+    → GivesNow view r (size_body (many s) (plain_list f l.values)) → GivesNow view r (size_body (many s) (members_lent s f l))
+values_sized s f l view r h none gives = subst (λ (v : List (Value s)). GivesNow view r (size_body (many s) v)) (sym (of_values s f l h none)) gives
+
+pub octets_sized : {A : Type 0} (s : Shape) (f : A → Value s) (l : Lent A) → IsLent s f l → 0 < length l.octets → size_body (many s) (members_lent s f l) ≡ Ok (length l.octets)
+unfolding IsBody body_octets
+octets_sized s f l h some =
+    let is = h.joined.octets_are in
+    ap (size_body (many s)) (of_octets s f l h some) ∙ sized_body (many s) (members_spelled s l) h.joined.valid (subst Fits is h.has.spelled.short) ∙ ap (λ (u : List ℕ). Ok (length u)) (sym is)
+
+values_ordered : {A : Type 0} (s : Shape) (f : A → Value s) (v : List A) → AllByRecursion (IsValid s) (plain_list f v) → Ascends s f v → AllAscending (octets_of s) (plain_list f v)
+values_ordered s f [] valid h = tt
+values_ordered s f (x ∷ []) valid h = tt
+values_ordered s f (x ∷ y ∷ v) valid h = (h.0 valid.0 valid.1.0, values_ordered s f (y ∷ v) valid.1 h.1)
+
+writes_ordered : (memory : Bool) (s : Shape) (v : List (Value s)) (old new : Out) (r : Result (Unit {0}) Error) → (write_many (write s) v old ≡ Ok new → AllAscending (octets_of s) v)
+    → Writes memory old new r (write_many (write s) v) → Writes memory old new r (write_in_order not_below (write s) (octets_of s) v)
+writes_ordered memory s v old new (Ok u) order h = ordered_written not_below (write s) (octets_of s) v old (order h) ∙ h
+writes_ordered memory s v old new (Err d) order h = λ other. ap (λ r. r >>= λ z. all_follow not_below (octets_of s) None v >>= λ _. Ok z) (h other)
+
+pub values_written : {A : Type 0} (memory : Bool) (s : Shape) (f : A → Value s) (l : Lent A) (old new : Out) (r : Result (Unit {0}) Error) → IsLent s f l → length l.octets ≡ 0 → AllByRecursion (IsInRange s) (plain_list f l.values)
+    → Writes memory old new r (write_many (write s) (plain_list f l.values)) → Writes memory old new r (write_in_order not_below (write s) (octets_of s) (members_lent s f l))
+values_written memory s f l old new r h none range writes =
+    let order = λ (went : write_many (write s) (plain_list f l.values) old ≡ Ok new). values_ordered s f l.values (list_valid s (plain_list f l.values) old new went range) h.ascend in
+    subst (λ (v : List (Value s)). Writes memory old new r (write_in_order not_below (write s) (octets_of s) v)) (sym (of_values s f l h none)) (writes_ordered memory s (plain_list f l.values) old new r order writes)
+
+put_some_is : (w : List ℕ) (o : Out) → 0 < length w → put_some w o ≡ put w o
+put_some_is [] o some = absurd (omega arith)
+put_some_is (b ∷ w) o some = refl
+
+writes_same : (memory : Bool) (old new : Out) (r : Result (Unit {0}) Error) (f g : Out → Result Out ErrorKind) → f old ≡ g old → Writes memory old new r g → Writes memory old new r f
+writes_same memory old new (Ok u) f g e h = e ∙ h
+writes_same memory old new (Err d) f g e h = λ other. e ∙ h other
+
+pub octets_written : {A : Type 0} (memory : Bool) (s : Shape) (f : A → Value s) (l : Lent A) (old new : Out) (r : Result (Unit {0}) Error) → IsLent s f l → 0 < length l.octets
+    → Writes memory old new r (put l.octets) → Writes memory old new r (write_in_order not_below (write s) (octets_of s) (members_lent s f l))
+unfolding IsBody body_octets
+octets_written memory s f l old new r h some writes =
+    let v = members_spelled s l in
+    let same = put_body (many s) v old h.joined.valid ∙ ap (λ (u : List ℕ). put_some u old) (sym h.joined.octets_are) ∙ put_some_is l.octets old some in
+    subst (λ (v : List (Value s)). Writes memory old new r (write_in_order not_below (write s) (octets_of s) v)) (sym (of_octets s f l h some))
+    (writes_ordered memory s v old new r (λ _. h.joined.ascend) (writes_same memory old new r (write_many (write s) v) (put l.octets) same writes))
+
+-- The order of contents, whichever way sets are lent.
 
 -- Into memory a value is written, or its encoding passes what a length can count, or a strict set in it doesn't rise.
 -- what was written into memory, or that something is out of order
@@ -240,3 +319,43 @@ same_number f xs v e = ap (λ (u : List _). length u) e ∙ length_plain_list f 
 
 pub same_member : {A P : Type 0} (f : A → P) (xs : List A) (v : List P) (i : ℕ) → v ≡ plain_list f xs → slice_get v i ≡ plain_option f (slice_get xs i)
 same_member f xs v i e = ap (λ (u : List _). slice_get u i) e ∙ plain-get f xs i
+
+-- The members of a lent set, in a list of their own.
+
+pub plain-append : {A P : Type 0} (f : A → P) (xs ys : List A) → plain_list f (xs ++ ys) ≡ plain_list f xs ++ plain_list f ys
+plain-append f [] ys = refl
+plain-append f (x ∷ xs) ys = ap (λ (u : List _). f x ∷ u) (plain-append f xs ys)
+
+plain-ascends : {A : Type 0} (s : Shape) (f : A → Value s) (xs : List A) → Ascends s (λ v. v) (plain_list f xs) → Ascends s f xs
+plain-ascends s f [] h = tt
+plain-ascends s f (x ∷ []) h = tt
+plain-ascends s f (x ∷ y ∷ xs) h = (h.0, plain-ascends s f (y ∷ xs) h.1)
+
+joined-ascends : (s : Shape) (v : List (Value s)) → AllAscending (octets_of s) v → Ascends s (λ x. x) v
+joined-ascends s [] h = tt
+joined-ascends s (x ∷ []) h = tt
+joined-ascends s (x ∷ y ∷ v) h = ((λ p q. h.0), joined-ascends s (y ∷ v) h.1)
+
+lent-ascends : {A : Type 0} (s : Shape) (f : A → Value s) (l : Lent A) → IsLent s f l → Ascends s (λ x. x) (members_lent s f l)
+lent-ascends s f l h = elim (cases_lt 0 (length l.octets)) [
+  | inl some ↦ subst (Ascends s (λ x. x)) (sym (of_octets s f l h some)) (joined-ascends s (members_spelled s l) h.joined.ascend)
+  | inr none ↦ subst (Ascends s (λ x. x)) (sym (of_values s f l h (omega arith))) (ascends-plain s f l.values h.ascend)
+]
+
+-- a copy of each member, so far
+pub taken_on : {A P : Type 0} (f : A → P) (xs : List A) (x : A) (left more all : List P) → plain_list f xs ++ left ≡ all → left ≡ f x ∷ more → plain_list f (xs ++ x ∷ []) ++ more ≡ all
+taken_on f xs x left more all so_far next =
+    ap (λ (u : List _). u ++ more) (plain-append f xs (x ∷ [])) ∙ append_assoc (plain_list f xs) (f x ∷ []) more ∙ ap (λ (u : List _). plain_list f xs ++ u) (sym next) ∙ so_far
+
+pub all_taken : {A P : Type 0} (f : A → P) (xs : List A) (left all : List P) → plain_list f xs ++ left ≡ all → left ≡ [] → plain_list f xs ≡ all
+all_taken f xs left all so_far none = sym (append-nil (plain_list f xs)) ∙ ap (λ (u : List _). plain_list f xs ++ u) (sym none) ∙ so_far
+
+pub taken_ascend : {A : Type 0} (s : Shape) (written plain : A → Value s) (agree : (x : A) → written x ≡ plain x) (l : Lent A) (xs : List A) → IsLent s written l → plain_list plain xs ≡ members_lent s plain l → Ascends s written xs
+taken_ascend {A} s written plain agree l xs h same =
+    let P : (A → Value s) → Type 0 = λ f. plain_list f xs ≡ members_lent s f l in
+    plain-ascends s written xs (subst (Ascends s (λ x. x)) (sym (subst P (sym (views s written plain agree)) same)) (lent-ascends s written l h))
+
+-- The members of a lent set are in range: values by their type, and what octets spell since it was read.
+
+pub lent_in_range : {A : Type 0} (s : Shape) (f : A → Value s) (l : Lent A) → IsLent s f l → AllByRecursion (IsInRange s) (plain_list f l.values) → AllByRecursion (IsInRange s) (members_lent s f l)
+lent_in_range s f l h values = both_all (IsInRange s) (plain_list f l.values) (members_spelled s l) values (list_in_range s (members_spelled s l) h.joined.valid)

@@ -1,11 +1,4 @@
 pub mod SetSteps
 pub mod AscendingSteps
-pub mod LentSteps
-pub mod LooseSteps
-pub mod FewSteps
-pub mod Arrangements
-pub mod LentWrites
-pub mod LentOwned
 pub mod LentOrders
-pub mod LentRanges
 pub mod Arranged

@@ -14,7 +14,7 @@ use der_core::Shaped;
 
 /// The encoding of a set doesn't depend on the order in which its members were inserted: two lists
 /// in ascending order that have the same members join to the same octets (X.690 11.6).
-#[tactic(auto, using(crate::proofs::Arrangements::one_arrangement), unfolding(der_core_head::specs::Shapes::body_octets))]
+#[tactic(auto, using(crate::proofs::Arranged::one_arrangement), unfolding(der_core_head::specs::Shapes::body_octets))]
 pub fn order_of_insertions()
     ensures { (s : Shape) (v w : List (Value s)) → AllValid s (λ x. x) v → AllValid s (λ x. x) w
         → Ascends s (λ x. x) v → Ascends s (λ x. x) w → IsPermutation v w

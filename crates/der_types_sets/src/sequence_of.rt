@@ -205,7 +205,7 @@ impl<T: AsRead, const N: usize> AsReadValue for SequenceOf<T, N> {
 }
 
 impl<T: InRange, const N: usize> InRangeValue for SequenceOf<T, N> {
-    #[tactic(auto, using(crate::proofs::FewSteps::length_plain_list))]
+    #[tactic(auto, using(crate::proofs::AscendingSteps::length_plain_list))]
     fn value_in_range(&self) {
         list_in_range(self.members.as_slice());
     }

@@ -6,7 +6,7 @@ use der_core::making::list_in_range;
 use der_core::{InRange, InRangeValue};
 
 impl<T: InRange, const N: usize> InRangeValue for SetOf<T, N> {
-    #[tactic(auto, using(crate::proofs::FewSteps::length_plain_list))]
+    #[tactic(auto, using(crate::proofs::AscendingSteps::length_plain_list))]
     fn value_in_range(&self) {
         list_in_range(self.members.as_slice());
     }

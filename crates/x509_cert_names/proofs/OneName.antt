@@ -10,8 +10,8 @@ use Rattle.der_core_head.specs.Grammar.{plain_list}
 use Rattle.der_core_head.specs.Shapes.{IsBody, IsContent, IsValid}
 use Rattle.der_core.specs.Placed.{AllValid}
 use Rattle.der_types_sets.proofs.Arranged.{valid_moved}
-use Rattle.der_types_sets.proofs.LentOwned.{plain-append}
-use Rattle.der_types_sets.proofs.LooseSteps.{ascends-plain, one_set, permutation-plain}
+use Rattle.der_types_sets.proofs.LentOrders.{plain-append}
+use Rattle.der_types_sets.proofs.AscendingSteps.{ascends-plain, one_set, permutation-plain}
 use Rattle.x509_cert_name_texts.specs.Pieces.{ReadsPieces, Counts, HasNone, IsFirstPiece, in_front_of}
 use Rattle.x509_cert_names.specs.declared.attribute_type_and_value.AttributeTypeAndValue.{AttributeTypeAndValue}
 use Rattle.x509_cert_names.specs.Names.{PlainName, name, relative_name, type_and_value}

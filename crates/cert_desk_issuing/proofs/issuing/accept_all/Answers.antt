@@ -2,7 +2,7 @@ use Rattle.std.proofs.Common.{map, sym, ◌∙◌, subst}
 use Rattle.cert_desk_issuing.specs.declared.issue_error.IssueError.{IssueError}
 use Rattle.cert_desk_issuing.specs.PlainOrders.{accepted_plain, orders_plain}
 use Rattle.cert_desk_issuing.specs.Refusals.{Refuses}
-use Rattle.der_types_sets.proofs.FewSteps.{length_plain_list}
+use Rattle.der_types_sets.proofs.AscendingSteps.{length_plain_list}
 use Rattle.cert_desk_issuing.proofs.AcceptedFronts.{accepted_more, told}
 use Rattle.cert_desk_issuing.proofs.issuing.accept_all.Goals as goal
 

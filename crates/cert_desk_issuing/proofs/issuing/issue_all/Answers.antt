@@ -5,7 +5,7 @@ use Rattle.x509_cert_certificates.specs.Views.{certificate_plain}
 use Rattle.x509_cert_builders.specs.States.{as_written}
 use Rattle.cert_desk_issuing.specs.PlainOrders.{orders_plain}
 use Rattle.cert_desk_issuing.specs.Refusals.{Refuses}
-use Rattle.der_types_sets.proofs.FewSteps.{length_plain_list}
+use Rattle.der_types_sets.proofs.AscendingSteps.{length_plain_list}
 use Rattle.cert_desk_issuing.proofs.IssuedFronts.{made_more, stopped}
 use Rattle.cert_desk_issuing.proofs.issuing.issue_all.Goals as goal
 

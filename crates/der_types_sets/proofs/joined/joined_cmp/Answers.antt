@@ -4,9 +4,8 @@ use Rattle.std.proofs.lemmas.List.{nil_from_length}
 use Rattle.der_core_head.specs.Shapes.{IsBody, body_octets}
 use Rattle.der_core.specs.Orders.{octets_cmp}
 use Rattle.der_types_sets.proofs.SetSteps.{valid_at}
-use Rattle.der_types_sets.proofs.LooseSteps.{valid-plain}
-use Rattle.der_types_sets.proofs.LentWrites.{some_at}
-use Rattle.der_types_sets.proofs.LentOrders.{remains_on, remains_unlike, remains_end, less_than_some, unwritten, starts_with, starts_otherwise}
+use Rattle.der_types_sets.proofs.AscendingSteps.{valid-plain}
+use Rattle.der_types_sets.proofs.LentOrders.{some_at, remains_on, remains_unlike, remains_end, less_than_some, unwritten, starts_with, starts_otherwise}
 use Rattle.der_types_sets.proofs.joined.joined_cmp.Goals as goal
 
 pub loop-value-init : goal.loop-value-init

@@ -1,6 +1,6 @@
 use Rattle.std.proofs.Common.{arith}
 use Rattle.std.proofs.lemmas.Result.{err_from_is_err_and}
-use Rattle.der_types_sets.proofs.LentSteps.{first_spelled, spelled_wants}
+use Rattle.der_types_sets.proofs.SetSteps.{first_spelled, spelled_wants}
 use Rattle.der_types_sets.proofs.set_of_ref_iter.first_member.Goals as goal
 
 pub returns-in_err-value-clause-refused : goal.returns-in_err-value-clause-refused

@@ -5,8 +5,7 @@ use Rattle.der_core_head.specs.Reading.{State, IsDer}
 use Rattle.der_core_head.specs.Shapes.{Value}
 use Rattle.der_core_head.proofs.Results.{IsBytes}
 use Rattle.der_core_octets.proofs.GoingOn.{broken_kept, kept_then}
-use Rattle.der_types_sets.proofs.FewSteps.{few_joins, few_again}
-use Rattle.der_types_sets.proofs.LooseSteps.{by_ber, not_too_long, loose, only_loose}
+use Rattle.der_types_sets.proofs.AscendingSteps.{few_joins, few_again, by_ber, not_too_long, loose, only_loose}
 use Rattle.der_types_sets.proofs.set_of.SetOf.decode_value.Goals as goal
 
 pub returns-in_err-read-clause-only : goal.returns-in_err-read-clause-only

@@ -1,5 +1,5 @@
 use Rattle.std.proofs.Common.{sym, ◌∙◌, eqb-true}
-use Rattle.der_types_sets.proofs.LentWrites.{some_at, values_sized, octets_sized}
+use Rattle.der_types_sets.proofs.LentOrders.{some_at, values_sized, octets_sized}
 use Rattle.der_types_sets.proofs.set_of_ref.SetOfRef.content_len.Goals as goal
 
 pub returns-then-is_empty : goal.returns-then-is_empty

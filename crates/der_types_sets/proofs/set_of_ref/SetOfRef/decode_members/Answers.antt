@@ -29,7 +29,7 @@ returns-in-Err g c =
 pub invariant_of-result : goal.invariant_of-result
 invariant_of-result g c =
     let all = counts g.T.Shaped.shape c.levels_left.result c.remaining-octets.result.now c.in-Ok.count g.met.T.Member.apart c.levels_left.ensures.most (λ i. omega (arith, c.remaining-octets.items_fit i)) c.remaining-octets.ensures.short c.in-Ok.ensures.read in
-    record { has = record { one = λ _. refl; spelled = record { many = all.many; short = c.remaining-octets.ensures.short } }; some = all.some; ascend = tt; joined = all.spelled }
+    record { has = record { one = λ _. refl; spelled = record { many = all.as_many; short = c.remaining-octets.ensures.short } }; some = all.some; ascend = tt; joined = all.spelled }
 
 pub returns-in-Ok : goal.returns-in-Ok
 returns-in-Ok g c =

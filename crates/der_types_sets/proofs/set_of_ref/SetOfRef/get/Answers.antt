@@ -1,7 +1,7 @@
 use Rattle.std.proofs.Common.{◌≡◌, ℕ, suc, ◌+◌, sym, ap, ◌∙◌, arith, drop}
 use Rattle.der_core.proofs.IterOrders.{next_left}
 use Rattle.der_types_sets.specs.Lent.{members_lent}
-use Rattle.der_types_sets.proofs.LentSteps.{none_at, yielded}
+use Rattle.der_types_sets.proofs.SetSteps.{none_at, yielded}
 use Rattle.der_types_sets.proofs.set_of_ref.SetOfRef.get.Goals as goal
 
 pub returns-in_default-next-clause-ok : goal.returns-in_default-next-clause-ok

@@ -1,7 +1,7 @@
 use Rattle.std.proofs.Common.{rules}
 use Rattle.der_types_sets.specs.Lent.{members_lent}
-use Rattle.der_types_sets.proofs.LentSteps.{yielded}
-use Rattle.der_types_sets.proofs.LentOwned.{taken_on, all_taken, taken_ascend}
+use Rattle.der_types_sets.proofs.SetSteps.{yielded}
+use Rattle.der_types_sets.proofs.LentOrders.{taken_on, all_taken, taken_ascend}
 use Rattle.der_types_sets.proofs.set_of_ref.SetOfRef.ref_to_owned.Goals as goal
 
 pub of_members-requires : goal.of_members-requires

@@ -1,5 +1,5 @@
 use Rattle.std.proofs.Common.{sym, ◌∙◌, eqb-true}
-use Rattle.der_types_sets.proofs.LentWrites.{some_at, values_written, octets_written}
+use Rattle.der_types_sets.proofs.LentOrders.{some_at, values_written, octets_written}
 use Rattle.der_types_sets.proofs.set_of_ref.SetOfRefEncodeValue.encode_value.Goals as goal
 
 pub returns-then-is_empty-clause-exact : goal.returns-then-is_empty-clause-exact

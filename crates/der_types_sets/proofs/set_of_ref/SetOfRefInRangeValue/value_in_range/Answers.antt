@@ -1,4 +1,4 @@
-use Rattle.der_types_sets.proofs.LentRanges.{lent_in_range}
+use Rattle.der_types_sets.proofs.LentOrders.{lent_in_range}
 use Rattle.der_types_sets.proofs.set_of_ref.SetOfRefInRangeValue.value_in_range.Goals as goal
 
 pub returns : goal.returns

@@ -1,6 +1,6 @@
 use Rattle.std.proofs.Common.{List, length, ap, arith}
 use Rattle.der_core_head.specs.Shapes.{Value}
-use Rattle.der_types_sets.proofs.LentSteps.{front_lent}
+use Rattle.der_types_sets.proofs.SetSteps.{front_lent}
 use Rattle.der_types_sets.proofs.set_of_ref_iter.SetOfRefIterIterator.next.Goals as goal
 
 pub invariant_of-self-in-Ok-first_member : goal.invariant_of-self-in-Ok-first_member

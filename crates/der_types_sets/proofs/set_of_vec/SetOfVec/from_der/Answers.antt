@@ -5,7 +5,7 @@ use Rattle.der_core_head.specs.Spelling.{is_element}
 use Rattle.der_core_head.specs.Grammar.{plain_list}
 use Rattle.der_core_head.proofs.Results.{ok_is}
 use Rattle.der_core_values.specs.Both.{both_true}
-use Rattle.der_types_sets.proofs.LooseSteps.{members_valid, not_too_long, spells_loosely, only_whole}
+use Rattle.der_types_sets.proofs.AscendingSteps.{members_valid, not_too_long, spells_loosely, only_whole}
 use Rattle.der_types_sets.proofs.set_of_vec.SetOfVec.from_der.Goals as goal
 
 pub returns-in_err-set : goal.returns-in_err-set
