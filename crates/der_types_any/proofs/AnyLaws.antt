@@ -1,13 +1,13 @@
 -- A content that is read as a value of a type.
-use Rattle.std.proofs.Common.{◌≡◌, ℕ, List, [], length, true, false, Result, Ok, Err, refl, sym, ap, ◌∙◌, arith, le-ltb}
+use Rattle.std.proofs.Common.{◌≡◌, ℕ, List, [], length, true, false, Result, Ok, Err, refl, sym, ap, ◌∙◌, arith, le-ltb, Bool, nat_eq, ◌&&◌}
 use Rattle.std.proofs.lemmas.List.{take_all, drop_all}
 use Rattle.der_core_head.specs.declared.error.ErrorKind.{ErrorKind}
 use Rattle.der_core_head.specs.declared.error.ErrorKind.TheVariants as kinds
 use Rattle.der_core_head.specs.declared.encoding_rules.EncodingRules.{EncodingRules}
 use Rattle.der_core_head.specs.declared.tag.Tag.{Tag}
 use Rattle.der_core_head.specs.Octets.{◌>>=◌, Readings}
-use Rattle.der_core_head.specs.Tags.{same_tag}
-use Rattle.der_core_head.specs.Shapes.{AnyValue, Content, ContentValue}
+use Rattle.der_core_head.specs.Tags.{same_tag, leading_octet, number_of}
+use Rattle.der_core_head.specs.Shapes.{AnyValue, Content, ContentValue, any}
 use Rattle.der_core_head.specs.Grammar.{read_content_by, whole, value_at}
 use Rattle.der_core_head.specs.Reading.{Fails}
 use Rattle.der_core_head.specs.Fronts.{alone}
@@ -18,6 +18,10 @@ use Rattle.der_core_head.specs.Heads.{Fits}
 use Rattle.der_core_head.specs.Texts.{Repertoire, text_read, utf8_read}
 use Rattle.der_types_text.specs.Texts.{text_from, utf8_from}
 use Rattle.der_types_text.proofs.AnyTexts.{any_read}
+use Rattle.std.specs.Cmp.{nat_eq_equiv}
+use Rattle.std.specs.Cmp.Lexicographic.{pointwise, bytes_decides}
+use Rattle.der_core.proofs.ValueEquality.{Alike, exact}
+use Rattle.der_types_any.specs.AnyOrders.{any_key}
 
 pub value_whole : {P : Type 0} (f : Readings P) (w : List ℕ) → value_at f (length w) w ≡ (f w >>= whole >>= λ x. Ok (x.0, []))
 unfolding value_at
@@ -69,3 +73,24 @@ pub utf8_from-short : (w : List ℕ) → Fits w → utf8_from w ≡ utf8_read w
 utf8_from-short w few = rw (le-ltb length_max (length w) (omega arith)) refl
 
 pub ruleset text_contents = (text_from-short, utf8_from-short, any_read)
+
+-- `==` of any values is of tag and content.
+
+both_alike : (t : Tag) → (nat_eq (leading_octet t) (leading_octet t) && nat_eq (number_of t) (number_of t)) ≡ true
+both_alike t i = nat_eq_equiv.refl (leading_octet t) i && nat_eq_equiv.refl (number_of t) i
+
+abbrev pub same_values : AnyValue → AnyValue → Bool
+same_values x y = pointwise nat_eq (any_key x) (any_key y)
+
+-- values of one key are one value
+pub one_value : (x y : AnyValue) → same_values x y ≡ true → x ≡ y
+one_value x y e =
+    let keys : any_key x ≡ any_key y = (bytes_decides (any_key x) (any_key y)).0 e in
+    let leading : leading_octet x.tag ≡ leading_octet y.tag = cc in
+    let number : number_of x.tag ≡ number_of y.tag = cc in
+    let content : x.contents ≡ y.contents = cc in
+    let tag : x.tag ≡ y.tag = same_tag-eq x.tag y.tag (rw (leading, number) (both_alike y.tag)) in
+    λ i. record { tag = tag i; contents = content i }
+
+pub values : (x y : AnyValue) → Alike any (same_values x y) x y
+values x y = exact (one_value x y) (λ e. (bytes_decides (any_key x) (any_key y)).1 (ap any_key e))

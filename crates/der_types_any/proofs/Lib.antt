@@ -1,2 +1,1 @@
-mod AnyLaws
-pub mod AnyEquality
+pub mod AnyLaws

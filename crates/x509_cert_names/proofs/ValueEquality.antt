@@ -5,7 +5,7 @@ use Rattle.const_oid.specs.Bound.{Bound}
 use Rattle.der_core.proofs.ValueEquality.{Alike, AlikeWithin, exact, leaves, behind, first, last, list, next, second, set}
 use Rattle.der_core_head.specs.Grammar.{plain_list}
 use Rattle.der_core_head.specs.Shapes.{AnyValue, any, rising}
-use Rattle.der_types_any.proofs.AnyEquality.{same_values, values}
+use Rattle.der_types_any.proofs.AnyLaws.{same_values, values}
 use Rattle.x509_cert_names.specs.DirectoryStrings.{directory_plain}
 use Rattle.x509_cert_names.specs.Names.{attribute, directory_string, type_and_value, relative_name, name}
 use Rattle.x509_cert_names.specs.Pairs.{pair_plain, relative_plain, same_pair}

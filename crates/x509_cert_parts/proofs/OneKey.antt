@@ -10,7 +10,7 @@ use Rattle.der_core_head.specs.BitStrings.{Bits, bit_contents}
 use Rattle.der_core_head.specs.Grammar.{plain_option}
 use Rattle.der_core_head.specs.Shapes.{AnyValue}
 use Rattle.x509_cert_parts.specs.Grammar.{PublicKey}
-use Rattle.der_types_any.proofs.AnyEquality.{one_value, same_values}
+use Rattle.der_types_any.proofs.AnyLaws.{one_value, same_values}
 use Rattle.x509_cert_parts.specs.declared.subject_public_key_info.SubjectPublicKeyInfo.{SubjectPublicKeyInfo}
 use Rattle.x509_cert_parts.proofs.ValueEquality.{keys}
 

@@ -5,7 +5,7 @@ use Rattle.std.specs.Cmp.Lexicographic.{pointwise}
 use Rattle.const_oid.specs.Bound.{Bound}
 use Rattle.der_core_head.specs.Dates.{Civil}
 use Rattle.der_core.proofs.ValueEquality.{Alike, default, exact, flags, last, leaves, list, marked, next, option, behind}
-use Rattle.der_types_any.proofs.AnyEquality.{values}
+use Rattle.der_types_any.proofs.AnyLaws.{values}
 use Rattle.x509_cert_parts.specs.Grammar.{algorithm_identifier, extension, extensions, public_key_info, time, validity, version}
 use Rattle.x509_cert_parts.specs.Views.{algorithm_plain, extension_plain, extensions_plain, key_plain, time_value, validity_plain, version_number}
 use Rattle.x509_cert_parts.specs.contracts.algorithm_identifier.AlgorithmIdentifierPartialEq.TheImpl.{eq-value as same_algorithm}
