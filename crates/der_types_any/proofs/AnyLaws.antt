@@ -17,7 +17,7 @@ use Rattle.der_core_head.specs.Limits.{length_max}
 use Rattle.der_core_head.specs.Heads.{Fits}
 use Rattle.der_core_head.specs.Texts.{Repertoire, text_read, utf8_read}
 use Rattle.der_types_text.specs.Texts.{text_from, utf8_from}
-use Rattle.der_types_text.proofs.AnyTexts.{any_read}
+use Rattle.der_types_text.proofs.BmpTexts.{any_read}
 use Rattle.std.specs.Cmp.{nat_eq_equiv}
 use Rattle.std.specs.Cmp.Lexicographic.{pointwise, bytes_decides}
 use Rattle.der_core.proofs.ValueEquality.{Alike, exact}

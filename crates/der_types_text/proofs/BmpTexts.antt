@@ -16,6 +16,8 @@ use Rattle.der_types_text.specs.BmpStrings.{are_bmp, bmp_from}
 use Rattle.std.proofs.Math.Utf8.{scalar, scalars, low_scalar}
 use Rattle.std.proofs.lemmas.Str.{chars-encodes, encodes-chars, IsUtf8-from_ascii}
 use Rattle.der_core_head.specs.Octets.{IsOctets}
+use Rattle.der_core_head.specs.declared.tag.Tag.{Tag}
+use Rattle.der_core_head.specs.Texts.{any_octet, is_within, text_read}
 
 -- pairs are an even number of octets
 pub are_pairs-even : (w : List ℕ) → are_pairs w ≡ nat_eq (length w % 2) 0
@@ -103,3 +105,13 @@ ascii_octets p (b ∷ w) below e =
     let parts = and_parts (p b) (list_all p w) e in
     let small = below b parts.0 in
     (omega arith, ascii_octets p w below parts.1)
+
+-- Any octets are a text of any octets.
+
+pub all_within : (w : List ℕ) → list_all (is_within any_octet) w ≡ true
+all_within [] = refl
+all_within (b ∷ w) = all_within w
+
+pub any_read : (t : Tag) (w : List ℕ) → text_read any_octet t w ≡ Ok w
+unfolding text_read
+any_read t w = cond-true (list_all (is_within any_octet) w) (fine w) (Err (kinds.Value t)) (all_within w)

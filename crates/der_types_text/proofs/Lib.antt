@@ -1,2 +1,1 @@
-pub mod AnyTexts
 pub mod BmpTexts

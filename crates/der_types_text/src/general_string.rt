@@ -99,7 +99,7 @@ impl<'a> Primitive for GeneralStringRef<'a> {
 impl<'a> Leaf<'a> for GeneralStringRef<'a> {
     ghost takes_memory = { false };
 
-    #[tactic(auto, using(crate::proofs::AnyTexts::any_read))]
+    #[tactic(auto, using(crate::proofs::BmpTexts::any_read))]
     fn from_content(
         _alloc: Global,
         _tag: Tag,

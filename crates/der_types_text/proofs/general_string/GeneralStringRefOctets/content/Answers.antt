@@ -1,6 +1,6 @@
 use Rattle.std.proofs.Common.{subst}
 use Rattle.der_core_head.specs.Octets.{IsOctets}
-use Rattle.der_types_text.proofs.AnyTexts.{all_within}
+use Rattle.der_types_text.proofs.BmpTexts.{all_within}
 use Rattle.der_types_text.proofs.general_string.GeneralStringRefOctets.content.Goals as goal
 
 pub returns-clause-in_range : goal.returns-clause-in_range
