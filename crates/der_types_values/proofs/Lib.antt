@@ -1,2 +1,1 @@
-mod AllBits
 pub mod NamedSteps

@@ -68,7 +68,7 @@ impl BitString {
     ///
     /// # Errors
     /// `Overflow` for 2^32 octets or more.
-    #[tactic(auto, using(crate::proofs::AllBits::all_bits))]
+    #[tactic(auto, using(crate::proofs::NamedSteps::all_bits))]
     pub fn from_bytes(bytes: Vec<u8>) -> Result<BitString, Error>
         ensures ok { IfOk result (λ b. IsLength (vec_len bytes)
             × (b ≡ record { unused = 0; octets = bytes.items })) }

@@ -70,7 +70,7 @@ impl<'a> Iterator for BitStringIter<'a> {
 
 impl<'a> ExactSizeIterator for BitStringIter<'a> {
     /// The number of bits that are yet to come.
-    #[tactic(auto, using(crate::proofs::AllBits::runs))]
+    #[tactic(auto, using(crate::proofs::NamedSteps::runs))]
     fn len(&self) -> usize {
         self.left
     }

@@ -56,7 +56,7 @@ impl<'a> BitStringRef<'a> {
     ///
     /// # Errors
     /// `Overflow` for 2^32 octets or more.
-    #[tactic(auto, using(crate::proofs::AllBits::all_bits))]
+    #[tactic(auto, using(crate::proofs::NamedSteps::all_bits))]
     pub fn from_bytes(bytes: &'a [u8]) -> Result<BitStringRef<'a>, Error>
         ensures ok { IfOk result
             (λ b. Fits bytes.now × (bits_lent b ≡ record { unused = 0; octets = bytes.now })) }
@@ -87,7 +87,7 @@ impl<'a> BitStringRef<'a> {
     }
 
     /// The number of bits, the unused ones left out.
-    #[tactic(auto, using(crate::proofs::AllBits::few_unused))]
+    #[tactic(auto, using(crate::proofs::NamedSteps::few_unused))]
     pub fn bit_len(&self) -> usize
         ensures { result ≡ bit_count (bits_lent self.now) }
     {

@@ -10,7 +10,7 @@ use crate::bit_string_ref::BitStringRef;
 use der_core::{Error, ErrorKind, Length, Tag};
 
 /// The last octet, or 0 where there is none.
-#[tactic(auto, using(crate::proofs::AllBits::last_place))]
+#[tactic(auto, using(crate::proofs::NamedSteps::last_place))]
 fn last_of(octets: &[u8]) -> u8
     ensures { result ≡ last_octet octets.now }
 {
