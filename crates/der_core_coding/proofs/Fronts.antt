@@ -1,4 +1,4 @@
--- A value at the front of octets, as its spelling.
+-- A value at the front of octets, as its spelling, and what is written into a slice and into memory.
 use Rattle.std.proofs.Common.{◌≡◌, ℕ, true, ltb, List, ◌++◌, length, Result, Ok, Err, sym, ap, ◌∙◌, arith, le-ltb, ltb-false, IfOk, ◌≤◌, ◌-◌, [], take, drop, inl, inr, drop_of_length-le, take_at, take-append-drop, length-append, length-drop, false, Some, refl, IsOkAnd, Bool}
 use Rattle.der_core_head.specs.Limits.{length_max, levels_max}
 use Rattle.der_core_head.specs.declared.error.Error.{Error}

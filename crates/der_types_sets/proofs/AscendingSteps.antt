@@ -1,4 +1,4 @@
--- Members in order, read one after the other: those that ascend, and those that rise.
+-- Members read one after the other: those that ascend, those that rise, no more than so many, and in whichever order.
 use Rattle.std.proofs.Common.{◌≡◌, ◌≤◌, ℕ, zero, suc, true, List, [], ◌∷◌, length, take, drop, map, Result, Ok, inr, ◌⊎◌, refl, sym, ap, subst, ◌∙◌, flat_map, IsPermutation, le-ltb, append-nil, take-append-drop, arith, ◌+◌, ◌<◌, ◌++◌, Option, Some, None, ◌≢◌, length-append}
 use Rattle.std.specs.List.{AllByRecursion}
 use Rattle.std.proofs.lemmas.List.Sorted.{IsPermutation-sym, IsPermutation-trans, IsPermutation-map, length_permutation}

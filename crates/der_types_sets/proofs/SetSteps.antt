@@ -1,4 +1,4 @@
--- Members in ascending order, one more at a time.
+-- Members in ascending order, one more at a time, and in turn those of a set that is lent.
 use Rattle.std.proofs.Common.{◌≡◌, ℕ, zero, suc, ◌+◌, ◌-◌, ◌<◌, ◌≤◌, List, [], ◌∷◌, ◌++◌, length, get_or, take, drop, refl, ap, sym, subst, ◌∙◌, arith, Result, Ok, ◌≢◌, Ordering, Greater, IsPermutation, true, Err, slice_get, Some, None, le-ltb}
 use Rattle.std.specs.List.{AllZip, insert}
 use Rattle.std.specs.Ordering.{ordering_reverse}

@@ -1,4 +1,4 @@
--- Pairs of octets, and the characters that they spell.
+-- Texts that any octets spell, pairs of octets, and the characters that they spell.
 use Rattle.std.proofs.Common.{◌≡◌, ℕ, zero, suc, ◌<◌, ◌%◌, Bool, true, false, List, [], ◌∷◌, ◌++◌, length, get_or, map, Ok, Err, refl, ap, sym, ◌∙◌, arith, ◌&&◌, nat_eq, cond, ⊎_elim, encode_utf8_all, chars, IsUtf8}
 use Rattle.std.specs.Cmp.Lexicographic.{pointwise}
 use Rattle.std.specs.List.{list_all}
