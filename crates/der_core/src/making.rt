@@ -13,7 +13,9 @@ pub use der_core_coding::{
     explicit_ref, implicit_of, implicit_ref, is_zero, leaf_from_der, len_behind, optional_explicit,
     optional_implicit, read_explicit, read_rising, read_whole,
 };
-pub use der_core_head::{header_len, is_constructed, is_same_tag, leading_octet_of, number_of};
+pub use der_core_head::{
+    header_len, is_constructed, is_same_tag, leading_octet_of, number_of, tag_of_class,
+};
 use der_core_head::{Error, ErrorKind};
 pub use der_core_octets::{
     encode_header, has_redundant_octet, integer_octets_of, signed_of, slice_len, unsigned_of,

@@ -21,4 +21,4 @@ pub use limits::MAX_LEVELS;
 pub use tag::{Tag, is_constructed, is_same_tag, leading_octet_of, number_of};
 pub use tag_mode::TagMode;
 pub use tag_number::TagNumber;
-pub use tag_octets::{short_tag_at, short_tag_of, tag_of};
+pub use tag_octets::{short_tag_at, short_tag_of, tag_of, tag_of_class};

@@ -48,7 +48,7 @@ fn universal_tag_of(octet: u8) -> Option<Tag>
 }
 
 /// The tag of another class than the universal one.
-fn tag_of_class(class: u8, constructed: bool, number: u32) -> Tag
+pub fn tag_of_class(class: u8, constructed: bool, number: u32) -> Tag
     ensures { result ≡ class_tag class constructed number }
 {
     let number = TagNumber { value: number };

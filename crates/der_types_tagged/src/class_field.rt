@@ -17,10 +17,11 @@ ghost use Rattle.der_core_octets.specs.Outputs.{Continues};
 use crate::class_field_ref::ClassFieldRef;
 use crate::fields::{
     der_cmp_of_fields, der_of_field, encode_field, encode_value_of_field, len_of_field,
-    tag_of_class, tag_of_field, value_cmp_of_fields, value_len_of_field,
+    tag_of_field, value_cmp_of_fields, value_len_of_field,
 };
 use der_core::making::{
     is_constructed, leading_octet_of, optional_explicit, optional_implicit, read_explicit,
+    tag_of_class,
 };
 use der_core::{
     Decode, DecodeValue, EncodeValue, Error, FixedTag, Length, Reader, Tag, TagMode, TagNumber,
@@ -85,7 +86,7 @@ impl<T, const CLASS: u8> ClassField<T, CLASS> {
             (λ o. IfSome o (λ f. (f.tag_number ≡ tag_number) × (f.tag_mode ≡ TagMode.Explicit))) }
     {
         let tag_mode = TagMode::Explicit;
-        let tag = tag_of_class(CLASS, true, tag_number);
+        let tag = tag_of_class(CLASS / 64, true, tag_number.value);
         let Some(value) = optional_explicit(alloc, reader, tag)? else {
             return Ok(None);
         };
@@ -118,7 +119,7 @@ impl<T, const CLASS: u8> ClassField<T, CLASS> {
             (λ o. IfSome o (λ f. (f.tag_number ≡ tag_number) × (f.tag_mode ≡ TagMode.Implicit))) }
     {
         let tag_mode = TagMode::Implicit;
-        let tag = tag_of_class(CLASS, is_constructed(T::tag()), tag_number);
+        let tag = tag_of_class(CLASS / 64, is_constructed(T::tag()), tag_number.value);
         let Some(value) = optional_implicit(alloc, reader, tag)? else {
             return Ok(None);
         };
@@ -158,7 +159,7 @@ impl<T, const CLASS: u8> ClassField<T, CLASS> {
             }
         };
         let tag_number = header.tag.number();
-        let tag = tag_of_class(CLASS, true, tag_number);
+        let tag = tag_of_class(CLASS / 64, true, tag_number.value);
         let value = read_explicit(alloc, reader, tag)?;
         Ok(ClassField {
             tag_number,

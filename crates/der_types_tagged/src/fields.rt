@@ -1,7 +1,6 @@
 //! Fields after tags of a class and a number, by their mode.
 
-ghost use Rattle.std.specs.Prelude.{◌≡◌, ◌/◌, [], Ok, None, false, true, IfErr};
-ghost use Rattle.der_core_head.specs.Tags.{class_tag};
+ghost use Rattle.std.specs.Prelude.{◌≡◌, [], Ok, None, false, true, IfErr};
 ghost use Rattle.der_core_head.specs.Shapes.{nested, only, tagged, IsContent, IsValid, octets_of};
 ghost use Rattle.der_core_head.specs.Spelling.{is_content_apart};
 ghost use Rattle.der_core_head.specs.Reading.{Gives, GivesNow};
@@ -11,40 +10,20 @@ ghost use Rattle.der_types_tagged.specs.Fields.{field_tag, explicit_field, impli
 ghost use Rattle.der_core_octets.specs.Outputs.{Continues};
 
 use crate::behind::{Whole, der_behind, len_behind};
-use der_core::making::{cmp_behind, encode_tagged, is_constructed};
+use der_core::making::{cmp_behind, encode_tagged, is_constructed, tag_of_class};
 use der_core::{
     Encode, EncodeValue, Error, FixedTag, Length, Tag, TagMode, TagNumber, ValueOrd, Writer,
 };
 use std::alloc::Global;
 use std::cmp::Ordering;
 
-/// The tag of a class, which is told by its bits.
-pub fn tag_of_class(class: u8, constructed: bool, number: TagNumber) -> Tag
-    ensures { result ≡ class_tag (class / 64) constructed number.value }
-{
-    match class / 64 {
-        1 => Tag::Application {
-            constructed,
-            number,
-        },
-        2 => Tag::ContextSpecific {
-            constructed,
-            number,
-        },
-        _ => Tag::Private {
-            constructed,
-            number,
-        },
-    }
-}
-
 /// The tag of a field with a value of that tag.
 pub fn tag_of_field(class: u8, mode: TagMode, number: TagNumber, own: Tag) -> Tag
     ensures { result ≡ field_tag class mode number.value own }
 {
     match mode {
-        TagMode::Explicit => tag_of_class(class, true, number),
-        TagMode::Implicit => tag_of_class(class, is_constructed(own), number),
+        TagMode::Explicit => tag_of_class(class / 64, true, number.value),
+        TagMode::Implicit => tag_of_class(class / 64, is_constructed(own), number.value),
     }
 }
 
