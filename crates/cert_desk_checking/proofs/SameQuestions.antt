@@ -13,7 +13,7 @@ use Rattle.der_core_head.specs.declared.tag.Tag.{Tag}
 use Rattle.der_core_head.specs.BitStrings.{Bits, bit_contents}
 use Rattle.der_core_head.specs.Shapes.{AnyValue, IsValid, IsContent, IsBody}
 use Rattle.der_core_head.specs.Tags.{leading_octet, number_of}
-use Rattle.der_core_head.proofs.TagLaws.{same_tag-eq}
+use Rattle.der_core_head.proofs.TagLaws.{same_tags}
 use Rattle.x509_cert_parts.specs.Grammar.{Algorithm, PublicKey, algorithm_arcs}
 use Rattle.x509_cert_parts.specs.Grammar.{algorithm_identifier, algorithm_parameters, key_algorithm}
 use Rattle.x509_cert_parts.specs.Grammar.{key_bits, public_key_info}
@@ -49,7 +49,7 @@ one_any a b e =
     let leading : leading_octet a.tag ≡ leading_octet b.tag = cc in
     let number : number_of a.tag ≡ number_of b.tag = cc in
     let contents : a.contents ≡ b.contents = cc in
-    let tag = same_tag-eq a.tag b.tag
+    let tag = same_tags a.tag b.tag
     (and_from _ _ (eq-eqb (leading_octet a.tag) (leading_octet b.tag) leading) (eq-eqb (number_of a.tag) (number_of b.tag) number)) in
     ap (λ t. any_of t a.contents) tag ∙ ap (any_of b.tag) contents
 

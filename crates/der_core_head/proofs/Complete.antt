@@ -16,7 +16,7 @@ use Rattle.der_core_head.specs.Heads.{Fits, head_octets, length_octets, tlv, hea
 use Rattle.der_core_head.specs.Shapes.{Step, Shape, Content, Body, tagged, any, either, optional, defaulted, nothing, leaf, nested, done, field, only, many, exactly, few, in_order, Value, ContentValue, BodyValue, AnyValue, octets_of, contents, body_octets, unless, IsValid, IsContent, IsBody, Follows, AllInOrder, begins}
 use Rattle.der_core_head.specs.Spelling.{is_apart, is_content_apart, is_body_apart, is_element, is_clear, is_end, none_of, body_begins, are_enough, are_content_enough, are_body_enough}
 use Rattle.der_core_head.specs.Grammar.{whole, read, read_content, read_body, read_many, read_exactly, read_in_order, follows_last, tlv_at, any_at, peek_at, chosen, opt_at, default_at, either_at, value_at, slice_at, leaf_at, opt_after, default_after}
-use Rattle.der_core_head.proofs.TagLaws.{tag_again, tag_octets-some, same_tag-refl, same_tag-eq}
+use Rattle.der_core_head.proofs.TagLaws.{tag_again, tag_octets-some, same_tag-refl, same_tags}
 use Rattle.der_core_head.proofs.HeadLaws.{head_again, fits_contents}
 use Rattle.der_core_head.proofs.LeafLaws.{leaf_again}
 use Rattle.der_core_head.proofs.Results.{value_enough, slice_ok, follows_ok, bind_ok}
@@ -144,7 +144,7 @@ pub not_begins : (s : Shape) (f : Tag → Bool) (t : Tag) → none_of s f ≡ tr
 not_begins (tagged u c) f t n h = go (same_tag u t) refl
   where
     go : (b : Bool) → same_tag u t ≡ b → b ≡ false
-    go true e = absurd (false≢true (sym (not-true (f u) n) ∙ ap f (same_tag-eq u t e) ∙ h))
+    go true e = absurd (false≢true (sym (not-true (f u) n) ∙ ap f (same_tags u t e) ∙ h))
     go false e = refl
 not_begins any f t n h = absurd (false≢true n)
 not_begins (either a b) f t n h =

@@ -15,7 +15,7 @@ use Rattle.der_core_head.specs.Leaves.{leaf_read}
 use Rattle.der_core_head.specs.Grammar.{peek_at, read, read_content, read_body, read_many, read_exactly, read_in_order, follows_last, tlv_at, any_at, chosen, opt_after, opt_at, default_after, default_at, either_at, value_at, slice_at, leaf_at, read_whole}
 use Rattle.der_core_head.proofs.Results.{ok_is, bind_ok, if_ok, either_ok, IsBytes, bytes_take, bytes_rest, octets_are, ok_follows}
 use Rattle.der_core_head.proofs.HeadLaws.{fits_contents, split-tlv, fits_front, fits_rest, head_sound, valid_fits}
-use Rattle.der_core_head.proofs.TagLaws.{tag_again, same_tag-eq}
+use Rattle.der_core_head.proofs.TagLaws.{tag_again, same_tags}
 use Rattle.der_core_head.proofs.LeafLaws.{leaf_again, leaf_sound}
 use Rattle.der_core_head.proofs.Complete.{StandsFirst, StopsBefore, Stops, first_more, element_first, element_some, peek_again, not_begins, next_stops, stops_element, stops_end, complete}
 use Rattle.std.specs.Bool.{⊤}
@@ -169,7 +169,7 @@ tlv_sound t F w p r bytes fits e =
     let n = h.0.0.len in
     let v = value_sound F n h.0.1 p r i.1 in
     let c = take n h.0.1 in
-    let tag : h.0.0.tag ≡ t = same_tag-eq h.0.0.tag t i.0 in
+    let tag : h.0.0.tag ≡ t = same_tags h.0.0.tag t i.0 in
     let len : length c ≡ n = omega (arith, length-take n h.0.1, v.0) in
     let rest : h.0.1 ≡ c ++ r = sym (take-append-drop n h.0.1) ∙ ap (λ (x : List ℕ). c ++ x) (sym v.2) in
     let is : w ≡ tlv t c ++ r = tlv_is t n c r h.0.1 w (hd.0 ∙ ap (λ k. head_octets k n ++ h.0.1) tag) len rest in

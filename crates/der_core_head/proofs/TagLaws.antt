@@ -261,8 +261,8 @@ tag_of-same (tags.ContextSpecific c number) = tag_of-class 2 c (low_bits number.
 tag_of-same (tags.Private c number) = tag_of-class 3 c (low_bits number.value) number.value (omega arith) (low-lt number.value)
 tag_of-same t = refl
 
-pub same_tag-eq : (a b : Tag) → same_tag a b ≡ true → a ≡ b
-same_tag-eq a b e =
+pub same_tags : (a b : Tag) → same_tag a b ≡ true → a ≡ b
+same_tags a b e =
     let parts = and_parts _ _ e in
     let octet : leading_octet a ≡ leading_octet b = eqb-true (leading_octet a) (leading_octet b) parts.0 in
     let number : number_of a ≡ number_of b = eqb-true (number_of a) (number_of b) parts.1 in
@@ -374,10 +374,7 @@ pub ruleset digit_steps = (number-past, number-more, number-last, number-none)
 
 -- Tags with the same octets are the same tag.
 
-pub same : (a b : Tag) → same_tag a b ≡ true → a ≡ b
-same = same_tag-eq
-
 pub other : (a b : Tag) → same_tag a b ≡ false → a ≢ b
 other a b differ e = absurd (grind (arith, same_tag-refl a))
 
-pub ruleset tag_equality = (same, other)
+pub ruleset tag_equality = (same_tags, other)

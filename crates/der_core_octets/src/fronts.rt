@@ -79,7 +79,7 @@ pub fn short_header_of_tag_by_both(tag: Tag, octets: &[u8]) -> Option<(Header, u
 ///
 /// # Errors
 /// Those of `header_by`, and then `TagUnexpected` for another tag.
-#[tactic(auto, using(der_core_head::proofs::TagLaws::same), unfolding(crate::specs::Headers::wanted_at))]
+#[tactic(auto, using(der_core_head::proofs::TagLaws::same_tags), unfolding(crate::specs::Headers::wanted_at))]
 pub fn any_header_of_tag(
     rules: EncodingRules,
     tag: Tag,

@@ -12,7 +12,7 @@ use Rattle.der_core_head.specs.Grammar.{read_content_by, whole, value_at}
 use Rattle.der_core_head.specs.Reading.{Fails}
 use Rattle.der_core_head.specs.Fronts.{alone}
 use Rattle.der_types_any.specs.Contents.{content_by}
-use Rattle.der_core_head.proofs.TagLaws.{same_tag-eq}
+use Rattle.der_core_head.proofs.TagLaws.{same_tags}
 use Rattle.der_core_head.specs.Limits.{length_max}
 use Rattle.der_core_head.specs.Heads.{Fits}
 use Rattle.der_core_head.specs.Texts.{Repertoire, text_read, utf8_read}
@@ -59,11 +59,6 @@ pub read_err : (rules : EncodingRules) (t : Tag) (c : Content) (a : AnyValue) (k
     → same_tag a.tag t ≡ true → Fails k (value_at (read_content_by by c tag room) n w) → Fails k (content_by rules t c a)
 read_err rules t c a k by tag n room w o p q s u e h = as_err rules t c a k e (λ memory. rw (o, p, q, s, u) at (h memory))
 
--- Tags that are told apart by nothing are equal.
-
-pub same_tags : (a b : Tag) → same_tag a b ≡ true → a ≡ b
-same_tags a b e = same_tag-eq a b e
-
 -- A content that a length can count is read as a text as octets are.
 
 pub text_from-short : (r : Repertoire) (t : Tag) (w : List ℕ) → Fits w → text_from r t w ≡ text_read r t w
@@ -89,7 +84,7 @@ one_value x y e =
     let leading : leading_octet x.tag ≡ leading_octet y.tag = cc in
     let number : number_of x.tag ≡ number_of y.tag = cc in
     let content : x.contents ≡ y.contents = cc in
-    let tag : x.tag ≡ y.tag = same_tag-eq x.tag y.tag (rw (leading, number) (both_alike y.tag)) in
+    let tag : x.tag ≡ y.tag = same_tags x.tag y.tag (rw (leading, number) (both_alike y.tag)) in
     λ i. record { tag = tag i; contents = content i }
 
 pub values : (x y : AnyValue) → Alike any (same_values x y) x y

@@ -10,7 +10,7 @@ use der_core::{Error, ErrorKind, Tag};
 ///
 /// # Errors
 /// `TagUnexpected`.
-#[tactic(auto, using(crate::proofs::AnyLaws::same_tags))]
+#[tactic(auto, using(der_core_head::proofs::TagLaws::same_tags))]
 pub fn check_tag(actual: Tag, expected: Tag) -> Result<(), Error>
     ensures same { IsOk result ↔ (same_tag actual expected ≡ true) }
     ensures equal { OnOk result (actual ≡ expected) }

@@ -13,7 +13,7 @@ use Rattle.der_core_head.specs.Grammar.{read, read_content, whole, read_whole, v
 use Rattle.der_core_head.specs.Reading.{Gives}
 use Rattle.der_core_head.specs.Fronts.{alone}
 use Rattle.der_core_head.proofs.HeadLaws.{fits_contents, head_again}
-use Rattle.der_core_head.proofs.TagLaws.{same_tag-eq}
+use Rattle.der_core_head.proofs.TagLaws.{same_tags}
 use Rattle.der_core_head.proofs.OneEncoding.{bytes_are, octets_below, is_spelled, is_read}
 use Rattle.der_types_any.specs.Contents.{content_as, content_by}
 use Rattle.der_types_any.proofs.AnyLaws.{value_whole}
@@ -35,7 +35,7 @@ tlv_read t c a tag few = by (same_tag a.tag t) refl
     by : (b : Bool) → same_tag a.tag t ≡ b → read (tagged t c) 64 (tlv a.tag a.contents) ≡ (content_as t c a >>= kept [])
     by false e = rw (head_again a.tag (length a.contents) a.contents tag few, e) refl
     by true e =
-        let same : t ≡ a.tag = sym (same_tag-eq a.tag t e) in
+        let same : t ≡ a.tag = sym (same_tags a.tag t e) in
         rw (head_again a.tag (length a.contents) a.contents tag few, e)
         (ap (λ (u : Tag). value_at (read_content c u 64) (length a.contents) a.contents) same
         ∙ value_whole (read_content c a.tag 64) a.contents ∙ end_alone (read_content c a.tag 64 a.contents >>= whole))
