@@ -20,7 +20,6 @@ use Rattle.x509_cert_names.specs.declared.attribute_type_and_value.AttributeType
 use Rattle.x509_cert_names.specs.PlainTexts.{SpellsName}
 use Rattle.x509_cert_parts.specs.SerialNumbers.{new_serial}
 use Rattle.cert_desk_orders.specs.declared.order.Order.{Order}
-use Rattle.der_types_sets.proofs.LentOrders.{plain-append}
 use Rattle.x509_cert_names.proofs.OneName.{HasSome, read_some}
 use Rattle.der_types_sets.proofs.AscendingSteps.{length_plain_list}
 use Rattle.cert_desk_issuing.specs.Acceptance.{AcceptedOrders, AcceptsFront, IsAccepted, IsAcceptedAt, IsKeyOf, IsNamedFor, names_subscriber}
@@ -31,6 +30,7 @@ use Rattle.cert_desk_issuing.specs.declared.accepted.Accepted.{Accepted}
 use Rattle.cert_desk_issuing.specs.declared.fault.Fault.{Fault}
 use Rattle.cert_desk_issuing.specs.declared.role.Role.{Role}
 use Rattle.der_core_head.specs.declared.error.ErrorKind.TheVariants as kinds
+use Rattle.der_core_head.proofs.Results.{plain-append}
 use Rattle.cert_desk_issuing.specs.declared.fault.Fault.TheVariants as faults
 use Rattle.cert_desk_issuing.specs.declared.role.Role.TheVariants as roles
 

@@ -11,6 +11,7 @@ use Rattle.der_core_head.specs.BitStrings.{Bits}
 use Rattle.der_core_head.specs.Grammar.{plain_list}
 use Rattle.der_core_head.specs.Heads.{Fits}
 use Rattle.der_core_head.specs.Shapes.{IsValid}
+use Rattle.der_core_head.proofs.Results.{plain-append}
 use Rattle.x509_cert_parts.specs.Grammar.{Algorithm, PublicKey}
 use Rattle.x509_cert_certificates.specs.Certificates.{PlainCertificate, Tbs, certificate_octets}
 use Rattle.x509_cert_certificates.specs.Certificates.{raw_certificate, signature_bits}
@@ -32,7 +33,6 @@ use Rattle.cert_desk_issuing.specs.Roles.{place_above, role_at}
 use Rattle.cert_desk_issuing.proofs.AcceptedFronts.{each_more, key_there, plain_at}
 use Rattle.der_types_sets.proofs.AscendingSteps.{length_plain_list}
 use Rattle.x509_cert_names.proofs.Lists.{all_more}
-use Rattle.der_types_sets.proofs.LentOrders.{plain-append}
 
 -- so many certificates, from the first on, hold the orders and are signed, and the stream joins them
 pub record IsFront {S : Type 0} (algorithm : S → Algorithm) (signs : S → List ℕ → Bits → Type 0) (ps : List PlainOrder) (signers : List S) (cs : List PlainCertificate) (stream : List ℕ) : Type 0 where

@@ -14,10 +14,7 @@ use Rattle.der_core_head.specs.Spelling.{is_apart, is_element, are_enough}
 use Rattle.der_core_head.specs.Grammar.{read, read_whole}
 use Rattle.der_core_head.proofs.OneEncoding.{bytes_are, sound, is_spelled, whole_again}
 use Rattle.der_core_head.proofs.Complete.{complete_element}
-
-pub each_alike : {P : Type 0} (F G : P → Type 0) → ((x : P) → F x → G x) → (xs : List P) → AllByRecursion F xs → AllByRecursion G xs
-each_alike F G each [] h = tt
-each_alike F G each (x ∷ xs) h = (each x h.0, each_alike F G each xs h.1)
+use Rattle.der_core_head.proofs.Results.{each_alike}
 
 -- Under another bound, where each identifier is one under that bound
 

@@ -1,14 +1,16 @@
 -- Cases of results, octets, orders and readings of so many octets.
-use Rattle.std.proofs.Common.{◌≡◌, ◌≢◌, ℕ, Bool, true, false, cond, List, [], ◌∷◌, Result, Ok, Err, refl, ◌⊎◌, inl, inr, IfErr, ◌+◌, ◌<◌, ◌++◌, length, get_or, take, drop, ap, subst, ◌∙◌, arith, ◌≤◌, le-ltb, lt-ltb}
+use Rattle.std.proofs.Common.{◌≡◌, ◌≢◌, ℕ, Bool, true, false, cond, List, [], ◌∷◌, Result, Ok, Err, refl, ◌⊎◌, inl, inr, IfErr, ◌+◌, ◌<◌, ◌++◌, length, get_or, take, drop, ap, subst, ◌∙◌, arith, ◌≤◌, le-ltb, lt-ltb, map, IsPermutation}
 use Rattle.der_core_head.specs.declared.error.Error.{Error}
 use Rattle.der_core_head.specs.declared.error.ErrorKind.{ErrorKind}
 use Rattle.der_core_head.specs.declared.error.ErrorKind.TheVariants as kinds
 use Rattle.der_core_head.specs.Octets.{◌>>=◌, IsOctets, Readings}
 use Rattle.der_core_head.specs.Reading.{Gives}
-use Rattle.der_core_head.specs.Grammar.{whole, follows, slice_at, value_at}
+use Rattle.der_core_head.specs.Grammar.{whole, follows, slice_at, value_at, plain_list}
 use Rattle.std.proofs.lemmas.Bool.Decides.{nat_tests}
 use Rattle.std.proofs.lemmas.List.{drop_at, length-take, get_or-take, get_or-drop, get_or_past}
 use Rattle.der_core_head.specs.Shapes.{Step, above, not_below, Follows}
+use Rattle.std.proofs.lemmas.List.Sorted.{IsPermutation-map}
+use Rattle.std.specs.List.{AllByRecursion}
 
 -- What results that are passed on tell of their parts.
 
@@ -100,3 +102,27 @@ value_short f n w h = rw (lt-ltb (length w) n h) refl
 pub value_enough : {P : Type 0} (f : Readings P) (n : ℕ) (w : List ℕ) → n ≤ length w → value_at f n w ≡ (f (take n w) >>= whole >>= λ x. Ok (x.0, drop n w))
 unfolding value_at
 value_enough f n w h = rw (le-ltb (length w) n h) refl
+
+-- want of memory, or what follows where there was enough
+pub or_memory : {X : Type 0} (kind : ErrorKind) → (kind ≢ kinds.OutOfMemory → X) → (kind ≡ kinds.OutOfMemory) ⊎ X
+or_memory kinds.OutOfMemory h = inl refl
+or_memory _ h = inr (h (λ q. absurd cc))
+
+-- Plain values of members
+
+pub plain-append : {A P : Type 0} (f : A → P) (xs ys : List A) → plain_list f (xs ++ ys) ≡ plain_list f xs ++ plain_list f ys
+plain-append f [] ys = refl
+plain-append f (x ∷ xs) ys = ap (λ (t : List _). f x ∷ t) (plain-append f xs ys)
+
+plain-map : {A P : Type 0} (f : A → P) (xs : List A) → map f xs ≡ plain_list f xs
+plain-map f [] = refl
+plain-map f (x ∷ xs) = ap (λ (t : List _). f x ∷ t) (plain-map f xs)
+
+pub plain_permutation : {A P : Type 0} (f : A → P) (xs ys : List A) → IsPermutation xs ys → IsPermutation (plain_list f xs) (plain_list f ys)
+plain_permutation f xs ys same =
+    subst (λ vs. IsPermutation (plain_list f xs) vs) (plain-map f ys) (subst (λ us. IsPermutation us (map f ys)) (plain-map f xs) (IsPermutation-map f xs ys same))
+
+-- what each value says of another, all say
+pub each_alike : {P : Type 0} (F G : P → Type 0) → ((x : P) → F x → G x) → (xs : List P) → AllByRecursion F xs → AllByRecursion G xs
+each_alike F G each [] h = tt
+each_alike F G each (x ∷ xs) h = (each x h.0, each_alike F G each xs h.1)

@@ -14,14 +14,13 @@ use Rattle.der_core_head.specs.Octets.{◌>>=◌, IsOctets}
 use Rattle.der_core_head.specs.Ranges.{IsInRange, IsContentInRange, IsBodyInRange}
 use Rattle.der_core_head.specs.Reading.{Gives}
 use Rattle.der_core_head.specs.Writing.{Out, put, put_head, head_len, fit_len, tlv_len, both_len, many_len, default_len, size, size_content, size_body, write_tlv, write_many, all_follow, write_in_order, default_write, write, write_content, write_body, sum_len}
-use Rattle.der_core_head.proofs.Results.{ok_is, follows_ok, bind_ok, ok_follows}
+use Rattle.der_core_head.proofs.Results.{ok_is, follows_ok, bind_ok, ok_follows, each_alike}
 use Rattle.der_core_head.proofs.HeadLaws.{fits_contents, valid_fits, head_octets-below, below-append}
 use Rattle.der_core_head.proofs.TagLaws.{tag_octets-some}
 use Rattle.der_core_head.proofs.LeafLaws.{leaf_below}
 use Rattle.der_core_head.specs.Limits.{IsLength, length_max}
 use Rattle.std.specs.Bool.{⊤}
 use Rattle.der_core_head.specs.Grammar.{follows}
-use Rattle.der_core_head.proofs.BoundLaws.{each_alike}
 use Rattle.der_core_head.proofs.Complete.{complete_element}
 
 -- What is written is what spells the value.

@@ -6,13 +6,10 @@ use Rattle.der_core_head.specs.Octets.{◌>>=◌, Readings}
 use Rattle.der_core_head.specs.Shapes.{Step, Shape, Value, octets_of}
 use Rattle.der_core_head.specs.Grammar.{read_many, read_exactly, read_in_order, follows_last, plain_list, read, read_by}
 use Rattle.der_core_head.specs.Reading.{State, IsRest, Kept, Fails, read_at, IsDer}
+use Rattle.der_core_head.proofs.Results.{plain-append}
 use Rattle.der_core_octets.proofs.GoingOn.{frame_then, kept_then, rest_then}
 
 -- Values that are read one after the other, as a loop does.
-
-pub plain-append : {A P : Type 0} (f : A → P) (xs ys : List A) → plain_list f (xs ++ ys) ≡ plain_list f xs ++ plain_list f ys
-plain-append f [] ys = refl
-plain-append f (x ∷ xs) ys = ap (λ (t : List _). f x ∷ t) (plain-append f xs ys)
 
 -- a value in front of those that are read behind it
 abbrev pub led : {P : Type 0} → P → Result (List P × List ℕ) ErrorKind → Result (List P × List ℕ) ErrorKind

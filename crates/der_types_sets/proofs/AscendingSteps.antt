@@ -1,7 +1,7 @@
 -- Members read one after the other: those that ascend, those that rise, no more than so many, and in whichever order.
-use Rattle.std.proofs.Common.{◌≡◌, ◌≤◌, ℕ, zero, suc, true, List, [], ◌∷◌, length, take, drop, map, Result, Ok, inr, ◌⊎◌, refl, sym, ap, subst, ◌∙◌, flat_map, IsPermutation, le-ltb, append-nil, take-append-drop, arith, ◌+◌, ◌<◌, ◌++◌, Option, Some, None, ◌≢◌, length-append}
+use Rattle.std.proofs.Common.{◌≡◌, ◌≤◌, ℕ, zero, suc, true, List, [], ◌∷◌, length, take, drop, Result, Ok, inr, ◌⊎◌, refl, sym, ap, subst, ◌∙◌, flat_map, IsPermutation, le-ltb, append-nil, take-append-drop, arith, ◌+◌, ◌<◌, ◌++◌, Option, Some, None, ◌≢◌, length-append}
 use Rattle.std.specs.List.{AllByRecursion}
-use Rattle.std.proofs.lemmas.List.Sorted.{IsPermutation-sym, IsPermutation-trans, IsPermutation-map, length_permutation}
+use Rattle.std.proofs.lemmas.List.Sorted.{IsPermutation-sym, IsPermutation-trans, length_permutation}
 use Rattle.der_core_head.specs.declared.encoding_rules.EncodingRules.{EncodingRules}
 use Rattle.der_core_head.specs.declared.encoding_rules.EncodingRules.TheVariants as encodings
 use Rattle.der_core_head.specs.declared.error.Error.{Error}
@@ -15,7 +15,7 @@ use Rattle.der_core_head.specs.Shapes.{Shape, Body, BodyValue, tagged, nested, m
 use Rattle.der_core_head.specs.Spelling.{is_apart, is_element, are_content_enough, are_enough}
 use Rattle.der_core_head.specs.Grammar.{whole, value_at, read, read_many, read_content, read_content_by, read_body_by, plain_list, read_body, read_in_order, follows_last}
 use Rattle.der_core_head.specs.Reading.{State, IsDer, IsBer, Fails, read_content_at, IsRest, read_at}
-use Rattle.der_core_head.proofs.Results.{ok_is, bind_ok, whole_ok, IsBytes, bytes_take, fine}
+use Rattle.der_core_head.proofs.Results.{ok_is, bind_ok, whole_ok, IsBytes, bytes_take, fine, plain_permutation}
 use Rattle.der_core_head.proofs.HeadLaws.{fits_front}
 use Rattle.der_core_head.proofs.OneEncoding.{value_sound, many_sound, sound, one_body, OrderedFrom, order_on, from_none}
 use Rattle.der_core_head.proofs.Complete.{complete_content, complete_body, more_body}
@@ -30,16 +30,6 @@ use Rattle.der_types_sets.specs.Ascending.{JoinsAscending, IsCount, first_of, va
 -- Members that stand in any order.
 
 -- At plain values
-
-plain-map : {A P : Type 0} (f : A → P) (xs : List A) → map f xs ≡ plain_list f xs
-plain-map f [] = refl
-plain-map f (x ∷ xs) = ap (λ (t : List _). f x ∷ t) (plain-map f xs)
-
-pub permutation-plain : {A P : Type 0} (f : A → P) (xs ys : List A) → IsPermutation xs ys → IsPermutation (plain_list f xs) (plain_list f ys)
-permutation-plain {P = P} f xs ys same =
-    let Q : List P → Type 0 = λ u. IsPermutation u (plain_list f ys) in
-    let R : List P → Type 0 = λ u. IsPermutation (map f xs) u in
-    subst Q (plain-map f xs) (subst R (plain-map f ys) (IsPermutation-map f xs ys same))
 
 pub ascends-plain : {A : Type 0} (s : Shape) (f : A → Value s) (xs : List A) → Ascends s f xs → Ascends s (λ v. v) (plain_list f xs)
 ascends-plain s f [] h = tt
@@ -125,17 +115,17 @@ module _ {A : Type 0} (s : Shape) (written plain : A → Value s) (agree : (x : 
 
   -- what was read is an arrangement of what stands there
   pub loose : (w : List ℕ) (read set : List A) → Joins s (plain_list plain read) w → IsPermutation read set → Ascends s written set → Loose s (plain_list plain set) w
-  loose w read set h same asc = record { spelled = plain_list plain read; valid = h.valid; octets_are = h.octets_are; same = permutation-plain plain read set same; ascend = set_ascends set asc }
+  loose w read set h same asc = record { spelled = plain_list plain read; valid = h.valid; octets_are = h.octets_are; same = plain_permutation plain read set same; ascend = set_ascends set asc }
 
   pub spells_loosely : (b : List ℕ) (read set : List A) → Spells (tagged tags.Set (nested (many s))) (plain_list plain read) b → IsPermutation read set → Ascends s written set → SpellsLoosely s (plain_list plain set) b
-  spells_loosely b read set h same asc = record { spelled = plain_list plain read; spells = h; same = permutation-plain plain read set same; ascend = set_ascends set asc }
+  spells_loosely b read set h same asc = record { spelled = plain_list plain read; spells = h; same = plain_permutation plain read set same; ascend = set_ascends set asc }
 
   -- no other list of members is spelled by the octets
   pub only_set : (spelled v : List (Value s)) (read set : List A) → is_element s ≡ true → is_apart s ≡ true → AllValid s (λ x. x) spelled → IsPermutation spelled v → Ascends s (λ x. x) v
       → spelled ≡ plain_list plain read → IsPermutation read set → Ascends s written set → v ≡ plain_list plain set
   only_set spelled v read set element apart valid moved asc is same ascend =
       let P : List (Value s) → Type 0 = λ u. IsPermutation u (plain_list plain set) in
-      let there : IsPermutation spelled (plain_list plain set) = subst P (sym is) (permutation-plain plain read set same) in
+      let there : IsPermutation spelled (plain_list plain set) = subst P (sym is) (plain_permutation plain read set same) in
       one_set s v (plain_list plain set) element apart (valid_moved s (λ x. x) spelled v moved valid) asc (set_ascends set ascend) (IsPermutation-trans v spelled (plain_list plain set) (IsPermutation-sym spelled v moved) there)
 
   pub only_loose : (w : List ℕ) (v : List (Value s)) (read set : List A) (r t : List ℕ) (x : Result (List (Value s) × List ℕ) ErrorKind) → is_element s ≡ true → is_apart s ≡ true

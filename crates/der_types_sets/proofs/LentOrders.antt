@@ -27,7 +27,7 @@ use Rattle.der_core.specs.Orders.{octets_cmp, Overflows}
 use Rattle.der_types_sets.proofs.AscendingSteps.{length_plain_list, ascends-plain, views}
 use Rattle.der_core_head.specs.Tags.{tag_octets}
 use Rattle.der_core_head.specs.Leaves.{leaf_contents}
-use Rattle.der_core_head.proofs.Results.{bind_ok}
+use Rattle.der_core_head.proofs.Results.{bind_ok, or_memory, plain-append}
 use Rattle.der_core_head.specs.declared.error.ErrorKind.TheVariants as kinds
 use Rattle.std.proofs.lemmas.Bool.{cases_lt}
 use Rattle.der_core_head.proofs.BoundLaws.{both_all}
@@ -269,11 +269,6 @@ plain-at f [] i x lt here = absurd (omega arith)
 plain-at {A} f (y ∷ v) zero x lt here = ap (λ (z : A). Some (f z)) (sym here)
 plain-at f (y ∷ v) (suc i) x lt here = plain-at f v i x (omega arith) here
 
--- want of memory, or another fault
-or_memory : {P : Type 0} (k : ErrorKind) → (k ≢ kinds.OutOfMemory → P) → (k ≡ kinds.OutOfMemory) ⊎ P
-or_memory kinds.OutOfMemory h = inl refl
-or_memory _ h = inr (h (λ q. absurd cc))
-
 -- one of the values was refused
 pub unwritten : {A : Type 0} (s : Shape) (f : A → Value s) (v : List A) (i : ℕ) (x : A) (e : Error) → i < length v → x ≡ get_or v i x → (e.kind ≢ kinds.OutOfMemory → write s (f x) (out []) ≡ Err e.kind) → IsUnwritten s (plain_list f v) e
 unwritten s f v i x e lt is refused = go (or_memory e.kind refused)
@@ -321,10 +316,6 @@ pub same_member : {A P : Type 0} (f : A → P) (xs : List A) (v : List P) (i : �
 same_member f xs v i e = ap (λ (u : List _). slice_get u i) e ∙ plain-get f xs i
 
 -- The members of a lent set, in a list of their own.
-
-pub plain-append : {A P : Type 0} (f : A → P) (xs ys : List A) → plain_list f (xs ++ ys) ≡ plain_list f xs ++ plain_list f ys
-plain-append f [] ys = refl
-plain-append f (x ∷ xs) ys = ap (λ (u : List _). f x ∷ u) (plain-append f xs ys)
 
 plain-ascends : {A : Type 0} (s : Shape) (f : A → Value s) (xs : List A) → Ascends s (λ v. v) (plain_list f xs) → Ascends s f xs
 plain-ascends s f [] h = tt

@@ -1,16 +1,12 @@
 -- Why a value isn't written.
-use Rattle.std.proofs.Common.{◌≡◌, ◌≢◌, ◌⊎◌, ℕ, List, [], false, None, Ok, Err, refl, inl, inr}
+use Rattle.std.proofs.Common.{◌≡◌, ◌≢◌, ◌⊎◌, ℕ, List, [], false, None, Ok, Err}
 use Rattle.der_core_head.specs.declared.error.ErrorKind.{ErrorKind}
 use Rattle.der_core_head.specs.declared.error.ErrorKind.TheVariants as kinds
 use Rattle.der_core_head.specs.Shapes.{IsValid, Shape, Value}
 use Rattle.der_core_head.specs.Writing.{write}
+use Rattle.der_core_head.proofs.Results.{or_memory}
 use Rattle.x509_cert_extensions.specs.Making.{IsNotMade}
 use Rattle.x509_cert_builders.specs.Refusals.{HasNoEncoding}
-
--- want of memory, or what follows where there was enough
-pub or_memory : {X : Type 0} (kind : ErrorKind) → (kind ≢ kinds.OutOfMemory → X) → (kind ≡ kinds.OutOfMemory) ⊎ X
-or_memory kinds.OutOfMemory h = inl refl
-or_memory _ h = inr (h (λ q. absurd cc))
 
 pub or_unwritten : (s : Shape) (v : Value s) (w : List ℕ) (kind : ErrorKind)
     → (IsValid s v → kind ≢ kinds.OutOfMemory → Ok w ≡ Err kind)

@@ -1,9 +1,9 @@
 -- Subjects of subscribers, relative name by relative name.
-use Rattle.std.proofs.Common.{◌≡◌, ◌⊎◌, List, [], ◌∷◌, ◌++◌, length, map, Bool, true, false, refl, sym, ap, ◌∙◌, subst, append_assoc, arith, inl, inr, if◌then◌else◌, ◌==◌, not, IsPermutation, append-nil}
+use Rattle.std.proofs.Common.{◌≡◌, ◌⊎◌, List, [], ◌∷◌, ◌++◌, length, Bool, true, false, refl, sym, ap, ◌∙◌, subst, append_assoc, arith, inl, inr, if◌then◌else◌, ◌==◌, not, IsPermutation, append-nil}
 use Rattle.std.specs.List.{AllByRecursion, IsDistinct, list_all}
 use Rattle.std.proofs.lemmas.Bool.{and_parts, eqb-true}
 use Rattle.std.proofs.lemmas.List.Folds.{list_all-append}
-use Rattle.std.proofs.lemmas.List.Sorted.{IsPermutation-map, IsPermutation-refl, length_permutation}
+use Rattle.std.proofs.lemmas.List.Sorted.{IsPermutation-refl, length_permutation}
 use Rattle.const_oid.specs.Bound.{Bound}
 use Rattle.der_core_head.specs.declared.error.Error.{Error as DerError}
 use Rattle.der_core_head.specs.declared.error.ErrorKind.TheVariants as kinds
@@ -16,15 +16,6 @@ use Rattle.x509_cert_builders.specs.Subscribers.{AreShort, HasLongAttribute, Kee
 use Rattle.x509_cert_builders.specs.declared.build_error.Error.{Error}
 use Rattle.x509_cert_builders.specs.declared.build_error.Error.TheVariants as errors
 use Rattle.x509_cert_builders.proofs.Lists.{all_parts, all_plain}
-
-plain_map : {A B : Type 0} (f : A → B) (xs : List A) → map f xs ≡ plain_list f xs
-plain_map f [] = refl
-plain_map f (x ∷ xs) = ap (λ ys. f x ∷ ys) (plain_map f xs)
-
--- members in another order have their values in another order
-pub plain_permutation : {A B : Type 0} (f : A → B) (xs ys : List A) → IsPermutation xs ys → IsPermutation (plain_list f xs) (plain_list f ys)
-plain_permutation f xs ys p =
-    subst (λ vs. IsPermutation (plain_list f xs) vs) (plain_map f ys) (subst (λ us. IsPermutation us (map f ys)) (plain_map f xs) (IsPermutation-map f xs ys p))
 
 -- so many attributes were looked at
 pub left_more : (kept : List TypeAndValue) (a : TypeAndValue) (more whole : List TypeAndValue)

@@ -78,7 +78,7 @@ fn attributes_left(
 }
 
 /// What is left of an RDN.
-#[tactic(auto, using(crate::proofs::Subjects::plain_permutation, crate::proofs::Subjects::left_whole))]
+#[tactic(auto, using(der_core_head::proofs::Results::plain_permutation, crate::proofs::Subjects::left_whole))]
 fn left_of(
     alloc: Global,
     relative: &RelativeDistinguishedName,

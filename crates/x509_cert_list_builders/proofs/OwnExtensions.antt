@@ -3,9 +3,10 @@ use Rattle.std.proofs.Common.{◌≡◌, ◌⊎◌, ℕ, Result, Ok, refl, sym, 
 use Rattle.der_core_head.specs.declared.error.ErrorKind.{ErrorKind}
 use Rattle.der_core_head.specs.declared.error.ErrorKind.TheVariants as kinds
 use Rattle.der_core_head.specs.Reading.{Fails}
+use Rattle.der_core_head.proofs.Results.{or_memory}
 use Rattle.x509_cert_extensions.specs.Making.{IsNotMade}
 use Rattle.x509_cert_builders.specs.Refusals.{HasNoEncoding}
-use Rattle.x509_cert_builders.proofs.Faults.{not_made, or_memory}
+use Rattle.x509_cert_builders.proofs.Faults.{not_made}
 use Rattle.x509_cert_list_builders.specs.Lists.{HasNoExtensions, PlainAuthority, authority_key, crl_number}
 
 -- an issuer has no key, or memory ran out

@@ -8,6 +8,7 @@ use Rattle.der_core_head.specs.declared.error.ErrorKind.TheVariants as kinds
 use Rattle.der_core_head.specs.Grammar.{plain_list}
 use Rattle.der_core_head.specs.Reading.{Fails}
 use Rattle.der_core_head.specs.Shapes.{IsValid}
+use Rattle.der_core_head.proofs.Results.{or_memory}
 use Rattle.der_core.specs.Placed.{IsNotPlaced, is_below, placed, put_in_front, stands_among}
 use Rattle.x509_cert_lists.specs.Grammar.{extension_req_attribute}
 use Rattle.x509_cert_names.specs.Names.{PlainAttribute, PlainName, attribute}
@@ -16,7 +17,6 @@ use Rattle.x509_cert_list_builders.specs.Requests.{HasNoAttribute, IsNotAdded, P
 use Rattle.x509_cert_builders.specs.Refusals.{IsWantOfMemory}
 use Rattle.x509_cert_builders.specs.declared.build_error.Error.{Error}
 use Rattle.x509_cert_builders.specs.declared.build_error.Error.TheVariants as errors
-use Rattle.x509_cert_builders.proofs.Faults.{or_memory}
 use Rattle.x509_cert_builders.proofs.Lists.{all_plain}
 
 -- an attribute that has an encoding, and such attributes

@@ -8,10 +8,10 @@ use Rattle.const_oid.specs.Bound.{Bound}
 use Rattle.der_core_head.specs.declared.error.ErrorKind.{ErrorKind}
 use Rattle.der_core_head.specs.Grammar.{plain_list}
 use Rattle.der_core_head.specs.Shapes.{IsBody, IsContent, IsValid}
+use Rattle.der_core_head.proofs.Results.{plain-append, plain_permutation}
 use Rattle.der_core.specs.Placed.{AllValid}
 use Rattle.der_types_sets.proofs.Arranged.{valid_moved}
-use Rattle.der_types_sets.proofs.LentOrders.{plain-append}
-use Rattle.der_types_sets.proofs.AscendingSteps.{ascends-plain, one_set, permutation-plain}
+use Rattle.der_types_sets.proofs.AscendingSteps.{ascends-plain, one_set}
 use Rattle.x509_cert_name_texts.specs.Pieces.{ReadsPieces, Counts, HasNone, IsFirstPiece, in_front_of}
 use Rattle.x509_cert_names.specs.declared.attribute_type_and_value.AttributeTypeAndValue.{AttributeTypeAndValue}
 use Rattle.x509_cert_names.specs.Names.{PlainName, name, relative_name, type_and_value}
@@ -163,7 +163,7 @@ one_relative w r s (ReadsRelative.set xs r1 h p a d) (ReadsRelative.set ys s1 k 
     let there = subst (λ (zs : List AttributeTypeAndValue). IsPermutation zs s) (sym (one_members w xs ys h k)) q in
     let moved = IsPermutation-trans r xs s back there in
     one_set (type_and_value Bound) (relative_plain r) (relative_plain s) refl refl (members_valid r v)
-    (ascends-plain (type_and_value Bound) pair_plain r a) (ascends-plain (type_and_value Bound) pair_plain s b) (permutation-plain pair_plain r s moved)
+    (ascends-plain (type_and_value Bound) pair_plain r a) (ascends-plain (type_and_value Bound) pair_plain s b) (plain_permutation pair_plain r s moved)
 
 not_refused : (w : List ℕ) (r : List AttributeTypeAndValue) (e : ErrorKind) → ReadsRelative Bound w (Ok r) → ReadsRelative Bound w (Err e) → IsWithoutEncoding r
 not_refused w r e (ReadsRelative.set xs r1 h p a d) (ReadsRelative.refused e1 k) = absurd (no_fault w xs e h k)
