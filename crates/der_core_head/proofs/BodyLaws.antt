@@ -11,7 +11,7 @@ use Rattle.der_core_head.specs.Tags.{tag_octets, universal_tag, tag_at}
 use Rattle.der_core_head.specs.Heads.{Head, Fits, length_octets, length_at, head_at}
 use Rattle.der_core_head.specs.Bodies.{SpellsTag, is_constructed_at, IsDefinite, IsIndefinite, IsIndefiniteBody, SpellsLength, SpellsHead, tag_ber_at, Mark, length_ber_at, mark_at, Piece, ending, opening, encoding, end_at, content_at, piece_at, levels_after, closed_at, body_len_at, len_at, head_ber_at}
 use Rattle.der_core_head.proofs.Results.{ok_is, bind_ok, if_ok, unless_ok, either_ok, IsBytes, bytes_rest}
-use Rattle.der_core_head.proofs.OneEncoding.{bytes_are}
+use Rattle.der_core_head.proofs.OneEncoding.{bytes_are, joined}
 use Rattle.der_core_head.proofs.TagLaws.{tag_again, tag_sound}
 use Rattle.der_core_head.proofs.HeadLaws.{length_at-none, length_at-indefinite, length_again, length_sound}
 use Rattle.der_core_head.specs.Limits.{IsLength, length_max}
@@ -318,9 +318,6 @@ piece_before opening x levels (suc room) l b (t, o, tag, constructed, e) after e
     subst (λ (u : List ℕ). Ends (suc levels) (suc room) (u ++ b)) (sym e)
     (opened_before levels room t o b tag constructed (subst (λ (q : ℕ × ℕ). Ends q.0 q.1 b) same ends))
 
-joined : (w x v b r : List ℕ) → w ≡ x ++ v → v ≡ b ++ r → w ≡ (x ++ b) ++ r
-joined w x v b r e f = rw (e, f) (sym (append_assoc x b r))
-
 closed_sound : (pieces levels room : ℕ) (w r : List ℕ) → IsBytes w → closed_at pieces levels room w ≡ Ok r → (b : List ℕ) × Ends levels room b × (w ≡ b ++ r)
 unfolding closed_at
 closed_sound pieces zero room w r bytes e = ([], refl, ok_is w r e)
@@ -330,7 +327,7 @@ closed_sound (suc pieces) (suc levels) room w r bytes e =
     let l = bind_ok (levels_after p.0.0 (suc levels) room) (λ l. closed_at pieces l.0 l.1 p.0.1) r p.2 in
     let x = piece_sound w p.0.0 p.0.1 bytes p.1 in
     let b = closed_sound pieces l.0.0 l.0.1 p.0.1 r (bytes_rest x.0 p.0.1 w x.2 bytes) l.2 in
-    (x.0 ++ b.0, piece_before p.0.0 x.0 levels room l.0 b.0 x.1 l.1 b.1, joined w x.0 p.0.1 b.0 r x.2 b.2)
+    (x.0 ++ b.0, piece_before p.0.0 x.0 levels room l.0 b.0 x.1 l.1 b.1, joined x.0 b.0 r p.0.1 w x.2 b.2)
 
 -- Whole bodies
 

@@ -151,12 +151,13 @@ integer_octets-below (negsuc n) = complement-below (positive (digits 256 n))
 Contains-more : (m n : ℕ) (ns : List ℕ) → Contains ns n → Contains (m ∷ ns) n
 Contains-more m n ns h = (suc h.0, omega (arith, h.1), h.2)
 
-Contains-from_test : (n : ℕ) (ns : List ℕ) → list_any (λ m. m == n) ns ≡ true → Contains ns n
-Contains-from_test n [] e = absurd (false≢true e)
-Contains-from_test n (m ∷ ns) e =
+-- a number that is found is one of the numbers
+pub listed : (n : ℕ) (ns : List ℕ) → list_any (λ m. m == n) ns ≡ true → Contains ns n
+listed n [] e = absurd (false≢true e)
+listed n (m ∷ ns) e =
     ⊎_elim
     (λ h. (0, omega arith, eqb-true m n h))
-    (λ h. Contains-more m n ns (Contains-from_test n ns h))
+    (λ h. Contains-more m n ns (listed n ns h))
     (or_cases (m == n) (list_any (λ m. m == n) ns) e)
 
 test-from_Contains : (n : ℕ) (ns : List ℕ) → Contains ns n → list_any (λ m. m == n) ns ≡ true
@@ -172,7 +173,7 @@ checked-sound (signed k) t (pos n) y e = grind (arith, nat_tests)
 checked-sound (signed k) t (negsuc n) y e = grind (arith, nat_tests)
 checked-sound (among ns) t (pos n) y e =
     let parts = if_ok (list_any (λ m. m == n) ns) (kinds.Value t) (fine (pos n)) y e in
-    (ok_is (pos n) y parts.1, Contains-from_test n ns parts.0)
+    (ok_is (pos n) y parts.1, listed n ns parts.0)
 checked-sound (within k) t z y e = grind (arith, nat_tests)
 checked-sound _ t z y e = absurd cc
 

@@ -143,7 +143,7 @@ one_value s v w r t element apart h k e = one_encoding s v w r t apart h k (stop
 -- What is read is spelled so.
 
 -- a part in front, and what the rest is
-joined : (a b c rest w : List ℕ) → w ≡ a ++ rest → rest ≡ b ++ c → w ≡ (a ++ b) ++ c
+pub joined : (a b c rest w : List ℕ) → w ≡ a ++ rest → rest ≡ b ++ c → w ≡ (a ++ b) ++ c
 joined a b c rest w e s = e ∙ ap (λ (x : List ℕ). a ++ x) s ∙ sym (append_assoc a b c)
 
 slice_sound : (n : ℕ) (w x r : List ℕ) → slice_at n w ≡ Ok (x, r) → (length x ≡ n) × (w ≡ x ++ r)

@@ -1,7 +1,7 @@
 -- What a content is read as where only some numbers of eight bits are read, by what it is read as where all of them are.
-use Rattle.std.proofs.Common.{rules, ◌≡◌, ℕ, ◌≤◌, ◌<◌, ◌^◌, Bool, true, false, cond, List, [], ◌∷◌, length, suc, Ok, Err, refl, sym, ap, arith, ℤ, pos, negsuc, nat_lt, ◌==◌, ◌||◌, ◌≢◌, Contains}
+use Rattle.std.proofs.Common.{rules, ◌≡◌, ℕ, ◌≤◌, ◌<◌, ◌^◌, Bool, true, false, cond, List, [], ◌∷◌, length, Ok, Err, refl, sym, ap, arith, ℤ, pos, negsuc, nat_lt, ◌==◌, ◌≢◌}
 use Rattle.std.specs.List.{AllByRecursion, list_any}
-use Rattle.std.proofs.lemmas.Bool.{ltb-false, ltb-true, eqb-true, ne_eqb, and_parts}
+use Rattle.std.proofs.lemmas.Bool.{ltb-false, ltb-true, ne_eqb, and_parts}
 use Rattle.der_core_head.specs.declared.error.ErrorKind.{ErrorKind}
 use Rattle.der_core_head.specs.declared.error.ErrorKind.TheVariants as kinds
 use Rattle.der_core_head.specs.declared.tag.Tag.{Tag}
@@ -78,18 +78,6 @@ pub empty : (ns : Numbers) (t : Tag) (w : List ℕ) → length w < 1 → integer
 unfolding shortest_integer
 empty ns t [] h = refl
 empty ns t (d ∷ ds) h = absurd (omega (arith, h))
-
--- a number that is found is one of the numbers
-found : (b : Bool) (m n : ℕ) (ms : List ℕ) → (m == n) ≡ b → (b || list_any (λ x. x == n) ms) ≡ true → (list_any (λ x. x == n) ms ≡ true → Contains ms n)
-    → Contains (m ∷ ms) n
-found true m n ms same h more = (0, omega arith, eqb-true m n same)
-found false m n ms same h more =
-    let c = more h in
-    (suc c.0, omega (arith, c.1), c.2)
-
-pub listed : (ns : List ℕ) (n : ℕ) → list_any (λ x. x == n) ns ≡ true → Contains ns n
-listed [] n h = absurd cc
-listed (m ∷ ms) n h = found (m == n) m n ms refl h (listed ms n)
 
 -- a number that differs from each isn't found
 pub unlisted : (ns : List ℕ) (n : ℕ) → AllByRecursion (λ m. n ≢ m) ns → list_any (λ m. m == n) ns ≡ false

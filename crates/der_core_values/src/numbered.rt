@@ -70,7 +70,7 @@ impl<T: Numbered> Integer for NumberOf<T> {
         }
     }
 
-    #[tactic(auto, using(crate::proofs::NamedNumbers::listed))]
+    #[tactic(auto, using(der_core_head::proofs::IntegerLaws::listed))]
     fn sign_and_bits(&self) -> (bool, u128) {
         (false, u128::from(self.value.to_number()))
     }
@@ -144,7 +144,7 @@ impl<'a, R: Reader<'a>, T: Numbered, K> DecodeWay<'a, R, T> for AsNumbered<K> {
 }
 
 impl<T: Numbered, K> RangeWay<T> for AsNumbered<K> {
-    #[tactic(auto, using(crate::proofs::NamedNumbers::listed))]
+    #[tactic(auto, using(der_core_head::proofs::IntegerLaws::listed))]
     fn range_by(value: &T) {
         let _number = value.to_number();
     }

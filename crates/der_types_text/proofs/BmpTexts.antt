@@ -1,5 +1,5 @@
 -- Texts that any octets spell, pairs of octets, and the characters that they spell.
-use Rattle.std.proofs.Common.{◌≡◌, ℕ, zero, suc, ◌<◌, ◌%◌, Bool, true, false, List, [], ◌∷◌, ◌++◌, length, get_or, map, Ok, Err, refl, ap, sym, ◌∙◌, arith, ◌&&◌, nat_eq, cond, ⊎_elim, encode_utf8_all, chars, IsUtf8}
+use Rattle.std.proofs.Common.{◌≡◌, ℕ, zero, suc, ◌<◌, ◌%◌, Bool, true, false, List, [], ◌∷◌, ◌++◌, length, get_or, Ok, Err, refl, ap, sym, ◌∙◌, arith, ◌&&◌, nat_eq, cond, ⊎_elim, encode_utf8_all, chars, IsUtf8}
 use Rattle.std.specs.Cmp.Lexicographic.{pointwise}
 use Rattle.std.specs.List.{list_all}
 use Rattle.std.proofs.lemmas.Bool.{and_parts, cond-true, cond-false, and_from}
@@ -46,10 +46,6 @@ list_all-refused p (x ∷ xs) zero c h at e = rw (ap p (sym at) ∙ e) refl
 list_all-refused p (x ∷ xs) (suc i) c h at e =
     let more = list_all-refused p xs i c (omega arith) at e in
     grind (arith, nat_tests)
-
-pub map_same : (xs : List ℕ) → map (λ c. c) xs ≡ xs
-map_same [] = refl
-map_same (x ∷ xs) = ap (λ w. x ∷ w) (map_same xs)
 
 -- equal octets, equal characters
 pub pointwise-bmp_octets : (us vs : List ℕ) → pointwise nat_eq (bmp_octets us) (bmp_octets vs) ≡ pointwise nat_eq us vs

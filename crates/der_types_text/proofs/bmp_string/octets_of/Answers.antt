@@ -1,9 +1,9 @@
-use Rattle.std.proofs.Common.{◌≡◌, Err, refl, sym, ap, ◌∙◌, chars}
+use Rattle.std.proofs.Common.{◌≡◌, Err, refl, sym, ap, ◌∙◌, chars, map-id}
 use Rattle.std.proofs.lemmas.Iterator.{YieldsList-from_chars}
 use Rattle.std.proofs.lemmas.Iterator.Consumers.{YieldsList-turn, YieldsList-end}
 use Rattle.der_core_head.specs.BmpStrings.{is_unit, bmp_octets, units}
 use Rattle.der_core_head.proofs.TextLaws.{units-octets}
-use Rattle.der_types_text.proofs.BmpTexts.{bmp_octets-push, list_all-push, list_all-refused, map_same, bmp_from-ok, bmp_from-refused}
+use Rattle.der_types_text.proofs.BmpTexts.{bmp_octets-push, list_all-push, list_all-refused, bmp_from-ok, bmp_from-refused}
 use Rattle.der_types_text.proofs.bmp_string.octets_of.Goals as goal
 
 pub loop-character-init : goal.loop-character-init
@@ -24,12 +24,12 @@ loop-character-preserved c =
 pub returns-clause-ok : goal.returns-clause-ok
 returns-clause-ok c =
     let end = YieldsList-end (YieldsList-from_chars c.args.text.now c.utf8.text cc) c.loop-character.yielded _ c.loop-character.yielded_by _ _ c.in-None.is c.next.ensures.steps in
-    let all : c.loop-character.yielded ≡ chars c.args.text.now = sym (map_same c.loop-character.yielded) ∙ end.0 in
+    let all : c.loop-character.yielded ≡ chars c.args.text.now = sym (map-id c.loop-character.yielded) ∙ end.0 in
     c.loop-character.invariant.0 ∙ ap bmp_octets all
 
 pub returns-clause-exact : goal.returns-clause-exact
 returns-clause-exact c =
     let end = YieldsList-end (YieldsList-from_chars c.args.text.now c.utf8.text cc) c.loop-character.yielded _ c.loop-character.yielded_by _ _ c.in-None.is c.next.ensures.steps in
-    let all : c.loop-character.yielded ≡ chars c.args.text.now = sym (map_same c.loop-character.yielded) ∙ end.0 in
+    let all : c.loop-character.yielded ≡ chars c.args.text.now = sym (map-id c.loop-character.yielded) ∙ end.0 in
     let spelled : units c.loop-character.octets.items ≡ c.loop-character.yielded = ap units c.loop-character.invariant.0 ∙ units-octets c.loop-character.yielded in
     rw (spelled, all) (bmp_from-ok (chars c.args.text.now) (rw all at c.loop-character.invariant.1))
