@@ -97,9 +97,7 @@ impl<'a> SliceReader<'a> {
         self.failed = true;
         Error {
             kind,
-            position: Some(Length {
-                value: self.position as u32,
-            }),
+            position: Some(Length::new(self.position as u32)),
         }
     }
 }
@@ -134,15 +132,11 @@ impl<'r> Reader<'r> for SliceReader<'r> {
     }
 
     fn input_len(&self) -> Length {
-        Length {
-            value: self.bytes.len() as u32,
-        }
+        Length::new(self.bytes.len() as u32)
     }
 
     fn position(&self) -> Length {
-        Length {
-            value: self.position as u32,
-        }
+        Length::new(self.position as u32)
     }
 
     fn levels_left(&self) -> usize {

@@ -60,18 +60,14 @@ impl Length {
     pub fn saturating_add(self, other: Length) -> Length
         ensures { result.value ≡ min (self.value + other.value) length_max }
     {
-        Length {
-            value: self.value.saturating_add(other.value),
-        }
+        Length::new(self.value.saturating_add(other.value))
     }
 
     /// The difference, or `ZERO` where the other length is greater.
     pub fn saturating_sub(self, other: Length) -> Length
         ensures { result.value ≡ self.value - other.value }
     {
-        Length {
-            value: self.value.saturating_sub(other.value),
-        }
+        Length::new(self.value.saturating_sub(other.value))
     }
 }
 
@@ -111,9 +107,7 @@ fn length_len(len: Length) -> u32
 pub fn header_len(tag: Tag, len: Length) -> Length
     ensures { result.value ≡ length (head_octets tag len.value) }
 {
-    Length {
-        value: tag_len(tag) + length_len(len),
-    }
+    Length::new(tag_len(tag) + length_len(len))
 }
 
 /// The sum; from 2^32 on it is `Overflow`.
@@ -250,9 +244,7 @@ impl From<u8> for Length {
     ghost from_gives = { λ n l. l.value ≡ n };
 
     fn from(value: u8) -> Length {
-        Length {
-            value: u32::from(value),
-        }
+        Length::new(u32::from(value))
     }
 }
 
@@ -260,9 +252,7 @@ impl From<u16> for Length {
     ghost from_gives = { λ n l. l.value ≡ n };
 
     fn from(value: u16) -> Length {
-        Length {
-            value: u32::from(value),
-        }
+        Length::new(u32::from(value))
     }
 }
 

@@ -125,9 +125,7 @@ impl BytesOwned {
     pub fn len(&self) -> Length
         ensures { result.value ≡ length self.now }
     {
-        Length {
-            value: self.bytes.len() as u32,
-        }
+        Length::new(self.bytes.len() as u32)
     }
 
     /// Whether there are none.

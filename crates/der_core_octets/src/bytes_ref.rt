@@ -46,9 +46,7 @@ impl<'a> BytesRef<'a> {
     pub fn len(&self) -> Length
         ensures { result.value ≡ length (held_octets self.now) }
     {
-        Length {
-            value: self.bytes.len() as u32,
-        }
+        Length::new(self.bytes.len() as u32)
     }
 
     /// Whether there are none.

@@ -100,9 +100,7 @@ pub trait Reader<'r>: Drop {
     final fn remaining_len(&self) -> Length
         ensures { result.value ≡ length (state self.now).rest }
     {
-        Length {
-            value: self.remaining().len() as u32,
-        }
+        Length::new(self.remaining().len() as u32)
     }
 
     /// The next octet, without passing over it. The reader stays as it is.

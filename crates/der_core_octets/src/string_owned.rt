@@ -120,9 +120,7 @@ impl StringOwned {
     pub fn len(&self) -> Length
         ensures { result.value ≡ length self.now }
     {
-        Length {
-            value: self.text.as_bytes().len() as u32,
-        }
+        Length::new(self.text.as_bytes().len() as u32)
     }
 
     /// Whether there are none.

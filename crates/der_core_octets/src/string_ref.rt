@@ -67,9 +67,7 @@ impl<'a> StringRef<'a> {
     pub fn len(&self) -> Length
         ensures { result.value ≡ length (held_text self.now) }
     {
-        Length {
-            value: self.text.len() as u32,
-        }
+        Length::new(self.text.len() as u32)
     }
 
     /// Whether there are none.

@@ -63,9 +63,7 @@ impl<T: Integer> Way<T> for AsInteger {
     fn len_by(value: &T) -> Result<Length, Error> {
         let (negative, number) = value.sign_and_bits();
         let (_, start) = integer_octets_of(negative, number);
-        Ok(Length {
-            value: (17 - start) as u32,
-        })
+        Ok(Length::new((17 - start) as u32))
     }
 
     fn encode_by<W: Writer>(value: &T, writer: &mut W) -> Result<(), Error> {

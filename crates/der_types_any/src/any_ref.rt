@@ -94,9 +94,7 @@ impl<'a> AnyRef<'a> {
     {
         Header {
             tag: self.tag,
-            length: Length {
-                value: self.bytes.len() as u32,
-            },
+            length: Length::new(self.bytes.len() as u32),
         }
     }
 

@@ -71,9 +71,7 @@ impl<'a> IntRef<'a> {
     pub fn len(&self) -> Length
         ensures { result.value ≡ length (integer_octets (integer_lent self.now)) }
     {
-        Length {
-            value: self.as_bytes().len() as u32,
-        }
+        Length::new(self.as_bytes().len() as u32)
     }
 
     /// Whether there are no content octets, which never is.

@@ -74,9 +74,7 @@ impl<'a> UintRef<'a> {
     pub fn len(&self) -> Length
         ensures { result.value ≡ length (digits 256 (natural_lent self.now)) }
     {
-        Length {
-            value: self.bytes.len() as u32,
-        }
+        Length::new(self.bytes.len() as u32)
     }
 
     /// Whether there are no digits, which never is.

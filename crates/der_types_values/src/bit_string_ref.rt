@@ -98,9 +98,7 @@ impl<'a> BitStringRef<'a> {
     pub fn byte_len(&self) -> Length
         ensures { result.value ≡ length (bits_lent self.now).octets }
     {
-        Length {
-            value: self.bytes.len() as u32,
-        }
+        Length::new(self.bytes.len() as u32)
     }
 
     /// Whether there are no bits.

@@ -63,9 +63,7 @@ impl<'a> OctetStringRef<'a> {
     pub fn len(&self) -> Length
         ensures { result.value ≡ length (octets_lent self.now) }
     {
-        Length {
-            value: self.bytes.len() as u32,
-        }
+        Length::new(self.bytes.len() as u32)
     }
 
     /// Whether there are no octets.
