@@ -15,7 +15,6 @@ mod encode;
 mod fields;
 mod in_range;
 mod integers;
-mod leaf_ways;
 mod leaves;
 mod members;
 mod now;
@@ -27,7 +26,6 @@ mod unit;
 mod utf8_string;
 mod vec;
 mod ways;
-mod wraps;
 
 pub use bytes::decode_octets;
 pub use choices::{OneOf2, OneOf3, OneOf4, OneOf5, OneOf6, OneOf7, OneOf8, OneOf9};

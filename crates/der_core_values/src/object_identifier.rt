@@ -6,9 +6,8 @@ ghost use Rattle.der_core_head.specs.declared.tag.Tag.TheVariants.{ObjectIdentif
 ghost use Rattle.der_core_head.specs.Leaves.{identifier};
 
 use crate::decode::FixedTag;
-use crate::leaf_ways::{AsOctets, Octets};
 use crate::leaves::{Leaf, Primitive};
-use crate::ways::Described;
+use crate::ways::{AsOctets, Described, Octets};
 use const_oid::ObjectIdentifier;
 use der_core_head::{Error, Tag};
 use std::alloc::Global;
