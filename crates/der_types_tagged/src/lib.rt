@@ -2,7 +2,6 @@
 #![tactic(auto)]
 
 mod application;
-mod behind;
 mod class_field;
 mod class_field_ref;
 mod context_specific;

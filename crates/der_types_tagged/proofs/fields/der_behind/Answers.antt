@@ -1,6 +1,6 @@
 use Rattle.der_core_head.specs.Shapes.{tagged}
 use Rattle.der_core_head.proofs.Written.{is_written}
-use Rattle.der_types_tagged.proofs.behind.der_behind.Goals as goal
+use Rattle.der_types_tagged.proofs.fields.der_behind.Goals as goal
 
 pub returns-clause-spelled : goal.returns-clause-spelled
 returns-clause-spelled g c = λ valid.
