@@ -1,10 +1,10 @@
 -- Values of choices.
 use Rattle.std.specs.Prelude.{◌⊎◌}
 use Rattle.std.proofs.Common.{inl, inr}
-use Rattle.der_core_values.specs.declared.choices.OneOf2.{OneOf2}
-use Rattle.der_core_values.specs.declared.choices.OneOf2.TheVariants as two
-use Rattle.der_core_values.specs.declared.choices.OneOf4.{OneOf4}
-use Rattle.der_core_values.specs.declared.choices.OneOf4.TheVariants as four
+use Rattle.der_core_values.specs.declared.one_of_two.OneOf2.{OneOf2}
+use Rattle.der_core_values.specs.declared.one_of_two.OneOf2.TheVariants as two
+use Rattle.der_core_values.specs.declared.one_of_four.OneOf4.{OneOf4}
+use Rattle.der_core_values.specs.declared.one_of_four.OneOf4.TheVariants as four
 
 abbrev pub plain_of_two : {A B P Q : Type 0} → (A → P) → (B → Q) → OneOf2 A B → P ⊎ Q
 plain_of_two a b (two.First v) = inl (a v)

@@ -8,8 +8,9 @@ ghost use Rattle.der_core_head.specs.Reading.{Reads, read_content_at};
 ghost use Rattle.der_core_head.specs.Shapes.{leaf};
 
 use crate::in_range::octets_in_range;
+use crate::leaf_ways::{AsOctets, Octets};
 use crate::leaves::{Leaf, Primitive};
-use crate::ways::{AsOctets, Described, Octets};
+use crate::ways::Described;
 use der_core_head::{Error, Tag};
 use der_core_octets::{BytesOwned, BytesRef, Header, Reader};
 use std::alloc::Global;

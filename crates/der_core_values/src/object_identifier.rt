@@ -6,8 +6,9 @@ ghost use Rattle.der_core_head.specs.declared.tag.Tag.TheVariants.{ObjectIdentif
 ghost use Rattle.der_core_head.specs.Leaves.{identifier};
 
 use crate::decode::FixedTag;
+use crate::leaf_ways::{AsOctets, Octets};
 use crate::leaves::{Leaf, Primitive};
-use crate::ways::{AsOctets, Described, Octets};
+use crate::ways::Described;
 use const_oid::ObjectIdentifier;
 use der_core_head::{Error, Tag};
 use std::alloc::Global;

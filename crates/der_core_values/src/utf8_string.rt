@@ -7,8 +7,9 @@ ghost use Rattle.der_core_head.specs.Leaves.{utf8};
 
 use crate::decode::FixedTag;
 use crate::in_range::text_in_range;
+use crate::leaf_ways::{AsOctets, Octets};
 use crate::leaves::{Leaf, Primitive};
-use crate::ways::{AsOctets, Described, Octets};
+use crate::ways::Described;
 use der_core_head::{Error, Tag};
 use der_core_octets::{StringOwned, StringRef};
 use std::alloc::Global;

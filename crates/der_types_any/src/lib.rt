@@ -5,6 +5,7 @@ mod any;
 mod any_in_range;
 mod any_ref;
 mod conversions;
+mod dates;
 mod elements;
 pub mod laws;
 mod numbers;

@@ -1,4 +1,4 @@
-use Rattle.der_core_values.proofs.ways.wrapped.Goals as goal
+use Rattle.der_core_values.proofs.wraps.wrapped.Goals as goal
 
 pub returns : goal.returns
 returns g c = g.met.T.Wraps.made c.args.field c.from.result c.from.ensures

@@ -1,0 +1,116 @@
+//! Ways of types whose content is no list of values.
+
+ghost use Rattle.std.specs.Prelude.{◌≡◌, refl};
+ghost use Rattle.der_core_head.specs.Leaves.{leaf_contents, IsLeafValue};
+ghost use Rattle.der_core_head.specs.Reading.{GivesNow};
+ghost use Rattle.der_core_head.specs.Shapes.{leaf};
+ghost use Rattle.der_core_head.specs.Writing.{Writes, size_content, write_content};
+ghost use Rattle.der_core_octets.specs.Outputs.{Continues};
+
+use crate::leaves::{Leaf, Primitive, decode_leaf};
+use crate::ways::{AsReadWay, DecodeWay, RangeWay, Way};
+use der_core_head::{Error, Length};
+use der_core_octets::{Header, Reader, Writer, slice_len};
+use std::alloc::Global;
+
+/// A type whose values hold the octets of their content.
+pub trait Octets: Primitive {
+    /// The octets of the content.
+    fn content(&self) -> &[u8]
+        ensures content { result.now ≡ leaf_contents Self.kind (Self.leaf_plain self.now) }
+        // The value is in range.
+        ensures in_range { IsLeafValue Self.kind (Self.leaf_plain self.now) };
+}
+
+/// As the octets that a value holds. Its tag is the type's own.
+pub struct AsOctets;
+
+impl<T: Octets> Way<T> for AsOctets {
+    ghost content_by = { leaf T.kind };
+
+    ghost plain_by = { T.leaf_plain };
+
+    ghost written_by = { T.leaf_plain };
+
+    fn len_by(value: &T) -> Result<Length, Error> {
+        slice_len(value.content())
+    }
+
+    fn encode_by<W: Writer>(value: &T, writer: &mut W) -> Result<(), Error> {
+        writer.write(value.content())
+    }
+
+    ghost apart_by = { refl };
+}
+
+impl<T: Octets> AsReadWay<T> for AsOctets {
+    ghost as_read_by = { λ _. refl };
+}
+
+impl<'a, R: Reader<'a>, T: Octets + Leaf<'a>> DecodeWay<'a, R, T> for AsOctets {
+    // Inlined, so that what is answered isn't moved.
+    #[inline(always)]
+    fn decode_by(alloc: Global, reader: &mut R, header: Header) -> Result<T, Error> {
+        decode_leaf(alloc, reader, header)
+    }
+}
+
+impl<T: Octets> RangeWay<T> for AsOctets {
+    fn range_by(value: &T) {
+        let _content = value.content();
+    }
+}
+
+/// A type that writes the octets of a content which its values don't hold.
+pub trait EncodeLeaf: Primitive {
+    /// The number of octets of the content.
+    ///
+    /// # Errors
+    /// `Overflow` from 2^32 on.
+    fn leaf_len(&self) -> Result<Length, Error>
+        ensures { GivesNow (λ l. l.value) result
+            (size_content (leaf Self.kind) (Self.leaf_plain self.now)) };
+
+    /// Writes the content.
+    ///
+    /// # Errors
+    /// Those of the writer.
+    fn encode_leaf<W: Writer>(&self, writer: &mut W) -> Result<(), Error>
+        ensures exact { Writes W.takes_memory (W.out writer.old) (W.out writer.new) result
+            (write_content (leaf Self.kind) (Self.leaf_plain self.now)) }
+        ensures kept { Continues (W.out writer.old) (W.out writer.new) };
+}
+
+/// As a content that the type reads from octets and writes. Its tag, its range and its order are
+/// the type's own.
+pub struct AsLeaf;
+
+impl<T: EncodeLeaf> Way<T> for AsLeaf {
+    ghost content_by = { leaf T.kind };
+
+    ghost plain_by = { T.leaf_plain };
+
+    ghost written_by = { T.leaf_plain };
+
+    fn len_by(value: &T) -> Result<Length, Error> {
+        value.leaf_len()
+    }
+
+    fn encode_by<W: Writer>(value: &T, writer: &mut W) -> Result<(), Error> {
+        value.encode_leaf(writer)
+    }
+
+    ghost apart_by = { refl };
+}
+
+impl<T: EncodeLeaf> AsReadWay<T> for AsLeaf {
+    ghost as_read_by = { λ _. refl };
+}
+
+impl<'a, R: Reader<'a>, T: EncodeLeaf + Leaf<'a>> DecodeWay<'a, R, T> for AsLeaf {
+    // Inlined, so that what is answered isn't moved.
+    #[inline(always)]
+    fn decode_by(alloc: Global, reader: &mut R, header: Header) -> Result<T, Error> {
+        decode_leaf(alloc, reader, header)
+    }
+}
