@@ -1,6 +1,5 @@
 pub mod EscapeSteps
 pub mod PieceSteps
 pub mod TextSteps
-pub mod HexLaws
 pub mod KeyLaws
 pub mod RowLaws

@@ -1,11 +1,13 @@
-//! Escapes in values, undone.
+//! Escapes and hex digits in texts of names (RFC 4514 2.4, 3).
 
 ghost use Rattle.std.specs.Prelude.{◌≡◌, ◌<◌, length, IfOk};
 ghost use Rattle.der_core_head.specs.Reading.{Gives, GivesNow};
 ghost use Rattle.hex.specs.Hex.{hex_digit_value};
 ghost use Rattle.x509_cert_name_texts.specs.Escapes.{is_sign, octet_of_digits, escape, undone};
+ghost use Rattle.x509_cert_name_texts.specs.Escapes.{hex_octets};
 
 use der_core_head::{Error, ErrorKind};
+use hex::FromHexError;
 use std::alloc::Global;
 
 /// Whether an octet may stand after a backslash as itself (RFC 4514 3).
@@ -74,4 +76,18 @@ pub fn undo_escapes(alloc: Global, text: &[u8]) -> Result<Vec<u8>, Error>
         }
     }
     Ok(octets)
+}
+
+/// The octets of hex digits, capital or small.
+///
+/// # Errors
+/// `Failed` where an octet is no digit, or their number is odd, or `OutOfMemory`.
+pub fn from_hex(alloc: Global, digits: &[u8]) -> Result<Vec<u8>, Error>
+    ensures { Gives (λ v. v.items) result (hex_octets digits.now) }
+{
+    match hex::decode(alloc, digits) {
+        Ok(octets) => Ok(octets),
+        Err(FromHexError::OutOfMemory) => Err(Error::from(ErrorKind::OutOfMemory)),
+        Err(_) => Err(Error::from(ErrorKind::Failed)),
+    }
 }

@@ -18,79 +18,30 @@ struct Named {
     long: &'static str,
 }
 
+/// Rows of a table of types: octets, shortest name, other name.
+macro_rules! named {
+    ($($octets:expr, $short:literal, $long:literal;)*) => {
+        [$(Named { octets: &$octets, short: $short, long: $long }),*]
+    };
+}
+
 /// The types that have names (RFC 4514 3; RFC 4519 2; RFC 2985 5.2.1).
-const NAMED_TYPES: [Named; 14] = [
-    Named {
-        octets: &[0x55, 4, 3],
-        short: "CN",
-        long: "commonName",
-    },
-    Named {
-        octets: &[0x55, 4, 4],
-        short: "SN",
-        long: "surname",
-    },
-    Named {
-        octets: &[0x55, 4, 5],
-        short: "SERIALNUMBER",
-        long: "serialNumber",
-    },
-    Named {
-        octets: &[0x55, 4, 6],
-        short: "C",
-        long: "countryName",
-    },
-    Named {
-        octets: &[0x55, 4, 7],
-        short: "L",
-        long: "localityName",
-    },
-    Named {
-        octets: &[0x55, 4, 8],
-        short: "ST",
-        long: "stateOrProvinceName",
-    },
-    Named {
-        octets: &[0x55, 4, 9],
-        short: "STREET",
-        long: "streetAddress",
-    },
-    Named {
-        octets: &[0x55, 4, 10],
-        short: "O",
-        long: "organizationName",
-    },
-    Named {
-        octets: &[0x55, 4, 11],
-        short: "OU",
-        long: "organizationalUnitName",
-    },
-    Named {
-        octets: &[0x55, 4, 17],
-        short: "POSTALCODE",
-        long: "postalCode",
-    },
-    Named {
-        octets: &[0x55, 4, 42],
-        short: "GN",
-        long: "givenName",
-    },
-    Named {
-        octets: &[0x09, 0x92, 0x26, 0x89, 0x93, 0xf2, 0x2c, 0x64, 0x01, 0x19],
-        short: "DC",
-        long: "domainComponent",
-    },
-    Named {
-        octets: &[0x09, 0x92, 0x26, 0x89, 0x93, 0xf2, 0x2c, 0x64, 0x01, 0x01],
-        short: "UID",
-        long: "userId",
-    },
-    Named {
-        octets: &[0x2a, 0x86, 0x48, 0x86, 0xf7, 0x0d, 0x01, 0x09, 0x01],
-        short: "EMAILADDRESS",
-        long: "emailAddress",
-    },
-];
+const NAMED_TYPES: [Named; 14] = named! {
+    [0x55, 4, 3], "CN", "commonName";
+    [0x55, 4, 4], "SN", "surname";
+    [0x55, 4, 5], "SERIALNUMBER", "serialNumber";
+    [0x55, 4, 6], "C", "countryName";
+    [0x55, 4, 7], "L", "localityName";
+    [0x55, 4, 8], "ST", "stateOrProvinceName";
+    [0x55, 4, 9], "STREET", "streetAddress";
+    [0x55, 4, 10], "O", "organizationName";
+    [0x55, 4, 11], "OU", "organizationalUnitName";
+    [0x55, 4, 17], "POSTALCODE", "postalCode";
+    [0x55, 4, 42], "GN", "givenName";
+    [0x09, 0x92, 0x26, 0x89, 0x93, 0xf2, 0x2c, 0x64, 0x01, 0x19], "DC", "domainComponent";
+    [0x09, 0x92, 0x26, 0x89, 0x93, 0xf2, 0x2c, 0x64, 0x01, 0x01], "UID", "userId";
+    [0x2a, 0x86, 0x48, 0x86, 0xf7, 0x0d, 0x01, 0x09, 0x01], "EMAILADDRESS", "emailAddress";
+};
 
 impl Named {
     /// Whether a key is one of its names, in capital or small letters.

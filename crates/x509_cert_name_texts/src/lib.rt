@@ -2,13 +2,11 @@
 #![tactic(auto)]
 
 mod escapes;
-mod hex_digits;
 mod keys;
 mod pieces;
 mod printing;
 
-pub use escapes::undo_escapes;
-pub use hex_digits::from_hex;
+pub use escapes::{from_hex, undo_escapes};
 pub use keys::{key_of, type_of_key};
 pub use pieces::{FromText, first_piece, read_pieces, split_member};
 pub use printing::{write_escaped, write_hex};

@@ -15,7 +15,7 @@ fn is_escaped_sign(c: char) -> bool
 }
 
 /// Writes two small hex digits.
-#[tactic(auto, using(crate::proofs::HexLaws::written_octet))]
+#[tactic(auto, using(std::proofs::lemmas::Fmt::hex_byte))]
 fn write_hex_octet<W: fmt::Write>(octet: u8, f: &mut fmt::Formatter<W>) -> fmt::Result
     ensures { WritesOnOk W.write_str_gives f.old result (hex_digits octet) f.new }
 {
@@ -41,7 +41,7 @@ fn write_escaped_sign<W: fmt::Write>(sign: char, f: &mut fmt::Formatter<W>) -> f
 }
 
 /// Writes a backslash and two small hex digits.
-#[tactic(auto, using(crate::proofs::HexLaws::written_octet))]
+#[tactic(auto, using(std::proofs::lemmas::Fmt::hex_byte))]
 fn write_escaped_octet<W: fmt::Write>(octet: u8, f: &mut fmt::Formatter<W>) -> fmt::Result
     ensures { WritesOnOk W.write_str_gives f.old result (92 ∷ hex_digits octet) f.new }
 {
