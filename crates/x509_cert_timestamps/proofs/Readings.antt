@@ -1,5 +1,5 @@
 -- Octets begin with the spelling of one value at most, and where they do, nothing refuses them.
-use Rattle.std.proofs.Common.{◌≡◌, ℕ, ◌+◌, ◌<◌, List, length, get_or, refl, arith, length-append, ◌≢◌, ◌^◌, [], ◌∷◌, ◌++◌, sym, ap, subst, ◌∙◌, append_assoc, inl, inr, IsTrue, ◌==◌, take, flat_map, All, Bool, false}
+use Rattle.std.proofs.Common.{◌≡◌, ℕ, ◌+◌, ◌<◌, List, length, get_or, refl, arith, length-append, ◌≢◌, ◌^◌, [], ◌∷◌, ◌++◌, sym, ap, subst, ◌∙◌, append_assoc, inl, inr, IsTrue, ◌==◌, take, flat_map, All, Bool, false, min, drop, length-take, take-append-drop, ◌≤◌}
 use Rattle.std.specs.Int.{w16, w64, from_be_bytes}
 use Rattle.std.proofs.lemmas.Nat.{be_bytes_2, be_bytes_8, from_be_bytes-to_be_bytes_2, from_be_bytes-to_be_bytes_8}
 use Rattle.x509_cert_timestamps.specs.Forms.{short_octets, long_octets, vector, octets, Form, Plain, named, long, exactly, pair, Spells, Refuses, RefusesWhole, FailsOn, Appends}
@@ -7,7 +7,7 @@ use Rattle.std.specs.List.{AllByRecursion, list_any}
 use Rattle.std.proofs.lemmas.Bool.Decides.{nat_tests}
 use Rattle.const_oid.proofs.DigitLaws.{split-same_length}
 use Rattle.x509_cert_timestamps.specs.declared.tls_error.TlsError.{TlsError}
-use Rattle.std.proofs.lemmas.List.{flat_map_more, take_more}
+use Rattle.std.proofs.lemmas.List.{flat_map_more, take_more, take_all, take-take, take-append-le}
 use Rattle.x509_cert_timestamps.specs.declared.serialized_sct.SerializedSct.{SerializedSct}
 use Rattle.x509_cert_timestamps.specs.Lists.{IsMember, sct_octets, ReadsNoMembers}
 use Rattle.x509_cert_timestamps.specs.declared.signed_certificate_timestamp.SignedCertificateTimestamp.{SignedCertificateTimestamp}
@@ -154,3 +154,39 @@ timestamp_length t =
     let e = octets vector t.extensions.items in
     let s = octets signed_form (signed_plain t.signature) in
     omega (arith, length-append t.log_id.key_id (long_octets t.timestamp ++ (e ++ s)), length-append (long_octets t.timestamp) (e ++ s), length-append e s, length-long t.timestamp)
+
+-- Two fields in turn: what is read, refused and written of them.
+
+pub first_fails : (f g : Form) (input : List ℕ) (e : TlsError) → FailsOn f input e → FailsOn (pair f g) input e
+first_fails f g input e (inl memory) = inl memory
+first_fails f g input e (inr refused) = inr (inl refused)
+
+pub second_fails : (f g : Form) (v : Plain f) (input rest : List ℕ) (e : TlsError) → Spells f v input rest → FailsOn g rest e → FailsOn (pair f g) input e
+second_fails f g v input rest e spelled (inl memory) = inl memory
+second_fails f g v input rest e spelled (inr refused) = inr (inr (v, rest, spelled, refused))
+
+pub both_spelled : (f g : Form) (a : Plain f) (b : Plain g) (input mid rest : List ℕ) → Spells f a input mid → Spells g b mid rest → Spells (pair f g) (a, b) input rest
+both_spelled f g a b input mid rest p q = record {
+  value = (p.value, q.value);
+  split = p.split ∙ ap (λ (t : List ℕ). octets f a ++ t) q.split ∙ sym (append_assoc (octets f a) (octets g b) rest);
+}
+
+-- the first so many octets
+pub exactly_spelled : (n : ℕ) (input front rest : List ℕ) → front ≡ take n input → rest ≡ drop n input → length rest + n ≡ length input → Spells (exactly n) front input rest
+exactly_spelled n input front rest f r len = record {
+  value = ap length f ∙ length-take n input ∙ (let k : min n (length input) ≡ n = omega arith in k);
+  split = sym (take-append-drop n input) ∙ ap (λ (t : List ℕ). t ++ drop n input) (sym f) ∙ ap (λ (t : List ℕ). front ++ t) (sym r);
+}
+
+-- What stands in front of octets that were put behind others.
+
+pub front_same : (old : List ℕ) → take (length old) old ≡ old
+front_same old = take_all (length old) old (omega arith)
+
+pub front_behind : (old more new : List ℕ) → take (length (old ++ more)) new ≡ old ++ more → take (length old) new ≡ old
+front_behind old more new e =
+    let n = length old in
+    let below : n ≤ length (old ++ more) = omega (arith, length-append old more) in
+    sym (take-take n (length (old ++ more)) new below) ∙ ap (take n) e ∙ take-append-le n old more (omega arith) ∙ front_same old
+
+pub ruleset fronts = (front_same, front_behind)

@@ -29,10 +29,7 @@ impl TlsValue for DigitallySigned {
 
     ghost plain = { signed_plain };
 
-    fn tls_deserialize_bytes(
-        alloc: Global,
-        input: &[u8],
-    ) -> Result<(DigitallySigned, &[u8]), TlsError> {
+    fn tls_deserialize_bytes(alloc: Global, input: &[u8]) -> Result<(Self, &[u8]), TlsError> {
         let (algorithm, rest) = SignatureAndHashAlgorithm::tls_deserialize_bytes(alloc, input)?;
         let (signature, rest) = read_vector(alloc, rest)?;
         Ok((
@@ -44,7 +41,7 @@ impl TlsValue for DigitallySigned {
         ))
     }
 
-    #[tactic(auto, using(crate::proofs::Fronts::fronts))]
+    #[tactic(auto, using(crate::proofs::Readings::fronts))]
     fn append_to(&self, output: &mut Vec<u8>) -> Result<(), TlsError> {
         self.algorithm.append_to(output)?;
         append_vector(&self.signature, output)?;

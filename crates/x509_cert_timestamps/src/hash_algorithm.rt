@@ -12,7 +12,7 @@ use der_core::describing::Numbered;
 ///     none(0), md5(1), sha1(2), sha224(3), sha256(4), sha384(5), sha512(6), Intrinsic(8), (255)
 /// } HashAlgorithm;
 /// ```
-#[derive(Debug, Drop, PartialEq)]
+#[derive(Clone, Copy, Debug, PartialEq)]
 pub enum HashAlgorithm {
     /// No hash.
     None,
@@ -29,7 +29,7 @@ pub enum HashAlgorithm {
     /// SHA-512.
     Sha512,
     /// The hash is part of the signature algorithm.
-    Intrinsic,
+    Intrinsic = 8,
 }
 
 impl Numbered for HashAlgorithm {
@@ -52,16 +52,7 @@ impl Numbered for HashAlgorithm {
     }
 
     fn to_number(&self) -> u8 {
-        match self {
-            HashAlgorithm::None => 0,
-            HashAlgorithm::Md5 => 1,
-            HashAlgorithm::Sha1 => 2,
-            HashAlgorithm::Sha224 => 3,
-            HashAlgorithm::Sha256 => 4,
-            HashAlgorithm::Sha384 => 5,
-            HashAlgorithm::Sha512 => 6,
-            HashAlgorithm::Intrinsic => 8,
-        }
+        *self as u8
     }
 
     ghost few = { refl };

@@ -4,11 +4,8 @@
 
 mod digitally_signed;
 mod hash_algorithm;
-mod identifier;
 pub mod laws;
 mod log_id;
-mod numbered;
-mod numbers;
 mod serialized_sct;
 mod signature_algorithm;
 mod signature_and_hash_algorithm;

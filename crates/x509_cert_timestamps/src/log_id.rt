@@ -31,7 +31,7 @@ impl TlsValue for LogId {
         Ok((LogId { key_id: *key_id }, rest))
     }
 
-    #[tactic(auto, using(crate::proofs::Fronts::fronts))]
+    #[tactic(auto, using(crate::proofs::Readings::fronts))]
     fn append_to(&self, output: &mut Vec<u8>) -> Result<(), TlsError> {
         output.extend_from_slice(&self.key_id)?;
         Ok(())

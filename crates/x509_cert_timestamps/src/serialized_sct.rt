@@ -31,10 +31,7 @@ impl SerializedSct {
     /// # Errors
     /// `InvalidVectorLength` for a timestamp with a vector of more than 65535 octets;
     /// `OutOfMemory`.
-    pub fn new(
-        alloc: Global,
-        timestamp: SignedCertificateTimestamp,
-    ) -> Result<SerializedSct, TlsError>
+    pub fn new(alloc: Global, timestamp: SignedCertificateTimestamp) -> Result<Self, TlsError>
         ensures ok { IfOk result
             (λ s. s.data.items ≡ octets timestamp_form (timestamp_plain timestamp)) }
         ensures value { IfOk result (λ _. IsValue timestamp_form (timestamp_plain timestamp)) }
@@ -70,10 +67,7 @@ impl TlsValue for SerializedSct {
 
     ghost plain = { λ x. x.data.items };
 
-    fn tls_deserialize_bytes(
-        alloc: Global,
-        input: &[u8],
-    ) -> Result<(SerializedSct, &[u8]), TlsError> {
+    fn tls_deserialize_bytes(alloc: Global, input: &[u8]) -> Result<(Self, &[u8]), TlsError> {
         let (data, rest) = read_vector(alloc, input)?;
         Ok((SerializedSct { data }, rest))
     }

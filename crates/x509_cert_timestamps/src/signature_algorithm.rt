@@ -10,7 +10,7 @@ use der_core::describing::Numbered;
 /// ```text
 /// enum { anonymous(0), rsa(1), dsa(2), ecdsa(3), ed25519(7), ed448(8), (255) } SignatureAlgorithm;
 /// ```
-#[derive(Debug, Drop, PartialEq)]
+#[derive(Clone, Copy, Debug, PartialEq)]
 pub enum SignatureAlgorithm {
     /// No signature.
     Anonymous,
@@ -21,7 +21,7 @@ pub enum SignatureAlgorithm {
     /// ECDSA.
     Ecdsa,
     /// Ed25519.
-    Ed25519,
+    Ed25519 = 7,
     /// Ed448.
     Ed448,
 }
@@ -44,14 +44,7 @@ impl Numbered for SignatureAlgorithm {
     }
 
     fn to_number(&self) -> u8 {
-        match self {
-            SignatureAlgorithm::Anonymous => 0,
-            SignatureAlgorithm::Rsa => 1,
-            SignatureAlgorithm::Dsa => 2,
-            SignatureAlgorithm::Ecdsa => 3,
-            SignatureAlgorithm::Ed25519 => 7,
-            SignatureAlgorithm::Ed448 => 8,
-        }
+        *self as u8
     }
 
     ghost few = { refl };

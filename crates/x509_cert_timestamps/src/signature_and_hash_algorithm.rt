@@ -29,16 +29,13 @@ impl TlsValue for SignatureAndHashAlgorithm {
 
     ghost plain = { algorithms_plain };
 
-    fn tls_deserialize_bytes(
-        alloc: Global,
-        input: &[u8],
-    ) -> Result<(SignatureAndHashAlgorithm, &[u8]), TlsError> {
+    fn tls_deserialize_bytes(alloc: Global, input: &[u8]) -> Result<(Self, &[u8]), TlsError> {
         let (hash, rest) = HashAlgorithm::tls_deserialize_bytes(alloc, input)?;
         let (signature, rest) = SignatureAlgorithm::tls_deserialize_bytes(alloc, rest)?;
         Ok((SignatureAndHashAlgorithm { hash, signature }, rest))
     }
 
-    #[tactic(auto, using(crate::proofs::Fronts::fronts))]
+    #[tactic(auto, using(crate::proofs::Readings::fronts))]
     fn append_to(&self, output: &mut Vec<u8>) -> Result<(), TlsError> {
         self.hash.append_to(output)?;
         self.signature.append_to(output)?;

@@ -6,10 +6,9 @@ ghost use Rattle.x509_cert_timestamps.specs.Timestamps.{timestamp_form, timestam
 
 use crate::digitally_signed::DigitallySigned;
 use crate::log_id::LogId;
-use crate::numbers::{append_long, read_long};
 use crate::tls_error::TlsError;
 use crate::tls_value::TlsValue;
-use crate::vectors::{append_vector, read_vector, vector_len};
+use crate::vectors::{append_long, append_vector, read_long, read_vector, vector_len};
 use crate::version::Version;
 use der_core::{Error, ErrorKind};
 use der_types_time::DateTime;
@@ -61,10 +60,7 @@ impl TlsValue for SignedCertificateTimestamp {
 
     ghost plain = { timestamp_plain };
 
-    fn tls_deserialize_bytes(
-        alloc: Global,
-        input: &[u8],
-    ) -> Result<(SignedCertificateTimestamp, &[u8]), TlsError> {
+    fn tls_deserialize_bytes(alloc: Global, input: &[u8]) -> Result<(Self, &[u8]), TlsError> {
         let (version, rest) = Version::tls_deserialize_bytes(alloc, input)?;
         let (log_id, rest) = LogId::tls_deserialize_bytes(alloc, rest)?;
         let (timestamp, rest) = read_long(rest)?;
@@ -80,7 +76,7 @@ impl TlsValue for SignedCertificateTimestamp {
         Ok((value, rest))
     }
 
-    #[tactic(auto, using(crate::proofs::Fronts::fronts))]
+    #[tactic(auto, using(crate::proofs::Readings::fronts))]
     fn append_to(&self, output: &mut Vec<u8>) -> Result<(), TlsError> {
         self.version.append_to(output)?;
         self.log_id.append_to(output)?;

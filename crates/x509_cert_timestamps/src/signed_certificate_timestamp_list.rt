@@ -1,14 +1,16 @@
-//! SignedCertificateTimestampList.
+//! SignedCertificateTimestampList, and its identifier.
 
 ghost use Rattle.std.specs.Prelude.{◌≡◌, IfOk, IfErr, flat_map, All};
 ghost use Rattle.x509_cert_timestamps.specs.Lists.{IsMember, sct_octets, SpellsList, ReadsNoList};
 ghost use Rattle.x509_cert_timestamps.specs.Lists.{MakesNoList, ReadsNoMembers, MakesNoMembers};
+ghost use Rattle.x509_cert_timestamps.specs.Lists.{list_arcs};
 
 use crate::serialized_sct::SerializedSct;
 use crate::timestamp_error::Error;
 use crate::tls_error::TlsError;
 use crate::tls_value::TlsValue;
 use crate::vectors::{append_vector, split_vector};
+use const_oid::{AssociatedOid, ObjectIdentifier};
 use der_core::describing::{AsField, Described, Ordered, Wraps};
 use der_types_values::OctetString;
 use std::alloc::Global;
@@ -63,10 +65,7 @@ impl SignedCertificateTimestampList {
     /// `InvalidVectorLength` where one of them has more than 65535 octets, or all have with their
     /// lengths; `OutOfMemory`.
     #[tactic(auto, using(crate::proofs::Readings::list_is_short))]
-    pub fn new(
-        alloc: Global,
-        serialized_scts: &[SerializedSct],
-    ) -> Result<SignedCertificateTimestampList, Error>
+    pub fn new(alloc: Global, serialized_scts: &[SerializedSct]) -> Result<Self, Error>
         ensures ok { IfOk result (λ l. SpellsList serialized_scts.now l.0) }
         ensures err { IfErr result (λ e. MakesNoList serialized_scts.now e) }
     {
@@ -144,5 +143,14 @@ impl AsMut<OctetString> for SignedCertificateTimestampList {
         ensures value { result.now ≡ self.old.0 }
     {
         &mut self.0
+    }
+}
+
+/// 1.3.6.1.4.1.11129.2.4.2 (RFC 6962 3.3).
+impl AssociatedOid for SignedCertificateTimestampList {
+    ghost oid_arcs = { list_arcs };
+
+    fn associated_oid() -> ObjectIdentifier<39> {
+        ObjectIdentifier::from_bytes_unwrap(&[0x2b, 6, 1, 4, 1, 0xd6, 0x79, 2, 4, 2])
     }
 }

@@ -1,6 +1,9 @@
-//! What is read and written in the presentation language of TLS.
+//! Values of the presentation language of TLS (RFC 5246 4); a number by its octet.
+
+ghost use Rattle.x509_cert_timestamps.specs.Forms.{named};
 
 use crate::tls_error::TlsError;
+use der_core::describing::Numbered;
 use std::alloc::Global;
 
 /// A type of the presentation language of TLS (RFC 5246 4): each value has one spelling in octets,
@@ -51,5 +54,31 @@ pub trait TlsValue: Drop {
         let mut output = Vec::new(alloc);
         self.append_to(&mut output)?;
         Ok(output)
+    }
+}
+
+impl<T: Numbered> TlsValue for T {
+    ghost form = { named T.known_numbers };
+
+    ghost plain = { T.known_number };
+
+    fn tls_deserialize_bytes(_alloc: Global, input: &[u8]) -> Result<(T, &[u8]), TlsError> {
+        let Some((octet, rest)) = input.split_first() else {
+            return Err(TlsError::EndOfStream);
+        };
+        let Some(member) = T::from_number(*octet) else {
+            return Err(TlsError::UnknownValue(u64::from(*octet)));
+        };
+        Ok((member, rest))
+    }
+
+    #[tactic(auto, using(crate::proofs::Readings::fronts))]
+    fn append_to(&self, output: &mut Vec<u8>) -> Result<(), TlsError> {
+        output.push(self.to_number())?;
+        Ok(())
+    }
+
+    fn tls_serialized_len(&self) -> usize {
+        1
     }
 }

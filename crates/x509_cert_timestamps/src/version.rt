@@ -10,7 +10,7 @@ use der_core::describing::Numbered;
 /// ```text
 /// enum { v1(0), (255) } Version;
 /// ```
-#[derive(Debug, Drop, PartialEq)]
+#[derive(Clone, Copy, Debug, PartialEq)]
 pub enum Version {
     /// The first version.
     V1,
@@ -29,9 +29,7 @@ impl Numbered for Version {
     }
 
     fn to_number(&self) -> u8 {
-        match self {
-            Version::V1 => 0,
-        }
+        *self as u8
     }
 
     ghost few = { refl };

@@ -1,4 +1,4 @@
-use Rattle.x509_cert_timestamps.proofs.Fields.{exactly_spelled}
+use Rattle.x509_cert_timestamps.proofs.Readings.{exactly_spelled}
 use Rattle.x509_cert_timestamps.proofs.log_id.LogIdTlsValue.tls_deserialize_bytes.Goals as goal
 
 pub returns-clause-ok : goal.returns-clause-ok

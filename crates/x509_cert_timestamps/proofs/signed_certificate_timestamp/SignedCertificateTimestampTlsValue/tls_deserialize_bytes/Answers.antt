@@ -1,7 +1,7 @@
 use Rattle.std.proofs.lemmas.Result.{err_from_is_err_and}
 use Rattle.x509_cert_timestamps.specs.Forms.{Form, long, exactly, vector, pair}
 use Rattle.x509_cert_timestamps.specs.Timestamps.{signed_form}
-use Rattle.x509_cert_timestamps.proofs.Fields.{first_fails, second_fails, both_spelled}
+use Rattle.x509_cert_timestamps.proofs.Readings.{first_fails, second_fails, both_spelled}
 use Rattle.x509_cert_timestamps.proofs.signed_certificate_timestamp.SignedCertificateTimestampTlsValue.tls_deserialize_bytes.Goals as goal
 
 abbrev from_extensions : Form
