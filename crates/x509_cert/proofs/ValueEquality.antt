@@ -39,7 +39,7 @@ use Rattle.x509_cert_general_names.specs.declared.distribution_point_name.Distri
 use Rattle.x509_cert_general_names.specs.declared.distribution_point_name.DistributionPointName.TheVariants as points
 use Rattle.x509_cert_general_names.specs.declared.general_name.GeneralName.{GeneralName}
 use Rattle.x509_cert_general_names.specs.declared.general_name.GeneralName.TheVariants as cases
-use Rattle.x509_cert_names.proofs.ValueEquality.{directories, names, pairs}
+use Rattle.x509_cert_names.proofs.SameOctets.{directories, names, pairs}
 use Rattle.der_types_any.proofs.AnyLaws.{values}
 use Rattle.x509_cert_policies.specs.Grammar.{display_text}
 use Rattle.x509_cert_policies.specs.Views.{display_plain}

@@ -4,6 +4,7 @@ ghost use Rattle.std.specs.Prelude.{◌≡◌, ◌⊎◌, ◌<◌, ◌++◌, ◌
 ghost use Rattle.std.specs.Prelude.{IfOk, IfErr};
 ghost use Rattle.der_core_head.specs.Grammar.{plain_option};
 ghost use Rattle.der_core_head.specs.Shapes.{IsValid};
+ghost use Rattle.x509_cert_names.specs.Views.{name_plain};
 ghost use Rattle.x509_cert_parts.specs.ExtensionTypes.{id_ce};
 ghost use Rattle.x509_cert_general_names.specs.KeyIdentifiers.{key_identifier};
 ghost use Rattle.x509_cert_extensions.specs.Making.{extension_of};

@@ -1,5 +1,4 @@
 pub mod Lists
-pub mod PlainTexts
 pub mod Printed
 pub mod Rows
 pub mod NameBounds
@@ -7,4 +6,3 @@ pub mod OneName
 mod TextBounds
 mod PlainSpelled
 pub mod SameOctets
-pub mod ValueEquality

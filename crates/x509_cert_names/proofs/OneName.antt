@@ -1,5 +1,5 @@
 -- A text spells one name, where it has an encoding, and isn't refused then; each relative name has an attribute.
-use Rattle.std.proofs.Common.{◌≡◌, ℕ, ◌<◌, List, [], ◌∷◌, ◌++◌, length, reverse, Result, Ok, Err, refl, sym, ap, ◌∙◌, subst, arith, inl, inr, IfOk, IsPermutation, ◌≤◌, take, get_or, Option, Some, None, ◌⊎◌, length-append, append-nil}
+use Rattle.std.proofs.Common.{◌≡◌, ℕ, ◌<◌, List, [], ◌∷◌, ◌++◌, length, reverse, Result, Ok, Err, refl, sym, ap, ◌∙◌, subst, arith, inl, inr, IfOk, IsPermutation, ◌≤◌, take, get_or, Option, Some, None, ◌⊎◌, length-append, append-nil, map}
 use Rattle.std.specs.List.{AllByRecursion, IsDistinct}
 use Rattle.std.proofs.lemmas.List.{reverse-append}
 use Rattle.std.proofs.lemmas.List.Sorted.{IsPermutation-reverse, IsPermutation-sym, IsPermutation-trans, length_permutation}
@@ -15,9 +15,9 @@ use Rattle.der_types_sets.proofs.AscendingSteps.{ascends-plain, one_set}
 use Rattle.x509_cert_name_texts.specs.Pieces.{ReadsPieces, Counts, HasNone, IsFirstPiece, in_front_of}
 use Rattle.x509_cert_names.specs.declared.attribute_type_and_value.AttributeTypeAndValue.{AttributeTypeAndValue}
 use Rattle.x509_cert_names.specs.Names.{PlainName, name, relative_name, type_and_value}
-use Rattle.x509_cert_names.specs.NameTexts.{ReadsAttribute, ReadsName, ReadsRelative}
+use Rattle.x509_cert_names.specs.NameTexts.{ReadsAttribute, ReadsName, ReadsRelative, name_printed}
 use Rattle.x509_cert_names.specs.Pairs.{pair_plain, relative_plain, same_pair, same_pair_equiv}
-use Rattle.x509_cert_names.specs.PlainTexts.{SpellsName}
+use Rattle.x509_cert_names.specs.PlainTexts.{SpellsName, attribute_of, name_text}
 use Rattle.x509_cert_names.proofs.Lists.{all_more}
 use Rattle.std.specs.Prelude.{⊤}
 use Rattle.std.proofs.lemmas.Bool.{cases_lt}
@@ -256,3 +256,17 @@ all_some w r (ReadsPieces.refused t p left e f h) = tt
 pub read_some : (w : List ℕ) (n : List (List AttributeTypeAndValue)) → ReadsName Bound w (Ok n) → AllByRecursion HasSome n
 read_some w n (ReadsName.empty e) = tt
 read_some w n (ReadsName.pieces m some h) = some_turned m (all_some w (Ok m) h)
+
+-- What is printed of a name is the text of its plain value.
+
+attributes_back : (r : List AttributeTypeAndValue) → map attribute_of (relative_plain r) ≡ r
+attributes_back [] = refl
+attributes_back (a ∷ r) = ap (λ x. a ∷ x) (attributes_back r)
+
+names_back : (n : List (List AttributeTypeAndValue)) → map (map attribute_of) (plain_list relative_plain n) ≡ n
+names_back [] = refl
+names_back (r ∷ n) = ap (λ x. x ∷ map (map attribute_of) (plain_list relative_plain n)) (attributes_back r) ∙ ap (λ x. r ∷ x) (names_back n)
+
+pub name_text_is : (n : List (List AttributeTypeAndValue)) → name_text (plain_list relative_plain n) ≡ name_printed n
+unfolding name_text
+name_text_is n = ap name_printed (names_back n)

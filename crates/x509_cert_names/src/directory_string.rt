@@ -172,18 +172,10 @@ impl DirectoryString {
         ensures { IsCopy self.now result directory_plain }
     {
         match self {
-            DirectoryString::PrintableString(text) => {
-                Ok(DirectoryString::PrintableString(text.clone(alloc)?))
-            }
-            DirectoryString::TeletexString(text) => {
-                Ok(DirectoryString::TeletexString(text.clone(alloc)?))
-            }
-            DirectoryString::Utf8String(text) => {
-                Ok(DirectoryString::Utf8String(String::from_str(alloc, text.as_str())?))
-            }
-            DirectoryString::BmpString(text) => {
-                Ok(DirectoryString::BmpString(text.clone(alloc)?))
-            }
+            Self::PrintableString(text) => Ok(Self::PrintableString(text.clone(alloc)?)),
+            Self::TeletexString(text) => Ok(Self::TeletexString(text.clone(alloc)?)),
+            Self::Utf8String(text) => Ok(Self::Utf8String(String::from_str(alloc, text.as_str())?)),
+            Self::BmpString(text) => Ok(Self::BmpString(text.clone(alloc)?)),
         }
     }
 }
@@ -197,22 +189,10 @@ impl<'a> FromAny<'a> for DirectoryString {
 
     fn from_any(alloc: Global, any: &'a Any) -> Result<DirectoryString, Error> {
         match any.tag() {
-            Tag::PrintableString => {
-                let text = any.decode_as(alloc)?;
-                Ok(DirectoryString::PrintableString(text))
-            }
-            Tag::TeletexString => {
-                let text = any.decode_as(alloc)?;
-                Ok(DirectoryString::TeletexString(text))
-            }
-            Tag::Utf8String => {
-                let text = any.decode_as(alloc)?;
-                Ok(DirectoryString::Utf8String(text))
-            }
-            Tag::BmpString => {
-                let text = any.decode_as(alloc)?;
-                Ok(DirectoryString::BmpString(text))
-            }
+            Tag::PrintableString => Ok(DirectoryString::PrintableString(any.decode_as(alloc)?)),
+            Tag::TeletexString => Ok(DirectoryString::TeletexString(any.decode_as(alloc)?)),
+            Tag::Utf8String => Ok(DirectoryString::Utf8String(any.decode_as(alloc)?)),
+            Tag::BmpString => Ok(DirectoryString::BmpString(any.decode_as(alloc)?)),
             _ => Err(Error::from(ErrorKind::TagUnexpected)),
         }
     }

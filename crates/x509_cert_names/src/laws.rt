@@ -50,7 +50,7 @@ pub fn newly_read_name_texts_hold_a_large_arc()
 {}
 
 /// `==` of names is of their plain values.
-#[tactic(auto, using(der_core::proofs::ValueEquality::all_alike, crate::proofs::ValueEquality::names))]
+#[tactic(auto, using(der_core::proofs::ValueEquality::all_alike, crate::proofs::SameOctets::names))]
 pub fn equality_of_names_is_of_values()
     ensures { IsOfValues ⟦<Name as PartialEq>⟧.eq name_plain (name_octets Bound) }
 {}

@@ -9,14 +9,11 @@ pub mod attribute_types;
 mod directory_string;
 mod from_any;
 pub mod laws;
-mod lent_values;
 mod members;
 mod name;
 mod name_iter;
-mod plain_attribute;
 mod rdn_sequence;
 mod relative_distinguished_name;
-mod same_octets;
 mod value_texts;
 
 pub use attribute::{Attribute, Attributes};

@@ -1,10 +1,12 @@
-//! Name.
+//! Name, and whether names have one another's octets.
 
-ghost use Rattle.std.specs.Prelude.{◌≡◌, ◌==◌, [], length, refl, IfErr, option_copied};
+ghost use Rattle.std.specs.Prelude.{◌≡◌, ◌==◌, [], length, refl, IfErr, option_copied, true};
+ghost use Rattle.std.specs.Prelude.{IsTrue};
 ghost use Rattle.std.specs.Slice.Iter.{iter_rest};
+ghost use Rattle.std.specs.List.{AllByRecursion};
 ghost use Rattle.const_oid.specs.Bound.{Bound};
 ghost use Rattle.der_core_head.specs.declared.tag.Tag.TheVariants.{Sequence};
-ghost use Rattle.der_core_head.specs.Shapes.{nested, many};
+ghost use Rattle.der_core_head.specs.Shapes.{nested, many, IsValid};
 ghost use Rattle.der_core_head.specs.Grammar.{plain_list};
 ghost use Rattle.der_core_head.specs.Leaves.{text};
 ghost use Rattle.der_core_head.specs.Reading.{Gives, GivesNow};
@@ -16,9 +18,10 @@ ghost use Rattle.x509_cert_name_texts.specs.Answers.{GivesBy};
 ghost use Rattle.x509_cert_names.specs.NameTexts.{ReadsName};
 ghost use Rattle.x509_cert_names.specs.AttributeTypes.{first_value, FirstGives};
 ghost use Rattle.x509_cert_names.specs.DirectoryStrings.{directory_plain, directory_from};
-ghost use Rattle.x509_cert_names.specs.Names.{relative_name, all_of};
+ghost use Rattle.x509_cert_names.specs.Names.{relative_name, all_of, name, name_octets};
 ghost use Rattle.x509_cert_names.specs.Pairs.{pair_plain, relative_plain};
 ghost use Rattle.x509_cert_names.specs.Views.{attributes_left, name_plain, sequence_plain};
+ghost use Rattle.x509_cert_names.specs.Ordered.{IsOrdered};
 
 use crate::attribute_type_and_value::AttributeValue;
 use crate::attribute_types as types;
@@ -26,10 +29,11 @@ use crate::directory_string::DirectoryString;
 use crate::from_any::FromAny;
 use crate::name_iter::{NameIter, RdnSequenceIter};
 use crate::rdn_sequence::RdnSequence;
+use crate::relative_distinguished_name::RelativeDistinguishedName;
 use const_oid::ObjectIdentifier;
 use der_core::{
-    ApartValue, AsReadValue, DecodeValue, EncodeValue, Error, FixedTag, Header, InRangeValue,
-    Length, Reader, ShapedValue, Tag, ValueOrd, Writer,
+    ApartValue, AsReadValue, DecodeValue, EncodeValue, Error, FixedTag, Header, InRange,
+    InRangeValue, Length, Reader, ShapedValue, Tag, ValueOrd, Writer,
 };
 use der_types_text::{AsciiStringRef, AsciiType, Ia5StringRef, PrintableStringRef};
 use std::alloc::{AllocError, Global};
@@ -359,5 +363,35 @@ impl Clone for Name {
         Ok(Name {
             rdn_sequence: <RdnSequence as Clone>::clone(&self.rdn_sequence)?,
         })
+    }
+}
+
+impl Name {
+    /// Whether both names have the same encoding, octet for octet, as the name of an issuer and the
+    /// subject of its certificate must (RFC 5280 6.1.3). It is known by the attributes alone: no
+    /// encoding is made.
+    pub fn has_octets_of(&self, other: &Name) -> bool
+        ensures same { IsTrue result → name_octets Bound (name_plain self.now)
+            ≡ name_octets Bound (name_plain other.now) }
+        // A name that has an encoding.
+        ensures differ { IsValid (name Bound) (name_plain self.now)
+            → name_octets Bound (name_plain self.now) ≡ name_octets Bound (name_plain other.now)
+            → result ≡ true }
+    {
+        if self == other {
+            return true;
+        }
+        other.in_range();
+        in_order(other.iter_rdn().as_slice());
+        false
+    }
+}
+
+/// The attributes of each RDN rise.
+fn in_order(relative_names: &[RelativeDistinguishedName])
+    ensures { AllByRecursion (IsOrdered Bound) relative_names.now }
+{
+    for relative_name in relative_names {
+        let _attributes = relative_name.as_slice();
     }
 }

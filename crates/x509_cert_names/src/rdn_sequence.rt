@@ -165,18 +165,8 @@ fn write_names<W: fmt::Write>(
     let Some((last, before)) = names.split_last() else {
         return Ok(());
     };
-    write_last(last, f)?;
+    fmt::Display::fmt(last, f)?;
     write_before(before, f)
-}
-
-/// Writes an RDN.
-fn write_last<W: fmt::Write>(
-    name: &RelativeDistinguishedName,
-    f: &mut fmt::Formatter<W>,
-) -> fmt::Result
-    ensures { WritesOnOk W.write_str_gives f.old result (relative_printed name.now) f.new }
-{
-    write!(f, "{name}")
 }
 
 /// Writes a comma and an RDN.

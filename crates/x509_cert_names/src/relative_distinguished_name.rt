@@ -25,9 +25,8 @@ ghost use Rattle.x509_cert_names.specs.Pairs.{relative_plain};
 ghost use Rattle.x509_cert_names.specs.Alone.{StandsAlone};
 
 use crate::attribute_set::AttributeSet;
-use crate::attribute_type_and_value::AttributeTypeAndValue;
+use crate::attribute_type_and_value::{AttributeTypeAndValue, plain_attribute};
 use crate::members::{arrange, copy_of, decode_members};
-use crate::plain_attribute::plain_attribute;
 use der_core::{
     ApartValue, AsReadValue, DecodeValue, Encode, EncodeValue, Error, ErrorKind, FixedTag, FromDer,
     Header, InRange, InRangeValue, Length, Reader, ShapedValue, Tag, ValueOrd, Writer,
@@ -142,9 +141,7 @@ impl RelativeDistinguishedName {
     /// # Errors
     /// `SetDuplicate` where one stands twice, `Overflow` where an encoding has 2^32 octets or more.
     /// No memory is taken.
-    pub fn try_from_vec(
-        attributes: Vec<AttributeTypeAndValue>,
-    ) -> Result<RelativeDistinguishedName, Error>
+    pub fn try_from_vec(attributes: Vec<AttributeTypeAndValue>) -> Result<Self, Error>
         ensures ok { IfOk result (IsPermutation attributes.items) }
         ensures ordered { IfOk result (IsOrdered Bound) }
         ensures refused { IfErr result
@@ -252,11 +249,7 @@ impl ShapedValue for RelativeDistinguishedName {
 }
 
 impl<'a, R: Reader<'a>> DecodeValue<'a, R> for RelativeDistinguishedName {
-    fn decode_value(
-        alloc: Global,
-        reader: &mut R,
-        header: Header,
-    ) -> Result<RelativeDistinguishedName, Error> {
+    fn decode_value(alloc: Global, reader: &mut R, header: Header) -> Result<Self, Error> {
         let len = header.length.value as usize;
         if let Some(one) = one_attribute(alloc, reader, len) {
             reader.skip(len);
@@ -339,18 +332,8 @@ fn write_attributes<W: fmt::Write>(
     let Some((first, later)) = attributes.split_first() else {
         return Ok(());
     };
-    write_first(first, f)?;
+    fmt::Display::fmt(first, f)?;
     write_later(later, f)
-}
-
-/// Writes an attribute.
-fn write_first<W: fmt::Write>(
-    attribute: &AttributeTypeAndValue,
-    f: &mut fmt::Formatter<W>,
-) -> fmt::Result
-    ensures { WritesOnOk W.write_str_gives f.old result (attribute_printed attribute.now) f.new }
-{
-    write!(f, "{attribute}")
 }
 
 /// Writes `+` and an attribute.

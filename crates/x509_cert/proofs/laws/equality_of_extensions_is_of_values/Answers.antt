@@ -1,5 +1,5 @@
 use Rattle.der_core.proofs.ValueEquality.{alone, behind, default, exact, flags, last, leaves, list, named_bits, next, numbers, option, option_itself}
-use Rattle.x509_cert_names.proofs.ValueEquality.{attributes, directories}
+use Rattle.x509_cert_names.proofs.SameOctets.{attributes, directories}
 use Rattle.der_types_any.proofs.AnyLaws.{values}
 use Rattle.x509_cert_parts.proofs.ValueEquality.{date_alike, one_date}
 use Rattle.x509_cert.proofs.ValueEquality.{crl_reasons, digits_alike, display_texts, general_names, of, point_names, whole}

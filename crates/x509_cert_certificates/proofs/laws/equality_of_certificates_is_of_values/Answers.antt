@@ -1,6 +1,6 @@
 use Rattle.const_oid.specs.Bound.{Bound}
 use Rattle.der_core.proofs.ValueEquality.{all_alike, alone, behind, default, each, last, leaves, next, option, option_itself}
-use Rattle.x509_cert_names.proofs.ValueEquality.{names}
+use Rattle.x509_cert_names.proofs.SameOctets.{names}
 use Rattle.x509_cert_parts.proofs.ValueEquality.{algorithms, all_extensions, each_version, keys, validities}
 use Rattle.x509_cert_certificates.specs.Certificates.{certificate, tbs_certificate}
 use Rattle.x509_cert_certificates.proofs.laws.equality_of_certificates_is_of_values.Goals as goal

@@ -5,7 +5,7 @@ use Rattle.x509_cert_names.proofs.rdn_sequence.write_names.Goals as goal
 
 pub returns : goal.returns
 returns g c = λ plain ok.
-    let first = c.in_ok-write_last.ensures plain refl in
+    let first = c.in_ok-fmt.ensures.writes plain refl in
     let later = c.write_before.ensures first.plain ok in
     has_written_of_eq _ _ _ _ _ (names_printed c.args.names.now c.in-Some.before.now c.in-Some.last.now c.in-Some.ensures.cases.0) (has_written_append _ _ _ _ _ _ first later)
 

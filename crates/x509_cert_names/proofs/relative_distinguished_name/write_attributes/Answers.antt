@@ -6,7 +6,7 @@ use Rattle.x509_cert_names.proofs.relative_distinguished_name.write_attributes.G
 
 pub returns : goal.returns
 returns g c = λ plain ok.
-    let first = c.in_ok-write_first.ensures plain refl in
+    let first = c.in_ok-fmt.ensures.writes plain refl in
     let later = c.write_later.ensures first.plain ok in
     has_written_of_eq _ _ _ _ _ (sym (ap relative_printed c.in-Some.ensures.cases.0)) (has_written_append _ _ _ _ _ _ first later)
 

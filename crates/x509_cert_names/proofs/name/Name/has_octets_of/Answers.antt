@@ -1,8 +1,7 @@
 use Rattle.std.proofs.Common.{sym, ap, ◌∙◌}
 use Rattle.der_core_head.specs.Grammar.{plain_list}
 use Rattle.x509_cert_names.specs.Pairs.{relative_plain}
-use Rattle.x509_cert_names.proofs.SameOctets.{names_apart}
-use Rattle.x509_cert_names.proofs.ValueEquality.{names}
+use Rattle.x509_cert_names.proofs.SameOctets.{names_apart, names}
 use Rattle.x509_cert_names.proofs.name.Name.has_octets_of.Goals as goal
 
 pub returns-then-eq-clause-same : goal.returns-then-eq-clause-same

@@ -4,7 +4,7 @@ use Rattle.der_core_head.specs.Shapes.{AnyValue, Spells}
 use Rattle.x509_cert_names.specs.Names.{type_and_value}
 use Rattle.x509_cert_names.specs.Pairs.{pair}
 use Rattle.x509_cert_names.proofs.PlainSpelled.{plain_spells}
-use Rattle.x509_cert_names.proofs.plain_attribute.plain_attribute.Goals as goal
+use Rattle.x509_cert_names.proofs.attribute_type_and_value.plain_attribute.Goals as goal
 
 pub returns-in-Ok-ref_to_owned : goal.returns-in-Ok-ref_to_owned
 returns-in-Ok-ref_to_owned c =

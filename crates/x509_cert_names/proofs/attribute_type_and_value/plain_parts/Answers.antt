@@ -1,6 +1,6 @@
 use Rattle.std.proofs.Common.{refl, arith}
 use Rattle.x509_cert_names.proofs.PlainSpelled.{parts_plain}
-use Rattle.x509_cert_names.proofs.plain_attribute.plain_parts.Goals as goal
+use Rattle.x509_cert_names.proofs.attribute_type_and_value.plain_parts.Goals as goal
 
 pub returns : goal.returns
 returns c =

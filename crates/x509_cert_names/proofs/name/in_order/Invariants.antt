@@ -2,7 +2,7 @@ use Rattle.std.proofs.Common.{drop}
 use Rattle.std.specs.List.{AllByRecursion}
 use Rattle.const_oid.specs.Bound.{Bound}
 use Rattle.x509_cert_names.specs.Ordered.{IsOrdered}
-use Rattle.x509_cert_names.proofs.same_octets.in_order.Given as goal
+use Rattle.x509_cert_names.proofs.name.in_order.Given as goal
 
 abbrev pub invariant-loop-relative_name : goal.invariant-loop-relative_name
 invariant-loop-relative_name l =
