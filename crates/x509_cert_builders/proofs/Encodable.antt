@@ -19,9 +19,8 @@ use Rattle.der_core_head.specs.Octets.{IsOctets}
 use Rattle.der_core_head.specs.Shapes.{leaf, tagged, sequence, sequence_of, octets_of, contents, body_octets, IsValid, IsContent, IsBody, unless}
 use Rattle.der_core_head.specs.Tags.{tag_octets, context}
 use Rattle.sha1.specs.Sha1.{sha1, digest_bytes}
-use Rattle.x509_cert_parts.specs.Grammar.{false_by_default, object_identifier, octet_string}
+use Rattle.x509_cert_parts.specs.Grammar.{false_by_default, object_identifier, octet_string, number_of, Algorithm, PlainExtension, PlainTime, time, version}
 use Rattle.x509_cert_general_names.specs.Grammar.{authority_key_identifier_fields}
-use Rattle.x509_cert_parts.specs.Grammar.{number_of}
 use Rattle.x509_cert_policies.specs.Grammar.{basic_constraints_fields}
 use Rattle.x509_cert_builders.specs.Profiles.{id_kp, purposes}
 

@@ -4,9 +4,11 @@ ghost use Rattle.std.specs.Prelude.{◌≡◌, ◌⊎◌, Some, IfOk, IfErr};
 ghost use Rattle.const_oid.specs.Bound.{Bound};
 ghost use Rattle.der_core_head.specs.Ranges.{IsInRange};
 ghost use Rattle.der_core_head.specs.Shapes.{IsValid, octets_of};
+ghost use Rattle.x509_cert_parts.specs.SerialNumbers.{serial_octets_max};
+ghost use Rattle.x509_cert_parts.specs.Views.{validity_plain};
+ghost use Rattle.x509_cert_parts.specs.Grammar.{validity};
 ghost use Rattle.x509_cert_certificates.specs.Certificates.{tbs_certificate};
 ghost use Rattle.x509_cert_certificates.specs.Views.{tbs_plain};
-ghost use Rattle.x509_cert_parts.specs.SerialNumbers.{serial_octets_max};
 ghost use Rattle.x509_cert_builders.specs.Refusals.{IsUnwritten, IsWantOfMemory};
 ghost use Rattle.x509_cert_builders.specs.SignedParts.{part_shape, written_part};
 
@@ -14,6 +16,7 @@ use crate::build_error::Error;
 use der_core::ToDer;
 use std::alloc::Global;
 use x509_cert_certificates::TbsCertificate;
+use x509_cert_parts::Validity;
 
 /// The octets of a part.
 pub(crate) fn written(alloc: Global, part: &TbsCertificate) -> Result<Vec<u8>, Error>

@@ -7,8 +7,7 @@ use Rattle.der_core_head.proofs.HeadLaws.{fits_contents}
 use Rattle.x509_cert_names.specs.Names.{name}
 use Rattle.x509_cert_parts.specs.Grammar.{PlainValidity, bit_string, algorithm_identifier, public_key_info, version_field, serial_number, validity, not_before, not_after}
 use Rattle.x509_cert_parts.specs.Respelling.{validity_by, is_early_generalized}
-use Rattle.x509_cert_parts.proofs.Respelled.{validity_valid, validity_shorter, validity_same}
-use Rattle.x509_cert_parts.proofs.Shorter.{tlv_shorter, tlv_fits, behind_same, before_same}
+use Rattle.x509_cert_parts.proofs.Respelled.{validity_valid, validity_shorter, validity_same, nested_shorter, nested_valid, behind_same, before_same}
 use Rattle.x509_cert_certificates.specs.Certificates.{Tbs, PlainCertificate, tbs_fields, tbs_certificate, certificate_fields, certificate, optional_fields, from_validity, tbs, tbs_validity, tbs_by, certificate_by}
 
 -- the fields from one on

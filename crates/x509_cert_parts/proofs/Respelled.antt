@@ -1,24 +1,71 @@
 -- Respelled dates: they have an encoding, and which of them are the same.
-use Rattle.std.proofs.Common.{◌≡◌, ℕ, ◌+◌, ◌<◌, ◌≤◌, Bool, true, false, cond, List, [], ◌++◌, length, refl, ap, arith, inl, inr, nat_lt, ◌↔◌, ltb-false, lt-ltb, length-append}
+use Rattle.std.proofs.Common.{ℕ, ◌≤◌, List, length, length-append, ap, arith, inl, inr, ◌≡◌, ◌+◌, Bool, true, false, cond, [], ◌++◌, refl, nat_lt, ◌↔◌, ltb-false}
+use Rattle.std.proofs.lemmas.Bool.{cases_lt}
+use Rattle.const_oid.specs.Digits.{digits}
+use Rattle.const_oid.proofs.DigitLaws.{fewer_digits}
+use Rattle.der_core_head.specs.declared.tag.Tag.{Tag}
+use Rattle.der_core_head.specs.Heads.{Fits, tlv, head_octets, length_octets}
+use Rattle.der_core_head.specs.Shapes.{Shape, Body, Value, BodyValue, field, tagged, nested, octets_of, body_octets, IsValid, IsContent, IsBody, contents}
+use Rattle.der_core_head.specs.Tags.{tag_octets}
+use Rattle.der_core_head.proofs.HeadLaws.{length-short, length-long}
 use Rattle.der_core_head.specs.declared.tag.Tag.TheVariants as tags
 use Rattle.der_core_head.specs.Dates.{Civil, is_civil, IsUtc, utc_octets, generalized_octets}
-use Rattle.der_core_head.specs.Heads.{Fits, tlv, head_octets, length_octets}
-use Rattle.der_core_head.specs.Tags.{tag_octets}
-use Rattle.der_core_head.specs.Shapes.{IsValid, IsContent, IsBody, octets_of, contents, body_octets}
 use Rattle.der_core_head.proofs.OneEncoding.{one_value}
 use Rattle.x509_cert_parts.specs.Grammar.{time, validity, validity_fields, PlainTime, PlainValidity, not_before, not_after}
-use Rattle.x509_cert_parts.proofs.Shorter.{tlv_shorter}
 use Rattle.x509_cert_parts.specs.Respelling.{respelled, spelled_by, validity_by, is_early_generalized}
+
+-- Fewer content octets make no longer an encoding.
+
+length_shorter : (m n : ℕ) → m ≤ n → length (length_octets m) ≤ length (length_octets n)
+length_shorter m n le =
+    elim (cases_lt n 128) [
+      | inl b ↦ omega (arith, ap length (length-short m (omega (arith, le, b))), ap length (length-short n b))
+      | inr b ↦ elim (cases_lt m 128) [
+        | inl a ↦ omega (arith, ap length (length-short m a), ap length (length-long n (digits 256 n) b refl))
+        | inr a ↦ omega (arith, fewer_digits 256 m n (omega arith) le, ap length (length-long m (digits 256 m) a refl), ap length (length-long n (digits 256 n) b refl))
+      ]
+    ]
+
+tlv_shorter : (t : Tag) (v w : List ℕ) → length v ≤ length w → length (tlv t v) ≤ length (tlv t w)
+unfolding tlv head_octets
+tlv_shorter t v w le =
+    omega (
+      arith,
+      le,
+      length_shorter (length v) (length w) le,
+      length-append (head_octets t (length v)) v,
+      length-append (head_octets t (length w)) w,
+      length-append (tag_octets t) (length_octets (length v)),
+      length-append (tag_octets t) (length_octets (length w)),
+    )
+
+tlv_fits : (t : Tag) (v w : List ℕ) → length v ≤ length w → Fits (tlv t w) → Fits (tlv t v)
+tlv_fits t v w le h = omega (arith, h, tlv_shorter t v w le)
+
+-- a value behind a tag whose content is no longer than that of another
+module _ (t : Tag) (b : Body) (new old : BodyValue b) (le : length (body_octets b new) ≤ length (body_octets b old)) where
+  pub nested_shorter : length (octets_of (tagged t (nested b)) new) ≤ length (octets_of (tagged t (nested b)) old)
+  unfolding octets_of contents
+  nested_shorter = tlv_shorter t (body_octets b new) (body_octets b old) le
+
+  pub nested_valid : IsBody b new → IsValid (tagged t (nested b)) old → IsValid (tagged t (nested b)) new
+  unfolding IsValid IsContent contents
+  nested_valid n h = (n, h.1, tlv_fits t (body_octets b new) (body_octets b old) le h.2)
+
+-- a field that stays as it is, in front of others and behind them
+pub behind_same : (s : Shape) (b : Body) (x : Value s) (v w : BodyValue b) → length (body_octets b v) ≤ length (body_octets b w)
+    → length (body_octets (field s b) (x, v)) ≤ length (body_octets (field s b) (x, w))
+unfolding body_octets
+behind_same s b x v w le = omega (arith, le, length-append (octets_of s x) (body_octets b v), length-append (octets_of s x) (body_octets b w))
+
+pub before_same : (s : Shape) (b : Body) (x y : Value s) (v : BodyValue b) → length (octets_of s x) ≤ length (octets_of s y)
+    → length (body_octets (field s b) (x, v)) ≤ length (body_octets (field s b) (y, v))
+unfolding body_octets
+before_same s b x y v le = omega (arith, le, length-append (octets_of s x) (body_octets b v), length-append (octets_of s y) (body_octets b v))
 
 -- one spelling of a date, or the other
 abbrev spelling : Bool → Civil → PlainTime
 spelling b c = cond b (inr c) (inl c)
-
--- a date takes 17 octets at most
-time_length : (t : PlainTime) → length (octets_of time t) ≤ 17
-unfolding octets_of contents tlv head_octets length_octets tag_octets utc_octets generalized_octets
-time_length (inl c) = omega arith
-time_length (inr c) = omega arith
 
 utc_valid : (c : Civil) → IsUtc c → IsValid time (inl c)
 unfolding IsValid IsContent contents tlv head_octets length_octets tag_octets utc_octets
@@ -39,35 +86,6 @@ respelled_valid (inr c) h = spelling_valid c (nat_lt 2049 c.year) refl h
 spelled_valid : (r : Bool) (t : PlainTime) → IsValid time t → IsValid time (spelled_by r t)
 spelled_valid true t h = respelled_valid t h
 spelled_valid false t h = h
-
-dates_valid : (v : PlainValidity) → IsValid validity v → IsValid time (not_before v) × IsValid time (not_after v)
-unfolding IsValid IsContent IsBody
-dates_valid v h = (h.0.0, h.0.1.0)
-
--- a header of fewer than 128 octets
-short_fits : (w : List ℕ) → length w < 128 → Fits (tlv tags.Sequence w)
-unfolding tlv head_octets length_octets tag_octets
-short_fits w h = rw (lt-ltb (length w) 128 h) (omega (arith, h))
-
-body_short : (v : PlainValidity) → length (body_octets validity_fields v) < 128
-unfolding body_octets
-body_short v =
-    omega (
-      arith,
-      time_length (not_before v),
-      time_length (not_after v),
-      length-append (octets_of time (not_before v)) (octets_of time (not_after v) ++ []),
-      length-append (octets_of time (not_after v)) [],
-    )
-
-validity_of_dates : (v : PlainValidity) → IsValid time (not_before v) → IsValid time (not_after v) → IsValid validity v
-unfolding IsValid IsContent IsBody contents
-validity_of_dates v p q = ((p, (q, tt)), omega arith, short_fits (body_octets validity_fields v) (body_short v))
-
-pub validity_valid : (r : Bool) (v : PlainValidity) → IsValid validity v → IsValid validity (validity_by r v)
-validity_valid r v h =
-    let dates = dates_valid v h in
-    validity_of_dates (validity_by r v) (spelled_valid r (not_before v) dates.0) (spelled_valid r (not_after v) dates.1)
 
 -- a date that is respelled is no longer
 utc_shorter : (c : Civil) → length (octets_of time (inl c)) ≤ length (octets_of time (inr c))
@@ -91,12 +109,16 @@ unfolding body_octets
 dates_length v =
     omega (arith, length-append (octets_of time (not_before v)) (octets_of time (not_after v) ++ []), length-append (octets_of time (not_after v)) [])
 
+fields_shorter : (r : Bool) (v : PlainValidity) → length (body_octets validity_fields (validity_by r v)) ≤ length (body_octets validity_fields v)
+fields_shorter r v = omega (arith, dates_length v, dates_length (validity_by r v), spelled_shorter r (not_before v), spelled_shorter r (not_after v))
+
 pub validity_shorter : (r : Bool) (v : PlainValidity) → length (octets_of validity (validity_by r v)) ≤ length (octets_of validity v)
-unfolding octets_of contents
-validity_shorter r v =
-    tlv_shorter tags.Sequence (body_octets validity_fields (validity_by r v)) (body_octets validity_fields v)
-    (omega (arith, dates_length v, dates_length (validity_by r v), spelled_shorter r (not_before v), spelled_shorter r (not_after v)))
-    (omega (arith, body_short v))
+validity_shorter r v = nested_shorter tags.Sequence validity_fields (validity_by r v) v (fields_shorter r v)
+
+pub validity_valid : (r : Bool) (v : PlainValidity) → IsValid validity v → IsValid validity (validity_by r v)
+unfolding IsValid IsContent IsBody
+validity_valid r v h =
+    nested_valid tags.Sequence validity_fields (validity_by r v) v (fields_shorter r v) (spelled_valid r (not_before v) h.0.0, (spelled_valid r (not_after v) h.0.1.0, tt)) h
 
 spelling_same : (c : Civil) (b : Bool) → (spelling b c ≡ inr c) ↔ (cond b false true ≡ false)
 spelling_same c true = (λ e. refl, λ e. refl)

@@ -1,18 +1,27 @@
--- What is printed of a time is the text of its plain value, and of an octet by `{:02X}` its pair.
-use Rattle.std.proofs.Common.{◌≡◌, ℕ, ◌-◌, ◌^◌, ◌<◌, [], true, false, refl}
-use Rattle.std.specs.Fmt.{digits, format_spec, padded_integral}
-use Rattle.std.proofs.lemmas.Fmt.{hex_byte}
+-- What is printed of a time is the text of its plain value; fills, one after the other.
+use Rattle.std.proofs.Common.{◌≡◌, ℕ, suc, ◌+◌, ◌-◌, ◌<◌, ◌≤◌, Some, None, refl, arith, if◌then◌else◌}
 use Rattle.der_types_time.specs.DateTexts.{date_text}
-use Rattle.x509_cert_parts.specs.SerialNumbers.{hex_pair}
 use Rattle.x509_cert_parts.specs.Texts.{time_text}
 use Rattle.x509_cert_parts.specs.Views.{time_value, time_date}
 use Rattle.x509_cert_parts.specs.declared.time.Time.{Time}
 use Rattle.x509_cert_parts.specs.declared.time.Time.TheVariants as times
+use Rattle.rand_core.specs.Stream.{Stream, fill_bytes}
+use Rattle.x509_cert_parts.specs.Drawing.{begins_with_zero, first_fill}
 
 pub time_text_is : (t : Time) → time_text (time_value t) ≡ date_text (time_date t)
 unfolding time_text
 time_text_is (times.UtcTime date) = refl
 time_text_is (times.GeneralTime date) = refl
 
-pub written_pair : (n : ℕ) → n < 256 → padded_integral (format_spec 32 0 4 2 (2 ^ 64 - 1)) false [] (digits 16 true n) ≡ hex_pair n
-written_pair n l = hex_byte true n l
+pub next_fill : (k n : ℕ) (s : Stream) → k < 16
+    → first_fill (16 - k) n s ≡ (if begins_with_zero (fill_bytes n s).0 then first_fill (16 - (k + 1)) n (fill_bytes n s).1 else (Some (fill_bytes n s).0, (fill_bytes n s).1))
+next_fill k n s h = turn (16 - k) (16 - (k + 1)) (omega (arith, h))
+  where
+    turn : (i j : ℕ) → i ≡ suc j → first_fill i n s ≡ (if begins_with_zero (fill_bytes n s).0 then first_fill j n (fill_bytes n s).1 else (Some (fill_bytes n s).0, (fill_bytes n s).1))
+    turn i j e = rw e refl
+
+pub no_fill : (k n : ℕ) (s : Stream) → 16 ≤ k → first_fill (16 - k) n s ≡ (None, s)
+no_fill k n s h = ended (16 - k) (omega (arith, h))
+  where
+    ended : (i : ℕ) → i ≡ 0 → first_fill i n s ≡ (None, s)
+    ended i e = rw e refl

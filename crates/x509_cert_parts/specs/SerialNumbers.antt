@@ -1,7 +1,8 @@
 -- Serial numbers (RFC 5280 4.1.2.2): what contracts see of them, how they are made, and how they
 -- are printed.
-use Rattle.std.specs.Prelude.{ℕ, ℤ, pos, ◌+◌, ◌/◌, ◌%◌, List, [], ◌∷◌, ◌++◌, length, nat_lt, Result}
-use Rattle.std.specs.Prelude.{Ok, Err, if◌then◌else◌, flat_map}
+use Rattle.std.specs.Prelude.{ℕ, ℤ, pos, ◌/◌, ◌%◌, List, [], ◌∷◌, ◌++◌, length, nat_lt, Result}
+use Rattle.std.specs.Prelude.{Ok, Err, true, if◌then◌else◌, flat_map}
+use Rattle.std.specs.Fmt.{digit_glyph}
 use Rattle.der_core_head.specs.declared.error.ErrorKind.{ErrorKind}
 use Rattle.der_core_head.specs.declared.error.ErrorKind.TheVariants as kinds
 use Rattle.der_core_head.specs.Integers.{integer_octets}
@@ -21,12 +22,9 @@ unfoldable pub new_serial : List ℕ → Result ℤ ErrorKind
 new_serial w = unsigned_number w >>= λ n. if nat_lt 20 (length (integer_octets (pos n)))
     then Err kinds.Overlength else Ok (pos n)
 
--- a digit in base 16, as 0 to 9 or A to F
-abbrev pub hex_digit : ℕ → ℕ
-hex_digit d = if nat_lt d 10 then 48 + d else 55 + d
-
+-- two digits in base 16, 0 to 9 or A to F
 abbrev pub hex_pair : ℕ → List ℕ
-hex_pair o = hex_digit (o / 16) ∷ hex_digit (o % 16) ∷ []
+hex_pair o = digit_glyph true (o / 16) ∷ digit_glyph true (o % 16) ∷ []
 
 -- a colon and a pair
 abbrev pub colon_pair : ℕ → List ℕ

@@ -4,7 +4,6 @@
 
 mod algorithm_identifier;
 mod algorithm_identifier_ref;
-mod drawing;
 mod extension;
 mod extension_search;
 mod extensions_of;
@@ -12,7 +11,6 @@ pub mod laws;
 mod parts_in_range;
 mod profile;
 mod serial_number;
-mod serial_text;
 mod subject_public_key_info;
 mod subject_public_key_info_ref;
 mod time;

@@ -1,17 +1,18 @@
-//! Serial numbers.
+//! Serial numbers. They need not be in range: a profile may read shorter ones than are made.
 
-ghost use Rattle.std.specs.Prelude.{◌≡◌, ◌++◌, [], pos, Some, Ok, IfOk};
+ghost use Rattle.std.specs.Prelude.{◌≡◌, ◌++◌, [], pos, Some, Ok, IfOk, flat_map, length, None};
+ghost use Rattle.std.specs.Prelude.{true, false};
+ghost use Rattle.std.specs.Fmt.{WritesOnOk};
 ghost use Rattle.der_core_head.specs.declared.tag.Tag.TheVariants.{Integer};
 ghost use Rattle.der_core_head.specs.Integers.{integer_of, integer_octets};
 ghost use Rattle.der_core_head.specs.Leaves.{integer};
 ghost use Rattle.der_core_head.specs.Reading.{Gives};
-ghost use Rattle.x509_cert_parts.specs.Drawing.{drawn_serial};
+ghost use Rattle.x509_cert_parts.specs.Drawing.{drawn_serial, begins_with_zero, first_fill};
 ghost use Rattle.x509_cert_parts.specs.Grammar.{numbers_within};
-ghost use Rattle.x509_cert_parts.specs.SerialNumbers.{new_serial};
+ghost use Rattle.x509_cert_parts.specs.SerialNumbers.{new_serial, hex_pair, colon_pair};
+ghost use Rattle.x509_cert_parts.specs.SerialNumbers.{colon_pairs};
 
-use crate::drawing::fill_without_zero;
 use crate::profile::{Profile, Rfc5280};
-use crate::serial_text::write_octets;
 use der_core::describing::{AsLeaf, Described, EncodeLeaf, Primitive};
 use der_core::making::{integer_octets_of, value_cmp_by_contents};
 use der_core::{EncodeValue, Error, ErrorKind, FixedTag, Leaf, Length, Tag, ValueOrd, Writer};
@@ -241,4 +242,72 @@ impl<P: Profile> ValueOrd for SerialNumber<P> {
     fn value_cmp(&self, other: &Self) -> Result<Ordering, Error> {
         Ok(value_cmp_by_contents(self.as_bytes(), other.as_bytes()))
     }
+}
+
+/// Writes the two digits of an octet.
+#[tactic(auto, using(std::proofs::lemmas::Fmt::hex_byte))]
+fn write_pair<W: fmt::Write>(octet: u8, f: &mut fmt::Formatter<W>) -> fmt::Result
+    ensures { WritesOnOk W.write_str_gives f.old result (hex_pair octet) f.new }
+{
+    write!(f, "{octet:02X}")
+}
+
+/// Writes a colon and the two digits of an octet.
+#[tactic(auto, using(std::proofs::lemmas::Fmt::hex_byte))]
+fn write_colon_pair<W: fmt::Write>(octet: u8, f: &mut fmt::Formatter<W>) -> fmt::Result
+    ensures { WritesOnOk W.write_str_gives f.old result (colon_pair octet) f.new }
+{
+    write!(f, ":{octet:02X}")
+}
+
+/// Writes a colon and two digits for each octet.
+fn write_later<W: fmt::Write>(octets: &[u8], f: &mut fmt::Formatter<W>) -> fmt::Result
+    ensures { WritesOnOk W.write_str_gives f.old result (flat_map colon_pair octets.now) f.new }
+{
+    for octet in octets {
+        write_colon_pair(*octet, f)?;
+    }
+    Ok(())
+}
+
+/// Writes octets as pairs of digits, joined by colons.
+pub(crate) fn write_octets<W: fmt::Write>(octets: &[u8], f: &mut fmt::Formatter<W>) -> fmt::Result
+    ensures { WritesOnOk W.write_str_gives f.old result (colon_pairs octets.now) f.new }
+{
+    match octets {
+        [] => Ok(()),
+        [first, rest @ ..] => {
+            write_pair(*first, f)?;
+            write_later(rest, f)
+        }
+    }
+}
+
+/// Whether there is no octet, or the first one is 0.
+fn begins_with_zero(octets: &[u8]) -> bool
+    ensures { result ≡ begins_with_zero octets.now }
+{
+    match octets {
+        [] => true,
+        [first, ..] => *first == 0,
+    }
+}
+
+/// Fills a slice until it doesn't begin with 0, at most sixteen times; whether that was so.
+#[tactic(auto, using(crate::proofs::Texts::next_fill, crate::proofs::Texts::no_fill))]
+pub(crate) fn fill_without_zero<R: CryptoRng>(rng: &mut R, random: &mut [u8]) -> bool
+    ensures found { result ≡ true → (first_fill 16 (length random.old) (R.stream rng.old)).0
+        ≡ Some random.new }
+    ensures none { result ≡ false → (first_fill 16 (length random.old) (R.stream rng.old)).0
+        ≡ None }
+    ensures left { R.stream rng.new ≡ (first_fill 16 (length random.old) (R.stream rng.old)).1 }
+    ensures length { length random.new ≡ length random.old }
+{
+    for _turn in 0..16u32 {
+        rng.fill_bytes(random);
+        if !begins_with_zero(random) {
+            return true;
+        }
+    }
+    false
 }

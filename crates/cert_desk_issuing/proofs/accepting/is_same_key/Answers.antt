@@ -1,5 +1,5 @@
 use Rattle.std.proofs.Common.{sym, ◌∙◌}
-use Rattle.x509_cert_parts.proofs.OneKey.{key_again, one_key}
+use Rattle.x509_cert_parts.proofs.ValueEquality.{key_again, one_key}
 use Rattle.cert_desk_issuing.proofs.accepting.is_same_key.Goals as goal
 
 pub returns : goal.returns

@@ -5,8 +5,7 @@ use Rattle.der_core_head.specs.Grammar.{plain_option}
 use Rattle.der_core_head.specs.Leaves.{utf8}
 use Rattle.der_core_head.specs.Shapes.{Shape, Body, Value, BodyValue, tagged, optional, defaulted, field, done, only, nested, sequence, explicit, octets_of, contents, body_octets, IsValid, IsContent, IsBody}
 use Rattle.der_core_head.specs.Tags.{context}
-use Rattle.der_core_head.proofs.HeadLaws.{fits_contents}
-use Rattle.x509_cert_parts.proofs.Shorter.{tlv_shorter, tlv_fits, behind_same, before_same}
+use Rattle.x509_cert_parts.proofs.Respelled.{nested_shorter, nested_valid, behind_same, before_same}
 use Rattle.x509_cert_certificates.proofs.Respelled.{tbs_shorter, tbs_valid, certificate_fields_shorter, certificate_valid}
 use Rattle.x509_cert_certificates.specs.Certificates.{PlainCertificate, Tbs, certificate_fields, certificate, tbs_certificate, tbs, tbs_by, certificate_by}
 use Rattle.x509_cert_general_names.specs.Grammar.{inside}

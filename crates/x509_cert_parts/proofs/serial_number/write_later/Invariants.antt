@@ -1,7 +1,7 @@
 use Rattle.std.specs.Prelude.{take, flat_map}
 use Rattle.std.specs.Fmt.{HasWritten, IsPlainFormatter}
 use Rattle.x509_cert_parts.specs.SerialNumbers.{colon_pair}
-use Rattle.x509_cert_parts.proofs.serial_text.write_later.Given as goal
+use Rattle.x509_cert_parts.proofs.serial_number.write_later.Given as goal
 
 -- what was written so far
 abbrev pub invariant-loop-octet : goal.invariant-loop-octet

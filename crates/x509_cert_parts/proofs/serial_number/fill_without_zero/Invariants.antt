@@ -1,6 +1,6 @@
 use Rattle.std.proofs.Common.{◌≡◌, ◌-◌, length}
 use Rattle.x509_cert_parts.specs.Drawing.{first_fill}
-use Rattle.x509_cert_parts.proofs.drawing.fill_without_zero.Given as goal
+use Rattle.x509_cert_parts.proofs.serial_number.fill_without_zero.Given as goal
 
 abbrev pub invariant-loop-turn : goal.invariant-loop-turn
 invariant-loop-turn g l =
