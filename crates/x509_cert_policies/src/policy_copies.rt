@@ -66,11 +66,8 @@ impl DisplayText {
         ensures { IsCopy self.now result views.display_plain }
     {
         match self {
-            DisplayText::Ia5String(text) => Ok(DisplayText::Ia5String(text.clone(alloc)?)),
-            DisplayText::Utf8String(text) => Ok(DisplayText::Utf8String(String::from_str(
-                alloc,
-                text.as_str(),
-            )?)),
+            Self::Ia5String(text) => Ok(Self::Ia5String(text.clone(alloc)?)),
+            Self::Utf8String(text) => Ok(Self::Utf8String(String::from_str(alloc, text.as_str())?)),
         }
     }
 }
