@@ -1,4 +1,3 @@
 pub mod Respelled
-mod Places
+pub mod Places
 mod RowOrders
-mod Bounds

@@ -1,4 +1,4 @@
-use Rattle.x509_cert_certificates.proofs.Bounds.{chains_wider, chains_new}
+use Rattle.x509_cert_certificates.proofs.Respelled.{chains_wider, chains_new}
 use Rattle.x509_cert_certificates.proofs.laws.wider_bounds_keep_chains.Goals as goal
 
 pub returns : goal.returns
