@@ -6,7 +6,7 @@ ghost use Rattle.der_core_head.specs.Grammar.{plain_option};
 ghost use Rattle.der_core_head.specs.Shapes.{IsValid};
 ghost use Rattle.x509_cert_names.specs.Views.{name_plain};
 ghost use Rattle.x509_cert_parts.specs.ExtensionTypes.{id_ce};
-ghost use Rattle.x509_cert_general_names.specs.KeyIdentifiers.{key_identifier};
+ghost use Rattle.x509_cert_parts.specs.Views.{extensions_plain, key_lent};
 ghost use Rattle.x509_cert_extensions.specs.Making.{extension_of};
 ghost use Rattle.x509_cert_builders.specs.Profiles.{authority_key_extension, constraints_extension};
 ghost use Rattle.x509_cert_builders.specs.Profiles.{purposes_extension, subject_key_extension};

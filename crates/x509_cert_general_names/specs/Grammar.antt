@@ -2,7 +2,6 @@
 -- bound of arcs.
 use Rattle.std.specs.Prelude.{ℕ, ◌+◌, [], ◌∷◌, true, false}
 use Rattle.const_oid.specs.Bound.{max_size}
-use Rattle.der_core_head.specs.declared.tag.Tag.TheVariants as tags
 use Rattle.der_core_head.specs.Integers.{unsigned, within}
 use Rattle.der_core_head.specs.Leaves.{Leaf, boolean, integer, octets, identifier, text, named}
 use Rattle.der_core_head.specs.Shapes.{Shape, Body, tagged, any, leaf, either, optional, defaulted}

@@ -1,4 +1,4 @@
-//! AuthorityKeyIdentifier.
+//! AuthorityKeyIdentifier, and identifiers of keys.
 
 ghost use Rattle.std.specs.Prelude.{◌≡◌, Some, None, IfOk, IfErr, refl};
 ghost use Rattle.const_oid.specs.Bound.{Bound};
@@ -8,10 +8,10 @@ ghost use Rattle.x509_cert_general_names.specs.KeyIdentifiers.{key_identifier};
 ghost use Rattle.x509_cert_general_names.specs.Views.{authority_key_identifier_plain};
 
 use crate::general_name::GeneralNames;
-use crate::key_identifier::key_identifier_of;
 use der_core::describing::{AsRecord, Described, FieldsView, RowUser, Rows};
 use der_core::{DecodeFields, Error, ErrorKind, Reader, lend, read_row};
 use der_types_values::OctetString;
+use sha1::Sha1;
 use std::alloc::Global;
 use x509_cert_parts::{SerialNumber, SubjectPublicKeyInfoRef};
 
@@ -70,10 +70,7 @@ impl AuthorityKeyIdentifier {
     ///
     /// # Errors
     /// Out of memory.
-    pub fn try_from_key<'a>(
-        alloc: Global,
-        key: &SubjectPublicKeyInfoRef<'a>,
-    ) -> Result<AuthorityKeyIdentifier, Error>
+    pub fn try_from_key<'a>(alloc: Global, key: &SubjectPublicKeyInfoRef<'a>) -> Result<Self, Error>
         ensures ok { IfOk result (λ i. i ≡ record {
           key_identifier = Some (key_identifier (key_lent key.now));
           authority_cert_issuer = None;
@@ -88,4 +85,21 @@ impl AuthorityKeyIdentifier {
             authority_cert_serial_number: None,
         })
     }
+}
+
+/// The SHA-1 digest (FIPS 180-4) of the octets of the key's bit string, without the count of unused
+/// bits.
+///
+/// # Errors
+/// Out of memory.
+pub fn key_identifier_of<'a>(
+    alloc: Global,
+    key: &SubjectPublicKeyInfoRef<'a>,
+) -> Result<OctetString, Error>
+    ensures ok { IfOk result (λ o. o ≡ key_identifier (key_lent key.now)) }
+    ensures err { IfErr result (λ e. e.kind ≡ ErrorKind.OutOfMemory) }
+{
+    let digest = Sha1::digest(key.subject_public_key.raw_bytes());
+    let octets = digest.as_slice().to_vec(alloc)?;
+    Ok(OctetString::new(octets)?)
 }

@@ -43,10 +43,8 @@ impl DistributionPointName {
             ≡ distribution_point_name_plain self.now }
     {
         match self {
-            DistributionPointName::FullName(value) => OneOf2::First(ImplicitRef { value: value }),
-            DistributionPointName::NameRelativeToCRLIssuer(value) => OneOf2::Second(ImplicitRef {
-                value: value,
-            }),
+            Self::FullName(value) => OneOf2::First(ImplicitRef { value }),
+            Self::NameRelativeToCRLIssuer(value) => OneOf2::Second(ImplicitRef { value }),
         }
     }
 }
@@ -68,10 +66,8 @@ impl Choice for DistributionPointName {
 impl<'a, R: Reader<'a>> Decode<'a, R> for DistributionPointName {
     fn decode(alloc: Global, reader: &mut R) -> Result<DistributionPointName, Error> {
         match Cases::decode(alloc, reader)? {
-            OneOf2::First(value) => Ok(DistributionPointName::FullName(value.value)),
-            OneOf2::Second(value) => Ok(DistributionPointName::NameRelativeToCRLIssuer(
-                value.value,
-            )),
+            OneOf2::First(value) => Ok(Self::FullName(value.value)),
+            OneOf2::Second(value) => Ok(Self::NameRelativeToCRLIssuer(value.value)),
         }
     }
 }

@@ -44,16 +44,16 @@ impl GeneralName {
         ensures { IsCopy self.now result views.general_name_plain }
     {
         match self {
-            GeneralName::OtherName(name) => Ok(GeneralName::OtherName(name.clone(alloc)?)),
-            GeneralName::Rfc822Name(name) => Ok(GeneralName::Rfc822Name(name.clone(alloc)?)),
-            GeneralName::DnsName(name) => Ok(GeneralName::DnsName(name.clone(alloc)?)),
-            GeneralName::DirectoryName(name) => Ok(GeneralName::DirectoryName(name.clone(alloc)?)),
-            GeneralName::EdiPartyName(name) => Ok(GeneralName::EdiPartyName(name.clone(alloc)?)),
-            GeneralName::UniformResourceIdentifier(name) => Ok(
-                GeneralName::UniformResourceIdentifier(name.clone(alloc)?),
-            ),
-            GeneralName::IpAddress(name) => Ok(GeneralName::IpAddress(name.clone(alloc)?)),
-            GeneralName::RegisteredId(name) => Ok(GeneralName::RegisteredId(*name)),
+            Self::OtherName(name) => Ok(Self::OtherName(name.clone(alloc)?)),
+            Self::Rfc822Name(name) => Ok(Self::Rfc822Name(name.clone(alloc)?)),
+            Self::DnsName(name) => Ok(Self::DnsName(name.clone(alloc)?)),
+            Self::DirectoryName(name) => Ok(Self::DirectoryName(name.clone(alloc)?)),
+            Self::EdiPartyName(name) => Ok(Self::EdiPartyName(name.clone(alloc)?)),
+            Self::UniformResourceIdentifier(name) => Ok(Self::UniformResourceIdentifier(name.clone(
+                alloc,
+            )?)),
+            Self::IpAddress(name) => Ok(Self::IpAddress(name.clone(alloc)?)),
+            Self::RegisteredId(name) => Ok(Self::RegisteredId(*name)),
         }
     }
 }
@@ -64,14 +64,12 @@ impl DistributionPointName {
         ensures { IsCopy self.now result views.distribution_point_name_plain }
     {
         match self {
-            DistributionPointName::FullName(names) => Ok(DistributionPointName::FullName(copies_of(
-                alloc,
-                names.as_slice(),
-                GeneralName::clone,
-            )?)),
-            DistributionPointName::NameRelativeToCRLIssuer(name) => Ok(
-                DistributionPointName::NameRelativeToCRLIssuer(name.clone(alloc)?),
-            ),
+            Self::FullName(names) => {
+                Ok(Self::FullName(copies_of(alloc, names.as_slice(), GeneralName::clone)?))
+            }
+            Self::NameRelativeToCRLIssuer(name) => {
+                Ok(Self::NameRelativeToCRLIssuer(name.clone(alloc)?))
+            }
         }
     }
 }

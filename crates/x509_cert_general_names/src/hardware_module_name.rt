@@ -37,10 +37,7 @@ impl HardwareModuleName {
     /// # Errors
     /// `TagUnexpected` where the value of the name is no SEQUENCE, the first fault of its content,
     /// or `OutOfMemory`.
-    pub fn from_other_name(
-        alloc: Global,
-        other_name: &OtherName,
-    ) -> Result<Option<HardwareModuleName>, Error>
+    pub fn from_other_name(alloc: Global, other_name: &OtherName) -> Result<Option<Self>, Error>
         // A name of another kind holds none.
         ensures other { is_of_module (other_name_plain other_name.now) ≡ false → result ≡ Ok None }
         // A name of a module holds a module, or is refused.
