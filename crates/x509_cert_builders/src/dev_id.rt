@@ -23,7 +23,7 @@ use der_core::ErrorKind;
 use der_types_values::OctetString;
 use std::alloc::Global;
 use x509_cert_certificates::TbsCertificate;
-use x509_cert_extensions::SubjectAltName;
+use x509_cert_extensions::{KeyUsage, KeyUsages, SubjectAltName};
 use x509_cert_general_names::{GeneralName, GeneralNames, HardwareModuleName, OtherName};
 use x509_cert_names::Name;
 use x509_cert_parts::{Extensions, SubjectPublicKeyInfoRef};

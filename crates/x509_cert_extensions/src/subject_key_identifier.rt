@@ -24,10 +24,7 @@ impl SubjectKeyIdentifier {
     ///
     /// # Errors
     /// Out of memory.
-    pub fn try_from_key<'a>(
-        alloc: Global,
-        key: &SubjectPublicKeyInfoRef<'a>,
-    ) -> Result<SubjectKeyIdentifier, Error>
+    pub fn try_from_key<'a>(alloc: Global, key: &SubjectPublicKeyInfoRef<'a>) -> Result<Self, Error>
         ensures ok { IfOk result (λ i. i.0 ≡ key_identifier (key_lent key.now)) }
         ensures err { IfErr result (λ e. e.kind ≡ ErrorKind.OutOfMemory) }
     {
