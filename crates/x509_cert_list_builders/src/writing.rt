@@ -2,6 +2,10 @@
 
 ghost use Rattle.std.specs.Prelude.{◌≡◌, ◌⊎◌, None, IfOk, IfErr};
 ghost use Rattle.der_core_head.specs.Shapes.{IsValid, octets_of};
+ghost use Rattle.der_core_head.specs.Grammar.{plain_list, plain_option};
+ghost use Rattle.der_core_head.specs.Ranges.{IsInRange};
+ghost use Rattle.x509_cert_parts.specs.Views.{extensions_plain};
+ghost use Rattle.x509_cert_lists.specs.Views.{tbs_cert_list_plain, revoked_cert_plain};
 ghost use Rattle.x509_cert_builders.specs.Refusals.{IsUnwritten, IsWantOfMemory};
 ghost use Rattle.x509_cert_lists.specs.Views.{tbs_cert_list_plain};
 ghost use Rattle.x509_cert_list_builders.specs.Lists.{list_part};
@@ -10,8 +14,8 @@ use crate::signed_list_in_range::list_in_range;
 use der_core::{Encode, InRange, ToDer};
 use std::alloc::Global;
 use x509_cert_builders::Error;
-use x509_cert_lists::TbsCertList;
-use x509_cert_parts::Profile;
+use x509_cert_lists::{RevokedCert, TbsCertList};
+use x509_cert_parts::{Extensions, Profile};
 
 /// The octets of a value.
 pub(crate) fn written<T: Encode + InRange>(alloc: Global, value: &T) -> Result<Vec<u8>, Error>
