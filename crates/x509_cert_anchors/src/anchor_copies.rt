@@ -60,13 +60,9 @@ impl<P: Profile> TrustAnchorChoice<P> {
         ensures { IsCopy self.now result trust_anchor_plain }
     {
         match self {
-            TrustAnchorChoice::Certificate(value) => Ok(TrustAnchorChoice::Certificate(value.clone(
-                alloc,
-            )?)),
-            TrustAnchorChoice::TbsCertificate(value) => Ok(TrustAnchorChoice::TbsCertificate(
-                value.clone(alloc)?,
-            )),
-            TrustAnchorChoice::TaInfo(value) => Ok(TrustAnchorChoice::TaInfo(value.clone(alloc)?)),
+            Self::Certificate(value) => Ok(Self::Certificate(value.clone(alloc)?)),
+            Self::TbsCertificate(value) => Ok(Self::TbsCertificate(value.clone(alloc)?)),
+            Self::TaInfo(value) => Ok(Self::TaInfo(value.clone(alloc)?)),
         }
     }
 }
