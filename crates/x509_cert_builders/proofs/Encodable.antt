@@ -1,11 +1,11 @@
 -- The contents that profiles put into extensions have encodings.
-use Rattle.std.proofs.Common.{◌≡◌, ◌+◌, ◌++◌, ℕ, ◌<◌, ◌≤◌, ◌%◌, List, [], ◌∷◌, Bool, true, false, Option, Some, None, length, refl, sym, subst, arith, rules, lt-ltb}
-use Rattle.std.specs.Prelude.{⊤, pos, reverse, if◌then◌else◌}
+use Rattle.std.proofs.Common.{◌≡◌, ◌+◌, ◌++◌, ℕ, ◌<◌, ◌≤◌, ◌%◌, List, [], ◌∷◌, Bool, true, false, Option, Some, None, length, refl, sym, subst, arith, rules, lt-ltb, ap, inl, inr, lit<, nat_lt, ltb-false, Ok, ◌∙◌}
+use Rattle.std.specs.Prelude.{⊤, pos, reverse, if◌then◌else◌, bit_or}
 use Rattle.std.specs.Int.{reverse_bits, w8}
 use Rattle.std.proofs.lemmas.Bool.Decides.{nat_tests}
 use Rattle.std.proofs.lemmas.List.{length-append, length-map, length-reverse}
 use Rattle.const_oid.specs.Bound.{Bound}
-use Rattle.const_oid.specs.IdentifierOctets.{IsIdentifier, identifier_octets, arc_octets}
+use Rattle.const_oid.specs.IdentifierOctets.{IsIdentifier, identifier_octets, arc_octets, read_arcs, read_identifier, with_arc}
 use Rattle.const_oid.specs.Digits.{digits, digits_within, marked}
 use Rattle.der_core_head.proofs.HeadLaws.{length-digits-le}
 use Rattle.der_core_head.specs.declared.tag.Tag.{Tag}
@@ -16,13 +16,26 @@ use Rattle.der_core_head.specs.Integers.{integer_octets, positive}
 use Rattle.der_core_head.specs.Leaves.{named}
 use Rattle.der_core_head.specs.NamedBits.{named_octets, set_octets}
 use Rattle.der_core_head.specs.Octets.{IsOctets}
-use Rattle.der_core_head.specs.Shapes.{leaf, tagged, sequence, sequence_of, octets_of, contents, body_octets, IsValid, IsContent, IsBody, unless}
+use Rattle.der_core_head.specs.Shapes.{leaf, tagged, sequence, sequence_of, octets_of, contents, body_octets, IsValid, IsContent, IsBody, unless, explicit, defaulted}
 use Rattle.der_core_head.specs.Tags.{tag_octets, context}
 use Rattle.sha1.specs.Sha1.{sha1, digest_bytes}
 use Rattle.x509_cert_parts.specs.Grammar.{false_by_default, object_identifier, octet_string, number_of, Algorithm, PlainExtension, PlainTime, time, version}
 use Rattle.x509_cert_general_names.specs.Grammar.{authority_key_identifier_fields}
 use Rattle.x509_cert_policies.specs.Grammar.{basic_constraints_fields}
-use Rattle.x509_cert_builders.specs.Profiles.{id_kp, purposes}
+use Rattle.x509_cert_builders.specs.Profiles.{id_kp, purposes, digital_signature, use_where}
+use Rattle.der_core_head.specs.Dates.{Civil, is_civil}
+use Rattle.der_core_head.specs.Ranges.{IsInRange}
+use Rattle.x509_cert_certificates.specs.Certificates.{Tbs, tbs_certificate}
+use Rattle.x509_cert_parts.specs.Views.{algorithm_plain, extensions_plain}
+use Rattle.x509_cert_parts.specs.Respelling.{respelled}
+use Rattle.x509_cert_certificates.specs.Assembling.{PlainFields, has_any, signed_part, version_of}
+use Rattle.x509_cert_builders.specs.SignedParts.{IsPartInRange, part_shape, written_part}
+use Rattle.x509_cert_builders.specs.States.{finalized_plain}
+use Rattle.x509_cert_builders.specs.declared.certificate_builder.Finalized.{Finalized}
+use Rattle.std.specs.List.{AllByRecursion, flat_map}
+use Rattle.const_oid.proofs.EncodingLaws.{arc_octets-one}
+use Rattle.const_oid.proofs.IdentifierLaws.{read_arcs-arcs}
+use Rattle.x509_cert_extensions.specs.NamedBits as bits
 
 digest_length : (m : List ℕ) → length (sha1 m) ≡ 20
 unfolding sha1 digest_bytes
@@ -130,3 +143,88 @@ identifier_valid w d = subst (λ v. IsValid octet_string v) (sym d.1) (key_fits 
 
 pub is_digest : (m w : List ℕ) → w ≡ sha1 m → IsDigest w
 is_digest m w e = (m, e)
+
+-- Signed parts: whether they have an encoding, and the octets at their place.
+
+-- the octets don't depend on the profile by which serial numbers are read
+pub raw_octets : (t : Tbs) → octets_of (tbs_certificate Bound (Some 21)) t ≡ octets_of part_shape t
+unfolding octets_of body_octets contents
+raw_octets t = refl
+
+-- the part that was made last stands in a certificate into which it was put back
+pub put_back : (o : Option Finalized) (f : PlainFields) (t : Tbs)
+    → plain_option (λ l. signed_part f (algorithm_plain l.algorithm) (extensions_plain l.extensions.items)) o ≡ Some t
+    → plain_option written_part (plain_option (finalized_plain f) o) ≡ Some (written_part t)
+put_back None f t e = absurd cc
+put_back (Some l) f t e =
+    let whole : signed_part f (algorithm_plain l.algorithm) (extensions_plain l.extensions.items) ≡ t = cc in
+    ap (λ (u : Tbs). Some (written_part u)) whole
+
+-- a version
+version_in_range : (third : Bool) → IsInRange (defaulted (explicit 0 version) (160 ∷ 3 ∷ 2 ∷ 1 ∷ 0 ∷ [])) (version_of third)
+unfolding IsValid IsContent IsBody octets_of contents body_octets tlv head_octets length_octets tag_octets integer_octets digits digits_within
+version_in_range true = ((((2, lit< tt, refl), omega arith), omega arith), λ _. (((2, lit< tt, refl), omega arith, lit< tt), omega arith, lit< tt))
+version_in_range false = ((((0, lit< tt, refl), omega arith), omega arith), λ _. (((0, lit< tt, refl), omega arith, lit< tt), omega arith, lit< tt))
+
+-- a date of a part, and the same as it is written
+spelling_in_range : (c : Civil) (b : Bool) → nat_lt 2049 c.year ≡ b → is_civil c ≡ true → IsInRange time (if b then inr c else inl c)
+spelling_in_range c true e h = (h, omega arith)
+spelling_in_range c false e h = (record { civil = h; year = ltb-false 2049 c.year e }, omega arith)
+
+respelled_in_range : (t : PlainTime) → IsInRange time t → IsInRange time (respelled t)
+respelled_in_range (inl c) h = h
+respelled_in_range (inr c) h = spelling_in_range c (nat_lt 2049 c.year) refl h.0
+
+-- a part whose parts are in their ranges is so as it is written
+written_in_range : (f : PlainFields) (a : Algorithm) (es : List PlainExtension) → IsPartInRange (signed_part f a es) → IsInRange part_shape (written_part (signed_part f a es))
+written_in_range f a es h =
+    let first = respelled_in_range f.validity.0 h.dates.0.0 in
+    let last = respelled_in_range f.validity.1.0 h.dates.0.1.0 in (
+      (
+        version_in_range (has_any es),
+        ((tt, omega arith), (h.algorithm, (h.issuer, (((first, (last, tt)), omega arith), (h.subject, (h.key, (tt, (tt, (h.extensions, tt))))))))),
+      ),
+      omega arith,
+    )
+
+-- so it has an encoding where it was written
+pub made_valid : (f : PlainFields) (a : Algorithm) (es : List PlainExtension) (t : Tbs) → t ≡ signed_part f a es → IsPartInRange t
+    → (IsInRange part_shape (written_part t) → IsValid part_shape (written_part t)) → IsValid part_shape (written_part (signed_part f a es))
+made_valid f a es t e h valid =
+    let here : IsPartInRange (signed_part f a es) = subst IsPartInRange e h in
+    subst (λ (u : Tbs). IsInRange part_shape (written_part u) → IsValid part_shape (written_part u)) e valid (written_in_range f a es here)
+
+-- Identifiers each of whose arcs is one octet.
+
+abbrev AreShort : List ℕ → Type 0
+AreShort arcs = AllByRecursion (λ n. n < 128) arcs
+
+short_octets : (arcs : List ℕ) → AreShort arcs → flat_map arc_octets arcs ≡ arcs
+short_octets [] h = refl
+short_octets (a ∷ arcs) h = ap (λ w. w ++ flat_map arc_octets arcs) (arc_octets-one a h.0) ∙ ap (λ w. a ∷ w) (short_octets arcs h.1)
+
+within : (arcs : List ℕ) → AreShort arcs → AllByRecursion (λ n. n < Bound) arcs
+unfolding Bound
+within [] h = tt
+within (a ∷ arcs) h = (omega (arith, h.0), within arcs h.1)
+
+short_arcs : (arcs : List ℕ) → AreShort arcs → read_arcs Bound 0 arcs ≡ Ok arcs
+short_arcs arcs h = ap (λ w. read_arcs Bound 0 w) (sym (short_octets arcs h)) ∙ read_arcs-arcs Bound arcs (within arcs h)
+
+pub read_x500 : (m n : ℕ) → m < 128 → n < 128 → read_identifier Bound 39 (85 ∷ m ∷ n ∷ []) ≡ Ok (2 ∷ 5 ∷ m ∷ n ∷ [])
+read_x500 m n g h = ap (λ r. with_arc 2 (with_arc 5 r)) (short_arcs (m ∷ n ∷ []) (g, (h, tt)))
+
+-- The uses of a subscriber's key, one after the other.
+
+abbrev with_use : Bool → ℕ → ℕ → ℕ
+with_use stands uses more = if stands then bit_or uses more else uses
+
+pub joined_uses : (d k a : Bool) → with_use a (with_use k (with_use d 1 8) 4) 16 ≡ digital_signature + use_where d bits.data_encipherment + use_where k bits.key_encipherment + use_where a bits.key_agreement
+joined_uses true true true = refl
+joined_uses true true false = refl
+joined_uses true false true = refl
+joined_uses true false false = refl
+joined_uses false true true = refl
+joined_uses false true false = refl
+joined_uses false false true = refl
+joined_uses false false false = refl

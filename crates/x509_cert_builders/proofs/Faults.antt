@@ -1,12 +1,18 @@
 -- Why a value isn't written.
-use Rattle.std.proofs.Common.{◌≡◌, ◌≢◌, ◌⊎◌, ℕ, List, [], false, None, Ok, Err}
+use Rattle.std.proofs.Common.{◌≡◌, ◌≢◌, ◌⊎◌, ℕ, List, [], false, None, Ok, Err, inl, Result, ap, subst}
 use Rattle.der_core_head.specs.declared.error.ErrorKind.{ErrorKind}
 use Rattle.der_core_head.specs.declared.error.ErrorKind.TheVariants as kinds
 use Rattle.der_core_head.specs.Shapes.{IsValid, Shape, Value}
 use Rattle.der_core_head.specs.Writing.{write}
 use Rattle.der_core_head.proofs.Results.{or_memory}
 use Rattle.x509_cert_extensions.specs.Making.{IsNotMade}
-use Rattle.x509_cert_builders.specs.Refusals.{HasNoEncoding}
+use Rattle.x509_cert_builders.specs.Refusals.{HasNoEncoding, FailsAs, IsWantOfMemory}
+use Rattle.const_oid.specs.Bound.{Bound}
+use Rattle.der_core_head.specs.Octets.{◌>>=◌}
+use Rattle.x509_cert_general_names.specs.Modules.{PlainOther, module_held}
+use Rattle.x509_cert_builders.specs.Devices.{PlainGeneralName, module_name}
+use Rattle.x509_cert_builders.specs.declared.build_error.Error.{Error}
+use Rattle.x509_cert_builders.specs.declared.build_error.Error.TheVariants as errors
 
 pub or_unwritten : (s : Shape) (v : Value s) (w : List ℕ) (kind : ErrorKind)
     → (IsValid s v → kind ≢ kinds.OutOfMemory → Ok w ≡ Err kind)
@@ -17,3 +23,17 @@ or_unwritten s v w kind valid fault = or_memory {X = HasNoEncoding s v kind} kin
 -- why no extension is made of a value
 pub not_made : (s : Shape) (v : Value s) (kind : ErrorKind) → IsNotMade s v kind → (kind ≡ kinds.OutOfMemory) ⊎ HasNoEncoding s v kind
 not_made s v kind h = or_memory kind (λ enough. record { invalid = λ valid. enough (h.valid valid); fault = h.fault enough })
+
+-- The name of a module, as another name and as a general name, and why it is refused.
+
+abbrev as_general : Result PlainOther ErrorKind → Result PlainGeneralName ErrorKind
+as_general r = r >>= λ n. Ok (inl n)
+
+-- what holds a module, or why nothing does, as a general name
+pub module_named : (arcs version serial : List ℕ) (r : Result PlainOther ErrorKind) → arcs ≡ version → module_held Bound (arcs, (serial, tt)) ≡ r → module_name version serial ≡ as_general r
+module_named arcs version serial r same e = ap as_general (subst (λ (a : List ℕ). module_held Bound (a, (serial, tt)) ≡ r) same e)
+
+-- want of memory is among the reasons
+pub want_fails : {X : Type 0} (r : Result X ErrorKind) (e : Error) → IsWantOfMemory e → FailsAs r e
+want_fails r (errors.Asn1 e) h = λ other. absurd (other h)
+want_fails r _ h = absurd h

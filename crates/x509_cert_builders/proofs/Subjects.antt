@@ -1,21 +1,52 @@
 -- Subjects of subscribers, relative name by relative name.
-use Rattle.std.proofs.Common.{◌≡◌, ◌⊎◌, List, [], ◌∷◌, ◌++◌, length, Bool, true, false, refl, sym, ap, ◌∙◌, subst, append_assoc, arith, inl, inr, if◌then◌else◌, ◌==◌, not, IsPermutation, append-nil}
+use Rattle.std.proofs.Common.{◌≡◌, List, [], ◌∷◌, ◌++◌, refl, ap, ◌⊎◌, length, Bool, true, false, sym, ◌∙◌, subst, append_assoc, arith, inl, inr, if◌then◌else◌, ◌==◌, not, IsPermutation, append-nil, ℕ, ◌<◌, Ok, Err, None, length-append, get_or, IsOk, is_ok, ◌||◌, cond}
 use Rattle.std.specs.List.{AllByRecursion, IsDistinct, list_all}
-use Rattle.std.proofs.lemmas.Bool.{and_parts, eqb-true}
-use Rattle.std.proofs.lemmas.List.Folds.{list_all-append}
+use Rattle.der_core_head.specs.Grammar.{plain_list}
+use Rattle.der_core_head.proofs.Results.{plain-append}
+use Rattle.x509_cert_parts.specs.Grammar.{PlainExtension}
+use Rattle.x509_cert_parts.specs.ExtensionSearch.{extensions_in_field}
+use Rattle.x509_cert_certificates.specs.Assembling.{extensions_if_any}
+use Rattle.std.proofs.lemmas.Bool.{and_parts, eqb-true, cases_lt}
+use Rattle.std.proofs.lemmas.List.Folds.{list_all-append, list_any-append}
 use Rattle.std.proofs.lemmas.List.Sorted.{IsPermutation-refl, length_permutation}
 use Rattle.const_oid.specs.Bound.{Bound}
 use Rattle.der_core_head.specs.declared.error.Error.{Error as DerError}
 use Rattle.der_core_head.specs.declared.error.ErrorKind.TheVariants as kinds
-use Rattle.der_core_head.specs.Grammar.{plain_list}
 use Rattle.der_core_head.specs.Shapes.{IsValid}
 use Rattle.x509_cert_names.specs.Names.{PlainName, type_and_value}
-use Rattle.x509_cert_builders.specs.Naming.{TypeAndValue}
+use Rattle.x509_cert_builders.specs.Naming.{TypeAndValue, types_of, name_types, type_behind, type_at, foreign_type, has_required, IsNamed, IsFirstFault, NamesAuthority, is_among}
 use Rattle.x509_cert_builders.specs.Refusals.{IsWantOfMemory}
 use Rattle.x509_cert_builders.specs.Subscribers.{AreShort, HasLongAttribute, KeepsDistinct, SameAttributes, all_stays, attributes_left, relative_in_front, domain_subject, left_of, may_stay, stays}
 use Rattle.x509_cert_builders.specs.declared.build_error.Error.{Error}
 use Rattle.x509_cert_builders.specs.declared.build_error.Error.TheVariants as errors
-use Rattle.x509_cert_builders.proofs.Lists.{all_parts, all_plain}
+use Rattle.std.proofs.lemmas.Bool.Decides.{nat_tests}
+use Rattle.std.proofs.lemmas.List.{get_or_at, take_at}
+use Rattle.std.proofs.lemmas.List.Concat.{flat_map-append}
+use Rattle.std.specs.BTreeSet.{BTreeSet, Updates, contains}
+use Rattle.const_oid.specs.Comparing.{owned_eq}
+use Rattle.const_oid.specs.Orders.{owned_cmp, owned_cmp_ties}
+use Rattle.x509_cert_builders.specs.TypeSets.{HasTypes}
+
+-- The plain values of lists, and lists that stand where they aren't empty.
+
+pub plain_pushed : {A B : Type 0} (f : A → B) → (xs : List A) (y : A) → plain_list f (xs ++ y ∷ []) ≡ plain_list f xs ++ f y ∷ []
+plain_pushed f xs y = plain-append f xs (y ∷ [])
+
+-- what holds of the plain values of members holds so of the members
+pub all_plain : {A P : Type 0} (f : A → P) (V : P → Type 0) (xs : List A) → AllByRecursion V (plain_list f xs) → AllByRecursion (λ x. V (f x)) xs
+all_plain f V [] h = tt
+all_plain f V (x ∷ xs) h = (h.0, all_plain f V xs h.1)
+
+-- what holds of all members of two lists joined holds of those of each
+pub all_parts : {A : Type 0} (V : A → Type 0) (xs ys : List A) → AllByRecursion V (xs ++ ys) → AllByRecursion V xs × AllByRecursion V ys
+all_parts V [] ys h = (tt, h)
+all_parts V (x ∷ xs) ys h =
+    let both = all_parts V xs ys h.1 in
+    ((h.0, both.0), both.1)
+
+pub field_back : (es : List PlainExtension) → extensions_in_field (extensions_if_any es) ≡ es
+field_back [] = refl
+field_back (e ∷ more) = refl
 
 -- so many attributes were looked at
 pub left_more : (kept : List TypeAndValue) (a : TypeAndValue) (more whole : List TypeAndValue)
@@ -131,3 +162,71 @@ module _ (n kept ws more : PlainName) (r : List TypeAndValue) (next : ws ≡ r �
 -- all were looked at
 pub left_all : (n kept : PlainName) → IsLeft n kept [] → SameAttributes (domain_subject n) kept × (all_stays n ≡ true → kept ≡ n)
 left_all n kept h = (subst (SameAttributes (domain_subject n)) (append-nil kept) (h.same [] tt), λ all. sym (append-nil kept) ∙ h.stay all)
+
+-- The check of a name, relative name by relative name.
+
+chosen : (b c : Bool) (x t : List ℕ) (d e : Error) → (if b then Err d else if c then Ok x else Err e) ≡ Ok t → x ≡ t
+chosen b c x t d e h = grind (arith, nat_tests)
+
+one_type : (repeats : Bool) (before : List (List ℕ)) (r : List TypeAndValue) (t : List ℕ) → type_behind repeats before r ≡ Ok t → types_of r ≡ t ∷ []
+one_type repeats before [] t e = absurd cc
+one_type repeats before (a ∷ []) t e = ap (λ u. u ∷ []) (chosen _ _ _ t _ _ e)
+one_type repeats before (a ∷ b ∷ more) t e = absurd cc
+
+-- these relative names were found right, with these types, and these are left
+pub record IsChecked (repeats : Bool) (n : PlainName) (found : List (List ℕ)) (more : PlainName) : Type 0 where
+  pub seen : PlainName
+  pub whole : n ≡ seen ++ more
+  pub types : found ≡ name_types seen
+  pub right : (j : ℕ) → j < length seen → IsOk (type_at repeats n j)
+
+pub checked_none : (repeats : Bool) (n : PlainName) → IsChecked repeats n [] n
+checked_none repeats n = record { seen = []; whole = refl; types = refl; right = λ j h. absurd (omega (arith, h)) }
+
+-- what is said of the next one is said of its place
+next_at : (repeats : Bool) (n : PlainName) (types : List (List ℕ)) (r : List TypeAndValue) (left : PlainName) → (c : IsChecked repeats n types (r ∷ left))
+    → type_at repeats n (length c.seen) ≡ type_behind repeats types r
+next_at repeats n types r left c =
+    let k = length c.seen in
+    ap (λ m. type_at repeats m k) c.whole
+    ∙ ap (λ w. type_behind repeats (name_types w) (get_or (c.seen ++ r ∷ left) k [])) (take_at c.seen (r ∷ left) k refl)
+    ∙ ap (type_behind repeats (name_types c.seen)) (get_or_at c.seen r left [] k refl)
+    ∙ ap (λ w. type_behind repeats w r) (sym c.types)
+
+pub checked_more : (repeats : Bool) (n : PlainName) (types : List (List ℕ)) (r : List TypeAndValue) (left : PlainName) (t : List ℕ)
+    → IsChecked repeats n types (r ∷ left) → type_behind repeats types r ≡ Ok t → IsChecked repeats n (types ++ t ∷ []) left
+checked_more repeats n types r left t c e =
+    let here : type_at repeats n (length c.seen) ≡ Ok t = next_at repeats n types r left c ∙ e in
+    record {
+      seen = c.seen ++ r ∷ [];
+      whole = c.whole ∙ sym (append_assoc c.seen (r ∷ []) left);
+      types = ap (λ w. w ++ t ∷ []) c.types ∙ sym (flat_map-append types_of c.seen (r ∷ []) ∙ ap (λ w. name_types c.seen ++ w) (ap (λ w. w ++ []) (one_type repeats types r t e)));
+      right = λ j h. elim (cases_lt j (length c.seen)) [ inl low ↦ c.right j low | inr high ↦ (let same : length c.seen ≡ j = omega (arith, h, high, length-append c.seen (r ∷ [])) in subst (λ k. IsOk (type_at repeats n k)) same (ap is_ok here)) ];
+    }
+
+pub checked_fault : (repeats : Bool) (n : PlainName) (types : List (List ℕ)) (r : List TypeAndValue) (left : PlainName) (e : Error)
+    → IsChecked repeats n types (r ∷ left) → type_behind repeats types r ≡ Err e → IsFirstFault repeats n e ⊎ IsWantOfMemory e
+checked_fault repeats n types r left e c h =
+    inl (length c.seen, omega (arith, ap length c.whole, length-append c.seen (r ∷ left)), c.right, next_at repeats n types r left c ∙ h)
+
+pub checked_all : (repeats : Bool) (n : PlainName) (types : List (List ℕ)) → IsChecked repeats n types [] → IsNamed repeats n × (types ≡ name_types n)
+checked_all repeats n types c =
+    let end : n ≡ c.seen = c.whole ∙ append-nil c.seen in
+    (λ i h. c.right i (subst (λ m. i < length m) end h), c.types ∙ ap name_types (sym end))
+
+-- each type may stand there, and one that must is missing
+pub lacking : (n : PlainName) → IsNamed false n → foreign_type (name_types n) ≡ None → has_required (name_types n) ≡ false → NamesAuthority {X = Unit {0}} n (Err errors.MissingAttributes)
+lacking n named none lacks = inr (inl (named, inr (none, lacks, refl)))
+
+-- A set of the types of a name, type by type.
+
+either : (b c : Bool) → cond b true c ≡ (c || (b || false))
+either b c = grind (arith, nat_tests)
+
+pub one_more : (types : List (List ℕ)) (seen more : BTreeSet (List ℕ)) (t : List ℕ) → HasTypes types seen → Updates owned_cmp seen more t true → HasTypes (types ++ t ∷ []) more
+one_more types seen more t has added = λ q.
+    added.0 q
+    ∙ ap (λ b. cond b true (contains owned_cmp seen q)) (sym (owned_cmp_ties t q))
+    ∙ ap (λ b. cond (owned_eq t q) true b) (has q)
+    ∙ either (owned_eq t q) (is_among types q)
+    ∙ sym (list_any-append (λ u. owned_eq u q) types (t ∷ []))

@@ -1,8 +1,8 @@
-//! Extensions, one after the other.
+//! Extensions that profiles add, and what keys are for.
 
 ghost use Rattle.std.specs.Prelude.{◌≡◌, ◌⊎◌, ◌<◌, ◌++◌, ◌∷◌, [], false, pos, Some, None, OnOk};
 ghost use Rattle.std.specs.Prelude.{IfOk, IfErr};
-ghost use Rattle.der_core_head.specs.Grammar.{plain_option};
+ghost use Rattle.der_core_head.specs.Grammar.{plain_option, plain_list};
 ghost use Rattle.der_core_head.specs.Shapes.{IsValid};
 ghost use Rattle.x509_cert_names.specs.Views.{name_plain};
 ghost use Rattle.x509_cert_parts.specs.ExtensionTypes.{id_ce};
@@ -10,23 +10,25 @@ ghost use Rattle.x509_cert_parts.specs.Views.{extensions_plain, key_lent};
 ghost use Rattle.x509_cert_extensions.specs.Making.{extension_of};
 ghost use Rattle.x509_cert_builders.specs.Profiles.{authority_key_extension, constraints_extension};
 ghost use Rattle.x509_cert_builders.specs.Profiles.{purposes_extension, subject_key_extension};
-ghost use Rattle.x509_cert_builders.specs.Profiles.{usage_extension};
+ghost use Rattle.x509_cert_builders.specs.Profiles.{usage_extension, authority_uses, purposes};
 ghost use Rattle.x509_cert_builders.specs.Refusals.{IsUnwritten, IsWantOfMemory};
 
 use crate::build_error::Error;
-use crate::identifiers::x500;
-use crate::uses::purposes_of;
+use crate::identifiers::{client_auth, server_auth, x500};
 use der_core::Encode;
 use der_core::making::copies_of;
+use der_types_values::FlagSet;
 use std::alloc::Global;
-use x509_cert_extensions::{Criticality, KeyUsage, SubjectKeyIdentifier, ToExtension};
+use x509_cert_extensions::{
+    Criticality, ExtendedKeyUsage, KeyUsage, KeyUsages, SubjectKeyIdentifier, ToExtension,
+};
 use x509_cert_general_names::AuthorityKeyIdentifier;
 use x509_cert_names::Name;
 use x509_cert_parts::{Extension, Extensions, SubjectPublicKeyInfoRef};
 use x509_cert_policies::BasicConstraints;
 
 /// Adds the extension of a value, of this number below `id-ce`, with the criticality of its type.
-#[tactic(auto, using(crate::proofs::Lists::plain_pushed, crate::proofs::Faults::not_made))]
+#[tactic(auto, using(crate::proofs::Subjects::plain_pushed, crate::proofs::Faults::not_made))]
 pub(crate) fn add<T: Encode + Criticality>(
     alloc: Global,
     extensions: &mut Extensions,
@@ -50,17 +52,6 @@ pub(crate) fn add<T: Encode + Criticality>(
     Ok(())
 }
 
-/// The identifier of a key: the digest of its octets (RFC 5280 4.2.1.2, method 1).
-fn subject_identifier_of<'a>(
-    alloc: Global,
-    key: &SubjectPublicKeyInfoRef<'a>,
-) -> Result<SubjectKeyIdentifier, Error>
-    ensures identifier { IfOk result (λ i. i.0 ≡ key_identifier (key_lent key.now)) }
-    ensures refused { IfErr result IsWantOfMemory }
-{
-    Ok(SubjectKeyIdentifier::try_from_key(alloc, key)?)
-}
-
 /// Adds the identifier of the key by which a certificate is signed (4.2.1.1).
 #[tactic(auto, using(crate::proofs::Encodable::authority_valid, crate::proofs::Encodable::is_digest))]
 pub(crate) fn add_authority<'a>(
@@ -74,12 +65,7 @@ pub(crate) fn add_authority<'a>(
         ++ authority_key_extension (key_lent key.now) ∷ []) }
     ensures refused { IfErr result IsWantOfMemory }
 {
-    let identifier = subject_identifier_of(alloc, key)?;
-    let authority = AuthorityKeyIdentifier {
-        key_identifier: Some(identifier.0),
-        authority_cert_issuer: None,
-        authority_cert_serial_number: None,
-    };
+    let authority = AuthorityKeyIdentifier::try_from_key(alloc, key)?;
     add(alloc, extensions, subject, 35, &authority)?;
     Ok(())
 }
@@ -97,7 +83,7 @@ pub(crate) fn add_identifier<'a>(
         ++ subject_key_extension (key_lent key.now) ∷ []) }
     ensures refused { IfErr result IsWantOfMemory }
 {
-    let identifier = subject_identifier_of(alloc, key)?;
+    let identifier = SubjectKeyIdentifier::try_from_key(alloc, key)?;
     add(alloc, extensions, subject, 14, &identifier)?;
     Ok(())
 }
@@ -175,4 +161,30 @@ pub(crate) fn joined(
     let mut all = copies_of(alloc, added, Extension::clone)?;
     all.append(&mut more)?;
     Ok(all)
+}
+
+/// What an authority's key is for: it signs certificates and lists, and maybe answers about the
+/// state of certificates.
+pub(crate) fn authority_usage(emits_ocsp_response: bool) -> KeyUsage
+    ensures { result.0.flags.0 ≡ authority_uses emits_ocsp_response }
+{
+    let certificates = FlagSet::from_flag(KeyUsages::KeyCertSign);
+    let uses = certificates.union(FlagSet::from_flag(KeyUsages::CRLSign));
+    if emits_ocsp_response {
+        return KeyUsage(uses.union(FlagSet::from_flag(KeyUsages::DigitalSignature)));
+    }
+    KeyUsage(uses)
+}
+
+/// The purposes of who proves to be a server, and maybe a client, or stands above such.
+pub(crate) fn purposes_of(alloc: Global, clients: bool) -> Result<ExtendedKeyUsage, Error>
+    ensures purposes { IfOk result (λ u. plain_list (λ a. a) u.0.items ≡ purposes clients) }
+    ensures refused { IfErr result IsWantOfMemory }
+{
+    let mut purposes = Vec::new(alloc);
+    purposes.push(server_auth())?;
+    if clients {
+        purposes.push(client_auth())?;
+    }
+    Ok(ExtendedKeyUsage(purposes))
 }

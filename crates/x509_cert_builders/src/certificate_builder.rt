@@ -23,8 +23,7 @@ use crate::build_error::Error;
 use crate::builder::Builder;
 use crate::builder_profile::BuilderProfile;
 use crate::identifiers::no_algorithm;
-use crate::signed_in_range::part_in_range;
-use crate::signed_part::written;
+use crate::signed_part::{part_in_range, written};
 use crate::signer::Signer;
 use der_core::ErrorKind;
 use der_types_values::BitString;
@@ -245,7 +244,7 @@ impl<P: BuilderProfile + Drop> Builder for CertificateBuilder<P> {
 
     ghost bits = { λ c. signature_bits (certificate_plain c) };
 
-    #[tactic(auto, using(crate::proofs::Lists::field_back))]
+    #[tactic(auto, using(crate::proofs::Subjects::field_back))]
     fn finalize<S: Signer>(&mut self, alloc: Global, signer: &S) -> Result<Vec<u8>, Error> {
         let added = self.extensions.as_slice();
         make_whole(alloc, &self.profile, &mut self.part, added, signer)?;

@@ -58,7 +58,7 @@ pub fn all_stay(attributes: &[AttributeTypeAndValue]) -> bool
 }
 
 /// The attributes of an RDN that stay.
-#[tactic(auto, using(crate::proofs::Lists::plain_pushed, crate::proofs::Subjects::left_more, crate::proofs::Subjects::left_same, crate::proofs::Subjects::distinct_more, crate::proofs::Subjects::distinct_same))]
+#[tactic(auto, using(crate::proofs::Subjects::plain_pushed, crate::proofs::Subjects::left_more, crate::proofs::Subjects::left_same, crate::proofs::Subjects::distinct_more, crate::proofs::Subjects::distinct_same))]
 fn attributes_left(
     alloc: Global,
     relative: &RelativeDistinguishedName,
@@ -152,12 +152,10 @@ impl CertificateType {
         ensures { IsCopy self.now result type_plain }
     {
         match self {
-            CertificateType::DomainValidated(validated) => Ok(CertificateType::DomainValidated(
-                validated.clone(alloc)?,
-            )),
-            CertificateType::IndividualValidated => Ok(CertificateType::IndividualValidated),
-            CertificateType::OrganizationValidated => Ok(CertificateType::OrganizationValidated),
-            CertificateType::ExtendedValidation => Ok(CertificateType::ExtendedValidation),
+            Self::DomainValidated(validated) => Ok(Self::DomainValidated(validated.clone(alloc)?)),
+            Self::IndividualValidated => Ok(Self::IndividualValidated),
+            Self::OrganizationValidated => Ok(Self::OrganizationValidated),
+            Self::ExtendedValidation => Ok(Self::ExtendedValidation),
         }
     }
 }

@@ -7,20 +7,18 @@ ghost use Rattle.x509_cert_certificates.specs.Certificates.{tbs_subject};
 ghost use Rattle.x509_cert_parts.specs.Views.{extensions_plain};
 ghost use Rattle.x509_cert_names.specs.Views.{name_plain};
 ghost use Rattle.x509_cert_general_names.specs.Views.{general_name_plain};
-ghost use Rattle.x509_cert_builders.specs.Devices.{IsUnnameable, MayHave, MayNotHave};
-ghost use Rattle.x509_cert_builders.specs.Devices.{PlainGeneralName, alternatives};
-ghost use Rattle.x509_cert_builders.specs.Devices.{device_extensions, device_names, first_module};
-ghost use Rattle.x509_cert_builders.specs.Devices.{is_of_module, module_name, module_of};
-ghost use Rattle.x509_cert_builders.specs.Devices.{version_arcs};
+ghost use Rattle.x509_cert_builders.specs.Devices.{IsUnnameable, MayHave, MayNotHave, alternatives};
+ghost use Rattle.x509_cert_builders.specs.Devices.{PlainGeneralName, device_extensions, module_of};
+ghost use Rattle.x509_cert_builders.specs.Devices.{device_names, first_module, is_of_module};
+ghost use Rattle.x509_cert_builders.specs.Devices.{module_name, version_arcs};
 ghost use Rattle.x509_cert_builders.specs.Refusals.{FailsAs, IsWantOfMemory};
 
 use crate::added_extensions::{add, add_authority, add_usage};
 use crate::build_error::Error;
 use crate::builder_profile::BuilderProfile;
 use crate::tpm_version::TpmVersion;
-use crate::uses::signing_usage;
 use der_core::ErrorKind;
-use der_types_values::OctetString;
+use der_types_values::{FlagSet, OctetString};
 use std::alloc::Global;
 use x509_cert_certificates::TbsCertificate;
 use x509_cert_extensions::{KeyUsage, KeyUsages, SubjectAltName};
@@ -111,7 +109,7 @@ impl DevId {
     ///
     /// # Errors
     /// `Asn1` with `Overflow` where a length passes 2^32 - 1, and with `OutOfMemory`.
-    #[tactic(auto, using(crate::proofs::Modules::want_fails))]
+    #[tactic(auto, using(crate::proofs::Faults::want_fails))]
     pub fn idevid_tpm(
         alloc: Global,
         issuer: Name,
@@ -194,7 +192,8 @@ impl BuilderProfile for DevId {
         let subject = tbs.subject();
         let mut extensions = Vec::with_capacity(alloc, 3)?;
         add_authority(alloc, &mut extensions, subject, issuer_spk)?;
-        add_usage(alloc, &mut extensions, subject, signing_usage())?;
+        let usage = KeyUsage(FlagSet::from_flag(KeyUsages::DigitalSignature));
+        add_usage(alloc, &mut extensions, subject, usage)?;
         add_alternatives(alloc, &mut extensions, subject, &self.subject_alt_name)?;
         Ok(extensions)
     }

@@ -15,7 +15,7 @@ pub(crate) fn no_algorithm() -> AlgorithmIdentifier {
 }
 
 /// The identifier of these two numbers below 2.5 (X.500).
-#[tactic(auto, using(crate::proofs::ShortArcs::read_x500))]
+#[tactic(auto, using(crate::proofs::Encodable::read_x500))]
 pub(crate) fn x500(arc: u8, number: u8) -> ObjectIdentifier<39>
     requires arc { arc < 128 }
     requires number { number < 128 }

@@ -14,7 +14,6 @@ mod identifiers;
 mod naming;
 mod root;
 mod sign_error;
-mod signed_in_range;
 mod signed_part;
 mod signer;
 mod subordinate;
@@ -22,7 +21,6 @@ mod subscriber;
 mod tls12_options;
 mod tpm_version;
 mod types_before;
-mod uses;
 
 pub use build_error::Error;
 pub use builder::Builder;

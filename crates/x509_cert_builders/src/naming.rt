@@ -13,7 +13,7 @@ use std::alloc::Global;
 use x509_cert_names::{Name, attribute_types as types};
 
 /// The types of a name that keeps the rules of all names, in its order.
-#[tactic(auto, using(crate::proofs::NamingSteps::checked_none, crate::proofs::NamingSteps::checked_more, crate::proofs::NamingSteps::checked_fault, crate::proofs::NamingSteps::checked_all))]
+#[tactic(auto, using(crate::proofs::Subjects::checked_none, crate::proofs::Subjects::checked_more, crate::proofs::Subjects::checked_fault, crate::proofs::Subjects::checked_all))]
 fn types_of(
     alloc: Global,
     name: &Name,
@@ -85,7 +85,7 @@ fn has_required(found: &[ObjectIdentifier<39>]) -> bool
 /// # Errors
 /// That of `check_names_encoding`; `InvalidAttribute` with the first type that it may not have;
 /// `MissingAttributes`; or out of memory.
-#[tactic(auto, using(crate::proofs::NamingSteps::lacking))]
+#[tactic(auto, using(crate::proofs::Subjects::lacking))]
 pub fn ca_certificate_naming(alloc: Global, subject: &Name) -> Result<(), Error>
     ensures { NamesAuthority (name_plain subject.now) result }
 {

@@ -5,11 +5,12 @@ ghost use Rattle.x509_cert_names.specs.Views.{name_plain};
 ghost use Rattle.x509_cert_builders.specs.Naming.{NamesAuthority};
 ghost use Rattle.x509_cert_builders.specs.Profiles.{root_extensions};
 
-use crate::added_extensions::{add_authority, add_constraints, add_identifier, add_usage};
+use crate::added_extensions::{
+    add_authority, add_constraints, add_identifier, add_usage, authority_usage,
+};
 use crate::build_error::Error;
 use crate::builder_profile::BuilderProfile;
 use crate::naming::ca_certificate_naming;
-use crate::uses::authority_usage;
 use std::alloc::Global;
 use x509_cert_certificates::TbsCertificate;
 use x509_cert_names::Name;

@@ -1,4 +1,6 @@
-//! The part of a certificate that is signed, as it is written.
+//! The part of a certificate that is signed, as it is written. Its parts are in their ranges, so
+//! that it can fail to have an encoding only by its length: a law of the values of a type stands as
+//! the contract of a call that does nothing.
 
 ghost use Rattle.std.specs.Prelude.{◌≡◌, ◌⊎◌, Some, IfOk, IfErr};
 ghost use Rattle.const_oid.specs.Bound.{Bound};
@@ -10,10 +12,10 @@ ghost use Rattle.x509_cert_parts.specs.Grammar.{validity};
 ghost use Rattle.x509_cert_certificates.specs.Certificates.{tbs_certificate};
 ghost use Rattle.x509_cert_certificates.specs.Views.{tbs_plain};
 ghost use Rattle.x509_cert_builders.specs.Refusals.{IsUnwritten, IsWantOfMemory};
-ghost use Rattle.x509_cert_builders.specs.SignedParts.{part_shape, written_part};
+ghost use Rattle.x509_cert_builders.specs.SignedParts.{part_shape, written_part, IsPartInRange};
 
 use crate::build_error::Error;
-use der_core::ToDer;
+use der_core::{InRange, ToDer};
 use std::alloc::Global;
 use x509_cert_certificates::TbsCertificate;
 use x509_cert_parts::Validity;
@@ -30,4 +32,26 @@ pub(crate) fn written(alloc: Global, part: &TbsCertificate) -> Result<Vec<u8>, E
 {
     let octets = part.to_der(alloc)?;
     Ok(octets)
+}
+
+fn validity_in_range(dates: &Validity)
+    ensures { IsInRange validity (validity_plain dates.now) }
+{
+    dates.not_before.in_range();
+    dates.not_after.in_range();
+}
+
+/// The parts of what is signed are in their ranges.
+pub(crate) fn part_in_range(part: &TbsCertificate)
+    ensures { IsPartInRange (tbs_plain part.now) }
+{
+    part.signature().in_range();
+    part.issuer().in_range();
+    validity_in_range(part.validity());
+    part.subject().in_range();
+    part.subject_public_key_info().in_range();
+    match part.extensions() {
+        Some(extensions) => extensions.in_range(),
+        None => {}
+    }
 }

@@ -6,11 +6,10 @@ ghost use Rattle.x509_cert_names.specs.Views.{name_plain};
 ghost use Rattle.x509_cert_builders.specs.Profiles.{subordinate_extensions};
 
 use crate::added_extensions::{
-    add_authority, add_constraints, add_identifier, add_purposes, add_usage,
+    add_authority, add_constraints, add_identifier, add_purposes, add_usage, authority_usage,
 };
 use crate::build_error::Error;
 use crate::builder_profile::BuilderProfile;
-use crate::uses::authority_usage;
 use std::alloc::Global;
 use x509_cert_certificates::TbsCertificate;
 use x509_cert_names::Name;
@@ -61,13 +60,8 @@ impl BuilderProfile for Subordinate {
         let subject = tbs.subject();
         let mut extensions = Vec::with_capacity(alloc, 5)?;
         add_authority(alloc, &mut extensions, subject, issuer_spk)?;
-        add_constraints(
-            alloc,
-            &mut extensions,
-            subject,
-            true,
-            self.path_len_constraint,
-        )?;
+        let path_len = self.path_len_constraint;
+        add_constraints(alloc, &mut extensions, subject, true, path_len)?;
         let usage = authority_usage(self.emits_ocsp_response);
         add_usage(alloc, &mut extensions, subject, usage)?;
         add_identifier(alloc, &mut extensions, subject, spk)?;

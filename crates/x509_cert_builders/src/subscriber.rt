@@ -48,7 +48,7 @@ fn with_use(uses: FlagSet<KeyUsages>, more: KeyUsages, stands: bool) -> FlagSet<
 
 impl Subscriber {
     /// What its key is for.
-    #[tactic(auto, using(crate::proofs::UseSums::joined_uses))]
+    #[tactic(auto, using(crate::proofs::Encodable::joined_uses))]
     fn usage<'a>(&self, key: &SubjectPublicKeyInfoRef<'a>) -> KeyUsage
         ensures { result.0.flags.0 ≡ subscriber_uses self.now.enable_data_encipherment
             self.now.tls12_options.enable_key_encipherment

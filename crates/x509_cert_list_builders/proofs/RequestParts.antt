@@ -14,10 +14,10 @@ use Rattle.x509_cert_lists.specs.Grammar.{extension_req_attribute}
 use Rattle.x509_cert_names.specs.Names.{PlainAttribute, PlainName, attribute}
 use Rattle.x509_cert_parts.specs.Grammar.{PlainExtension, PublicKey}
 use Rattle.x509_cert_list_builders.specs.Requests.{HasNoAttribute, IsNotAdded, PlainInfo, request_of, with_request}
-use Rattle.x509_cert_builders.specs.Refusals.{IsWantOfMemory}
+use Rattle.x509_cert_builders.specs.Refusals.{IsWantOfMemory, HasNoEncoding}
 use Rattle.x509_cert_builders.specs.declared.build_error.Error.{Error}
 use Rattle.x509_cert_builders.specs.declared.build_error.Error.TheVariants as errors
-use Rattle.x509_cert_builders.proofs.Lists.{all_plain}
+use Rattle.x509_cert_builders.proofs.Subjects.{all_plain}
 
 -- an attribute that has an encoding, and such attributes
 abbrev pub IsValidAttribute : PlainAttribute → Type 0

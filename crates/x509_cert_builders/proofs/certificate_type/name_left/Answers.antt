@@ -5,8 +5,7 @@ use Rattle.der_core_head.specs.Grammar.{plain_list}
 use Rattle.x509_cert_names.specs.Names.{PlainName}
 use Rattle.x509_cert_names.specs.Views.{name_plain}
 use Rattle.x509_cert_names.specs.Pairs.{relative_plain}
-use Rattle.x509_cert_builders.proofs.Lists.{plain_pushed}
-use Rattle.x509_cert_builders.proofs.Subjects.{IsLeft, left_in, left_out, long_there, next_stays, no_values, some_values}
+use Rattle.x509_cert_builders.proofs.Subjects.{plain_pushed, IsLeft, left_in, left_out, long_there, next_stays, no_values, some_values}
 use Rattle.x509_cert_builders.proofs.certificate_type.name_left.Goals as goal
 
 pub loop-relative-preserved-in-Continue-branch-2 : goal.loop-relative-preserved-in-Continue-branch-2

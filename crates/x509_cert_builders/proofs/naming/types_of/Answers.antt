@@ -5,7 +5,7 @@ use Rattle.der_core_head.specs.Grammar.{plain_list}
 use Rattle.x509_cert_names.specs.Views.{name_plain}
 use Rattle.x509_cert_names.specs.Pairs.{relative_plain}
 use Rattle.x509_cert_builders.specs.Naming.{type_behind}
-use Rattle.x509_cert_builders.proofs.NamingSteps.{IsChecked, checked_all, checked_fault}
+use Rattle.x509_cert_builders.proofs.Subjects.{IsChecked, checked_all, checked_fault}
 use Rattle.x509_cert_builders.proofs.naming.types_of.Goals as goal
 
 pub returns-in-Err-clause-rules : goal.returns-in-Err-clause-rules

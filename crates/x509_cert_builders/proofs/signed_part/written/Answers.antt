@@ -6,7 +6,7 @@ use Rattle.x509_cert_certificates.specs.Certificates.{tbs_certificate}
 use Rattle.x509_cert_certificates.specs.Views.{tbs_plain}
 use Rattle.x509_cert_builders.specs.SignedParts.{part_shape, written_part}
 use Rattle.x509_cert_builders.proofs.Faults.{or_unwritten}
-use Rattle.x509_cert_builders.proofs.SignedOctets.{raw_octets}
+use Rattle.x509_cert_builders.proofs.Encodable.{raw_octets}
 use Rattle.x509_cert_builders.proofs.signed_part.written.Goals as goal
 
 pub returns-in_err-octets-clause-refused : goal.returns-in_err-octets-clause-refused

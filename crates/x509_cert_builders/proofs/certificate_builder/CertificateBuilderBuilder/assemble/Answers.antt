@@ -4,7 +4,7 @@ use Rattle.x509_cert_certificates.specs.Views.{certificate_plain, tbs_plain}
 use Rattle.x509_cert_certificates.specs.Assembling.{fields_of}
 use Rattle.x509_cert_builders.specs.SignedParts.{written_part}
 use Rattle.x509_cert_builders.specs.States.{as_written}
-use Rattle.x509_cert_builders.proofs.SignedOctets.{put_back}
+use Rattle.x509_cert_builders.proofs.Encodable.{put_back}
 use Rattle.x509_cert_builders.proofs.certificate_builder.CertificateBuilderBuilder.assemble.Goals as goal
 
 pub returns-clause-part : goal.returns-clause-part

@@ -1,4 +1,4 @@
-use Rattle.x509_cert_builders.proofs.TypesSteps.{one_more}
+use Rattle.x509_cert_builders.proofs.Subjects.{one_more}
 use Rattle.x509_cert_builders.proofs.types_before.TypesBefore.and.Goals as goal
 
 pub invariant_of-result : goal.invariant_of-result
