@@ -1,4 +1,1 @@
-mod Entries
-mod OwnExtensions
-mod Places
 mod RequestParts

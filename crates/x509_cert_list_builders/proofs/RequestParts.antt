@@ -1,10 +1,9 @@
 -- The part of a request, and its attributes.
-use Rattle.std.proofs.Common.{◌≡◌, ◌⊎◌, ℕ, Bool, List, [], ◌∷◌, Result, Ok, Err, refl, sym, ap, ◌∙◌, subst, inl, inr, true, false, pos, if◌then◌else◌}
+use Rattle.std.proofs.Common.{◌≡◌, ◌⊎◌, ℕ, Bool, List, [], ◌∷◌, Result, Ok, Err, refl, sym, ap, ◌∙◌, subst, inl, inr, true, false, pos, if◌then◌else◌, ◌++◌, Some}
 use Rattle.std.specs.List.{AllByRecursion, insert}
 use Rattle.const_oid.specs.Bound.{Bound}
 use Rattle.der_core_head.specs.declared.error.Error.{Error as DerError}
 use Rattle.der_core_head.specs.declared.error.ErrorKind.{ErrorKind}
-use Rattle.der_core_head.specs.declared.error.ErrorKind.TheVariants as kinds
 use Rattle.der_core_head.specs.Grammar.{plain_list}
 use Rattle.der_core_head.specs.Reading.{Fails}
 use Rattle.der_core_head.specs.Shapes.{IsValid}
@@ -17,7 +16,12 @@ use Rattle.x509_cert_list_builders.specs.Requests.{HasNoAttribute, IsNotAdded, P
 use Rattle.x509_cert_builders.specs.Refusals.{IsWantOfMemory, HasNoEncoding}
 use Rattle.x509_cert_builders.specs.declared.build_error.Error.{Error}
 use Rattle.x509_cert_builders.specs.declared.build_error.Error.TheVariants as errors
+use Rattle.x509_cert_builders.proofs.Faults.{not_made}
 use Rattle.x509_cert_builders.proofs.Subjects.{all_plain}
+use Rattle.der_core_head.specs.declared.error.ErrorKind.TheVariants as kinds
+use Rattle.x509_cert_extensions.specs.Making.{IsNotMade}
+use Rattle.x509_cert_list_builders.specs.Lists.{HasNoExtensions, PlainAuthority, authority_key, crl_number, PlainEntry, entries}
+use Rattle.x509_cert_list_builders.specs.States.{ListState}
 
 -- an attribute that has an encoding, and such attributes
 abbrev pub IsValidAttribute : PlainAttribute → Type 0
@@ -96,3 +100,36 @@ not_asked r e h = or_memory e.kind (λ enough. subst (λ (q : Result PlainAttrib
 
 pub same_reason : (r q : Result PlainAttribute ErrorKind) (e : Error) → r ≡ q → IsWantOfMemory e ⊎ HasNoAttribute r e → IsWantOfMemory e ⊎ HasNoAttribute q e
 same_reason r q e same h = subst (λ (s : Result PlainAttribute ErrorKind). IsWantOfMemory e ⊎ HasNoAttribute s e) same h
+
+-- Why a list has no extensions of its own.
+
+-- an issuer has no key, or memory ran out
+pub no_key : (n : ℕ) (r : Result PlainAuthority ErrorKind) (kind : ErrorKind) → Fails kind r → (kind ≡ kinds.OutOfMemory) ⊎ HasNoExtensions n r kind
+no_key n r kind h = or_memory kind (λ enough. subst (λ (q : Result PlainAuthority ErrorKind). HasNoExtensions n q kind) (sym (h enough)) refl)
+
+with_key : (n : ℕ) (r : Result PlainAuthority ErrorKind) (key : PlainAuthority) (kind : ErrorKind) → r ≡ Ok key → (kind ≡ kinds.OutOfMemory) ⊎ HasNoExtensions n (Ok key) kind
+    → (kind ≡ kinds.OutOfMemory) ⊎ HasNoExtensions n r kind
+with_key n r key kind same h = subst (λ (q : Result PlainAuthority ErrorKind). (kind ≡ kinds.OutOfMemory) ⊎ HasNoExtensions n q kind) (sym same) h
+
+-- the number of a list has no encoding
+number_left : (n : ℕ) (key : PlainAuthority) (kind : ErrorKind) → (kind ≡ kinds.OutOfMemory) ⊎ HasNoEncoding crl_number (pos n) kind → (kind ≡ kinds.OutOfMemory) ⊎ HasNoExtensions n (Ok key) kind
+number_left n key kind (inl memory) = inl memory
+number_left n key kind (inr none) = inr (inl none)
+
+pub no_number : (n : ℕ) (r : Result PlainAuthority ErrorKind) (key : PlainAuthority) (kind : ErrorKind) → r ≡ Ok key → IsNotMade crl_number (pos n) kind → (kind ≡ kinds.OutOfMemory) ⊎ HasNoExtensions n r kind
+no_number n r key kind same h = with_key n r key kind same (number_left n key kind (not_made crl_number (pos n) kind h))
+
+-- the identifier of a key has no encoding
+key_left : (n : ℕ) (key : PlainAuthority) (kind : ErrorKind) → (kind ≡ kinds.OutOfMemory) ⊎ HasNoEncoding authority_key key kind → (kind ≡ kinds.OutOfMemory) ⊎ HasNoExtensions n (Ok key) kind
+key_left n key kind (inl memory) = inl memory
+key_left n key kind (inr none) = inr (inr none)
+
+pub no_authority : (n : ℕ) (r : Result PlainAuthority ErrorKind) (key : PlainAuthority) (kind : ErrorKind) → r ≡ Ok key → IsNotMade authority_key key kind → (kind ≡ kinds.OutOfMemory) ⊎ HasNoExtensions n r kind
+no_authority n r key kind same h = with_key n r key kind same (key_left n key kind (not_made authority_key key kind h))
+
+-- Certificates that were added to a list.
+
+-- equal entries that are added give equal states
+pub added_same : {R : Type 0} (f : R → PlainEntry) (old new : ListState) (xs ys : List R) → new ≡ record old { revoked = Some (entries old.revoked ++ plain_list f xs) } → xs ≡ ys
+    → new ≡ record old { revoked = Some (entries old.revoked ++ plain_list f ys) }
+added_same {R} f old new xs ys added same = added ∙ ap (λ (rs : List R). record old { revoked = Some (entries old.revoked ++ plain_list f rs) }) same

@@ -93,7 +93,7 @@ fn issuing_key(
 }
 
 /// The extensions of a list of an issuer: its number, and the key under which it is signed.
-#[tactic(auto, using(crate::proofs::OwnExtensions::no_key, crate::proofs::OwnExtensions::no_number, crate::proofs::OwnExtensions::no_authority))]
+#[tactic(auto, using(crate::proofs::RequestParts::no_key, crate::proofs::RequestParts::no_number, crate::proofs::RequestParts::no_authority))]
 fn own_extensions(
     alloc: Global,
     issuer: &TbsCertificate,

@@ -6,7 +6,6 @@ ghost use Rattle.x509_cert_list_builders.specs.Signed.{signed_fields, octets_in_
 
 /// At its place in the octets of a list or of a request what is signed is its own encoding, of
 /// whatever shape it is (RFC 5280 5.1.1.3; RFC 2986 4.2).
-#[tactic(auto, using(crate::proofs::Places::in_place))]
 pub fn signed_part_stands_in_place()
     ensures { (s : Shape) (v : BodyValue (signed_fields s)) → octets_in_place s v
         ≡ octets_of s v.0 }

@@ -4,7 +4,6 @@
 mod crl_builder;
 pub mod laws;
 mod request_builder;
-mod signed_list_in_range;
 mod writing;
 
 pub use crl_builder::CrlBuilder;

@@ -1,16 +1,20 @@
 //! What is signed, written: what an Ok holds are the octets of a value that has an encoding.
+//!
+//! The parts of a list that is signed are in their ranges, so that it can fail to have an encoding
+//! only by its length. Any serial number may stand in it, whatever the profile reads. Each is a law
+//! of the values of a type, and stands as the contract of a call that does nothing.
 
 ghost use Rattle.std.specs.Prelude.{◌≡◌, ◌⊎◌, None, IfOk, IfErr};
+ghost use Rattle.std.specs.List.{AllByRecursion};
 ghost use Rattle.der_core_head.specs.Shapes.{IsValid, octets_of};
 ghost use Rattle.der_core_head.specs.Grammar.{plain_list, plain_option};
 ghost use Rattle.der_core_head.specs.Ranges.{IsInRange};
 ghost use Rattle.x509_cert_parts.specs.Views.{extensions_plain};
 ghost use Rattle.x509_cert_lists.specs.Views.{tbs_cert_list_plain, revoked_cert_plain};
 ghost use Rattle.x509_cert_builders.specs.Refusals.{IsUnwritten, IsWantOfMemory};
-ghost use Rattle.x509_cert_lists.specs.Views.{tbs_cert_list_plain};
-ghost use Rattle.x509_cert_list_builders.specs.Lists.{list_part};
+ghost use Rattle.x509_cert_list_builders.specs.Lists.{list_part, entries_field, extensions_field};
+ghost use Rattle.x509_cert_list_builders.specs.Lists.{raw_entry};
 
-use crate::signed_list_in_range::list_in_range;
 use der_core::{Encode, InRange, ToDer};
 use std::alloc::Global;
 use x509_cert_builders::Error;
@@ -43,4 +47,51 @@ pub(crate) fn list_written<P: Profile>(
     list_in_range(part);
     let octets = part.to_der(alloc)?;
     Ok(octets)
+}
+
+fn entry_in_range<P: Profile>(entry: &RevokedCert<P>)
+    ensures { IsInRange raw_entry (revoked_cert_plain entry.now) }
+{
+    entry.revocation_date.in_range();
+    entry.crl_entry_extensions.in_range();
+}
+
+fn entries_in_range<P: Profile>(entries: &[RevokedCert<P>])
+    ensures { AllByRecursion (IsInRange raw_entry) (plain_list revoked_cert_plain entries.now) }
+{
+    for one in entries {
+        entry_in_range(one);
+    }
+}
+
+fn revoked_in_range<P: Profile>(revoked: &Option<Vec<RevokedCert<P>>>)
+    ensures { IsInRange entries_field
+        (plain_option (λ rs. plain_list revoked_cert_plain rs.items) revoked.now) }
+{
+    match revoked {
+        Some(entries) => entries_in_range(entries.as_slice()),
+        None => {}
+    }
+}
+
+fn field_in_range(made: &Option<Extensions>)
+    ensures { IsInRange extensions_field (plain_option (λ e. extensions_plain e.items) made.now) }
+{
+    match made {
+        Some(extensions) => extensions.in_range(),
+        None => {}
+    }
+}
+
+/// The parts of a list are.
+pub(crate) fn list_in_range<P: Profile>(part: &TbsCertList<P>)
+    ensures { IsInRange (list_part None) (tbs_cert_list_plain part.now) }
+{
+    part.version.in_range();
+    part.signature.in_range();
+    part.issuer.in_range();
+    part.this_update.in_range();
+    part.next_update.in_range();
+    revoked_in_range(&part.revoked_certificates);
+    field_in_range(&part.crl_extensions);
 }

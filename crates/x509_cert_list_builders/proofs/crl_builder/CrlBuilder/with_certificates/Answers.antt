@@ -1,5 +1,5 @@
 use Rattle.x509_cert_lists.specs.Views.{revoked_cert_plain}
-use Rattle.x509_cert_list_builders.proofs.Entries.{added_same}
+use Rattle.x509_cert_list_builders.proofs.RequestParts.{added_same}
 use Rattle.x509_cert_list_builders.proofs.crl_builder.CrlBuilder.with_certificates.Goals as goal
 
 pub returns-clause-added : goal.returns-clause-added

@@ -4,7 +4,7 @@ use Rattle.der_core_head.specs.Grammar.{plain_list}
 use Rattle.der_core_head.specs.Ranges.{IsInRange}
 use Rattle.x509_cert_lists.specs.Views.{revoked_cert_plain}
 use Rattle.x509_cert_list_builders.specs.Lists.{raw_entry}
-use Rattle.x509_cert_list_builders.proofs.signed_list_in_range.entries_in_range.Given as goal
+use Rattle.x509_cert_list_builders.proofs.writing.entries_in_range.Given as goal
 
 abbrev pub invariant-loop-one : goal.invariant-loop-one
 invariant-loop-one g l =

@@ -1,5 +1,5 @@
 use Rattle.std.proofs.Common.{arith}
-use Rattle.x509_cert_list_builders.proofs.signed_list_in_range.list_in_range.Goals as goal
+use Rattle.x509_cert_list_builders.proofs.writing.list_in_range.Goals as goal
 
 pub returns : goal.returns
 returns g c =
