@@ -1,5 +1,5 @@
 -- What contracts see of an input and an output in memory.
-use Rattle.std.specs.Prelude.{◌≡◌, ℕ, List, [], length, take, Option, IsTrue}
+use Rattle.std.specs.Prelude.{◌≡◌, ℕ, List, [], ◌++◌, length, take, Option, IsTrue}
 use Rattle.cert_desk_io.specs.declared.memory_inputs.MemoryInput.{MemoryInput}
 use Rattle.cert_desk_io.specs.declared.memory_outputs.MemoryOutput.{MemoryOutput}
 
@@ -30,6 +30,14 @@ written output = take output.len output.room.now
 -- how many octets there is room for, of those that went out too
 abbrev pub capacity : MemoryOutput → ℕ
 capacity output = length output.room.now
+
+-- both were lent the same room
+abbrev pub InSameRoom : MemoryOutput → MemoryOutput → Type 0
+InSameRoom a b = b.room.ghost_name ≡ a.room.ghost_name
+
+-- from the one to the other these octets went out, into the same room
+abbrev pub Gives : MemoryOutput → List ℕ → MemoryOutput → Type 0
+Gives a octets b = (written b ≡ written a ++ octets) × InSameRoom a b
 
 -- there is no room left
 abbrev pub IsFull : MemoryOutput → Type 0

@@ -1,7 +1,7 @@
 // An output into memory.
 ghost use Rattle.std.specs.Prelude.{◌≡◌, ◌-◌, ◌<◌, ◌≤◌, ◌↔◌, ◌⊎◌, [], ◌++◌, length, take, drop};
 ghost use Rattle.std.specs.Prelude.{min, IsErr, IfOk, OnOk, OnErr};
-ghost use Rattle.std.proofs.Common.{sym, ap, ◌∙◌, append_assoc, append-nil};
+ghost use Rattle.std.proofs.Common.{refl, sym, ap, ◌∙◌, append_assoc, append-nil};
 ghost use Rattle.cert_desk_io.specs.Devices.{one_more};
 ghost use Rattle.cert_desk_io.specs.Pieces.{ArePieceSizes, after_call, next_piece};
 
@@ -22,16 +22,18 @@ pub struct MemoryOutput<'a> {
 }
 
 impl<'a> MemoryOutput<'a> {
-    ghost use Rattle.cert_desk_io.specs.Memory.{written, capacity, IsFull, write_sizes};
-    ghost use Rattle.cert_desk_io.specs.Memory.{failing_write, write_failures};
+    ghost use Rattle.cert_desk_io.specs.Memory.{Gives, IsFull, capacity, failing_write, written};
+    ghost use Rattle.cert_desk_io.specs.Memory.{write_failures, write_sizes};
 
     /// An output that keeps as many octets as there is room for. Each write that succeeds takes up
     /// to the next of these sizes, each at least 1, and after the last size all that it is given.
     /// The write of this number fails, 1 for the first (no write has the number 0), and nothing
-    /// goes out; later ones go on.
+    /// goes out; later ones go on. What went out stands at the front of the room, also once the
+    /// output is gone.
     pub fn new(room: &'a mut [u8], sizes: &'a [usize], failing: Option<u64>) -> MemoryOutput<'a>
         requires { ArePieceSizes sizes.now }
         ensures written { written result ≡ [] }
+        ensures lent { result.room.ghost_name ≡ room.entry.ghost_name }
         ensures capacity { capacity result ≡ length room.old }
         ensures sizes { write_sizes result ≡ sizes.now }
         ensures failing { failing_write result ≡ failing }
@@ -61,10 +63,10 @@ impl<'a> MemoryOutput<'a> {
 }
 
 impl Output for MemoryOutput<'_> {
-    ghost use Rattle.cert_desk_io.specs.Memory.{written, capacity, IsFull, write_sizes};
-    ghost use Rattle.cert_desk_io.specs.Memory.{failing_write, write_failures};
+    ghost use Rattle.cert_desk_io.specs.Memory.{Gives, IsFull, capacity, failing_write, written};
+    ghost use Rattle.cert_desk_io.specs.Memory.{write_failures, write_sizes};
 
-    ghost gives = { λ a octets b. written b ≡ written a ++ octets };
+    ghost gives = { Gives };
 
     ghost failures = { write_failures };
 
@@ -73,11 +75,11 @@ impl Output for MemoryOutput<'_> {
         ensures moves { IfOk result (λ count. 0 < count) }
         ensures bound { IfOk result (λ count. count ≤ length octets.now) }
         ensures given { IfOk result
-            (λ count. written self.new ≡ written self.old ++ take count octets.now) }
+            (λ count. Gives self.old (take count octets.now) self.new) }
         ensures sound { OnOk result (write_failures self.new ≡ write_failures self.old) }
 
         // After a failure.
-        ensures none_given { OnErr result (written self.new ≡ written self.old ++ []) }
+        ensures none_given { OnErr result (Gives self.old [] self.new) }
         ensures once { OnErr result (write_failures self.new ≡ one_more (write_failures self.old)) }
 
         // Which write fails, and how much the others give.
@@ -100,8 +102,8 @@ impl Output for MemoryOutput<'_> {
         Ok(count)
     }
 
-    ghost gives_nothing = { λ a. sym (append-nil (written a)) };
+    ghost gives_nothing = { λ a. (sym (append-nil (written a)), refl) };
 
     ghost gives_in_turn = { λ a b c first second p q.
-        q ∙ ap (λ x. x ++ second) p ∙ append_assoc (written a) first second };
+        (q.0 ∙ ap (λ x. x ++ second) p.0 ∙ append_assoc (written a) first second, q.1 ∙ p.1) };
 }

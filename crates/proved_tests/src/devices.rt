@@ -1,7 +1,10 @@
-//! Readers and writers that fail, as devices; and inputs that are read whole.
+//! Readers and writers that fail, as devices; inputs that are read whole; and room that is lent to
+//! an output.
+ghost use Rattle.std.specs.Prelude.{◌≡◌, take, IfSome};
 
 use cert_desk_io::{
-    DeviceError, FromRead, Input, MemoryInput, ReadAllError, ToWrite, read_all, write_all,
+    DeviceError, FromRead, Input, MemoryInput, MemoryOutput, ReadAllError, ToWrite, read_all,
+    write_all,
 };
 use std::alloc::Global;
 use std::io;
@@ -115,4 +118,24 @@ fn inputs_that_are_not_read_to_their_end(rt: HostRuntime) {
         refusal_of(alloc, &mut longer, 5),
         Some(ReadAllError::TooMuch)
     );
+}
+
+// How many octets of a text went out into a room, in whose front they stand; none where it is too
+// small.
+fn put_into(room: &mut [u8], text: &[u8]) -> Option<usize>
+    ensures { IfSome result (λ count. take count room.new ≡ text.now) }
+{
+    let mut output = MemoryOutput::new(room, &[], None);
+    if write_all(&mut output, text).is_err() {
+        return None;
+    }
+    Some(output.written().len())
+}
+
+#[test]
+fn lent_room_comes_back_with_what_went_out(rt: HostRuntime) {
+    let mut room = [b'.'; 8];
+    assert_eq!(rt; put_into(&mut room, b"serial"), Some(6));
+    assert_eq!(rt; room.as_slice(), b"serial..".as_slice());
+    assert_eq!(rt; put_into(&mut room, b"certificate"), None);
 }
