@@ -27,10 +27,10 @@ enum Store {
 /// The first octets of an array, so many.
 #[derive(Drop)]
 struct InPlace {
-    len: usize,
     bytes: [u8; 32],
     // None; with it the octets lie as words do, and are moved in few of them.
     words: [u64; 0],
+    len: usize,
 }
 
 impl Model for KeptOctets {
