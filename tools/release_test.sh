@@ -1,5 +1,7 @@
 #!/usr/bin/env bash
-# Tries that a release with one octet changed is refused, and that the sentence names the file.
+# Tries that a release with one octet changed is refused, and that the sentence names the file; and
+# that an octet changed in a library once it is laid is told by `tools/unpack --laid`. Of each kind of
+# file it says whether `rt check` noticed it too.
 #   tools/release_test.sh RELEASE
 set -euo pipefail
 top=$(cd "$(dirname "$0")/.." && pwd)
@@ -53,8 +55,9 @@ echo "first: const_oid" >>"$new/crates.txt"
     } !seen[kind]++' | while read -r file; do
     cp "$new/$laid/$file" "$work/octets"
     change "$new/$laid/$file"
-    echo "$file"
-    refused const_oid env -C "$new/crates/first" rt check </dev/null
+    refused "const_oid: differs: $file" "$top/tools/unpack" --laid "$release" "$new" </dev/null
+    env -C "$new/crates/first" rt check </dev/null >"$work/out" 2>&1 &&
+        echo "rt check did not notice it: $file"
     cp "$work/octets" "$new/$laid/$file"
 done
 if [ -s "$work/taken" ]; then

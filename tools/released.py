@@ -223,6 +223,23 @@ def unpacked(release, names, place):
         stop(f"{LIBRARIES} cannot be read")
 
 
+def difference(release, name, crate, there, room):
+    """The first file of a library that isn't that of the release, by the sums of its files."""
+    if sum_of_all(there) == crate.sum:
+        return None
+    if not (pathlib.Path(release) / LIBRARIES).is_file():
+        return f"its sum; {LIBRARIES}, by which the file is named, is not there"
+    for _, sums in unpacked(release, {name}, lambda name: room / name):
+        return first(sums, there)
+    return f"{LIBRARIES} does not have it"
+
+
+def first(these, those):
+    """The first path whose sums differ."""
+    paths = sorted(these.keys() | those.keys())
+    return next((path for path in paths if these.get(path) != those.get(path)), None)
+
+
 def members(tar):
     """Each file of packed libraries: the name of its library, its path there, what it has."""
     for member in tar:
