@@ -324,7 +324,9 @@ impl<'a, T: Encode> SetOfRef<'a, T> {
         if self.octets.is_empty() {
             return members_len(self.values);
         }
-        Ok(Length::new(self.octets.len() as u32))
+        Ok(Length {
+            value: self.octets.len() as u32,
+        })
     }
 }
 
