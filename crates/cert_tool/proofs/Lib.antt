@@ -1,1 +1,2 @@
 mod SentLaws
+mod ServingLaws

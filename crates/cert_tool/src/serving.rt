@@ -1,4 +1,10 @@
 //! Requests in frames, each answered in frames.
+ghost use Rattle.std.specs.Prelude.{◌≡◌, ◌≤◌, ◌^◌, ◌⊎◌, length, map, IfErr, IfOk};
+ghost use Rattle.cert_desk_io.specs.Devices.{sink, source};
+ghost use Rattle.cert_desk_frames.specs.declared.frame_error.FrameError.TheVariants as faults;
+ghost use Rattle.cert_tool.specs.Serving.{HasNoReply, IsNextServed, IsNextUnserved, IsReply};
+ghost use Rattle.cert_tool.specs.Serving.{IsRequestObeyed, IsServed, IsUnservedTold};
+ghost use Rattle.cert_tool.specs.Serving.{reply_frames, words_in};
 
 use crate::sent::Sent;
 use cert_desk_frames::{FrameError, append_frame, read_frame, split_frame};
@@ -6,12 +12,19 @@ use cert_desk_io::{
     ExitStatus, Input, Output, ToWrite, complain, tell_device, tell_memory, write_all,
 };
 use cert_tool_runs::obey;
-use std::alloc::Global;
+use std::alloc::{AllocError, Global};
 use std::rt::Clock;
 use std::str;
 
 // The most octets that a request may have.
 const MOST: u32 = 64 << 20;
+
+// The words of a text, one a line.
+fn words_of(alloc: Global, text: &str) -> Result<Vec<&str>, AllocError>
+    ensures { IfOk result (λ words. map (λ word. word.now) words.items ≡ words_in text.now) }
+{
+    text.split('\n').collect(alloc)
+}
 
 // Does what a request asks for: a frame of words, one a line, and the inputs that they name. The
 // status is `Arguments` where it has no words.
@@ -21,16 +34,17 @@ fn done<C: Clock, O: Output, E: Output>(
     request: &[u8],
     out: &mut O,
     err: &mut E,
-) -> Result<ExitStatus, FrameError> {
-    let Some((words, parts)) = split_frame(request) else {
+) -> Result<ExitStatus, AllocError>
+    ensures { IfOk result (IsRequestObeyed (sink O.gives O.failures out.old out.new)
+        (sink E.gives E.failures err.old err.new) request.now) }
+{
+    let Some((front, parts)) = split_frame(request) else {
         return Ok(ExitStatus::Arguments);
     };
-    let Ok(words) = str::from_utf8(words) else {
+    let Ok(text) = str::from_utf8(front) else {
         return Ok(ExitStatus::Arguments);
     };
-    let Ok(words) = words.split('\n').collect::<Vec<&str>>(alloc) else {
-        return Err(FrameError::OutOfMemory);
-    };
+    let words = words_of(alloc, text)?;
     let status = obey(
         alloc,
         clock,
@@ -43,21 +57,70 @@ fn done<C: Clock, O: Output, E: Output>(
     Ok(status)
 }
 
-// The answer to a request: frames of the status, of what goes to the output and of what goes to the
-// error output.
-fn answer<C: Clock>(alloc: Global, clock: &C, request: &[u8]) -> Result<Vec<u8>, FrameError> {
-    let mut out = ToWrite::new(Vec::new(alloc));
-    let mut err = ToWrite::new(Vec::new(alloc));
-    let status = done(alloc, clock, request, &mut out, &mut err)?;
-    let mut answer = Vec::new(alloc);
-    append_frame(&[status.code()], &mut answer)?;
-    append_frame(out.into_inner().as_slice(), &mut answer)?;
-    append_frame(err.into_inner().as_slice(), &mut answer)?;
-    Ok(answer)
+// Frames of a status, of an output and of an error output.
+fn framed(
+    alloc: Global,
+    status: ExitStatus,
+    output: &[u8],
+    errors: &[u8],
+) -> Result<Vec<u8>, FrameError>
+    ensures framed { IfOk result
+        (λ octets. octets.items ≡ reply_frames status output.now errors.now) }
+    ensures refused { IfErr result (λ error. ((error ≡ faults.TooLong)
+        × ((2 ^ 32 ≤ length output.now) ⊎ (2 ^ 32 ≤ length errors.now)))
+        ⊎ (error ≡ faults.OutOfMemory)) }
+{
+    let mut octets = Vec::new(alloc);
+    append_frame(&[status.code()], &mut octets)?;
+    append_frame(output, &mut octets)?;
+    append_frame(errors, &mut octets)?;
+    Ok(octets)
 }
 
-// Tells why a request isn't read, or isn't answered.
-fn tell_unread<E: Output>(err: &mut E, error: FrameError) -> ExitStatus {
+// The answer to a request: frames of the status, of what goes to the output and of what goes to the
+// error output.
+fn answer<C: Clock>(alloc: Global, clock: &C, request: &[u8]) -> Result<Vec<u8>, FrameError>
+    ensures answer { IfOk result (λ answer. IsReply request.now answer.items) }
+    ensures none { IfErr result (HasNoReply request.now) }
+{
+    let mut out = ToWrite::new(Vec::new(alloc));
+    let mut err = ToWrite::new(Vec::new(alloc));
+    let Ok(status) = done(alloc, clock, request, &mut out, &mut err) else {
+        return Err(FrameError::OutOfMemory);
+    };
+    let output = out.into_inner();
+    let errors = err.into_inner();
+    framed(alloc, status, output.as_slice(), errors.as_slice())
+}
+
+// Answers the next request, or says that there is none.
+fn answer_next<C: Clock, I: Input, O: Output>(
+    alloc: Global,
+    clock: &C,
+    input: &mut I,
+    output: &mut O,
+) -> Result<bool, FrameError>
+    ensures answered { IfOk result
+        (IsNextServed (source I.takes I.is_ended I.failures input.old input.new)
+        (sink O.gives O.failures output.old output.new)) }
+    ensures unanswered { IfErr result
+        (IsNextUnserved (source I.takes I.is_ended I.failures input.old input.new)
+        (sink O.gives O.failures output.old output.new)) }
+{
+    let Some(request) = read_frame(alloc, input, MOST)? else {
+        return Ok(false);
+    };
+    let answer = answer(alloc, clock, request.as_slice())?;
+    match write_all(output, answer.as_slice()) {
+        Ok(()) => Ok(true),
+        Err(_) => Err(FrameError::Device),
+    }
+}
+
+// Tells why a request isn't answered.
+fn tell_unserved<E: Output>(err: &mut E, error: FrameError) -> ExitStatus
+    ensures { IsUnservedTold (sink E.gives E.failures err.old err.new) error result }
+{
     match error {
         FrameError::TooLong => complain(err, b"too long\n", ExitStatus::Faulty),
         FrameError::Cut => complain(err, b"cut\n", ExitStatus::Faulty),
@@ -66,28 +129,25 @@ fn tell_unread<E: Output>(err: &mut E, error: FrameError) -> ExitStatus {
     }
 }
 
-/// Answers each request of the input, up to its end or the first that isn't read.
+/// Answers each request of the input, up to its end or the first that isn't read or answered.
 pub fn serve<C: Clock, I: Input, O: Output, E: Output>(
     alloc: Global,
     clock: &C,
     input: &mut I,
     output: &mut O,
     err: &mut E,
-) -> ExitStatus {
+) -> ExitStatus
+    ensures served { IsServed (source I.takes I.is_ended I.failures input.old input.new)
+        (sink O.gives O.failures output.old output.new)
+        (sink E.gives E.failures err.old err.new) result }
+{
     // More requests than ever come: a bound, so that the loop is seen to end.
-    for _ in 0..u64::MAX {
-        let request = match read_frame(alloc, input, MOST) {
-            Ok(Some(request)) => request,
-            Ok(None) => return ExitStatus::Done,
-            Err(error) => return tell_unread(err, error),
-        };
-        let answer = match answer(alloc, clock, request.as_slice()) {
-            Ok(answer) => answer,
-            Err(error) => return tell_unread(err, error),
-        };
-        if write_all(output, answer.as_slice()).is_err() {
-            return tell_device(err);
+    'requests: for _ in 0..u64::MAX {
+        match answer_next(alloc, clock, input, output) {
+            Ok(true) => {}
+            Ok(false) => return ExitStatus::Done,
+            Err(error) => return tell_unserved(err, error),
         }
     }
-    ExitStatus::Done
+    tell_unserved(err, FrameError::OutOfMemory)
 }

@@ -1,0 +1,10 @@
+-- Replies to the frames that were read went out, in turn, and nothing was told.
+use Rattle.std.proofs.Common.{◌≡◌}
+use Rattle.cert_tool.proofs.ServingLaws.{SoFar}
+use Rattle.cert_tool.proofs.serving.serve.Given as goal
+
+abbrev pub invariant-requests : goal.invariant-requests
+invariant-requests g l = record {
+  served : SoFar g.I.Input.takes g.I.Input.is_ended g.I.Input.failures g.O.Output.gives g.O.Output.failures l.fn.input l.input l.fn.output l.output;
+  untold : l.err ≡ l.fn.err;
+}

@@ -1,0 +1,135 @@
+-- Requests, and what answers them.
+use Rattle.std.specs.Prelude.{◌≡◌, ℕ, ◌*◌, ◌<◌, ◌≤◌, ◌^◌, ◌==◌, ◌⊎◌, List, [], ◌∷◌, ◌++◌, length, codes}
+use Rattle.std.specs.Prelude.{Bool, true, false, Some, None, IsUtf8}
+use Rattle.std.specs.Global.{Vec}
+use Rattle.std.specs.List.{list_any, slice_split}
+use Rattle.cert_desk_io.specs.declared.exit_status.ExitStatus.{ExitStatus}
+use Rattle.cert_desk_io.specs.declared.exit_status.ExitStatus.TheVariants as statuses
+use Rattle.cert_desk_io.specs.declared.writers.ToWrite.{ToWrite}
+use Rattle.cert_desk_io.specs.Devices.{Device, IsCut, IsWritten, Moved, Sound, Untouched, sink}
+use Rattle.cert_desk_io.specs.Memory.{HasEnded, octets_left, read_failures}
+use Rattle.cert_desk_io.specs.NamedInputs.{Inputs, inputs}
+use Rattle.cert_desk_io.specs.Statuses.{code_of}
+use Rattle.cert_desk_io.specs.Telling.{IsComplaint, IsDeviceTold, IsMemoryTold}
+use Rattle.cert_desk_io.specs.Writers.{write_failures, writer_of}
+use Rattle.cert_desk_frames.specs.declared.frame_error.FrameError.{FrameError}
+use Rattle.cert_desk_frames.specs.declared.frame_error.FrameError.TheVariants as errors
+use Rattle.cert_desk_frames.specs.Frames.{IsNext, IsUnread, frame}
+use Rattle.cert_tool_runs.specs.TaskRuns.{IsObeyed, asks_of_program}
+use Rattle.cert_tool.specs.Sending.{IsSent}
+
+-- the most octets of a request, 64 MiB
+abbrev pub request_limit : ℕ
+request_limit = 64 * 2 ^ 20
+
+-- the inputs of which these are the names and the octets
+abbrev pub sent_inputs : List ℕ → Inputs
+sent_inputs parts =
+    inputs (λ a octets b. octets_left a ≡ octets ++ octets_left b) HasEnded read_failures
+    (λ name input. IsSent name (octets_left input) parts)
+
+-- the words of a text, one a line
+abbrev pub words_in : List ℕ → List (List ℕ)
+words_in text = slice_split (λ octet. octet == 10) text
+
+-- a request: a frame of a text in UTF-8, whose lines are words, and behind it inputs
+abbrev pub IsRequest : List ℕ → List ℕ → List ℕ → Type 0
+IsRequest octets text parts =
+    (octets ≡ frame text ++ parts) × (length text < 2 ^ 32) × IsUtf8 text
+
+-- What becomes of octets: the words of this request are obeyed, on its inputs; or they are no
+-- request, and nothing is done.
+abbrev pub IsRequestObeyed : Device → Device → List ℕ → ExitStatus → Type 0
+IsRequestObeyed out err octets status =
+    ((text : List ℕ) × (parts : List ℕ) × IsRequest octets text parts
+    × IsObeyed (sent_inputs parts) out err (words_in text)
+    (list_any asks_of_program (words_in text)) status)
+    ⊎ (((text : List ℕ) → (parts : List ℕ) → IsRequest octets text parts → ⊥)
+    × Untouched out × Untouched err × (status ≡ statuses.Arguments))
+
+-- an output into a vector, what the vector has, and the output over a run
+abbrev pub VecOutput : Type 0
+VecOutput = ToWrite (Vec ℕ)
+
+abbrev pub vec_octets : VecOutput → List ℕ
+vec_octets output = (writer_of output).items
+
+abbrev pub vec_sink : VecOutput → VecOutput → Device
+vec_sink old new =
+    sink (λ a octets b. vec_octets b ≡ vec_octets a ++ octets) write_failures old new
+
+-- What octets come to, with outputs that are empty before: a status, what goes to the output, and
+-- what goes to the error output.
+pub record ComesTo (octets : List ℕ) (status : ExitStatus) (output errors : List ℕ) : Type 0 where
+  pub old_output : VecOutput
+  pub new_output : VecOutput
+  pub old_errors : VecOutput
+  pub new_errors : VecOutput
+  pub empty : (vec_octets old_output ≡ []) × (vec_octets old_errors ≡ [])
+  pub is_obeyed : IsRequestObeyed (vec_sink old_output new_output)
+      (vec_sink old_errors new_errors) octets status
+  pub written : (vec_octets new_output ≡ output) × (vec_octets new_errors ≡ errors)
+
+-- frames of a status, of what went to the output, and of what went to the error output
+abbrev pub reply_frames : ExitStatus → List ℕ → List ℕ → List ℕ
+reply_frames status output errors = frame (code_of status ∷ []) ++ (frame output ++ frame errors)
+
+-- the reply to octets
+abbrev pub IsReply : List ℕ → List ℕ → Type 0
+IsReply octets reply =
+    (status : ExitStatus) × (output : List ℕ) × (errors : List ℕ)
+    × ComesTo octets status output errors × (reply ≡ reply_frames status output errors)
+
+-- Why there is none: 2^32 octets or more went to an output, or there was no memory.
+abbrev pub HasNoReply : List ℕ → FrameError → Type 0
+HasNoReply octets errors.TooLong =
+    (status : ExitStatus) × (output : List ℕ) × (errors : List ℕ)
+    × ComesTo octets status output errors
+    × ((2 ^ 32 ≤ length output) ⊎ (2 ^ 32 ≤ length errors))
+HasNoReply octets errors.OutOfMemory = Unit {0}
+HasNoReply octets errors.Cut = ⊥
+HasNoReply octets errors.Device = ⊥
+
+-- The reply to the next frame's content went out; or the input ended before one.
+abbrev pub IsNextServed : Device → Device → Bool → Type 0
+IsNextServed input output true =
+    (octets : List ℕ) × (reply : List ℕ) × IsNext input request_limit (Some octets)
+    × IsReply octets reply × IsWritten output reply
+IsNextServed input output false = IsNext input request_limit None × Untouched output
+
+-- Why none did: the frame wasn't read, there is no reply, or a write failed.
+abbrev pub IsNextUnserved : Device → Device → FrameError → Type 0
+IsNextUnserved input output error =
+    (IsUnread input request_limit error × Untouched output)
+    ⊎ ((octets : List ℕ) × IsNext input request_limit (Some octets) × HasNoReply octets error
+    × Untouched output)
+    ⊎ ((octets : List ℕ) × (reply : List ℕ) × IsNext input request_limit (Some octets)
+    × IsReply octets reply × IsCut output reply × (error ≡ errors.Device))
+
+-- how that is told
+abbrev pub IsUnservedTold : Device → FrameError → ExitStatus → Type 0
+IsUnservedTold err errors.TooLong status =
+    IsComplaint err (codes "too long\n") statuses.Faulty status
+IsUnservedTold err errors.Cut status = IsComplaint err (codes "cut\n") statuses.Faulty status
+IsUnservedTold err errors.Device status = IsDeviceTold err status
+IsUnservedTold err errors.OutOfMemory status = IsMemoryTold err status
+
+-- The first octets are frames, and the second the replies to what they hold, in turn.
+pub data AreReplies : List ℕ → List ℕ → Type 0 where
+  none : AreReplies [] []
+  more : (asked replied octets reply : List ℕ) → AreReplies asked replied
+      → IsReply octets reply → AreReplies (asked ++ frame octets) (replied ++ reply)
+
+-- Replies to frames went out, in turn, until the input ended behind one; or until there was none
+-- for a next one, and why is told.
+abbrev pub IsServed : Device → Device → Device → ExitStatus → Type 0
+IsServed input output err status =
+    (asked : List ℕ) × (replied : List ℕ) × AreReplies asked replied
+    × (read : input.State) × (written : output.State)
+    × Moved (record input { new = read }) asked × Sound (record input { new = read })
+    × IsWritten (record output { new = written }) replied
+    × ((IsNextServed (record input { old = read }) (record output { old = written }) false
+    × Untouched err × (status ≡ statuses.Done))
+    ⊎ ((error : FrameError)
+    × IsNextUnserved (record input { old = read }) (record output { old = written }) error
+    × IsUnservedTold err error status))
