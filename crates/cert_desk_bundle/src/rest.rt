@@ -9,7 +9,10 @@ use crate::standing::Standing;
 use std::alloc::{AllocError, Global};
 use std::mem;
 
-// Room for so many octets is taken at first.
+// The most octets of a header: room for so many is taken at first.
+const HEADER_ROOM: usize = 6;
+
+// Room for so many octets is taken next, as far as they are missing.
 const FIRST_ROOM: usize = 256;
 
 /// The octets of a certificate that isn't whole yet.
@@ -120,8 +123,8 @@ impl Rest {
         Ok((wanted, Some(octets)))
     }
 
-    // Appends octets that are missing. Where there is no room for them some is taken for as many
-    // again as there are then, as far as so many are missing, and for no fewer than at first.
+    // Appends octets that are missing. Where there is no room for them some is taken for as many as
+    // are missing, but for no more than as many again as there are then, or the first room.
     fn append(&mut self, octets: &[u8]) -> Result<(), AllocError>
         requires missing { length self.old.octets.items + length octets.now ≤ self.old.wanted }
         ensures appended { OnOk result (self.new.octets.items ≡ self.old.octets.items
@@ -130,7 +133,8 @@ impl Rest {
     {
         let len = self.octets.len() + octets.len();
         if self.octets.capacity() < len {
-            let room = self.wanted.min(len.saturating_add(len)).max(FIRST_ROOM);
+            let most = len.saturating_add(len).max(FIRST_ROOM);
+            let room = self.wanted.max(HEADER_ROOM).min(most);
             self.octets.reserve_exact(room - self.octets.len())?;
         }
         self.octets.extend_from_slice(octets)
