@@ -21,6 +21,9 @@ use x509_cert_lists::{ExtensionReq, RevokedCert};
 use x509_cert_names::{Attribute, Name};
 use x509_cert_parts::{Extension, Extensions, SerialNumber, Time};
 
+/// Room for so many octets is taken at first: the lines of most certificates have fewer.
+const FIRST_ROOM: usize = 512;
+
 /// Lines that were gathered, each ended by LF.
 #[derive(Drop)]
 pub(crate) struct Lines {
@@ -32,7 +35,8 @@ impl Lines {
     pub(crate) fn new(alloc: Global, label: &str) -> Result<Lines, AllocError>
         ensures { IfOk result (λ lines. string_bytes lines.text ≡ alone label.now) }
     {
-        let text = format!(in alloc; "{label}\n")?;
+        let mut text = String::with_capacity(alloc, FIRST_ROOM)?;
+        writeln!(text, "{label}")?;
         Ok(Lines { text })
     }
 
