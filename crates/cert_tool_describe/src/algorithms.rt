@@ -9,6 +9,9 @@ use der_types_values::BitString;
 use std::alloc::Global;
 use x509_cert_parts::AlgorithmIdentifier;
 
+// The identifier id-RSASSA-PSS, 1.2.840.113549.1.1.10.
+const PSS: &[u8] = &[0x2a, 0x86, 0x48, 0x86, 0xf7, 0x0d, 1, 1, 0x0a];
+
 // The algorithm that octets spell.
 fn algorithm_in(alloc: Global, octets: &[u8]) -> Result<AlgorithmIdentifier, Error> {
     read(alloc, octets)
@@ -59,8 +62,7 @@ fn add_choice(lines: &mut Lines, words: [&str; 3], octets: Option<&[u8]>) {
     match octets {
         Some(octets) => add_named(lines, octets),
         None => {
-            lines.key("default");
-            lines.text(default);
+            lines.text_member("default", default);
             lines.word("by default");
         }
     }
@@ -70,20 +72,17 @@ fn add_choice(lines: &mut Lines, words: [&str; 3], octets: Option<&[u8]>) {
 // Adds the line of a number, or of what it is where it is left out.
 fn add_number(lines: &mut Lines, word: &str, key: &str, octets: Option<&[u8]>, default: u64) {
     let Some(octets) = octets else {
-        lines.row(word, key);
-        lines.count(default);
+        lines.count_row(word, key, default);
         lines.word("by default");
         return;
     };
     match leaf_from_der::<u32>(lines.alloc, octets) {
         Ok(number) => {
-            lines.row(word, key);
-            lines.count(u64::from(number));
+            lines.count_row(word, key, u64::from(number));
         }
         Err(error) => {
             lines.note(error.kind);
-            lines.row(word, key);
-            lines.text("malformed");
+            lines.text_row(word, key, "malformed");
         }
     }
 }
@@ -103,10 +102,7 @@ fn add_fields(lines: &mut Lines, fields: &[Any]) {
 
 // Adds the lines of the parameters of RSASSA-PSS, if that is the algorithm and it has any.
 fn add_padding(lines: &mut Lines, algorithm: &AlgorithmIdentifier) {
-    if !matches!(
-        algorithm.oid.as_bytes(),
-        [0x2a, 0x86, 0x48, 0x86, 0xf7, 0x0d, 1, 1, 0x0a]
-    ) {
+    if algorithm.oid.as_bytes() != PSS {
         return;
     }
     if let Some(parameters) = &algorithm.parameters {
@@ -133,6 +129,5 @@ pub fn add_algorithm(lines: &mut Lines, word: &str, key: &str, algorithm: &Algor
 // Adds the lines of a signature: its algorithm and its bits.
 pub fn add_signature(lines: &mut Lines, algorithm: &AlgorithmIdentifier, signature: &BitString) {
     add_algorithm(lines, "signature", "signatureAlgorithm", algorithm);
-    lines.row("  bits", "signatureValue");
-    lines.octets(signature.raw_bytes());
+    lines.octets_row("  bits", "signatureValue", signature.raw_bytes());
 }

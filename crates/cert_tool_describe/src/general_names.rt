@@ -10,45 +10,40 @@ use std::net::{Ipv4Addr, Ipv6Addr};
 use x509_cert_general_names::{EdiPartyName, GeneralName};
 use x509_cert_names::DirectoryString;
 
-// Adds an address, or one and its mask (RFC 5280 4.2.1.10).
-fn add_address(lines: &mut Lines, octets: &[u8]) {
-    match octets {
-        [a, b, c, d] => lines.show("", Ipv4Addr::new(*a, *b, *c, *d), ""),
-        [a, b, c, d, e, f, g, h] => {
-            lines.show("", Ipv4Addr::new(*a, *b, *c, *d), "/");
-            lines.show("", Ipv4Addr::new(*e, *f, *g, *h), "");
-        }
-        _ => add_long_address(lines, octets),
-    }
+// Adds an address of four octets.
+fn add_short(lines: &mut Lines, octets: &[u8], behind: &str)
+    requires { length octets.now ≡ 4 }
+{
+    let mut address = [0; 4];
+    address.copy_from_slice(octets);
+    lines.show("", Ipv4Addr::from(address), behind);
 }
 
-// The address of 16 octets.
-fn long_address(octets: &[u8]) -> Ipv6Addr
+// Adds an address of 16 octets.
+fn add_long(lines: &mut Lines, octets: &[u8], behind: &str)
     requires { length octets.now ≡ 16 }
 {
     let mut address = [0; 16];
     address.copy_from_slice(octets);
-    Ipv6Addr::from(address)
+    lines.show("", Ipv6Addr::from(address), behind);
 }
 
-// Adds an address that isn't of four octets, or one and its mask.
-fn add_long_address(lines: &mut Lines, octets: &[u8]) {
-    if octets.len() == 16 {
-        lines.show("", long_address(octets), "");
+// Adds an address, or one and its mask (RFC 5280 4.2.1.10).
+fn add_address(lines: &mut Lines, octets: &[u8]) {
+    if octets.len() == 4 {
+        add_short(lines, octets, "");
+    } else if octets.len() == 8 {
+        add_short(lines, &octets[..4], "/");
+        add_short(lines, &octets[4..], "");
+    } else if octets.len() == 16 {
+        add_long(lines, octets, "");
     } else if octets.len() == 32 {
-        lines.show("", long_address(&octets[..16]), "/");
-        lines.show("", long_address(&octets[16..]), "");
+        add_long(lines, &octets[..16], "/");
+        add_long(lines, &octets[16..], "");
     } else {
         lines.push("octets ");
         lines.pairs("", octets, Some(b':'));
     }
-}
-
-// Adds a name that is a text, with a word for its kind.
-fn add_text(lines: &mut Lines, word: &str, key: &str, text: &str) {
-    lines.word(word);
-    lines.key(key);
-    lines.plain_value(text);
 }
 
 // Adds the text of a member of a name, whatever type of string it has.
@@ -72,49 +67,51 @@ fn add_party(lines: &mut Lines, party: &EdiPartyName) {
     }
 }
 
-// Begins a name that has members.
-fn begin_members(lines: &mut Lines, word: &str, key: &str) {
-    lines.word(word);
-    lines.key(key);
-    lines.open();
+// The word and the key of a name's kind.
+fn kind_of(name: &GeneralName) -> (&'static str, &'static str) {
+    match name {
+        GeneralName::Rfc822Name(_) => ("email", "rfc822Name"),
+        GeneralName::DnsName(_) => ("DNS", "dNSName"),
+        GeneralName::UniformResourceIdentifier(_) => ("URI", "uniformResourceIdentifier"),
+        GeneralName::EdiPartyName(_) => ("party", "ediPartyName"),
+        GeneralName::IpAddress(_) => ("IP", "iPAddress"),
+        GeneralName::DirectoryName(_) => ("name", "directoryName"),
+        GeneralName::RegisteredId(_) => ("identifier", "registeredID"),
+        GeneralName::OtherName(_) => ("other", "otherName"),
+    }
+}
+
+// Adds the members of a name that has some.
+fn add_members(lines: &mut Lines, name: &GeneralName) {
+    match name {
+        GeneralName::EdiPartyName(party) => add_party(lines, party),
+        GeneralName::DirectoryName(name) => add_name_members(lines, name),
+        GeneralName::RegisteredId(identifier) => lines.members_of(identifier),
+        GeneralName::OtherName(other) => {
+            lines.members_of(&other.type_id);
+            add_value(lines, &other.value);
+        }
+        _ => {}
+    }
 }
 
 /// Adds a name of any kind, as the member of that kind.
 pub fn add_general_name(lines: &mut Lines, name: &GeneralName) {
+    let (word, key) = kind_of(name);
+    lines.word(word);
+    lines.key(key);
     match name {
-        GeneralName::Rfc822Name(address) => {
-            add_text(lines, "email", "rfc822Name", address.as_str());
-        }
-        GeneralName::DnsName(host) => add_text(lines, "DNS", "dNSName", host.as_str()),
-        GeneralName::UniformResourceIdentifier(resource) => {
-            add_text(lines, "URI", "uniformResourceIdentifier", resource.as_str());
-        }
-        GeneralName::EdiPartyName(party) => {
-            begin_members(lines, "party", "ediPartyName");
-            add_party(lines, party);
-            lines.close();
-        }
+        GeneralName::Rfc822Name(address) => lines.plain_value(address.as_str()),
+        GeneralName::DnsName(host) => lines.plain_value(host.as_str()),
+        GeneralName::UniformResourceIdentifier(resource) => lines.plain_value(resource.as_str()),
         GeneralName::IpAddress(octets) => {
-            lines.word("IP");
-            lines.key("iPAddress");
             lines.begin();
             add_address(lines, octets.as_bytes());
             lines.end();
         }
-        GeneralName::DirectoryName(name) => {
-            begin_members(lines, "name", "directoryName");
-            add_name_members(lines, name);
-            lines.close();
-        }
-        GeneralName::RegisteredId(identifier) => {
-            begin_members(lines, "identifier", "registeredID");
-            lines.members_of(identifier);
-            lines.close();
-        }
-        GeneralName::OtherName(other) => {
-            begin_members(lines, "other", "otherName");
-            lines.members_of(&other.type_id);
-            add_value(lines, &other.value);
+        _ => {
+            lines.open();
+            add_members(lines, name);
             lines.close();
         }
     }

@@ -1,8 +1,9 @@
 //! Keys, and digests.
 
 use crate::algorithms::add_members as add_algorithm;
-use crate::contents::add_members;
+use crate::contents::{add_malformed, add_members};
 use crate::describe::Describe;
+use crate::known_names::known_name;
 use crate::lines::Lines;
 use crate::values::{add_value, list_in, values_in};
 use const_oid::ObjectIdentifier;
@@ -27,8 +28,7 @@ fn bit_len(octets: &[u8]) -> usize {
 
 // Adds a line for a number of bits.
 fn add_bits(lines: &mut Lines, bits: usize) {
-    lines.row("", "bits");
-    lines.count(bits as u64);
+    lines.count_row("", "bits", bits as u64);
     lines.word("bits");
 }
 
@@ -40,8 +40,7 @@ fn add_natural(lines: &mut Lines, name: &str, octets: &[u8]) {
 
 // Adds a line for octets of a key.
 fn add_octets(lines: &mut Lines, name: &str, octets: &[u8]) {
-    lines.row(name, name);
-    lines.octets(octets);
+    lines.octets_row(name, name, octets);
 }
 
 // An RSA key is the SEQUENCE of its modulus and its exponent (RFC 3279 2.3.1).
@@ -77,8 +76,7 @@ fn coordinate_bits(octets: &[u8]) -> usize {
 fn add_field(lines: &mut Lines, field: &[Any]) {
     match field {
         [_, prime] if prime.tag() == Tag::Integer => {
-            lines.row("prime", "prime");
-            lines.number(prime.value());
+            lines.number_row("prime", "prime", prime.value());
         }
         [_, other] => {
             lines.node("field", "field");
@@ -122,8 +120,7 @@ fn add_equation(lines: &mut Lines, parameters: &[Any]) {
             add_inner(lines, field, true);
             add_inner(lines, curve, false);
             add_octets(lines, "generator", generator.value());
-            lines.row("order", "order");
-            lines.number(order.value());
+            lines.number_row("order", "order", order.value());
         }
         _ => lines.malformed("malformed", ErrorKind::Failed),
     }
@@ -189,19 +186,22 @@ fn add_dsa(lines: &mut Lines, key: &SubjectPublicKeyInfo) {
     }
 }
 
-// Adds the lines of the bits of a key.
+// Adds the lines of an RSA key, or that octets aren't one.
+fn add_rsa(lines: &mut Lines, octets: &[u8]) {
+    if let Some(error) = add_members::<Uint, Vec<Uint>>(lines, octets) {
+        add_malformed(lines, octets, error.kind);
+    }
+}
+
+// Adds the lines of the bits of a key, by the name of its algorithm.
 fn add_key_bits(lines: &mut Lines, key: &SubjectPublicKeyInfo) {
-    match key.algorithm.oid.as_bytes() {
-        // rsaEncryption, id-RSASSA-PSS
-        [0x2a, 0x86, 0x48, 0x86, 0xf7, 0x0d, 0x01, 0x01, 0x01 | 0x0a] => {
-            add_members::<Uint, Vec<Uint>>(lines, key.subject_public_key.raw_bytes());
+    match known_name(key.algorithm.oid.as_bytes()).unwrap_or("") {
+        "rsaEncryption" | "id-RSASSA-PSS" => {
+            add_rsa(lines, key.subject_public_key.raw_bytes());
         }
-        // id-dsa
-        [0x2a, 0x86, 0x48, 0xce, 0x38, 0x04, 0x01] => add_dsa(lines, key),
-        // id-ecPublicKey
-        [0x2a, 0x86, 0x48, 0xce, 0x3d, 0x02, 0x01] => add_point(lines, key),
-        // id-X25519, id-X448, id-Ed25519, id-Ed448
-        [0x2b, 0x65, 0x6e | 0x6f | 0x70 | 0x71] => {
+        "id-dsa" => add_dsa(lines, key),
+        "id-ecPublicKey" => add_point(lines, key),
+        "id-X25519" | "id-X448" | "id-Ed25519" | "id-Ed448" => {
             add_bits(lines, key.subject_public_key.bit_len());
             add_octets(lines, "octets", key.subject_public_key.raw_bytes());
         }

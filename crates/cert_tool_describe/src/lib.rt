@@ -17,8 +17,10 @@ mod timestamps;
 mod uses;
 mod values;
 
+pub use contents::{content_fault, number_of};
+pub use describe::DescribeFile;
 pub use description::add_certificate;
 pub use general_names::add_general_name;
 pub use lines::Lines;
-pub use lists::{add_list, list_of};
+pub use lists::add_list;
 pub use requests::add_request;

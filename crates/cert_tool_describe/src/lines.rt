@@ -146,6 +146,48 @@ impl Lines {
         self.key(key);
     }
 
+    /// Adds a member that is a text of the program's own.
+    pub fn text_member(&mut self, key: &str, text: &str) {
+        self.key(key);
+        self.text(text);
+    }
+
+    /// Adds a member that is a number in decimal.
+    pub fn count_member(&mut self, key: &str, count: u64) {
+        self.key(key);
+        self.count(count);
+    }
+
+    /// Adds a member that is a text of the program's own on a line of its own, which a word begins.
+    pub fn text_row(&mut self, word: &str, key: &str, text: &str) {
+        self.row(word, key);
+        self.text(text);
+    }
+
+    /// Adds a member that is a number in decimal on a line of its own.
+    pub fn count_row(&mut self, word: &str, key: &str, count: u64) {
+        self.row(word, key);
+        self.count(count);
+    }
+
+    /// Adds a member that is a date on a line of its own.
+    pub fn date_row(&mut self, word: &str, key: &str, date: &Time) {
+        self.row(word, key);
+        self.date(date);
+    }
+
+    /// Adds a member that is octets in base 16 on a line of its own.
+    pub fn octets_row(&mut self, word: &str, key: &str, octets: &[u8]) {
+        self.row(word, key);
+        self.octets(octets);
+    }
+
+    /// Adds a member that is a number of these octets on a line of its own.
+    pub fn number_row(&mut self, word: &str, key: &str, octets: &[u8]) {
+        self.row(word, key);
+        self.number(octets);
+    }
+
     /// Begins an item of an array on a line of its own, which a word begins.
     pub fn item(&mut self, word: &str) {
         self.comma();
@@ -454,12 +496,10 @@ impl Lines {
     pub fn place(&mut self, offset: u64, octet: u64) {
         self.word("octet");
         if self.is_json || offset > 0 {
-            self.key("offset");
-            self.count(offset);
+            self.count_member("offset", offset);
             self.word("+");
         }
-        self.key("octet");
-        self.count(octet);
+        self.count_member("octet", octet);
     }
 
     /// Adds the members of an identifier: itself, and its name if it has one.
@@ -470,8 +510,7 @@ impl Lines {
             self.arcs(identifier);
             self.end();
             if let Some(name) = known_name(identifier.as_bytes()) {
-                self.key("name");
-                self.text(name);
+                self.text_member("name", name);
             }
         } else {
             self.begin();
@@ -541,23 +580,10 @@ impl Lines {
         }
     }
 
-    /// Adds an array of those that hold of these, a line each, which a word begins.
-    pub fn flags(&mut self, word: &str, key: &str, flags: &[(bool, &str)]) {
-        self.list(key);
-        for (holds, name) in flags {
-            if *holds {
-                self.item(word);
-                self.text(name);
-            }
-        }
-        self.end_list();
-    }
-
     /// Adds the section that says so, if one does.
     pub fn section(&mut self, section: &str) {
         if self.is_json && !section.is_empty() {
-            self.key("section");
-            self.text(section);
+            self.text_member("section", section);
         } else if !section.is_empty() {
             self.show(" (", section, ")");
         }
@@ -566,8 +592,7 @@ impl Lines {
     /// Adds an item that says this.
     pub fn finding(&mut self, finding: &str) {
         self.entry("");
-        self.key("finding");
-        self.text(finding);
+        self.text_member("finding", finding);
         self.close();
     }
 }

@@ -2,7 +2,7 @@
 
 use crate::algorithms::{add_algorithm, add_signature};
 use crate::contents::add_extensions;
-use crate::describe::Describe;
+use crate::describe::{Describe, DescribeFile, add_file};
 use crate::description::add_kind;
 use crate::keys::add_digests;
 use crate::lines::Lines;
@@ -38,8 +38,7 @@ fn reason_name(reason: CrlReason) -> &'static str {
 
 impl Describe for CrlReason {
     fn describe(&self, lines: &mut Lines) {
-        lines.row("", "reason");
-        lines.text(reason_name(*self));
+        lines.text_row("", "reason", reason_name(*self));
     }
 }
 
@@ -56,43 +55,46 @@ fn add_entry(lines: &mut Lines, entry: &RevokedCert<Raw>) {
     lines.close();
 }
 
+// Adds the lines of entries, in their order.
+fn add_entries(lines: &mut Lines, entries: &[RevokedCert<Raw>]) {
+    lines.list("revokedCertificates");
+    for entry in entries {
+        add_entry(lines, entry);
+    }
+    lines.end_list();
+}
+
 // Adds the lines of the signed part.
 fn add_signed(lines: &mut Lines, signed: &TbsCertList<Raw>) {
     add_kind(lines, "list", signed.version);
     add_algorithm(lines, "algorithm", "signature", &signed.signature);
     add_name(lines, "issuer", "issuer", &signed.issuer);
-    lines.row("this-update", "thisUpdate");
-    lines.date(&signed.this_update);
+    lines.date_row("this-update", "thisUpdate", &signed.this_update);
     if let Some(date) = &signed.next_update {
-        lines.row("next-update", "nextUpdate");
-        lines.date(date);
+        lines.date_row("next-update", "nextUpdate", date);
     }
     if let Some(extensions) = &signed.crl_extensions {
         add_extensions(lines, "crlExtensions", extensions.as_slice());
     }
     if let Some(entries) = &signed.revoked_certificates {
-        lines.list("revokedCertificates");
-        for entry in entries {
-            add_entry(lines, entry);
-        }
-        lines.end_list();
+        add_entries(lines, entries.as_slice());
     }
 }
 
-/// The CRL of which octets are the encoding.
-pub fn list_of(alloc: Global, octets: &[u8]) -> Result<CertificateList<Raw>, Error> {
-    read(alloc, octets)
+impl DescribeFile for CertificateList<Raw> {
+    fn read_file(alloc: Global, octets: &[u8]) -> Result<CertificateList<Raw>, Error> {
+        read(alloc, octets)
+    }
+
+    fn describe_file(&self, lines: &mut Lines, octets: &[u8]) {
+        add_signed(lines, &self.tbs_cert_list);
+        add_signature(lines, &self.signature_algorithm, &self.signature);
+        add_digests(lines, ["list-sha1", "list-sha256"], octets);
+    }
 }
 
 /// Adds what a list says, and digests of its octets; answers why the octets are none, if they
 /// aren't.
 pub fn add_list(lines: &mut Lines, octets: &[u8]) -> Option<ErrorKind> {
-    let list = match list_of(lines.alloc, octets) {
-        Ok(list) => list,
-        Err(error) => return Some(error.kind),
-    };
-    add_signed(lines, &list.tbs_cert_list);
-    add_signature(lines, &list.signature_algorithm, &list.signature);
-    add_digests(lines, ["list-sha1", "list-sha256"], octets);
-    None
+    add_file::<CertificateList<Raw>>(lines, octets)
 }

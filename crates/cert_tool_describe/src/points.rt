@@ -4,7 +4,7 @@
 use crate::describe::Describe;
 use crate::general_names::{add_general_name, add_general_names};
 use crate::lines::Lines;
-use crate::uses::add_count;
+use crate::uses::add_flags;
 use x509_cert_extensions::{AuthorityInfoAccessSyntax, CrlDistributionPoints};
 use x509_cert_general_names::{
     AuthorityKeyIdentifier, DistributionPoint, DistributionPointName, GeneralSubtree,
@@ -24,35 +24,22 @@ fn add_point_name(lines: &mut Lines, name: &DistributionPointName) {
     }
 }
 
+// Why certificates are revoked (RFC 5280 4.2.1.13).
+const REASONS: [(Reasons, &str); 9] = [
+    (Reasons::Unused, "unused"),
+    (Reasons::KeyCompromise, "keyCompromise"),
+    (Reasons::CaCompromise, "cACompromise"),
+    (Reasons::AffiliationChanged, "affiliationChanged"),
+    (Reasons::Superseded, "superseded"),
+    (Reasons::CessationOfOperation, "cessationOfOperation"),
+    (Reasons::CertificateHold, "certificateHold"),
+    (Reasons::PrivilegeWithdrawn, "privilegeWithdrawn"),
+    (Reasons::AaCompromise, "aACompromise"),
+];
+
 // Adds a line for each reason.
 fn add_reasons(lines: &mut Lines, key: &str, reasons: &ReasonFlags) {
-    lines.flags(
-        "for",
-        key,
-        &[
-            (reasons.contains(Reasons::Unused), "unused"),
-            (reasons.contains(Reasons::KeyCompromise), "keyCompromise"),
-            (reasons.contains(Reasons::CaCompromise), "cACompromise"),
-            (
-                reasons.contains(Reasons::AffiliationChanged),
-                "affiliationChanged",
-            ),
-            (reasons.contains(Reasons::Superseded), "superseded"),
-            (
-                reasons.contains(Reasons::CessationOfOperation),
-                "cessationOfOperation",
-            ),
-            (
-                reasons.contains(Reasons::CertificateHold),
-                "certificateHold",
-            ),
-            (
-                reasons.contains(Reasons::PrivilegeWithdrawn),
-                "privilegeWithdrawn",
-            ),
-            (reasons.contains(Reasons::AaCompromise), "aACompromise"),
-        ],
-    );
+    add_flags(lines, "for", key, reasons, &REASONS);
 }
 
 // Adds the lines of a point.
@@ -143,15 +130,13 @@ impl Describe for AuthorityInfoAccessSyntax {
 impl Describe for AuthorityKeyIdentifier {
     fn describe(&self, lines: &mut Lines) {
         if let Some(identifier) = &self.key_identifier {
-            lines.row("key", "keyIdentifier");
-            lines.octets(identifier.as_bytes());
+            lines.octets_row("key", "keyIdentifier", identifier.as_bytes());
         }
         if let Some(issuer) = &self.authority_cert_issuer {
             add_general_names(lines, "issuer", "authorityCertIssuer", issuer.as_slice());
         }
         if let Some(serial) = &self.authority_cert_serial_number {
-            lines.row("serial", "authorityCertSerialNumber");
-            lines.number(serial.as_bytes());
+            lines.number_row("serial", "authorityCertSerialNumber", serial.as_bytes());
         }
     }
 }
@@ -162,10 +147,10 @@ fn add_subtree(lines: &mut Lines, word: &str, tree: &GeneralSubtree) {
     lines.brace();
     add_general_name(lines, &tree.base);
     if tree.minimum > 0 {
-        add_count(lines, "  minimum", "minimum", u64::from(tree.minimum));
+        lines.count_row("  minimum", "minimum", u64::from(tree.minimum));
     }
     if let Some(level) = tree.maximum {
-        add_count(lines, "  maximum", "maximum", u64::from(level));
+        lines.count_row("  maximum", "maximum", u64::from(level));
     }
     lines.end_brace();
 }

@@ -2,7 +2,6 @@
 
 use crate::describe::Describe;
 use crate::lines::Lines;
-use crate::uses::add_count;
 use crate::values::{add_value, list_in, values_in};
 use const_oid::ObjectIdentifier;
 use der_core::{ErrorKind, Tag};
@@ -160,16 +159,10 @@ impl Describe for PolicyConstraints {
     fn describe(&self, lines: &mut Lines) {
         if let Some(skipped) = self.require_explicit_policy {
             let skipped = u64::from(skipped);
-            add_count(
-                lines,
-                "explicit policy after",
-                "requireExplicitPolicy",
-                skipped,
-            );
+            lines.count_row("explicit policy after", "requireExplicitPolicy", skipped);
         }
         if let Some(skipped) = self.inhibit_policy_mapping {
-            add_count(
-                lines,
+            lines.count_row(
                 "no mapping after",
                 "inhibitPolicyMapping",
                 u64::from(skipped),
@@ -180,6 +173,6 @@ impl Describe for PolicyConstraints {
 
 impl Describe for InhibitAnyPolicy {
     fn describe(&self, lines: &mut Lines) {
-        add_count(lines, "not anyPolicy after", "skipCerts", u64::from(self.0));
+        lines.count_row("not anyPolicy after", "skipCerts", u64::from(self.0));
     }
 }

@@ -2,13 +2,15 @@
 
 use crate::algorithms::add_signature;
 use crate::contents::add_extensions;
+use crate::describe::{DescribeFile, add_file};
 use crate::description::add_kind;
 use crate::keys::{add_digests, add_key, add_key_digests};
 use crate::lines::Lines;
 use crate::values::{add_name, add_value, list_in};
 use const_oid::AssociatedOid;
-use der_core::ErrorKind;
+use der_core::{Error, ErrorKind};
 use der_types_any::Any;
+use std::alloc::Global;
 use x509_cert_lists::{CertReq, CertReqInfo, ExtensionReq};
 use x509_cert_names::Attribute;
 use x509_cert_parts::{Extension, Extensions, Version};
@@ -69,16 +71,21 @@ fn add_info(lines: &mut Lines, info: &CertReqInfo) {
     lines.end_list();
 }
 
+impl DescribeFile for CertReq {
+    fn read_file(alloc: Global, octets: &[u8]) -> Result<CertReq, Error> {
+        CertReq::try_from_bytes(alloc, octets)
+    }
+
+    fn describe_file(&self, lines: &mut Lines, octets: &[u8]) {
+        add_info(lines, &self.info);
+        add_signature(lines, &self.algorithm, &self.signature);
+        add_digests(lines, ["request-sha1", "request-sha256"], octets);
+        add_key_digests(lines, &self.info.public_key);
+    }
+}
+
 /// Adds what a request says, and digests of its octets and of its key; answers why the octets are
 /// none, if they aren't.
 pub fn add_request(lines: &mut Lines, octets: &[u8]) -> Option<ErrorKind> {
-    let request = match CertReq::try_from_bytes(lines.alloc, octets) {
-        Ok(request) => request,
-        Err(error) => return Some(error.kind),
-    };
-    add_info(lines, &request.info);
-    add_signature(lines, &request.algorithm, &request.signature);
-    add_digests(lines, ["request-sha1", "request-sha256"], octets);
-    add_key_digests(lines, &request.info.public_key);
-    None
+    add_file::<CertReq>(lines, octets)
 }

@@ -2,7 +2,10 @@
 
 use crate::describe::Describe;
 use crate::lines::Lines;
-use der_core::ErrorKind;
+use der_core::making::leaf_from_der;
+use der_core::{Error as DerError, ErrorKind, Tag};
+use der_types_values::OctetString;
+use std::alloc::Global;
 use x509_cert_timestamps::{
     DigitallySigned, Error, HashAlgorithm, SerializedSct, SignatureAlgorithm,
     SignedCertificateTimestamp, SignedCertificateTimestampList, TlsError,
@@ -36,10 +39,15 @@ fn signature_name(signature: &SignatureAlgorithm) -> &'static str {
 
 // Adds the line of a signature.
 fn add_signature(lines: &mut Lines, signed: &DigitallySigned) {
-    lines.row("signature", "hashAlgorithm");
-    lines.text(hash_name(&signed.algorithm.hash));
-    lines.key("signatureAlgorithm");
-    lines.text(signature_name(&signed.algorithm.signature));
+    lines.text_row(
+        "signature",
+        "hashAlgorithm",
+        hash_name(&signed.algorithm.hash),
+    );
+    lines.text_member(
+        "signatureAlgorithm",
+        signature_name(&signed.algorithm.signature),
+    );
     lines.key("signature");
     lines.octets(signed.signature.as_slice());
 }
@@ -54,8 +62,7 @@ fn add_date(lines: &mut Lines, timestamp: &SignedCertificateTimestamp) {
         lines.word("+");
         left = timestamp.timestamp % 1000;
     }
-    lines.key("milliseconds");
-    lines.count(left);
+    lines.count_member("milliseconds", left);
     lines.word("ms");
 }
 
@@ -66,8 +73,7 @@ fn add_timestamp(lines: &mut Lines, timestamp: &SignedCertificateTimestamp) {
     lines.octets(timestamp.log_id.key_id.as_slice());
     add_date(lines, timestamp);
     if !timestamp.extensions.is_empty() {
-        lines.row("extensions", "extensions");
-        lines.octets(timestamp.extensions.as_slice());
+        lines.octets_row("extensions", "extensions", timestamp.extensions.as_slice());
     }
     add_signature(lines, &timestamp.signature);
     lines.close();
@@ -106,5 +112,38 @@ impl Describe for SignedCertificateTimestampList {
             }
             Err(error) => add_fault(lines, error),
         }
+    }
+}
+
+// Why octets in an OCTET STRING aren't timestamps.
+fn timestamps_error(error: Error) -> DerError {
+    match error {
+        Error::Der(error) => error,
+        Error::Tls(TlsError::OutOfMemory) => { DerError::from(ErrorKind::OutOfMemory) }
+        Error::Tls(_) => DerError::from(ErrorKind::Value {
+            tag: Tag::OctetString,
+        }),
+    }
+}
+
+// Why one of these isn't a timestamp, if one isn't.
+fn timestamp_fault(alloc: Global, listed: &[SerializedSct]) -> Option<DerError> {
+    for written in listed {
+        if let Err(error) = written.parse_timestamp(alloc) {
+            return Some(timestamps_error(error));
+        }
+    }
+    None
+}
+
+// Why octets aren't a list of timestamps, if they aren't.
+pub fn timestamps_fault(alloc: Global, octets: &[u8]) -> Option<DerError> {
+    let list = match leaf_from_der::<OctetString>(alloc, octets) {
+        Ok(list) => SignedCertificateTimestampList::from(list),
+        Err(error) => return Some(error),
+    };
+    match list.parse_timestamps(alloc) {
+        Ok(listed) => timestamp_fault(alloc, listed.as_slice()),
+        Err(error) => Some(timestamps_error(error)),
     }
 }

@@ -4,33 +4,51 @@
 use crate::describe::Describe;
 use crate::lines::Lines;
 use der_types_time::GeneralizedTime;
-use x509_cert_extensions::{ExtendedKeyUsage, KeyUsage, SubjectKeyIdentifier};
+use der_types_values::{FlagSet, NamedBits};
+use x509_cert_extensions::{ExtendedKeyUsage, KeyUsage, KeyUsages, SubjectKeyIdentifier};
 use x509_cert_policies::{BasicConstraints, PrivateKeyUsagePeriod};
 
 impl Describe for SubjectKeyIdentifier {
     fn describe(&self, lines: &mut Lines) {
-        lines.row("key", "keyIdentifier");
-        lines.octets(self.0.as_bytes());
+        lines.octets_row("key", "keyIdentifier", self.0.as_bytes());
     }
 }
 
+// Adds an array of the names of those of these flags that stand in a set, a line each, which a word
+// begins.
+pub fn add_flags<F: NamedBits>(
+    lines: &mut Lines,
+    word: &str,
+    key: &str,
+    set: &FlagSet<F>,
+    names: &[(F, &str)],
+) {
+    lines.list(key);
+    for (flag, name) in names {
+        if set.contains(*flag) {
+            lines.item(word);
+            lines.text(name);
+        }
+    }
+    lines.end_list();
+}
+
+// What a key may be used for (RFC 5280 4.2.1.3).
+const USES: [(KeyUsages, &str); 9] = [
+    (KeyUsages::DigitalSignature, "digitalSignature"),
+    (KeyUsages::NonRepudiation, "contentCommitment"),
+    (KeyUsages::KeyEncipherment, "keyEncipherment"),
+    (KeyUsages::DataEncipherment, "dataEncipherment"),
+    (KeyUsages::KeyAgreement, "keyAgreement"),
+    (KeyUsages::KeyCertSign, "keyCertSign"),
+    (KeyUsages::CRLSign, "cRLSign"),
+    (KeyUsages::EncipherOnly, "encipherOnly"),
+    (KeyUsages::DecipherOnly, "decipherOnly"),
+];
+
 impl Describe for KeyUsage {
     fn describe(&self, lines: &mut Lines) {
-        lines.flags(
-            "",
-            "uses",
-            &[
-                (self.digital_signature(), "digitalSignature"),
-                (self.non_repudiation(), "contentCommitment"),
-                (self.key_encipherment(), "keyEncipherment"),
-                (self.data_encipherment(), "dataEncipherment"),
-                (self.key_agreement(), "keyAgreement"),
-                (self.key_cert_sign(), "keyCertSign"),
-                (self.crl_sign(), "cRLSign"),
-                (self.encipher_only(), "encipherOnly"),
-                (self.decipher_only(), "decipherOnly"),
-            ],
-        );
+        add_flags(lines, "", "uses", &self.0, &USES);
     }
 }
 
@@ -46,18 +64,12 @@ impl Describe for ExtendedKeyUsage {
     }
 }
 
-// Adds a line for a number.
-pub fn add_count(lines: &mut Lines, word: &str, key: &str, count: u64) {
-    lines.row(word, key);
-    lines.count(count);
-}
-
 impl Describe for BasicConstraints {
     fn describe(&self, lines: &mut Lines) {
         lines.row("authority", "cA");
         lines.truth(self.ca);
         if let Some(len) = self.path_len_constraint {
-            add_count(lines, "path length", "pathLenConstraint", u64::from(len));
+            lines.count_row("path length", "pathLenConstraint", u64::from(len));
         }
     }
 }
@@ -86,17 +98,23 @@ impl Describe for PrivateKeyUsagePeriod {
     }
 }
 
-// The extensions of TLS that a server must answer (RFC 6066 1.1, RFC 6961 2.2).
+// The name of an extension of TLS that a server must answer (RFC 6066 1.1, RFC 6961 2.2).
+fn feature_name(feature: u16) -> &'static str {
+    match feature {
+        5 => "status_request (5)",
+        17 => "status_request_v2 (17)",
+        _ => "",
+    }
+}
+
+// The numbers of such extensions.
 impl Describe for Vec<u16> {
     fn describe(&self, lines: &mut Lines) {
         lines.list("features");
         for feature in self {
-            lines.item(match *feature {
-                5 => "status_request (5)",
-                17 => "status_request_v2 (17)",
-                _ => "",
-            });
-            if lines.is_json || (*feature != 5 && *feature != 17) {
+            let name = feature_name(*feature);
+            lines.item(name);
+            if lines.is_json || name.is_empty() {
                 lines.count(u64::from(*feature));
             }
         }

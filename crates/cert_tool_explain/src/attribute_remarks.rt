@@ -34,14 +34,20 @@ fn length_of(tag: Tag, octets: &[u8]) -> usize {
     }
 }
 
+// The identifier of emailAddress, 1.2.840.113549.1.9.1.
+const EMAIL_ADDRESS: &[u8] = &[0x2a, 0x86, 0x48, 0x86, 0xf7, 0x0d, 1, 9, 1];
+
 // The fewest and the most characters of the text of an attribute (RFC 5280 A.1).
 fn lengths_of(kind: &ObjectIdentifier<39>) -> Option<(usize, usize)> {
     match kind.as_bytes() {
-        [0x55, 4, 6] => Some((2, 2)),
-        [0x55, 4, 3 | 5 | 10..=12] => Some((1, 64)),
-        [0x55, 4, 7 | 8 | 65] => Some((1, 128)),
-        [0x55, 4, 4 | 41..=44] => Some((1, 32768)),
-        [0x2a, 0x86, 0x48, 0x86, 0xf7, 0x0d, 1, 9, 1] => Some((1, 255)),
+        [0x55, 4, number] => match *number {
+            6 => Some((2, 2)),
+            3 | 5 | 10..=12 => Some((1, 64)),
+            7 | 8 | 65 => Some((1, 128)),
+            4 | 41..=44 => Some((1, 32768)),
+            _ => None,
+        },
+        octets if octets == EMAIL_ADDRESS => Some((1, 255)),
         _ => None,
     }
 }

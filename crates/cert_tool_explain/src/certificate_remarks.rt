@@ -1,19 +1,18 @@
 //! What certificates must be beyond DER (RFC 5280 4.1, 4.2): each that isn't so, as a remark.
 
 use crate::attribute_remarks::add_attribute_remarks;
-use crate::content_faults::{add_content_fault, content_fault};
+use crate::content_faults::add_content_fault;
 use crate::extension_remarks::{
-    OF_CERTIFICATES, add_content_remarks, add_mark_remarks, number_of, value_in,
+    OF_CERTIFICATES, add_content_remarks, add_mark_remarks, issuer_key_in, value_in,
 };
 use crate::remark_lines::{
     add_each, add_serial_remarks, begin_remark, end_remark, has_twins, is_long_for_its_year,
 };
-use cert_tool_describe::Lines;
+use cert_tool_describe::{Lines, content_fault, number_of};
 use der_core::making::leaf_from_der;
 use der_types_values::FlagSet;
 use x509_cert_certificates::{CertificateInner, TbsCertificateInner};
 use x509_cert_extensions::KeyUsages;
-use x509_cert_general_names::AuthorityKeyIdentifier;
 use x509_cert_parts::{Extension, Raw, Version};
 use x509_cert_policies::BasicConstraints;
 
@@ -69,8 +68,8 @@ impl Facts {
             30 => self.constrains_names = true,
             35 => {
                 // of one that isn't read nothing is said
-                self.has_issuer_key = match value_in::<AuthorityKeyIdentifier>(lines, octets) {
-                    Some(key) => key.key_identifier.is_some(),
+                self.has_issuer_key = match issuer_key_in(lines, octets) {
+                    Some(key) => key.has_identifier,
                     None => true,
                 };
             }

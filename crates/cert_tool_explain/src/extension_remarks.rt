@@ -3,7 +3,7 @@
 
 use crate::name_remarks::add_name_remarks;
 use crate::remark_lines::{Seen, add_each, begin_remark, end_remark};
-use cert_tool_describe::Lines;
+use cert_tool_describe::{Lines, number_of};
 use const_oid::ObjectIdentifier;
 use der_core::describing::{DecodeWay, Described};
 use der_core::making::read_whole;
@@ -14,16 +14,6 @@ use x509_cert_general_names::{
 };
 use x509_cert_parts::Extension;
 use x509_cert_policies::{PolicyConstraints, PolicyInformation, PolicyMapping};
-
-// The number of a kind of extension: its last arc, below 2.5.29, or that and 256, below
-// 1.3.6.1.5.5.7.1; zero of any other.
-pub fn number_of(extension: &Extension) -> u16 {
-    match extension.extn_id.as_bytes() {
-        [0x55, 0x1d, number] => u16::from(*number),
-        [0x2b, 6, 1, 5, 5, 7, 1, number] => u16::from(*number) | 256,
-        _ => 0,
-    }
-}
 
 /// The number of a kind, whether it is to be critical, its name, and the section.
 pub type Mark = (u16, bool, &'static str, &'static str);
@@ -146,6 +136,26 @@ where
     T::By: DecodeWay<'a, SliceReader<'a>, T>,
 {
     any_list_in(lines, octets)
+}
+
+// How the key of the issuer is named.
+#[derive(Clone, Copy)]
+pub struct IssuerKey {
+    pub has_identifier: bool,
+    // Whether one of issuer and serial number stands without the other.
+    pub is_half: bool,
+}
+
+// How a content names the key of the issuer, if it is read.
+pub fn issuer_key_in(lines: &mut Lines, octets: &[u8]) -> Option<IssuerKey> {
+    match value_in::<AuthorityKeyIdentifier>(lines, octets) {
+        Some(key) => Some(IssuerKey {
+            has_identifier: key.key_identifier.is_some(),
+            is_half: key.authority_cert_issuer.is_some()
+                != key.authority_cert_serial_number.is_some(),
+        }),
+        None => None,
+    }
 }
 
 // Of other names.
@@ -281,11 +291,9 @@ fn add_mapping_remarks(lines: &mut Lines, octets: &[u8]) {
 
 // Of the key of the issuer.
 fn add_issuer_key_remarks(lines: &mut Lines, octets: &[u8]) {
-    if let Some(key) = value_in::<AuthorityKeyIdentifier>(lines, octets) {
-        let has_issuer = key.authority_cert_issuer.is_some();
-        let is_half = has_issuer != key.authority_cert_serial_number.is_some();
+    if let Some(key) = issuer_key_in(lines, octets) {
         let text = "authorityKeyIdentifier has one of issuer and serial number";
-        add_each(lines, &[(is_half, text, "RFC 5280 A.2")]);
+        add_each(lines, &[(key.is_half, text, "RFC 5280 A.2")]);
     }
 }
 

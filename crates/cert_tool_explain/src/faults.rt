@@ -76,8 +76,7 @@ fn add_part(lines: &mut Lines, part: &Part) {
     let (_, _, name, _) = *part;
     lines.comma();
     lines.brace();
-    lines.key("part");
-    lines.text(called(name));
+    lines.text_member("part", called(name));
     if !is_any(part) {
         lines.tail(" (");
         lines.key("type");
@@ -240,8 +239,11 @@ pub fn add_fault(lines: &mut Lines, octets: &[u8], offset: u64, kind: Node, erro
         Err(_) => lines.fail(),
     }
     if let (Node::Certificate, true) = (kind, is_first_of_several(octets, error)) {
-        lines.row("", "hint");
-        lines.text("(of several certificates `cert_tool split` gives each)");
+        lines.text_row(
+            "",
+            "hint",
+            "(of several certificates `cert_tool split` gives each)",
+        );
     }
     lines.close();
 }

@@ -1,6 +1,7 @@
 //! Why octets aren't read, and what RFC 5280 asks of what is read.
 #![tactic(auto)]
 
+mod anchors;
 mod attribute_remarks;
 mod certificate_remarks;
 mod content_faults;
@@ -17,11 +18,10 @@ mod refusal;
 mod remark_lines;
 mod way_down;
 
+pub use anchors::{add_anchor_fault, add_unjudged, begin_anchor};
 pub use certificate_remarks::add_certificate_remarks;
-pub use content_faults::{add_content_fault, content_fault};
+pub use content_faults::add_content_fault;
 pub use describing::describe;
-pub use faults::add_fault;
 pub use kind::Kind;
-pub use parts::Node;
 pub use refusal::{add_certificate_fault, explain_octets, is_pem};
 pub use remark_lines::{begin_remark, end_remark};

@@ -2,17 +2,14 @@
 
 use crate::attribute_remarks::add_attribute_remarks;
 use crate::certificate_remarks::add_malformed_remarks;
-use crate::content_faults::{add_content_fault, content_fault};
-use crate::extension_remarks::{
-    OF_LISTS, add_content_remarks, add_mark_remarks, number_of, value_in,
-};
+use crate::content_faults::add_content_fault;
+use crate::extension_remarks::{OF_LISTS, add_content_remarks, add_mark_remarks, issuer_key_in};
 use crate::remark_lines::{
     add_each, begin_remark, end_remark, has_twins, is_long_for_its_year, is_wrong_serial,
 };
-use cert_tool_describe::Lines;
+use cert_tool_describe::{Lines, content_fault, number_of};
 use der_core::making::leaf_from_der;
 use der_types_numbers::Uint;
-use x509_cert_general_names::AuthorityKeyIdentifier;
 use x509_cert_lists::{CertificateList, RevokedCert, TbsCertList};
 use x509_cert_parts::{Extension, Extensions, Raw, Version};
 
@@ -52,8 +49,8 @@ impl Facts {
             }
             27 => self.is_delta = true,
             35 => {
-                if let Some(key) = value_in::<AuthorityKeyIdentifier>(lines, octets) {
-                    self.has_issuer_key = key.key_identifier.is_some();
+                if let Some(key) = issuer_key_in(lines, octets) {
+                    self.has_issuer_key = key.has_identifier;
                 }
             }
             46 => self.has_freshest = true,

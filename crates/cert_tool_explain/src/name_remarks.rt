@@ -107,8 +107,7 @@ fn add_name_remark(lines: &mut Lines, name: &GeneralName) {
     match name {
         GeneralName::IpAddress(octets) => {
             lines.word("IP address of");
-            lines.key("len");
-            lines.count(octets.as_bytes().len() as u64);
+            lines.count_member("len", octets.as_bytes().len() as u64);
             lines.word("octets");
         }
         _ => add_general_name(lines, name),

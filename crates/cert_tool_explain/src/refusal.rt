@@ -5,11 +5,11 @@ use crate::faults::add_fault;
 use crate::kind::Kind;
 use crate::list_remarks::add_list_remarks;
 use crate::parts::Node;
-use cert_tool_describe::{Lines, list_of};
+use cert_tool_describe::{DescribeFile, Lines};
 use der_core::Error;
 use std::alloc::{AllocError, Global};
 use x509_cert_certificates::CertificateInner;
-use x509_cert_lists::CertReq;
+use x509_cert_lists::{CertReq, CertificateList};
 use x509_cert_parts::Raw;
 
 // How many octets are looked at for the first line of PEM.
@@ -57,48 +57,26 @@ pub fn add_certificate_fault(lines: &mut Lines, octets: &[u8], offset: u64, erro
     add_fault(lines, octets, offset, Node::Certificate, error);
 }
 
-// Why octets aren't of a kind, if they aren't.
-fn fault_of(alloc: Global, octets: &[u8], kind: Kind) -> Option<Error> {
-    match kind {
-        Kind::Certificate => CertificateInner::<Raw>::from_der(alloc, octets).err(),
-        Kind::List => list_of(alloc, octets).err(),
-        Kind::Request => CertReq::try_from_bytes(alloc, octets).err(),
+// What fills a file, and may be otherwise than RFC 5280 asks.
+trait Remarked {
+    // Adds what it must not be, though it is read.
+    fn add_remarks(&self, lines: &mut Lines);
+}
+
+impl Remarked for CertificateInner<Raw> {
+    fn add_remarks(&self, lines: &mut Lines) {
+        add_lone_remarks(lines, self);
     }
 }
 
-// What octets of a kind are.
-fn root_of(kind: Kind) -> Node {
-    match kind {
-        Kind::Certificate => Node::Certificate,
-        Kind::List => Node::List,
-        Kind::Request => Node::Request,
+impl Remarked for CertificateList<Raw> {
+    fn add_remarks(&self, lines: &mut Lines) {
+        add_list_remarks(lines, self);
     }
 }
 
-// Adds what a certificate must not be, though it is read.
-fn add_remarks_of_certificate(lines: &mut Lines, octets: &[u8]) {
-    match CertificateInner::<Raw>::from_der(lines.alloc, octets) {
-        Ok(certificate) => add_lone_remarks(lines, &certificate),
-        Err(error) => lines.note(error.kind),
-    }
-}
-
-// Adds what a list must not be, though it is read.
-fn add_remarks_of_list(lines: &mut Lines, octets: &[u8]) {
-    match list_of(lines.alloc, octets) {
-        Ok(list) => add_list_remarks(lines, &list),
-        Err(error) => lines.note(error.kind),
-    }
-}
-
-// Adds what is to be said of octets that are of a kind.
-fn add_read(lines: &mut Lines, octets: &[u8], kind: Kind) {
-    lines.finding("the octets are what they should be");
-    match kind {
-        Kind::Certificate => add_remarks_of_certificate(lines, octets),
-        Kind::List => add_remarks_of_list(lines, octets),
-        Kind::Request => {}
-    }
+impl Remarked for CertReq {
+    fn add_remarks(&self, _lines: &mut Lines) {}
 }
 
 // How OpenSSL makes DER of PEM.
@@ -112,11 +90,30 @@ fn pem_hint(kind: Kind) -> &'static str {
     }
 }
 
+// Adds what is to be said of octets of a type. Any value is held here, since a check takes long of
+// what holds a certificate.
+fn add_findings_of<T: DescribeFile + Remarked + Drop>(
+    lines: &mut Lines,
+    octets: &[u8],
+    node: Node,
+) {
+    match T::read_file(lines.alloc, octets) {
+        Ok(value) => {
+            lines.finding("the octets are what they should be");
+            value.add_remarks(lines);
+        }
+        Err(error) => add_fault(lines, octets, 0, node, &error),
+    }
+}
+
 // Adds what is to be said of octets of a kind.
 fn add_findings(lines: &mut Lines, octets: &[u8], kind: Kind) {
-    match fault_of(lines.alloc, octets, kind) {
-        Some(error) => add_fault(lines, octets, 0, root_of(kind), &error),
-        None => add_read(lines, octets, kind),
+    match kind {
+        Kind::Certificate => {
+            add_findings_of::<CertificateInner<Raw>>(lines, octets, Node::Certificate)
+        }
+        Kind::List => add_findings_of::<CertificateList<Raw>>(lines, octets, Node::List),
+        Kind::Request => add_findings_of::<CertReq>(lines, octets, Node::Request),
     }
 }
 

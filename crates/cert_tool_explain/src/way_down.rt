@@ -209,6 +209,53 @@ pub struct Way {
 }
 
 impl Way {
+    // Goes down from a value that begins these octets, one of some parts, to a fault. A choice
+    // whose tag is none of those that may stand was found at the value around it.
+    fn follow(
+        &mut self,
+        octets: &[u8],
+        root: &'static [Part],
+        error: &Error,
+    ) -> Result<(), AllocError> {
+        let place = self.place;
+        let mut sought = Sought {
+            place,
+            is_end: error.kind == ErrorKind::Incomplete,
+        };
+        let mut fields = Fields::new(root, false);
+        let mut start = 0;
+        let mut inner = octets;
+        for _ in 0..64 {
+            match find(inner, start, fields, sought) {
+                Found::In(step) => {
+                    self.steps.push(step)?;
+                    if error.kind == ErrorKind::TagUnexpected && step.value.start == place {
+                        sought.place = usize::MAX;
+                    }
+                    let is_cut = sought.is_end && step.value.is_cut_at(place);
+                    if is_cut || step.value.content > sought.place {
+                        return Ok(());
+                    }
+                    let Some((parts, octets)) = step.inside(inner) else {
+                        return Ok(());
+                    };
+                    fields = parts;
+                    start = step.value.content;
+                    inner = octets;
+                }
+                Found::Between(at, behind) => {
+                    let is_misfit = at < inner.len() && sought.place == usize::MAX;
+                    if is_of_parts(error.kind) && (at == place || is_misfit) {
+                        self.place = at;
+                        self.wanted = behind.next();
+                    }
+                    return Ok(());
+                }
+            }
+        }
+        Ok(())
+    }
+
     // The name of the innermost of these values that has one.
     pub fn name(&self) -> &'static str {
         let mut innermost = "";
@@ -231,8 +278,7 @@ fn is_of_parts(kind: ErrorKind) -> bool {
     }
 }
 
-// The way from a value that begins these octets, one of some parts, down to a fault. A choice whose
-// tag is none of those that may stand was found at the value around it.
+// The way from a value that begins these octets, one of some parts, down to a fault.
 pub fn way_to(
     alloc: Global,
     octets: &[u8],
@@ -248,40 +294,6 @@ pub fn way_to(
         place,
         wanted: &[],
     };
-    let mut sought = Sought {
-        place,
-        is_end: error.kind == ErrorKind::Incomplete,
-    };
-    let mut fields = Fields::new(root, false);
-    let mut start = 0;
-    let mut inner = octets;
-    for _ in 0..64 {
-        match find(inner, start, fields, sought) {
-            Found::In(step) => {
-                way.steps.push(step)?;
-                if error.kind == ErrorKind::TagUnexpected && step.value.start == place {
-                    sought.place = usize::MAX;
-                }
-                let is_cut = sought.is_end && step.value.is_cut_at(place);
-                if is_cut || step.value.content > sought.place {
-                    return Ok(way);
-                }
-                let Some((parts, octets)) = step.inside(inner) else {
-                    return Ok(way);
-                };
-                fields = parts;
-                start = step.value.content;
-                inner = octets;
-            }
-            Found::Between(at, behind) => {
-                let is_misfit = at < inner.len() && sought.place == usize::MAX;
-                if is_of_parts(error.kind) && (at == place || is_misfit) {
-                    way.place = at;
-                    way.wanted = behind.next();
-                }
-                return Ok(way);
-            }
-        }
-    }
+    way.follow(octets, root, error)?;
     Ok(way)
 }

@@ -1,15 +1,11 @@
 //! Why octets give no anchors.
 
 use crate::stream_refusal::PEM_STREAM;
-use crate::unjudged::{add_unjudged, begin_anchor};
 use cert_desk_checking::{AnchorFault, Outcome, read_anchors};
 use cert_desk_io::FromRead;
 use cert_tool_describe::Lines;
-use cert_tool_explain::{Node, add_fault, is_pem};
-use der_core::FromDer;
+use cert_tool_explain::{add_anchor_fault, add_unjudged, begin_anchor, is_pem};
 use std::alloc::{AllocError, Global};
-use x509_cert_anchors::TrustAnchorChoice;
-use x509_cert_parts::Raw;
 
 // What a fault of an anchor means.
 fn meaning(fault: AnchorFault) -> &'static str {
@@ -20,25 +16,16 @@ fn meaning(fault: AnchorFault) -> &'static str {
     }
 }
 
-// Adds why no trust anchor begins these octets, which begin at an offset.
-fn add_malformed(lines: &mut Lines, rest: &[u8], offset: u64) {
-    let fault = TrustAnchorChoice::<Raw>::from_der_partial(lines.alloc, rest).err();
-    if let Some(error) = fault {
-        add_fault(lines, rest, offset, Node::Anchor, &error);
-    }
-}
-
 // Adds the fault of the anchor that begins at an offset.
-fn add_anchor_fault(lines: &mut Lines, octets: &[u8], offset: u64, fault: AnchorFault) {
+fn add_fault(lines: &mut Lines, octets: &[u8], offset: u64, fault: AnchorFault) {
     begin_anchor(lines, offset);
     lines.tail(": ");
-    lines.key("fault");
-    lines.text(meaning(fault));
+    lines.text_member("fault", meaning(fault));
     lines.close();
     let start = offset as usize;
     match fault {
         AnchorFault::Malformed if start <= octets.len() => {
-            add_malformed(lines, &octets[start..], offset);
+            add_anchor_fault(lines, &octets[start..], offset);
         }
         _ => {}
     }
@@ -61,14 +48,13 @@ fn add_anchors(lines: &mut Lines, octets: &[u8]) {
     match count_anchors(lines.alloc, octets) {
         Ok(count) => {
             lines.entry("anchors:");
-            lines.key("anchors");
-            lines.count(count as u64);
+            lines.count_member("anchors", count as u64);
             lines.tail(", each with a name and a key");
             lines.close();
             add_unjudged(lines, octets, None);
         }
         Err(Outcome::BadAnchors { offset, fault }) => {
-            add_anchor_fault(lines, octets, offset, fault);
+            add_fault(lines, octets, offset, fault);
         }
         Err(_) => lines.fail(),
     }

@@ -1,19 +1,20 @@
 //! Files of answers.
 ghost use Rattle.std.specs.Prelude.{◌≡◌, map, IfOk, IfErr, OnOk, Some, Ok};
 ghost use Rattle.std.specs.List.{list_all};
-ghost use Rattle.der_core_head.specs.Grammar.{plain_option, read_whole};
+ghost use Rattle.der_core_head.specs.Grammar.{read_whole};
 ghost use Rattle.x509_cert_parts.specs.Views.{algorithm_plain, key_plain};
 ghost use Rattle.cert_desk_rules.specs.Answers.{answer_plain};
 ghost use Rattle.cert_tool_runs.specs.AnswerLines.{algorithm_in, bits_in, file_says, is_anchor};
 ghost use Rattle.cert_tool_runs.specs.AnswerLines.{is_digit, is_number, is_skipped, key_in};
 ghost use Rattle.cert_tool_runs.specs.AnswerLines.{line_says, octets_in, parts, question_in};
-ghost use Rattle.cert_tool_runs.specs.AnswerLines.{six_say, value_or, words_say};
+ghost use Rattle.cert_tool_runs.specs.AnswerLines.{said, six_say, value_or, words_say};
 ghost use Rattle.cert_tool_runs.specs.AnswerReading.{FailsBy, IsNoFile, IsNoLine, added_by};
 
 use crate::line_fault::LineFault;
 use crate::no_answers::NoAnswers;
 use cert_desk_rules::Answer;
-use der_core::{Decode, ErrorKind, FromDer, SliceReader};
+use der_core::making::read_whole;
+use der_core::{Decode, ErrorKind, SliceReader};
 use der_types_values::BitString;
 use hex::FromHexError;
 use std::alloc::{AllocError, Global};
@@ -48,7 +49,7 @@ fn value_of<'a, T: Decode<'a, SliceReader<'a>>>(
         ≡ Ok (T.plain value)) }
     ensures refused { IfErr result (FailsBy (value_or fault (read_whole T.shape octets.now))) }
 {
-    match T::from_der(alloc, octets) {
+    match read_whole::<T>(alloc, octets) {
         Ok(value) => Ok(value),
         Err(error) => match error.kind {
             ErrorKind::OutOfMemory => Err(LineError::OutOfMemory),
@@ -163,8 +164,8 @@ fn is_skipped(line: &[u8]) -> bool
     }
 }
 
-// The answer that six words say.
-fn said_by_six(
+// Adds the answer that six words say to those of the lines before.
+fn add_by_six(
     alloc: Global,
     place: &[u8],
     anchor: &[u8],
@@ -172,9 +173,11 @@ fn said_by_six(
     algorithm: &[u8],
     signed: &[u8],
     bits: &[u8],
-) -> Result<Answer, LineError>
-    ensures read { IfOk result (λ answer. six_say place.now anchor.now key.now algorithm.now
-        signed.now bits.now ≡ Ok (answer_plain answer)) }
+    answers: &mut Vec<Answer>,
+) -> Result<(), LineError>
+    ensures read { OnOk result (added_by (said (six_say place.now anchor.now key.now algorithm.now
+        signed.now bits.now)) (map answer_plain answers.old.items)
+        ≡ Some (map answer_plain answers.new.items)) }
     ensures refused { IfErr result (FailsBy (six_say place.now anchor.now key.now algorithm.now
         signed.now bits.now)) }
 {
@@ -185,37 +188,40 @@ fn said_by_six(
         return Err(LineError::Fault(LineFault::NoAnchor));
     }
     let answer = answer_of(alloc, key, algorithm, signed, bits)?;
-    Ok(answer)
+    if answers.push(answer).is_err() {
+        return Err(LineError::OutOfMemory);
+    }
+    Ok(())
 }
 
-// The answer that the words of a line say.
-fn said_by_words(alloc: Global, words: &[&[u8]]) -> Result<Answer, LineError>
-    ensures read { IfOk result (λ answer. words_say (map (λ word. word.now) words.now)
-        ≡ Ok (answer_plain answer)) }
+// Adds the answer that the words of a line say.
+fn add_by_words(alloc: Global, words: &[&[u8]], answers: &mut Vec<Answer>) -> Result<(), LineError>
+    ensures read { OnOk result (added_by (said (words_say (map (λ word. word.now) words.now)))
+        (map answer_plain answers.old.items) ≡ Some (map answer_plain answers.new.items)) }
     ensures refused { IfErr result (FailsBy (words_say (map (λ word. word.now) words.now))) }
 {
     let [place, anchor, key, algorithm, signed, bits] = words else {
         return Err(LineError::Fault(LineFault::NotSixWords));
     };
-    let answer = said_by_six(alloc, place, anchor, key, algorithm, signed, bits)?;
-    Ok(answer)
+    add_by_six(alloc, place, anchor, key, algorithm, signed, bits, answers)?;
+    Ok(())
 }
 
-// The answer that a line says, if it says one.
+// Adds the answer that a line says, if it says one.
 #[tactic(auto, unfolding(crate::specs::AnswerLines::line_says))]
-fn said_by(alloc: Global, line: &[u8]) -> Result<Option<Answer>, LineError>
-    ensures read { IfOk result (λ answer. line_says line.now
-        ≡ Ok (plain_option answer_plain answer)) }
+fn add_line(alloc: Global, line: &[u8], answers: &mut Vec<Answer>) -> Result<(), LineError>
+    ensures read { OnOk result (added_by (line_says line.now) (map answer_plain answers.old.items)
+        ≡ Some (map answer_plain answers.new.items)) }
     ensures refused { IfErr result (FailsBy (line_says line.now)) }
 {
     if is_skipped(line) {
-        return Ok(None);
+        return Ok(());
     }
     let Ok(words) = parts_of(alloc, line, b' ') else {
         return Err(LineError::OutOfMemory);
     };
-    let answer = said_by_words(alloc, words.as_slice())?;
-    Ok(Some(answer))
+    add_by_words(alloc, words.as_slice(), answers)?;
+    Ok(())
 }
 
 // Adds the answer of a line, if it says one, to those of the lines before.
@@ -229,14 +235,8 @@ fn read_line(
         ≡ Some (map answer_plain answers.new.items)) }
     ensures refused { IfErr result (IsNoLine line.now number) }
 {
-    match said_by(alloc, line) {
-        Ok(None) => Ok(()),
-        Ok(Some(answer)) => {
-            if answers.push(answer).is_err() {
-                return Err(NoAnswers::OutOfMemory);
-            }
-            Ok(())
-        }
+    match add_line(alloc, line, answers) {
+        Ok(()) => Ok(()),
         Err(LineError::Fault(fault)) => Err(NoAnswers::Line { number, fault }),
         Err(LineError::OutOfMemory) => Err(NoAnswers::OutOfMemory),
     }

@@ -7,12 +7,11 @@ use crate::reasons::{LengthReasons, add_reason_of, begin_breach, begin_detail};
 use crate::remarks::add_remarks;
 use crate::serial_numbers::SerialNumbers;
 use crate::stream_refusal::{LEAF_FIRST, is_leaf_first};
-use crate::unjudged::add_unjudged;
 use cert_desk_bundle::Bundle;
 use cert_desk_checking::Anchor;
 use cert_desk_rules::{KeptRules, Rule};
 use cert_tool_describe::Lines;
-use cert_tool_explain::end_remark;
+use cert_tool_explain::{add_unjudged, end_remark};
 use const_oid::ObjectIdentifier;
 use x509_cert_names::Name;
 use x509_cert_parts::Time;
@@ -181,12 +180,30 @@ fn add_breaches(
 // Begins what is found at a place.
 fn begin_place(lines: &mut Lines, place: &ChainPlace<'_>) {
     lines.entry("certificate");
-    lines.key("certificate");
-    lines.count(place.number as u64);
+    lines.count_member("certificate", place.number as u64);
     lines.tail(", ");
     lines.key("subject");
     lines.name_value(place.certificate.tbs_certificate().subject());
     lines.list("findings");
+}
+
+// Adds what each certificate breaks, and what is unwise.
+fn add_places(
+    lines: &mut Lines,
+    bundle: &Bundle,
+    judged: &Judged<'_>,
+    lengths: &mut LengthReasons,
+    serial_numbers: &mut SerialNumbers,
+) {
+    for (number, kept) in judged.kept.iter().enumerate() {
+        if let Some(place) = ChainPlace::at(bundle, number) {
+            let twin = serial_numbers.take(lines, &place);
+            begin_place(lines, &place);
+            add_breaches(lines, &place, kept, lengths, judged);
+            add_remarks(lines, &place, twin);
+            end_details(lines);
+        }
+    }
 }
 
 // Adds what the anchors of a chain's name say and isn't judged; what each certificate breaks, as it
@@ -200,13 +217,5 @@ pub(crate) fn add_chain(lines: &mut Lines, bundle: &Bundle, judged: &Judged<'_>)
     }
     let mut lengths = LengthReasons::of(lines, bundle, judged.kept, judged.purpose);
     let mut serial_numbers = SerialNumbers::new(lines.alloc);
-    for (number, kept) in judged.kept.iter().enumerate() {
-        if let Some(place) = ChainPlace::at(bundle, number) {
-            let twin = serial_numbers.take(lines, &place);
-            begin_place(lines, &place);
-            add_breaches(lines, &place, kept, &mut lengths, judged);
-            add_remarks(lines, &place, twin);
-            end_details(lines);
-        }
-    }
+    add_places(lines, bundle, judged, &mut lengths, &mut serial_numbers);
 }

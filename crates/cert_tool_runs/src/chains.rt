@@ -11,9 +11,9 @@ use crate::asking::run_questions;
 use crate::explaining::explain_chain;
 use crate::files::{open, tell_failure};
 use crate::tasks::Task;
-use crate::telling::{tell, tell_more};
+use crate::telling::tell_more;
 use crate::verifying::{run_verify, tell_none};
-use cert_desk_io::{ExitStatus, Input, NamedInputs, Output};
+use cert_desk_io::{ExitStatus, Input, NamedInputs, Output, write_all};
 use std::alloc::Global;
 use std::rt::Clock;
 use std::time::{SystemTime, UNIX_EPOCH};
@@ -134,7 +134,7 @@ pub(crate) fn verify<C: Clock, I: Input + Drop, F: NamedInputs<I>, O: Output, E:
         ⊎ IsStopped (sink O.gives O.failures out.old out.new) result }
 {
     let Some(seconds) = seconds_of(clock, task.moment) else {
-        tell(err, format!(in alloc; "cannot read the clock\n"));
+        let _ = write_all(err, b"cannot read the clock\n");
         return ExitStatus::Device;
     };
     let Opened {
@@ -176,7 +176,7 @@ pub(crate) fn explain<C: Clock, I: Input + Drop, F: NamedInputs<I>, O: Output, E
     requires { 6 ≤ task.now.limit }
 {
     let Some(moment) = seconds_of(clock, task.moment) else {
-        tell(err, format!(in alloc; "cannot read the clock\n"));
+        let _ = write_all(err, b"cannot read the clock\n");
         return ExitStatus::Device;
     };
     let Opened {

@@ -92,28 +92,43 @@ impl Form {
         format!(in self.alloc; "{between}certificate {place} (octet {octet}):\n")
     }
 
-    // What is written of the certificate at a place, which begins at an octet of the stream.
-    fn block(&self, place: usize, octet: u64, octets: &[u8]) -> Result<Vec<u8>, AllocError> {
+    // Adds what stands behind that.
+    fn add_described(&self, text: &mut Vec<u8>, octets: &[u8]) -> Result<(), AllocError> {
         let described = self.described(octets)?;
-        let mut text = self.head(place, octet)?.into_bytes();
         text.extend_from_slice(&described)?;
         if self.is_json {
             text.extend_from_slice(b"}\n")?;
         }
-        Ok(text)
+        Ok(())
     }
 
-    // What is written of the certificates of a bundle, in front of which these stand.
-    fn blocks(&self, bundle: &Bundle, passed: Passed) -> Result<Vec<u8>, AllocError> {
-        let mut text = Vec::new(self.alloc);
+    // Adds what is written of the certificate at a place, which begins at an octet of the stream.
+    fn add_block(
+        &self,
+        text: &mut Vec<u8>,
+        place: usize,
+        octet: u64,
+        octets: &[u8],
+    ) -> Result<(), AllocError> {
+        let head = self.head(place, octet)?;
+        text.extend_from_slice(head.as_bytes())?;
+        self.add_described(text, octets)
+    }
+
+    // Adds what is written of the certificates of a bundle, in front of which these stand.
+    fn add_blocks(
+        &self,
+        text: &mut Vec<u8>,
+        bundle: &Bundle,
+        passed: Passed,
+    ) -> Result<(), AllocError> {
         for number in 0..bundle.len() {
             let entry = bundle.get(number).unwrap();
             let place = passed.count.saturating_add(number);
             let octet = passed.octets.saturating_add(entry.offset);
-            let block = self.block(place, octet, entry.octets)?;
-            text.extend_from_slice(&block)?;
+            self.add_block(text, place, octet, entry.octets)?;
         }
-        Ok(text)
+        Ok(())
     }
 
     // Tells how many certificates are described, if that is watched and many more are than was told
@@ -176,19 +191,18 @@ impl Ahead {
     }
 
     // Forgets the certificates that the bundle has.
-    fn forget(self, alloc: Global, limit: u32) -> Result<Ahead, AllocError>
+    fn forget(&mut self, alloc: Global, limit: u32) -> Result<(), AllocError>
         requires { 6 ≤ limit }
     {
         if self.bundle.is_empty() {
-            return Ok(self);
+            return Ok(());
         }
         let rest = self.octets.len().saturating_sub(self.bundle.unfinished());
         let octets = Vec::from_slice(alloc, &self.octets[rest..])?;
-        let mut bundle = Bundle::new(alloc, limit);
-        if bundle.feed(&octets).is_err() {
-            return Err(AllocError);
-        }
-        Ok(Ahead { bundle, octets })
+        self.bundle = Bundle::new(alloc, limit);
+        let is_fed = self.bundle.feed(&octets).is_ok();
+        self.octets = octets;
+        if is_fed { Ok(()) } else { Err(AllocError) }
     }
 }
 
@@ -213,19 +227,21 @@ fn write_blocks<O: Output>(
     let Some(next) = passed.with(bundle) else {
         return Err(Outcome::OutOfMemory);
     };
-    let Ok(text) = form.blocks(bundle, passed) else {
+    let mut text = Vec::new(form.alloc);
+    if form.add_blocks(&mut text, bundle, passed).is_err() {
         return Err(Outcome::OutOfMemory);
-    };
+    }
     if write_all(out, &text).is_err() {
         return Err(Outcome::Device);
     }
     Ok(next)
 }
 
-// Writes what each certificate of a stream says, in turn, and forgets it. Answers what ended the
-// stream early, if something did.
+// Writes what each certificate of a stream says, in turn, and forgets it, behind what was read of
+// it. Answers what ended the stream early, if something did.
 fn write_each<S: Input, O: Output, E: Output>(
     form: &Form,
+    ahead: &mut Ahead,
     stream: &mut S,
     out: &mut O,
     err: &mut E,
@@ -238,7 +254,6 @@ fn write_each<S: Input, O: Output, E: Output>(
         octets: 0,
     };
     let mut counted = 0;
-    let mut ahead = Ahead::new(form.alloc, limit);
     // Each piece has an octet or more, and of so many no more can be counted.
     for _ in 0..u64::MAX {
         let fed = ahead.feed(stream);
@@ -252,10 +267,9 @@ fn write_each<S: Input, O: Output, E: Output>(
             Ok(false) => return passed.end(),
             Err(error) => return Some(outcome_of(error, passed)),
         }
-        ahead = match ahead.forget(form.alloc, limit) {
-            Ok(ahead) => ahead,
-            Err(_) => return Some(Outcome::OutOfMemory),
-        };
+        if ahead.forget(form.alloc, limit).is_err() {
+            return Some(Outcome::OutOfMemory);
+        }
     }
     Some(Outcome::OutOfMemory)
 }
@@ -280,7 +294,8 @@ pub(crate) fn run_describe<S: Input, O: Output, E: Output>(
         has_digests,
         is_watched,
     };
-    let ended = write_each(&form, stream, out, err, limit);
+    let mut ahead = Ahead::new(alloc, limit);
+    let ended = write_each(&form, &mut ahead, stream, out, err, limit);
     form.erase_count(err);
     match ended {
         None => ExitStatus::Done,

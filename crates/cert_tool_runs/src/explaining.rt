@@ -10,7 +10,7 @@ use crate::verifying::{read_answers, tell_none};
 use cert_desk_bundle::{Bundle, Standing};
 use cert_desk_checking::{Anchor, Outcome, judge_each, read_anchors, read_stream};
 use cert_desk_io::{ExitStatus, FromRead, Input, Output, complain, tell_device, tell_memory};
-use cert_desk_rules::{Answer, AnswersJudge};
+use cert_desk_rules::{Answer, AnswersJudge, KeptRules};
 use cert_tool_describe::Lines;
 use std::alloc::{AllocError, Global};
 
@@ -28,6 +28,25 @@ fn told(
     lines.finish()
 }
 
+// Which rules each certificate of a chain keeps, judged by answers under anchors.
+fn kept_by(
+    alloc: Global,
+    bundle: &Bundle,
+    anchors: &[Anchor],
+    terms: &Terms,
+    answers: Vec<Answer>,
+) -> Result<Vec<KeptRules>, AllocError> {
+    let mut judge = AnswersJudge::new(answers);
+    judge_each(
+        alloc,
+        bundle,
+        anchors,
+        terms.moment,
+        &terms.purpose,
+        &mut judge,
+    )
+}
+
 // What each certificate of a chain breaks, judged by answers under anchors, which were read of the
 // octets behind them.
 fn explained(
@@ -38,16 +57,14 @@ fn explained(
     terms: &Terms,
     answers: Vec<Answer>,
 ) -> Result<Vec<u8>, AllocError> {
-    let purpose = &terms.purpose;
     let heard = Heard::of(alloc, answers.as_slice())?;
-    let mut judge = AnswersJudge::new(answers);
-    let kept = judge_each(alloc, bundle, anchors, terms.moment, purpose, &mut judge)?;
+    let kept = kept_by(alloc, bundle, anchors, terms, answers)?;
     let judged = Judged {
         kept: kept.as_slice(),
         anchors,
         anchor_octets,
         heard: &heard,
-        purpose,
+        purpose: &terms.purpose,
     };
     told(alloc, bundle, &judged, terms.is_json)
 }
@@ -102,6 +119,73 @@ fn stream_of<I: Input, E: Output>(
     }
 }
 
+// Explains the chain that an input gives, under anchors that were read of these octets, by answers.
+fn explain_stream_of<I: Input, O: Output, E: Output>(
+    alloc: Global,
+    answers: Vec<Answer>,
+    anchors: &[Anchor],
+    anchor_octets: &[u8],
+    stream: &mut I,
+    out: &mut O,
+    err: &mut E,
+    terms: Terms,
+) -> ExitStatus
+    requires { 6 ≤ terms.limit }
+{
+    match stream_of(alloc, stream, err, terms.limit) {
+        Ok(bundle) => {
+            let text = explained(alloc, &bundle, anchors, anchor_octets, &terms, answers);
+            tell_text(text, out, err)
+        }
+        Err(status) => status,
+    }
+}
+
+// Explains a chain under the anchors that octets give, by answers.
+fn explain_under<I: Input, O: Output, E: Output>(
+    alloc: Global,
+    answers: Vec<Answer>,
+    octets: &[u8],
+    stream: &mut I,
+    out: &mut O,
+    err: &mut E,
+    terms: Terms,
+) -> ExitStatus
+    requires { 6 ≤ terms.limit }
+{
+    match anchors_in(alloc, octets, err) {
+        Ok(anchors) => explain_stream_of(
+            alloc,
+            answers,
+            anchors.as_slice(),
+            octets,
+            stream,
+            out,
+            err,
+            terms,
+        ),
+        Err(status) => status,
+    }
+}
+
+// Explains a chain under the anchors that an input gives, by answers.
+fn explain_by<I: Input, O: Output, E: Output>(
+    alloc: Global,
+    answers: Vec<Answer>,
+    anchors: &mut I,
+    stream: &mut I,
+    out: &mut O,
+    err: &mut E,
+    terms: Terms,
+) -> ExitStatus
+    requires { 6 ≤ terms.limit }
+{
+    match read_input(alloc, anchors, err) {
+        Ok(octets) => explain_under(alloc, answers, octets.as_slice(), stream, out, err, terms),
+        Err(status) => status,
+    }
+}
+
 // Explains a chain under anchors, of which the answers of an input say which signatures are right:
 // writes to `out` what each certificate breaks, with its first reason, and answers the exit status.
 // The rules have the names that a check prints. What no rule forbids and is unwise is told as a
@@ -121,30 +205,8 @@ pub(crate) fn explain_chain<I: Input, O: Output, E: Output>(
 ) -> ExitStatus
     requires { 6 ≤ terms.limit }
 {
-    let answers = match read_answers(alloc, answers) {
-        Ok(answers) => answers,
-        Err(none) => return tell_none(alloc, none, err),
-    };
-    let anchor_octets = match read_input(alloc, anchors, err) {
-        Ok(octets) => octets,
-        Err(status) => return status,
-    };
-    let anchor_octets = anchor_octets.as_slice();
-    let anchors = match anchors_in(alloc, anchor_octets, err) {
-        Ok(anchors) => anchors,
-        Err(status) => return status,
-    };
-    let bundle = match stream_of(alloc, stream, err, terms.limit) {
-        Ok(bundle) => bundle,
-        Err(status) => return status,
-    };
-    let text = explained(
-        alloc,
-        &bundle,
-        anchors.as_slice(),
-        anchor_octets,
-        &terms,
-        answers,
-    );
-    tell_text(text, out, err)
+    match read_answers(alloc, answers) {
+        Ok(answers) => explain_by(alloc, answers, anchors, stream, out, err, terms),
+        Err(none) => tell_none(alloc, none, err),
+    }
 }

@@ -2,7 +2,7 @@
 
 ghost use Rattle.std.specs.Prelude.{⊤, ◌≡◌, ◌⊎◌, IfOk, IfErr, OnOk};
 
-use crate::telling::tell;
+use crate::telling::{line_with, tell};
 use cert_desk_io::{ExitStatus, FromRead, NamedInputs, OpenError, Output, tell_memory};
 use std::alloc::Global;
 use std::fs::File;
@@ -80,7 +80,7 @@ pub(crate) fn open<I, F: NamedInputs<I>, E: Output>(
             Err(ExitStatus::Memory)
         }
         Err(OpenError::Device) => {
-            tell(err, format!(in alloc; "cannot open {name:?}\n"));
+            tell(err, line_with(alloc, "cannot open ", name, ""));
             Err(ExitStatus::Device)
         }
     }
@@ -95,6 +95,6 @@ pub(crate) fn tell_failure<I, F: NamedInputs<I>, E: Output>(
     err: &mut E,
 ) {
     if files.has_failed(input) {
-        tell(err, format!(in alloc; "cannot read {name:?}\n"));
+        tell(err, line_with(alloc, "cannot read ", name, ""));
     }
 }

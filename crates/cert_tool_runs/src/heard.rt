@@ -46,13 +46,27 @@ impl Heard {
     }
 }
 
+// The octets of algorithms but for the last arc: of pkcs-1, id-ecSigType, ecdsa-with-SHA2 and
+// id-edwards-curve-algs.
+const PKCS1: &[u8] = &[0x2a, 0x86, 0x48, 0x86, 0xf7, 0x0d, 1, 1];
+
+const ECDSA: &[u8] = &[0x2a, 0x86, 0x48, 0xce, 0x3d, 4];
+
+const ECDSA_SHA2: &[u8] = &[0x2a, 0x86, 0x48, 0xce, 0x3d, 4, 3];
+
+const EDWARDS: &[u8] = &[0x2b, 0x65];
+
 // Whether `examples/answer.py` verifies signatures of an algorithm: RSASSA-PKCS1-v1_5 and
 // RSASSA-PSS (RFC 8017), ECDSA (RFC 5758), Ed25519 and Ed448 (RFC 8410).
 fn is_verified(algorithm: &ObjectIdentifier<39>) -> bool {
-    match algorithm.as_bytes() {
-        [0x2a, 0x86, 0x48, 0x86, 0xf7, 0x0d, 1, 1, 5 | 10..=14] => true,
-        [0x2a, 0x86, 0x48, 0xce, 0x3d, 4, 1] | [0x2a, 0x86, 0x48, 0xce, 0x3d, 4, 3, 1..=4] => true,
-        [0x2b, 0x65, 0x70 | 0x71] => true,
+    let Some((last, before)) = algorithm.as_bytes().split_last() else {
+        return false;
+    };
+    match *last {
+        1 => before == ECDSA || before == ECDSA_SHA2,
+        2..=4 => before == ECDSA_SHA2,
+        5 | 10..=14 => before == PKCS1,
+        0x70 | 0x71 => before == EDWARDS,
         _ => false,
     }
 }

@@ -33,7 +33,6 @@ mod stream_refusal;
 mod streams;
 mod tasks;
 mod telling;
-mod unjudged;
 mod verifying;
 mod words;
 

@@ -2,6 +2,7 @@
 
 use crate::given::{Given, given_in};
 use crate::tasks::{of_word, of_words};
+use crate::telling::{line_of, line_with};
 use std::alloc::{AllocError, Global};
 
 // What may stand behind a word that is no command by itself.
@@ -16,9 +17,14 @@ fn kinds_of(word: &str) -> Option<&'static str> {
 // Why these are none, behind a command of one word.
 fn line_behind(alloc: Global, given: &Given<'_>) -> Result<String, AllocError> {
     match given.third {
-        Some(word) => format!(in alloc; "{word:?} is one too many\n"),
-        None => format!(in alloc; "a file is missing\n"),
+        Some(word) => line_with(alloc, "", word, " is one too many"),
+        None => line_of(alloc, "a file is missing", "", ""),
     }
+}
+
+// That a word is none of these kinds.
+fn kinds_line(alloc: Global, kind: &str, kinds: &str) -> Result<String, AllocError> {
+    format!(in alloc; "{kind:?} isn't {kinds}\n")
 }
 
 // Why these are none, where the first word is of these kinds.
@@ -29,11 +35,9 @@ fn kind_line(
     kinds: &str,
 ) -> Result<String, AllocError> {
     match kind {
-        None => format!(in alloc; "a kind is missing: {kinds}\n"),
-        Some(kind) if of_words(word, kind).is_none() => {
-            format!(in alloc; "{kind:?} isn't {kinds}\n")
-        }
-        Some(_) => format!(in alloc; "a file is missing\n"),
+        None => line_of(alloc, "a kind is missing: ", kinds, ""),
+        Some(kind) if of_words(word, kind).is_none() => kinds_line(alloc, kind, kinds),
+        Some(_) => line_of(alloc, "a file is missing", "", ""),
     }
 }
 
@@ -41,16 +45,16 @@ fn kind_line(
 pub(crate) fn no_command_line(alloc: Global, words: &[&str]) -> Result<String, AllocError> {
     let given = match given_in(words) {
         Ok(given) => given,
-        Err(_) => return format!(in alloc; "no command with a file after it\n"),
+        Err(_) => return line_of(alloc, "no command with a file after it", "", ""),
     };
     let Some(word) = given.first else {
-        return format!(in alloc; "a command is missing\n");
+        return line_of(alloc, "a command is missing", "", "");
     };
     if let Some(kinds) = kinds_of(word) {
         return kind_line(alloc, word, given.second, kinds);
     }
     if of_word(word).is_none() {
-        return format!(in alloc; "there is no command {word:?}\n");
+        return line_with(alloc, "there is no command ", word, "");
     }
     line_behind(alloc, &given)
 }

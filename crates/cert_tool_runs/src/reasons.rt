@@ -4,8 +4,8 @@ use crate::chain_place::ChainPlace;
 use cert_desk_bundle::Bundle;
 use cert_desk_checking::reason_of;
 use cert_desk_rules::{KeptRules, Reason, Rule};
-use cert_tool_describe::Lines;
-use cert_tool_explain::{add_content_fault, content_fault, end_remark};
+use cert_tool_describe::{Lines, content_fault};
+use cert_tool_explain::{add_content_fault, end_remark};
 use const_oid::ObjectIdentifier;
 use x509_cert_parts::Extension;
 
@@ -65,6 +65,21 @@ fn add_against(
     }
 }
 
+// Adds which extensions are of one kind; answers the section that says so.
+fn add_twins(
+    lines: &mut Lines,
+    place: &ChainPlace<'_>,
+    first: usize,
+    second: usize,
+) -> &'static str {
+    if let Some(extension) = place.extensions().get(first) {
+        lines.show("extensions ", first as u64, " and ");
+        lines.show("", second as u64, " are both ");
+        lines.identifier("", &extension.extn_id, "");
+    }
+    "RFC 5280 4.2"
+}
+
 // Adds a reason; answers the section that says so.
 fn add_reason(
     lines: &mut Lines,
@@ -78,14 +93,7 @@ fn add_reason(
             Some(extension) => add_against(lines, rule, extension, purpose),
             None => "",
         },
-        Reason::Twins { first, second } => {
-            if let Some(extension) = place.extensions().get(first) {
-                lines.show("extensions ", first as u64, " and ");
-                lines.show("", second as u64, " are both ");
-                lines.identifier("", &extension.extn_id, "");
-            }
-            "RFC 5280 4.2"
-        }
+        Reason::Twins { first, second } => add_twins(lines, place, first, second),
         Reason::NoConstraints => {
             lines.push("no basicConstraints make it a CA");
             "RFC 5280 6.1.4 (k)"

@@ -1,6 +1,6 @@
 //! Runs that take streams apart.
 
-ghost use Rattle.std.specs.Prelude.{◌≡◌, ◌<◌, ◌≤◌, IfOk, length, string_bytes, true};
+ghost use Rattle.std.specs.Prelude.{◌≡◌, ◌≢◌, ◌<◌, ◌≤◌, IfOk, length, string_bytes, true};
 ghost use Rattle.x509_cert_certificates.specs.Certificates.{subject};
 ghost use Rattle.x509_cert_certificates.specs.Views.{certificate_plain};
 ghost use Rattle.x509_cert_names.specs.PlainTexts.{name_text};
@@ -15,7 +15,7 @@ ghost use Rattle.cert_tool_runs.specs.Stops.{FedWithin};
 use crate::json_texts::{escaped_text, place_object};
 use crate::stopping::tell_stop;
 use crate::stream_fault::stop_of;
-use cert_desk_bundle::Bundle;
+use cert_desk_bundle::{Bundle, Standing};
 use cert_desk_checking::read_stream;
 use cert_desk_io::{ExitStatus, Input, Output, answer, complain, tell_memory};
 use std::alloc::{AllocError, Global};
@@ -112,6 +112,76 @@ fn text_of(alloc: Global, bundle: &Bundle, json: bool) -> Result<String, AllocEr
     }
 }
 
+// Writes where the certificates stand that were read of a stream, and tells what ended it.
+fn tell_places<O: Output, E: Output>(
+    alloc: Global,
+    bundle: &Bundle,
+    out: &mut O,
+    err: &mut E,
+    json: bool,
+) -> ExitStatus
+    requires { bundle.now.standing ≢ Standing.Open }
+    ensures { IsListed json (sink O.gives O.failures out.old out.new)
+        (sink E.gives E.failures err.old err.new) bundle.now result }
+{
+    let Ok(text) = text_of(alloc, bundle, json) else {
+        return tell_memory(err);
+    };
+    let status = answer(out, err, text.as_bytes(), ExitStatus::Done);
+    if status != ExitStatus::Done {
+        return status;
+    }
+    match stop_of(bundle) {
+        Some(outcome) => tell_stop(alloc, outcome, err),
+        None => ExitStatus::Done,
+    }
+}
+
+// Writes the certificate at a place, of those that were read of a stream.
+fn tell_taken<O: Output, E: Output>(
+    alloc: Global,
+    bundle: &Bundle,
+    out: &mut O,
+    err: &mut E,
+    place: usize,
+) -> ExitStatus
+    requires { bundle.now.standing ≢ Standing.Open }
+    ensures { IsTaken (sink O.gives O.failures out.old out.new)
+        (sink E.gives E.failures err.old err.new) bundle.now place result }
+{
+    if let Some(entry) = bundle.get(place) {
+        return answer(out, err, entry.octets, ExitStatus::Done);
+    }
+    match stop_of(bundle) {
+        Some(outcome) => tell_stop(alloc, outcome, err),
+        None => complain(
+            err,
+            b"no certificate at that place\n",
+            ExitStatus::Arguments,
+        ),
+    }
+}
+
+// Writes the certificates that were read of a stream, the last one first.
+fn tell_reversed<O: Output, E: Output>(
+    alloc: Global,
+    bundle: &Bundle,
+    out: &mut O,
+    err: &mut E,
+) -> ExitStatus
+    requires { bundle.now.standing ≢ Standing.Open }
+    ensures { IsReversed (sink O.gives O.failures out.old out.new)
+        (sink E.gives E.failures err.old err.new) bundle.now result }
+{
+    if let Some(outcome) = stop_of(bundle) {
+        return tell_stop(alloc, outcome, err);
+    }
+    match reversed(alloc, bundle) {
+        Ok(octets) => answer(out, err, octets.as_slice(), ExitStatus::Done),
+        Err(_) => tell_memory(err),
+    }
+}
+
 /// Writes where each certificate of a stream stands, a line each: `PLACE OFFSET LENGTH`, in
 /// decimal. As JSON that is an array of objects, with the members `place`, `offset`, `length` and
 /// `subject`, the text of the name (RFC 4514).
@@ -132,17 +202,7 @@ pub fn run_list<S: Input, O: Output, E: Output>(
         (sink E.gives E.failures err.old err.new) kept result }
 {
     let bundle = read_stream(alloc, limit, stream);
-    let Ok(text) = text_of(alloc, &bundle, json) else {
-        return tell_memory(err);
-    };
-    let status = answer(out, err, text.as_bytes(), ExitStatus::Done);
-    if status != ExitStatus::Done {
-        return status;
-    }
-    match stop_of(&bundle) {
-        Some(outcome) => tell_stop(alloc, outcome, err),
-        None => ExitStatus::Done,
-    }
+    tell_places(alloc, &bundle, out, err, json)
 }
 
 /// Writes the octets of the certificate at a place of a stream. Where it stands before a fault, the
@@ -162,17 +222,7 @@ pub fn run_take<S: Input, O: Output, E: Output>(
         (sink E.gives E.failures err.old err.new) kept place result }
 {
     let bundle = read_stream(alloc, limit, stream);
-    if let Some(entry) = bundle.get(place) {
-        return answer(out, err, entry.octets, ExitStatus::Done);
-    }
-    match stop_of(&bundle) {
-        Some(outcome) => tell_stop(alloc, outcome, err),
-        None => complain(
-            err,
-            b"no certificate at that place\n",
-            ExitStatus::Arguments,
-        ),
-    }
+    tell_taken(alloc, &bundle, out, err, place)
 }
 
 /// Writes the certificates of a stream, the last one first: a chain that begins with the
@@ -192,11 +242,5 @@ pub fn run_reverse<S: Input, O: Output, E: Output>(
         (sink E.gives E.failures err.old err.new) kept result }
 {
     let bundle = read_stream(alloc, limit, stream);
-    if let Some(outcome) = stop_of(&bundle) {
-        return tell_stop(alloc, outcome, err);
-    }
-    match reversed(alloc, &bundle) {
-        Ok(octets) => answer(out, err, octets.as_slice(), ExitStatus::Done),
-        Err(_) => tell_memory(err),
-    }
+    tell_reversed(alloc, &bundle, out, err)
 }

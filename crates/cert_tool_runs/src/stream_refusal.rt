@@ -51,14 +51,11 @@ fn add_stream_fault(lines: &mut Lines, octets: &[u8], error: BundleError) {
         return;
     };
     lines.entry("certificate");
-    lines.key("certificate");
-    lines.count(place as u64);
+    lines.count_member("certificate", place as u64);
     lines.tail(", octet ");
-    lines.key("octet");
-    lines.count(offset);
+    lines.count_member("octet", offset);
     lines.tail(": ");
-    lines.key("fault");
-    lines.text(meaning(kind));
+    lines.text_member("fault", meaning(kind));
     lines.close();
     let start = offset as usize;
     if kind == FaultKind::Malformed && start <= octets.len() {
@@ -90,8 +87,7 @@ fn add_whole(lines: &mut Lines, bundle: &Bundle) {
         lines.finding(LEAF_FIRST);
     } else {
         lines.entry("certificates:");
-        lines.key("certificates");
-        lines.count(bundle.len() as u64);
+        lines.count_member("certificates", bundle.len() as u64);
         lines.tail(", each whole");
         lines.close();
     }

@@ -20,6 +20,26 @@ pub(crate) fn tell<E: Output>(err: &mut E, text: Result<String, AllocError>) {
     }
 }
 
+// A line of these parts.
+pub(crate) fn line_of(
+    alloc: Global,
+    before: &str,
+    word: &str,
+    behind: &str,
+) -> Result<String, AllocError> {
+    format!(in alloc; "{before}{word}{behind}\n")
+}
+
+// A line with this word in quotes.
+pub(crate) fn line_with(
+    alloc: Global,
+    before: &str,
+    word: &str,
+    behind: &str,
+) -> Result<String, AllocError> {
+    format!(in alloc; "{before}{word:?}{behind}\n")
+}
+
 // How an option is written.
 fn word_of(key: Key) -> &'static str {
     match key {
@@ -53,12 +73,18 @@ fn values_of(key: Key) -> &'static str {
 fn fault_line(alloc: Global, fault: WordFault<'_>) -> Result<String, AllocError> {
     match fault {
         WordFault::Unknown(word) if word.starts_with("--json=") || word.starts_with("--digests=") =>
-            { format!(in alloc; "{word:?}: this option stands without a value\n") }
-        WordFault::Unknown(word) => format!(in alloc; "there is no option {word:?}\n"),
-        WordFault::Twice(key) => format!(in alloc; "{} is given twice\n", word_of(key)),
-        WordFault::NoValue(key) => format!(in alloc; "{} has no value\n", word_of(key)),
-        WordFault::Surplus(word) => format!(in alloc; "{word:?} is one too many\n"),
+            { line_with(alloc, "", word, ": this option stands without a value") }
+        WordFault::Unknown(word) => line_with(alloc, "there is no option ", word, ""),
+        WordFault::Twice(key) => line_of(alloc, word_of(key), " is given twice", ""),
+        WordFault::NoValue(key) => line_of(alloc, word_of(key), " has no value", ""),
+        WordFault::Surplus(word) => line_with(alloc, "", word, " is one too many"),
     }
+}
+
+// What is wrong with the value of an option, in one line.
+fn wrong_line(alloc: Global, key: Key, text: &str) -> Result<String, AllocError> {
+    let (word, values) = (word_of(key), values_of(key));
+    format!(in alloc; "{word}: {text:?} isn't {values}\n")
 }
 
 // What is wrong with words, in one line.
@@ -66,15 +92,18 @@ fn misuse_line(alloc: Global, words: &[&str], misuse: Misuse<'_>) -> Result<Stri
     match misuse {
         Misuse::Words(fault) => fault_line(alloc, fault),
         Misuse::NoCommand => no_command_line(alloc, words),
-        Misuse::Missing(key) => format!(in alloc; "{} is missing\n", word_of(key)),
-        Misuse::Excess(key) => format!(in alloc; "this command has no {}\n", word_of(key)),
-        Misuse::Wrong(key, text) => {
-            format!(in alloc; "{}: {text:?} isn't {}\n", word_of(key), values_of(key))
-        }
+        Misuse::Missing(key) => line_of(alloc, word_of(key), " is missing", ""),
+        Misuse::Excess(key) => line_of(alloc, "this command has no ", word_of(key), ""),
+        Misuse::Wrong(key, text) => wrong_line(alloc, key, text),
         Misuse::OctetsInJson => {
-            format!(in alloc; "--place writes octets, which --json has no form for\n")
+            line_of(
+                alloc,
+                "--place writes octets, which --json has no form for",
+                "",
+                "",
+            )
         }
-        Misuse::SharedInput => format!(in alloc; "two files are standard input\n"),
+        Misuse::SharedInput => line_of(alloc, "two files are standard input", "", ""),
     }
 }
 
@@ -121,11 +150,8 @@ pub(crate) fn tell_more<E: Output>(
             let _ = write_all(err, part.as_bytes());
         }
         ExitStatus::Arguments if are_read => {
-            let anchors = task.anchors;
-            tell(
-                err,
-                format!(in alloc; "(of anchors: cert_tool explain anchors {anchors:?})\n"),
-            );
+            let part = "(of anchors: cert_tool explain anchors ";
+            tell(err, line_with(alloc, part, task.anchors, ")"));
         }
         _ => tell_fault(alloc, task, status, err),
     }

@@ -1,17 +1,18 @@
-//! What trust anchors say, and no rule looks at.
+//! Trust anchors: why octets begin with none, and what anchors say that no rule looks at.
 
+use crate::faults::add_fault;
+use crate::parts::Node;
 use cert_tool_describe::Lines;
-use der_core::FromDer;
+use der_core::{Decode, Error, FromDer, SliceReader};
 use x509_cert_anchors::TrustAnchorChoice;
 use x509_cert_certificates::TbsCertificateInner;
 use x509_cert_names::Name;
 use x509_cert_parts::{Extension, Raw, Validity};
 
-// Begins what is said of the anchor at an octet.
-pub(crate) fn begin_anchor(lines: &mut Lines, offset: u64) {
+/// Begins what is said of the anchor at an octet.
+pub fn begin_anchor(lines: &mut Lines, offset: u64) {
     lines.entry("anchor at octet");
-    lines.key("octet");
-    lines.count(offset);
+    lines.count_member("octet", offset);
 }
 
 // Adds which extensions these are, in one line.
@@ -79,53 +80,80 @@ fn is_of(name: Option<&Name>, issuer: Option<&Name>) -> bool {
     }
 }
 
-// Adds what the anchor at an octet says and isn't judged, if it is of an issuer that is asked for.
-fn add_of(lines: &mut Lines, anchor: &TrustAnchorChoice<Raw>, offset: u64, issuer: Option<&Name>) {
-    let name = name_of(anchor);
-    if is_of(name, issuer) {
-        begin_anchor(lines, offset);
-        if let Some(name) = name {
-            lines.tail(", ");
-            lines.key("subject");
-            lines.name_value(name);
+// Values that say what isn't judged.
+trait Unjudged {
+    // Adds it, of the value at an octet, if it is of an issuer that is asked for.
+    fn add_unjudged(&self, lines: &mut Lines, offset: u64, issuer: Option<&Name>);
+}
+
+impl Unjudged for TrustAnchorChoice<Raw> {
+    fn add_unjudged(&self, lines: &mut Lines, offset: u64, issuer: Option<&Name>) {
+        let name = name_of(self);
+        if is_of(name, issuer) {
+            begin_anchor(lines, offset);
+            if let Some(name) = name {
+                lines.tail(", ");
+                lines.key("subject");
+                lines.name_value(name);
+            }
+            if let Some(signed) = certified_of(self) {
+                add_certified(lines, signed);
+            }
+            lines.close();
         }
-        if let Some(signed) = certified_of(anchor) {
-            add_certified(lines, signed);
-        }
-        lines.close();
     }
 }
 
-// Adds what the anchor says and isn't judged that begins these octets, which begin at an offset, if
-// it is of an issuer that is asked for. Answers the octets behind it: none, if no anchor begins
-// these.
+// Adds what the value says and isn't judged that begins these octets, which begin at an offset, if
+// it is of an issuer that is asked for. Answers the octets behind it. Any value is read here, and
+// not an anchor, of which a check takes long to hold one.
+fn add_front<'a, T: Decode<'a, SliceReader<'a>> + Unjudged + Drop>(
+    lines: &mut Lines,
+    octets: &'a [u8],
+    offset: u64,
+    issuer: Option<&Name>,
+) -> Result<&'a [u8], Error> {
+    match T::from_der_partial(lines.alloc, octets) {
+        Ok((value, behind)) => {
+            value.add_unjudged(lines, offset, issuer);
+            Ok(behind)
+        }
+        Err(error) => Err(error),
+    }
+}
+
+// Adds that of an anchor.
 fn add_first<'a>(
     lines: &mut Lines,
     octets: &'a [u8],
     offset: u64,
     issuer: Option<&Name>,
-) -> &'a [u8] {
-    match TrustAnchorChoice::<Raw>::from_der_partial(lines.alloc, octets) {
-        Ok((anchor, behind)) => {
-            add_of(lines, &anchor, offset, issuer);
-            behind
-        }
-        Err(error) => {
-            lines.note(error.kind);
-            &[]
-        }
-    }
+) -> Result<&'a [u8], Error> {
+    add_front::<TrustAnchorChoice<Raw>>(lines, octets, offset, issuer)
 }
 
-// Adds what anchors say that isn't judged, one behind the other; where an issuer is asked for, of
-// those that have its name.
-pub(crate) fn add_unjudged(lines: &mut Lines, octets: &[u8], issuer: Option<&Name>) {
+/// Adds what anchors say that isn't judged, one behind the other; where an issuer is asked for, of
+/// those that have its name.
+pub fn add_unjudged(lines: &mut Lines, octets: &[u8], issuer: Option<&Name>) {
     let mut rest = octets;
     for _ in 0..octets.len() {
         if rest.is_empty() {
             break;
         }
         let offset = octets.len().saturating_sub(rest.len());
-        rest = add_first(lines, rest, offset as u64, issuer);
+        match add_first(lines, rest, offset as u64, issuer) {
+            Ok(behind) => rest = behind,
+            Err(error) => {
+                lines.note(error.kind);
+                break;
+            }
+        }
+    }
+}
+
+/// Adds why no trust anchor begins these octets, which begin at an offset of a file.
+pub fn add_anchor_fault(lines: &mut Lines, octets: &[u8], offset: u64) {
+    if let Err(error) = add_first(lines, octets, offset, None) {
+        add_fault(lines, octets, offset, Node::Anchor, &error);
     }
 }
