@@ -1,6 +1,6 @@
 -- What the words of `cert_tool` ask for.
-use Rattle.std.specs.Prelude.{◌≡◌, ◌≢◌, ℕ, ◌≤◌, ◌<◌, ◌^◌, ◌⊎◌, List, [], Bool, true, false, ◌&&◌}
-use Rattle.std.specs.Prelude.{◌||◌, codes, bytes_eq, is_ok, is_some, unwrap_or, if◌then◌else◌}
+use Rattle.std.specs.Prelude.{◌≡◌, ◌≢◌, ℕ, ◌≤◌, ◌<◌, ◌^◌, ◌⊎◌, List, [], ◌∷◌, Bool, true, false}
+use Rattle.std.specs.Prelude.{◌&&◌, ◌||◌, codes, bytes_eq, is_ok, is_some, unwrap_or, if◌then◌else◌}
 use Rattle.std.specs.Prelude.{IsSome, IsTrue, Option, Some, None, option_map, Ok, Err}
 use Rattle.std.specs.Borrow.{Bor}
 use Rattle.const_oid.specs.Bound.{Bound, max_size}
@@ -125,11 +125,17 @@ IsMet needs.Barred value = value ≡ None
 abbrev pub Keeps : Command → PlainGiven → Key → Type 0
 Keeps command g key = IsMet (need_of command key) (value_of key g)
 
+abbrev pub KeepsEach : Command → PlainGiven → List Key → Type 0
+KeepsEach command g [] = Unit {0}
+KeepsEach command g (key ∷ rest) = Keeps command g key × KeepsEach command g rest
+
+abbrev pub every_key : List Key
+every_key =
+    keys.Anchors ∷ keys.Answers ∷ keys.At ∷ keys.Purpose ∷ keys.Limit ∷ keys.Place ∷ keys.Json
+    ∷ keys.Digests ∷ []
+
 abbrev pub KeepsAll : Command → PlainGiven → Type 0
-KeepsAll command g =
-    Keeps command g keys.Anchors × Keeps command g keys.Answers × Keeps command g keys.At
-    × Keeps command g keys.Purpose × Keeps command g keys.Limit × Keeps command g keys.Place
-    × Keeps command g keys.Json × Keeps command g keys.Digests
+KeepsAll command g = KeepsEach command g every_key
 
 -- what stands for options that are left out
 abbrev pub moment_text : PlainGiven → List ℕ

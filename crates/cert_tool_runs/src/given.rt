@@ -156,50 +156,20 @@ impl<'a> Given<'a> {
     fn with_value(&self, key: Key, text: &'a str) -> Given<'a>
         ensures { given_plain result ≡ with_value key text.now (given_plain self.now) }
     {
-        let awaited = None;
+        let mut given = *self;
+        given.awaited = None;
         let text = Some(text);
         match key {
-            Key::Anchors => Given {
-                anchors: text,
-                awaited,
-                ..*self
-            },
-            Key::Answers => Given {
-                answers: text,
-                awaited,
-                ..*self
-            },
-            Key::At => Given {
-                at: text,
-                awaited,
-                ..*self
-            },
-            Key::Purpose => Given {
-                purpose: text,
-                awaited,
-                ..*self
-            },
-            Key::Limit => Given {
-                limit: text,
-                awaited,
-                ..*self
-            },
-            Key::Place => Given {
-                place: text,
-                awaited,
-                ..*self
-            },
-            Key::Json => Given {
-                json: text,
-                awaited,
-                ..*self
-            },
-            Key::Digests => Given {
-                digests: text,
-                awaited,
-                ..*self
-            },
+            Key::Anchors => given.anchors = text,
+            Key::Answers => given.answers = text,
+            Key::At => given.at = text,
+            Key::Purpose => given.purpose = text,
+            Key::Limit => given.limit = text,
+            Key::Place => given.place = text,
+            Key::Json => given.json = text,
+            Key::Digests => given.digests = text,
         }
+        given
     }
 
     // With one word more that is neither an option nor a value.
@@ -208,25 +178,17 @@ impl<'a> Given<'a> {
             (given_plain self.now).second (given_plain self.now).third word.now
             (given_plain self.now) }
     {
+        let mut given = *self;
         if self.first.is_none() {
-            return Ok(Given {
-                first: Some(word),
-                ..*self
-            });
+            given.first = Some(word);
+        } else if self.second.is_none() {
+            given.second = Some(word);
+        } else if self.third.is_none() {
+            given.third = Some(word);
+        } else {
+            return Err(WordFault::Surplus(word));
         }
-        if self.second.is_none() {
-            return Ok(Given {
-                second: Some(word),
-                ..*self
-            });
-        }
-        if self.third.is_none() {
-            return Ok(Given {
-                third: Some(word),
-                ..*self
-            });
-        }
-        Err(WordFault::Surplus(word))
+        Ok(given)
     }
 
     // With a word that is an option, `=` and its value, or no option.

@@ -1,13 +1,15 @@
 //! What words ask for.
 
 ghost use Rattle.std.specs.Prelude.{◌≡◌, ◌≤◌, IfOk, IfErr, OnOk, map};
-ghost use Rattle.cert_tool_runs.specs.Words.{given_plain};
+ghost use Rattle.std.specs.Prelude.{unwrap_or, is_some};
+ghost use Rattle.cert_tool_runs.specs.Words.{given_plain, value_of};
 ghost use Rattle.cert_tool_runs.specs.Tasks.{kind_of, of_word, of_described, of_explained};
 ghost use Rattle.cert_tool_runs.specs.Tasks.{of_words, judges, asks, reads_stream, need_of, Keeps};
-ghost use Rattle.cert_tool_runs.specs.Tasks.{KeepsAll, IsTask, IsAmiss, AsksFor, IsMisuse};
+ghost use Rattle.cert_tool_runs.specs.Tasks.{KeepsAll, KeepsEach, IsTask, IsAmiss, AsksFor};
 ghost use Rattle.cert_tool_runs.specs.Tasks.{is_standard, shares_input, IsPlace, IsNoValue};
 ghost use Rattle.cert_tool_runs.specs.Tasks.{command_in, plain_command, describes, tells};
-ghost use Rattle.cert_tool_runs.specs.Tasks.{is_octets_in_json};
+ghost use Rattle.cert_tool_runs.specs.Tasks.{is_octets_in_json, IsMisuse, IsMoment, IsPurpose};
+ghost use Rattle.cert_tool_runs.specs.Tasks.{IsLimit, moment_text, purpose_text, limit_text};
 
 use crate::arguments::{Moment, limit_in, moment_in, number_in, purpose_in};
 use crate::given::{Given, Key, WordFault, given_in};
@@ -242,7 +244,7 @@ impl Command {
         ensures amiss { IfErr result (λ misuse.
             IsAmiss self file.now (given_plain given.now) misuse) }
     {
-        let is_given = given.value_of(key).is_some();
+        let is_given = is_given(given, key);
         match self.need_of(key) {
             Need::Needed => {
                 if !is_given {
@@ -259,21 +261,41 @@ impl Command {
         Ok(())
     }
 
+    // Whether that is so of each of these options.
+    fn keeps_each<'a>(self, file: &str, given: &Given<'a>, keys: &[Key]) -> Result<(), Misuse<'a>>
+        ensures kept { OnOk result (KeepsEach self (given_plain given.now) keys.now) }
+        ensures amiss { IfErr result (λ misuse.
+            IsAmiss self file.now (given_plain given.now) misuse) }
+    {
+        let [key, rest @ ..] = keys else {
+            return Ok(());
+        };
+        match self.keeps(file, given, *key) {
+            Ok(()) => self.keeps_each(file, given, rest),
+            Err(misuse) => Err(misuse),
+        }
+    }
+
     // Whether that is so of all options.
     fn keeps_all<'a>(self, file: &str, given: &Given<'a>) -> Result<(), Misuse<'a>>
         ensures kept { OnOk result (KeepsAll self (given_plain given.now)) }
         ensures amiss { IfErr result (λ misuse.
             IsAmiss self file.now (given_plain given.now) misuse) }
     {
-        self.keeps(file, given, Key::Anchors)?;
-        self.keeps(file, given, Key::Answers)?;
-        self.keeps(file, given, Key::At)?;
-        self.keeps(file, given, Key::Purpose)?;
-        self.keeps(file, given, Key::Limit)?;
-        self.keeps(file, given, Key::Place)?;
-        self.keeps(file, given, Key::Json)?;
-        self.keeps(file, given, Key::Digests)?;
-        Ok(())
+        self.keeps_each(
+            file,
+            given,
+            &[
+                Key::Anchors,
+                Key::Answers,
+                Key::At,
+                Key::Purpose,
+                Key::Limit,
+                Key::Place,
+                Key::Json,
+                Key::Digests,
+            ],
+        )
     }
 }
 
@@ -296,6 +318,50 @@ fn shares_input(anchors: &str, answers: &str, file: &str) -> bool
     (anchors && answers) || (anchors && file) || (answers && file)
 }
 
+// The value of an option, or what stands for it where it is left out.
+fn text_of<'a>(given: &Given<'a>, key: Key, default: &'a str) -> &'a str
+    ensures { result.now ≡ unwrap_or (value_of key (given_plain given.now)) default.now }
+{
+    given.value_of(key).unwrap_or(default)
+}
+
+// The validation time that is asked for; the text that is none is the error.
+fn moment_of<'a>(given: &Given<'a>) -> Result<Moment, &'a str>
+    ensures read { IfOk result (λ moment. IsMoment moment (moment_text (given_plain given.now))) }
+    ensures amiss { IfErr result (λ text. IsNoValue Key.At text.now (given_plain given.now)) }
+{
+    let text = text_of(given, Key::At, "now");
+    match moment_in(text) {
+        Some(moment) => Ok(moment),
+        None => Err(text),
+    }
+}
+
+// The key purpose that is asked for; the text that is none is the error.
+fn purpose_of<'a>(given: &Given<'a>) -> Result<ObjectIdentifier<39>, &'a str>
+    ensures read { IfOk result (λ purpose.
+        IsPurpose purpose (purpose_text (given_plain given.now))) }
+    ensures amiss { IfErr result (λ text. IsNoValue Key.Purpose text.now (given_plain given.now)) }
+{
+    let text = text_of(given, Key::Purpose, "serverAuth");
+    match purpose_in(text) {
+        Ok(purpose) => Ok(purpose),
+        Err(_) => Err(text),
+    }
+}
+
+// The most octets that are asked for; the text that is no such number is the error.
+fn limit_of<'a>(given: &Given<'a>) -> Result<u32, &'a str>
+    ensures read { IfOk result (λ limit. IsLimit limit (limit_text (given_plain given.now))) }
+    ensures amiss { IfErr result (λ text. IsNoValue Key.Limit text.now (given_plain given.now)) }
+{
+    let text = text_of(given, Key::Limit, "65536");
+    match limit_in(text) {
+        Some(limit) => Ok(limit),
+        None => Err(text),
+    }
+}
+
 // The place that is asked for, if one is; the text that is none is the error.
 fn place_in<'a>(given: &Given<'a>) -> Result<Option<u64>, &'a str>
     ensures read { IfOk result (λ place. IsPlace place (given_plain given.now).place) }
@@ -310,11 +376,18 @@ fn place_in<'a>(given: &Given<'a>) -> Result<Option<u64>, &'a str>
     Ok(Some(place))
 }
 
+// Whether an option is given.
+fn is_given(given: &Given<'_>, key: Key) -> bool
+    ensures { result ≡ is_some (value_of key (given_plain given.now)) }
+{
+    given.value_of(key).is_some()
+}
+
 // Whether one certificate is wanted, and JSON.
 fn is_octets_in_json(given: &Given<'_>) -> bool
     ensures { result ≡ is_octets_in_json (given_plain given.now) }
 {
-    given.place.is_some() && given.json.is_some()
+    is_given(given, Key::Place) && is_given(given, Key::Json)
 }
 
 // What a command asks for of a file, under options that it may have.
@@ -326,25 +399,25 @@ fn task_of<'a>(command: Command, file: &'a str, given: &Given<'a>) -> Result<Tas
     ensures amiss { IfErr result (λ misuse.
         IsAmiss command file.now (given_plain given.now) misuse) }
 {
-    let anchors = given.anchors.unwrap_or("");
-    let answers = given.answers.unwrap_or("");
+    let anchors = text_of(given, Key::Anchors, "");
+    let answers = text_of(given, Key::Answers, "");
     if shares_input(anchors, answers, file) {
         return Err(Misuse::SharedInput);
     }
     if is_octets_in_json(given) {
         return Err(Misuse::OctetsInJson);
     }
-    let at = given.at.unwrap_or("now");
-    let Some(moment) = moment_in(at) else {
-        return Err(Misuse::Wrong(Key::At, at));
+    let moment = match moment_of(given) {
+        Ok(moment) => moment,
+        Err(text) => return Err(Misuse::Wrong(Key::At, text)),
     };
-    let wanted = given.purpose.unwrap_or("serverAuth");
-    let Ok(purpose) = purpose_in(wanted) else {
-        return Err(Misuse::Wrong(Key::Purpose, wanted));
+    let purpose = match purpose_of(given) {
+        Ok(purpose) => purpose,
+        Err(text) => return Err(Misuse::Wrong(Key::Purpose, text)),
     };
-    let most = given.limit.unwrap_or("65536");
-    let Some(limit) = limit_in(most) else {
-        return Err(Misuse::Wrong(Key::Limit, most));
+    let limit = match limit_of(given) {
+        Ok(limit) => limit,
+        Err(text) => return Err(Misuse::Wrong(Key::Limit, text)),
     };
     let place = match place_in(given) {
         Ok(place) => place,
@@ -359,8 +432,8 @@ fn task_of<'a>(command: Command, file: &'a str, given: &Given<'a>) -> Result<Tas
         purpose,
         limit,
         place,
-        json: given.json.is_some(),
-        digests: given.digests.is_some(),
+        json: is_given(given, Key::Json),
+        digests: is_given(given, Key::Digests),
     })
 }
 
