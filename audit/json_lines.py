@@ -11,7 +11,7 @@
     audit/json_lines.py TOOL --letters  a certificate that has each character is described: what
                                         Python's `json` reads is what was written
     audit/json_lines.py TOOL --mutate N [SEED]  N certificates, lists and requests of the files of
-                                        tool_rows and the roots of ca-certificates, with one to
+                                        cert_tool and the roots of ca-certificates, with one to
                                         three changes: each is described and explained, is taken
                                         where `reader.py` reads it, and else refused in the words
                                         of `explain`, and nothing that isn't printable is written
@@ -479,7 +479,7 @@ def script(name):
 
 def bases():
     """What is changed, by its kind."""
-    paths = [*(TOP / "crates/tool_rows/data").glob("*.der"), *ROOTS.glob("*.crt")]
+    paths = [*(TOP / "crates/cert_tool/data").glob("*.der"), *ROOTS.glob("*.crt")]
     files = sorted({octets_of(path) for path in paths})
     return {kind: [it for it in files if reader.spells(kind, it)] for kind in reader.SIGNED}
 

@@ -1,30 +1,27 @@
 #!/usr/bin/env python3
-"""Asks `cert_tool serve` what the rows of `tool_rows` ask, in one process, and compares each answer
-with what stands there.
+"""Asks `cert_tool serve` what the rows of crates/cert_tool/rows.txt ask, in one process, and
+compares each answer with what stands there.
 
     audit/served.py CERT_TOOL    the status is 1 where an answer differs
-    audit/served.py --write      writes what crates/cert_tool is run on, and has to answer: some of
-                                 these rows, a request without words, and one that is cut
+    audit/served.py --write      writes what the gate runs crates/cert_tool on, and what it has to
+                                 answer (stdin, stdout): these rows, a request without words, and
+                                 one that is cut
+    audit/served.py --check      the status is 1 where these aren't what it would write
 
-Files that the rows name are sent with the words.
+A row is words with one blank between them. Behind it stand the lines of the output, or its octets
+in base 16 where they are no text; the lines of the error output, each after
+`! `; and the status after `=`. Lines that are empty or begin with `#` ask nothing. Files that the
+rows name are sent with the words; a row that names a folder is left out, since none is sent.
 """
 
 import pathlib
+import re
 import subprocess
 import sys
 
 TOP = pathlib.Path(__file__).resolve().parents[1]
-ROWS = TOP / "crates" / "tool_rows"
-DATA = ROWS / "data"
 TOOL = TOP / "crates" / "cert_tool"
-# What these ask is answered on the output where the status is 0, and else on the error output.
-SOME = (
-    "questions --anchors root.der --limit 4000 chain.der",
-    "verify --anchors root.der --answers answers.txt --at 1780000000 --purpose 1.3.6.1.5.5.7.3.1"
-    " --limit 4000 chain.der",
-    "split --limit 4000 chain.der",
-    "split chain.der --limit",
-)
+DATA = TOOL / "data"
 
 
 def frame(octets):
@@ -32,18 +29,33 @@ def frame(octets):
 
 
 def rows():
-    """Each question of `tool_rows`, the lines that answer it, and the status."""
-    lines = iter((ROWS / "stdout").read_text().split("\n"))
-    for question in (ROWS / "stdin").read_text().splitlines():
-        told = next(lines)
-        if question != told:
-            sys.exit(f"rows differ: {question}, {told}")
+    """Each question, the lines of its output, those of its error output, and the status."""
+    lines = iter((TOOL / "rows.txt").read_text().splitlines())
+    for question in lines:
         if not question or question.startswith("#"):
             continue
-        answer = []
+        output, errors = [], []
         while not (line := next(lines)).startswith("= "):
-            answer.append(line)
-        yield question, answer, int(line[2:])
+            if line.startswith("! "):
+                errors.append(line[2:])
+            else:
+                output.append(line)
+        yield question, output, errors, int(line[2:])
+
+
+def asked():
+    """The rows that name no folder."""
+    return [row for row in rows() if not any((DATA / it).is_dir() for it in row[0].split(" "))]
+
+
+def text(lines):
+    return "".join(f"{line}\n" for line in lines).encode()
+
+
+def written(lines):
+    """The octets of the output."""
+    is_octets = len(lines) == 1 and re.fullmatch("(?:[0-9a-f]{2})+", lines[0])
+    return bytes.fromhex(lines[0]) if is_octets else text(lines)
 
 
 def inputs(words):
@@ -64,22 +76,33 @@ def answer(status, output, errors):
     return frame(bytes([status])) + frame(output) + frame(errors)
 
 
-def write():
-    """Writes the requests and the answers of some rows."""
-    asked, answered = b"", b""
-    found = {question: (lines, status) for question, lines, status in rows()}
-    for question in SOME:
-        lines, status = found[question]
-        text = "".join(f"{line}\n" for line in lines).encode()
-        asked += request(question)
-        answered += answer(status, *((text, b"") if status == 0 else (b"", text)))
+def told(row):
+    """The answer to a row."""
+    _, output, errors, status = row
+    return answer(status, written(output), text(errors))
+
+
+def run_on():
+    """What the gate runs the program on, and what it has to answer."""
+    requests = b"".join(request(row[0]) for row in asked())
+    answers = b"".join(told(row) for row in asked())
     # no words; a name that is sent with another input; a number without its octets
-    asked += frame(b"") + frame(frame(b"split\nchain.der") + frame(b"none.der") + frame(b""))
-    answered += answer(4, b"", b"") + answer(5, b"", b'cannot open "chain.der"\n')
-    (TOOL / "args").write_text("serve\n")
-    (TOOL / "stdin").write_bytes(asked + (100).to_bytes(4, "big") + b"cut")
-    (TOOL / "stdout").write_bytes(answered)
-    (TOOL / "status").write_text("2\n")
+    requests += frame(b"") + frame(frame(b"split\nchain.der") + frame(b"none.der") + frame(b""))
+    answers += answer(4, b"", b"") + answer(5, b"", b'cannot open "chain.der"\n')
+    return {"stdin": requests + (100).to_bytes(4, "big") + b"cut", "stdout": answers}
+
+
+def write():
+    for name, octets in run_on().items():
+        (TOOL / name).write_bytes(octets)
+
+
+def differ():
+    """Whether what the gate runs the program on is another than that."""
+    found = [name for name, it in run_on().items() if (TOOL / name).read_bytes() != it]
+    for name in found:
+        print(f"crates/cert_tool/{name} isn't what audit/served.py --write writes")
+    return bool(found)
 
 
 def read(octets, place):
@@ -89,35 +112,27 @@ def read(octets, place):
     return octets[start:end], end
 
 
-def shown(output):
-    """What a row shows of the output."""
-    try:
-        return output.decode()
-    except UnicodeDecodeError:
-        return output.hex() + "\n"
-
-
 def main():
     if len(sys.argv) != 2:
         sys.exit(__doc__)
     if sys.argv[1] == "--write":
         return write()
-    asked = [row for row in rows() if not any((DATA / it).is_dir() for it in row[0].split(" "))]
-    sent = b"".join(request(question) for question, _, _ in asked)
+    if sys.argv[1] == "--check":
+        return differ()
+    sent = b"".join(request(row[0]) for row in asked())
     ran = subprocess.run([sys.argv[1], "serve"], input=sent, capture_output=True, check=False)
-    place, differ = 0, 0
-    for question, lines, status in asked:
-        code, place = read(ran.stdout, place)
-        output, place = read(ran.stdout, place)
-        errors, place = read(ran.stdout, place)
-        got = shown(output) + errors.decode()
-        if (got, code) != ("".join(f"{line}\n" for line in lines), bytes([status])):
-            differ += 1
-            print(f"differs: {question}: {got}= {list(code)}")
+    place, wrong = 0, 0
+    for row in asked():
+        start = place
+        for _ in range(3):
+            _, place = read(ran.stdout, place)
+        if ran.stdout[start:place] != told(row):
+            wrong += 1
+            print(f"differs: {row[0]}: {ran.stdout[start:place]!r}")
     if place != len(ran.stdout) or ran.returncode != 0 or ran.stderr:
         sys.exit(f"status {ran.returncode}, {len(ran.stdout) - place} octets more, {ran.stderr!r}")
-    print(f"{len(asked)} rows, {differ} differ")
-    return differ > 0
+    print(f"{len(asked())} rows, {wrong} differ")
+    return wrong > 0
 
 
 if __name__ == "__main__":

@@ -11,7 +11,7 @@ top=$(cd "$(dirname "$0")/.." && pwd)
 folder=$(cd "$1" && pwd)
 work=$(mktemp -d)
 trap 'rm -rf "$work"' EXIT
-data=$top/crates/tool_rows/data
+data=$top/crates/cert_tool/data
 "${CC:-cc}" -O2 -I"$folder" "$top/bench/calls/rounds.c" "$folder/libwurstdrape.a" -o "$work/rounds"
 
 instructions() {

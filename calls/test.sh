@@ -62,7 +62,7 @@ by_valgrind() {
         valgrind -q --error-exitcode=1 --leak-check=full "$work/shared" "$top"
 }
 examples() {
-    local data=$top/crates/tool_rows/data
+    local data=$top/crates/cert_tool/data
     "$cc" "${flags[@]}" "$here/c/first.c" "$folder/libwurstdrape.a" -o "$work/first" &&
         "$cc" "${flags[@]}" "$here/c/verify.c" "$folder/libwurstdrape.a" -o "$work/verify" &&
         "$work/first" "$top/examples/server.der" >"$work/listing" &&
@@ -124,7 +124,7 @@ else
 fi
 if [ $has_python = 1 ]; then
     suite "Python" python_tests
-    suite "Python, rows of tool_rows and cert_rows" python3 "$here/python/rows.py"
+    suite "Python, rows of cert_tool and cert_rows" python3 "$here/python/rows.py"
 else
     left_out "Python" "there is no python3 of 3.9 or later"
 fi

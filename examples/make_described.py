@@ -386,7 +386,7 @@ def request(key, subject, extensions, *, password=None, signature=ECDSA):
 
 
 def made():
-    """The names and octets of those that stand in crates/tool_rows/data."""
+    """The names and octets of those that stand in crates/cert_tool/data."""
     yield "every.certificate", certificate(
         0xFF,
         KEYS["padded"],

@@ -1,5 +1,5 @@
 #!/usr/bin/env bash
-# Makes the files of crates/tool_rows/data with OpenSSL 3 and the octets of the examples. Each run
+# Makes the files of crates/cert_tool/data with OpenSSL 3 and the octets of the examples. Each run
 # makes other keys; the files there are those of two runs, the second for what the comment `later`
 # names.
 # usage: make_tool_data.sh CERT_TOOL FOLDER, where CERT_TOOL is the program

@@ -91,11 +91,11 @@ int main(int count, char **words) {
         return 2;
     }
     get(&server, words[1], "examples/server.der");
-    get(&root, words[1], "crates/tool_rows/data/root.der");
-    get(&chain, words[1], "crates/tool_rows/data/chain.der");
-    get(&answers, words[1], "crates/tool_rows/data/answers.txt");
-    get(&list, words[1], "crates/tool_rows/data/list.der");
-    get(&request, words[1], "crates/tool_rows/data/request.der");
+    get(&root, words[1], "crates/cert_tool/data/root.der");
+    get(&chain, words[1], "crates/cert_tool/data/chain.der");
+    get(&answers, words[1], "crates/cert_tool/data/answers.txt");
+    get(&list, words[1], "crates/cert_tool/data/list.der");
+    get(&request, words[1], "crates/cert_tool/data/request.der");
     unsigned long inputs = strtoul(words[2], NULL, 10), done = 0;
     for (unsigned long n = 0; n < inputs; n++) {
         wd_fault fault = {0, 0};

@@ -367,11 +367,11 @@ int main(int count, char **words) {
     }
     top = words[1];
     get(&server, "examples/server.der");
-    get(&root, "crates/tool_rows/data/root.der");
-    get(&chain, "crates/tool_rows/data/chain.der");
-    get(&answers, "crates/tool_rows/data/answers.txt");
-    get(&list, "crates/tool_rows/data/list.der");
-    get(&request, "crates/tool_rows/data/request.der");
+    get(&root, "crates/cert_tool/data/root.der");
+    get(&chain, "crates/cert_tool/data/chain.der");
+    get(&answers, "crates/cert_tool/data/answers.txt");
+    get(&list, "crates/cert_tool/data/list.der");
+    get(&request, "crates/cert_tool/data/request.der");
     parts();
     verdicts();
     for (size_t i = 0; i < WRITERS; i++) {

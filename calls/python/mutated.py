@@ -59,7 +59,7 @@ class Sum:
 def main():
     if len(sys.argv) != 2:
         sys.exit(__doc__)
-    data = TOP / "crates" / "tool_rows" / "data"
+    data = TOP / "crates" / "cert_tool" / "data"
     server = (TOP / "examples" / "server.der").read_bytes()
     files = ("root.der", "chain.der", "answers.txt", "list.der", "request.der")
     root, chain, answers, revoked, request = ((data / name).read_bytes() for name in files)

@@ -1,5 +1,5 @@
 #!/usr/bin/env python3
-"""Has the Python module answer the rows of `tool_rows` and `cert_rows` that one of its calls
+"""Has the Python module answer the rows of `cert_tool` and `cert_rows` that one of its calls
 answers, and compares each answer with the one that stands there.
 
     calls/python/rows.py     with the module to import (PYTHONPATH, or an installed wheel); the
@@ -14,7 +14,7 @@ from wurstdrape import Error, Kind, Malformed, Status
 
 TOP = pathlib.Path(__file__).resolve().parents[2]
 ROWS = TOP / "crates"
-DATA = ROWS / "tool_rows" / "data"
+DATA = ROWS / "cert_tool" / "data"
 KINDS = [kind.value for kind in Kind]
 OPTIONS = {
     "verify": ("anchors", "answers", "at", "purpose", "limit"),
@@ -33,17 +33,14 @@ PURPOSES = {
 
 
 def tool_rows():
-    """Each question of `tool_rows`, the lines that answer it, and the status."""
-    lines = iter((ROWS / "tool_rows" / "stdout").read_text().splitlines())
-    for question in (ROWS / "tool_rows" / "stdin").read_text().splitlines():
-        told = next(lines)
-        if question != told:
-            sys.exit(f"rows differ: {question}, {told}")
+    """Each question of `cert_tool`, the lines that answer it, and the status."""
+    lines = iter((ROWS / "cert_tool" / "rows.txt").read_text().splitlines())
+    for question in lines:
         if not question or question.startswith("#"):
             continue
         answer = []
         while not (line := next(lines)).startswith("= "):
-            answer.append(line)
+            answer.append(line.removeprefix("! "))
         yield question, answer, int(line[2:])
 
 

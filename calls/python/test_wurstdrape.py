@@ -14,7 +14,7 @@ import wurstdrape
 from wurstdrape import ChainFault, Error, FaultKind, Kind, Malformed, Rule, Status
 
 TOP = pathlib.Path(__file__).resolve().parents[2]
-DATA = TOP / "crates" / "tool_rows" / "data"
+DATA = TOP / "crates" / "cert_tool" / "data"
 # 2026-05-28
 MOMENT = 1780000000
 

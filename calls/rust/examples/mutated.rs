@@ -132,7 +132,7 @@ fn verdict_on(answers: &[u8], chain: &[u8], terms: &Terms<'_>) -> Told {
 fn main() {
     let count: usize = env::args().nth(1).unwrap().parse().unwrap();
     let top = Path::new(env!("CARGO_MANIFEST_DIR")).join("../..");
-    let data = |name: &str| fs::read(top.join("crates/tool_rows/data").join(name)).unwrap();
+    let data = |name: &str| fs::read(top.join("crates/cert_tool/data").join(name)).unwrap();
     let server = fs::read(top.join("examples/server.der")).unwrap();
     let (root, chain, answers) = (data("root.der"), data("chain.der"), data("answers.txt"));
     let files = [

@@ -19,7 +19,7 @@ fn read(name: &str) -> Vec<u8> {
 }
 
 fn data(name: &str) -> Vec<u8> {
-    read(&format!("crates/tool_rows/data/{name}"))
+    read(&format!("crates/cert_tool/data/{name}"))
 }
 
 fn terms(anchors: &[u8]) -> Terms<'_> {
