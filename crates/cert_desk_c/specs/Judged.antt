@@ -15,7 +15,7 @@ use Rattle.cert_desk_rules.specs.Questions.{Question}
 use Rattle.cert_desk_checking.specs.AnchorFiles.{IsAnchorFile}
 use Rattle.cert_desk_checking.specs.QuestionLines.{chain_lines, lines_octets}
 use Rattle.cert_desk_checking.specs.Runs.{run_terms}
-use Rattle.cert_tool_runs.specs.AnswerLines.{file_says}
+use Rattle.cert_desk_answers.specs.AnswerLines.{file_says}
 
 -- The octets are anchors and answers, and it is so under the terms that they give, with a judge
 -- that says yes to what is listed, and to nothing else.

@@ -19,17 +19,17 @@ ghost use Rattle.cert_desk_rules.specs.Verdicts.{IsVerdict, Trusted, Refused, Fa
 ghost use Rattle.cert_desk_checking.specs.Anchors.{anchor_plain};
 ghost use Rattle.cert_desk_checking.specs.AnchorFiles.{IsAnchorFile};
 ghost use Rattle.cert_desk_checking.specs.Runs.{run_terms};
-ghost use Rattle.cert_tool_runs.specs.AnswerLines.{file_says};
+ghost use Rattle.cert_desk_answers.specs.AnswerLines.{file_says};
 ghost use Rattle.cert_desk_c.specs.Judged.{SaysTrusted, UnderGiven, UnderTerms};
 
 use crate::numbers::{WdPlace, tell};
 use crate::rooms::code;
+use cert_desk_answers::{NoAnswers, answers_in};
 use cert_desk_bundle::{Bundle, BundleError};
 use cert_desk_checking::laws::one_anchor_file;
 use cert_desk_checking::{Anchor, Outcome, check, read_anchors};
 use cert_desk_io::{ExitStatus, MemoryInput};
 use cert_desk_rules::{AnswersJudge, Verdict};
-use cert_tool_runs::{NoAnswers, answers_in};
 use const_oid::ObjectIdentifier;
 use std::alloc::Global;
 

@@ -1,12 +1,8 @@
 pub mod Words
 pub mod Tasks
-pub mod FaultTexts
-pub mod AnswerLines
-pub mod AnswerReading
 pub mod Stops
 pub mod Asking
 pub mod Verifying
 pub mod JsonTexts
 pub mod Splitting
 pub mod TaskRuns
-pub mod Laws

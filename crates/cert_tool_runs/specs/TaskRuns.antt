@@ -15,7 +15,7 @@ use Rattle.cert_desk_checking.specs.Runs.{IsOutcome, judging}
 use Rattle.cert_desk_bundle.specs.Streams.{Kept}
 use Rattle.cert_tool_runs.specs.declared.arguments.Moment.{Moment}
 use Rattle.cert_tool_runs.specs.declared.arguments.Moment.TheVariants as moments
-use Rattle.cert_tool_runs.specs.declared.no_answers.NoAnswers.{NoAnswers}
+use Rattle.cert_desk_answers.specs.declared.no_answers.NoAnswers.{NoAnswers}
 use Rattle.cert_tool_runs.specs.declared.tasks.Command.TheVariants as commands
 use Rattle.cert_tool_runs.specs.declared.tasks.Command.{Command}
 use Rattle.cert_tool_runs.specs.declared.tasks.Misuse.{Misuse}

@@ -17,11 +17,11 @@ use Rattle.cert_desk_rules.specs.RuleNames.{rule_name}
 use Rattle.cert_desk_checking.specs.Lines.{line_of}
 use Rattle.cert_desk_rules.specs.Questions.{Question}
 use Rattle.cert_desk_checking.specs.Runs.{status_of}
-use Rattle.cert_tool_runs.specs.declared.line_fault.LineFault.{LineFault}
-use Rattle.cert_tool_runs.specs.declared.no_answers.NoAnswers.{NoAnswers}
-use Rattle.cert_tool_runs.specs.declared.no_answers.NoAnswers.TheVariants as reasons
-use Rattle.cert_tool_runs.specs.AnswerLines.{file_says}
-use Rattle.cert_tool_runs.specs.FaultTexts.{line_fault_text}
+use Rattle.cert_desk_answers.specs.declared.line_fault.LineFault.{LineFault}
+use Rattle.cert_desk_answers.specs.declared.no_answers.NoAnswers.{NoAnswers}
+use Rattle.cert_desk_answers.specs.declared.no_answers.NoAnswers.TheVariants as reasons
+use Rattle.cert_desk_answers.specs.AnswerLines.{file_says}
+use Rattle.cert_desk_answers.specs.FaultTexts.{line_fault_text}
 use Rattle.cert_tool_runs.specs.Stops.{IsStopTold}
 
 -- what is read as answers: these, or why there are none

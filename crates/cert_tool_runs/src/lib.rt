@@ -5,7 +5,6 @@
 
 mod alike_names;
 mod anchor_refusal;
-mod answer_lines;
 mod arguments;
 mod asking;
 mod breaches;
@@ -18,9 +17,6 @@ mod given;
 mod heard;
 mod help;
 mod json_texts;
-pub mod laws;
-mod line_fault;
-mod no_answers;
 mod no_command;
 mod reading;
 mod reasons;
@@ -36,13 +32,10 @@ mod telling;
 mod verifying;
 mod words;
 
-pub use answer_lines::answers_in;
 pub use arguments::Moment;
 pub use asking::run_questions;
 pub use files::{HostFiles, HostReader};
 pub use given::{Key, WordFault};
-pub use line_fault::LineFault;
-pub use no_answers::NoAnswers;
 pub use splitting::{run_list, run_reverse, run_take};
 pub use tasks::{Command, Misuse, Need, Task};
 pub use verifying::{read_answers, run_verify, tell_none};

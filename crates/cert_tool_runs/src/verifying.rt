@@ -12,10 +12,8 @@ ghost use Rattle.cert_desk_rules.specs.Judges.{judge_answers, judge_questions};
 ghost use Rattle.cert_tool_runs.specs.Verifying.{AreAnswers, IsNoneTold, IsToldAs, wrong_line};
 ghost use Rattle.cert_tool_runs.specs.Verifying.{verdict_json, verdict_text};
 
-use crate::answer_lines::answers_in;
-use crate::line_fault::LineFault;
-use crate::no_answers::NoAnswers;
 use crate::stopping::tell_stop;
+use cert_desk_answers::{LineFault, NoAnswers, answers_in};
 use cert_desk_checking::{Outcome, find_outcome, status_of, verdict_line};
 use cert_desk_io::{
     ExitStatus, Input, Output, ReadAllError, answer, complain, read_all, tell_device, tell_memory,

@@ -5,7 +5,7 @@ use Rattle.cert_desk_rules.specs.Answers.{answer_plain, only_yes_to}
 use Rattle.cert_desk_rules.specs.Judges.{judge_answers}
 use Rattle.cert_desk_rules.specs.Judging.{PlainAnchor}
 use Rattle.cert_desk_rules.specs.Questions.{Question}
-use Rattle.cert_tool_runs.specs.declared.line_fault.LineFault.{LineFault}
+use Rattle.cert_desk_answers.specs.declared.line_fault.LineFault.{LineFault}
 use Rattle.cert_desk_c.proofs.Judged.{first_of, ok_is, trusted_by}
 use Rattle.cert_desk_c.proofs.judging.verdict_of.Goals as goal
 

@@ -4,11 +4,11 @@ ghost use Rattle.std.specs.List.{list_all};
 ghost use Rattle.der_core_head.specs.Grammar.{read_whole};
 ghost use Rattle.x509_cert_parts.specs.Views.{algorithm_plain, key_plain};
 ghost use Rattle.cert_desk_rules.specs.Answers.{answer_plain};
-ghost use Rattle.cert_tool_runs.specs.AnswerLines.{algorithm_in, bits_in, file_says, is_anchor};
-ghost use Rattle.cert_tool_runs.specs.AnswerLines.{is_digit, is_number, is_skipped, key_in};
-ghost use Rattle.cert_tool_runs.specs.AnswerLines.{line_says, octets_in, parts, question_in};
-ghost use Rattle.cert_tool_runs.specs.AnswerLines.{said, six_say, value_or, words_say};
-ghost use Rattle.cert_tool_runs.specs.AnswerReading.{FailsBy, IsNoFile, IsNoLine, added_by};
+ghost use Rattle.cert_desk_answers.specs.AnswerLines.{algorithm_in, bits_in, file_says, is_anchor};
+ghost use Rattle.cert_desk_answers.specs.AnswerLines.{is_digit, is_number, is_skipped, key_in};
+ghost use Rattle.cert_desk_answers.specs.AnswerLines.{line_says, octets_in, parts, question_in};
+ghost use Rattle.cert_desk_answers.specs.AnswerLines.{said, six_say, value_or, words_say};
+ghost use Rattle.cert_desk_answers.specs.AnswerReading.{FailsBy, IsNoFile, IsNoLine, added_by};
 
 use crate::line_fault::LineFault;
 use crate::no_answers::NoAnswers;

@@ -1,7 +1,7 @@
 -- How the faults of a line of answers are told.
 use Rattle.std.specs.Prelude.{ℕ, List, codes}
-use Rattle.cert_tool_runs.specs.declared.line_fault.LineFault.{LineFault}
-use Rattle.cert_tool_runs.specs.declared.line_fault.LineFault.TheVariants as faults
+use Rattle.cert_desk_answers.specs.declared.line_fault.LineFault.{LineFault}
+use Rattle.cert_desk_answers.specs.declared.line_fault.LineFault.TheVariants as faults
 
 abbrev pub line_fault_text : LineFault → List ℕ
 line_fault_text faults.NotSixWords = codes "not six words with one blank between them"

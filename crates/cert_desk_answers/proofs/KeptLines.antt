@@ -27,11 +27,11 @@ use Rattle.cert_desk_checking.proofs.AskedValues.{IsWritable, file_keys, lines_w
 use Rattle.cert_desk_checking.proofs.ListedQuestions.{judged_by_lines}
 use Rattle.cert_desk_bundle.proofs.OneChain.{one_chain}
 use Rattle.cert_desk_checking.proofs.SameQuestions.{listed_alike}
-use Rattle.cert_tool_runs.specs.declared.line_fault.LineFault.{LineFault}
-use Rattle.cert_tool_runs.specs.declared.line_fault.LineFault.TheVariants as faults
-use Rattle.cert_tool_runs.specs.AnswerLines.{answers_from, file_says, is_anchor, is_number, is_skipped, line_says, octets_in, octets_or, parts, question_in, said, value_of, value_or, with_line, words_say}
-use Rattle.cert_tool_runs.specs.Laws.{accepted_lines}
-use Rattle.cert_tool_runs.proofs.LineWords.{Above, IsWord, above_lower, anchor_is, anchor_is_word, decimal_number, decimal_some, decimal_word, hex_word, none_is}
+use Rattle.cert_desk_answers.specs.declared.line_fault.LineFault.{LineFault}
+use Rattle.cert_desk_answers.specs.declared.line_fault.LineFault.TheVariants as faults
+use Rattle.cert_desk_answers.specs.AnswerLines.{answers_from, file_says, is_anchor, is_number, is_skipped, line_says, octets_in, octets_or, parts, question_in, said, value_of, value_or, with_line, words_say}
+use Rattle.cert_desk_answers.specs.Laws.{accepted_lines}
+use Rattle.cert_desk_answers.proofs.LineWords.{Above, IsWord, above_lower, anchor_is, anchor_is_word, decimal_number, decimal_some, decimal_word, hex_word, none_is}
 
 -- What base 16 writes is read
 

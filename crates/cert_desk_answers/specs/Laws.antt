@@ -12,7 +12,7 @@ use Rattle.cert_desk_checking.specs.QuestionLines.{QuestionLine, chain_lines, li
 use Rattle.cert_desk_checking.specs.QuestionLines.{questions_of_lines}
 use Rattle.cert_desk_rules.specs.Questions.{Question, answer_on, under}
 use Rattle.cert_desk_rules.specs.Verdicts.{Asks, IsVerdict}
-use Rattle.cert_tool_runs.specs.AnswerLines.{file_says}
+use Rattle.cert_desk_answers.specs.AnswerLines.{file_says}
 
 -- Whichever lines of a chain's questions are kept, and in whatever order: a file of them is read as
 -- their questions.

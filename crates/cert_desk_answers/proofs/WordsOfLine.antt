@@ -1,8 +1,8 @@
 -- The six words of a line.
 use Rattle.std.proofs.Common.{ℕ, ◌<◌, ◌≤◌, List, [], ◌∷◌, length, map, get_or, Bor, arith, Result}
 use Rattle.cert_desk_rules.specs.Questions.{Question}
-use Rattle.cert_tool_runs.specs.declared.line_fault.LineFault.{LineFault}
-use Rattle.cert_tool_runs.specs.AnswerLines.{six_say, words_say}
+use Rattle.cert_desk_answers.specs.declared.line_fault.LineFault.{LineFault}
+use Rattle.cert_desk_answers.specs.AnswerLines.{six_say, words_say}
 
 -- what holds of what six words say holds of what their line says
 pub by_six : (P : Result Question LineFault → Type 0) (ws : List (Bor (List ℕ))) (p a k m s b : Bor (List ℕ)) → 6 ≤ length ws → length ws < 7

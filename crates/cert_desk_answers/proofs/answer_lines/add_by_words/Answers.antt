@@ -1,9 +1,9 @@
 use Rattle.std.proofs.Common.{rules, ◌≡◌, ℕ, List, Bor, map, Some}
 use Rattle.cert_desk_rules.specs.Answers.{answer_plain}
-use Rattle.cert_tool_runs.specs.AnswerLines.{said, words_say}
-use Rattle.cert_tool_runs.specs.AnswerReading.{FailsBy, added_by}
-use Rattle.cert_tool_runs.proofs.WordsOfLine.{by_six}
-use Rattle.cert_tool_runs.proofs.answer_lines.add_by_words.Goals as goal
+use Rattle.cert_desk_answers.specs.AnswerLines.{said, words_say}
+use Rattle.cert_desk_answers.specs.AnswerReading.{FailsBy, added_by}
+use Rattle.cert_desk_answers.proofs.WordsOfLine.{by_six}
+use Rattle.cert_desk_answers.proofs.answer_lines.add_by_words.Goals as goal
 
 pub returns-in_err-add_by_six-clause-refused : goal.returns-in_err-add_by_six-clause-refused
 returns-in_err-add_by_six-clause-refused c =

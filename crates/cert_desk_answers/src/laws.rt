@@ -1,5 +1,5 @@
 //! Laws of files of answers. Each function does nothing: its contract is the law.
-ghost use Rattle.cert_tool_runs.specs.Laws.{AcceptedLinesJudgeAlike, KeptLinesAreRead};
+ghost use Rattle.cert_desk_answers.specs.Laws.{AcceptedLinesJudgeAlike, KeptLinesAreRead};
 
 /// Whichever lines of a chain's questions are kept, and in whatever order, `answers_in` reads a
 /// file of them as their questions: no line is refused, passed over, or read as another question.

@@ -9,7 +9,7 @@ use Rattle.std.proofs.lemmas.List.Elements.{All-from_recursion}
 use Rattle.der_core_head.specs.Octets.{IsOctets}
 use Rattle.hex.specs.Hex.{encode_lower, encode_with, lower_digits}
 use Rattle.cert_desk_checking.specs.QuestionLines.{anchor_word}
-use Rattle.cert_tool_runs.specs.AnswerLines.{is_anchor, is_digit, is_number}
+use Rattle.cert_desk_answers.specs.AnswerLines.{is_anchor, is_digit, is_number}
 
 -- each octet is above this one
 abbrev pub Above : ℕ → List ℕ → Type 0

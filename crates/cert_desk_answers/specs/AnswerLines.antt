@@ -12,8 +12,8 @@ use Rattle.const_oid.specs.Bound.{Bound}
 use Rattle.x509_cert_parts.specs.Grammar.{Algorithm, PublicKey, algorithm_identifier, bit_string}
 use Rattle.x509_cert_parts.specs.Grammar.{public_key_info}
 use Rattle.cert_desk_rules.specs.Questions.{Question}
-use Rattle.cert_tool_runs.specs.declared.line_fault.LineFault.{LineFault}
-use Rattle.cert_tool_runs.specs.declared.line_fault.LineFault.TheVariants as faults
+use Rattle.cert_desk_answers.specs.declared.line_fault.LineFault.{LineFault}
+use Rattle.cert_desk_answers.specs.declared.line_fault.LineFault.TheVariants as faults
 
 -- the octets that a text writes in base 16, or this fault
 abbrev pub octets_or : LineFault → Result (List ℕ) FromHexError → Result (List ℕ) LineFault

@@ -1,6 +1,6 @@
 use Rattle.std.proofs.Common.{rules}
-use Rattle.cert_tool_runs.proofs.AnswerFile.{behind-line, no_file}
-use Rattle.cert_tool_runs.proofs.answer_lines.answers_in.Goals as goal
+use Rattle.cert_desk_answers.proofs.AnswerFile.{behind-line, no_file}
+use Rattle.cert_desk_answers.proofs.answer_lines.answers_in.Goals as goal
 
 pub returns-in-Err-clause-refused : goal.returns-in-Err-clause-refused
 returns-in-Err-clause-refused c =

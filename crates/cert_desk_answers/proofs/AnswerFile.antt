@@ -2,11 +2,11 @@
 use Rattle.std.proofs.Common.{◌≡◌, ℕ, suc, ◌+◌, ◌<◌, arith, Bor, length, map, drop, get_or, List, [], ◌∷◌, ◌++◌, Option, None, Some, unwrap_or, Result, Ok, Err, refl, ap, sym, ◌∙◌, append_assoc}
 use Rattle.std.proofs.Math.Seq.{drop-cons}
 use Rattle.cert_desk_rules.specs.Questions.{Question}
-use Rattle.cert_tool_runs.specs.declared.line_fault.LineFault.{LineFault}
-use Rattle.cert_tool_runs.specs.AnswerLines.{with_line, line_says, answers_from, file_says}
-use Rattle.cert_tool_runs.specs.declared.no_answers.NoAnswers.{NoAnswers}
-use Rattle.cert_tool_runs.specs.declared.no_answers.NoAnswers.TheVariants as reasons
-use Rattle.cert_tool_runs.specs.AnswerReading.{IsNoFile, IsNoLine, added_by}
+use Rattle.cert_desk_answers.specs.declared.line_fault.LineFault.{LineFault}
+use Rattle.cert_desk_answers.specs.AnswerLines.{with_line, line_says, answers_from, file_says}
+use Rattle.cert_desk_answers.specs.declared.no_answers.NoAnswers.{NoAnswers}
+use Rattle.cert_desk_answers.specs.declared.no_answers.NoAnswers.TheVariants as reasons
+use Rattle.cert_desk_answers.specs.AnswerReading.{IsNoFile, IsNoLine, added_by}
 
 -- what lines say behind others with these answers
 abbrev pub behind : List Question → Result (List Question) (ℕ × LineFault) → Result (List Question) (ℕ × LineFault)

@@ -1,12 +1,12 @@
 -- How a file of answers is read, line by line.
 use Rattle.std.specs.Prelude.{◌≡◌, ℕ, List, [], ◌∷◌, ◌++◌, Option, Some, None, Result, Ok, Err}
 use Rattle.cert_desk_rules.specs.Questions.{Question}
-use Rattle.cert_tool_runs.specs.declared.answer_lines.LineError.{LineError}
-use Rattle.cert_tool_runs.specs.declared.answer_lines.LineError.TheVariants as errors
-use Rattle.cert_tool_runs.specs.declared.line_fault.LineFault.{LineFault}
-use Rattle.cert_tool_runs.specs.declared.no_answers.NoAnswers.{NoAnswers}
-use Rattle.cert_tool_runs.specs.declared.no_answers.NoAnswers.TheVariants as reasons
-use Rattle.cert_tool_runs.specs.AnswerLines.{file_says, line_says}
+use Rattle.cert_desk_answers.specs.declared.answer_lines.LineError.{LineError}
+use Rattle.cert_desk_answers.specs.declared.answer_lines.LineError.TheVariants as errors
+use Rattle.cert_desk_answers.specs.declared.line_fault.LineFault.{LineFault}
+use Rattle.cert_desk_answers.specs.declared.no_answers.NoAnswers.{NoAnswers}
+use Rattle.cert_desk_answers.specs.declared.no_answers.NoAnswers.TheVariants as reasons
+use Rattle.cert_desk_answers.specs.AnswerLines.{file_says, line_says}
 
 -- what is read fails by the fault of an error, unless that is out of memory
 abbrev pub FailsBy : {A : Type 0} → Result A LineFault → LineError → Type 0

@@ -1,6 +1,6 @@
 //! Lines that are no answers.
 ghost use Rattle.std.specs.Prelude.{Some};
-ghost use Rattle.cert_tool_runs.specs.FaultTexts.{line_fault_text};
+ghost use Rattle.cert_desk_answers.specs.FaultTexts.{line_fault_text};
 
 use std::fmt;
 

@@ -1,0 +1,4 @@
+pub mod AnswerFile
+pub mod WordsOfLine
+pub mod LineWords
+pub mod KeptLines

@@ -1,0 +1,4 @@
+pub mod FaultTexts
+pub mod AnswerLines
+pub mod AnswerReading
+pub mod Laws

@@ -1,5 +1,0 @@
-use Rattle.cert_tool_runs.proofs.KeptLines.{accepted_lines_judge_alike}
-use Rattle.cert_tool_runs.proofs.laws.accepted_lines_judge_alike.Goals as goal
-
-pub returns : goal.returns
-returns c = accepted_lines_judge_alike

@@ -1,5 +1,0 @@
-use Rattle.cert_tool_runs.proofs.KeptLines.{kept_lines_are_read}
-use Rattle.cert_tool_runs.proofs.laws.kept_lines_are_read.Goals as goal
-
-pub returns : goal.returns
-returns c = kept_lines_are_read
