@@ -1,7 +1,7 @@
 #!/usr/bin/env bash
 # Tries that a release with one octet changed is refused, and that the sentence names the file; and
-# that an octet changed in a library once it is laid is told by `tools/unpack --laid`. Of each kind of
-# file it says whether `rt check` noticed it too.
+# that an octet changed in a library once it is laid is told by `tools/unpack --laid`, of one file
+# of each kind. It says of which `rt check` notices nothing.
 #   tools/release_test.sh RELEASE
 set -euo pipefail
 top=$(cd "$(dirname "$0")/.." && pwd)
