@@ -11,6 +11,8 @@ import re
 import sources
 
 FACADES = ("const_oid", "der_core", "der_types", "x509_cert", "cert_desk")
+# What has claims, and is no library: what its modules call public has pages, too.
+PROGRAMS = ("cert_tool",)
 DECLARED = re.compile(
     r"^(?:pub(?:\(\w+\))? )?(?:unsafe )?(?P<kind>struct|enum|trait|type|const|static) "
     r"(?P<name>\w+)|^macro_rules! (?P<macro>\w+)"
@@ -133,7 +135,7 @@ class House:
         self.code = {(source.crate, source.name): source for source in code}
         self.libraries = [
             crate for crate in sources.closure(sources.dependencies())
-            if (crate, "lib.rt") in self.code
+            if (crate, "lib.rt") in self.code or crate in PROGRAMS
         ]
         self.own = {place: self.declared(source) for place, source in self.code.items()}
         self.uses = {place: list(uses_of(source.lines)) for place, source in self.code.items()}
@@ -141,9 +143,11 @@ class House:
         self.public = {}
         for crate in self.libraries:
             self.walk(crate, (), crate in FACADES)
-        for items in self.own.values():
-            exported = [item for item in items.values() if item.call and item.call.is_exported]
-            self.public |= {item.key: item for item in exported}
+        for (crate, _), items in self.own.items():
+            for item in items.values():
+                named = item.is_public and crate in PROGRAMS
+                if item.call and (item.call.is_exported or named):
+                    self.public[item.key] = item
         self.impls = [impl for source in code for impl in self.impls_of(source)]
         self.give_members()
 

@@ -460,8 +460,7 @@ def pages(book):
 
     crates = {}
     for crate in book.house.libraries:
-        source = book.house.code[(crate, "lib.rt")]
-        crates[crate] = head_of(source.lines, "//!")
+        crates[crate] = head_of(book.house.file_of(crate, ()).lines, "//!")
     facades = {crate: crates[crate] for crate in items.FACADES}
     rooms = {crate: head for crate, head in crates.items() if crate not in facades}
     for item in book.items:
