@@ -347,8 +347,8 @@ def subtrees(label, listed, encoded):
     for of, (_, tree) in zip(listed or [], values(encoded), strict=True):
         yield from general_name(label, of)
         for tag, number in list(values(tree))[1:]:
-            bound = {0x80: "from", 0x81: "to"}[tag]
-            yield f"    {bound} level {int.from_bytes(number, 'big')}"
+            bound = {0x80: "minimum", 0x81: "maximum"}[tag]
+            yield f"    {bound} {int.from_bytes(number, 'big')}"
 
 
 def name_constraints(content, encoded):

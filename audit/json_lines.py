@@ -262,9 +262,9 @@ def members(margin, of):
         elif key in ("permittedSubtrees", "excludedSubtrees"):
             for tree in each:
                 yield from general_name(margin, key.removesuffix("Subtrees") + " ", tree)
-                for bound, words in (("minimum", "from"), ("maximum", "to")):
+                for bound in ("minimum", "maximum"):
                     if bound in tree:
-                        yield f"{margin}  {words} level {tree[bound]}"
+                        yield f"{margin}  {bound} {tree[bound]}"
         elif key == "policies":
             yield from policies(margin, each)
         elif key == "mappings":
