@@ -45,9 +45,11 @@ ld -r -o "$object" --whole-archive "$built" --no-whole-archive "$kit/c/liblibc_c
 objcopy --wildcard --keep-global-symbol='wd_*' "$object"
 rm -f "$folder/libwurstdrape.a"
 ar rcsD "$folder/libwurstdrape.a" "$object"
-# The kit's linker keeps one of several functions that have the same code.
+# The kit's linker keeps one of several functions that have the same code, and one of several
+# constants: functions that choose by a table are the same only where their tables are.
 "${CC:-cc}" -shared -o "$folder/libwurstdrape.so" "$object" -fuse-ld=lld -B"$kit/toolchain/bin" \
-    -Wl,--icf=all -Wl,--gc-sections -Wl,-z,defs -Wl,-soname,libwurstdrape.so \
+    -Wl,--icf=all -Wl,--ignore-data-address-equality -Wl,--gc-sections -Wl,-z,defs \
+    -Wl,-soname,libwurstdrape.so \
     -Wl,--version-script="$here/exports.map"
 rm "$object"
 strip --strip-unneeded "$folder/libwurstdrape.so"
