@@ -1,7 +1,7 @@
 #!/usr/bin/env bash
 # Has OpenSSL 3 read what crates/build_certificates and crates/builder_rows build, and compares the
-# fields with those that were asked for: run `rt run` in the first, and `rt run < stdin` in the
-# second, before. It is no part of the gate.
+# fields with those that were asked for: run `rt run < stdin` in both before. It is no part of the
+# gate.
 set -euo pipefail
 top=$(cd "$(dirname "$0")/.." && pwd)
 faults=0
@@ -20,7 +20,7 @@ asked() {
     echo "$name: $# fields looked for"
 }
 
-mapfile -t lines < <("$top/crates/build_certificates/out/build_certificates")
+mapfile -t lines < <("$top/crates/build_certificates/out/build_certificates" <<<chain)
 asked root "$(text "${lines[0]}")" 'Version: 3' 'Serial Number: 1 ' \
     'Issuer: CN=Example Root,O=Example,C=US' 'Subject: CN=Example Root,O=Example,C=US' \
     'Not Before: Jan  1 00:00:00 2026 GMT' 'Not After : Jan  1 00:00:00 2036 GMT' 'CA:TRUE' \

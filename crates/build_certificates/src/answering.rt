@@ -5,7 +5,9 @@ use crate::{builder_for, profile_of_server};
 use const_oid::AssociatedOid;
 use std::alloc::Global;
 use x509_cert::builder::{Builder, CertificateBuilder, Error, Subscriber};
-use x509_cert::{Any, Attribute, CertReq, Certificate, Extension, ExtensionReq, SubjectAltName};
+use x509_cert::{
+    Any, Attribute, CertReq, Certificate, Extension, ExtensionReq, Name, SubjectAltName,
+};
 
 /// The alternative names among the extensions that a value of an attribute asks for.
 fn names_in(alloc: Global, value: &Any) -> Result<Option<Extension>, Error> {
@@ -44,6 +46,18 @@ fn add_names(
     Ok(())
 }
 
+/// The builder of the certificate of a server for its request, below this issuer.
+fn builder_asked(
+    alloc: Global,
+    request: &CertReq,
+    issuer: &Name,
+) -> Result<CertificateBuilder<Subscriber>, Error> {
+    let profile = profile_of_server(alloc, request.info.subject.clone(alloc)?, issuer)?;
+    let mut builder = builder_for(alloc, profile, 4, request.info.public_key.clone(alloc)?)?;
+    add_names(alloc, &mut builder, request)?;
+    Ok(builder)
+}
+
 /// The certificate of a server for its request (RFC 2986), below an authority: with its subject and
 /// its key, and of the extensions that it asks for with the alternative names; the profile adds all
 /// others. That the request bears a signature under its own key, and that the names are the
@@ -54,9 +68,7 @@ pub fn issued(
     authority: &Certificate,
     signer: &DigestSigner,
 ) -> Result<Certificate, Error> {
-    let profile = profile_of_server(alloc, request.info.subject.clone(alloc)?, authority)?;
-    let mut builder = builder_for(alloc, profile, 4, request.info.public_key.clone(alloc)?)?;
-    add_names(alloc, &mut builder, request)?;
+    let builder = builder_asked(alloc, request, authority.tbs_certificate().subject())?;
     let certificate = builder.build(alloc, signer)?;
     Ok(certificate)
 }

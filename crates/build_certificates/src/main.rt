@@ -1,10 +1,23 @@
-//! Makes a root, an authority below it, a server's certificate, a list of what the authority
-//! revoked, a request of the server and the certificate that is issued for it, and prints each as a
-//! line of hex.
+//! Makes certificates. A line of standard input each, a line of standard output for each, but for
+//! `chain`, which has six.
+//!
+//! | Question | Answer |
+//! |---|---|
+//! | `chain` | a root, an authority below it, a server's certificate, a list of what the authority revoked, a request of the server and the certificate that is issued for it, in hex |
+//! | `WHAT KIND ROOT_KEY SERVER_KEY` | the octets that the root's key has to sign outside, in another program or in a device, in hex |
+//! | `WHAT KIND ROOT_KEY SERVER_KEY BITS` | the certificate with this signature, in hex |
+//! | any other | `?` |
+//!
+//! `WHAT` is `root` or `server`, `KIND` that of the root's key: `rsa`, `p256`, `ed25519`, or
+//! `p256-numbers` where the signature is told by its two numbers. The others name files: with the
+//! encodings of both keys, and with the octets of a signature. What is refused is answered
+//! `refused: WHY`.
 #![tactic(auto)]
 
 mod answering;
 mod digest_signer;
+mod outside;
+mod outside_key;
 
 use answering::issued;
 use der_core::{Encode, FromDer, ToDer};
@@ -46,14 +59,26 @@ const SERVER: &[u8] =
     \x8f\x4d\xa9";
 
 fn main(rt: HostRuntime) -> io::Result<()> {
-    match chain(rt.alloc()) {
-        Ok(text) => print!(rt; "{text}"),
-        Err(error) => println!(rt; "refused: {error}"),
+    for line in rt.lines(rt.alloc()) {
+        match answer(&rt, line?.as_str()) {
+            Some(Ok(text)) => print!(rt; "{text}")?,
+            Some(Err(error)) => println!(rt; "refused: {error}")?,
+            None => println!(rt; "?")?,
+        }
+    }
+    Ok(())
+}
+
+/// The answer of a question, if it is one.
+fn answer(rt: &HostRuntime, line: &str) -> Option<Result<String, Error>> {
+    match line {
+        "chain" => Some(chain(rt.alloc())),
+        _ => outside::answer(rt, line),
     }
 }
 
 /// The key that is the encoding of these octets.
-fn key_of(alloc: Global, octets: &[u8]) -> Result<SubjectPublicKeyInfo, Error> {
+pub(crate) fn key_of(alloc: Global, octets: &[u8]) -> Result<SubjectPublicKeyInfo, Error> {
     let key = SubjectPublicKeyInfo::from_der(alloc, octets)?;
     Ok(key)
 }
@@ -79,7 +104,7 @@ pub(crate) fn builder_for<P: BuilderProfile + Drop>(
 
 /// The builder of a certificate of this profile and number, and of the key that is the encoding of
 /// these octets.
-fn builder_of<P: BuilderProfile + Drop>(
+pub(crate) fn builder_of<P: BuilderProfile + Drop>(
     alloc: Global,
     profile: P,
     number: u8,
@@ -89,13 +114,26 @@ fn builder_of<P: BuilderProfile + Drop>(
     builder_for(alloc, profile, number, key)
 }
 
-/// A root (CA/Browser Forum, Baseline Requirements 7.1.2.1). Its issuer is itself.
-fn root(alloc: Global, signer: &DigestSigner) -> Result<Certificate, Error> {
+/// The name of the root.
+pub(crate) fn name_of_root(alloc: Global) -> Result<Name, Error> {
     let subject = Name::from_str(alloc, "CN=Example Root,O=Example,C=US")?;
-    let profile = Root::new(alloc, false, subject)?;
-    let builder = builder_of(alloc, profile, 1, ROOT)?;
-    let certificate = builder.build(alloc, signer)?;
-    Ok(certificate)
+    Ok(subject)
+}
+
+/// The builder of a root (CA/Browser Forum, Baseline Requirements 7.1.2.1) of this key. Its issuer
+/// is itself.
+pub(crate) fn builder_of_root(
+    alloc: Global,
+    key: &[u8],
+) -> Result<CertificateBuilder<Root>, Error> {
+    let profile = Root::new(alloc, false, name_of_root(alloc)?)?;
+    builder_of(alloc, profile, 1, key)
+}
+
+/// A root.
+fn root(alloc: Global, signer: &DigestSigner) -> Result<Certificate, Error> {
+    let builder = builder_of_root(alloc, ROOT)?;
+    builder.build(alloc, signer)
 }
 
 /// An authority below it (7.1.2.6), below which no other may stand. The signer is the root's.
@@ -114,8 +152,7 @@ fn authority(
         client_auth: true,
     };
     let builder = builder_of(alloc, profile, 2, AUTHORITY)?;
-    let certificate = builder.build(alloc, signer)?;
-    Ok(certificate)
+    builder.build(alloc, signer)
 }
 
 /// The server's one domain.
@@ -132,13 +169,13 @@ fn add_domain(alloc: Global, builder: &mut CertificateBuilder<Subscriber>) -> Re
     Ok(())
 }
 
-/// The profile of a server of this name whose domain was validated.
+/// The profile of a server of this name, below this issuer, whose domain was validated.
 pub(crate) fn profile_of_server(
     alloc: Global,
     subject: Name,
-    authority: &Certificate,
+    issuer: &Name,
 ) -> Result<Subscriber, Error> {
-    let issuer = authority.tbs_certificate().subject().clone(alloc)?;
+    let issuer = issuer.clone(alloc)?;
     let certificate_type = CertificateType::domain_validated(alloc, subject, Vec::new(alloc))?;
     Ok(Subscriber {
         certificate_type,
@@ -149,19 +186,30 @@ pub(crate) fn profile_of_server(
     })
 }
 
-/// A server with one domain (7.1.2.7). Alternative names are added to the builder; the profile adds
-/// the rest after them.
+/// The builder of a server with one domain (7.1.2.7), of this number and key. Alternative names are
+/// added to the builder; the profile adds the rest after them.
+pub(crate) fn builder_of_server(
+    alloc: Global,
+    issuer: &Name,
+    number: u8,
+    key: &[u8],
+) -> Result<CertificateBuilder<Subscriber>, Error> {
+    let subject = Name::from_str(alloc, "CN=server.example")?;
+    let profile = profile_of_server(alloc, subject, issuer)?;
+    let mut builder = builder_of(alloc, profile, number, key)?;
+    add_domain(alloc, &mut builder)?;
+    Ok(builder)
+}
+
+/// A server.
 fn server(
     alloc: Global,
     authority: &Certificate,
     signer: &DigestSigner,
 ) -> Result<Certificate, Error> {
-    let subject = Name::from_str(alloc, "CN=server.example")?;
-    let profile = profile_of_server(alloc, subject, authority)?;
-    let mut builder = builder_of(alloc, profile, 3, SERVER)?;
-    add_domain(alloc, &mut builder)?;
-    let certificate = builder.build(alloc, signer)?;
-    Ok(certificate)
+    let issuer = authority.tbs_certificate().subject();
+    let builder = builder_of_server(alloc, issuer, 3, SERVER)?;
+    builder.build(alloc, signer)
 }
 
 /// What a list says of the server's certificate.
@@ -203,8 +251,7 @@ fn request(alloc: Global, signer: &DigestSigner) -> Result<CertReq, Error> {
     let subject = Name::from_str(alloc, "CN=server.example")?;
     let mut builder = RequestBuilder::new(alloc, subject)?;
     builder.add_extension(alloc, &domain(alloc)?)?;
-    let request = builder.build(alloc, signer)?;
-    Ok(request)
+    builder.build(alloc, signer)
 }
 
 /// The request of the server, which its own key signs.
@@ -220,12 +267,23 @@ fn signer_of(alloc: Global, key: &[u8]) -> Result<DigestSigner, Error> {
     Ok(signer)
 }
 
-/// Adds what was made to a text, as a line of hex.
-fn add_line<T: Encode>(alloc: Global, text: &mut String, made: &T) -> Result<(), Error> {
+/// Octets, as a line of hex.
+pub(crate) fn line_in_hex(alloc: Global, octets: &[u8]) -> Result<String, Error> {
+    let mut line = hex::encode(alloc, octets)?;
+    line.push_str("\n")?;
+    Ok(line)
+}
+
+/// What was made, as a line of hex.
+pub(crate) fn line_of<T: Encode>(alloc: Global, made: &T) -> Result<String, Error> {
     let octets = made.to_der(alloc)?;
-    let line = hex::encode(alloc, octets.as_slice())?;
+    line_in_hex(alloc, octets.as_slice())
+}
+
+/// Adds the line of what was made.
+fn add_line<T: Encode>(alloc: Global, text: &mut String, made: &T) -> Result<(), Error> {
+    let line = line_of(alloc, made)?;
     text.push_str(line.as_str())?;
-    text.push_str("\n")?;
     Ok(())
 }
 
@@ -236,6 +294,15 @@ fn add_certificate(
     certificate: &Certificate,
 ) -> Result<(), Error> {
     add_line(alloc, text, certificate)
+}
+
+/// Adds the certificate that was made.
+fn add_made(
+    alloc: Global,
+    text: &mut String,
+    made: Result<Certificate, Error>,
+) -> Result<(), Error> {
+    add_certificate(alloc, text, &made?)
 }
 
 /// Adds the root, and what stands below it.
@@ -276,21 +343,20 @@ fn add_signed(
     authority: &Certificate,
     signer: &DigestSigner,
 ) -> Result<(), Error> {
-    add_server(alloc, text, authority, signer)?;
-    let list = list(alloc, authority, signer)?;
-    add_line(alloc, text, &list)?;
+    add_made(alloc, text, server(alloc, authority, signer))?;
+    add_list(alloc, text, authority, signer)?;
     add_request(alloc, text, authority, signer)
 }
 
-/// Adds the server.
-fn add_server(
+/// Adds an authority's list.
+fn add_list(
     alloc: Global,
     text: &mut String,
     authority: &Certificate,
     signer: &DigestSigner,
 ) -> Result<(), Error> {
-    let server = server(alloc, authority, signer)?;
-    add_certificate(alloc, text, &server)
+    let list = list(alloc, authority, signer)?;
+    add_line(alloc, text, &list)
 }
 
 /// Adds the server's request, and the certificate that an authority issues for it.
@@ -302,19 +368,7 @@ fn add_request(
 ) -> Result<(), Error> {
     let request = request_of_server(alloc)?;
     add_line(alloc, text, &request)?;
-    add_issued(alloc, text, &request, authority, signer)
-}
-
-/// Adds the certificate that an authority issues for a request.
-fn add_issued(
-    alloc: Global,
-    text: &mut String,
-    request: &CertReq,
-    authority: &Certificate,
-    signer: &DigestSigner,
-) -> Result<(), Error> {
-    let certificate = issued(alloc, request, authority, signer)?;
-    add_certificate(alloc, text, &certificate)
+    add_made(alloc, text, issued(alloc, &request, authority, signer))
 }
 
 /// All of them, each a line.

@@ -1,7 +1,7 @@
 //! Keys that sign elsewhere.
 
 use const_oid::ObjectIdentifier;
-use der_core::{Error, FromDer, ToDer};
+use der_core::{Error, ToDer};
 use std::alloc::Global;
 use x509_cert::builder::{SignError, Signer};
 use x509_cert::{AlgorithmIdentifier, Any, BitString, SubjectPublicKeyInfo, Uint};
@@ -16,9 +16,12 @@ pub struct OutsideKey {
 }
 
 impl OutsideKey {
-    /// The key that is the encoding of these octets, and signs so.
-    pub fn new(alloc: Global, scheme: Scheme, octets: &[u8]) -> Result<OutsideKey, Error> {
-        let info = info_of(alloc, octets)?;
+    /// The key that signs so.
+    pub fn new(
+        alloc: Global,
+        scheme: Scheme,
+        info: SubjectPublicKeyInfo,
+    ) -> Result<OutsideKey, Error> {
         let algorithm = scheme.algorithm(alloc)?;
         Ok(OutsideKey {
             scheme,
@@ -34,11 +37,6 @@ impl OutsideKey {
             _ => BitString::from_bytes(octets.to_vec(alloc)?),
         }
     }
-}
-
-/// The key that is the encoding of these octets.
-pub fn info_of(alloc: Global, octets: &[u8]) -> Result<SubjectPublicKeyInfo, Error> {
-    SubjectPublicKeyInfo::from_der(alloc, octets)
 }
 
 /// A signature by ECDSA (RFC 3279 2.2.3) of which both numbers are told, one after the other in as
