@@ -94,5 +94,5 @@ fn serial_number(alloc: Global, line: &str) -> Result<String, der_core::Error> {
 fn serial_in(alloc: Global, octets: &[u8]) -> Result<String, der_core::Error> {
     let certificate = CertificateInner::<ShortSerials>::from_der(alloc, octets)?;
     let serial = certificate.tbs_certificate().serial_number();
-    Ok(format!(in alloc; "{serial}")?)
+    Ok(serial.to_string(alloc)?)
 }
