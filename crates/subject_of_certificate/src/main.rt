@@ -5,6 +5,7 @@ use der_core::Result;
 use std::alloc::Global;
 use std::io;
 use std::io::Read;
+use x509_cert::Name;
 use x509_cert::certificate::{CertificateInner, Raw};
 
 fn main(rt: HostRuntime) -> io::Result<()> {
@@ -16,10 +17,15 @@ fn main(rt: HostRuntime) -> io::Result<()> {
     }
 }
 
-/// The subject of a certificate as RFC 4514 spells it, and on a line of its own its common name.
+/// A certificate's subject.
 fn described(alloc: Global, octets: &[u8]) -> Result<String> {
     let certificate = CertificateInner::<Raw>::from_der(alloc, octets)?;
     let subject = certificate.tbs_certificate().subject();
+    lines_of(alloc, subject)
+}
+
+/// A name (RFC 4514), and its common name.
+fn lines_of(alloc: Global, subject: &Name) -> Result<String> {
     let common_name = subject.common_name(alloc)?;
     let common_name = common_name.as_ref().map_or("none", |name| name.as_str());
     Ok(format!(in alloc; "{subject}\n{common_name}")?)
