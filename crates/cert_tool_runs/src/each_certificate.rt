@@ -198,11 +198,12 @@ impl Ahead {
             return Ok(());
         }
         let rest = self.octets.len().saturating_sub(self.bundle.unfinished());
-        let octets = Vec::from_slice(alloc, &self.octets[rest..])?;
+        self.octets = Vec::from_slice(alloc, &self.octets[rest..])?;
         self.bundle = Bundle::new(alloc, limit);
-        let is_fed = self.bundle.feed(&octets).is_ok();
-        self.octets = octets;
-        if is_fed { Ok(()) } else { Err(AllocError) }
+        match self.bundle.feed(&self.octets) {
+            Ok(()) => Ok(()),
+            Err(_) => Err(AllocError),
+        }
     }
 }
 

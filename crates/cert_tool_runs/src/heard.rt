@@ -46,29 +46,32 @@ impl Heard {
     }
 }
 
-// The octets of algorithms but for the last arc: of pkcs-1, id-ecSigType, ecdsa-with-SHA2 and
-// id-edwards-curve-algs.
-const PKCS1: &[u8] = &[0x2a, 0x86, 0x48, 0x86, 0xf7, 0x0d, 1, 1];
+// The algorithms whose signatures `examples/answer.py` verifies: RSASSA-PKCS1-v1_5 and RSASSA-PSS
+// (RFC 8017), ECDSA (RFC 5758), Ed25519 and Ed448 (RFC 8410).
+const VERIFIED: [&[u8]; 13] = [
+    &[0x2a, 0x86, 0x48, 0x86, 0xf7, 0x0d, 1, 1, 5],
+    &[0x2a, 0x86, 0x48, 0x86, 0xf7, 0x0d, 1, 1, 10],
+    &[0x2a, 0x86, 0x48, 0x86, 0xf7, 0x0d, 1, 1, 11],
+    &[0x2a, 0x86, 0x48, 0x86, 0xf7, 0x0d, 1, 1, 12],
+    &[0x2a, 0x86, 0x48, 0x86, 0xf7, 0x0d, 1, 1, 13],
+    &[0x2a, 0x86, 0x48, 0x86, 0xf7, 0x0d, 1, 1, 14],
+    &[0x2a, 0x86, 0x48, 0xce, 0x3d, 4, 1],
+    &[0x2a, 0x86, 0x48, 0xce, 0x3d, 4, 3, 1],
+    &[0x2a, 0x86, 0x48, 0xce, 0x3d, 4, 3, 2],
+    &[0x2a, 0x86, 0x48, 0xce, 0x3d, 4, 3, 3],
+    &[0x2a, 0x86, 0x48, 0xce, 0x3d, 4, 3, 4],
+    &[0x2b, 0x65, 0x70],
+    &[0x2b, 0x65, 0x71],
+];
 
-const ECDSA: &[u8] = &[0x2a, 0x86, 0x48, 0xce, 0x3d, 4];
-
-const ECDSA_SHA2: &[u8] = &[0x2a, 0x86, 0x48, 0xce, 0x3d, 4, 3];
-
-const EDWARDS: &[u8] = &[0x2b, 0x65];
-
-// Whether `examples/answer.py` verifies signatures of an algorithm: RSASSA-PKCS1-v1_5 and
-// RSASSA-PSS (RFC 8017), ECDSA (RFC 5758), Ed25519 and Ed448 (RFC 8410).
+// Whether an algorithm is one of them.
 fn is_verified(algorithm: &ObjectIdentifier<39>) -> bool {
-    let Some((last, before)) = algorithm.as_bytes().split_last() else {
-        return false;
-    };
-    match *last {
-        1 => before == ECDSA || before == ECDSA_SHA2,
-        2..=4 => before == ECDSA_SHA2,
-        5 | 10..=14 => before == PKCS1,
-        0x70 | 0x71 => before == EDWARDS,
-        _ => false,
+    for verified in &VERIFIED {
+        if *verified == algorithm.as_bytes() {
+            return true;
+        }
     }
+    false
 }
 
 // Adds which algorithm makes a signature.
