@@ -1,5 +1,5 @@
 -- What becomes of the program's words.
-use Rattle.std.specs.Prelude.{◌≡◌, ℕ, ◌⊎◌, List}
+use Rattle.std.specs.Prelude.{ℕ, ◌⊎◌, List}
 use Rattle.cert_desk_io.specs.declared.exit_status.ExitStatus.{ExitStatus}
 use Rattle.cert_desk_io.specs.declared.exit_status.ExitStatus.TheVariants as statuses
 use Rattle.cert_desk_io.specs.declared.named_inputs.OpenError.{OpenError}

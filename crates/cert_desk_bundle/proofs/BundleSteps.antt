@@ -1,5 +1,5 @@
 -- How a bundle takes octets behind its last certificate.
-use Rattle.std.proofs.Common.{◌≡◌, ◌≢◌, ℕ, ◌+◌, ◌^◌, ◌<◌, List, [], ◌∷◌, ◌++◌, length, take, drop, Some, None, refl, sym, ap, subst, ◌∙◌, arith, inl, inr, append_assoc, append-nil, length-append}
+use Rattle.std.proofs.Common.{◌≡◌, ℕ, ◌+◌, ◌^◌, ◌<◌, List, [], ◌∷◌, ◌++◌, length, take, drop, Some, None, refl, sym, ap, subst, ◌∙◌, arith, inl, inr, append_assoc, length-append}
 use Rattle.std.proofs.lemmas.List.{take_all, take-append-drop}
 use Rattle.std.specs.Global.{Vec}
 use Rattle.const_oid.specs.Bound.{Bound}
@@ -16,8 +16,7 @@ use Rattle.cert_desk_bundle.specs.Faults.{IsFault}
 use Rattle.cert_desk_bundle.specs.Headers.{IsUnfinished}
 use Rattle.cert_desk_bundle.specs.Locations.{plain_of, certificates_of, kept_of, IsPlacedAt, IsUnread, IsKept}
 use Rattle.cert_desk_bundle.specs.Rests.{IsTaken}
-use Rattle.cert_desk_bundle.specs.Steps.{kept_octets, Advances, TakesFront, StopsBy, Stops}
-use Rattle.cert_desk_bundle.specs.Streams.{Kept}
+use Rattle.cert_desk_bundle.specs.Steps.{Advances, TakesFront, StopsBy, Stops}
 use Rattle.cert_desk_bundle.proofs.FaultStays.{IsFault-stays}
 use Rattle.cert_desk_bundle.proofs.LocationLaws.{certificates-more}
 use Rattle.cert_desk_bundle.proofs.Readings.{Advances-none, advances-left, advances-whole, Feeding}

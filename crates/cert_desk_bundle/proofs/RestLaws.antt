@@ -1,5 +1,5 @@
 -- How octets are taken behind the last certificate.
-use Rattle.std.proofs.Common.{◌≡◌, ℕ, ◌+◌, ◌-◌, ◌<◌, ◌≤◌, List, [], ◌∷◌, ◌++◌, length, take, None, ◌∙◌, arith, append_assoc, length-append}
+use Rattle.std.proofs.Common.{◌≡◌, ℕ, ◌+◌, ◌-◌, ◌<◌, List, [], ◌++◌, length, take, None, arith, append_assoc, length-append}
 use Rattle.std.proofs.lemmas.List.{take_all}
 use Rattle.cert_desk_bundle.specs.declared.rest.Rest.{Rest}
 use Rattle.cert_desk_bundle.specs.declared.standing.Standing.{Standing}

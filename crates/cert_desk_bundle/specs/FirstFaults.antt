@@ -1,5 +1,5 @@
 -- The certificate at the front of octets, or why none is there.
-use Rattle.std.specs.Prelude.{ℕ, List, Result, Ok, Err, length, nat_lt, if◌then◌else◌}
+use Rattle.std.specs.Prelude.{ℕ, List, Result, Err, length, nat_lt, if◌then◌else◌}
 use Rattle.const_oid.specs.Bound.{Bound}
 use Rattle.der_core_head.specs.declared.error.ErrorKind.{ErrorKind}
 use Rattle.der_core_head.specs.declared.error.ErrorKind.TheVariants as kinds

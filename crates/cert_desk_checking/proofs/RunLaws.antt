@@ -1,7 +1,7 @@
 -- What a run reads.
 use Rattle.std.proofs.Common.{◌≡◌, ◌≢◌, ℕ, ◌<◌, List, [], length, Result, Ok, Err, OnOk, IfErr, ◌⊎◌, inl, inr, refl, subst, sym, ◌∙◌, arith}
 use Rattle.const_oid.specs.Bound.{Bound}
-use Rattle.cert_desk_io.specs.Devices.{Device, Moved, MetEnd, Sound, Untouched}
+use Rattle.cert_desk_io.specs.Devices.{Device, Moved, MetEnd, Sound}
 use Rattle.x509_cert_certificates.specs.Certificates.{PlainCertificate, raw_certificate}
 use Rattle.cert_desk_bundle.specs.declared.bundle_error.BundleError.TheVariants as errors
 use Rattle.cert_desk_bundle.specs.declared.bundle_error.ReadError.{ReadError}

@@ -7,7 +7,6 @@ use Rattle.cert_desk_io.specs.declared.read_all_error.ReadAllError.TheVariants a
 use Rattle.cert_desk_io.specs.Devices.{Device, Moved, MetEnd, Sound, Untouched}
 use Rattle.cert_desk_io.specs.Telling.{IsAnswer, IsComplaint, IsDeviceTold, IsMemoryTold}
 use Rattle.cert_desk_io.specs.Whole.{IsWhole, IsUnread, most_octets}
-use Rattle.x509_cert_certificates.specs.Certificates.{PlainCertificate}
 use Rattle.cert_desk_checking.specs.declared.anchor_fault.AnchorFault.TheVariants as faults
 use Rattle.cert_desk_rules.specs.declared.checked.Verdict.{Verdict}
 use Rattle.cert_desk_rules.specs.declared.checked.Verdict.TheVariants as verdicts
@@ -15,7 +14,6 @@ use Rattle.cert_desk_bundle.specs.declared.fault_kind.FaultKind.TheVariants as k
 use Rattle.cert_desk_checking.specs.declared.outcome.Outcome.{Outcome}
 use Rattle.cert_desk_checking.specs.declared.outcome.Outcome.TheVariants as outcomes
 use Rattle.cert_desk_checking.specs.AnchorFiles.{IsAnchorFile, HasFirstFault}
-use Rattle.cert_desk_bundle.specs.Chains.{Chain}
 use Rattle.cert_desk_rules.specs.Judging.{PlainAnchor, Answers, Terms}
 use Rattle.cert_desk_checking.specs.Lines.{line_of, anchors_line}
 use Rattle.cert_desk_checking.specs.Reading.{AsksNoMore, ReadFailed}

@@ -5,7 +5,6 @@ use Rattle.der_core_head.specs.Limits.{length_max}
 use Rattle.x509_cert_certificates.specs.Certificates.{PlainCertificate, public_key}
 use Rattle.x509_cert_names.specs.Names.{PlainName}
 use Rattle.x509_cert_parts.specs.Grammar.{PublicKey}
-use Rattle.cert_desk_rules.specs.declared.checked.CheckError.TheVariants as errors
 use Rattle.cert_desk_rules.specs.declared.checked.Verdict.{Verdict}
 use Rattle.cert_desk_rules.specs.declared.checked.Verdict.TheVariants as verdicts
 use Rattle.cert_desk_bundle.specs.declared.standing.Standing.{Standing}

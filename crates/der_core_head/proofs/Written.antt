@@ -1,6 +1,6 @@
 -- What is written of a value is its encoding, and has one where its parts are in range.
 use Rattle.std.proofs.lemmas.Bool.Decides.{nat_tests}
-use Rattle.std.proofs.Common.{◌≡◌, ℕ, ◌+◌, ◌<◌, Bool, true, false, List, [], ◌∷◌, ◌++◌, length, Some, None, Result, Ok, Err, refl, sym, ap, ◌∙◌, append_assoc, arith, inl, inr, ◌-◌, Option, nat_lt, if◌then◌else◌, le-ltb, append-nil, length-append, bytes_eq, IfOk}
+use Rattle.std.proofs.Common.{◌≡◌, ℕ, ◌+◌, Bool, true, false, List, [], ◌∷◌, ◌++◌, length, Some, None, Result, Ok, Err, refl, sym, ap, ◌∙◌, append_assoc, arith, inl, inr, ◌-◌, Option, nat_lt, if◌then◌else◌, le-ltb, append-nil, length-append, bytes_eq, IfOk}
 use Rattle.std.specs.List.{flat_map, AllByRecursion}
 use Rattle.der_core_head.specs.declared.error.Error.{Error}
 use Rattle.der_core_head.specs.declared.error.ErrorKind.{ErrorKind}

@@ -334,12 +334,12 @@ lent-ascends s f l h = elim (cases_lt 0 (length l.octets)) [
 ]
 
 -- a copy of each member, so far
-pub taken_on : {A P : Type 0} (f : A → P) (xs : List A) (x : A) (left more all : List P) → plain_list f xs ++ left ≡ all → left ≡ f x ∷ more → plain_list f (xs ++ x ∷ []) ++ more ≡ all
-taken_on f xs x left more all so_far next =
+pub taken_on : {A P : Type 0} (f : A → P) (xs : List A) (x : A) (left more wanted : List P) → plain_list f xs ++ left ≡ wanted → left ≡ f x ∷ more → plain_list f (xs ++ x ∷ []) ++ more ≡ wanted
+taken_on f xs x left more wanted so_far next =
     ap (λ (u : List _). u ++ more) (plain-append f xs (x ∷ [])) ∙ append_assoc (plain_list f xs) (f x ∷ []) more ∙ ap (λ (u : List _). plain_list f xs ++ u) (sym next) ∙ so_far
 
-pub all_taken : {A P : Type 0} (f : A → P) (xs : List A) (left all : List P) → plain_list f xs ++ left ≡ all → left ≡ [] → plain_list f xs ≡ all
-all_taken f xs left all so_far none = sym (append-nil (plain_list f xs)) ∙ ap (λ (u : List _). plain_list f xs ++ u) (sym none) ∙ so_far
+pub all_taken : {A P : Type 0} (f : A → P) (xs : List A) (left wanted : List P) → plain_list f xs ++ left ≡ wanted → left ≡ [] → plain_list f xs ≡ wanted
+all_taken f xs left wanted so_far none = sym (append-nil (plain_list f xs)) ∙ ap (λ (u : List _). plain_list f xs ++ u) (sym none) ∙ so_far
 
 pub taken_ascend : {A : Type 0} (s : Shape) (written plain : A → Value s) (agree : (x : A) → written x ≡ plain x) (l : Lent A) (xs : List A) → IsLent s written l → plain_list plain xs ≡ members_lent s plain l → Ascends s written xs
 taken_ascend {A} s written plain agree l xs h same =

@@ -1,10 +1,10 @@
 -- What fields write is read back.
-use Rattle.std.proofs.Common.{◌≡◌, ◌/◌, ℕ, Bool, true, false, List, [], ◌∷◌, ◌++◌, length, Some, None, Ok, refl, ap, sym, subst, ◌∙◌, append_assoc, arith}
+use Rattle.std.proofs.Common.{◌≡◌, ◌/◌, ℕ, true, false, List, [], ◌∷◌, ◌++◌, length, Some, None, Ok, refl, ap, sym, subst, ◌∙◌, append_assoc, arith}
 use Rattle.std.proofs.lemmas.Bool.Decides.{nat_tests}
 use Rattle.der_core_head.specs.declared.encoding_rules.EncodingRules.TheVariants as encodings
 use Rattle.der_core_head.specs.declared.tag.Tag.{Tag}
-use Rattle.der_core_head.specs.Tags.{IsTag, class_tag, number_of, same_tag, tag_at, tag_octets}
-use Rattle.der_core_head.specs.Heads.{Head, Fits, head_at, head_octets, tlv}
+use Rattle.der_core_head.specs.Tags.{class_tag, number_of, same_tag, tag_at, tag_octets}
+use Rattle.der_core_head.specs.Heads.{Head, head_at, head_octets, tlv}
 use Rattle.der_core_head.specs.Shapes.{Shape, Content, Value, ContentValue, tagged, optional, nested, only, contents, octets_of, IsValid}
 use Rattle.der_core_head.specs.Spelling.{is_apart, is_element, are_enough}
 use Rattle.der_core_head.specs.Grammar.{read, peek_at, opt_at}

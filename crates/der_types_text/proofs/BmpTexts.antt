@@ -1,5 +1,5 @@
 -- Texts that any octets spell, pairs of octets, and the characters that they spell.
-use Rattle.std.proofs.Common.{◌≡◌, ℕ, zero, suc, ◌<◌, ◌%◌, Bool, true, false, List, [], ◌∷◌, ◌++◌, length, get_or, Ok, Err, refl, ap, sym, ◌∙◌, arith, ◌&&◌, nat_eq, cond, ⊎_elim, encode_utf8_all, chars, IsUtf8}
+use Rattle.std.proofs.Common.{◌≡◌, ℕ, zero, suc, ◌<◌, ◌%◌, Bool, true, false, List, [], ◌∷◌, ◌++◌, length, get_or, Ok, Err, refl, ap, sym, ◌∙◌, arith, nat_eq, encode_utf8_all, chars, IsUtf8}
 use Rattle.std.specs.Cmp.Lexicographic.{pointwise}
 use Rattle.std.specs.List.{list_all}
 use Rattle.std.proofs.lemmas.Bool.{and_parts, cond-true, cond-false, and_from}
@@ -13,7 +13,7 @@ use Rattle.der_core_head.specs.BmpStrings.{is_unit, unit_octets, bmp_octets, are
 use Rattle.der_core_head.proofs.Results.{IsBytes, octets_are, fine, ok_is, if_ok}
 use Rattle.der_core_head.proofs.TextLaws.{bmp_octets-units, units-octets, all_ascii}
 use Rattle.der_types_text.specs.BmpStrings.{are_bmp, bmp_from}
-use Rattle.std.proofs.Math.Utf8.{scalar, scalars, low_scalar}
+use Rattle.std.proofs.Math.Utf8.{scalar, scalars}
 use Rattle.std.proofs.lemmas.Str.{chars-encodes, encodes-chars, IsUtf8-from_ascii}
 use Rattle.der_core_head.specs.Octets.{IsOctets}
 use Rattle.der_core_head.specs.declared.tag.Tag.{Tag}

@@ -1,5 +1,5 @@
 -- Sets of named bits, octet by octet.
-use Rattle.std.proofs.Common.{◌≡◌, ℕ, ◌*◌, ◌%◌, ◌≤◌, true, List, [], ◌∷◌, length, arith, suc, ◌-◌, get_or, refl, sym, ◌∙◌, ap, Bool, map, zero, ◌+◌, ◌/◌, ◌<◌, ◌^◌, false, ◌++◌, take, drop, subst, ◌⊎◌, inl, inr, Ok, Err, nat_lt, ◌==◌, ◌&&◌, not, slice_set, append-nil, pow_mono, drop-cons}
+use Rattle.std.proofs.Common.{◌≡◌, ℕ, ◌*◌, ◌%◌, ◌≤◌, true, List, [], ◌∷◌, length, arith, suc, ◌-◌, get_or, refl, sym, ◌∙◌, ap, Bool, map, zero, ◌+◌, ◌/◌, ◌<◌, ◌^◌, false, ◌++◌, take, drop, inl, inr, Ok, Err, nat_lt, ◌==◌, ◌&&◌, not, slice_set, append-nil, pow_mono, drop-cons}
 use Rattle.std.proofs.lemmas.Bool.{and_parts, ltb-true, eqb-true, eq-eqb, cases_eq}
 use Rattle.der_core_head.specs.BitStrings.{are_bits, last_octet}
 use Rattle.std.specs.List.{range_with_len}

@@ -9,7 +9,7 @@ use Rattle.x509_cert_parts.specs.Respelling.{validity_by, is_early_generalized}
 use Rattle.x509_cert_parts.proofs.Respelled.{validity_valid, validity_shorter, validity_same, nested_shorter, nested_valid, behind_same, before_same}
 use Rattle.x509_cert_certificates.specs.Certificates.{Tbs, PlainCertificate, tbs_fields, tbs_certificate, certificate_fields, certificate, optional_fields, from_validity, tbs, tbs_validity, tbs_by, certificate_by}
 use Rattle.std.specs.List.{AllByRecursion}
-use Rattle.der_core_head.specs.Bounds.{IsValidUnder, identifiers_of, AreBelow, HoldsLarge}
+use Rattle.der_core_head.specs.Bounds.{IsValidUnder, identifiers_of, HoldsLarge}
 use Rattle.x509_cert_certificates.specs.Bounds.{certificate_identifiers, SpellsEach, OneHoldsLarge}
 use Rattle.der_core_head.proofs.BoundLaws.{below_or_large, Family, valid_wider, valid_narrow}
 

@@ -238,8 +238,8 @@ some_turned (r ∷ n) h =
 
 some_members : (w : List ℕ) (r : Result (List AttributeTypeAndValue) ErrorKind) → ReadsPieces 43 (ReadsAttribute Bound) w r → IfOk r HasSome
 some_members w r (ReadsPieces.last t p a f h) = omega arith
-some_members w r (ReadsPieces.more t p rest a (Ok xs) f h more) = omega arith
-some_members w r (ReadsPieces.more t p rest a (Err e) f h more) = tt
+some_members w r (ReadsPieces.more t p rest a (Ok xs) f h others) = omega arith
+some_members w r (ReadsPieces.more t p rest a (Err e) f h others) = tt
 some_members w r (ReadsPieces.refused t p left e f h) = tt
 
 some_attributes : (w : List ℕ) (r : List AttributeTypeAndValue) → ReadsRelative Bound w (Ok r) → HasSome r
@@ -249,8 +249,8 @@ some_attributes w r (ReadsRelative.set members attributes h p a d) =
 
 all_some : (w : List ℕ) (r : Result (List (List AttributeTypeAndValue)) ErrorKind) → ReadsPieces 44 (ReadsRelative Bound) w r → IfOk r (λ n. AllByRecursion HasSome n)
 all_some w r (ReadsPieces.last t p a f h) = (some_attributes p a h, tt)
-all_some w r (ReadsPieces.more t p rest a (Ok xs) f h more) = (some_attributes p a h, all_some rest (Ok xs) more)
-all_some w r (ReadsPieces.more t p rest a (Err e) f h more) = tt
+all_some w r (ReadsPieces.more t p rest a (Ok xs) f h others) = (some_attributes p a h, all_some rest (Ok xs) others)
+all_some w r (ReadsPieces.more t p rest a (Err e) f h others) = tt
 all_some w r (ReadsPieces.refused t p left e f h) = tt
 
 pub read_some : (w : List ℕ) (n : List (List AttributeTypeAndValue)) → ReadsName Bound w (Ok n) → AllByRecursion HasSome n

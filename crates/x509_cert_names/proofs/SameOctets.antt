@@ -1,5 +1,5 @@
 -- Names are equal, attribute by attribute, exactly where their plain values are, and where they have the same octets.
-use Rattle.std.proofs.Common.{◌≡◌, List, [], ◌∷◌, Bool, true, refl, ap, subst, ℕ, false, ◌∙◌, Less, Equal, ◌≢◌, ◌<◌, get_or, Ok, Err, length, ◌++◌, sym, arith, length-append, flat_map, Ordering, Greater}
+use Rattle.std.proofs.Common.{◌≡◌, List, [], ◌∷◌, true, refl, ap, subst, ℕ, false, ◌∙◌, Less, Equal, ◌≢◌, ◌<◌, get_or, Ok, Err, length, ◌++◌, sym, arith, length-append, flat_map, Ordering, Greater}
 use Rattle.std.specs.Cmp.Lexicographic.{pointwise, bytes_decides, nat_list_cmp_total}
 use Rattle.const_oid.specs.Bound.{Bound}
 use Rattle.der_core.proofs.ValueEquality.{Alike, AlikeWithin, exact, leaves, behind, first, last, list, next, second, set}

@@ -1,5 +1,5 @@
 -- Each certificate that is found makes the chain longer by one.
-use Rattle.std.proofs.Common.{◌≡◌, drop, map, [], ◌∷◌, ◌++◌, subst, ap, ◌∙◌, arith}
+use Rattle.std.proofs.Common.{◌≡◌, drop, map, [], ◌∷◌, ◌++◌, ap, ◌∙◌, arith}
 use Rattle.std.proofs.lemmas.List.{take_rest, map-append}
 use Rattle.x509_cert_certificates.specs.Views.{certificate_plain}
 use Rattle.cert_rows.specs.SplitFronts.{Front, NoFront}

@@ -6,7 +6,7 @@ use Rattle.der_core_head.specs.Shapes.{Shape, Body, optional, defaulted, field, 
 use Rattle.der_core_head.specs.Tags.{context}
 use Rattle.x509_cert_parts.proofs.Respelled.{nested_shorter, nested_valid, behind_same, before_same}
 use Rattle.x509_cert_certificates.proofs.Respelled.{tbs_shorter, tbs_valid, certificate_fields_shorter, certificate_valid}
-use Rattle.x509_cert_certificates.specs.Certificates.{PlainCertificate, Tbs, certificate_fields, certificate, tbs_certificate, tbs, tbs_by, certificate_by}
+use Rattle.x509_cert_certificates.specs.Certificates.{PlainCertificate, certificate_fields, certificate, tbs_certificate, tbs, tbs_by, certificate_by}
 use Rattle.x509_cert_general_names.specs.Grammar.{inside}
 use Rattle.x509_cert_parts.specs.Grammar.{implicit_leaf, public_key_info, octet_string, extensions}
 use Rattle.x509_cert_names.specs.Names.{name}

@@ -1,13 +1,13 @@
-use Rattle.std.proofs.Common.{◌≡◌, ℕ, List, [], ◌∷◌, ◌++◌, Option, Some, None, refl, sym, ap, ◌∙◌, append_assoc, append-nil, inl, inr, flat_map, map}
+use Rattle.std.proofs.Common.{◌≡◌, ℕ, List, [], ◌∷◌, ◌++◌, Option, Some, None, refl, ap, ◌∙◌, append_assoc, append-nil, inl, inr, flat_map, map}
 use Rattle.std.specs.Option.{option_map_or}
 use Rattle.der_core_head.specs.BitStrings.{Bits}
 use Rattle.der_core_head.specs.Shapes.{AnyValue, any, optional, explicit}
 use Rattle.der_core_head.specs.Bounds.{identifiers_of}
-use Rattle.x509_cert_names.specs.Names.{name, type_of, all_of}
+use Rattle.x509_cert_names.specs.Names.{name}
 use Rattle.x509_cert_parts.specs.Grammar.{Algorithm, PublicKey, PlainTime, PlainValidity, PlainExtension, algorithm_identifier, algorithm_arcs, public_key_info, key_algorithm, extension, extension_arcs, extensions, time, validity}
 use Rattle.x509_cert_certificates.specs.Bounds.{certificate_identifiers}
 use Rattle.x509_cert_names.proofs.NameBounds.{of_name}
-use Rattle.x509_cert_certificates.specs.Certificates.{PlainCertificate, unique_identifier, inner_algorithm, issuer, subject, public_key, extensions_of, outer_algorithm, tbs, tbs_extensions, tbs_validity, tbs_issuer_unique_id, tbs_subject_unique_id}
+use Rattle.x509_cert_certificates.specs.Certificates.{PlainCertificate, unique_identifier, inner_algorithm, issuer, subject, public_key, outer_algorithm, tbs, tbs_extensions, tbs_validity, tbs_issuer_unique_id, tbs_subject_unique_id}
 use Rattle.x509_cert_certificates.proofs.laws.identifiers_stand_in_turn.Goals as goal
 
 -- Which identifiers stand in a certificate.

@@ -1,5 +1,5 @@
 -- A piece that is kept leaves more to wait for.
-use Rattle.std.proofs.Common.{◌≡◌, ◌++◌, ◌<◌, ℕ, length, refl, subst, arith, length-append}
+use Rattle.std.proofs.Common.{◌++◌, ◌<◌, length, refl, subst, arith, length-append}
 use Rattle.const_oid.specs.Bound.{Bound}
 use Rattle.cert_desk_bundle.specs.Locations.{kept_of}
 use Rattle.cert_desk_bundle.specs.Steps.{ReadsExtended}

@@ -1,8 +1,7 @@
 -- What is read has the octets, and their headers say where the signed part stands.
-use Rattle.std.proofs.Common.{◌≡◌, length, refl, ◌∙◌, arith}
+use Rattle.std.proofs.Common.{refl, ◌∙◌}
 use Rattle.std.proofs.lemmas.List.{take_rest}
 use Rattle.const_oid.specs.Bound.{Bound}
-use Rattle.x509_cert_certificates.specs.Certificates.{signed_start}
 use Rattle.x509_cert_certificates.specs.Views.{certificate_plain}
 use Rattle.cert_desk_bundle.proofs.LocationLaws.{read-header, header_within, read-signed}
 use Rattle.cert_desk_bundle.proofs.located.Located.read.Goals as goal
