@@ -67,52 +67,26 @@ struct Form {
 const STEP: usize = 1000;
 
 impl Form {
-    // What describes a certificate of these octets; as JSON, without the end of its line.
-    fn described(&self, octets: &[u8]) -> Result<Vec<u8>, AllocError> {
+    // What is written of the certificate at a place, which begins at an octet of the stream.
+    fn block(&self, place: usize, octet: u64, octets: &[u8]) -> Result<Vec<u8>, AllocError> {
         let mut lines = Lines::new(self.alloc, self.is_json);
         lines.has_digests = self.has_digests;
+        if place > 0 {
+            lines.tail("\n");
+        }
+        lines.word("certificate");
+        lines.count_member("place", place as u64);
+        lines.tail(" (");
+        lines.word("octet");
+        lines.count_member("offset", octet);
+        lines.tail("):");
+        lines.key("certificate");
+        lines.brace();
         if add_certificate(&mut lines, octets).is_some() {
             lines.fail();
         }
-        let mut text = lines.finish()?;
-        if self.is_json {
-            let _ = text.pop();
-        }
-        Ok(text)
-    }
-
-    // What stands in front of that: the place of a certificate, and where in the stream it begins.
-    fn head(&self, place: usize, octet: u64) -> Result<String, AllocError> {
-        if self.is_json {
-            return format!(in self.alloc;
-                "{{\"place\":{place},\"offset\":{octet},\"certificate\":"
-            );
-        }
-        let between = if place == 0 { "" } else { "\n" };
-        format!(in self.alloc; "{between}certificate {place} (octet {octet}):\n")
-    }
-
-    // Adds what stands behind that.
-    fn add_described(&self, text: &mut Vec<u8>, octets: &[u8]) -> Result<(), AllocError> {
-        let described = self.described(octets)?;
-        text.extend_from_slice(&described)?;
-        if self.is_json {
-            text.extend_from_slice(b"}\n")?;
-        }
-        Ok(())
-    }
-
-    // Adds what is written of the certificate at a place, which begins at an octet of the stream.
-    fn add_block(
-        &self,
-        text: &mut Vec<u8>,
-        place: usize,
-        octet: u64,
-        octets: &[u8],
-    ) -> Result<(), AllocError> {
-        let head = self.head(place, octet)?;
-        text.extend_from_slice(head.as_bytes())?;
-        self.add_described(text, octets)
+        lines.end_brace();
+        lines.finish()
     }
 
     // Adds what is written of the certificates of a bundle, in front of which these stand.
@@ -126,7 +100,8 @@ impl Form {
             let entry = bundle.get(number).unwrap();
             let place = passed.count.saturating_add(number);
             let octet = passed.octets.saturating_add(entry.offset);
-            self.add_block(text, place, octet, entry.octets)?;
+            let block = self.block(place, octet, entry.octets)?;
+            text.extend_from_slice(&block)?;
         }
         Ok(())
     }
