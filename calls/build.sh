@@ -19,25 +19,52 @@ esac
 mkdir -p "$1"
 folder=$(cd "$1" && pwd)
 
-# As `rt lib` does, which takes no library of the gate's: it wants those that it built itself.
-over_the_gate() {
-    local words=(--extern "std=$kit/rlibs/std.rlib" -L "dependency=$kit/rlibs") name
-    for name in $(sed -n 's/^cert_desk_c staticlib: *//p' "$top/crates.txt"); do
+# A toolchain whose clang makes functions one that have the same code, as a generic function has it
+# for each lifetime, before it puts any into another: behind that they are told apart no more.
+toolchain=$(mktemp -d)
+trap 'rm -rf "$toolchain"' EXIT
+mkdir "$toolchain/bin"
+ln -s "$kit/toolchain/lib" "$toolchain/"
+ln -s "$kit"/toolchain/bin/* "$toolchain/bin/"
+rm "$toolchain/bin/clang"
+cat >"$toolchain/bin/clang" <<END
+#!/usr/bin/env bash
+set -e
+clang=$kit/toolchain/bin/clang
+END
+cat >>"$toolchain/bin/clang" <<'END'
+words=("$@")
+for at in "${!words[@]}"; do
+    case ${words[at]} in
+        module.bc) words[at]=merged.bc ;;
+        -O3) words[at]=-O2 ;;
+    esac
+done
+"$clang" "$1" -fPIC -O0 -Xclang -fmerge-functions -mllvm -mergefunc-use-aliases \
+    -emit-llvm -c -x ir module.bc -o merged.bc
+exec "$clang" "${words[@]}"
+END
+chmod +x "$toolchain/bin/clang"
+
+libraries=$(sed -n 's/^cert_desk_c staticlib: *//p' "$top/crates.txt")
+built=$top/crates/cert_desk_c/out/libcert_desk_c.a
+if [ "${2:-}" = --from ]; then
+    built=$3
+else
+    if [ "${2:-}" != --gate ]; then
+        for name in $libraries; do (cd "$top/crates/$name" && rt lib); done
+    fi
+    words=(--extern "std=$kit/rlibs/std.rlib" -L "dependency=$kit/rlibs")
+    for name in $libraries; do
         words+=(--extern "$name=$top/crates/$name/out/rlib/$name.rlib")
     done
     for name in "$top"/crates/*/out/rlib; do words+=(-L "dependency=$name"); done
-    cd "$top/crates/cert_desk_c" && mkdir -p out && "$kit/bin/rattle" build \
+    mkdir -p "$top/crates/cert_desk_c/out"
+    (cd "$top/crates/cert_desk_c" && "$kit/bin/rattle" build \
         --crate-name cert_desk_c src/lib.rt --crate-type staticlib "${words[@]}" \
         --antt-project "$kit/rattle/logic/antt-project.json" --logic-built "$kit/logic_built" \
-        --links cert_desk_c= --jobs 2 --toolchain "$kit/toolchain" -o out/libcert_desk_c.a
-}
-
-built=$top/crates/cert_desk_c/out/libcert_desk_c.a
-case "${2:-}" in
-    --from) built=$3 ;;
-    --gate) (over_the_gate) ;;
-    *) (cd "$top/crates/cert_desk_c" && rt lib) ;;
-esac
+        --links cert_desk_c= --jobs 2 --toolchain "$toolchain" -o out/libcert_desk_c.a)
+fi
 
 # One object, of which only the calls are seen from outside.
 object=$folder/wurstdrape.o
