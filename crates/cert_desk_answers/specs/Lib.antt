@@ -2,3 +2,4 @@ pub mod FaultTexts
 pub mod AnswerLines
 pub mod AnswerReading
 pub mod Laws
+pub mod Judged

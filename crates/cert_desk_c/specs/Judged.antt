@@ -1,29 +1,16 @@
 -- What a judged chain's octets are, by the octets of anchors and of answers.
-use Rattle.std.specs.Prelude.{◌≡◌, ℕ, ◌<◌, List, length, Result, Ok, Err}
+use Rattle.std.specs.Prelude.{◌≡◌, ℕ, ◌<◌, List, length}
 use Rattle.const_oid.specs.Bound.{Bound}
 use Rattle.const_oid.specs.IdentifierOctets.{identifier_octets}
 use Rattle.x509_cert_certificates.specs.Certificates.{PlainCertificate}
-use Rattle.cert_desk_io.specs.declared.exit_status.ExitStatus.{ExitStatus}
-use Rattle.cert_desk_io.specs.declared.exit_status.ExitStatus.TheVariants as statuses
 use Rattle.cert_desk_bundle.specs.Chains.{Chain, joined}
 use Rattle.cert_desk_bundle.specs.Faults.{rank}
 use Rattle.cert_desk_rules.specs.declared.checked.Verdict.{Verdict}
 use Rattle.cert_desk_rules.specs.declared.checked.Verdict.TheVariants as verdicts
-use Rattle.cert_desk_rules.specs.Answers.{only_yes_to}
 use Rattle.cert_desk_rules.specs.Judging.{PlainAnchor, Terms, number}
-use Rattle.cert_desk_rules.specs.Questions.{Question}
 use Rattle.cert_desk_checking.specs.AnchorFiles.{IsAnchorFile}
 use Rattle.cert_desk_checking.specs.QuestionLines.{chain_lines, lines_octets}
-use Rattle.cert_desk_checking.specs.Runs.{run_terms}
-use Rattle.cert_desk_answers.specs.AnswerLines.{file_says}
-
--- The octets are anchors and answers, and it is so under the terms that they give, with a judge
--- that says yes to what is listed, and to nothing else.
-abbrev pub UnderGiven : List ℕ → List ℕ → ℕ → List ℕ → (Terms → Type 0) → Type 0
-UnderGiven anchors answers moment arcs Says =
-    (given : List PlainAnchor) × (listing : List Question)
-    × IsAnchorFile anchors given × (file_says answers ≡ Ok listing)
-    × Says (run_terms given moment arcs (only_yes_to listing))
+use Rattle.cert_desk_answers.specs.Judged.{UnderGiven}
 
 -- The purpose is the octets of an identifier (X.690 8.19), too.
 abbrev pub UnderTerms : List ℕ → List ℕ → ℕ → List ℕ → (Terms → Type 0) → Type 0
@@ -38,11 +25,6 @@ Tells (verdicts.Refused at rule) place offset told = (place ≡ at) × (told ≡
 Tells (verdicts.StreamFault at from kind) place offset told =
     (place ≡ at) × (offset ≡ from) × (told ≡ rank kind)
 Tells verdicts.Empty place offset told = Unit {0}
-
--- trusted, or there was no memory
-abbrev pub SaysTrusted : Result Verdict ExitStatus → Type 0
-SaysTrusted (Ok verdict) = verdict ≡ verdicts.Trusted
-SaysTrusted (Err status) = status ≡ statuses.Memory
 
 -- The octets of anchors and of a chain are such, and the text has a line for each question that the
 -- chain's signatures may ask, in turn.

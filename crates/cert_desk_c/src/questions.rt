@@ -8,10 +8,10 @@ ghost use Rattle.cert_desk_bundle.specs.Chains.{Chain};
 ghost use Rattle.cert_desk_c.specs.Judged.{AreQuestions};
 ghost use Rattle.cert_desk_c.specs.Rooms.{Wants};
 
-use crate::judging::{anchors_of, bundle_of};
 use crate::rooms::{code, give};
+use cert_desk_answers::{anchors_of, bundle_of};
 use cert_desk_bundle::{Bundle, Standing};
-use cert_desk_checking::chain_lines;
+use cert_desk_checking::{Anchor, chain_lines};
 use cert_desk_io::ExitStatus;
 use std::alloc::Global;
 
@@ -51,7 +51,7 @@ fn questions_of(
     ensures other { IfErr result (λ status. status ≢ statuses.Done) }
     ensures no_room { IfErr result (λ status. status ≢ statuses.Device) }
 {
-    let anchors = match anchors_of(alloc, anchors) {
+    let anchors: Vec<Anchor> = match anchors_of(alloc, anchors) {
         Ok(anchors) => anchors,
         Err(status) => return Err(status),
     };

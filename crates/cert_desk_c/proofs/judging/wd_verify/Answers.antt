@@ -3,7 +3,7 @@ use Rattle.const_oid.specs.declared.error.Error.{Error}
 use Rattle.cert_desk_io.specs.Statuses.{code_of}
 use Rattle.cert_desk_rules.specs.Answers.{only_yes_to}
 use Rattle.cert_desk_checking.specs.Runs.{status_of}
-use Rattle.cert_desk_c.proofs.Judged.{ok_is, trusted_for}
+use Rattle.cert_desk_answers.proofs.Judged.{ok_is, trusted_for}
 use Rattle.cert_desk_c.proofs.judging.wd_verify.Goals as goal
 
 pub returns-in-Err-clause-only : goal.returns-in-Err-clause-only

@@ -1,7 +1,7 @@
 use Rattle.std.proofs.Common.{inr, subst}
 use Rattle.cert_desk_checking.specs.Runs.{HasNoAnchors}
-use Rattle.cert_desk_c.proofs.Judged.{memory, no_anchors}
-use Rattle.cert_desk_c.proofs.judging.anchors_of.Goals as goal
+use Rattle.cert_desk_answers.proofs.Judged.{memory, no_anchors}
+use Rattle.cert_desk_answers.proofs.judging.anchors_of.Goals as goal
 
 pub returns-in-Err-BadAnchors-clause-none : goal.returns-in-Err-BadAnchors-clause-none
 returns-in-Err-BadAnchors-clause-none c =

@@ -6,8 +6,8 @@ use Rattle.cert_desk_rules.specs.Judges.{judge_answers}
 use Rattle.cert_desk_rules.specs.Judging.{PlainAnchor}
 use Rattle.cert_desk_rules.specs.Questions.{Question}
 use Rattle.cert_desk_answers.specs.declared.line_fault.LineFault.{LineFault}
-use Rattle.cert_desk_c.proofs.Judged.{first_of, ok_is, trusted_by}
-use Rattle.cert_desk_c.proofs.judging.verdict_of.Goals as goal
+use Rattle.cert_desk_answers.proofs.Judged.{first_of, ok_is, trusted_by}
+use Rattle.cert_desk_answers.proofs.judging.verdict_of.Goals as goal
 
 pub returns-in-Err-anchors_of-clause-only : goal.returns-in-Err-anchors_of-clause-only
 returns-in-Err-anchors_of-clause-only c = λ given listing a f t. first_of _ _ c.in-Err-anchors_of.ensures.none (λ none. none given a)

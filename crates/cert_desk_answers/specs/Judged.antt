@@ -1,0 +1,25 @@
+-- What a chain is judged to be by a file of anchors and a file of answers.
+use Rattle.std.specs.Prelude.{◌≡◌, ℕ, List, Result, Ok, Err}
+use Rattle.cert_desk_io.specs.declared.exit_status.ExitStatus.{ExitStatus}
+use Rattle.cert_desk_io.specs.declared.exit_status.ExitStatus.TheVariants as statuses
+use Rattle.cert_desk_rules.specs.declared.checked.Verdict.{Verdict}
+use Rattle.cert_desk_rules.specs.declared.checked.Verdict.TheVariants as verdicts
+use Rattle.cert_desk_rules.specs.Answers.{only_yes_to}
+use Rattle.cert_desk_rules.specs.Judging.{PlainAnchor, Terms}
+use Rattle.cert_desk_rules.specs.Questions.{Question}
+use Rattle.cert_desk_checking.specs.AnchorFiles.{IsAnchorFile}
+use Rattle.cert_desk_checking.specs.Runs.{run_terms}
+use Rattle.cert_desk_answers.specs.AnswerLines.{file_says}
+
+-- The octets are anchors and answers, and it is so under the terms that they give, with a judge
+-- that says yes to what is listed, and to nothing else.
+abbrev pub UnderGiven : List ℕ → List ℕ → ℕ → List ℕ → (Terms → Type 0) → Type 0
+UnderGiven anchors answers moment arcs Says =
+    (given : List PlainAnchor) × (listing : List Question)
+    × IsAnchorFile anchors given × (file_says answers ≡ Ok listing)
+    × Says (run_terms given moment arcs (only_yes_to listing))
+
+-- trusted, or there was no memory
+abbrev pub SaysTrusted : Result Verdict ExitStatus → Type 0
+SaysTrusted (Ok verdict) = verdict ≡ verdicts.Trusted
+SaysTrusted (Err status) = status ≡ statuses.Memory

@@ -1,0 +1,115 @@
+//! Chains judged by a file of answers: the anchors, the answers and the certificates stand in
+//! memory.
+ghost use Rattle.std.specs.Prelude.{◌≡◌, ◌≢◌, ◌≤◌, ◌<◌, ◌^◌, ◌⊎◌, List, length, map, IfOk, IfErr};
+ghost use Rattle.std.specs.Prelude.{Ok};
+ghost use Rattle.const_oid.specs.Bound.{Bound};
+ghost use Rattle.cert_desk_io.specs.declared.exit_status.ExitStatus.TheVariants.{Arguments, Memory};
+ghost use Rattle.cert_desk_bundle.specs.declared.standing.Standing.{Standing};
+ghost use Rattle.cert_desk_bundle.specs.Streams.{Reads};
+ghost use Rattle.cert_desk_rules.specs.Answers.{only_yes_to};
+ghost use Rattle.cert_desk_rules.specs.Judging.{PlainAnchor};
+ghost use Rattle.cert_desk_rules.specs.Questions.{Question};
+ghost use Rattle.cert_desk_rules.specs.Verdicts.{IsVerdict, Trusted};
+ghost use Rattle.cert_desk_checking.specs.Anchors.{anchor_plain};
+ghost use Rattle.cert_desk_checking.specs.AnchorFiles.{IsAnchorFile};
+ghost use Rattle.cert_desk_checking.specs.Runs.{run_terms};
+ghost use Rattle.cert_desk_answers.specs.AnswerLines.{file_says};
+ghost use Rattle.cert_desk_answers.specs.Judged.{SaysTrusted, UnderGiven};
+
+use crate::answer_lines::answers_in;
+use crate::no_answers::NoAnswers;
+use cert_desk_bundle::{Bundle, BundleError};
+use cert_desk_checking::laws::one_anchor_file;
+use cert_desk_checking::{Anchor, Outcome, check, read_anchors};
+use cert_desk_io::{ExitStatus, MemoryInput};
+use cert_desk_rules::{AnswersJudge, Verdict};
+use const_oid::ObjectIdentifier;
+use std::alloc::Global;
+
+/// The anchors that octets give (RFC 5914 2), or the status.
+pub fn anchors_of(alloc: Global, octets: &[u8]) -> Result<Vec<Anchor>, ExitStatus>
+    requires { length octets.now < 2 ^ 32 }
+    ensures read { IfOk result
+        (λ anchors. IsAnchorFile octets.now (map anchor_plain anchors.items)) }
+    ensures other { IfErr result (λ status. (status ≡ Arguments) ⊎ (status ≡ Memory)) }
+    ensures none { IfErr result (λ status. (status ≡ Memory)
+        ⊎ ((given : List PlainAnchor) → IsAnchorFile octets.now given → ⊥)) }
+{
+    one_anchor_file();
+    let mut input = MemoryInput::new(octets, &[], None);
+    match read_anchors(alloc, &mut input) {
+        Ok(anchors) => Ok(anchors),
+        Err(Outcome::BadAnchors { .. }) => Err(ExitStatus::Arguments),
+        Err(_) => Err(ExitStatus::Memory),
+    }
+}
+
+/// A bundle that read these octets, to their end or to a fault, or the status.
+pub fn bundle_of(alloc: Global, limit: u32, octets: &[u8]) -> Result<Bundle, ExitStatus>
+    requires { 6 ≤ limit }
+    ensures limit { IfOk result (λ b. b.limit ≡ limit) }
+    ensures ended { IfOk result (λ b. b.standing ≢ Standing.Open) }
+    ensures reads { IfOk result (λ b. Reads Bound b octets.now) }
+    ensures other { IfErr result (λ status. status ≡ Memory) }
+{
+    let mut bundle = Bundle::new(alloc, limit);
+    match bundle.feed(octets) {
+        Ok(()) => {}
+        Err(BundleError::Fault { .. }) => return Ok(bundle),
+        Err(_) => return Err(ExitStatus::Memory),
+    }
+    match bundle.finish() {
+        Ok(()) => Ok(bundle),
+        Err(BundleError::Fault { .. }) => Ok(bundle),
+        Err(_) => Err(ExitStatus::Memory),
+    }
+}
+
+/// The verdict on a chain under the anchors of a file, or the status, where a signature is right
+/// exactly where the answers list it, and each certificate has `limit` octets at most.
+pub fn verdict_of(
+    alloc: Global,
+    answers: &[u8],
+    anchors: &[u8],
+    chain: &[u8],
+    moment: u64,
+    purpose: &ObjectIdentifier<39>,
+    limit: u32,
+) -> Result<Verdict, ExitStatus>
+    requires limit { 6 ≤ limit }
+    requires short { length anchors.now < 2 ^ 32 }
+    ensures judged { IfOk result (λ verdict. UnderGiven anchors.now answers.now moment purpose.now
+        (λ t. IsVerdict t limit chain.now verdict)) }
+    ensures other { IfErr result (λ status. (status ≡ Arguments) ⊎ (status ≡ Memory)) }
+    ensures only { (given : List PlainAnchor) (listing : List Question)
+        → IsAnchorFile anchors.now given → file_says answers.now ≡ Ok listing
+        → Trusted (run_terms given moment purpose.now (only_yes_to listing)) limit chain.now
+        → SaysTrusted result }
+{
+    one_anchor_file();
+    let answers = match answers_in(alloc, answers) {
+        Ok(answers) => answers,
+        Err(NoAnswers::OutOfMemory) => return Err(ExitStatus::Memory),
+        Err(_) => return Err(ExitStatus::Arguments),
+    };
+    let anchors = match anchors_of(alloc, anchors) {
+        Ok(anchors) => anchors,
+        Err(status) => return Err(status),
+    };
+    let bundle = match bundle_of(alloc, limit, chain) {
+        Ok(bundle) => bundle,
+        Err(status) => return Err(status),
+    };
+    let mut judge = AnswersJudge::new(answers);
+    match check(
+        alloc,
+        &bundle,
+        anchors.as_slice(),
+        moment,
+        purpose,
+        &mut judge,
+    ) {
+        Ok(checked) => Ok(checked.verdict),
+        Err(_) => Err(ExitStatus::Memory),
+    }
+}
