@@ -1,4 +1,5 @@
-/* wurstdrape.h: certificates (RFC 5280), CRLs and CSRs, read, and certification paths judged.
+/* wurstdrape.h: certificates (RFC 5280), CRLs and CSRs, read, and certification paths judged and
+   issued.
 
    Octets in DER go in, a status and octets come out. No state is kept between calls, so threads may
    call at once. Each call is proved to keep its contract, which stands with its source
@@ -32,10 +33,10 @@ extern "C" {
 /* What a call returns, the exit statuses of the programs. */
 enum {
     WD_DONE = 0,      /* done; of a chain: trusted */
-    WD_REFUSED = 1,   /* a certificate of the chain breaks a rule */
+    WD_REFUSED = 1,   /* a certificate of the chain breaks a rule; orders are refused */
     WD_FAULTY = 2,    /* the octets aren't what they should be */
     WD_EMPTY = 3,     /* there is none */
-    WD_ARGUMENTS = 4, /* the anchors, answers, limit or identifier are faulty */
+    WD_ARGUMENTS = 4, /* anchors, answers, orders, limit, algorithm or identifier are faulty */
     WD_NO_ROOM = 5,   /* out is too small */
     WD_MEMORY = 6     /* malloc or realloc gave none */
 };
@@ -207,6 +208,21 @@ uint32_t wd_questions(const uint8_t *anchors, size_t anchors_len, const uint8_t 
 uint32_t wd_verify(const uint8_t *answers, size_t answers_len, const uint8_t *anchors,
                    size_t anchors_len, const uint8_t *chain, size_t chain_len, uint64_t moment,
                    const uint8_t *purpose, size_t purpose_len, uint32_t limit, wd_place *told);
+
+/* What is signed of the certificate at a place of the chain that an orders file asks for
+   (docs/CLI.md), 0 for its root: the octets that the key of the certificate above signs, the root's
+   own key those of the root, by this algorithm (an AlgorithmIdentifier in DER). WD_DONE; WD_REFUSED
+   where the orders are refused; WD_EMPTY where the chain has no such place; WD_ARGUMENTS where the
+   orders file or the algorithm is faulty; WD_NO_ROOM; WD_MEMORY. */
+uint32_t wd_signed_part(const uint8_t *orders, size_t orders_len, uint32_t place,
+                        const uint8_t *algorithm, size_t algorithm_len, uint8_t *out,
+                        size_t out_len, size_t *size);
+
+/* That certificate, with these octets as the signature of its signed part, with the same statuses.
+   Whether the signature is right isn't looked at: wd_verify judges the chain under its root. */
+uint32_t wd_issue(const uint8_t *orders, size_t orders_len, uint32_t place,
+                  const uint8_t *algorithm, size_t algorithm_len, const uint8_t *signature,
+                  size_t signature_len, uint8_t *out, size_t out_len, size_t *size);
 
 #ifdef __cplusplus
 }

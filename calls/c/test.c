@@ -69,7 +69,7 @@ static void get(data *to, const char *name) {
     fclose(file);
 }
 
-static data server, root, chain, answers, list, request;
+static data server, root, chain, answers, list, request, orders;
 static const uint8_t server_auth[] = {0x2b, 6, 1, 5, 5, 7, 3, 1};
 static const uint64_t moment = 1780000000; /* 2026-05-28 */
 
@@ -97,6 +97,13 @@ WRITES(questions, OF(root), OF(chain), 4096)
 static const uint8_t name[] = {0x30, 0x0c, 0x31, 0x0a, 0x30, 0x08, 0x06,
                                0x03, 0x55, 0x04, 0x03, 0x0c, 0x01, 0x61};
 WRITES(name_text, name, sizeof name)
+
+/* SEQUENCE { 1.2.840.10045.4.3.2 } (RFC 5758 3.2) */
+static const uint8_t ecdsa[] = {0x30, 0x0a, 0x06, 0x08, 0x2a, 0x86,
+                                0x48, 0xce, 0x3d, 0x04, 0x03, 0x02};
+static const uint8_t signature[] = "signature";
+WRITES(signed_part, OF(orders), 2, ecdsa, sizeof ecdsa)
+WRITES(issue, OF(orders), 2, ecdsa, sizeof ecdsa, signature, 9)
 
 /* Each call that tells a value. */
 typedef uint32_t tells(void);
@@ -146,6 +153,8 @@ static const struct {
     {"identifier_text", identifier_text},
     {"identifier_of_text", identifier_of_text},
     {"questions", questions},
+    {"signed_part", signed_part},
+    {"issue", issue},
 };
 #define WRITERS (sizeof writers / sizeof *writers)
 
@@ -178,15 +187,15 @@ static void rooms(writes *call) {
     }
 }
 
-/* With each request for memory refused in turn, nothing but want of memory is answered, nothing is
-   written, and nothing is kept. */
+/* With each request for memory refused in turn, nothing but want of memory is answered, and nothing
+   is written, or the same octets, where they are had without; and nothing is kept. */
 static void allocations(writes *call) {
 #ifdef WRAPPED
-    static uint8_t out[65536];
-    size_t length;
+    static uint8_t out[65536], whole[65536];
+    size_t length, total;
     requests = 0;
     long before = held;
-    CHECK(call(out, sizeof out, &length) == WD_DONE && held == before);
+    CHECK(call(whole, sizeof whole, &total) == WD_DONE && held == before);
     long count = requests;
     for (long n = 1; n <= count; n++) {
         memset(out, 0xa5, sizeof out);
@@ -194,7 +203,9 @@ static void allocations(writes *call) {
         refused_request = n;
         uint32_t status = call(out, sizeof out, &length);
         refused_request = 0;
-        CHECK(status == WD_MEMORY && length == 0 && is_all(out, sizeof out, 0xa5));
+        bool is_same = status == WD_DONE && length == total && memcmp(out, whole, total) == 0;
+        bool is_told = status == WD_MEMORY && length == 0 && is_all(out, sizeof out, 0xa5);
+        CHECK(is_same || is_told);
         CHECK(held == before);
     }
 #else
@@ -334,6 +345,32 @@ static void parts(void) {
     CHECK(wd_show_certificate(OF(list), out, sizeof out, &length) == WD_FAULTY && length == 0);
 }
 
+/* The certificate at each place has its signed part and the signature given, and nothing is said of
+   a place behind the last one. */
+static void issued(void) {
+    static uint8_t part[4096], out[4096];
+    size_t part_size, size;
+    wd_spans spans;
+    uint32_t place = 0;
+    while (wd_issue(OF(orders), place, ecdsa, sizeof ecdsa, signature, 9, out, sizeof out, &size) ==
+           WD_DONE) {
+        CHECK(wd_signed_part(OF(orders), place, ecdsa, sizeof ecdsa, part, sizeof part,
+                             &part_size) == WD_DONE);
+        CHECK(wd_parts(out, size, &spans) == WD_DONE && spans.signed_part.size == part_size);
+        CHECK(memcmp(out + spans.signed_part.start, part, part_size) == 0);
+        CHECK(memcmp(out + size - 12, "\x03\x0a\0signature", 12) == 0);
+        place++;
+    }
+    CHECK(place == 3 && size == 0);
+    CHECK(wd_signed_part(OF(orders), 3, ecdsa, sizeof ecdsa, out, sizeof out, &size) == WD_EMPTY);
+    CHECK(wd_signed_part(OF(orders), 0, ecdsa, 0, out, sizeof out, &size) == WD_ARGUMENTS);
+    CHECK(wd_signed_part(ecdsa, sizeof ecdsa, 0, ecdsa, sizeof ecdsa, out, sizeof out, &size) ==
+          WD_ARGUMENTS);
+    /* no orders */
+    CHECK(wd_issue(ecdsa, 0, 0, ecdsa, sizeof ecdsa, signature, 9, out, sizeof out, &size) ==
+          WD_REFUSED);
+}
+
 static void *calls(void *of) {
     size_t first = *(size_t *)of;
     uint8_t *out = malloc(65536), *again = malloc(65536);
@@ -372,8 +409,10 @@ int main(int count, char **words) {
     get(&answers, "crates/cert_tool/data/answers.txt");
     get(&list, "crates/cert_tool/data/list.der");
     get(&request, "crates/cert_tool/data/request.der");
+    get(&orders, "examples/orders.txt");
     parts();
     verdicts();
+    issued();
     for (size_t i = 0; i < WRITERS; i++) {
         unsigned before = failures;
         rooms(writers[i].call);

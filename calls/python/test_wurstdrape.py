@@ -190,6 +190,71 @@ class Chains(unittest.TestCase):
         self.assertIs(verdict.rule, Rule.WRONG_SIGNATURE)
 
 
+class Issued(unittest.TestCase):
+    """examples/orders.txt, whose keys sign by ECDSA with SHA-256."""
+
+    # RFC 5758 3.2
+    ALGORITHM = bytes.fromhex("300a06082a8648ce3d040302")
+
+    def setUp(self):
+        self.orders = example("orders.txt").decode()
+
+    def test_chain(self):
+        asked = []
+
+        def sign(place, octets):
+            asked.append((place, octets))
+            return b"signature"
+
+        made = wurstdrape.issue(self.orders, self.ALGORITHM, sign)
+        self.assertEqual([place for place, _ in asked], [0, 0, 1])
+        names = ["CN=Desk Root,O=Desk Example,C=US"]
+        names += ["CN=Desk Intermediate,O=Desk Example,C=US", "CN=desk.example"]
+        self.assertEqual([wurstdrape.subject(der) for der in made], names)
+        for der, (place, octets) in zip(made, asked):
+            self.assertEqual(wurstdrape.issuer(der), names[place])
+            self.assertEqual(wurstdrape.parts(der).signed_part, octets)
+            self.assertTrue(der.endswith(b"\3\x0a\0signature"))
+
+    def test_refusals(self):
+        for orders, place, algorithm, status in (
+            ("", 0, self.ALGORITHM, Status.REFUSED),
+            ("order\n", 0, self.ALGORITHM, Status.ARGUMENTS),
+            (self.orders, 3, self.ALGORITHM, Status.EMPTY),
+            (self.orders, 0, b"", Status.ARGUMENTS),
+        ):
+            with self.assertRaises(Error) as refused:
+                wurstdrape.signed_part(orders, place, algorithm)
+            self.assertIs(refused.exception.status, status)
+            with self.assertRaises(Error) as refused:
+                wurstdrape.issued(orders, place, algorithm, b"signature")
+            self.assertIs(refused.exception.status, status)
+
+    def test_by_cryptography(self):
+        try:
+            from cryptography.hazmat.primitives import hashes, serialization
+            from cryptography.hazmat.primitives.asymmetric import ec
+        except ImportError:
+            self.skipTest("cryptography isn't installed")
+        keys, lines = [], []
+        for line in self.orders.splitlines():
+            if line.startswith("key "):
+                keys.append(ec.generate_private_key(ec.SECP256R1()))
+                spki = serialization.PublicFormat.SubjectPublicKeyInfo
+                der = keys[-1].public_key().public_bytes(serialization.Encoding.DER, spki)
+                line = f"key {der.hex()}"
+            lines.append(line + "\n")
+
+        def sign(place, octets):
+            return keys[place].sign(octets, ec.ECDSA(hashes.SHA256()))
+
+        chain = wurstdrape.issue("".join(lines), self.ALGORITHM, sign)
+        self.assertTrue(wurstdrape.verify(chain[0], chain, MOMENT).trusted)
+        chain[1] = wurstdrape.issued("".join(lines), 1, self.ALGORITHM, sign(0, chain[2]))
+        verdict = wurstdrape.verify(chain[0], chain, MOMENT)
+        self.assertEqual((verdict.place, verdict.rule), (1, Rule.WRONG_SIGNATURE))
+
+
 class Threads(unittest.TestCase):
     def test_calls_at_once(self):
         der, wrong = example("server.der"), []

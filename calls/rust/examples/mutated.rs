@@ -77,6 +77,7 @@ impl Sum {
 fn status_of(error: Error) -> u64 {
     match error {
         Error::Faulty => 2,
+        Error::Refused => 1,
         Error::Empty => 3,
         Error::Arguments => 4,
         Error::Memory => 6,

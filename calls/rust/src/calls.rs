@@ -129,6 +129,28 @@ extern "C" {
         limit: u32,
         told: *mut WdPlace,
     ) -> u32;
+    fn wd_signed_part(
+        orders: *const u8,
+        orders_len: usize,
+        place: u32,
+        algorithm: *const u8,
+        algorithm_len: usize,
+        out: *mut u8,
+        out_len: usize,
+        size: *mut usize,
+    ) -> u32;
+    fn wd_issue(
+        orders: *const u8,
+        orders_len: usize,
+        place: u32,
+        algorithm: *const u8,
+        algorithm_len: usize,
+        signature: *const u8,
+        signature_len: usize,
+        out: *mut u8,
+        out_len: usize,
+        size: *mut usize,
+    ) -> u32;
 }
 
 const DONE: u32 = 0;
@@ -141,6 +163,7 @@ const NO_ROOM: u32 = 5;
 /// The error that a status is which isn't `DONE`.
 fn error_of(status: u32) -> Error {
     match status {
+        REFUSED => Error::Refused,
         FAULTY => Error::Faulty,
         EMPTY => Error::Empty,
         ARGUMENTS => Error::Arguments,
@@ -346,4 +369,38 @@ pub fn verify(answers: &[u8], chain: &[u8], terms: &Terms<'_>) -> Result<Verdict
         EMPTY => Ok(Verdict::Empty),
         status => Err(error_of(status)),
     }
+}
+
+pub fn signed_part(orders: &[u8], place: u32, algorithm: &[u8]) -> Result<Vec<u8>> {
+    // SAFETY: the pointers are of slices, and of a value, that are lent for the call.
+    written(|out, length| unsafe {
+        wd_signed_part(
+            orders.as_ptr(),
+            orders.len(),
+            place,
+            algorithm.as_ptr(),
+            algorithm.len(),
+            out.as_mut_ptr(),
+            out.len(),
+            length,
+        )
+    })
+}
+
+pub fn issue(orders: &[u8], place: u32, algorithm: &[u8], signature: &[u8]) -> Result<Vec<u8>> {
+    // SAFETY: the pointers are of slices, and of a value, that are lent for the call.
+    written(|out, length| unsafe {
+        wd_issue(
+            orders.as_ptr(),
+            orders.len(),
+            place,
+            algorithm.as_ptr(),
+            algorithm.len(),
+            signature.as_ptr(),
+            signature.len(),
+            out.as_mut_ptr(),
+            out.len(),
+            length,
+        )
+    })
 }

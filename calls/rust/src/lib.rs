@@ -41,11 +41,13 @@ pub struct Fault {
 /// Why a call was refused.
 #[derive(Clone, Copy, Debug, PartialEq, Eq)]
 pub enum Error {
+    /// Orders are refused.
+    Refused,
     /// The octets, or the text, aren't what they should be.
     Faulty,
-    /// A chain without certificates.
+    /// A chain without certificates, or without one at a place.
     Empty,
-    /// Anchors, answers, a limit or an identifier are faulty.
+    /// Anchors, answers, orders, a limit, an algorithm or an identifier are faulty.
     Arguments,
     /// There was no memory.
     Memory,
@@ -54,9 +56,10 @@ pub enum Error {
 impl fmt::Display for Error {
     fn fmt(&self, f: &mut fmt::Formatter<'_>) -> fmt::Result {
         f.write_str(match self {
+            Error::Refused => "the orders are refused",
             Error::Faulty => "the octets aren't what they should be",
-            Error::Empty => "the chain is empty",
-            Error::Arguments => "anchors, answers, the limit or an identifier are faulty",
+            Error::Empty => "the chain has no such certificate",
+            Error::Arguments => "anchors, answers, orders, the limit or an identifier are faulty",
             Error::Memory => "out of memory",
         })
     }
@@ -255,6 +258,25 @@ pub fn questions(anchors: &[u8], chain: &[u8], limit: u32) -> Result<String> {
 /// `Arguments` where anchors, answers, purpose or limit are faulty, `Memory`.
 pub fn verify(answers: &[u8], chain: &[u8], terms: &Terms<'_>) -> Result<Verdict> {
     calls::verify(answers, chain, terms)
+}
+
+/// What is signed of the certificate at a place of the chain that an orders file asks for, 0 for
+/// its root: by this algorithm (an AlgorithmIdentifier in DER), with the key of the certificate
+/// above, the root with its own.
+///
+/// # Errors
+/// `Refused` where the orders are refused, `Empty` where the chain has no such place, `Arguments`
+/// where the orders file or the algorithm is faulty, `Memory`.
+pub fn signed_part(orders: &str, place: u32, algorithm: &[u8]) -> Result<Vec<u8>> {
+    calls::signed_part(orders.as_bytes(), place, algorithm)
+}
+
+/// That certificate, with this signature of its signed part. Whether it is right isn't looked at.
+///
+/// # Errors
+/// Those of [`signed_part`].
+pub fn issue(orders: &str, place: u32, algorithm: &[u8], signature: &[u8]) -> Result<Vec<u8>> {
+    calls::issue(orders.as_bytes(), place, algorithm, signature)
 }
 
 /// Text that a call wrote, which is UTF-8.

@@ -169,6 +169,31 @@ fn a_chain_is_refused_for_its_reason() {
 }
 
 #[test]
+fn a_chain_is_issued_by_signatures_from_outside() {
+    let orders = String::from_utf8(read("examples/orders.txt")).unwrap();
+    // ecdsa-with-SHA256 (RFC 5758 3.2)
+    let algorithm = [0x30, 10, 6, 8, 0x2a, 0x86, 0x48, 0xce, 0x3d, 4, 3, 2];
+    for (place, name) in [(0, "Desk Root"), (1, "Desk Intermediate"), (2, "desk.example")] {
+        let part = wurstdrape::signed_part(&orders, place, &algorithm).unwrap();
+        let der = wurstdrape::issue(&orders, place, &algorithm, b"signature").unwrap();
+        assert!(der.ends_with(b"\x03\x0a\0signature"));
+        assert_eq!(der[wurstdrape::parts(&der).unwrap().signed_part], part);
+        let subject = wurstdrape::subject(&der).unwrap();
+        assert!(subject.starts_with(&format!("CN={name}")));
+    }
+    let no = |orders: &str, place, algorithm: &[u8]| {
+        let part = wurstdrape::signed_part(orders, place, algorithm).unwrap_err();
+        let whole = wurstdrape::issue(orders, place, algorithm, b"signature");
+        assert_eq!(whole, Err(part));
+        part
+    };
+    assert_eq!(no(&orders, 3, &algorithm), Error::Empty);
+    assert_eq!(no("order\n", 0, &algorithm), Error::Arguments);
+    assert_eq!(no(&orders, 0, &[]), Error::Arguments);
+    assert_eq!(no("", 0, &algorithm), Error::Refused);
+}
+
+#[test]
 fn threads_call_at_once() {
     let der = read("examples/server.der");
     std::thread::scope(|scope| {

@@ -1,2 +1,3 @@
 pub mod PartPlaces
 pub mod ExtensionPlaces
+pub mod GivenChains

@@ -3,3 +3,4 @@ pub mod FaultNumbers
 pub mod Values
 pub mod Judged
 pub mod Places
+pub mod Signing

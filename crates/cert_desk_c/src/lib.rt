@@ -2,7 +2,7 @@
 //! call says. Nothing is kept between calls, so threads may call at once.
 //!
 //! A status is the number of an `ExitStatus`: 0 done or trusted, 1 refused, 2 the octets aren't
-//! what they should be, 3 an empty chain, 4 another argument is faulty, 5 the buffer is too small,
+//! what they should be, 3 there is none, 4 another argument is faulty, 5 the buffer is too small,
 //! 6 out of memory. A call that writes a text or octets writes them to the front of `out`, and
 //! their number to `size`; where the buffer is too small it says how much it wants in `size`, and
 //! leaves `out` as it was.
@@ -12,7 +12,9 @@ mod certificates;
 mod describing;
 mod extensions;
 mod faults;
+mod given_signer;
 mod identifiers;
+mod issuing;
 mod judging;
 mod listings;
 mod names;

@@ -41,6 +41,8 @@ __all__ = [
     "fault_of",
     "identifier_of_text",
     "identifier_text",
+    "issue",
+    "issued",
     "issuer",
     "judge",
     "name_of_text",
@@ -50,6 +52,7 @@ __all__ = [
     "questions",
     "serial_number",
     "show",
+    "signed_part",
     "subject",
     "validity",
     "verify",
@@ -243,6 +246,8 @@ _CALLS = {
     + [ctypes.c_uint64]
     + _IN
     + [ctypes.c_uint32, ctypes.POINTER(_Place)],
+    "wd_signed_part": _IN + [ctypes.c_uint32] + _IN + _OUT,
+    "wd_issue": _IN + [ctypes.c_uint32] + _IN * 2 + _OUT,
 }
 for _kind in Kind:
     _CALLS[f"wd_is_{_kind.value}"] = _IN + [ctypes.POINTER(_Fault)]
@@ -503,3 +508,41 @@ def _by_cryptography() -> typing.Callable[[bytes], bool]:
     from . import answer
 
     return lambda line: answer.refusal(line) is None
+
+
+def signed_part(orders: str, place: int, algorithm: Octets) -> bytes:
+    """What is signed of the certificate at a place of the chain that an orders file asks for, 0 for
+    its root: by this algorithm (an AlgorithmIdentifier in DER), with the key of the certificate
+    above, the root with its own.
+
+    Orders that are faulty or refused, a place that the chain doesn't have, and a faulty algorithm
+    raise `Error`."""
+    lent = [*_lent(orders.encode()), place, *_lent(algorithm)]
+    return _given("chain", _library.wd_signed_part, *lent)
+
+
+def issued(orders: str, place: int, algorithm: Octets, signature: Octets) -> bytes:
+    """That certificate, with this signature of its signed part. Whether it is right isn't looked
+    at."""
+    lent = [*_lent(orders.encode()), place, *_lent(algorithm), *_lent(signature)]
+    return _given("chain", _library.wd_issue, *lent)
+
+
+def issue(
+    orders: str, algorithm: Octets, sign: typing.Callable[[int, bytes], bytes]
+) -> list[bytes]:
+    """The certificates that an orders file asks for, the root first, all by one algorithm.
+
+    `sign` is given the place of the certificate whose key signs, 0 for the root, and what it signs.
+    `verify` judges them under the first one."""
+    certificates: list[bytes] = []
+    while True:
+        place = len(certificates)
+        try:
+            part = signed_part(orders, place, algorithm)
+        except Error as why:
+            if why.status is not Status.EMPTY:
+                raise
+            return certificates
+        signature = sign(max(place - 1, 0), part)
+        certificates.append(issued(orders, place, algorithm, signature))

@@ -1,0 +1,96 @@
+-- Chains whose certificates have one algorithm and given bits.
+use Rattle.std.proofs.Common.{◌≡◌, ◌≢◌, ◌⊎◌, inl, inr, ℕ, zero, suc, ◌<◌, ◌≤◌, List, [], ◌∷◌, length, map, take, get_or, Some, slice_get, refl, sym, ap, ◌∙◌, subst, arith}
+use Rattle.std.proofs.lemmas.Option.{same_Some, slice_get_read}
+use mathlib.Core.List.{map-map}
+use Rattle.const_oid.specs.Bound.{Bound}
+use Rattle.der_core_head.specs.BitStrings.{Bits}
+use Rattle.der_core_head.specs.Grammar.{plain_list}
+use Rattle.der_core_head.specs.Limits.{length_max}
+use Rattle.der_core_head.specs.Shapes.{Spells, octets_of, contents, body_octets}
+use Rattle.der_types_sets.proofs.AscendingSteps.{length_plain_list}
+use Rattle.x509_cert_parts.specs.Grammar.{Algorithm, PublicKey, algorithm_identifier}
+use Rattle.x509_cert_certificates.specs.Certificates.{PlainCertificate, certificate, certificate_octets}
+use Rattle.cert_desk_io.specs.declared.exit_status.ExitStatus.{ExitStatus}
+use Rattle.cert_desk_io.specs.declared.exit_status.ExitStatus.TheVariants as statuses
+use Rattle.cert_desk_io.specs.Statuses.{code_of}
+use Rattle.cert_desk_bundle.specs.Chains.{Chain}
+use Rattle.cert_desk_bundle.proofs.OneChain.{one_chain}
+use Rattle.cert_desk_orders.specs.declared.order.Order.{Order}
+use Rattle.cert_desk_orders.specs.OrdersFile.{SaysOrders}
+use Rattle.cert_desk_issuing.specs.Acceptance.{AcceptedOrders}
+use Rattle.cert_desk_issuing.specs.Chains.{IssuedChain}
+use Rattle.cert_desk_issuing.specs.Roles.{place_above, signers_for}
+use Rattle.cert_desk_issuing.specs.Runs.{signing_keys}
+use Rattle.cert_desk_issuing.proofs.AcceptedFronts.{plain_at}
+use Rattle.cert_desk_c.specs.declared.given_signer.GivenSigner.{GivenSigner}
+use Rattle.cert_desk_c.specs.Signing.{AreOrdered, AreSigners, HoldEach, IsBeyond, IsFault, IsRefusal, IsRefusalAt, PlainSigner, RefusesEach, all_bits, given_algorithm, given_key, gives, signer_for, signer_plain}
+
+-- Two lists of which the same is said, one after the other
+
+kept : {X Y Z W : Type 0} (f : X → Z) (g : Y → Z) (h : Z → W) (xs : List X) (ys : List Y) → map f xs ≡ map g ys → map (λ x. h (f x)) xs ≡ map (λ y. h (g y)) ys
+kept f g h xs ys e = sym (map-map h f xs) ∙ ap (map h) e ∙ map-map h g ys
+
+same_for : {X Y Z : Type 0} (f : X → Z) (g : Y → Z) (xs : List X) (ys : List Y) (i : ℕ) (x : X) → map f xs ≡ map g ys → slice_get xs i ≡ Some x → (y : Y) × (f x ≡ g y)
+same_for f g [] ys i x e at = absurd cc
+same_for f g (z ∷ zs) [] i x e at = absurd cc
+same_for f g (z ∷ zs) (y ∷ ys) zero x e at = (y, (cc))
+same_for f g (z ∷ zs) (y ∷ ys) (suc i) x e at = same_for f g zs ys i x (cc) at
+
+-- What signers of one algorithm and these bits issue.
+module _ (said : List Order) (algorithm : Algorithm) (bits : Bits) (signers : List GivenSigner) (are : AreSigners said algorithm bits signers) where
+  keys_are : map given_key signers ≡ signing_keys said
+  keys_are = kept signer_plain (signer_for algorithm bits) (λ (s : PlainSigner). s.key) signers (take (signers_for (length said)) said) are
+
+  alike : (i : ℕ) (s : GivenSigner) → slice_get signers i ≡ Some s → (given_algorithm s ≡ algorithm) × (s.signature.now ≡ bits)
+  alike i s at =
+      let there = same_for signer_plain (signer_for algorithm bits) signers (take (signers_for (length said)) said) i s are at in
+      (ap (λ (p : PlainSigner). p.algorithm) there.1, ap (λ (p : PlainSigner). p.bits) there.1)
+
+  pub hold_each : (stream : List ℕ) (own : List PlainCertificate) → IssuedChain given_key given_algorithm gives said signers stream → Chain Bound length_max own stream → HoldEach said algorithm bits own
+  hold_each stream own chain joins =
+      let held : HoldEach said algorithm bits chain.certificates = record {
+        asked = chain.asked;
+        accepted = subst (λ (keys : List PublicKey). AcceptedOrders said keys chain.asked) keys_are chain.accepted;
+        count = chain.holds.count ∙ chain.accepted.all;
+        held = chain.holds.held;
+        algorithms = λ place c at. (let s = chain.signed place c at in s.algorithm_is ∙ (alike (place_above place) s.signer s.signer_is).0);
+        signatures = λ place c at. (let s = chain.signed place c at in s.signed ∙ (alike (place_above place) s.signer s.signer_is).1);
+      } in
+      subst (λ (cs : List PlainCertificate). HoldEach said algorithm bits cs) (one_chain Bound length_max chain.certificates own stream chain.holds.chain joins) held
+
+-- What is written at a place of certificates
+pub whole_octets : (c : PlainCertificate) → octets_of (certificate Bound (Some 21)) c ≡ certificate_octets Bound c
+unfolding octets_of contents body_octets
+whole_octets c = refl
+
+module _ {C : Type 0} (plain : C → PlainCertificate) (xs : List C) (own : List PlainCertificate) (place : ℕ) (e : plain_list plain xs ≡ own) where
+  pub at_place : (x : C) → place < length xs → x ≡ get_or xs place x → slice_get own place ≡ Some (plain x)
+  at_place x within is = subst (λ (cs : List PlainCertificate). slice_get cs place ≡ Some (plain x)) e (plain_at plain xs place x (slice_get_read xs (length xs) place x refl within is))
+
+  pub beyond : (orders algorithm signature : List ℕ) → AreOrdered orders algorithm signature own → length xs ≤ place → IsBeyond orders place
+  beyond orders algorithm signature are past = (are.0, are.2, omega (arith, past, are.4.count, ap length e, length_plain_list plain xs))
+
+-- Why there is none
+pub fault_by : {A B : Type 0} (status : ExitStatus) → (A → B) → IsFault A status → IsFault B status
+fault_by status f (inl why) = inl (why.0, f why.1)
+fault_by status f (inr memory) = inr memory
+
+pub refused_by : (orders algorithm signature : List ℕ) (said others : List Order) (a : Algorithm) (bits : Bits) (status : ExitStatus) → SaysOrders orders said → Spells (algorithm_identifier Bound) a algorithm → others ≡ said → bits ≡ all_bits signature
+    → ((status ≡ statuses.Refused) × RefusesEach others a bits) ⊎ (status ≡ statuses.Memory) → IsRefusal orders algorithm signature status
+refused_by orders algorithm signature said others a bits status says spelled e f (inl why) =
+    inl (why.0, (said, a, says, spelled, subst (λ (b : Bits). RefusesEach said a b) f (subst (λ (os : List Order). RefusesEach os a bits) e why.1)))
+refused_by orders algorithm signature said others a bits status says spelled e f (inr memory) = inr (inr memory)
+
+-- each status is known, and isn't that of faulty octets
+abbrev pub IsKnown : ℕ → Type 0
+IsKnown n = (status : ExitStatus) × (n ≡ code_of status) × (status ≢ statuses.Faulty)
+
+pub given_status : (n : ℕ) → (n ≡ code_of statuses.Done) ⊎ (n ≡ code_of statuses.Device) → IsKnown n
+given_status n (inl done) = (statuses.Done, done, λ e. absurd cc)
+given_status n (inr no_room) = (statuses.Device, no_room, λ e. absurd cc)
+
+pub refused_status : (orders : List ℕ) (place : ℕ) (algorithm signature : List ℕ) (status : ExitStatus) (n : ℕ) → n ≡ code_of status → IsRefusalAt orders place algorithm signature status → IsKnown n
+refused_status orders place algorithm signature status n e (inl absent) = (status, e, λ f. absurd cc)
+refused_status orders place algorithm signature status n e (inr (inl refused)) = (status, e, λ f. absurd cc)
+refused_status orders place algorithm signature status n e (inr (inr (inl faulty))) = (status, e, λ f. absurd cc)
+refused_status orders place algorithm signature status n e (inr (inr (inr memory))) = (status, e, λ f. absurd cc)

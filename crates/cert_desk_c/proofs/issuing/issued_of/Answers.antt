@@ -1,0 +1,14 @@
+use Rattle.std.proofs.Common.{map, inl, refl, ap, ◌∙◌}
+use Rattle.x509_cert_parts.specs.Views.{algorithm_plain}
+use Rattle.cert_desk_c.specs.Signing.{signer_plain}
+use Rattle.cert_desk_c.proofs.GivenChains.{hold_each}
+use Rattle.cert_desk_c.proofs.issuing.issued_of.Goals as goal
+
+pub returns-in-Ok-issue-clause-issued : goal.returns-in-Ok-issue-clause-issued
+returns-in-Ok-issue-clause-issued c =
+    hold_each c.args.orders.now (algorithm_plain c.args.algorithm.now) c.args.signature.now c.as_slice.result.now (ap (map signer_plain) c.as_slice.ensures.value ∙ c.in-Ok.ensures)
+    c.in-Ok-issue.issued.stream c.in-Ok-issue.issued.certificates c.in-Ok-issue.ensures.issued c.stream.ensures.chain
+
+pub returns-clause-refused : goal.returns-clause-refused
+returns-clause-refused c =
+    inl (refl, (c.as_slice.result.now, c.in-Err.error, ap (map signer_plain) c.as_slice.ensures.value ∙ c.in-Ok.ensures, c.in-Err.ensures.refused, c.in_default-error.not-OutOfMemory))

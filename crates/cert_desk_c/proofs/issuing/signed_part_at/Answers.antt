@@ -1,0 +1,23 @@
+use Rattle.std.proofs.Common.{[], true, Some, inl, refl, ap, ◌∙◌, arith}
+use Rattle.const_oid.specs.Bound.{Bound}
+use Rattle.der_core_head.specs.Shapes.{octets_of}
+use Rattle.x509_cert_builders.specs.States.{as_written}
+use Rattle.x509_cert_builders.proofs.Encodable.{raw_octets}
+use Rattle.x509_cert_certificates.specs.Certificates.{Tbs, tbs, tbs_by, tbs_certificate}
+use Rattle.x509_cert_certificates.specs.Views.{certificate_plain}
+use Rattle.cert_desk_c.proofs.GivenChains.{at_place, beyond}
+use Rattle.cert_desk_c.proofs.issuing.signed_part_at.Goals as goal
+
+pub returns-then-place-certificates-clause-refused : goal.returns-then-place-certificates-clause-refused
+returns-then-place-certificates-clause-refused c =
+    inl (refl, beyond (λ c. as_written (certificate_plain c)) c.certificates-certificates.result.now c.in-Ok.issued.certificates c.args.place c.certificates-certificates.ensures c.args.orders.now c.args.algorithm.now [] c.in-Ok.ensures.issued (omega arith))
+
+pub returns-in-Ok-to_der-clause-made : goal.returns-in-Ok-to_der-clause-made
+returns-in-Ok-to_der-clause-made c =
+    let it = as_written (certificate_plain c.index-certificates-place.result) in (
+      c.in-Ok.issued.certificates,
+      it,
+      c.in-Ok.ensures.issued,
+      at_place (λ c. as_written (certificate_plain c)) c.certificates-certificates.result.now c.in-Ok.issued.certificates c.args.place c.certificates-certificates.ensures c.index-certificates-place.result (omega arith) c.index-certificates-place.is,
+      c.in-Ok-to_der.ensures.octets.0 ∙ ap (λ (t : Tbs). octets_of (tbs_certificate Bound (Some 21)) (tbs_by true t)) c.tbs_certificate.ensures ∙ raw_octets (tbs it),
+    )

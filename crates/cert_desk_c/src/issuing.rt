@@ -1,0 +1,279 @@
+//! Certificates that orders ask for, with signatures that are made elsewhere.
+ghost use Rattle.std.specs.Prelude.{◌≡◌, ◌≢◌, ◌<◌, ◌⊎◌, [], length, map, take, None, IfErr, IfOk};
+ghost use Rattle.const_oid.specs.Bound.{Bound};
+ghost use Rattle.der_core_head.specs.Limits.{length_max};
+ghost use Rattle.der_core_head.specs.Shapes.{Spells};
+ghost use Rattle.x509_cert_parts.specs.Grammar.{algorithm_identifier};
+ghost use Rattle.x509_cert_parts.specs.Views.{algorithm_plain};
+ghost use Rattle.cert_desk_io.specs.declared.exit_status.ExitStatus.TheVariants as statuses;
+ghost use Rattle.cert_desk_io.specs.Statuses.{code_of};
+ghost use Rattle.cert_desk_issuing.specs.Roles.{signers_for};
+ghost use Rattle.cert_desk_orders.specs.OrdersFile.{SaysOrders, faulty_line};
+ghost use Rattle.cert_desk_c.specs.Rooms.{Wants};
+ghost use Rattle.cert_desk_c.specs.Signing.{AreFaulty, AreOrdered, AreRefused, AreSigners};
+ghost use Rattle.cert_desk_c.specs.Signing.{HoldEach, IsBeyond, IsFault, IsIssued, IsNoAlgorithm};
+ghost use Rattle.cert_desk_c.specs.Signing.{IsRefusal, IsRefusalAt, IsSignedPart, RefusesEach};
+ghost use Rattle.cert_desk_c.specs.Signing.{all_bits};
+
+use crate::given_signer::GivenSigner;
+use crate::rooms::{code, give};
+use cert_desk_io::ExitStatus;
+use cert_desk_issuing::{IssueError, Issued, issue};
+use cert_desk_orders::{Order, OrdersError, orders_in};
+use der_core::{ErrorKind, FromDer, ToDer};
+use der_types_values::BitString;
+use std::alloc::{AllocError, Global};
+use x509_cert_certificates::Certificate;
+use x509_cert_parts::AlgorithmIdentifier;
+
+// The orders that octets say, or the status.
+fn orders_of(alloc: Global, octets: &[u8]) -> Result<Vec<Order>, ExitStatus>
+    ensures said { IfOk result (λ orders. SaysOrders octets.now orders.items) }
+    ensures refused { IfErr result (IsFault (faulty_line octets.now ≢ None)) }
+{
+    match orders_in(alloc, octets) {
+        Ok(orders) => Ok(orders),
+        Err(OrdersError::Line(_)) => Err(ExitStatus::Arguments),
+        Err(OrdersError::OutOfMemory) => Err(ExitStatus::Memory),
+    }
+}
+
+// The algorithm that octets encode, or the status.
+fn algorithm_of(alloc: Global, octets: &[u8]) -> Result<AlgorithmIdentifier, ExitStatus>
+    ensures spelled { IfOk result
+        (λ a. Spells (algorithm_identifier Bound) (algorithm_plain a) octets.now) }
+    ensures refused { IfErr result (IsFault (IsNoAlgorithm octets.now)) }
+{
+    match AlgorithmIdentifier::from_der(alloc, octets) {
+        Ok(algorithm) => Ok(algorithm),
+        Err(error) => {
+            if let ErrorKind::OutOfMemory = error.kind {
+                return Err(ExitStatus::Memory);
+            }
+            Err(ExitStatus::Arguments)
+        }
+    }
+}
+
+// All bits of octets, or the status.
+fn bits_of(alloc: Global, octets: &[u8]) -> Result<BitString, ExitStatus>
+    ensures bits { IfOk result (λ bits. bits ≡ all_bits octets.now) }
+    ensures refused { IfErr result (IsFault (length_max < length octets.now)) }
+{
+    let Ok(octets) = octets.to_vec(alloc) else {
+        return Err(ExitStatus::Memory);
+    };
+    match BitString::from_bytes(octets) {
+        Ok(bits) => Ok(bits),
+        Err(_) => Err(ExitStatus::Arguments),
+    }
+}
+
+// The orders whose keys sign: all but the last of two or more.
+fn signing(orders: &[Order]) -> &[Order]
+    ensures { result.now ≡ take (signers_for (length orders.now)) orders.now }
+{
+    if orders.len() < 2 {
+        return orders;
+    }
+    &orders[..orders.len() - 1]
+}
+
+// A signer of this algorithm and these bits for each order whose key signs.
+fn signers_of<'a>(
+    alloc: Global,
+    orders: &'a [Order],
+    algorithm: &'a AlgorithmIdentifier,
+    signature: &'a BitString,
+) -> Result<Vec<GivenSigner<'a>>, AllocError>
+    ensures { IfOk result (λ signers. AreSigners orders.now (algorithm_plain algorithm.now)
+        signature.now signers.items) }
+{
+    let signing = signing(orders);
+    let mut signers = Vec::new(alloc);
+    for order in signing {
+        signers.push(GivenSigner {
+            key: &order.key,
+            algorithm,
+            signature,
+        })?;
+    }
+    Ok(signers)
+}
+
+// The chain that orders ask for, by this algorithm and with these bits, or the status.
+fn issued_of(
+    alloc: Global,
+    orders: &[Order],
+    algorithm: &AlgorithmIdentifier,
+    signature: &BitString,
+) -> Result<Issued, ExitStatus>
+    ensures issued { IfOk result (λ i. HoldEach orders.now (algorithm_plain algorithm.now)
+        signature.now i.certificates) }
+    ensures refused { IfErr result (λ status. ((status ≡ statuses.Refused)
+        × RefusesEach orders.now (algorithm_plain algorithm.now) signature.now)
+        ⊎ (status ≡ statuses.Memory)) }
+{
+    let Ok(signers) = signers_of(alloc, orders, algorithm, signature) else {
+        return Err(ExitStatus::Memory);
+    };
+    match issue(alloc, orders, signers.as_slice()) {
+        Ok(issued) => {
+            // The certificates are those of the stream.
+            issued.stream();
+            Ok(issued)
+        }
+        Err(error) => {
+            if let IssueError::OutOfMemory = error {
+                return Err(ExitStatus::Memory);
+            }
+            Err(ExitStatus::Refused)
+        }
+    }
+}
+
+// The chain that an orders file asks for, by an algorithm and with these octets for each
+// signature, or the status.
+fn chain_of(
+    alloc: Global,
+    orders: &[u8],
+    algorithm: &[u8],
+    signature: &[u8],
+) -> Result<Issued, ExitStatus>
+    ensures issued { IfOk result
+        (λ i. AreOrdered orders.now algorithm.now signature.now i.certificates) }
+    ensures refused { IfErr result (IsRefusal orders.now algorithm.now signature.now) }
+{
+    let said = match orders_of(alloc, orders) {
+        Ok(said) => said,
+        Err(status) => return Err(status),
+    };
+    let by = match algorithm_of(alloc, algorithm) {
+        Ok(by) => by,
+        Err(status) => return Err(status),
+    };
+    let bits = match bits_of(alloc, signature) {
+        Ok(bits) => bits,
+        Err(status) => return Err(status),
+    };
+    match issued_of(alloc, said.as_slice(), &by, &bits) {
+        Ok(issued) => Ok(issued),
+        Err(status) => Err(status),
+    }
+}
+
+// The octets of the certificate at a place of such a chain, or the status.
+fn certificate_at(
+    alloc: Global,
+    orders: &[u8],
+    place: usize,
+    algorithm: &[u8],
+    signature: &[u8],
+) -> Result<Vec<u8>, ExitStatus>
+    ensures made { IfOk result
+        (λ octets. IsIssued orders.now place algorithm.now signature.now octets.items) }
+    ensures refused { IfErr result
+        (IsRefusalAt orders.now place algorithm.now signature.now) }
+{
+    let issued = match chain_of(alloc, orders, algorithm, signature) {
+        Ok(issued) => issued,
+        Err(status) => return Err(status),
+    };
+    let certificates: &[Certificate] = issued.certificates();
+    if place >= certificates.len() {
+        return Err(ExitStatus::Empty);
+    }
+    match certificates[place].to_der(alloc) {
+        Ok(octets) => Ok(octets),
+        Err(_) => Err(ExitStatus::Memory),
+    }
+}
+
+// The octets of the signed part at a place of such a chain, or the status.
+fn signed_part_at(
+    alloc: Global,
+    orders: &[u8],
+    place: usize,
+    algorithm: &[u8],
+) -> Result<Vec<u8>, ExitStatus>
+    ensures made { IfOk result
+        (λ octets. IsSignedPart orders.now place algorithm.now octets.items) }
+    ensures refused { IfErr result (IsRefusalAt orders.now place algorithm.now []) }
+{
+    let issued = match chain_of(alloc, orders, algorithm, &[]) {
+        Ok(issued) => issued,
+        Err(status) => return Err(status),
+    };
+    let certificates: &[Certificate] = issued.certificates();
+    if place >= certificates.len() {
+        return Err(ExitStatus::Empty);
+    }
+    match certificates[place].tbs_certificate().to_der(alloc) {
+        Ok(octets) => Ok(octets),
+        Err(_) => Err(ExitStatus::Memory),
+    }
+}
+
+/// What is signed of the certificate at a place of the chain that an orders file asks for, 0 for
+/// its root: the octets that the key of the certificate above signs, or the root's own key, by this
+/// algorithm (an AlgorithmIdentifier). 0 where they stand in `out`, 1 where the orders are refused,
+/// 3 where the chain has no such place, 4 where the orders file or the algorithm is faulty, 5 where
+/// the buffer is too small, 6 out of memory.
+#[unsafe(no_mangle)]
+pub extern "C" fn wd_signed_part(
+    alloc: Global,
+    orders: &[u8],
+    place: u32,
+    algorithm: &[u8],
+    out: &mut [u8],
+    size: &mut usize,
+) -> u32
+    ensures done { result ≡ code_of statuses.Done
+        → IsSignedPart orders.now place algorithm.now (take size.new out.new) }
+    ensures no_room { result ≡ code_of statuses.Device
+        → Wants (IsSignedPart orders.now place algorithm.now) out.old size.new }
+    ensures refused { result ≡ code_of statuses.Refused
+        → AreRefused orders.now algorithm.now [] }
+    ensures absent { result ≡ code_of statuses.Empty → IsBeyond orders.now place }
+    ensures faulty { result ≡ code_of statuses.Arguments
+        → AreFaulty orders.now algorithm.now [] }
+    ensures known { (status : ExitStatus) × (result ≡ code_of status) × (status ≢ statuses.Faulty) }
+    ensures untouched { result ≢ code_of statuses.Done → out.new ≡ out.old }
+{
+    *size = 0;
+    match signed_part_at(alloc, orders, place as usize, algorithm) {
+        Ok(octets) => give(octets.as_slice(), out, size),
+        Err(status) => code(status),
+    }
+}
+
+/// The certificate at a place of that chain, with this signature of its signed part, which isn't
+/// judged. The statuses are those of `wd_signed_part`; 4 is also that of too long a signature.
+#[unsafe(no_mangle)]
+pub extern "C" fn wd_issue(
+    alloc: Global,
+    orders: &[u8],
+    place: u32,
+    algorithm: &[u8],
+    signature: &[u8],
+    out: &mut [u8],
+    size: &mut usize,
+) -> u32
+    ensures done { result ≡ code_of statuses.Done
+        → IsIssued orders.now place algorithm.now signature.now (take size.new out.new) }
+    ensures no_room { result ≡ code_of statuses.Device
+        → Wants (IsIssued orders.now place algorithm.now signature.now) out.old size.new }
+    ensures refused { result ≡ code_of statuses.Refused
+        → AreRefused orders.now algorithm.now signature.now }
+    ensures absent { result ≡ code_of statuses.Empty → IsBeyond orders.now place }
+    ensures faulty { result ≡ code_of statuses.Arguments
+        → AreFaulty orders.now algorithm.now signature.now }
+    ensures known { (status : ExitStatus) × (result ≡ code_of status) × (status ≢ statuses.Faulty) }
+    ensures untouched { result ≢ code_of statuses.Done → out.new ≡ out.old }
+{
+    *size = 0;
+    match certificate_at(alloc, orders, place as usize, algorithm, signature) {
+        Ok(octets) => give(octets.as_slice(), out, size),
+        Err(status) => code(status),
+    }
+}
