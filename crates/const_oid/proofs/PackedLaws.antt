@@ -1,5 +1,5 @@
 -- The octets that an array holds, by those without a mark.
-use Rattle.std.proofs.Common.{◌≡◌, ℕ, zero, suc, ◌+◌, ◌-◌, ◌<◌, ◌≤◌, List, [], ◌∷◌, ◌++◌, length, get_or, take, drop, replicate, map, ◌⊎◌, inl, inr, length-take-le, sym, refl, ap, ◌∙◌, arith, append_assoc, length-append, min}
+use Rattle.std.proofs.Common.{◌≡◌, ℕ, zero, suc, ◌+◌, ◌-◌, ◌<◌, ◌≤◌, List, [], ◌∷◌, ◌++◌, length, get_or, take, drop, replicate, set, map, ◌⊎◌, inl, inr, length-take-le, sym, refl, ap, ◌∙◌, arith, append_assoc, length-append, min}
 use Rattle.std.proofs.lemmas.Bool.{lt-ltb, le-ltb, cases_lt}
 use Rattle.std.proofs.lemmas.Bool.Decides.{nat_tests}
 use Rattle.std.proofs.lemmas.List.{drop-replicate, take_more, take-take}
@@ -109,6 +109,12 @@ packed_copy size count octets fits whole counted =
       padded = copied size octets ∙ ap (λ t. t ++ replicate (size - length t) 128) (sym front);
       counted = counted ∙ ap (λ t. min 255 (length t)) (sym front);
     }
+
+-- three octets, written one by one
+pub three_copied : (size : ℕ) (octets : List ℕ) → 3 ≤ length octets → length octets < 4 → length octets ≤ size
+    → set (set (set (replicate size 128) 0 (get_or octets 0 0)) 1 (get_or octets 1 0)) 2 (get_or octets 2 0) ≡ octets ++ drop (length octets) (replicate size 128)
+three_copied (suc (suc (suc n))) (a ∷ b ∷ c ∷ []) three most fits = refl
+three_copied size octets three most fits = absurd (omega arith)
 
 -- The octets that an array holds
 

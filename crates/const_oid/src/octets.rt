@@ -62,6 +62,15 @@ fn first_arc_len(octets: &[u8]) -> Result<usize>
     if first == 0x80 {
         return Err(Error::Base128);
     }
+    // Most arcs of more octets than one have two or three.
+    if octets.len() > 2 {
+        if octets[1] < 0x80 {
+            return Ok(2);
+        }
+        if octets[2] < 0x80 {
+            return Ok(3);
+        }
+    }
     // 18 octets give 126 bits, and 19 of them 128 where the first gives at most two.
     let most = if first > 0x83 { 18 } else { 19 };
     for i in 1..octets.len() {

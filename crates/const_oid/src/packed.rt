@@ -56,6 +56,18 @@ impl<const SIZE: usize> Packed<SIZE> {
         requires whole { unmarked_front octets.now ≡ octets.now }
         ensures { result ≡ octets.now }
     {
+        // Most identifiers of attributes and extensions have three: these need no call.
+        if let [first, second, third] = octets {
+            let mut bytes = [0x80; SIZE];
+            bytes[0] = *first;
+            bytes[1] = *second;
+            bytes[2] = *third;
+            return Packed {
+                bytes,
+                count: 3,
+                words: [],
+            };
+        }
         let mut bytes = [0x80; SIZE];
         bytes[..octets.len()].copy_from_slice(octets);
         let count = counted(octets.len());

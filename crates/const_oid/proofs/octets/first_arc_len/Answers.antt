@@ -1,4 +1,5 @@
-use Rattle.std.proofs.Common.{◌+◌, ◌*◌, ◌%◌, ◌<◌, inl, inr, get_or, sym, ◌∙◌, arith}
+use Rattle.std.proofs.Common.{ℕ, ◌+◌, ◌*◌, ◌%◌, ◌<◌, inl, inr, get_or, refl, sym, ◌∙◌, arith}
+use Rattle.std.proofs.lemmas.Bool.{cases_lt}
 use Rattle.std.proofs.lemmas.List.{take_more}
 use Rattle.const_oid.proofs.BoundLaws.{Bound-is}
 use Rattle.const_oid.proofs.EncodingLaws.{arc_octets-one}
@@ -11,6 +12,27 @@ returns-then-first-lt128 c =
     let w = c.args.octets.now in
     let low = c.if-first-lt128.true in
     (c.requires, (get_or w 0 0, omega (arith, low, Bound-is), take_more w 0 0 c.requires ∙ sym (arc_octets-one (get_or w 0 0) low)))
+
+most_of : (first : ℕ) → (most : ℕ) × IsMost first most × (2 < most)
+most_of first = elim (cases_lt 131 first) [
+  | inl l ↦ (18, inl (l, refl), omega arith)
+  | inr l ↦ (19, inr (l, refl), omega arith)
+]
+
+pub returns-then-octets-lt128 : goal.returns-then-octets-lt128
+returns-then-octets-lt128 c =
+    let w = c.args.octets.now in
+    let m = most_of (get_or w 0 0) in
+    let first = inside_first w c.requires c.if-first-lt128.false c.if-first.false (omega (arith, c.type_inv.octets 0)) in
+    (omega arith, inside_ends w 1 _ m.0 first (omega arith) (omega arith) m.1 (omega (arith, m.2)) c.if-octets-lt128.true)
+
+pub returns-then-octets-lt128-2 : goal.returns-then-octets-lt128-2
+returns-then-octets-lt128-2 c =
+    let w = c.args.octets.now in
+    let m = most_of (get_or w 0 0) in
+    let first = inside_first w c.requires c.if-first-lt128.false c.if-first.false (omega (arith, c.type_inv.octets 0)) in
+    let second = inside_goes w 1 _ m.0 first (omega arith) (omega arith) m.1 (omega (arith, m.2)) c.if-octets-lt128.false (omega (arith, c.type_inv.octets 1)) in
+    (omega arith, inside_ends w 2 _ m.0 second (omega arith) (omega arith) m.1 (omega (arith, m.2)) c.if-octets-lt128-2.true)
 
 pub loop-i-init : goal.loop-i-init
 loop-i-init c =
