@@ -92,7 +92,7 @@ impl BytesOwned {
         requires { Fits octets.now }
         ensures { IfOk result (λ copy. copy ≡ octets.now) }
     {
-        let bytes = octets.to_vec(alloc)?;
+        let bytes = Vec::from_slice(alloc, octets)?;
         Ok(BytesOwned { bytes })
     }
 

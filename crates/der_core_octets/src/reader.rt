@@ -312,7 +312,7 @@ pub trait Reader<'r>: Drop {
             (slice_at len.value) }
     {
         let octets = self.read_slice(len)?;
-        match octets.to_vec(alloc) {
+        match Vec::from_slice(alloc, octets) {
             Ok(copy) => Ok(copy),
             Err(error) => {
                 self.fail();

@@ -53,7 +53,7 @@ impl Primitive for BytesOwned {
 /// Copied.
 impl<'a> Leaf<'a> for BytesOwned {
     fn from_content(alloc: Global, _tag: Tag, octets: &'a [u8]) -> Result<BytesOwned, Error> {
-        let bytes = octets.to_vec(alloc)?;
+        let bytes = Vec::from_slice(alloc, octets)?;
         BytesOwned::new(bytes)
     }
 }

@@ -104,7 +104,7 @@ pub fn content_of(alloc: Global, octets: &[u8]) -> Result<Vec<u8>, AllocError>
         (λ v. v.items ≡ integer_octets (pos (number_from_digits 256 octets.now))) }
 {
     if !begins_with_one_bit(octets) {
-        return octets.to_vec(alloc);
+        return Vec::from_slice(alloc, octets);
     }
     let mut content = Vec::new(alloc);
     content.push(0)?;

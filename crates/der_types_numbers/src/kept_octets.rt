@@ -65,7 +65,7 @@ impl KeptOctets {
         if octets.len() <= 32 {
             return Ok(KeptOctets::few(alloc, octets));
         }
-        let bytes = octets.to_vec(alloc)?;
+        let bytes = Vec::from_slice(alloc, octets)?;
         Ok(KeptOctets::of(bytes))
     }
 
