@@ -105,6 +105,8 @@ impl Any {
     }
 
     /// The value of a borrowed one.
+    // Inlined, so that the value is made where it is kept.
+    #[inline(always)]
     pub(crate) fn copy_of(alloc: Global, lent: &AnyRef<'_>) -> Result<Any, AllocError>
         ensures { IfOk result (λ a. a ≡ any_lent lent.now) }
     {

@@ -205,6 +205,8 @@ impl<'a> AnyRef<'a> {
     ///
     /// # Errors
     /// Out of memory.
+    // Inlined, so that the value is made where it is kept.
+    #[inline(always)]
     pub fn ref_to_owned(&self, alloc: Global) -> Result<Any, AllocError>
         ensures { IfOk result (λ a. a ≡ any_lent self.now) }
     {
