@@ -41,12 +41,37 @@ impl<T: Shaped> ShapedValue for Vec<T> {
     ghost value_written = { λ v. plain_list T.written v.items };
 }
 
+/// For how many values room is taken before they are read: for those that stand there, up to 64 of
+/// them, where each has a tag of one octet and fewer than 128 octets of content. Others find room
+/// as they come.
+fn room_for(octets: &[u8]) -> usize {
+    let mut left = octets;
+    for count in 0..64 {
+        let [_, len, rest @ ..] = left else {
+            return count;
+        };
+        let len = *len as usize;
+        if len >= 0x80 || len > rest.len() {
+            return count + 1;
+        }
+        left = &rest[len..];
+    }
+    64
+}
+
 impl<'a, R: Reader<'a>, T: Decode<'a, R>> DecodeFields<'a, R> for Vec<T> {
     fn decode_fields(alloc: Global, reader: &mut R) -> Result<Vec<T>, Error> {
         if reader.is_failed() {
             return Err(Error::from(ErrorKind::Failed));
         }
-        let mut values = Vec::new(alloc);
+        let room = room_for(reader.remaining());
+        let mut values = match Vec::with_capacity(alloc, room) {
+            Ok(values) => values,
+            Err(error) => {
+                reader.fail();
+                return Err(Error::from(error));
+            }
+        };
         let len = reader.remaining_len().value;
         for _ in 0..len {
             if reader.is_finished() {

@@ -12,7 +12,7 @@ pub loop-init : goal.loop-init
 loop-init g c =
     let old = g.R.Reader.state c.args.reader.now in
     let all : length old.rest - 0 ≡ length old.rest = omega arith in
-    rw c.new-values.ensures.items (reached_none g.T.Shaped.shape g.T.Shaped.plain old _ _ (ap (λ n. read_many kinds.TrailingData (read_at old g.T.Shaped.shape) n old.rest) all))
+    rw c.in-Ok.ensures.items (reached_none g.T.Shaped.shape g.T.Shaped.plain old _ _ (ap (λ n. read_many kinds.TrailingData (read_at old g.T.Shaped.shape) n old.rest) all))
 
 pub returns-in_err-value : goal.returns-in_err-value
 returns-in_err-value g c =
@@ -31,7 +31,7 @@ loop-preserved g c =
     let inv = c.loop.invariant in
     let lt : c.loop.counter < length (g.R.Reader.state c.args.reader.now).rest = omega (arith, c.remaining_len-len.ensures) in
     let some : (g.R.Reader.state c.loop.reader).rest ≢ [] = λ e. absurd (cc (c.is_finished.ensures.1 e, c.if-is_finished.false)) in
-    rw c.in-Ok.ensures.items (reached_on inv c.in_ok-value.value (many_on kinds.TrailingData _ _ _ _ _ _ lt some (reads_alike inv ∙ c.in_ok-value.ensures.0)) c.in_ok-value.ensures.1 c.in_ok-value.ensures.3)
+    rw c.in-Ok-push.ensures.items (reached_on inv c.in_ok-value.value (many_on kinds.TrailingData _ _ _ _ _ _ lt some (reads_alike inv ∙ c.in_ok-value.ensures.0)) c.in_ok-value.ensures.1 c.in_ok-value.ensures.3)
 
 pub returns-then-is_finished-2 : goal.returns-then-is_finished-2
 returns-then-is_finished-2 g c =
