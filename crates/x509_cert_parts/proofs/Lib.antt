@@ -1,3 +1,4 @@
 pub mod Respelled
 pub mod ValueEquality
 pub mod Texts
+pub mod PlainFields

@@ -1,13 +1,15 @@
 //! AlgorithmIdentifier.
 
-ghost use Rattle.std.specs.Prelude.{◌≡◌, true, refl, IsTrue};
+ghost use Rattle.std.specs.Prelude.{◌≡◌, true, refl, IsTrue, IfSome};
 ghost use Rattle.const_oid.specs.Bound.{Bound};
-ghost use Rattle.der_core_head.specs.Shapes.{octets_of};
+ghost use Rattle.der_core_head.specs.Grammar.{plain_option};
+ghost use Rattle.der_core_head.specs.Shapes.{octets_of, optional, any, IsValid, IsBody, body_octets};
 ghost use Rattle.der_core.specs.Copies.{IsCopy};
 ghost use Rattle.x509_cert_parts.specs.Grammar.{algorithm_fields, algorithm_identifier};
 ghost use Rattle.x509_cert_parts.specs.Views.{algorithm_plain, algorithm_lent};
 
 use crate::algorithm_identifier_ref::AlgorithmIdentifierRef;
+use crate::fronts::{identifier_front, reads_der};
 use const_oid::ObjectIdentifier;
 use der_core::describing::{AsRecord, Described, FieldsView, RowUser, Rows};
 use der_core::making::copy_of_option;
@@ -77,8 +79,57 @@ impl FieldsView for AlgorithmIdentifier {
     ghost view = { algorithm_plain };
 }
 
+/// The parameters that octets spell: none, or NULL. That nothing is answered says nothing of the
+/// octets.
+#[inline(always)]
+fn plain_parameters(alloc: Global, octets: &[u8]) -> Option<Option<Any>>
+    ensures valid { IfSome result (λ p. IsValid (optional any) (plain_option (λ v. v) p)) }
+    ensures octets { IfSome result
+        (λ p. octets.now ≡ octets_of (optional any) (plain_option (λ v. v) p)) }
+{
+    if octets.is_empty() {
+        return Some(None);
+    }
+    let [first, second] = octets else {
+        return None;
+    };
+    if *first != 0x05 || *second != 0x00 {
+        return None;
+    }
+    Some(Some(Any::null(alloc)))
+}
+
+/// The algorithm whose fields octets spell, where the header of its identifier has two octets and
+/// its parameters are none or NULL. That none is answered says nothing of the octets.
+#[inline(always)]
+fn plain_fields(alloc: Global, octets: &[u8]) -> Option<AlgorithmIdentifier>
+    ensures valid { IfSome result (λ a. IsBody (algorithm_fields Bound) (algorithm_plain a)) }
+    ensures octets { IfSome result
+        (λ a. body_octets (algorithm_fields Bound) (algorithm_plain a) ≡ octets.now) }
+{
+    let Some((identifier, behind)) = identifier_front(octets) else {
+        return None;
+    };
+    let Some(parameters) = plain_parameters(alloc, behind) else {
+        return None;
+    };
+    let Ok(oid) = ObjectIdentifier::from_bytes_sized(identifier) else {
+        return None;
+    };
+    Some(AlgorithmIdentifier { oid, parameters })
+}
+
 impl<'a, R: Reader<'a>> DecodeFields<'a, R> for AlgorithmIdentifier {
+    // Inlined, so that its fields are moved less often.
+    #[inline(always)]
     fn decode_fields(alloc: Global, reader: &mut R) -> Result<AlgorithmIdentifier, Error> {
+        if reads_der(reader) {
+            let octets = reader.remaining();
+            if let Some(algorithm) = plain_fields(alloc, octets) {
+                reader.skip(octets.len());
+                return Ok(algorithm);
+            }
+        }
         read_row!(alloc, reader; AlgorithmIdentifier { oid, parameters })
     }
 }

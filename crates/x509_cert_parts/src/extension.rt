@@ -1,13 +1,16 @@
 //! Extension.
 
-ghost use Rattle.std.specs.Prelude.{refl};
+ghost use Rattle.std.specs.Prelude.{◌≡◌, refl, IfSome};
 ghost use Rattle.const_oid.specs.Bound.{Bound};
+ghost use Rattle.der_core_head.specs.Shapes.{IsBody, body_octets};
 ghost use Rattle.der_core.specs.Copies.{IsCopy};
 ghost use Rattle.x509_cert_parts.specs.Grammar.{extension_fields};
 ghost use Rattle.x509_cert_parts.specs.Views.{extension_plain};
 
+use crate::fronts::{identifier_front, reads_der, true_front};
 use const_oid::ObjectIdentifier;
 use der_core::describing::{AsRecord, Described, FieldsView, RowUser, Rows};
+use der_core::making::octets_in_range;
 use der_core::{DecodeFields, Error, Reader, lend, read_row};
 use der_types_values::OctetString;
 use std::alloc::{AllocError, Global};
@@ -60,10 +63,52 @@ impl FieldsView for Extension {
     ghost view = { extension_plain };
 }
 
+/// The extension whose fields octets spell, where each of their headers has two octets. That none is
+/// answered says nothing of the octets: headers may be longer, or memory may be short.
+#[inline(always)]
+fn plain_fields(alloc: Global, octets: &[u8]) -> Option<Extension>
+    ensures valid { IfSome result (λ e. IsBody (extension_fields Bound) (extension_plain e)) }
+    ensures octets { IfSome result
+        (λ e. body_octets (extension_fields Bound) (extension_plain e) ≡ octets.now) }
+{
+    let Some((identifier, behind)) = identifier_front(octets) else {
+        return None;
+    };
+    let (critical, behind) = true_front(behind);
+    let [first, len, value @ ..] = behind else {
+        return None;
+    };
+    if *first != 0x04 || *len >= 128 || *len as usize != value.len() {
+        return None;
+    }
+    octets_in_range(value);
+    let Ok(extn_id) = ObjectIdentifier::from_bytes_sized(identifier) else {
+        return None;
+    };
+    let Ok(bytes) = Vec::from_slice(alloc, value) else {
+        return None;
+    };
+    let Ok(extn_value) = OctetString::new(bytes) else {
+        return None;
+    };
+    Some(Extension {
+        extn_id,
+        critical,
+        extn_value,
+    })
+}
+
 impl<'a, R: Reader<'a>> DecodeFields<'a, R> for Extension {
     // Not inlined, so that its fields are moved into their places once.
     #[inline(never)]
     fn decode_fields(alloc: Global, reader: &mut R) -> Result<Extension, Error> {
+        if reads_der(reader) {
+            let octets = reader.remaining();
+            if let Some(extension) = plain_fields(alloc, octets) {
+                reader.skip(octets.len());
+                return Ok(extension);
+            }
+        }
         read_row!(alloc, reader; Extension { extn_id, critical: default, extn_value })
     }
 }

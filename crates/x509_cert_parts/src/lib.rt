@@ -7,6 +7,7 @@ mod algorithm_identifier_ref;
 mod extension;
 mod extension_search;
 mod extensions_of;
+mod fronts;
 pub mod laws;
 mod parts_in_range;
 mod profile;

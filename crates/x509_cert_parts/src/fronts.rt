@@ -1,0 +1,50 @@
+//! What stands at the front of octets, behind a header of two octets.
+
+ghost use Rattle.std.specs.Prelude.{◌≡◌, ◌∷◌, ◌++◌, length, false, IfSome, IsTrue};
+ghost use Rattle.der_core_head.specs.Reading.{IsDer};
+ghost use Rattle.der_core_head.specs.Shapes.{octets_of};
+ghost use Rattle.x509_cert_parts.specs.Grammar.{false_by_default};
+
+use der_core::Reader;
+
+/// Whether a reader that hasn't failed reads headers by DER.
+#[inline(always)]
+pub(crate) fn reads_der<'a, R: Reader<'a>>(reader: &R) -> bool
+    ensures ready { IsTrue result → (R.state reader.now).failed ≡ false }
+    ensures der { IsTrue result → IsDer (R.state reader.now) }
+{
+    !reader.is_failed() && reader.encoding_rules().is_der()
+}
+
+/// The content of an OBJECT IDENTIFIER whose header has two octets, and the octets behind it.
+#[inline(always)]
+pub(crate) fn identifier_front(octets: &[u8]) -> Option<(&[u8], &[u8])>
+    ensures { IfSome result (λ p. octets.now ≡ 0x06 ∷ length p.0.now ∷ (p.0.now ++ p.1.now)) }
+{
+    let [first, len, rest @ ..] = octets else {
+        return None;
+    };
+    if *first != 0x06 {
+        return None;
+    }
+    let len = *len as usize;
+    if rest.len() < len {
+        return None;
+    }
+    Some(rest.split_at(len))
+}
+
+/// Whether a TRUE stands that is FALSE by default, and the octets behind it.
+#[inline(always)]
+#[tactic(auto, using(crate::proofs::PlainFields::false_first))]
+pub(crate) fn true_front(octets: &[u8]) -> (bool, &[u8])
+    ensures { octets.now ≡ octets_of false_by_default result.0 ++ result.1.now }
+{
+    let [first, second, third, behind @ ..] = octets else {
+        return (false, octets);
+    };
+    if *first != 0x01 || *second != 0x01 || *third != 0xff {
+        return (false, octets);
+    }
+    (true, behind)
+}
