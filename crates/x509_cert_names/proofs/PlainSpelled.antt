@@ -1,15 +1,19 @@
 -- Attributes whose headers have two octets each are spelled by their octets.
-use Rattle.std.proofs.Common.{lt-ltb, ◌≡◌, ℕ, zero, suc, ◌+◌, ◌-◌, ◌<◌, ◌≤◌, List, [], ◌∷◌, ◌++◌, length, Ok, refl, sym, ap, ◌∙◌, arith, append-nil, length-append, length-take-le, subst, take, take_all, take-append-drop, drop, get_or}
+use Rattle.std.proofs.Common.{Bool, Result, Err, lt-ltb, ◌≡◌, ℕ, zero, suc, ◌+◌, ◌-◌, ◌<◌, ◌≤◌, List, [], ◌∷◌, ◌++◌, length, Ok, refl, sym, ap, ◌∙◌, arith, append-nil, length-append, length-take-le, subst, take, take_all, take-append-drop, drop, get_or}
 use Rattle.const_oid.specs.Bound.{Bound}
 use Rattle.const_oid.specs.IdentifierOctets.{identifier_octets, IsIdentifier}
 use Rattle.der_core_head.specs.Heads.{tlv, head_octets, length_octets}
-use Rattle.der_core_head.specs.Octets.{IsOctets}
+use Rattle.der_core_head.specs.Octets.{◌>>=◌, IsOctets}
+use Rattle.der_core_head.specs.declared.error.Error.{Error}
+use Rattle.der_core_head.specs.declared.error.ErrorKind.{ErrorKind}
 use Rattle.der_core_head.specs.Shapes.{octets_of, contents, body_octets, Spells, IsValid}
-use Rattle.der_core_head.specs.Tags.{tag_octets, tag_at}
+use Rattle.der_core_head.specs.Tags.{tag_octets, tag_at, leading_octet, number_of}
+use Rattle.der_core_head.specs.Writing.{Out, put, size, write, Writes}
 use Rattle.der_core_head.specs.declared.tag.Tag.{Tag}
 use Rattle.der_core_head.specs.declared.tag.Tag.TheVariants as tags
 use Rattle.der_core_head.proofs.Results.{IsBytes, bytes_drop}
 use Rattle.der_core_head.proofs.TagLaws.{tag_sound}
+use Rattle.der_core_head.proofs.Written.{sized, put-append, put_some, put_written}
 use Rattle.x509_cert_names.specs.Names.{type_and_value}
 use Rattle.x509_cert_names.specs.Pairs.{pair}
 use Rattle.x509_cert_names.specs.PlainParts.{IsPlain}
@@ -52,6 +56,29 @@ plain_spells arcs tag identifier value w p is most e =
       );
       octets = sym whole;
     }
+
+-- an attribute that is spelled so
+plain : (arcs : List ℕ) (tag : Tag) (value : List ℕ) → IsIdentifier Bound arcs → length (identifier_octets arcs) ≤ 39 → number_of tag < 31 → IsOctets value
+    → length (identifier_octets arcs) + length value + 4 < 128
+    → Spells (type_and_value Bound) (pair arcs (record { tag = tag; contents = value }))
+    (0x30 ∷ (length (identifier_octets arcs) + length value + 4) ∷ 0x06 ∷ length (identifier_octets arcs) ∷ (identifier_octets arcs ++ (leading_octet tag ∷ length value ∷ value)))
+unfolding tag_octets
+plain arcs tag value is most low are short =
+    let i = identifier_octets arcs in
+    let w = 0x30 ∷ (length i + length value + 4) ∷ 0x06 ∷ length i ∷ (i ++ (leading_octet tag ∷ length value ∷ value)) in
+    let p : IsPlain i tag value w = record { leading = leading_octet tag; whole = refl; short = short; tagged = rw (lt-ltb (number_of tag) 31 low) refl; known = omega (arith, low); are = are } in
+    plain_spells arcs tag i value w p is most refl
+
+-- how many octets these are
+pub plain_size : (arcs : List ℕ) (tag : Tag) (value : List ℕ) → IsIdentifier Bound arcs → length (identifier_octets arcs) ≤ 39 → number_of tag < 31 → IsOctets value
+    → length (identifier_octets arcs) + length value + 4 < 128
+    → size (type_and_value Bound) (pair arcs (record { tag = tag; contents = value })) ≡ Ok (length (identifier_octets arcs) + length value + 6)
+plain_size arcs tag value is most low are short =
+    let i = identifier_octets arcs in
+    let s = plain arcs tag value is most low are short in
+    let w = 0x30 ∷ (length i + length value + 4) ∷ 0x06 ∷ length i ∷ (i ++ (leading_octet tag ∷ length value ∷ value)) in
+    let long : length w ≡ length i + length value + 6 = omega (arith, length-append i (leading_octet tag ∷ length value ∷ value)) in
+    sized (type_and_value Bound) (pair arcs (record { tag = tag; contents = value })) s.valid ∙ ap (λ (u : List ℕ). Ok (length u)) (sym s.octets) ∙ ap (λ n. Ok n) long
 
 -- what the code finds is plain
 found : (a b c d third count : ℕ) (identifier value rest : List ℕ) (tag : Tag) → a ≡ 0x30 → c ≡ 0x06 → b < 128 → b ≡ length rest + 2 → d ≡ length identifier
@@ -102,3 +129,41 @@ parts_plain (a ∷ b ∷ c ∷ d ∷ r) identifier behind value tag bytes four o
     let bytes_behind : IsBytes behind = subst IsBytes (sym back_of) (bytes_drop d r (bytes_drop 4 (a ∷ b ∷ c ∷ d ∷ r) bytes)) in
     found a b c d (get_or behind 0 0) (get_or behind 1 0) identifier value r tag one two small (omega (arith, inside, ap length all)) counted (behind_read identifier behind value r d joined some v) valued
     (bytes_behind 0) read are
+
+-- What is written of it, in four pieces
+
+before_same : (r : Result Out ErrorKind) (f g : Out → Result Out ErrorKind) → ((x : Out) → f x ≡ g x) → (r >>= f) ≡ (r >>= g)
+before_same (Ok x) f g same = same x
+before_same (Err e) f g same = refl
+
+in_four : (a b c d : List ℕ) (o : Out) → put (a ++ (b ++ (c ++ d))) o ≡ (put a o >>= λ x. put b x >>= λ y. put c y >>= put d)
+in_four a b c d o =
+    let last : (x : Out) → put (b ++ (c ++ d)) x ≡ (put b x >>= λ y. put c y >>= put d) =
+    λ x. sym (put-append b (c ++ d) x) ∙ before_same (put b x) (put (c ++ d)) (λ y. put c y >>= put d) (λ y. sym (put-append c d y)) in
+    sym (put-append a (b ++ (c ++ d)) o) ∙ before_same (put a o) (put (b ++ (c ++ d))) (λ x. put b x >>= λ y. put c y >>= put d) last
+
+plain_written : (arcs : List ℕ) (tag : Tag) (value : List ℕ) → IsIdentifier Bound arcs → length (identifier_octets arcs) ≤ 39 → number_of tag < 31 → IsOctets value
+    → length (identifier_octets arcs) + length value + 4 < 128 → (o : Out)
+    → write (type_and_value Bound) (pair arcs (record { tag = tag; contents = value })) o
+    ≡ (put (0x30 ∷ (length (identifier_octets arcs) + length value + 4) ∷ 0x06 ∷ length (identifier_octets arcs) ∷ []) o
+    >>= λ x. put (identifier_octets arcs) x >>= λ y. put (leading_octet tag ∷ length value ∷ []) y >>= put value)
+plain_written arcs tag value is most low are short o =
+    let i = identifier_octets arcs in
+    let s = plain arcs tag value is most low are short in
+    put_written (type_and_value Bound) (pair arcs (record { tag = tag; contents = value })) o s.valid ∙ ap (λ (u : List ℕ). put_some u o) (sym s.octets)
+    ∙ in_four (0x30 ∷ (length i + length value + 4) ∷ 0x06 ∷ length i ∷ []) i (leading_octet tag ∷ length value ∷ []) value o
+
+pub pieces_written : (arcs : List ℕ) (tag : Tag) (contents identifier value : List ℕ) (leading : ℕ) → identifier ≡ identifier_octets arcs → value ≡ contents → leading ≡ leading_octet tag
+    → IsIdentifier Bound arcs → length (identifier_octets arcs) ≤ 39 → number_of tag < 31 → IsOctets value → length identifier + length value + 4 < 128 → (o : Out)
+    → write (type_and_value Bound) (pair arcs (record { tag = tag; contents = contents })) o
+    ≡ (put (0x30 ∷ (length identifier + length value + 4) ∷ 0x06 ∷ length identifier ∷ []) o >>= λ x. put identifier x >>= λ y. put (leading ∷ length value ∷ []) y >>= put value)
+pieces_written arcs tag contents identifier value leading e f l is most low are short o =
+    rw (e, f, l) (plain_written arcs tag contents is most low (subst IsOctets f are) (omega (arith, short, ap length e, ap length f)) o)
+
+-- a call behind others does what is left
+pub writes_behind : (m : Bool) (old mid new : Out) (r : Result (Unit {0}) Error) (f g : Out → Result Out ErrorKind) → f old ≡ g mid → Writes m mid new r g → Writes m old new r f
+writes_behind m old mid new (Ok u) f g e h = e ∙ h
+writes_behind m old mid new (Err x) f g e h = λ free. e ∙ h free
+
+pub refused_behind : (m : Bool) (old mid new : Out) (x : Error) (f g k : Out → Result Out ErrorKind) → f old ≡ (g mid >>= k) → Writes m mid new (Err x) g → Writes m old new (Err x) f
+refused_behind m old mid new x f g k e h = λ free. e ∙ ap (λ r. r >>= k) (h free)

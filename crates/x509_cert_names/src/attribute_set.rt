@@ -10,8 +10,7 @@ use crate::attribute_type_and_value::AttributeTypeAndValue;
 use crate::members::copy_of;
 use der_core::making::elements_cmp;
 use der_core::{
-    Encode, EncodeValue, Error, InRange, InRangeValue, Length, ShapedValue, StrictSetOf, ValueOrd,
-    Writer,
+    EncodeValue, Error, InRange, InRangeValue, Length, ShapedValue, StrictSetOf, ValueOrd, Writer,
 };
 use std::alloc::{AllocError, Global};
 use std::cmp::Ordering;
@@ -135,14 +134,14 @@ impl ShapedValue for AttributeSet {
 impl EncodeValue for AttributeSet {
     fn value_len(&self) -> Result<Length, Error> {
         match &self.store {
-            Store::One(one) => one.encoded_len(),
+            Store::One(one) => one.octet_count(),
             Store::Many(many) => many.value_len(),
         }
     }
 
     fn encode_value<W: Writer>(&self, writer: &mut W) -> Result<(), Error> {
         match &self.store {
-            Store::One(one) => one.encode(writer),
+            Store::One(one) => one.write_octets(writer),
             Store::Many(many) => many.encode_value(writer),
         }
     }

@@ -1,11 +1,13 @@
 //! AttributeTypeAndValue, and attributes that are told by one look at their headers.
 
-ghost use Rattle.std.specs.Prelude.{◌≡◌, ◌∷◌, ◌++◌, refl, IfOk, chars, IfSome};
+ghost use Rattle.std.specs.Prelude.{◌≡◌, ◌∷◌, ◌++◌, refl, Ok, IfOk, chars, IfSome};
 ghost use Rattle.std.specs.Fmt.{WritesOnOk};
 ghost use Rattle.const_oid.specs.Bound.{Bound};
 ghost use Rattle.const_oid.specs.DottedText.{dotted};
-ghost use Rattle.der_core_head.specs.Reading.{Gives};
+ghost use Rattle.der_core_head.specs.Reading.{Gives, GivesNow};
 ghost use Rattle.der_core_head.specs.Shapes.{Spells};
+ghost use Rattle.der_core_head.specs.Writing.{size, write, Writes};
+ghost use Rattle.der_core_octets.specs.Outputs.{Continues};
 ghost use Rattle.x509_cert_name_texts.specs.Answers.{GivesBy};
 ghost use Rattle.x509_cert_name_texts.specs.Escapes.{escaped, in_hex};
 ghost use Rattle.x509_cert_names.specs.NameTexts.{ReadsAttribute, ReadsEncoding};
@@ -17,9 +19,10 @@ ghost use Rattle.x509_cert_names.specs.PlainParts.{IsPlain};
 use crate::value_texts::{text_of, value_of, write_encoding};
 use const_oid::ObjectIdentifier;
 use der_core::describing::{AsRecord, Described, FieldsView, RowUser, Rows};
-use der_core::making::octets_in_range;
+use der_core::making::{leading_octet_of, number_of, octets_in_range};
 use der_core::{
-    DecodeFields, Error, ErrorKind, InRange, InRangeValue, Reader, Tag, ToDer, lend, read_row,
+    DecodeFields, Encode, Error, ErrorKind, InRange, InRangeValue, Length, Reader, Tag, ToDer,
+    Writer, lend, read_row,
 };
 use der_core_head::short_tag_of;
 use der_types_any::{Any, AnyRef};
@@ -135,6 +138,58 @@ impl AttributeTypeAndValue {
             value: self.value.clone(alloc)?,
         })
     }
+
+    /// The number of octets. Where each of the four headers has two it is a sum.
+    ///
+    /// # Errors
+    /// `Overflow` from 2^32 on.
+    pub(crate) fn octet_count(&self) -> Result<Length, Error>
+        ensures { GivesNow (λ l. l.value) result
+            (size (type_and_value Bound) (pair_plain self.now)) }
+    {
+        match self.plain_count() {
+            Some(count) => Ok(count),
+            None => self.encoded_len(),
+        }
+    }
+
+    /// The number of octets, where each of the four headers has two.
+    #[inline(always)]
+    fn plain_count(&self) -> Option<Length>
+        ensures { IfSome result
+            (λ l. size (type_and_value Bound) (pair_plain self.now) ≡ Ok l.value) }
+    {
+        let value = self.value.value();
+        octets_in_range(value);
+        let inside = self.oid.as_bytes().len() + value.len() + 4;
+        if inside >= 128 || number_of(self.value.tag()) >= 31 {
+            return None;
+        }
+        Some(Length::new(inside as u32 + 2))
+    }
+
+    /// Writes the octets. Where each of the four headers has two they are put together by two.
+    ///
+    /// # Errors
+    /// Those of `encode`.
+    pub(crate) fn write_octets<W: Writer>(&self, writer: &mut W) -> Result<(), Error>
+        ensures exact { Writes W.takes_memory (W.out writer.old) (W.out writer.new) result
+            (write (type_and_value Bound) (pair_plain self.now)) }
+        ensures kept { Continues (W.out writer.old) (W.out writer.new) }
+    {
+        let identifier = self.oid.as_bytes();
+        let value = self.value.value();
+        octets_in_range(value);
+        let inside = identifier.len() + value.len() + 4;
+        if inside >= 128 || number_of(self.value.tag()) >= 31 {
+            return self.encode(writer);
+        }
+        let tag = leading_octet_of(self.value.tag());
+        writer.write(&[0x30, inside as u8, 0x06, identifier.len() as u8])?;
+        writer.write(identifier)?;
+        writer.write(&[tag, value.len() as u8])?;
+        writer.write(value)
+    }
 }
 
 /// What `from_str` reads.
@@ -207,11 +262,13 @@ struct Parts<'a> {
 
 /// The attribute that octets spell, where each of its four headers has two octets. That none is
 /// answered says nothing of the octets: headers may be longer, or memory may be short.
+// Inlined, so that the attribute is made where it is kept.
+#[inline(always)]
 pub(crate) fn plain_attribute(alloc: Global, octets: &[u8]) -> Option<AttributeTypeAndValue>
     ensures { IfSome result (λ a. Spells (type_and_value Bound) (pair_plain a) octets.now) }
 {
     let parts = plain_parts(octets)?;
-    let Ok(oid) = ObjectIdentifier::from_bytes(parts.identifier) else {
+    let Ok(oid) = ObjectIdentifier::from_bytes_sized(parts.identifier) else {
         return None;
     };
     let Ok(lent) = AnyRef::new(parts.tag, parts.value) else {
@@ -224,6 +281,8 @@ pub(crate) fn plain_attribute(alloc: Global, octets: &[u8]) -> Option<AttributeT
 }
 
 /// The parts of an attribute, where each of its headers has two octets.
+// Inlined, so that nothing is handed on.
+#[inline(always)]
 fn plain_parts(octets: &[u8]) -> Option<Parts<'_>>
     ensures { IfSome result (λ p. IsPlain p.identifier.now p.tag p.value.now octets.now) }
 {
