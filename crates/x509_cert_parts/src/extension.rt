@@ -63,8 +63,8 @@ impl FieldsView for Extension {
     ghost view = { extension_plain };
 }
 
-/// The extension whose fields octets spell, where each of their headers has two octets. That none is
-/// answered says nothing of the octets: headers may be longer, or memory may be short.
+/// The extension whose fields octets spell, where each of their headers has two octets. That none
+/// is answered says nothing of the octets: headers may be longer, or memory may be short.
 #[inline(always)]
 fn plain_fields(alloc: Global, octets: &[u8]) -> Option<Extension>
     ensures valid { IfSome result (λ e. IsBody (extension_fields Bound) (extension_plain e)) }
