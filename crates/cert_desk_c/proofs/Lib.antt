@@ -1,3 +1,2 @@
 pub mod PartPlaces
 pub mod ExtensionPlaces
-pub mod GivenChains

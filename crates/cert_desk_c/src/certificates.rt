@@ -6,15 +6,15 @@ ghost use Rattle.x509_cert_certificates.specs.Views.{certificate_plain};
 ghost use Rattle.cert_desk_io.specs.declared.exit_status.ExitStatus.TheVariants.{Device, Done};
 ghost use Rattle.cert_desk_io.specs.declared.exit_status.ExitStatus.TheVariants.{Faulty};
 ghost use Rattle.cert_desk_io.specs.Statuses.{code_of};
+ghost use Rattle.cert_desk_buffers.specs.Rooms.{Wants};
 ghost use Rattle.cert_desk_c.specs.Places.{ArePlaced};
-ghost use Rattle.cert_desk_c.specs.Rooms.{Wants};
 ghost use Rattle.cert_desk_c.specs.Values.{IsIssuerText, IsNoCertificate, IsOfCertificate};
 ghost use Rattle.cert_desk_c.specs.Values.{IsSubjectText};
 
 use crate::names::text_of;
 use crate::places::{WdSpans, parts_in};
 use crate::reading::certificate_of;
-use crate::rooms::{code, give};
+use cert_desk_buffers::{code, give};
 use cert_desk_io::ExitStatus;
 use std::alloc::Global;
 use x509_cert_certificates::CertificateInner;

@@ -3,7 +3,7 @@ ghost use Rattle.std.specs.Prelude.{◌≡◌, ◌≢◌, ◌<◌, length};
 ghost use Rattle.cert_desk_io.specs.declared.exit_status.ExitStatus.TheVariants.{Device, Done};
 ghost use Rattle.cert_desk_io.specs.Statuses.{code_of};
 
-use crate::rooms::{code, give};
+use cert_desk_buffers::{code, give};
 use cert_desk_io::ExitStatus;
 use cert_tool_describe::{Lines, add_certificate, add_list, add_request};
 use der_core::ErrorKind;

@@ -16,7 +16,7 @@ ghost use Rattle.cert_desk_c.specs.Values.{IsNoCertificate, IsOfCertificate, fir
 
 use crate::places::{WdSpan, behind, behind_where, inside, part, parts_in};
 use crate::reading::certificate_of;
-use crate::rooms::code;
+use cert_desk_buffers::code;
 use cert_desk_io::ExitStatus;
 use const_oid::ObjectIdentifier;
 use std::alloc::Global;

@@ -14,7 +14,7 @@ ghost use Rattle.cert_desk_c.specs.FaultNumbers.{IsTold, fault_number};
 ghost use Rattle.cert_desk_c.specs.Values.{IsNoCertificate, IsNoList, IsNoRequest};
 
 use crate::reading::read_list;
-use crate::rooms::code;
+use cert_desk_buffers::code;
 use cert_desk_io::ExitStatus;
 use der_core::{Error, ErrorKind};
 use std::alloc::Global;

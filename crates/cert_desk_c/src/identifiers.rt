@@ -8,10 +8,10 @@ ghost use Rattle.const_oid.specs.TextFaults.{IsDottedText};
 ghost use Rattle.cert_desk_io.specs.declared.exit_status.ExitStatus.TheVariants.{Device, Done};
 ghost use Rattle.cert_desk_io.specs.declared.exit_status.ExitStatus.TheVariants.{Faulty};
 ghost use Rattle.cert_desk_io.specs.Statuses.{code_of};
-ghost use Rattle.cert_desk_c.specs.Rooms.{Wants};
+ghost use Rattle.cert_desk_buffers.specs.Rooms.{Wants};
 ghost use Rattle.cert_desk_c.specs.Values.{IsDottedTextOf, IsIdentifierOf};
 
-use crate::rooms::{code, give};
+use cert_desk_buffers::{code, give};
 use cert_desk_io::ExitStatus;
 use const_oid::ObjectIdentifier;
 use std::alloc::{AllocError, Global};

@@ -19,8 +19,8 @@ ghost use Rattle.cert_desk_answers.specs.AnswerLines.{file_says};
 ghost use Rattle.cert_desk_c.specs.Judged.{UnderTerms};
 
 use crate::numbers::{WdPlace, tell};
-use crate::rooms::code;
 use cert_desk_answers::verdict_of;
+use cert_desk_buffers::code;
 use cert_desk_io::ExitStatus;
 use cert_desk_rules::Verdict;
 use const_oid::ObjectIdentifier;

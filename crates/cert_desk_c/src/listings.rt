@@ -3,16 +3,16 @@ ghost use Rattle.std.specs.Prelude.{◌≡◌, ◌≢◌, take, IfOk};
 ghost use Rattle.cert_desk_io.specs.declared.exit_status.ExitStatus.TheVariants.{Done, Faulty};
 ghost use Rattle.cert_desk_io.specs.declared.exit_status.ExitStatus.TheVariants.{Device};
 ghost use Rattle.cert_desk_io.specs.Statuses.{code_of};
+ghost use Rattle.cert_desk_buffers.specs.Rooms.{Wants};
 ghost use Rattle.cert_desk_listing.specs.declared.file_kind.FileKind.TheVariants as kinds;
 ghost use Rattle.cert_desk_listing.specs.Listing.{certificate_lines, list_lines, request_lines};
 ghost use Rattle.cert_desk_listing.specs.Shown.{IsListing};
 ghost use Rattle.x509_cert_certificates.specs.Views.{certificate_plain};
 ghost use Rattle.x509_cert_lists.specs.Views.{certificate_list_plain, cert_req_plain};
-ghost use Rattle.cert_desk_c.specs.Rooms.{Wants};
 ghost use Rattle.cert_desk_c.specs.Values.{IsNoCertificate, IsNoList, IsNoRequest};
 
 use crate::reading::{certificate_of, list_of, request_of};
-use crate::rooms::{code, give};
+use cert_desk_buffers::{code, give};
 use cert_desk_io::{ExitStatus, ToWrite};
 use cert_desk_listing::{show_certificate, show_list, show_request};
 use std::alloc::{AllocError, Global};

@@ -5,11 +5,11 @@ ghost use Rattle.x509_cert_names.specs.Views.{name_plain};
 ghost use Rattle.cert_desk_io.specs.declared.exit_status.ExitStatus.TheVariants.{Device, Done};
 ghost use Rattle.cert_desk_io.specs.declared.exit_status.ExitStatus.TheVariants.{Faulty};
 ghost use Rattle.cert_desk_io.specs.Statuses.{code_of};
-ghost use Rattle.cert_desk_c.specs.Rooms.{IsLack, Wants};
+ghost use Rattle.cert_desk_buffers.specs.Rooms.{IsLack, Wants};
 ghost use Rattle.cert_desk_c.specs.Values.{IsEncodedName, IsNameText, IsNoName, IsNoNameText};
 
 use crate::reading::name_of;
-use crate::rooms::{code, give};
+use cert_desk_buffers::{code, give};
 use cert_desk_io::ExitStatus;
 use der_core::ErrorKind;
 use std::alloc::{AllocError, Global};

@@ -6,7 +6,7 @@ ghost use Rattle.cert_desk_rules.specs.Judging.{number};
 ghost use Rattle.cert_desk_checking.specs.Runs.{status_of};
 ghost use Rattle.cert_desk_c.specs.Judged.{Tells};
 
-use crate::rooms::code;
+use cert_desk_buffers::code;
 use cert_desk_bundle::FaultKind;
 use cert_desk_checking::status_of;
 use cert_desk_rules::{Rule, Verdict};

@@ -4,12 +4,12 @@ ghost use Rattle.std.specs.Prelude.{string_bytes};
 ghost use Rattle.const_oid.specs.Bound.{Bound};
 ghost use Rattle.cert_desk_io.specs.declared.exit_status.ExitStatus.TheVariants as statuses;
 ghost use Rattle.cert_desk_io.specs.Statuses.{code_of};
+ghost use Rattle.cert_desk_buffers.specs.Rooms.{Wants};
 ghost use Rattle.cert_desk_bundle.specs.Chains.{Chain};
 ghost use Rattle.cert_desk_c.specs.Judged.{AreQuestions};
-ghost use Rattle.cert_desk_c.specs.Rooms.{Wants};
 
-use crate::rooms::{code, give};
 use cert_desk_answers::{anchors_of, bundle_of};
+use cert_desk_buffers::{code, give};
 use cert_desk_bundle::{Bundle, Standing};
 use cert_desk_checking::{Anchor, chain_lines};
 use cert_desk_io::ExitStatus;

@@ -12,7 +12,7 @@ ghost use Rattle.x509_cert_certificates.specs.Views.{certificate_plain};
 ghost use Rattle.x509_cert_lists.specs.Grammar.{cert_req};
 ghost use Rattle.x509_cert_lists.specs.Views.{certificate_list_plain, cert_req_plain};
 ghost use Rattle.cert_desk_listing.specs.Parts.{raw_certificate_list};
-ghost use Rattle.cert_desk_c.specs.Rooms.{IsLack};
+ghost use Rattle.cert_desk_buffers.specs.Rooms.{IsLack};
 ghost use Rattle.cert_desk_c.specs.Values.{IsNoCertificate, IsNoList, IsNoName, IsNoRequest};
 
 use cert_desk_io::ExitStatus;

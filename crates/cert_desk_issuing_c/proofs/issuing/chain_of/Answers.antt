@@ -2,9 +2,9 @@ use Rattle.std.proofs.Common.{◌≡◌, List, inl, inr, subst}
 use Rattle.der_core_head.specs.BitStrings.{Bits}
 use Rattle.x509_cert_parts.specs.Views.{algorithm_plain}
 use Rattle.cert_desk_orders.specs.declared.order.Order.{Order}
-use Rattle.cert_desk_c.specs.Signing.{HoldEach}
-use Rattle.cert_desk_c.proofs.GivenChains.{fault_by, refused_by}
-use Rattle.cert_desk_c.proofs.issuing.chain_of.Goals as goal
+use Rattle.cert_desk_issuing_c.specs.Signing.{HoldEach}
+use Rattle.cert_desk_issuing_c.proofs.GivenChains.{fault_by, refused_by}
+use Rattle.cert_desk_issuing_c.proofs.issuing.chain_of.Goals as goal
 
 pub returns-in-Err-clause-refused : goal.returns-in-Err-clause-refused
 returns-in-Err-clause-refused c = inr (fault_by c.in-Err.status inl c.in-Err.ensures.refused)

@@ -22,7 +22,7 @@ use Rattle.cert_desk_issuing.specs.PlainOrders.{PlainOrder}
 use Rattle.cert_desk_issuing.specs.Refusals.{Refuses}
 use Rattle.cert_desk_issuing.specs.Roles.{signers_for}
 use Rattle.cert_desk_issuing.specs.Runs.{key_of, signing_keys}
-use Rattle.cert_desk_c.specs.declared.given_signer.GivenSigner.{GivenSigner}
+use Rattle.cert_desk_issuing_c.specs.declared.given_signer.GivenSigner.{GivenSigner}
 
 -- all bits of these octets
 abbrev pub all_bits : List ℕ → Bits

@@ -1,6 +1,6 @@
 use Rattle.std.proofs.Common.{[]}
-use Rattle.cert_desk_c.proofs.GivenChains.{given_status, refused_status}
-use Rattle.cert_desk_c.proofs.issuing.wd_signed_part.Goals as goal
+use Rattle.cert_desk_issuing_c.proofs.GivenChains.{given_status, refused_status}
+use Rattle.cert_desk_issuing_c.proofs.issuing.wd_signed_part.Goals as goal
 
 pub returns-in-Ok-clause-known : goal.returns-in-Ok-clause-known
 returns-in-Ok-clause-known c = given_status c.give.result c.give.ensures.status

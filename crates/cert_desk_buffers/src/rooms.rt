@@ -6,7 +6,7 @@ ghost use Rattle.cert_desk_io.specs.Statuses.{code_of};
 use cert_desk_io::ExitStatus;
 
 /// The number of a status.
-pub(crate) fn code(status: ExitStatus) -> u32
+pub fn code(status: ExitStatus) -> u32
     ensures { result ≡ code_of status }
 {
     u32::from(status.code())
@@ -14,7 +14,7 @@ pub(crate) fn code(status: ExitStatus) -> u32
 
 /// Writes octets to the front of a buffer, and their number; or only the number, where they are
 /// more than its capacity.
-pub(crate) fn give(octets: &[u8], out: &mut [u8], size: &mut usize) -> u32
+pub fn give(octets: &[u8], out: &mut [u8], size: &mut usize) -> u32
     ensures number { size.new ≡ length octets.now }
     ensures status { (result ≡ code_of Done) ⊎ (result ≡ code_of Device) }
     ensures done { result ≡ code_of Done → take size.new out.new ≡ octets.now }

@@ -1,8 +1,8 @@
 use Rattle.std.proofs.Common.{map, inl, refl, ap, ◌∙◌}
 use Rattle.x509_cert_parts.specs.Views.{algorithm_plain}
-use Rattle.cert_desk_c.specs.Signing.{signer_plain}
-use Rattle.cert_desk_c.proofs.GivenChains.{hold_each}
-use Rattle.cert_desk_c.proofs.issuing.issued_of.Goals as goal
+use Rattle.cert_desk_issuing_c.specs.Signing.{signer_plain}
+use Rattle.cert_desk_issuing_c.proofs.GivenChains.{hold_each}
+use Rattle.cert_desk_issuing_c.proofs.issuing.issued_of.Goals as goal
 
 pub returns-in-Ok-issue-clause-issued : goal.returns-in-Ok-issue-clause-issued
 returns-in-Ok-issue-clause-issued c =

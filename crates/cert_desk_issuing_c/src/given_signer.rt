@@ -14,7 +14,7 @@ pub(crate) struct GivenSigner<'a> {
 }
 
 impl Signer for GivenSigner<'_> {
-    ghost use Rattle.cert_desk_c.specs.Signing.{given_algorithm, given_key, gives};
+    ghost use Rattle.cert_desk_issuing_c.specs.Signing.{given_algorithm, given_key, gives};
 
     ghost public_key = { given_key };
 

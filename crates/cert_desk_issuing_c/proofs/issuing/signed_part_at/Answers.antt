@@ -5,8 +5,8 @@ use Rattle.x509_cert_builders.specs.States.{as_written}
 use Rattle.x509_cert_builders.proofs.Encodable.{raw_octets}
 use Rattle.x509_cert_certificates.specs.Certificates.{Tbs, tbs, tbs_by, tbs_certificate}
 use Rattle.x509_cert_certificates.specs.Views.{certificate_plain}
-use Rattle.cert_desk_c.proofs.GivenChains.{at_place, beyond}
-use Rattle.cert_desk_c.proofs.issuing.signed_part_at.Goals as goal
+use Rattle.cert_desk_issuing_c.proofs.GivenChains.{at_place, beyond}
+use Rattle.cert_desk_issuing_c.proofs.issuing.signed_part_at.Goals as goal
 
 pub returns-then-place-certificates-clause-refused : goal.returns-then-place-certificates-clause-refused
 returns-then-place-certificates-clause-refused c =

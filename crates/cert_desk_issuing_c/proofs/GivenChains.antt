@@ -22,8 +22,8 @@ use Rattle.cert_desk_issuing.specs.Chains.{IssuedChain}
 use Rattle.cert_desk_issuing.specs.Roles.{place_above, signers_for}
 use Rattle.cert_desk_issuing.specs.Runs.{signing_keys}
 use Rattle.cert_desk_issuing.proofs.AcceptedFronts.{plain_at}
-use Rattle.cert_desk_c.specs.declared.given_signer.GivenSigner.{GivenSigner}
-use Rattle.cert_desk_c.specs.Signing.{AreOrdered, AreSigners, HoldEach, IsBeyond, IsFault, IsRefusal, IsRefusalAt, PlainSigner, RefusesEach, all_bits, given_algorithm, given_key, gives, signer_for, signer_plain}
+use Rattle.cert_desk_issuing_c.specs.declared.given_signer.GivenSigner.{GivenSigner}
+use Rattle.cert_desk_issuing_c.specs.Signing.{AreOrdered, AreSigners, HoldEach, IsBeyond, IsFault, IsRefusal, IsRefusalAt, PlainSigner, RefusesEach, all_bits, given_algorithm, given_key, gives, signer_for, signer_plain}
 
 -- Two lists of which the same is said, one after the other
 
