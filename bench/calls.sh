@@ -4,7 +4,7 @@
 #     bench/calls.sh FOLDER
 #
 # From C: instructions of one call, by the difference of 11 rounds and one (valgrind). From Python:
-# microseconds of one call, the best of five runs of 2,000. And the octets of the shared library.
+# microseconds of one call, the best of five runs of 2,000. And the octets of the shared libraries.
 set -euo pipefail
 top=$(cd "$(dirname "$0")/.." && pwd)
 [ $# = 1 ] || { sed -n '2,7p' "$0"; exit 2; }
@@ -19,13 +19,15 @@ instructions() {
         sed -n 's/.*Collected : //p'
 }
 
-echo "shared library: $(stat -c %s "$folder/libwurstdrape.so") octets"
+for library in libwurstdrape.so libwurstdrape_issue.so; do
+    echo "$library: $(stat -c %s "$folder/$library") octets"
+done
 for call in show verify; do
     few=$(instructions "$work/rounds" $call 1 "$data")
     many=$(instructions "$work/rounds" $call 11 "$data")
     echo "$call from C: $(((many - few) / 10)) instructions"
 done
-wheel=$("$top/tools/wheel.py" "$folder/libwurstdrape.so" "$work")
+wheel=$("$top/tools/wheel.py" "$folder" "$work")
 python3 -m zipfile -e "$wheel" "$work/module"
 PYTHONPATH=$work/module python3 - "$data" <<'P'
 import pathlib

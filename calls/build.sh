@@ -1,10 +1,10 @@
 #!/usr/bin/env bash
-# Makes what programs in C and other languages link: header, archive, shared library and a file for
-# pkg-config, in a folder of their own.
+# Makes what programs in C and other languages link, in a folder of their own: the header, and of
+# each crate of calls an archive, a shared library and a file for pkg-config.
 #
-#     calls/build.sh FOLDER              proves crates/cert_desk_c, and builds it
-#     calls/build.sh FOLDER --gate       over the libraries that `rt ci` left in crates/*/out
-#     calls/build.sh FOLDER --from FILE  takes an archive or an object that was built of it
+#     calls/build.sh FOLDER                proves these crates, and builds them
+#     calls/build.sh FOLDER --gate         over the libraries that `rt ci` left in crates/*/out
+#     calls/build.sh FOLDER --from OTHER   takes the archives of the crates that stand in OTHER
 #
 # Nothing but the calls of wurstdrape.h is defined for others, and nothing but the C library's is
 # left undefined; both are compared, and the status is 1 where one differs.
@@ -18,6 +18,8 @@ case "$#${2:-}" in
 esac
 mkdir -p "$1"
 folder=$(cd "$1" && pwd)
+how=${2:-}
+from=${3:-}
 
 # A toolchain whose clang makes functions one that have the same code, as a generic function has it
 # for each lifetime, before it puts any into another: behind that they are told apart no more.
@@ -46,12 +48,11 @@ exec "$clang" "${words[@]}"
 END
 chmod +x "$toolchain/bin/clang"
 
-libraries=$(sed -n 's/^cert_desk_c staticlib: *//p' "$top/crates.txt")
-built=$top/crates/cert_desk_c/out/libcert_desk_c.a
-if [ "${2:-}" = --from ]; then
-    built=$3
-else
-    if [ "${2:-}" != --gate ]; then
+# Builds the archive of a crate, over the libraries that it names.
+build() {
+    local crate=$1 libraries name words
+    libraries=$(sed -n "s/^$crate staticlib: *//p" "$top/crates.txt")
+    if [ "$how" != --gate ]; then
         for name in $libraries; do (cd "$top/crates/$name" && rt lib); done
     fi
     words=(--extern "std=$kit/rlibs/std.rlib" -L "dependency=$kit/rlibs")
@@ -59,37 +60,52 @@ else
         words+=(--extern "$name=$top/crates/$name/out/rlib/$name.rlib")
     done
     for name in "$top"/crates/*/out/rlib; do words+=(-L "dependency=$name"); done
-    mkdir -p "$top/crates/cert_desk_c/out"
-    (cd "$top/crates/cert_desk_c" && "$kit/bin/rattle" build \
-        --crate-name cert_desk_c src/lib.rt --crate-type staticlib "${words[@]}" \
+    mkdir -p "$top/crates/$crate/out"
+    (cd "$top/crates/$crate" && "$kit/bin/rattle" build \
+        --crate-name "$crate" src/lib.rt --crate-type staticlib "${words[@]}" \
         --antt-project "$kit/rattle/logic/antt-project.json" --logic-built "$kit/logic_built" \
-        --links cert_desk_c= --jobs 2 --toolchain "$toolchain" -o out/libcert_desk_c.a)
-fi
+        --links "$crate=" --jobs 2 --toolchain "$toolchain" -o "out/lib$crate.a")
+}
 
-# One object, of which only the calls are seen from outside.
-object=$folder/wurstdrape.o
-ld -r -o "$object" --whole-archive "$built" --no-whole-archive "$kit/c/liblibc_c.a"
-objcopy --wildcard --keep-global-symbol='wd_*' "$object"
-rm -f "$folder/libwurstdrape.a"
-ar rcsD "$folder/libwurstdrape.a" "$object"
-# The kit's linker keeps one of several functions that have the same code, and one of several
-# constants: functions that choose by a table are the same only where their tables are.
-"${CC:-cc}" -shared -o "$folder/libwurstdrape.so" "$object" -fuse-ld=lld -B"$kit/toolchain/bin" \
-    -Wl,--icf=all -Wl,--ignore-data-address-equality -Wl,--gc-sections -Wl,-z,defs \
-    -Wl,-soname,libwurstdrape.so \
-    -Wl,--version-script="$here/exports.map"
-rm "$object"
-strip --strip-unneeded "$folder/libwurstdrape.so"
-cp "$here/wurstdrape.h" "$folder/"
 version=$(sed -n 's/^## \([0-9.]*\).*/\1/p' "$top/CHANGELOG.md" | head -n 1)
-sed "s|@PREFIX@|$folder|; s|@VERSION@|$version|" "$here/wurstdrape.pc.in" >"$folder/wurstdrape.pc"
+
+# Makes what is linked of the archive of a crate, under a name; for pkg-config with a description.
+library() {
+    local name=$1 crate=$2 what=$3 archive=$from/lib$2.a object=$folder/$1.o
+    if [ "$how" != --from ]; then
+        build "$crate"
+        archive=$top/crates/$crate/out/lib$crate.a
+    fi
+    # One object, of which only the calls are seen from outside.
+    ld -r -o "$object" --whole-archive "$archive" --no-whole-archive "$kit/c/liblibc_c.a"
+    objcopy --wildcard --keep-global-symbol='wd_*' "$object"
+    rm -f "$folder/lib$name.a"
+    ar rcsD "$folder/lib$name.a" "$object"
+    # The kit's linker keeps one of several functions that have the same code, and one of several
+    # constants: functions that choose by a table are the same only where their tables are.
+    "${CC:-cc}" -shared -o "$folder/lib$name.so" "$object" -fuse-ld=lld -B"$kit/toolchain/bin" \
+        -Wl,--icf=all -Wl,--ignore-data-address-equality -Wl,--gc-sections -Wl,-z,defs \
+        -Wl,-soname,"lib$name.so" \
+        -Wl,--version-script="$here/exports.map"
+    rm "$object"
+    strip --strip-unneeded "$folder/lib$name.so"
+    sed "s|@PREFIX@|$folder|; s|@NAME@|$name|; s|@WHAT@|$what|; s|@VERSION@|$version|" \
+        "$here/wurstdrape.pc.in" >"$folder/$name.pc"
+}
+library wurstdrape cert_desk_c \
+    "Certificates, revocation lists and requests, read and judged by proved code"
+library wurstdrape_issue cert_desk_issuing_c "Certificates, issued by proved code, signed elsewhere"
+cp "$here/wurstdrape.h" "$folder/"
 
 calls() { grep -o '\bwd_[a-z_]*(' "$here/wurstdrape.h" | tr -d '(' | sort; }
-defined() { nm -D --defined-only "$1" | sed 's/.* //; s/@.*//' | sort; }
-undefined() { nm -D --undefined-only "$1" | grep -v ' w ' | sed 's/.* //; s/@.*//' | sort; }
+symbols() {
+    local name
+    for name in libwurstdrape.so libwurstdrape_issue.so; do nm -D "$1" "$folder/$name"; done |
+        grep -v ' w ' | sed 's/.* //; s/@.*//' | sort
+}
 known='^(malloc|realloc|free|memcpy|memmove|memset|memcmp|bcmp|strlen|abort)$'
-diff <(calls) <(defined "$folder/libwurstdrape.so") || { echo "calls and symbols differ"; exit 1; }
-if undefined "$folder/libwurstdrape.so" | grep -Ev "$known"; then
+diff <(calls) <(symbols --defined-only) || { echo "calls and symbols differ"; exit 1; }
+if symbols --undefined-only | grep -Ev "$known"; then
     echo "symbols that aren't the C library's"
     exit 1
 fi

@@ -46,9 +46,11 @@ why() { echo "this machine's compiler or system can't run it ($(tail -n 1 "$work
 flags=(-std=c11 -g -O1 -Wall -Wextra -Werror -I"$folder")
 wrap=(-DWRAPPED "-Wl,--wrap=malloc,--wrap=realloc,--wrap=free")
 ends=(-fsanitize=address,undefined -fno-sanitize-recover=all)
-by_archive() { "$cc" "${flags[@]}" "$@" "$here/c/test.c" "$folder/libwurstdrape.a" -pthread; }
+archives=("$folder/libwurstdrape.a" "$folder/libwurstdrape_issue.a")
+by_archive() { "$cc" "${flags[@]}" "$@" "$here/c/test.c" "${archives[@]}" -pthread; }
 by_shared() {
-    "$cc" "${flags[@]}" "$@" "$here/c/test.c" -L"$folder" -lwurstdrape -Wl,-rpath,"$folder" -pthread
+    "$cc" "${flags[@]}" "$@" "$here/c/test.c" -L"$folder" -lwurstdrape -lwurstdrape_issue \
+        -Wl,-rpath,"$folder" -pthread
 }
 
 sanitized() {
@@ -72,7 +74,7 @@ examples() {
 }
 python_tests() {
     local wheel
-    wheel=$("$top/tools/wheel.py" "$folder/libwurstdrape.so" "$work") &&
+    wheel=$("$top/tools/wheel.py" "$folder" "$work") &&
         python3 -m zipfile -e "$wheel" "$work/module" &&
         python3 -m unittest "$here/python/test_wurstdrape.py"
 }

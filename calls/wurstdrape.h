@@ -3,7 +3,8 @@
 
    Octets in DER go in, a status and octets come out. No state is kept between calls, so threads may
    call at once. Each call is proved to keep its contract, which stands with its source
-   (crates/cert_desk_c/src); docs/FROM_OTHERS.md says what that covers.
+   (crates/cert_desk_c/src, crates/cert_desk_issuing_c/src); docs/FROM_OTHERS.md says what that
+   covers. Those that issue stand in libwurstdrape_issue, all others in libwurstdrape.
 
    The caller keeps these, which no proof can see:
    - No pointer is null, also where its length is 0. It points to as many octets as its length
@@ -208,6 +209,8 @@ uint32_t wd_questions(const uint8_t *anchors, size_t anchors_len, const uint8_t 
 uint32_t wd_verify(const uint8_t *answers, size_t answers_len, const uint8_t *anchors,
                    size_t anchors_len, const uint8_t *chain, size_t chain_len, uint64_t moment,
                    const uint8_t *purpose, size_t purpose_len, uint32_t limit, wd_place *told);
+
+/* Those that issue, in libwurstdrape_issue. */
 
 /* What is signed of the certificate at a place of the chain that an orders file asks for
    (docs/CLI.md), 0 for its root: the octets that the key of the certificate above signs, the root's

@@ -1,8 +1,8 @@
 #!/usr/bin/env python3
-"""Compares calls/wurstdrape.h with the sources: each call of crates/cert_desk_c with each argument,
-each struct with each field, and each number of a status, a rule or a kind of fault with the
-definition that the contracts cite. Then the Rust crate and the Python module with the header: each
-call that Rust declares, and the numbers of both.
+"""Compares calls/wurstdrape.h with the sources: each call of crates/cert_desk_c and
+cert_desk_issuing_c with each argument, each struct with each field, and each number of a status, a
+rule or a kind of fault with the definition that the contracts cite. Then the Rust crate and the
+Python module with the header: each call that Rust declares, and the numbers of both.
 
     tools/header.py     the status is 1 where there is a difference, and each is told
 """
@@ -12,7 +12,11 @@ import re
 import sys
 
 TOP = pathlib.Path(__file__).resolve().parent.parent
-CALLS = TOP / "crates" / "cert_desk_c" / "src"
+CALLS = [
+    file
+    for name in ("cert_desk_c", "cert_desk_issuing_c")
+    for file in sorted((TOP / "crates" / name / "src").glob("*.rt"))
+]
 HEADER = TOP / "calls" / "wurstdrape.h"
 RUST = TOP / "calls" / "rust" / "src"
 PYTHON = TOP / "calls" / "python" / "src" / "wurstdrape" / "__init__.py"
@@ -67,7 +71,7 @@ def parameters(text):
 
 def calls_of_source():
     found = {}
-    for file in sorted(CALLS.glob("*.rt")):
+    for file in CALLS:
         text = re.sub(r"//.*", "", file.read_text())
         for name, inside, result in re.findall(
             r'pub extern "C" fn (\w+)\(([^)]*)\)(?: -> (\w+))?', text
@@ -78,7 +82,7 @@ def calls_of_source():
 
 def structs_of_source():
     found = {}
-    for file in sorted(CALLS.glob("*.rt")):
+    for file in CALLS:
         text = re.sub(r"//.*", "", file.read_text())
         shape = r"#\[repr\(C\)\]\s*(?:#\[derive\([^)]*\)\]\s*)?pub struct (\w+) \{([^}]*)\}"
         for name, inside in re.findall(shape, text):

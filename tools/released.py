@@ -8,7 +8,7 @@ A release is a folder:
   libraries.tar.zst   NAME/NAME.rlib of each library, the lowest first
   programs/NAME       as LLVM built them
   archives/libNAME.a  likewise
-  calls/              what programs in C and other languages link, of an archive: what
+  calls/              what programs in C and other languages link, of the archives: what
                       calls/build.sh makes, the wheel of tools/wheel.py, and the crate calls/rust
   LICENSE-*           the licence texts
 
@@ -39,7 +39,7 @@ import sources
 
 LIBRARIES = "libraries.tar.zst"
 PROGRAMS = ["cert_desk_program", "cert_tool"]
-ARCHIVES = ["cert_desk_c"]
+ARCHIVES = ["cert_desk_c", "cert_desk_issuing_c"]
 KINDS = {"library": "libraries", "program": "programs", "archive": "archives"}
 # What the gate spends on a crate, by the columns of bench/gate.txt.
 COLUMNS = ("proof", "tests", "edits", "programs")
@@ -289,19 +289,21 @@ def place(crates, name):
     return crates / name / "out/rlib"
 
 
-def calls(clone, name, folder):
-    """Builds an archive over the libraries that the gate left, and of it what others link.
-
-    Gives where the archive lies."""
-    said = f"of {name} calls/build.sh and tools/wheel.py did not make what others link"
+def calls(clone, folder):
+    """Builds the archives over the libraries that the gate left, and of them what others link."""
+    said = "calls/build.sh and tools/wheel.py did not make what others link"
     run(clone / "calls/build.sh", folder, "--gate", folder=clone, why=said)
-    run(clone / "tools/wheel.py", folder / "libwurstdrape.so", folder, folder=clone, why=said)
-    # The folder may be moved: pkg-config knows where its file lies.
-    found = folder / "wurstdrape.pc"
-    found.write_text(found.read_text().replace(str(folder), "${pcfiledir}"))
+    run(clone / "tools/wheel.py", folder, folder, folder=clone, why=said)
+    # The folder may be moved: pkg-config knows where its files lie.
+    for found in folder.glob("*.pc"):
+        found.write_text(found.read_text().replace(str(folder), "${pcfiledir}"))
     # What reads files of the repository is of no use outside it.
     left = shutil.ignore_patterns("target", "tests", "mutated.rs")
     shutil.copytree(clone / "calls/rust", folder / "rust", ignore=left)
+
+
+def archive(clone, name):
+    """Where an archive lies that was built in a clone."""
     return clone / f"crates/{name}/out/lib{name}.a"
 
 

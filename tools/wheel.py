@@ -1,9 +1,9 @@
 #!/usr/bin/env python3
-"""Makes the wheel of the Python module (PEP 427), which holds the shared library and no other code
-that was compiled.
+"""Makes the wheel of the Python module (PEP 427), which holds the shared libraries and no other
+code that was compiled.
 
-    tools/wheel.py LIBRARY FOLDER     LIBRARY is libwurstdrape.so, as calls/build.sh makes it; the
-                                      wheel is written to FOLDER, and its name printed
+    tools/wheel.py CALLS FOLDER     CALLS is what calls/build.sh made; the wheel is written to
+                                    FOLDER, and its name printed
 
 Of the same files it is the same wheel, octet for octet.
 """
@@ -39,14 +39,15 @@ def version():
     return re.search(r"^## (\d[\d.]*)", (TOP / "CHANGELOG.md").read_text(), re.M)[1]
 
 
-def files(library):
+def files(calls):
     """The name of each file of the package, and its octets."""
     for file in sorted(PACKAGE.glob("*.py")):
         yield f"wurstdrape/{file.name}", file.read_bytes()
     yield "wurstdrape/py.typed", b""
     # the verifier that reads the lines of questions
     yield "wurstdrape/answer.py", (TOP / "examples" / "answer.py").read_bytes()
-    yield "wurstdrape/libwurstdrape.so", pathlib.Path(library).read_bytes()
+    for library in ("libwurstdrape.so", "libwurstdrape_issue.so"):
+        yield f"wurstdrape/{library}", (pathlib.Path(calls) / library).read_bytes()
 
 
 def sum_of(octets):
@@ -57,10 +58,10 @@ def sum_of(octets):
 def main():
     if len(sys.argv) != 3:
         sys.exit(__doc__)
-    library, folder = sys.argv[1:]
+    calls, folder = sys.argv[1:]
     tag = f"py3-none-linux_{platform.machine()}"
     info = f"wurstdrape-{version()}.dist-info"
-    held = dict(files(library))
+    held = dict(files(calls))
     held[f"{info}/METADATA"] = METADATA.format(version=version()).encode()
     held[f"{info}/WHEEL"] = WHEEL.format(tag=tag).encode()
     rows = [f"{name},{sum_of(octets)},{len(octets)}" for name, octets in held.items()]

@@ -246,27 +246,38 @@ _CALLS = {
     + [ctypes.c_uint64]
     + _IN
     + [ctypes.c_uint32, ctypes.POINTER(_Place)],
-    "wd_signed_part": _IN + [ctypes.c_uint32] + _IN + _OUT,
-    "wd_issue": _IN + [ctypes.c_uint32] + _IN * 2 + _OUT,
 }
 for _kind in Kind:
     _CALLS[f"wd_is_{_kind.value}"] = _IN + [ctypes.POINTER(_Fault)]
     _CALLS[f"wd_show_{_kind.value}"] = _IN + _OUT
     _CALLS[f"wd_describe_{_kind.value}"] = _IN + [ctypes.c_bool] + _OUT
+_ISSUING_CALLS = {
+    "wd_signed_part": _IN + [ctypes.c_uint32] + _IN + _OUT,
+    "wd_issue": _IN + [ctypes.c_uint32] + _IN * 2 + _OUT,
+}
 
 
-def _load():
-    """The shared library: that of WURSTDRAPE_LIBRARY, or the one that lies beside this file."""
-    beside = pathlib.Path(__file__).resolve().parent / "libwurstdrape.so"
-    library = ctypes.CDLL(os.environ.get("WURSTDRAPE_LIBRARY", str(beside)))
-    for name, types in _CALLS.items():
+# The shared library: that of WURSTDRAPE_LIBRARY, or the one that lies beside this file.
+_BESIDE = pathlib.Path(__file__).resolve().with_name("libwurstdrape.so")
+_FILE = pathlib.Path(os.environ.get("WURSTDRAPE_LIBRARY", _BESIDE))
+
+
+def _load(file: pathlib.Path, calls: dict):
+    library = ctypes.CDLL(str(file))
+    for name, types in calls.items():
         call = getattr(library, name)
         call.argtypes, call.restype = types, ctypes.c_uint32
     return library
 
 
-_library = _load()
+_library = _load(_FILE, _CALLS)
 _ROOM = 4096
+
+
+@functools.lru_cache(maxsize=None)
+def _issuing():
+    """The library of the calls that issue, which lies beside the other one."""
+    return _load(_FILE.with_name("libwurstdrape_issue.so"), _ISSUING_CALLS)
 
 
 def _lent(octets: Octets) -> list:
@@ -518,14 +529,14 @@ def signed_part(orders: str, place: int, algorithm: Octets) -> bytes:
     Orders that are faulty or refused, a place that the chain doesn't have, and a faulty algorithm
     raise `Error`."""
     lent = [*_lent(orders.encode()), place, *_lent(algorithm)]
-    return _given("chain", _library.wd_signed_part, *lent)
+    return _given("chain", _issuing().wd_signed_part, *lent)
 
 
 def issued(orders: str, place: int, algorithm: Octets, signature: Octets) -> bytes:
     """That certificate, with this signature of its signed part. Whether it is right isn't looked
     at."""
     lent = [*_lent(orders.encode()), place, *_lent(algorithm), *_lent(signature)]
-    return _given("chain", _library.wd_issue, *lent)
+    return _given("chain", _issuing().wd_issue, *lent)
 
 
 def issue(
