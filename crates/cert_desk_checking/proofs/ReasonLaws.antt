@@ -15,12 +15,12 @@ use Rattle.cert_desk_rules.specs.declared.rule.Rule.{Rule}
 use Rattle.cert_desk_rules.specs.declared.rule.Rule.TheVariants as rules
 use Rattle.cert_desk_rules.specs.Findings.{found}
 use Rattle.cert_desk_rules.specs.Judging.{Terms, has_twin, keeps_at}
-use Rattle.cert_desk_rules.specs.Paths.{counted, counts, is_last, is_within, keep_lengths, keeps_length}
+use Rattle.cert_desk_rules.specs.Paths.{used_up, counts, is_last, is_within, keep_lengths, keeps_length}
 use Rattle.cert_desk_rules.specs.Reasons.{AreFirstTwins, Explains, ExplainsFirst, IsFirstAt, Precedes, are_twins, goes_against, has_no_authority, have_one_identifier, is_against, is_at, is_explained}
 use Rattle.cert_desk_rules.specs.Weighing.{is_authority, may_certify, path_length, serves, weigh}
 use Rattle.cert_desk_rules.proofs.Folds.{and_yes, not_twice, or_no}
 use Rattle.cert_desk_rules.proofs.FoundLaws.{found_malformed, found_unweighed, found_serves, found_certifies, found_length}
-use Rattle.cert_desk_rules.proofs.PathLaws.{counted_first}
+use Rattle.cert_desk_rules.proofs.PathLaws.{used_up_first}
 use Rattle.cert_desk_checking.proofs.PlaceLaws.{keeps_at-is}
 
 -- what stands at a number of a list of plain values
@@ -86,24 +86,24 @@ twins-have (e ∷ es) (suc one) zero lt h = absurd (omega (arith, lt))
 twins-have (e ∷ es) (suc one) (suc other) lt h = twins-have es one other (omega (arith, lt)) h
 
 -- with one place less, behind the first
-pub counted_less : (bound : ℕ) (cs : List PlainCertificate) (before place left : ℕ) → before < place
-    → left ≡ counted bound cs (before + 1) (place - before)
-    → left ≡ cond (counts bound cs (before + 1)) 1 0 + counted bound cs (before + 1 + 1) (place - (before + 1))
-counted_less bound cs before place left lt is =
+pub used_up_less : (bound : ℕ) (cs : List PlainCertificate) (before place left : ℕ) → before < place
+    → left ≡ used_up bound cs (before + 1) (place - before)
+    → left ≡ cond (counts bound cs (before + 1)) 1 0 + used_up bound cs (before + 1 + 1) (place - (before + 1))
+used_up_less bound cs before place left lt is =
     let many : place - before ≡ suc (place - (before + 1)) = omega (arith, lt) in
     let next : suc (before + 1) ≡ before + 1 + 1 = omega arith in
-    is ∙ ap (counted bound cs (before + 1)) many ∙ counted_first bound cs (before + 1) (place - (before + 1))
-    ∙ ap (λ m. cond (counts bound cs (before + 1)) 1 0 + counted bound cs m (place - (before + 1))) next
+    is ∙ ap (used_up bound cs (before + 1)) many ∙ used_up_first bound cs (before + 1) (place - (before + 1))
+    ∙ ap (λ m. cond (counts bound cs (before + 1)) 1 0 + used_up bound cs m (place - (before + 1))) next
 
 -- what was found of a place says whether its path length is kept
 pub length-found : (bound : ℕ) (purpose : List ℕ) (cs : List PlainCertificate) (before place n : ℕ) (c : PlainCertificate) (es : List PlainExtension) (f : Findings)
-    → slice_get cs before ≡ Some c → es ≡ extensions_of c → f ≡ found bound purpose es → n ≡ counted bound cs (before + 1) (place - before)
+    → slice_get cs before ≡ Some c → es ≡ extensions_of c → f ≡ found bound purpose es → n ≡ used_up bound cs (before + 1) (place - before)
     → is_within n f.path_len ≡ keeps_length bound cs before place
 length-found bound purpose cs before place n c es f at e is count =
     ap (λ (g : Findings). is_within n g.path_len) is
     ∙ found_length bound purpose es n
     ∙ ap (λ (m : ℕ). list_all (λ x. is_within m (path_length (weigh bound x))) es) count
-    ∙ ap (λ (xs : List PlainExtension). list_all (λ x. is_within (counted bound cs (before + 1) (place - before)) (path_length (weigh bound x))) xs)
+    ∙ ap (λ (xs : List PlainExtension). list_all (λ x. is_within (used_up bound cs (before + 1) (place - before)) (path_length (weigh bound x))) xs)
     (e ∙ ap (λ o. option_map_or extensions_of o []) (sym at))
 
 -- the first two of one identifier, by the first that has one behind it

@@ -15,7 +15,7 @@ use Rattle.cert_desk_rules.specs.declared.rule.Rule.TheVariants as rules
 use Rattle.cert_desk_checking.specs.Bounded.{OneBecomesReadable, bounded}
 use Rattle.cert_desk_bundle.specs.Chains.{Chain}
 use Rattle.cert_desk_rules.specs.Judging.{PlainAnchor, Terms, has_one_algorithm, is_linked, is_named, is_signed, keeps, keeps_at, says_yes}
-use Rattle.cert_desk_rules.specs.Paths.{counted, counts, extensions_at, is_last, is_within, is_within_lengths, keep_lengths, keeps_length}
+use Rattle.cert_desk_rules.specs.Paths.{used_up, counts, extensions_at, is_last, is_within, is_within_lengths, keep_lengths, keeps_length}
 use Rattle.cert_desk_rules.specs.Verdicts.{Trusted, asked, asked_anchors}
 use Rattle.cert_desk_checking.specs.WiderBounds.{IsJudgedSame}
 use Rattle.cert_desk_rules.specs.Weighing.{Meaning, is_authority, is_malformed, is_unweighed, may_certify, path_length, serves, weigh}
@@ -59,11 +59,11 @@ module _ (small large : ℕ) where
   unfolding octets_of
   counts_same cs place = refl
 
-  counted_same : (cs : List PlainCertificate) (from n : ℕ) → counted small cs from n ≡ counted large cs from n
-  counted_same cs from zero = refl
-  counted_same cs from (suc n) =
-      ap (λ m. m + cond (counts small cs (from + n)) 1 0) (counted_same cs from n)
-      ∙ ap (λ b. counted large cs from n + cond b 1 0) (counts_same cs (from + n))
+  used_up_same : (cs : List PlainCertificate) (from n : ℕ) → used_up small cs from n ≡ used_up large cs from n
+  used_up_same cs from zero = refl
+  used_up_same cs from (suc n) =
+      ap (λ m. m + cond (counts small cs (from + n)) 1 0) (used_up_same cs from n)
+      ∙ ap (λ b. used_up large cs from n + cond b 1 0) (counts_same cs (from + n))
 
 module _ (t : Terms) (wide : ℕ) (cs : List PlainCertificate) (stream : List ℕ)
     (same : AllByRecursion (λ c. AllByRecursion (λ e. weigh t.bound e ≡ weigh wide e) (extensions_of c)) cs) where
@@ -74,8 +74,8 @@ module _ (t : Terms) (wide : ℕ) (cs : List PlainCertificate) (stream : List �
 
   length_same : (place other : ℕ) → keeps_length t.bound cs place other ≡ keeps_length wide cs place other
   length_same place other =
-      ap (λ n. list_all (λ e. is_within n (path_length (weigh t.bound e))) (extensions_at cs place)) (counted_same t.bound wide cs (place + 1) (other - place))
-      ∙ say_all t.bound wide (λ m. is_within (counted wide cs (place + 1) (other - place)) (path_length m)) (extensions_at cs place) (same_at (slice_get cs place) place refl)
+      ap (λ n. list_all (λ e. is_within n (path_length (weigh t.bound e))) (extensions_at cs place)) (used_up_same t.bound wide cs (place + 1) (other - place))
+      ∙ say_all t.bound wide (λ m. is_within (used_up wide cs (place + 1) (other - place)) (path_length m)) (extensions_at cs place) (same_at (slice_get cs place) place refl)
 
   lengths_same : (place other : ℕ) → keep_lengths t.bound cs place other ≡ keep_lengths wide cs place other
   lengths_same zero other = refl

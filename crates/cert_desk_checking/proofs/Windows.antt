@@ -13,7 +13,7 @@ use Rattle.cert_desk_rules.specs.declared.rule.Rule.TheVariants as rules
 use Rattle.cert_desk_bundle.specs.Chains.{Stands, joined}
 use Rattle.cert_desk_checking.specs.Issuers.{among}
 use Rattle.cert_desk_rules.specs.Judging.{PlainAnchor, Terms, has_authority, is_linked, is_signed, keeps, keeps_at, same_name, says_yes, signed_part}
-use Rattle.cert_desk_rules.specs.Paths.{counted, counts, extensions_at, is_last, is_self_issued, is_within, is_within_lengths, keep_lengths, keeps_length}
+use Rattle.cert_desk_rules.specs.Paths.{used_up, counts, extensions_at, is_last, is_self_issued, is_within, is_within_lengths, keep_lengths, keeps_length}
 use Rattle.cert_desk_rules.specs.Verdicts.{Trusted}
 use Rattle.cert_desk_rules.specs.Weighing.{path_length, weigh}
 use Rattle.cert_desk_checking.proofs.Encodings.{signed_part-is}
@@ -56,21 +56,21 @@ module _ (bound : ℕ) (ds cs : List PlainCertificate) (from : ℕ) (w : Window 
       ∙ ap (λ o. option_map_or (λ c. not (is_self_issued bound c)) o false) (w.at p (omega arith))
       ∙ sym (counts_inside bound ds (from + p) (omega arith))
 
-  counted_at : (p n : ℕ) → p + n < length cs → counted bound cs p n ≡ counted bound ds (from + p) n
-  counted_at p zero h = refl
-  counted_at p (suc n) h =
+  used_up_at : (p n : ℕ) → p + n < length cs → used_up bound cs p n ≡ used_up bound ds (from + p) n
+  used_up_at p zero h = refl
+  used_up_at p (suc n) h =
       let there : from + (p + n) ≡ (from + p) + n = omega arith in
-      ap (λ m. m + cond (counts bound cs (p + n)) 1 0) (counted_at p n (omega arith))
-      ∙ ap (λ b. counted bound ds (from + p) n + cond b 1 0) (counts_at (p + n) (omega arith) ∙ ap (counts bound ds) there)
+      ap (λ m. m + cond (counts bound cs (p + n)) 1 0) (used_up_at p n (omega arith))
+      ∙ ap (λ b. used_up bound ds (from + p) n + cond b 1 0) (counts_at (p + n) (omega arith) ∙ ap (counts bound ds) there)
 
   length_at : (p place : ℕ) → p < place → suc place < length cs → keeps_length bound cs p place ≡ keeps_length bound ds (from + p) (from + place)
   length_at p place lt h =
       let next : from + (p + 1) ≡ (from + p) + 1 = omega arith in
       let many : place - p ≡ (from + place) - (from + p) = omega arith in
-      let behind : counted bound cs (p + 1) (place - p) ≡ counted bound ds ((from + p) + 1) ((from + place) - (from + p)) =
-      counted_at (p + 1) (place - p) (omega (arith, lt, h)) ∙ ap (λ m. counted bound ds m (place - p)) next ∙ ap (counted bound ds ((from + p) + 1)) many in
+      let behind : used_up bound cs (p + 1) (place - p) ≡ used_up bound ds ((from + p) + 1) ((from + place) - (from + p)) =
+      used_up_at (p + 1) (place - p) (omega (arith, lt, h)) ∙ ap (λ m. used_up bound ds m (place - p)) next ∙ ap (used_up bound ds ((from + p) + 1)) many in
       ap (λ n. list_all (λ e. is_within n (path_length (weigh bound e))) (extensions_at cs p)) behind
-      ∙ ap (λ o. list_all (λ e. is_within (counted bound ds ((from + p) + 1) ((from + place) - (from + p))) (path_length (weigh bound e))) (option_map_or extensions_of o []))
+      ∙ ap (λ o. list_all (λ e. is_within (used_up bound ds ((from + p) + 1) ((from + place) - (from + p))) (path_length (weigh bound e))) (option_map_or extensions_of o []))
       (w.at p (omega (arith, lt, h)))
 
   lengths_at : (place : ℕ) → suc place < length cs → keep_lengths bound ds (from + place) (from + place) ≡ true → keep_lengths bound cs place place ≡ true

@@ -6,7 +6,7 @@ ghost use Rattle.std.specs.Option.{is_some};
 ghost use Rattle.const_oid.specs.Bound.{Bound};
 ghost use Rattle.x509_cert_parts.specs.Views.{extension_plain, extensions_plain};
 ghost use Rattle.cert_desk_rules.specs.Judging.{Terms, are_distinct, is_alone, keeps_at};
-ghost use Rattle.cert_desk_rules.specs.Paths.{counted, counts, extensions_at, is_last};
+ghost use Rattle.cert_desk_rules.specs.Paths.{used_up, counts, extensions_at, is_last};
 ghost use Rattle.cert_desk_rules.specs.Paths.{is_within_lengths, keep_lengths, keeps_length};
 ghost use Rattle.cert_desk_rules.specs.Reasons.{AreFirstTwins, ExplainsFirst, IsFirstAt};
 ghost use Rattle.cert_desk_rules.specs.Reasons.{SomeMayTakeMemory, goes_against, has_no_authority};
@@ -218,7 +218,7 @@ fn keeps_length(
 ) -> Result<bool, AllocError>
     requires within { before < length bundle.now.certificates }
     ensures kept { IfOk result (λ kept. (place : ℕ)
-        → count ≡ counted Bound bundle.now.certificates (before + 1) (place - before)
+        → count ≡ used_up Bound bundle.now.certificates (before + 1) (place - before)
         → kept ≡ keeps_length Bound bundle.now.certificates before place) }
     ensures memory { OnErr result
         (may_take_memory (extensions_at bundle.now.certificates before) ≡ true) }
@@ -235,7 +235,7 @@ fn keeps_length(
 fn counted_behind(bundle: &Bundle, before: usize, place: usize) -> usize
     requires order { before ≤ place }
     requires within { place < length bundle.now.certificates }
-    ensures { result ≡ counted Bound bundle.now.certificates (before + 1) (place - before) }
+    ensures { result ≡ used_up Bound bundle.now.certificates (before + 1) (place - before) }
 {
     let mut count = 0;
     for step in before..place {

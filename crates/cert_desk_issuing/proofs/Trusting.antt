@@ -23,7 +23,7 @@ use Rattle.cert_desk_bundle.specs.Chains.{Chain, Stands}
 use Rattle.x509_cert_general_names.specs.Grammar.{general_names}
 use Rattle.cert_desk_rules.specs.Judging.{same_name, Answers, are_distinct, has_authority, keeps, keeps_at, signed_part}
 use Rattle.der_types_time.specs.Seconds.{unix_seconds}
-use Rattle.cert_desk_rules.specs.Paths.{counted, counts, is_last, is_self_issued, is_within, is_within_lengths, keep_lengths, keeps_length}
+use Rattle.cert_desk_rules.specs.Paths.{used_up, counts, is_last, is_self_issued, is_within, is_within_lengths, keep_lengths, keeps_length}
 use Rattle.cert_desk_rules.specs.Verdicts.{Trusted}
 use Rattle.cert_desk_rules.specs.Weighing.{path_length, weigh, is_authority, is_malformed, is_unweighed_critical, may_certify, serves}
 use Rattle.cert_desk_rules.specs.declared.rule.Rule.{Rule}
@@ -145,21 +145,21 @@ module _ (ps : List PlainOrder) (cs : List PlainCertificate) (count : length cs 
       ∙ ap (λ n. not ((place + 1) == length ps) && not (same_name Bound n (subject h.certificate))) (issuer_is ps cs place h ∙ sym (subject_above place h))
       ∙ ap (λ n. not ((place + 1) == length ps) && not (same_name Bound (subject_at ps (place_above place)) n)) (subject_is ps cs place h ∙ sym (subject_there place h))
 
-  counted_as : (from n : ℕ) → from + n ≤ length cs → counted Bound cs from n ≡ counted_orders ps from n
-  counted_as from zero le = refl
-  counted_as from (suc n) le =
+  used_up_as : (from n : ℕ) → from + n ≤ length cs → used_up Bound cs from n ≡ counted_orders ps from n
+  used_up_as from zero le = refl
+  used_up_as from (suc n) le =
       let here = counts_as (from + n) (omega (arith, le)) in
-      ap (λ m. m + cond (counts Bound cs (from + n)) 1 0) (counted_as from n (omega (arith, le)))
+      ap (λ m. m + cond (counts Bound cs (from + n)) 1 0) (used_up_as from n (omega (arith, le)))
       ∙ ap (λ b. counted_orders ps from n + cond b 1 0) here
 
   -- so many places behind another one are within its path length, as its order's
   length_as : (place other : ℕ) → place < other → other < length cs → (h : IsHeldAt ps cs place) → FitsFor (role_at (length ps) place) h.order
       → keeps_length Bound cs place other ≡ is_within (counted_orders ps (place + 1) (other - place)) (path_in (role_at (length ps) place) h.order)
   length_as place other lt within h fits =
-      let n = counted Bound cs (place + 1) (other - place) in
+      let n = used_up Bound cs (place + 1) (other - place) in
       ap (λ es. list_all (λ e. is_within n (path_length (weigh Bound e))) es) (ap (λ o. option_map_or extensions_of o []) h.certificate_is ∙ extensions_are ps cs place h)
       ∙ lengths (role_at (length ps) place) h.order h.above.key h.right fits n
-      ∙ ap (λ m. is_within m (path_in (role_at (length ps) place) h.order)) (counted_as (place + 1) (other - place) (omega (arith, lt, within)))
+      ∙ ap (λ m. is_within m (path_in (role_at (length ps) place) h.order)) (used_up_as (place + 1) (other - place) (omega (arith, lt, within)))
 
   counted_more : (from n m : ℕ) → counted_orders ps from n ≤ counted_orders ps from (n + m)
   counted_more from n zero = let same : n + 0 ≡ n = omega arith in subst (λ k. counted_orders ps from n ≤ counted_orders ps from k) (sym same) (omega arith)

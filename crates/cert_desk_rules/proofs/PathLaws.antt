@@ -5,32 +5,32 @@ use Rattle.std.specs.Option.{is_some, option_map, option_map_or}
 use Rattle.x509_cert_certificates.specs.Certificates.{PlainCertificate, extensions_of}
 use Rattle.cert_desk_rules.specs.declared.path_room.PathRoom.{PathRoom}
 use Rattle.cert_desk_rules.specs.Findings.{IsRoom, add_place, allow, found, left_by, shorter}
-use Rattle.cert_desk_rules.specs.Paths.{counted, counts, extensions_at, is_within, is_within_lengths, keep_lengths, keeps_length}
+use Rattle.cert_desk_rules.specs.Paths.{used_up, counts, extensions_at, is_within, is_within_lengths, keep_lengths, keeps_length}
 use Rattle.cert_desk_rules.specs.Weighing.{path_length, weigh}
 use Rattle.cert_desk_rules.proofs.Folds.{le_same, or_yes}
 use Rattle.cert_desk_rules.proofs.FoundLaws.{found_length, within_shorter}
 
 -- of the places from one on, that one and those behind it
-pub counted_first : (bound : ℕ) (cs : List PlainCertificate) (from n : ℕ) → counted bound cs from (suc n) ≡ cond (counts bound cs from) 1 0 + counted bound cs (suc from) n
-counted_first bound cs from zero =
+pub used_up_first : (bound : ℕ) (cs : List PlainCertificate) (from n : ℕ) → used_up bound cs from (suc n) ≡ cond (counts bound cs from) 1 0 + used_up bound cs (suc from) n
+used_up_first bound cs from zero =
     let same : from + 0 ≡ from = omega arith in
     ap (λ m. 0 + cond (counts bound cs m) 1 0) same ∙ omega arith
-counted_first bound cs from (suc n) =
+used_up_first bound cs from (suc n) =
     let next : from + suc n ≡ suc from + n = omega arith in
-    let before = counted_first bound cs from n in
-    ap (λ m. counted bound cs from (suc n) + cond (counts bound cs m) 1 0) next ∙ omega (arith, before)
+    let before = used_up_first bound cs from n in
+    ap (λ m. used_up bound cs from (suc n) + cond (counts bound cs m) 1 0) next ∙ omega (arith, before)
 
 keep_lengths-is : (bound : ℕ) (cs : List PlainCertificate) (place other : ℕ) → place < suc other
-    → keep_lengths bound cs place other ≡ allow bound cs place (counted bound cs place (suc other - place))
+    → keep_lengths bound cs place other ≡ allow bound cs place (used_up bound cs place (suc other - place))
 keep_lengths-is bound cs zero other h = refl
 keep_lengths-is bound cs (suc place) other h =
     let one : ℕ = cond (counts bound cs place) 1 0 in
-    let behind : ℕ = counted bound cs (suc place) (suc other - suc place) in
+    let behind : ℕ = used_up bound cs (suc place) (suc other - suc place) in
     let next : place + 1 ≡ suc place = omega arith in
     let many : other - place ≡ suc other - suc place = omega arith in
     let more : suc other - place ≡ suc (suc other - suc place) = omega (arith, h) in
-    let same : counted bound cs (place + 1) (other - place) ≡ behind = ap (λ m. counted bound cs m (other - place)) next ∙ ap (counted bound cs (suc place)) many in
-    let all : counted bound cs place (suc other - place) ≡ one + behind = ap (counted bound cs place) more ∙ counted_first bound cs place (suc other - suc place) in
+    let same : used_up bound cs (place + 1) (other - place) ≡ behind = ap (λ m. used_up bound cs m (other - place)) next ∙ ap (used_up bound cs (suc place)) many in
+    let all : used_up bound cs place (suc other - place) ≡ one + behind = ap (used_up bound cs place) more ∙ used_up_first bound cs place (suc other - suc place) in
     ap (λ b. b && keeps_length bound cs place other) (keep_lengths-is bound cs place other (omega (arith, h)) ∙ ap (allow bound cs place) all)
     ∙ ap (λ n. allow bound cs place (one + behind) && list_all (λ e. is_within n (path_length (weigh bound e))) (extensions_at cs place)) same
 
@@ -41,8 +41,8 @@ within_room bound cs place room false e h = ap (λ b. not b || keep_lengths boun
 within_room bound cs place room true e h =
     let few : suc place - place ≡ suc zero = omega arith in
     let same : place + 0 ≡ place = omega arith in
-    let one : counted bound cs place (suc place - place) ≡ 1 =
-    ap (counted bound cs place) few ∙ ap (λ m. 0 + cond (counts bound cs m) 1 0) same ∙ ap (λ b. 0 + cond b 1 0) e in
+    let one : used_up bound cs place (suc place - place) ≡ 1 =
+    ap (used_up bound cs place) few ∙ ap (λ m. 0 + cond (counts bound cs m) 1 0) same ∙ ap (λ b. 0 + cond b 1 0) e in
     ap (λ b. not b || keep_lengths bound cs place place) e
     ∙ keep_lengths-is bound cs place place (omega arith)
     ∙ ap (allow bound cs place) one

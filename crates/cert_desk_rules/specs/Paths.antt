@@ -23,11 +23,11 @@ abbrev pub counts : ℕ → List PlainCertificate → ℕ → Bool
 counts bound cs place = not (is_last cs place) && option_map_or (λ c. not (is_self_issued bound c))
     (slice_get cs place) false
 
--- how many of n places count, from this one on
-abbrev pub counted : ℕ → List PlainCertificate → ℕ → ℕ → ℕ
-counted bound cs from zero = 0
-counted bound cs from (suc n) =
-    counted bound cs from n + (if counts bound cs (from + n) then 1 else 0)
+-- how much of a path length n places use up, from this one on: how many of them count
+abbrev pub used_up : ℕ → List PlainCertificate → ℕ → ℕ → ℕ
+used_up bound cs from zero = 0
+used_up bound cs from (suc n) =
+    used_up bound cs from n + (if counts bound cs (from + n) then 1 else 0)
 
 -- so many counted places are within a path length, if there is one
 abbrev pub is_within : ℕ → Option ℕ → Bool
@@ -41,7 +41,7 @@ extensions_at cs place = option_map_or extensions_of (slice_get cs place) []
 abbrev pub keeps_length : ℕ → List PlainCertificate → ℕ → ℕ → Bool
 keeps_length bound cs place other =
     list_all
-    (λ e. is_within (counted bound cs (place + 1) (other - place)) (path_length (weigh bound e)))
+    (λ e. is_within (used_up bound cs (place + 1) (other - place)) (path_length (weigh bound e)))
     (extensions_at cs place)
 
 -- at each of the first places

@@ -1,12 +1,12 @@
 -- The path limit is counted up to here.
 use Rattle.std.proofs.Common.{◌≡◌, ◌≤◌, ◌+◌, ◌-◌}
 use Rattle.const_oid.specs.Bound.{Bound}
-use Rattle.cert_desk_rules.specs.Paths.{counted}
+use Rattle.cert_desk_rules.specs.Paths.{used_up}
 use Rattle.cert_desk_checking.proofs.reasons.counted_behind.Given as goal
 
 abbrev pub invariant-loop-step : goal.invariant-loop-step
 invariant-loop-step l = record {
   behind : l.before ≤ l.step;
-  counted : l.count ≡ counted Bound l.bundle.certificates (l.before + 1) (l.step - l.before);
+  counted : l.count ≡ used_up Bound l.bundle.certificates (l.before + 1) (l.step - l.before);
   few : l.count ≤ l.step;
 }

@@ -3,14 +3,14 @@ use Rattle.const_oid.specs.Bound.{Bound}
 use Rattle.cert_desk_rules.specs.Paths.{counts, keep_lengths, keeps_length}
 use Rattle.cert_desk_rules.specs.Reasons.{SomeMayTakeMemory}
 use Rattle.cert_desk_io.proofs.Given.{OnErr-by}
-use Rattle.cert_desk_checking.proofs.ReasonLaws.{counted_less, lengths-broken}
+use Rattle.cert_desk_checking.proofs.ReasonLaws.{used_up_less, lengths-broken}
 use Rattle.cert_desk_checking.proofs.reasons.exceeded_length.Goals as goal
 use Rattle.cert_desk_checking.proofs.reasons.exceeded_length.Goals.{then-counts, else-counts}
 
 pub overflow_sub-left : goal.overflow_sub-left
 overflow_sub-left c =
     let cs = c.args.bundle.now.certificates in
-    let less = counted_less Bound cs c.loop-before.before c.args.place c.loop-before.left c.loop-before-test.true c.loop-before.invariant.left in
+    let less = used_up_less Bound cs c.loop-before.before c.args.place c.loop-before.left c.loop-before-test.true c.loop-before.invariant.left in
     let one : ◌≡◌ {A = ℕ} (cond (counts Bound cs (c.loop-before.before + 1)) 1 0) 1 = ap (λ (b : Bool). cond b 1 0) (sym c.counts-in-loop-before.ensures ∙ c.if-counts.true) in
     omega (arith, less, one)
 
@@ -19,7 +19,7 @@ loop-before-preserved c =
     let cs = c.args.bundle.now.certificates in
     let before = c.loop-before.before in
     let place = c.args.place in
-    let less = counted_less Bound cs before place c.loop-before.left c.loop-before-test.true c.loop-before.invariant.left in
+    let less = used_up_less Bound cs before place c.loop-before.left c.loop-before-test.true c.loop-before.invariant.left in
     let next : before + 1 ≡ suc before = omega arith in
     let here : keeps_length Bound cs before place ≡ true = sym (c.in_ok-keeps_length.ensures.kept place c.loop-before.invariant.left) ∙ c.if-not-branch.false in
     record {

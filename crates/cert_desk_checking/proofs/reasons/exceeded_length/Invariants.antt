@@ -1,11 +1,11 @@
 -- The path lengths of the places so far are kept, and so many places count from here on.
 use Rattle.std.proofs.Common.{◌≡◌, ◌+◌, ◌-◌, true}
 use Rattle.const_oid.specs.Bound.{Bound}
-use Rattle.cert_desk_rules.specs.Paths.{counted, keep_lengths}
+use Rattle.cert_desk_rules.specs.Paths.{used_up, keep_lengths}
 use Rattle.cert_desk_checking.proofs.reasons.exceeded_length.Given as goal
 
 abbrev pub invariant-loop-before : goal.invariant-loop-before
 invariant-loop-before l = record {
   kept : keep_lengths Bound l.bundle.certificates l.before l.place ≡ true;
-  left : l.left ≡ counted Bound l.bundle.certificates (l.before + 1) (l.place - l.before);
+  left : l.left ≡ used_up Bound l.bundle.certificates (l.before + 1) (l.place - l.before);
 }
