@@ -25,7 +25,9 @@ import sources
 SIDE_BY_SIDE = int(os.environ.get("SIDE_BY_SIDE", "4"))
 LINE = re.compile(r"(?:note: )?(?:\./)?(?P<path>(?:src|proofs)/\S+?):(?P<line>\d+):\d+: ")
 HEADER = re.compile(r"(?:unsafe )?(?:impl\b|(?:pub(?:\(\w+\))? )?trait\b)")
-FUNCTION = re.compile(r"( *)(?:pub(?:\(\w+\))? )?(?:final )?(?:const )?(?:unsafe )?fn (\w+)")
+FUNCTION = re.compile(
+    r'( *)(?:pub(?:\(\w+\))? )?(?:final )?(?:const )?(?:unsafe )?(?:extern "C" )?fn (\w+)'
+)
 # What a proof file says whose names an edit took away, which tells nothing of the contract.
 NAMES = re.compile(r".*(has no field|is not in scope|has no `|was not admitted|\(nearest: )")
 FAULT = re.compile(r"(?:\./)?(?:src|specs|proofs)/\S+?:\d+:\d+: error: ")
