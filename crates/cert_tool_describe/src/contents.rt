@@ -1,6 +1,6 @@
 //! The contents of extensions, each by its identifier.
 
-use crate::describe::Describe;
+use crate::described::Describe;
 use crate::general_names::{add_general_names, names_in};
 use crate::lines::Lines;
 use crate::timestamps::timestamps_fault;

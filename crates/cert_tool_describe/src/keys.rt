@@ -2,7 +2,7 @@
 
 use crate::algorithms::add_members as add_algorithm;
 use crate::contents::{add_malformed, add_members};
-use crate::describe::Describe;
+use crate::described::Describe;
 use crate::known_names::known_name;
 use crate::lines::Lines;
 use crate::values::{add_value, list_in, values_in};

@@ -2,7 +2,7 @@
 
 use crate::algorithms::{add_algorithm, add_signature};
 use crate::contents::add_extensions;
-use crate::describe::{Describe, DescribeFile, add_file};
+use crate::described::{Describe, DescribeFile, add_file};
 use crate::description::add_kind;
 use crate::keys::add_digests;
 use crate::lines::Lines;

@@ -1,7 +1,7 @@
 //! Where more stands: distribution points, access, key identifiers, constraints on names (RFC 5280
 //! 4.2.1.1, 4.2.1.10, 4.2.1.13, 4.2.2).
 
-use crate::describe::Describe;
+use crate::described::Describe;
 use crate::general_names::{add_general_name, add_general_names};
 use crate::lines::Lines;
 use crate::uses::add_flags;

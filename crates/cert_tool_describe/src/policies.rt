@@ -1,6 +1,6 @@
 //! Policies (RFC 5280 4.2.1.4, 4.2.1.5, 4.2.1.11, 4.2.1.14).
 
-use crate::describe::Describe;
+use crate::described::Describe;
 use crate::lines::Lines;
 use crate::values::{add_value, list_in, values_in};
 use const_oid::ObjectIdentifier;

@@ -2,7 +2,7 @@
 
 use crate::algorithms::add_signature;
 use crate::contents::add_extensions;
-use crate::describe::{DescribeFile, add_file};
+use crate::described::{DescribeFile, add_file};
 use crate::description::add_kind;
 use crate::keys::{add_digests, add_key, add_key_digests};
 use crate::lines::Lines;

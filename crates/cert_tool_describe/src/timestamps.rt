@@ -1,6 +1,6 @@
 //! Timestamps of logs (RFC 6962 3.3).
 
-use crate::describe::Describe;
+use crate::described::Describe;
 use crate::lines::Lines;
 use der_core::making::leaf_from_der;
 use der_core::{Error as DerError, ErrorKind, Tag};

@@ -1,7 +1,7 @@
 //! What a key may be used for and when, and which key it is (RFC 5280 4.2.1.2, 4.2.1.3, 4.2.1.9,
 //! 4.2.1.12, 5.3.2, RFC 3280 4.2.1.4, RFC 7633).
 
-use crate::describe::Describe;
+use crate::described::Describe;
 use crate::lines::Lines;
 use der_types_time::GeneralizedTime;
 use der_types_values::{FlagSet, NamedBits};

@@ -3,8 +3,7 @@
 use crate::stream_refusal::PEM_STREAM;
 use cert_desk_checking::{AnchorFault, Outcome, read_anchors};
 use cert_desk_io::FromRead;
-use cert_tool_describe::Lines;
-use cert_tool_explain::{add_anchor_fault, add_unjudged, begin_anchor, is_pem};
+use cert_tool_describe::{Lines, add_anchor_fault, add_unjudged, begin_anchor, is_pem};
 use std::alloc::{AllocError, Global};
 
 // What a fault of an anchor means.

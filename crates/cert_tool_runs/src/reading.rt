@@ -10,7 +10,7 @@ use cert_desk_io::{
     ExitStatus, Input, NamedInputs, Output, ReadAllError, answer, complain, read_all, tell_device,
     tell_memory,
 };
-use cert_tool_explain::{describe, explain_octets};
+use cert_tool_describe::{describe, explain_octets};
 use std::alloc::{AllocError, Global};
 
 // What an input holds, to its end. Where it can't be had, that is told, and the status is the

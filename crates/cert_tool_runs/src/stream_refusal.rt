@@ -3,8 +3,7 @@
 ghost use Rattle.std.specs.Prelude.{◌≤◌};
 
 use cert_desk_bundle::{Bundle, BundleError, FaultKind, first_fault};
-use cert_tool_describe::Lines;
-use cert_tool_explain::{add_certificate_fault, is_pem};
+use cert_tool_describe::{Lines, add_certificate_fault, is_pem};
 use std::alloc::{AllocError, Global};
 
 // What is said of certificates in PEM.

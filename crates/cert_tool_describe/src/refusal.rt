@@ -1,11 +1,12 @@
 //! Why octets are refused.
 
 use crate::certificate_remarks::add_lone_remarks;
+use crate::described::DescribeFile;
 use crate::faults::add_fault;
 use crate::kind::Kind;
+use crate::lines::Lines;
 use crate::list_remarks::add_list_remarks;
 use crate::parts::Node;
-use cert_tool_describe::{DescribeFile, Lines};
 use der_core::Error;
 use std::alloc::{AllocError, Global};
 use x509_cert_certificates::CertificateInner;

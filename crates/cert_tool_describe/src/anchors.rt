@@ -1,8 +1,8 @@
 //! Trust anchors: why octets begin with none, and what anchors say that no rule looks at.
 
 use crate::faults::add_fault;
+use crate::lines::Lines;
 use crate::parts::Node;
-use cert_tool_describe::Lines;
 use der_core::{Decode, Error, FromDer, SliceReader};
 use x509_cert_anchors::TrustAnchorChoice;
 use x509_cert_certificates::TbsCertificateInner;
