@@ -32,8 +32,8 @@ CLAIMS = [
     ("a listing is written", "cert_desk_listing", "run_show"),
     ("a chain is judged", "cert_desk_checking", "check"),
     ("a run of `check` is told", "cert_desk_checking", "run_check"),
-    ("a chain is judged by answers from outside", "cert_tool_runs", "run_verify"),
-    ("what a verifier has to answer is written", "cert_tool_runs", "run_questions"),
+    ("a chain is judged by answers from outside", "cert_tool", "run_verify"),
+    ("what a verifier has to answer is written", "cert_tool", "run_questions"),
     ("a chain is issued", "cert_desk_issuing", "issue"),
     ("an issued chain is trusted", "cert_desk_issuing", "Issued::audit"),
 ]

@@ -347,8 +347,8 @@ def specs():
 
 
 def sources():
-    """All files of code; a call is public where the root of its crate passes on it, or its type, or
-    where it is exported to C."""
+    """All files of code; a call is public where the root of its crate passes on it, or its type, in
+    a program where it says so, or where it is exported to C."""
     found = [Source(path) for path in sorted(CRATES.glob("*/src/**/*.rt"))]
     roots = {}
     for source in found:
@@ -360,12 +360,14 @@ def sources():
             for path in (folder / f"{module}.rt" for module in modules):
                 if path.exists():
                     text += "".join(re.findall(r"^pub use .*?;", path.read_text(), re.S | re.M))
-            roots[source.crate] = (set(re.findall(r"\w+", text)), modules)
-        words, modules = roots[source.crate]
+            is_program = root.name == "main.rt"
+            roots[source.crate] = (set(re.findall(r"\w+", text)), modules, is_program)
+        words, modules, is_program = roots[source.crate]
         for call in source.calls:
             passed = (call.owner or call.name).split("::")[-1] in words
             inside = source.name.split(".")[0].split("/")[0] in modules or source.name == "lib.rt"
-            call.public = call.public and (passed or inside or call.is_exported)
+            is_given = passed or inside or is_program or call.is_exported
+            call.public = call.public and is_given
     return found
 
 

@@ -1,2 +1,4 @@
+mod SplitLaws
+mod JsonSteps
 mod SentLaws
 mod ServingLaws

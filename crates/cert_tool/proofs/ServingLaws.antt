@@ -10,7 +10,7 @@ use Rattle.cert_desk_frames.specs.declared.frame_error.FrameError.{FrameError}
 use Rattle.cert_desk_frames.specs.declared.frame_error.FrameError.TheVariants as errors
 use Rattle.cert_desk_frames.specs.Frames.{frame, number_octets}
 use Rattle.cert_desk_frames.proofs.FrameLaws.{same_number}
-use Rattle.cert_tool_runs.specs.TaskRuns.{IsObeyed, asks_of_program}
+use Rattle.cert_tool.specs.TaskRuns.{IsObeyed, asks_of_program}
 use Rattle.cert_tool.specs.Serving.{AreReplies, ComesTo, HasNoReply, IsNextServed, IsRequest, more, words_in}
 
 -- frames with which the same octets begin have the same content

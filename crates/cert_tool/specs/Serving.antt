@@ -15,7 +15,7 @@ use Rattle.cert_desk_io.specs.Writers.{write_failures, writer_of}
 use Rattle.cert_desk_frames.specs.declared.frame_error.FrameError.{FrameError}
 use Rattle.cert_desk_frames.specs.declared.frame_error.FrameError.TheVariants as errors
 use Rattle.cert_desk_frames.specs.Frames.{IsNext, IsUnread, frame}
-use Rattle.cert_tool_runs.specs.TaskRuns.{IsObeyed, asks_of_program}
+use Rattle.cert_tool.specs.TaskRuns.{IsObeyed, asks_of_program}
 use Rattle.cert_tool.specs.Sending.{IsSent}
 
 -- the most octets of a request, 64 MiB

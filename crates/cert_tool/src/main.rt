@@ -3,12 +3,41 @@
 //! `cert_tool serve` answers requests in frames on standard input, until it ends.
 #![tactic(auto)]
 
+mod alike_names;
+mod anchor_refusal;
+mod arguments;
+mod asking;
+mod breaches;
+mod chain_place;
+mod chains;
+mod each_certificate;
+mod explaining;
+mod files;
+mod given;
+mod heard;
+mod help;
+mod json_texts;
+mod no_command;
+mod reading;
+mod reasons;
+mod remarks;
 mod sent;
+mod serial_numbers;
 mod serving;
+mod splitting;
+mod stopping;
+mod stream_fault;
+mod stream_refusal;
+mod streams;
+mod tasks;
+mod telling;
+mod verifying;
+mod words;
 
+use crate::files::HostFiles;
 use crate::serving::serve;
+use crate::words::obey;
 use cert_desk_io::{ExitStatus, FromRead, ToWrite, tell_memory};
-use cert_tool_runs::{HostFiles, obey};
 use std::alloc::{AllocError, Global};
 use std::io::IsTerminal;
 use std::process::ExitCode;

@@ -7,11 +7,11 @@ ghost use Rattle.cert_tool.specs.Serving.{IsRequestObeyed, IsServed, IsUnservedT
 ghost use Rattle.cert_tool.specs.Serving.{reply_frames, words_in};
 
 use crate::sent::Sent;
+use crate::words::obey;
 use cert_desk_frames::{FrameError, append_frame, read_frame, split_frame};
 use cert_desk_io::{
     ExitStatus, Input, Output, ToWrite, complain, tell_device, tell_memory, write_all,
 };
-use cert_tool_runs::obey;
 use std::alloc::{AllocError, Global};
 use std::rt::Clock;
 use std::str;

@@ -1,0 +1,28 @@
+-- Certificates, one after the other.
+use Rattle.std.proofs.Common.{◌≡◌, ℕ, zero, suc, ◌+◌, ◌-◌, ◌<◌, List, [], ◌∷◌, ◌++◌, Some, drop, slice_get, unwrap_or, arith, ap, sym, ◌∙◌}
+use Rattle.cert_desk_bundle.specs.declared.entry.Entry.{Entry}
+use Rattle.const_oid.specs.Bound.{Bound}
+use Rattle.x509_cert_certificates.specs.Certificates.{PlainCertificate, certificate_octets}
+use Rattle.x509_cert_certificates.specs.Views.{certificate_plain}
+use Rattle.cert_desk_bundle.specs.Entries.{IsEntry}
+use Rattle.cert_tool.specs.Splitting.{reversed}
+
+some_is : (a b : PlainCertificate) → Some a ≡ Some b → a ≡ b
+some_is a b e = ap (λ o. unwrap_or o a) e
+
+drop_here : (cs : List PlainCertificate) (n : ℕ) (c : PlainCertificate) → slice_get cs n ≡ Some c → drop n cs ≡ c ∷ drop (suc n) cs
+drop_here [] zero c e = absurd cc
+drop_here [] (suc n) c e = absurd cc
+drop_here (x ∷ xs) zero c e = ap (λ (y : PlainCertificate). y ∷ xs) (some_is x c e)
+drop_here (x ∷ xs) (suc n) c e = drop_here xs n c e
+
+-- one more at the end of what is turned round
+pub reversed_more : (cs : List PlainCertificate) (left : ℕ) (e : Entry) (octets : List ℕ) → 0 < left → IsEntry Bound cs (left - 1) e
+    → octets ≡ reversed (drop left cs) → octets ++ e.octets.now ≡ reversed (drop (left - 1) cs)
+reversed_more cs zero e octets h is so_far = absurd (omega arith)
+reversed_more cs (suc n) e octets h is so_far =
+    let this = certificate_plain e.certificate.now in
+    let m : n ≡ suc n - 1 = omega arith in
+    ap (λ w. octets ++ w) is.octets ∙ ap (λ w. w ++ certificate_octets Bound this) so_far
+    ∙ sym (ap reversed (drop_here cs n this (ap (slice_get cs) m ∙ is.certificate)))
+    ∙ ap (λ k. reversed (drop k cs)) m

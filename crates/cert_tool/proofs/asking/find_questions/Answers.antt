@@ -1,0 +1,11 @@
+use Rattle.std.proofs.Common.{map, inl, inr, sym, ◌∙◌, refl}
+use Rattle.cert_desk_checking.specs.Anchors.{anchor_plain}
+use Rattle.cert_tool.proofs.asking.find_questions.Goals as goal
+
+pub returns-in-Some-clause-stopped : goal.returns-in-Some-clause-stopped
+returns-in-Some-clause-stopped g c =
+    inr (map anchor_plain c.in-Ok.anchors.items, c.read_stream-bundle.result, c.in-Ok.ensures.read, (c.read_stream-bundle.ensures.limit, c.read_stream-bundle.ensures.fed), inl (sym c.stop_of.ensures ∙ c.in-Some.is))
+
+pub returns-clause-stopped : goal.returns-clause-stopped
+returns-clause-stopped g c =
+    inr (map anchor_plain c.in-Ok.anchors.items, c.read_stream-bundle.result, c.in-Ok.ensures.read, (c.read_stream-bundle.ensures.limit, c.read_stream-bundle.ensures.fed), inr refl)

@@ -1,0 +1,7 @@
+-- the lines of the places so far
+use Rattle.std.proofs.Common.{◌≡◌, string_bytes}
+use Rattle.cert_tool.specs.Splitting.{places_below}
+use Rattle.cert_tool.proofs.splitting.list_of.Given as goal
+
+abbrev pub invariant-loop-place : goal.invariant-loop-place
+invariant-loop-place l = string_bytes l.text ≡ places_below l.fn.bundle.certificates l.place-counter

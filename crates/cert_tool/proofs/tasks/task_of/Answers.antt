@@ -1,0 +1,20 @@
+use Rattle.std.proofs.Common.{refl, sym}
+use Rattle.cert_tool.proofs.tasks.task_of.Goals as goal
+
+-- part by part
+pub returns-clause-read : goal.returns-clause-read
+returns-clause-read c = (
+  c.requires.kept,
+  refl,
+  refl,
+  c.text_of-anchors.ensures,
+  c.text_of-answers.ensures,
+  c.in-Ok.ensures.read,
+  c.in-Ok-purpose_of.ensures.read,
+  c.in-Ok-limit_of.ensures.read,
+  c.in-Ok-place_in.ensures.read,
+  c.is_given.ensures,
+  c.is_given-2.ensures,
+  sym c.if-is_octets_in_json.ensures,
+  sym c.if-shares_input.ensures,
+)

@@ -1,0 +1,35 @@
+-- What a run of `questions` finds and tells.
+use Rattle.std.specs.Prelude.{◌≡◌, ℕ, ◌⊎◌, List, Some, None, Result, Ok, Err}
+use Rattle.cert_desk_io.specs.declared.exit_status.ExitStatus.{ExitStatus}
+use Rattle.cert_desk_io.specs.declared.exit_status.ExitStatus.TheVariants as statuses
+use Rattle.cert_desk_io.specs.Devices.{Device, Untouched}
+use Rattle.cert_desk_io.specs.Telling.{IsAnswer}
+use Rattle.cert_desk_checking.specs.declared.outcome.Outcome.{Outcome}
+use Rattle.cert_desk_checking.specs.declared.outcome.Outcome.TheVariants as outcomes
+use Rattle.const_oid.specs.Bound.{Bound}
+use Rattle.cert_desk_bundle.specs.Chains.{joined}
+use Rattle.cert_desk_rules.specs.Judging.{PlainAnchor}
+use Rattle.cert_desk_checking.specs.Runs.{HasAnchors, HasNoAnchors}
+use Rattle.cert_desk_bundle.specs.Streams.{Kept}
+use Rattle.cert_desk_checking.specs.QuestionLines.{chain_lines, lines_octets}
+use Rattle.cert_tool.specs.Stops.{FedWithin, IsStopTold, stop_of}
+
+-- What is found in the inputs of anchors and of the stream: the lines of the questions of a chain
+-- of one certificate or more; or why there are none. The stream is untouched where the anchors end
+-- the run.
+abbrev pub IsAsked : Device → Device → ℕ → Result (List ℕ) Outcome → Type 0
+IsAsked anchors_in stream limit (Ok text) =
+    (anchors : List PlainAnchor) × (b : Kept) × HasAnchors anchors_in anchors
+    × FedWithin stream limit b
+    × (stop_of b ≡ None)
+    × (text ≡ lines_octets (chain_lines anchors b.certificates (joined Bound b.certificates)))
+IsAsked anchors_in stream limit (Err outcome) =
+    (HasNoAnchors anchors_in outcome × Untouched stream)
+    ⊎ ((anchors : List PlainAnchor) × (b : Kept) × HasAnchors anchors_in anchors
+    × FedWithin stream limit b
+    × ((stop_of b ≡ Some outcome) ⊎ (outcome ≡ outcomes.OutOfMemory)))
+
+-- What is told of it, and the status.
+abbrev pub IsAskedTold : Device → Device → Result (List ℕ) Outcome → ExitStatus → Type 0
+IsAskedTold out err (Ok text) answer = IsAnswer out err text statuses.Done answer
+IsAskedTold out err (Err outcome) answer = Untouched out × IsStopTold err outcome answer

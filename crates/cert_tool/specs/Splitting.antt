@@ -1,0 +1,107 @@
+-- What runs over the certificates of a stream write.
+use Rattle.std.specs.Prelude.{◌≡◌, ◌≢◌, ℕ, zero, suc, ◌+◌, ◌⊎◌, List, [], ◌∷◌, ◌++◌, length, codes}
+use Rattle.std.specs.Prelude.{decimal, Option, Some, None, slice_get, Bool, true, false, ◌==◌}
+use Rattle.std.specs.Prelude.{if◌then◌else◌}
+use Rattle.std.specs.Option.{option_map_or}
+use Rattle.cert_desk_io.specs.declared.exit_status.ExitStatus.{ExitStatus}
+use Rattle.cert_desk_io.specs.declared.exit_status.ExitStatus.TheVariants as statuses
+use Rattle.cert_desk_io.specs.Devices.{Device, Untouched}
+use Rattle.cert_desk_io.specs.Telling.{IsAnswer, IsComplaint, IsMemoryTold}
+use Rattle.cert_desk_checking.specs.declared.outcome.Outcome.{Outcome}
+use Rattle.const_oid.specs.Bound.{Bound}
+use Rattle.x509_cert_certificates.specs.Certificates.{PlainCertificate, certificate_octets}
+use Rattle.x509_cert_certificates.specs.Certificates.{subject}
+use Rattle.x509_cert_names.specs.PlainTexts.{name_text}
+use Rattle.cert_desk_bundle.specs.Chains.{offset_at}
+use Rattle.cert_desk_bundle.specs.Streams.{Kept}
+use Rattle.cert_tool.specs.JsonTexts.{escaped_text, place_object}
+use Rattle.cert_tool.specs.Stops.{IsStopTold, stop_of}
+
+-- where the certificate c at a place stands
+abbrev pub place_line : List PlainCertificate → ℕ → PlainCertificate → List ℕ
+place_line cs place c =
+    decimal place ++ codes " " ++ decimal (offset_at Bound cs place) ++ codes " "
+    ++ decimal (length (certificate_octets Bound c)) ++ codes "\n"
+
+-- a line for each of the first so many
+abbrev pub places_below : List PlainCertificate → ℕ → List ℕ
+places_below cs zero = []
+places_below cs (suc place) =
+    places_below cs place ++ option_map_or (place_line cs place) (slice_get cs place) []
+
+abbrev pub place_lines : List PlainCertificate → List ℕ
+place_lines cs = places_below cs (length cs)
+
+-- where the certificate c at a place stands, and whose it is, as an object of JSON (RFC 8259)
+abbrev pub place_json : List PlainCertificate → ℕ → PlainCertificate → List ℕ
+place_json cs place c =
+    place_object place (offset_at Bound cs place) (length (certificate_octets Bound c))
+    (escaped_text (name_text (subject c)))
+
+abbrev pub json_at : List PlainCertificate → ℕ → List ℕ
+json_at cs place = option_map_or (place_json cs place) (slice_get cs place) []
+
+abbrev pub comma_before : ℕ → List ℕ
+comma_before place = if place == 0 then [] else codes ","
+
+-- the array of the first so many, without its end
+
+abbrev pub json_places_below : List PlainCertificate → ℕ → List ℕ
+json_places_below cs zero = codes "["
+json_places_below cs (suc place) =
+    json_places_below cs place ++ comma_before place ++ json_at cs place
+
+-- where the certificates stand, as JSON or in lines
+abbrev pub places_text : Bool → List PlainCertificate → List ℕ
+places_text true cs = json_places_below cs (length cs) ++ codes "]\n"
+places_text false cs = place_lines cs
+
+-- the octets of the certificates, the last one first
+abbrev pub reversed : List PlainCertificate → List ℕ
+reversed [] = []
+reversed (c ∷ cs) = reversed cs ++ certificate_octets Bound c
+
+abbrev pub no_place_line : List ℕ
+no_place_line = codes "no certificate at that place\n"
+
+-- what ended the stream early is told, if it did
+abbrev pub IsEndTold : Device → Option Outcome → ExitStatus → Type 0
+IsEndTold err None answer = Untouched err × (answer ≡ statuses.Done)
+IsEndTold err (Some outcome) answer = IsStopTold err outcome answer
+
+-- Where all certificates stand that were read goes out, and then what ended the stream is told.
+abbrev pub IsListed : Bool → Device → Device → Kept → ExitStatus → Type 0
+IsListed json out err b answer =
+    (Untouched out × IsMemoryTold err answer)
+    ⊎ ((between : err.State) × (first : ExitStatus)
+    × IsAnswer out (record err { new = between }) (places_text json b.certificates) statuses.Done
+    first
+    × (((first ≢ statuses.Done) × (answer ≡ first) × Untouched (record err { old = between }))
+    ⊎ ((first ≡ statuses.Done) × IsEndTold (record err { old = between }) (stop_of b) answer)))
+
+-- The octets of this certificate go out; where there is none, what ended the stream is told, or
+-- that there is none.
+abbrev pub IsTakenAt : Device → Device → Option Outcome → Option PlainCertificate → ExitStatus
+    → Type 0
+IsTakenAt out err stop (Some c) answer =
+    IsAnswer out err (certificate_octets Bound c) statuses.Done answer
+IsTakenAt out err (Some outcome) None answer = Untouched out × IsStopTold err outcome answer
+IsTakenAt out err None None answer = Untouched out
+    × IsComplaint err no_place_line statuses.Arguments answer
+
+-- of the certificate at a place
+abbrev pub IsTaken : Device → Device → Kept → ℕ → ExitStatus → Type 0
+IsTaken out err b place answer = IsTakenAt out err (stop_of b) (slice_get b.certificates place)
+    answer
+
+-- The octets of these certificates go out, the last one first; where something ended the stream,
+-- that is told in their place.
+abbrev pub IsReversedBy : Device → Device → Option Outcome → List PlainCertificate → ExitStatus
+    → Type 0
+IsReversedBy out err (Some outcome) cs answer = Untouched out × IsStopTold err outcome answer
+IsReversedBy out err None cs answer = IsAnswer out err (reversed cs) statuses.Done answer
+    ⊎ (Untouched out × IsMemoryTold err answer)
+
+-- of a whole chain
+abbrev pub IsReversed : Device → Device → Kept → ExitStatus → Type 0
+IsReversed out err b answer = IsReversedBy out err (stop_of b) b.certificates answer

@@ -1,0 +1,126 @@
+//! The values of options.
+
+ghost use Rattle.std.specs.Prelude.{◌≡◌, ◌≢◌, ℕ, ◌<◌, ◌≤◌, ◌^◌, true, IfSome, IfNone};
+ghost use Rattle.const_oid.specs.Bound.{Bound, max_size};
+ghost use Rattle.const_oid.specs.TextReading.{read_text};
+ghost use Rattle.der_core_head.specs.Dates.{Civil, is_civil};
+ghost use Rattle.der_types_time.specs.DateTexts.{date_text};
+ghost use Rattle.der_types_time.specs.Seconds.{last_second};
+ghost use Rattle.cert_desk_checking.specs.Arguments.{IsNumber};
+ghost use Rattle.cert_tool.specs.Tasks.{IsMoment, IsNoMoment, arcs_of};
+
+use const_oid::{Error, ObjectIdentifier};
+use der_types_time::DateTime;
+
+// The least limit: a certificate has a header and some content.
+const LEAST_LIMIT: u64 = 6;
+
+/// The validation time: when a chain is judged.
+#[derive(Clone, Copy)]
+pub enum Moment {
+    /// When the clock is asked.
+    Now,
+    /// Seconds since 1970-01-01T00:00:00Z.
+    Seconds(u64),
+}
+
+// What a chain is judged under, but for its anchors.
+#[derive(Clone, Copy)]
+pub(crate) struct Terms {
+    // Seconds since 1970-01-01T00:00:00Z.
+    pub(crate) moment: u64,
+    // What the chain is wanted for.
+    pub(crate) purpose: ObjectIdentifier<39>,
+    // The most octets that a certificate may have.
+    pub(crate) limit: u32,
+    // Whether JSON is written.
+    pub(crate) is_json: bool,
+}
+
+// A number of one or more decimal digits, below 2^64. Leading zeros are read, and no sign.
+#[tactic(auto, unfolding(cert_desk_checking::specs::Arguments::IsNumber))]
+pub(crate) fn number_in(text: &str) -> Option<u64>
+    ensures read { IfSome result (λ n. IsNumber n text.now) }
+    ensures refused { IfNone result ((n : ℕ) → IsNumber n text.now → n < 2 ^ 64 → ⊥) }
+{
+    if text.as_bytes().first() == Some(&b'+') {
+        return None;
+    }
+    text.parse().ok()
+}
+
+// The seconds of a moment that isn't `now`: a date, or a number of seconds.
+#[tactic(auto, unfolding(cert_desk_checking::specs::Arguments::IsNumber))]
+fn seconds_in(text: &str) -> Option<u64>
+    ensures read { IfSome result (λ n. IsMoment (Moment.Seconds n) text.now) }
+    ensures refused { IfNone result (
+        ((n : ℕ) → IsNumber n text.now → n ≤ last_second → ⊥)
+        × ((c : Civil) → is_civil c ≡ true → text.now ≢ date_text c)) }
+{
+    if let Ok(date) = text.parse::<DateTime>() {
+        return Some(date.unix_seconds());
+    }
+    let Some(seconds) = number_in(text) else {
+        return None;
+    };
+    if DateTime::from_unix_seconds(seconds).is_err() {
+        return None;
+    }
+    Some(seconds)
+}
+
+// A moment: a number, a date, or `now`.
+pub(crate) fn moment_in(text: &str) -> Option<Moment>
+    ensures read { IfSome result (λ moment. IsMoment moment text.now) }
+    ensures refused { IfNone result (IsNoMoment text.now) }
+{
+    if text == "now" {
+        return Some(Moment::Now);
+    }
+    let Some(seconds) = seconds_in(text) else {
+        return None;
+    };
+    Some(Moment::Seconds(seconds))
+}
+
+// The arcs that a name of a purpose stands for (RFC 5280 4.2.1.12), or the text itself.
+fn arcs_of(text: &str) -> &str
+    ensures { result.now ≡ arcs_of text.now }
+{
+    match text {
+        "serverAuth" => "1.3.6.1.5.5.7.3.1",
+        "clientAuth" => "1.3.6.1.5.5.7.3.2",
+        "codeSigning" => "1.3.6.1.5.5.7.3.3",
+        "emailProtection" => "1.3.6.1.5.5.7.3.4",
+        "timeStamping" => "1.3.6.1.5.5.7.3.8",
+        "OCSPSigning" => "1.3.6.1.5.5.7.3.9",
+        "anyExtendedKeyUsage" => "2.5.29.37.0",
+        _ => text,
+    }
+}
+
+// A purpose: a name, or an identifier in dotted arcs.
+pub(crate) fn purpose_in(text: &str) -> Result<ObjectIdentifier<39>, Error>
+    ensures { result ≡ read_text Bound max_size (arcs_of text.now) }
+{
+    ObjectIdentifier::<39>::new(arcs_of(text))
+}
+
+// A limit: a number from 6 to 2^32 - 1.
+#[tactic(auto, unfolding(cert_desk_checking::specs::Arguments::IsNumber))]
+pub(crate) fn limit_in(text: &str) -> Option<u32>
+    ensures read { IfSome result (λ n. IsNumber n text.now) }
+    ensures least { IfSome result (λ n. 6 ≤ n) }
+    ensures refused { IfNone result ((n : ℕ) → IsNumber n text.now → 6 ≤ n → n < 2 ^ 32 → ⊥) }
+{
+    let Some(limit) = number_in(text) else {
+        return None;
+    };
+    if limit < LEAST_LIMIT {
+        return None;
+    }
+    if limit > u64::from(u32::MAX) {
+        return None;
+    }
+    Some(limit as u32)
+}

@@ -1,0 +1,238 @@
+//! What is done with a chain under anchors.
+
+ghost use Rattle.std.specs.Prelude.{◌≡◌, ◌⊎◌, ◌≤◌, IfOk, IfErr, IfSome, OnOk};
+ghost use Rattle.cert_desk_io.specs.Devices.{sink, source};
+ghost use Rattle.cert_desk_io.specs.NamedInputs.{inputs};
+ghost use Rattle.cert_tool.specs.TaskRuns.{IsMeant, IsJudged, IsVerified, IsListedFor};
+ghost use Rattle.cert_tool.specs.TaskRuns.{IsStopped};
+
+use crate::arguments::{Moment, Terms};
+use crate::asking::run_questions;
+use crate::explaining::explain_chain;
+use crate::files::{open, tell_failure};
+use crate::tasks::Task;
+use crate::telling::tell_more;
+use crate::verifying::{run_verify, tell_none};
+use cert_desk_io::{ExitStatus, Input, NamedInputs, Output, write_all};
+use std::alloc::Global;
+use std::rt::Clock;
+use std::time::{SystemTime, UNIX_EPOCH};
+
+// The inputs of a chain that is judged.
+#[derive(Drop)]
+struct Opened<I> {
+    answers: I,
+    anchors: I,
+    stream: I,
+}
+
+// The seconds that are meant, if the clock tells the present.
+fn seconds_of<C: Clock>(clock: &C, moment: Moment) -> Option<u64>
+    ensures { IfSome result (IsMeant moment) }
+{
+    if let Moment::Seconds(seconds) = moment {
+        return Some(seconds);
+    }
+    let Ok(now) = SystemTime::now(clock) else {
+        return None;
+    };
+    match now.duration_since(UNIX_EPOCH) {
+        Ok(passed) => Some(passed.as_secs()),
+        Err(_) => None,
+    }
+}
+
+// Opens the inputs of a chain that is judged.
+fn open_all<I: Drop, F: NamedInputs<I>, E: Output>(
+    alloc: Global,
+    files: &F,
+    task: &Task<'_>,
+    err: &mut E,
+) -> Result<Opened<I>, ExitStatus>
+    ensures answers { IfOk result (λ opened.
+        F.is_opened files.now task.now.answers.now opened.answers) }
+    ensures anchors { IfOk result (λ opened.
+        F.is_opened files.now task.now.anchors.now opened.anchors) }
+    ensures stream { IfOk result (λ opened.
+        F.is_opened files.now task.now.file.now opened.stream) }
+    ensures untold { OnOk result (err.new ≡ err.old) }
+    ensures stopped { IfErr result (λ status.
+        (status ≡ ExitStatus.Device) ⊎ (status ≡ ExitStatus.Memory)) }
+{
+    let answers = match open(alloc, files, task.answers, err) {
+        Ok(answers) => answers,
+        Err(status) => return Err(status),
+    };
+    let anchors = match open(alloc, files, task.anchors, err) {
+        Ok(anchors) => anchors,
+        Err(status) => return Err(status),
+    };
+    let stream = match open(alloc, files, task.file, err) {
+        Ok(stream) => stream,
+        Err(status) => return Err(status),
+    };
+    Ok(Opened {
+        answers,
+        anchors,
+        stream,
+    })
+}
+
+// Judges a chain by answers, whether there are any or none, and notes which.
+fn judged<I: Input, O: Output, E: Output>(
+    alloc: Global,
+    answers: &mut I,
+    anchors: &mut I,
+    stream: &mut I,
+    out: &mut O,
+    err: &mut E,
+    seconds: u64,
+    task: &Task<'_>,
+    are_read: &mut bool,
+) -> ExitStatus
+    requires { 6 ≤ task.now.limit }
+    ensures { IsJudged (source I.takes I.is_ended I.failures answers.old answers.new)
+        (source I.takes I.is_ended I.failures anchors.old anchors.new)
+        (source I.takes I.is_ended I.failures stream.old stream.new)
+        (sink O.gives O.failures out.old out.new) (sink E.gives E.failures err.old err.new)
+        seconds task.now result }
+{
+    let verified = run_verify(
+        alloc,
+        answers,
+        anchors,
+        stream,
+        out,
+        err,
+        seconds,
+        &task.purpose,
+        task.limit,
+        task.json,
+    );
+    match verified {
+        Ok(status) => status,
+        Err(none) => {
+            *are_read = false;
+            tell_none(alloc, none, err)
+        }
+    }
+}
+
+// `verify`.
+pub(crate) fn verify<C: Clock, I: Input + Drop, F: NamedInputs<I>, O: Output, E: Output>(
+    alloc: Global,
+    clock: &C,
+    files: &F,
+    task: &Task<'_>,
+    out: &mut O,
+    err: &mut E,
+) -> ExitStatus
+    requires { 6 ≤ task.now.limit }
+    ensures told { IsVerified (inputs I.takes I.is_ended I.failures (F.is_opened files.now))
+        (sink O.gives O.failures out.old out.new) (sink E.gives E.failures err.old err.new)
+        task.now result
+        ⊎ IsStopped (sink O.gives O.failures out.old out.new) result }
+{
+    let Some(seconds) = seconds_of(clock, task.moment) else {
+        let _ = write_all(err, b"cannot read the clock\n");
+        return ExitStatus::Device;
+    };
+    let Opened {
+        mut answers,
+        mut anchors,
+        mut stream,
+    } = match open_all(alloc, files, task, err) {
+        Ok(opened) => opened,
+        Err(status) => return status,
+    };
+    let mut are_read = true;
+    let status = judged(
+        alloc,
+        &mut answers,
+        &mut anchors,
+        &mut stream,
+        out,
+        err,
+        seconds,
+        task,
+        &mut are_read,
+    );
+    tell_failure(alloc, files, &answers, task.answers, err);
+    tell_failure(alloc, files, &anchors, task.anchors, err);
+    tell_failure(alloc, files, &stream, task.file, err);
+    tell_more(alloc, task, are_read, status, err);
+    status
+}
+
+// `explain chain`.
+pub(crate) fn explain<C: Clock, I: Input + Drop, F: NamedInputs<I>, O: Output, E: Output>(
+    alloc: Global,
+    clock: &C,
+    files: &F,
+    task: &Task<'_>,
+    out: &mut O,
+    err: &mut E,
+) -> ExitStatus
+    requires { 6 ≤ task.now.limit }
+{
+    let Some(moment) = seconds_of(clock, task.moment) else {
+        let _ = write_all(err, b"cannot read the clock\n");
+        return ExitStatus::Device;
+    };
+    let Opened {
+        mut answers,
+        mut anchors,
+        mut stream,
+    } = match open_all(alloc, files, task, err) {
+        Ok(opened) => opened,
+        Err(status) => return status,
+    };
+    let terms = Terms {
+        moment,
+        purpose: task.purpose,
+        limit: task.limit,
+        is_json: task.json,
+    };
+    let status = explain_chain(
+        alloc,
+        &mut answers,
+        &mut anchors,
+        &mut stream,
+        out,
+        err,
+        terms,
+    );
+    tell_failure(alloc, files, &answers, task.answers, err);
+    tell_failure(alloc, files, &anchors, task.anchors, err);
+    tell_failure(alloc, files, &stream, task.file, err);
+    status
+}
+
+// `questions`.
+pub(crate) fn ask<I: Input + Drop, F: NamedInputs<I>, O: Output, E: Output>(
+    alloc: Global,
+    files: &F,
+    task: &Task<'_>,
+    out: &mut O,
+    err: &mut E,
+) -> ExitStatus
+    requires { 6 ≤ task.now.limit }
+    ensures told { IsListedFor (inputs I.takes I.is_ended I.failures (F.is_opened files.now))
+        (sink O.gives O.failures out.old out.new) (sink E.gives E.failures err.old err.new)
+        task.now result
+        ⊎ IsStopped (sink O.gives O.failures out.old out.new) result }
+{
+    let mut anchors = match open(alloc, files, task.anchors, err) {
+        Ok(anchors) => anchors,
+        Err(status) => return status,
+    };
+    let mut stream = match open(alloc, files, task.file, err) {
+        Ok(stream) => stream,
+        Err(status) => return status,
+    };
+    let status = run_questions(alloc, &mut anchors, &mut stream, out, err, task.limit);
+    tell_failure(alloc, files, &anchors, task.anchors, err);
+    tell_failure(alloc, files, &stream, task.file, err);
+    tell_more(alloc, task, true, status, err);
+    status
+}

@@ -1,0 +1,246 @@
+//! Runs that take streams apart.
+
+ghost use Rattle.std.specs.Prelude.{◌≡◌, ◌≢◌, ◌<◌, ◌≤◌, IfOk, length, string_bytes, true};
+ghost use Rattle.x509_cert_certificates.specs.Certificates.{subject};
+ghost use Rattle.x509_cert_certificates.specs.Views.{certificate_plain};
+ghost use Rattle.x509_cert_names.specs.PlainTexts.{name_text};
+ghost use Rattle.x509_cert_names.specs.Views.{name_plain};
+ghost use Rattle.cert_desk_io.specs.Devices.{sink, source};
+ghost use Rattle.cert_desk_bundle.specs.Streams.{Kept};
+ghost use Rattle.cert_tool.specs.JsonTexts.{escaped_text};
+ghost use Rattle.cert_tool.specs.Splitting.{IsListed, IsReversed, IsTaken, comma_before};
+ghost use Rattle.cert_tool.specs.Splitting.{json_at, place_lines, places_text, reversed};
+ghost use Rattle.cert_tool.specs.Stops.{FedWithin};
+
+use crate::json_texts::{escaped_text, place_object};
+use crate::stopping::tell_stop;
+use crate::stream_fault::stop_of;
+use cert_desk_bundle::{Bundle, Standing};
+use cert_desk_checking::read_stream;
+use cert_desk_io::{ExitStatus, Input, Output, answer, complain, tell_memory};
+use std::alloc::{AllocError, Global};
+use x509_cert_certificates::CertificateInner;
+use x509_cert_names::Name;
+use x509_cert_parts::Raw;
+
+// A line for each certificate: its place, where it begins, and how many octets it has.
+fn list_of(alloc: Global, bundle: &Bundle) -> Result<String, AllocError>
+    ensures { IfOk result (λ text. string_bytes text ≡ place_lines bundle.now.certificates) }
+{
+    let mut text = String::new(alloc);
+    for place in 0..bundle.len() {
+        let entry = bundle.get(place).unwrap();
+        let (offset, len) = (entry.offset, entry.octets.len());
+        writeln!(text, "{place} {offset} {len}")?;
+    }
+    Ok(text)
+}
+
+// What stands before the object of a place.
+fn comma_before(place: usize) -> &'static str
+    ensures { result.now ≡ comma_before place }
+{
+    if place == 0 { "" } else { "," }
+}
+
+// The text of a name (RFC 4514).
+fn name_text(alloc: Global, name: &Name) -> Result<String, AllocError>
+    ensures { IfOk result (λ text. string_bytes text ≡ name_text (name_plain name.now)) }
+{
+    let text = name.to_string(alloc)?;
+    Ok(text)
+}
+
+// The text of a certificate's subject, as it stands in a string of JSON.
+fn subject_of(alloc: Global, certificate: &CertificateInner<Raw>) -> Result<String, AllocError>
+    ensures { IfOk result (λ text. string_bytes text
+        ≡ escaped_text (name_text (subject (certificate_plain certificate.now)))) }
+{
+    let name = name_text(alloc, certificate.tbs_certificate().subject())?;
+    let text = escaped_text(alloc, name.as_str())?;
+    Ok(text)
+}
+
+// Where the certificate at a place stands, and whose it is, as an object of JSON.
+fn json_at(alloc: Global, bundle: &Bundle, place: usize) -> Result<String, AllocError>
+    requires { place < length bundle.now.certificates }
+    ensures { IfOk result (λ text. string_bytes text ≡ json_at bundle.now.certificates place) }
+{
+    let entry = bundle.get(place).unwrap();
+    let subject = subject_of(alloc, entry.certificate)?;
+    let len = entry.octets.len();
+    let text = place_object(alloc, place, entry.offset, len, subject.as_str())?;
+    Ok(text)
+}
+
+// Where the certificates stand as JSON: an array of objects.
+fn json_of(alloc: Global, bundle: &Bundle) -> Result<String, AllocError>
+    ensures { IfOk result (λ text. string_bytes text ≡ places_text true bundle.now.certificates) }
+{
+    let mut text = String::new(alloc);
+    text.push_str("[")?;
+    for place in 0..bundle.len() {
+        let object = json_at(alloc, bundle, place)?;
+        let (comma, object) = (comma_before(place), object.as_str());
+        write!(text, "{comma}{object}")?;
+    }
+    text.push_str("]\n")?;
+    Ok(text)
+}
+
+// The octets of the certificates, the last one first.
+fn reversed(alloc: Global, bundle: &Bundle) -> Result<Vec<u8>, AllocError>
+    ensures { IfOk result (λ octets. octets.items ≡ reversed bundle.now.certificates) }
+{
+    let mut octets = Vec::new(alloc);
+    let mut left = bundle.len();
+    while left > 0 {
+        left -= 1;
+        octets.extend_from_slice(bundle.get(left).unwrap().octets)?;
+    }
+    Ok(octets)
+}
+
+// Where the certificates stand.
+fn text_of(alloc: Global, bundle: &Bundle, json: bool) -> Result<String, AllocError>
+    ensures { IfOk result (λ text. string_bytes text ≡ places_text json bundle.now.certificates) }
+{
+    if json {
+        json_of(alloc, bundle)
+    } else {
+        list_of(alloc, bundle)
+    }
+}
+
+// Writes where the certificates stand that were read of a stream, and tells what ended it.
+fn tell_places<O: Output, E: Output>(
+    alloc: Global,
+    bundle: &Bundle,
+    out: &mut O,
+    err: &mut E,
+    json: bool,
+) -> ExitStatus
+    requires { bundle.now.standing ≢ Standing.Open }
+    ensures { IsListed json (sink O.gives O.failures out.old out.new)
+        (sink E.gives E.failures err.old err.new) bundle.now result }
+{
+    let Ok(text) = text_of(alloc, bundle, json) else {
+        return tell_memory(err);
+    };
+    let status = answer(out, err, text.as_bytes(), ExitStatus::Done);
+    if status != ExitStatus::Done {
+        return status;
+    }
+    match stop_of(bundle) {
+        Some(outcome) => tell_stop(alloc, outcome, err),
+        None => ExitStatus::Done,
+    }
+}
+
+// Writes the certificate at a place, of those that were read of a stream.
+fn tell_taken<O: Output, E: Output>(
+    alloc: Global,
+    bundle: &Bundle,
+    out: &mut O,
+    err: &mut E,
+    place: usize,
+) -> ExitStatus
+    requires { bundle.now.standing ≢ Standing.Open }
+    ensures { IsTaken (sink O.gives O.failures out.old out.new)
+        (sink E.gives E.failures err.old err.new) bundle.now place result }
+{
+    if let Some(entry) = bundle.get(place) {
+        return answer(out, err, entry.octets, ExitStatus::Done);
+    }
+    match stop_of(bundle) {
+        Some(outcome) => tell_stop(alloc, outcome, err),
+        None => complain(
+            err,
+            b"no certificate at that place\n",
+            ExitStatus::Arguments,
+        ),
+    }
+}
+
+// Writes the certificates that were read of a stream, the last one first.
+fn tell_reversed<O: Output, E: Output>(
+    alloc: Global,
+    bundle: &Bundle,
+    out: &mut O,
+    err: &mut E,
+) -> ExitStatus
+    requires { bundle.now.standing ≢ Standing.Open }
+    ensures { IsReversed (sink O.gives O.failures out.old out.new)
+        (sink E.gives E.failures err.old err.new) bundle.now result }
+{
+    if let Some(outcome) = stop_of(bundle) {
+        return tell_stop(alloc, outcome, err);
+    }
+    match reversed(alloc, bundle) {
+        Ok(octets) => answer(out, err, octets.as_slice(), ExitStatus::Done),
+        Err(_) => tell_memory(err),
+    }
+}
+
+/// Writes where each certificate of a stream stands, a line each: `PLACE OFFSET LENGTH`, in
+/// decimal. As JSON that is an array of objects, with the members `place`, `offset`, `length` and
+/// `subject`, the text of the name (RFC 4514).
+///
+/// The certificates before a fault are listed too, and then the fault is told on the error output.
+pub fn run_list<S: Input, O: Output, E: Output>(
+    alloc: Global,
+    stream: &mut S,
+    out: &mut O,
+    err: &mut E,
+    limit: u32,
+    json: bool,
+) -> ExitStatus
+    requires { 6 ≤ limit }
+    ensures told { (kept : Kept)
+        × FedWithin (source S.takes S.is_ended S.failures stream.old stream.new) limit kept
+        × IsListed json (sink O.gives O.failures out.old out.new)
+        (sink E.gives E.failures err.old err.new) kept result }
+{
+    let bundle = read_stream(alloc, limit, stream);
+    tell_places(alloc, &bundle, out, err, json)
+}
+
+/// Writes the octets of the certificate at a place of a stream. Where it stands before a fault, the
+/// fault isn't told.
+pub fn run_take<S: Input, O: Output, E: Output>(
+    alloc: Global,
+    stream: &mut S,
+    out: &mut O,
+    err: &mut E,
+    limit: u32,
+    place: usize,
+) -> ExitStatus
+    requires { 6 ≤ limit }
+    ensures told { (kept : Kept)
+        × FedWithin (source S.takes S.is_ended S.failures stream.old stream.new) limit kept
+        × IsTaken (sink O.gives O.failures out.old out.new)
+        (sink E.gives E.failures err.old err.new) kept place result }
+{
+    let bundle = read_stream(alloc, limit, stream);
+    tell_taken(alloc, &bundle, out, err, place)
+}
+
+/// Writes the certificates of a stream, the last one first: a chain that begins with the
+/// end entity's certificate, as TLS sends it, becomes one that begins below the anchor, and the
+/// other way round.
+pub fn run_reverse<S: Input, O: Output, E: Output>(
+    alloc: Global,
+    stream: &mut S,
+    out: &mut O,
+    err: &mut E,
+    limit: u32,
+) -> ExitStatus
+    requires { 6 ≤ limit }
+    ensures told { (kept : Kept)
+        × FedWithin (source S.takes S.is_ended S.failures stream.old stream.new) limit kept
+        × IsReversed (sink O.gives O.failures out.old out.new)
+        (sink E.gives E.failures err.old err.new) kept result }
+{
+    let bundle = read_stream(alloc, limit, stream);
+    tell_reversed(alloc, &bundle, out, err)
+}

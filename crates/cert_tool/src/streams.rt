@@ -1,0 +1,128 @@
+//! What is done with a stream.
+
+ghost use Rattle.std.specs.Prelude.{◌⊎◌, ◌≤◌};
+ghost use Rattle.cert_desk_io.specs.Devices.{sink, source};
+ghost use Rattle.cert_desk_io.specs.NamedInputs.{inputs};
+ghost use Rattle.cert_desk_bundle.specs.Streams.{Kept};
+ghost use Rattle.cert_tool.specs.Stops.{FedWithin};
+ghost use Rattle.cert_tool.specs.TaskRuns.{IsSplitAt, IsSplit, IsTurned, IsStopped};
+
+use crate::each_certificate::run_describe;
+use crate::files::{open, tell_failure};
+use crate::splitting::{run_list, run_reverse, run_take};
+use crate::tasks::Task;
+use crate::telling::tell_fault;
+use cert_desk_io::{ExitStatus, Input, NamedInputs, Output};
+use std::alloc::Global;
+
+// Lists the certificates of an input, or writes one.
+fn split_input<I: Input, O: Output, E: Output>(
+    alloc: Global,
+    stream: &mut I,
+    task: &Task<'_>,
+    out: &mut O,
+    err: &mut E,
+) -> ExitStatus
+    requires { 6 ≤ task.now.limit }
+    ensures { (kept : Kept)
+        × FedWithin (source I.takes I.is_ended I.failures stream.old stream.new)
+        task.now.limit kept
+        × IsSplitAt task.now.json task.now.place (sink O.gives O.failures out.old out.new)
+        (sink E.gives E.failures err.old err.new) kept result }
+{
+    match task.place {
+        None => run_list(alloc, stream, out, err, task.limit, task.json),
+        Some(place) => run_take(alloc, stream, out, err, task.limit, place as usize),
+    }
+}
+
+// Tells what failed and what tells more. That a read failed is told where the certificate that was
+// asked for wasn't had.
+fn tell_behind<I, F: NamedInputs<I>, E: Output>(
+    alloc: Global,
+    files: &F,
+    stream: &I,
+    task: &Task<'_>,
+    status: ExitStatus,
+    err: &mut E,
+) {
+    if status == ExitStatus::Device {
+        tell_failure(alloc, files, stream, task.file, err);
+    }
+    tell_fault(alloc, task, status, err);
+}
+
+// `split`.
+pub(crate) fn split<I: Input + Drop, F: NamedInputs<I>, O: Output, E: Output>(
+    alloc: Global,
+    files: &F,
+    task: &Task<'_>,
+    out: &mut O,
+    err: &mut E,
+) -> ExitStatus
+    requires { 6 ≤ task.now.limit }
+    ensures told { IsSplit (inputs I.takes I.is_ended I.failures (F.is_opened files.now))
+        (sink O.gives O.failures out.old out.new) (sink E.gives E.failures err.old err.new)
+        task.now result
+        ⊎ IsStopped (sink O.gives O.failures out.old out.new) result }
+{
+    let mut stream = match open(alloc, files, task.file, err) {
+        Ok(stream) => stream,
+        Err(status) => return status,
+    };
+    let status = split_input(alloc, &mut stream, task, out, err);
+    tell_behind(alloc, files, &stream, task, status, err);
+    status
+}
+
+// `reverse`.
+pub(crate) fn reverse<I: Input + Drop, F: NamedInputs<I>, O: Output, E: Output>(
+    alloc: Global,
+    files: &F,
+    task: &Task<'_>,
+    out: &mut O,
+    err: &mut E,
+) -> ExitStatus
+    requires { 6 ≤ task.now.limit }
+    ensures told { IsTurned (inputs I.takes I.is_ended I.failures (F.is_opened files.now))
+        (sink O.gives O.failures out.old out.new) (sink E.gives E.failures err.old err.new)
+        task.now result
+        ⊎ IsStopped (sink O.gives O.failures out.old out.new) result }
+{
+    let mut stream = match open(alloc, files, task.file, err) {
+        Ok(stream) => stream,
+        Err(status) => return status,
+    };
+    let status = run_reverse(alloc, &mut stream, out, err, task.limit);
+    tell_behind(alloc, files, &stream, task, status, err);
+    status
+}
+
+// `describe stream`. A fault or a failed read is told where it ended the descriptions.
+pub(crate) fn describe_each<I: Input + Drop, F: NamedInputs<I>, O: Output, E: Output>(
+    alloc: Global,
+    files: &F,
+    task: &Task<'_>,
+    out: &mut O,
+    err: &mut E,
+    is_watched: bool,
+) -> ExitStatus
+    requires { 6 ≤ task.now.limit }
+{
+    let mut stream = match open(alloc, files, task.file, err) {
+        Ok(stream) => stream,
+        Err(status) => return status,
+    };
+    let status = run_describe(
+        alloc,
+        &mut stream,
+        out,
+        err,
+        task.limit,
+        task.json,
+        task.digests,
+        is_watched,
+    );
+    tell_behind(alloc, files, &stream, task, status, err);
+    status
+}

@@ -1,0 +1,175 @@
+//! Runs that judge a chain by answers.
+
+ghost use Rattle.std.specs.Prelude.{◌≡◌, ◌≤◌, List, map, IfOk, IfErr, OnErr, Ok, Err, string_bytes};
+ghost use Rattle.cert_desk_io.specs.Devices.{sink, source};
+ghost use Rattle.cert_desk_checking.specs.declared.outcome.Outcome.{Outcome};
+ghost use Rattle.cert_desk_checking.specs.Anchors.{purpose_plain};
+ghost use Rattle.cert_desk_rules.specs.Questions.{Question};
+ghost use Rattle.cert_desk_checking.specs.Runs.{IsOutcome, judging};
+ghost use Rattle.cert_desk_rules.specs.declared.answers_judge.AnswersJudge.{AnswersJudge};
+ghost use Rattle.cert_desk_rules.specs.Answers.{answer_plain, only_yes_to};
+ghost use Rattle.cert_desk_rules.specs.Judges.{judge_answers, judge_questions};
+ghost use Rattle.cert_tool.specs.Verifying.{AreAnswers, IsNoneTold, IsToldAs, wrong_line};
+ghost use Rattle.cert_tool.specs.Verifying.{verdict_json, verdict_text};
+
+use crate::stopping::tell_stop;
+use cert_desk_answers::{LineFault, NoAnswers, answers_in};
+use cert_desk_checking::{Outcome, find_outcome, status_of, verdict_line};
+use cert_desk_io::{
+    ExitStatus, Input, Output, ReadAllError, answer, complain, read_all, tell_device, tell_memory,
+};
+use cert_desk_rules::{Answer, AnswersJudge, Checked, Verdict};
+use const_oid::ObjectIdentifier;
+use std::alloc::{AllocError, Global};
+
+/// The answers that an input gives, to its end, as `answers_in` reads them.
+///
+/// # Errors
+///
+/// Those of `answers_in`; `TooMuch`, where one octet more than 2^32 - 1 is taken; `Device`.
+pub fn read_answers<N: Input>(alloc: Global, answers: &mut N) -> Result<Vec<Answer>, NoAnswers>
+    ensures read { IfOk result (λ read. AreAnswers
+        (source N.takes N.is_ended N.failures answers.old answers.new)
+        (Ok (map answer_plain read.items))) }
+    ensures refused { IfErr result (λ none. AreAnswers
+        (source N.takes N.is_ended N.failures answers.old answers.new) (Err none)) }
+{
+    let octets = match read_all(alloc, answers, u32::MAX) {
+        Ok(octets) => octets,
+        Err(ReadAllError::TooMuch) => return Err(NoAnswers::TooMuch),
+        Err(ReadAllError::Device) => return Err(NoAnswers::Device),
+        Err(ReadAllError::OutOfMemory) => return Err(NoAnswers::OutOfMemory),
+    };
+    let answers = answers_in(alloc, octets.as_slice())?;
+    Ok(answers)
+}
+
+// What is said of a file whose line of this number has this fault.
+fn fault_line(alloc: Global, number: u64, fault: LineFault) -> Result<String, AllocError>
+    ensures { IfOk result (λ text. string_bytes text ≡ wrong_line number fault) }
+{
+    format!(in alloc; "answers: line {number}: {fault}\n")
+}
+
+/// Tells why there are no answers, in one line, and answers the status.
+pub fn tell_none<E: Output>(alloc: Global, none: NoAnswers, err: &mut E) -> ExitStatus
+    ensures { IsNoneTold (sink E.gives E.failures err.old err.new) none result }
+{
+    match none {
+        NoAnswers::Line { number, fault } => match fault_line(alloc, number, fault) {
+            Ok(text) => complain(err, text.as_bytes(), ExitStatus::Arguments),
+            Err(_) => tell_memory(err),
+        },
+        NoAnswers::TooMuch => complain(
+            err,
+            b"answers: 2^32 octets or more\n",
+            ExitStatus::Arguments,
+        ),
+        NoAnswers::Device => tell_device(err),
+        NoAnswers::OutOfMemory => tell_memory(err),
+    }
+}
+
+// What is said of a verdict as JSON.
+fn verdict_json(alloc: Global, checked: Checked) -> Result<String, AllocError>
+    ensures { IfOk result (λ text. string_bytes text
+        ≡ verdict_json checked.verdict checked.calls) }
+{
+    let calls = checked.calls;
+    match checked.verdict {
+        Verdict::Trusted => { format!(in alloc; "{{\"verdict\":\"trusted\",\"calls\":{calls}}}\n") }
+        Verdict::Refused { place, rule } => format!(in alloc;
+            "{{\"verdict\":\"refused\",\"place\":{place},\"rule\":\"{rule}\",\"calls\":{calls}}}\n"
+        ),
+        Verdict::StreamFault {
+            place,
+            offset,
+            kind,
+        } => format!(in alloc;
+            "{{\"verdict\":\"fault\",\"place\":{place},\"offset\":{offset},\"kind\":\"{kind}\"}}\n"
+        ),
+        Verdict::Empty => format!(in alloc; "{{\"verdict\":\"empty\"}}\n"),
+    }
+}
+
+// What is said of a verdict, as JSON or as a line.
+fn verdict_text(alloc: Global, checked: Checked, json: bool) -> Result<String, AllocError>
+    ensures { IfOk result (λ text. string_bytes text
+        ≡ verdict_text json checked.verdict checked.calls) }
+{
+    if json {
+        verdict_json(alloc, checked)
+    } else {
+        verdict_line(alloc, checked)
+    }
+}
+
+// Tells an outcome, and answers the status.
+fn tell_outcome<O: Output, E: Output>(
+    alloc: Global,
+    outcome: Outcome,
+    json: bool,
+    out: &mut O,
+    err: &mut E,
+) -> ExitStatus
+    ensures { IsToldAs json (sink O.gives O.failures out.old out.new)
+        (sink E.gives E.failures err.old err.new) outcome result }
+{
+    match outcome {
+        Outcome::Checked(checked) => match verdict_text(alloc, checked, json) {
+            Ok(text) => answer(out, err, text.as_bytes(), status_of(checked.verdict)),
+            Err(_) => tell_memory(err),
+        },
+        Outcome::BadAnchors { .. } => tell_stop(alloc, outcome, err),
+        Outcome::Device => tell_stop(alloc, outcome, err),
+        Outcome::OutOfMemory => tell_stop(alloc, outcome, err),
+    }
+}
+
+/// Judges the stream of one input under the anchors of another as `run_check` does, by a judge that
+/// says yes to the answers of a third, and no to all else. The verdict is told in a line, or as
+/// JSON: an object with the members `verdict`, `place`, `rule`, `offset`, `kind` and `calls`, of
+/// which it has those that its line has.
+///
+/// The answers are read first, as `read_answers` reads them.
+///
+/// # Errors
+///
+/// Those of `read_answers`. Nothing else is read then, and nothing told.
+pub fn run_verify<N: Input, A: Input, S: Input, O: Output, E: Output>(
+    alloc: Global,
+    answers: &mut N,
+    anchors: &mut A,
+    stream: &mut S,
+    out: &mut O,
+    err: &mut E,
+    moment: u64,
+    purpose: &ObjectIdentifier<39>,
+    limit: u32,
+    json: bool,
+) -> Result<ExitStatus, NoAnswers>
+    requires { 6 ≤ limit }
+    // These are the answers, and what is found and told is what `run_check` finds under a judge
+    // that says yes to these alone.
+    ensures judged { IfOk result (λ status. (listing : List Question) × (old_judge : AnswersJudge)
+        × (new_judge : AnswersJudge) × (outcome : Outcome)
+        × AreAnswers (source N.takes N.is_ended N.failures answers.old answers.new) (Ok listing)
+        × (judge_answers old_judge ≡ only_yes_to listing)
+        × (judge_questions old_judge ≡ 0)
+        × IsOutcome (source A.takes A.is_ended A.failures anchors.old anchors.new)
+        (source S.takes S.is_ended S.failures stream.old stream.new)
+        (judging judge_answers judge_questions old_judge new_judge)
+        moment (purpose_plain purpose.now) limit outcome
+        × IsToldAs json (sink O.gives O.failures out.old out.new)
+        (sink E.gives E.failures err.old err.new) outcome status) }
+    // There are none, and nothing else is touched.
+    ensures none { IfErr result (λ none. AreAnswers
+        (source N.takes N.is_ended N.failures answers.old answers.new) (Err none)) }
+    ensures untouched { OnErr result ((anchors.new ≡ anchors.old) × (stream.new ≡ stream.old)
+        × (out.new ≡ out.old) × (err.new ≡ err.old)) }
+{
+    let answers = read_answers(alloc, answers)?;
+    let mut judge = AnswersJudge::new(answers);
+    let outcome = find_outcome(alloc, anchors, stream, moment, purpose, limit, &mut judge);
+    Ok(tell_outcome(alloc, outcome, json, out, err))
+}

@@ -1,0 +1,117 @@
+//! What is done for words.
+
+ghost use Rattle.std.specs.Prelude.{◌≡◌, ◌⊎◌, ◌≤◌, map};
+ghost use Rattle.std.specs.List.{list_any};
+ghost use Rattle.cert_desk_io.specs.Devices.{sink};
+ghost use Rattle.cert_desk_io.specs.NamedInputs.{inputs};
+ghost use Rattle.cert_tool.specs.TaskRuns.{asks_of_program, IsDone, IsObeyed};
+
+use crate::chains::{ask, explain, verify};
+use crate::help::{ARGUMENTS, VERSION, help_of};
+use crate::reading::read;
+use crate::streams::{describe_each, reverse, split};
+use crate::tasks::{Command, Task};
+use crate::telling::tell_misuse;
+use cert_desk_io::{ExitStatus, Input, NamedInputs, Output, tell_device, write_all};
+use std::alloc::Global;
+use std::rt::Clock;
+
+// Whether a word asks for help, or which program it is.
+fn asks_of_program(word: &str) -> bool
+    ensures { result ≡ asks_of_program word.now }
+{
+    word == "--help" || word == "-h" || word == "--version"
+}
+
+// Whether one of these words does.
+fn ask_of_program(words: &[&str]) -> bool
+    ensures { result ≡ list_any (λ word. asks_of_program word.now) words.now }
+{
+    words.iter().any(|word| asks_of_program(word))
+}
+
+// Whether a word asks which program it is.
+fn is_version(word: &str) -> bool {
+    word == "--version"
+}
+
+// Says how the program is called, or which one it is.
+fn tell_of_program<O: Output, E: Output>(words: &[&str], out: &mut O, err: &mut E) -> ExitStatus
+    ensures { (result ≡ ExitStatus.Done) ⊎ (result ≡ ExitStatus.Device) }
+{
+    let (first, second) = if words.iter().any(|word| is_version(word)) {
+        (VERSION, "")
+    } else {
+        (help_of(words), ARGUMENTS)
+    };
+    if write_all(out, first.as_bytes()).is_err() {
+        let _ = tell_device(err);
+        return ExitStatus::Device;
+    }
+    if write_all(out, second.as_bytes()).is_err() {
+        let _ = tell_device(err);
+        return ExitStatus::Device;
+    }
+    ExitStatus::Done
+}
+
+// Does a task.
+fn done<C: Clock, I: Input + Drop, F: NamedInputs<I>, O: Output, E: Output>(
+    alloc: Global,
+    clock: &C,
+    files: &F,
+    task: &Task<'_>,
+    out: &mut O,
+    err: &mut E,
+    is_watched: bool,
+) -> ExitStatus
+    requires { 6 ≤ task.now.limit }
+    ensures { IsDone (inputs I.takes I.is_ended I.failures (F.is_opened files.now))
+        (sink O.gives O.failures out.old out.new) (sink E.gives E.failures err.old err.new)
+        task.now result }
+{
+    match task.command {
+        Command::Questions => ask(alloc, files, task, out, err),
+        Command::Verify => verify(alloc, clock, files, task, out, err),
+        Command::Split => split(alloc, files, task, out, err),
+        Command::Reverse => reverse(alloc, files, task, out, err),
+        Command::ExplainChain => explain(alloc, clock, files, task, out, err),
+        Command::Describe(_) => read(alloc, files, task, out, err),
+        Command::DescribeStream => describe_each(alloc, files, task, out, err, is_watched),
+        Command::Explain(_) => read(alloc, files, task, out, err),
+        Command::ExplainAnchors => read(alloc, files, task, out, err),
+        Command::ExplainStream => read(alloc, files, task, out, err),
+    }
+}
+
+/// Does what the words of `cert_tool` ask for, of those after the program's name: `Task::parse`
+/// reads them, and the task is done on the inputs of the names that it has.
+///
+/// Verdicts, questions, certificates and what else was asked for go to `out`; what is wrong with
+/// words, inputs and their contents goes to `err`, and after that hints how more is told. Where
+/// `is_watched`, as on a terminal, `err` also counts what is done of a long stream.
+pub fn obey<C: Clock, I: Input + Drop, F: NamedInputs<I>, O: Output, E: Output>(
+    alloc: Global,
+    clock: &C,
+    files: &F,
+    words: &[&str],
+    out: &mut O,
+    err: &mut E,
+    is_watched: bool,
+) -> ExitStatus
+    ensures obeyed { IsObeyed (inputs I.takes I.is_ended I.failures (F.is_opened files.now))
+        (sink O.gives O.failures out.old out.new) (sink E.gives E.failures err.old err.new)
+        (map (λ word. word.now) words.now)
+        (list_any (λ word. asks_of_program word.now) words.now) result }
+{
+    if ask_of_program(words) {
+        return tell_of_program(words, out, err);
+    }
+    match Task::parse(words) {
+        Ok(task) => done(alloc, clock, files, &task, out, err, is_watched),
+        Err(misuse) => {
+            tell_misuse(alloc, words, misuse, err);
+            ExitStatus::Arguments
+        }
+    }
+}

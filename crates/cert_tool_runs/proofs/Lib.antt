@@ -1,2 +1,0 @@
-pub mod SplitLaws
-mod JsonSteps

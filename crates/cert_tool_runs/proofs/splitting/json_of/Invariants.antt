@@ -1,7 +1,0 @@
--- the objects of the places so far
-use Rattle.std.proofs.Common.{◌≡◌, string_bytes}
-use Rattle.cert_tool_runs.specs.Splitting.{json_places_below}
-use Rattle.cert_tool_runs.proofs.splitting.json_of.Given as goal
-
-abbrev pub invariant-loop-place : goal.invariant-loop-place
-invariant-loop-place l = string_bytes l.text ≡ json_places_below l.fn.bundle.certificates l.place

@@ -1,7 +1,0 @@
--- the lines of the places so far
-use Rattle.std.proofs.Common.{◌≡◌, string_bytes}
-use Rattle.cert_tool_runs.specs.Splitting.{places_below}
-use Rattle.cert_tool_runs.proofs.splitting.list_of.Given as goal
-
-abbrev pub invariant-loop-place : goal.invariant-loop-place
-invariant-loop-place l = string_bytes l.text ≡ places_below l.fn.bundle.certificates l.place-counter

@@ -1,6 +1,0 @@
-use Rattle.std.proofs.Common.{sym, ◌∙◌}
-use Rattle.x509_cert_names.proofs.OneName.{name_text_is}
-use Rattle.cert_tool_runs.proofs.splitting.name_text.Goals as goal
-
-pub returns : goal.returns
-returns c = c.in_ok-text.ensures.ok ∙ sym (name_text_is c.args.name.now.rdn_sequence.relative_names.items)
