@@ -50,7 +50,8 @@ pub extern "C" fn wd_subject(alloc: Global, octets: &[u8], out: &mut [u8], size:
     give(text.as_bytes(), out, size)
 }
 
-/// The text of the issuer's name, in the same way.
+/// The text of the issuer's name (RFC 4514): 0 where it stands in `out`, 2 where the octets are no
+/// certificate, 5 where the buffer is too small, 6 out of memory.
 #[unsafe(no_mangle)]
 pub extern "C" fn wd_issuer(alloc: Global, octets: &[u8], out: &mut [u8], size: &mut usize) -> u32
     ensures done { result ≡ code_of Done → IsIssuerText octets.now (take size.new out.new) }

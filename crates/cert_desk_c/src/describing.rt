@@ -45,7 +45,8 @@ pub extern "C" fn wd_describe_certificate(
     give_lines(lines, fault, out, size)
 }
 
-/// The description of a CRL, in the same way.
+/// The description of a CRL, as lines or as JSON: 0 where it stands in `out`, 2 where the octets
+/// are no CRL, 5 where the buffer is too small, 6 out of memory.
 #[unsafe(no_mangle)]
 pub extern "C" fn wd_describe_list(
     alloc: Global,
@@ -62,7 +63,8 @@ pub extern "C" fn wd_describe_list(
     give_lines(lines, fault, out, size)
 }
 
-/// The description of a CSR, in the same way.
+/// The description of a CSR, as lines or as JSON: 0 where it stands in `out`, 2 where the octets
+/// are no CSR, 5 where the buffer is too small, 6 out of memory.
 #[unsafe(no_mangle)]
 pub extern "C" fn wd_describe_request(
     alloc: Global,

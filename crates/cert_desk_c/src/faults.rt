@@ -97,7 +97,8 @@ pub extern "C" fn wd_is_certificate(alloc: Global, octets: &[u8], fault: &mut Wd
     code(ExitStatus::Done)
 }
 
-/// Whether octets are a CRL (RFC 5280 5.1), in the same way.
+/// Whether octets, all of them, are a CRL (RFC 5280 5.1): 0 where they are, 2 where they aren't,
+/// whose first fault is told then, 6 out of memory.
 #[unsafe(no_mangle)]
 pub extern "C" fn wd_is_list(alloc: Global, octets: &[u8], fault: &mut WdFault) -> u32
     ensures spelled { result ≡ code_of Done
@@ -116,7 +117,8 @@ pub extern "C" fn wd_is_list(alloc: Global, octets: &[u8], fault: &mut WdFault) 
     code(ExitStatus::Done)
 }
 
-/// Whether octets are a CSR (RFC 2986 4.2), in the same way.
+/// Whether octets, all of them, are a CSR (RFC 2986 4.2): 0 where they are, 2 where they aren't,
+/// whose first fault is told then, 6 out of memory.
 #[unsafe(no_mangle)]
 pub extern "C" fn wd_is_request(alloc: Global, octets: &[u8], fault: &mut WdFault) -> u32
     ensures spelled { result ≡ code_of Done

@@ -15,7 +15,7 @@ pub struct Order {
     pub serial: Vec<u8>,
     /// From when the certificate is valid, as `YYYY-MM-DDTHH:MM:SSZ`.
     pub not_before: String,
-    /// Until when, in the same form.
+    /// Until when it is valid, as `YYYY-MM-DDTHH:MM:SSZ`.
     pub not_after: String,
     /// The subject's key.
     pub key: SubjectPublicKeyInfo,
