@@ -9,7 +9,7 @@
 #![tactic(auto)]
 
 mod certificates;
-mod describing;
+mod descriptions;
 mod extensions;
 mod faults;
 mod identifiers;
