@@ -76,8 +76,10 @@ library() {
         build "$crate"
         archive=$top/crates/$crate/out/lib$crate.a
     fi
-    # One object, of which only the calls are seen from outside.
-    ld -r -o "$object" --whole-archive "$archive" --no-whole-archive "$kit/c/liblibc_c.a"
+    # One object, of which only the calls are seen from outside, and no group of sections, of which
+    # who links two libraries would keep that of one.
+    ld -r --force-group-allocation -o "$object" \
+        --whole-archive "$archive" --no-whole-archive "$kit/c/liblibc_c.a"
     objcopy --wildcard --keep-global-symbol='wd_*' "$object"
     rm -f "$folder/lib$name.a"
     ar rcsD "$folder/lib$name.a" "$object"
