@@ -146,7 +146,7 @@ class House:
         for (crate, _), items in self.own.items():
             for item in items.values():
                 named = item.is_public and crate in PROGRAMS
-                if item.call and (item.call.is_exported or named):
+                if named or (item.call and item.call.is_exported):
                     self.public[item.key] = item
         self.impls = [impl for source in code for impl in self.impls_of(source)]
         self.give_members()
