@@ -146,7 +146,19 @@ def function_at(crate, file, number):
         return None
     last = next(n for n in range(first, len(lines)) if lines[n].rstrip().endswith(("{", "}")))
     header = " ".join(line.strip() for line in lines[first : last + 1])
-    return "::".join((*module_of(file), owner(header), found[2]))
+    stated, module = owner(header), module_of(file)
+    if not re.search(r"\btrait\b|\bfor\b", header):
+        module = module_that_declares(crate, stated.partition("+")[0], module)
+    return "::".join((*module, stated, found[2]))
+
+
+def module_that_declares(crate, kind, else_module):
+    """The names of the modules of the file that declares a type, to which its own calls belong."""
+    declared = re.compile(rf"^(?:pub(?:\(\w+\))? )?(?:struct|enum) {kind}\b", re.MULTILINE)
+    for file in sorted((crate / "src").rglob("*.rt")):
+        if declared.search(file.read_text()):
+            return module_of(file.relative_to(crate))
+    return else_module
 
 
 def command_for(crate, built):
