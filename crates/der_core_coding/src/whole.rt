@@ -29,12 +29,11 @@ pub fn read_whole<'a, T: Decode<'a, SliceReader<'a>>>(
     ensures { Gives (λ v. (T.plain v, [])) result (read_whole T.shape bytes.now) }
 {
     let mut reader = SliceReader::new(bytes)?;
-    let value = T::decode(alloc, &mut reader)?;
-    if reader.is_finished() {
-        Ok(value)
-    } else {
-        Err(ErrorKind::TrailingData.at(reader.position()))
+    let value = T::decode(alloc, &mut reader);
+    if value.is_ok() && !reader.is_finished() {
+        return Err(ErrorKind::TrailingData.at(reader.position()));
     }
+    value
 }
 
 /// Reads all of the octets, whose headers are read by BER.

@@ -93,14 +93,7 @@ pub fn read_fields<'a, R: Reader<'a>, T: DecodeFields<'a, R> + Drop>(
         header.length.value) }
 {
     let behind = reader.begin_nested(header.length)?;
-    match T::decode_fields(alloc, reader) {
-        Ok(fields) => {
-            reader.end_nested(behind, false)?;
-            Ok(fields)
-        }
-        Err(error) => {
-            reader.end_nested(behind, true)?;
-            Err(error)
-        }
-    }
+    let fields = T::decode_fields(alloc, reader);
+    reader.end_nested(behind, fields.is_err())?;
+    fields
 }
