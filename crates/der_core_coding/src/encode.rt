@@ -1,6 +1,6 @@
 //! The octets of a value: in a vector of their own, in a slice, or after other octets.
 
-ghost use Rattle.std.specs.Prelude.{◌≡◌, ◌≤◌, ◌++◌, [], length, take, Ok, None, false};
+ghost use Rattle.std.specs.Prelude.{◌≡◌, ◌≤◌, ◌++◌, [], length, take, Ok, None, false, true};
 ghost use Rattle.std.specs.Prelude.{IfOk, IfErr, IsOkAnd};
 ghost use Rattle.der_core_head.specs.Heads.{Fits};
 ghost use Rattle.der_core_head.specs.Ranges.{IsInRange};
@@ -11,8 +11,49 @@ ghost use Rattle.der_core_octets.specs.Outputs.{appended, filled};
 
 use crate::slice_writer::SliceWriter;
 use der_core_head::{Error, Length};
+use der_core_octets::{Writer, header_of};
 use der_core_values::Encode;
-use std::alloc::Global;
+use std::alloc::{AllocError, Global};
+
+/// The writer to a vector of its own, which takes room for a whole value once its header comes.
+#[derive(Drop)]
+struct VecWriter {
+    octets: Vec<u8>,
+}
+
+impl Writer for VecWriter {
+    ghost out = { λ w. record { written = w.octets.items; room = None; failed = false } };
+
+    ghost takes_memory = { true };
+
+    // Inlined, so that a known number of octets is copied without a call.
+    #[inline(always)]
+    #[tactic(auto, unfolding(der_core_head::specs::Writing::put))]
+    fn write(&mut self, octets: &[u8]) -> Result<(), Error> {
+        if self.octets.capacity() - self.octets.len() < octets.len() {
+            take_room(&mut self.octets, octets)?;
+        }
+        self.octets.extend_from_slice(octets)?;
+        Ok(())
+    }
+}
+
+/// Takes room for the value that a header announces, where nothing stands in the vector yet.
+///
+/// # Errors
+/// Out of memory.
+// Not inlined, since it is called once for a value.
+#[inline(never)]
+fn take_room(out: &mut Vec<u8>, header: &[u8]) -> Result<(), AllocError>
+    ensures { out.new.items ≡ out.old.items }
+{
+    match header_of(header) {
+        Ok((header, len)) if out.is_empty() => {
+            out.reserve_exact(len + header.length.value as usize)
+        }
+        _ => Ok(()),
+    }
+}
 
 /// The octets that writing a value gives, in a vector made for that many.
 fn encoded<T: Encode>(alloc: Global, value: &T) -> Result<Vec<u8>, Error>
@@ -20,10 +61,10 @@ fn encoded<T: Encode>(alloc: Global, value: &T) -> Result<Vec<u8>, Error>
         (write T.shape (T.written value.now)
         (record { written = []; room = None; failed = false })) }
 {
-    let len = value.encoded_len()?;
-    let mut out = Vec::with_capacity(alloc, len.value as usize)?;
+    let octets = Vec::new(alloc);
+    let mut out = VecWriter { octets };
     value.encode(&mut out)?;
-    Ok(out)
+    Ok(out.octets)
 }
 
 /// Writes a value to the front of a slice.
@@ -60,7 +101,8 @@ fn append<T: Encode>(value: &T, out: &mut Vec<u8>) -> Result<Length, Error>
 
 /// A type whose values are written as octets: in a vector, in a slice, or after other octets.
 pub trait ToDer: Encode {
-    /// The octets that spell the value. Memory is asked for once, for so many octets.
+    /// The octets that spell the value. Memory is asked for once, for so many octets, where the tag
+    /// has one octet.
     ///
     /// As in `crates/build_certificates/src/main.rt`:
     ///

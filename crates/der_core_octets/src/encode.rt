@@ -79,20 +79,31 @@ pub fn encode_length<W: Writer>(writer: &mut W, len: Length) -> Result<(), Error
     writer.write(&[132, d3, d2, d1, last])
 }
 
-/// Writes a header of two octets: that of a tag whose number is below 31, with a length below 128.
+/// Writes a header at once, whose tag has one octet: its number is below 31.
 ///
 /// # Errors
 /// Those of the writer.
 #[inline(always)]
 #[tactic(auto, using(der_core_head::proofs::TagLaws::tag_forms, der_core_head::proofs::HeadLaws::length_forms))]
 fn encode_short_header<W: Writer>(writer: &mut W, tag: Tag, len: Length) -> Result<(), Error>
-    requires tag { number_of tag < 31 }
-    requires length { len.value < 128 }
+    requires { number_of tag < 31 }
     ensures exact { Writes W.takes_memory (W.out writer.old) (W.out writer.new) result
         (put (tag_octets tag ++ length_octets len.value)) }
     ensures kept { Continues (W.out writer.old) (W.out writer.new) }
 {
-    writer.write(&[leading_octet_of(tag), len.value as u8])
+    let first = leading_octet_of(tag);
+    let n = len.value;
+    let d3 = (n / 0x100_0000) as u8;
+    let d2 = (n / 0x1_0000 % 256) as u8;
+    let d1 = (n / 0x100 % 256) as u8;
+    let last = (n % 256) as u8;
+    match n {
+        0..=0x7f => writer.write(&[first, last]),
+        0x80..=0xff => writer.write(&[first, 129, last]),
+        0x100..=0xffff => writer.write(&[first, 130, d1, last]),
+        0x1_0000..=0xff_ffff => writer.write(&[first, 131, d2, d1, last]),
+        _ => writer.write(&[first, 132, d3, d2, d1, last]),
+    }
 }
 
 /// Writes a header.
@@ -108,7 +119,7 @@ pub fn encode_header<W: Writer>(writer: &mut W, tag: Tag, len: Length) -> Result
     ensures kept { Continues (W.out writer.old) (W.out writer.new) }
 {
     let _whole = len.for_tlv(tag)?;
-    if number_of(tag) < 31 && len.value < 0x80 {
+    if number_of(tag) < 31 {
         return encode_short_header(writer, tag, len);
     }
     encode_tag(writer, tag)?;
