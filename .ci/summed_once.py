@@ -1,8 +1,9 @@
-"""Runs `rt ci` of a kit that looks at the crates below a crate once for each path to them.
+"""Runs `rt ci`, and reckons what is below a crate once.
 
-Kit 13b does so: 600,000 sums of sources and 86 million steps here, more than an hour of Python. Each
-crate's sum, and the list of those below it, are reckoned once instead. `rt ci` proves everything
-from nothing, and rests nothing on either: what is proved, run and told is the same.
+The kit goes down each path from a crate each time that it asks: 726,000 steps here to look below
+all crates once. Kit 13f does so from before the first check to the last, 28 seconds of Python until
+that begins; kit 13b sums the sources so, too, for more than an hour. `rt ci` proves everything from
+nothing, and rests nothing on either: what is proved, run and told is the same.
 """
 
 import importlib.machinery
@@ -37,5 +38,7 @@ sys.dont_write_bytecode = True
 rt = program()
 # `rt` has a copy of its library for itself.
 crates = rt.rtlib.Crate
-crates.stamp, crates.below = once(crates.stamp), once(crates.below)
+crates.below = once(crates.below)
+if not hasattr(rt, "stamp_once"):
+    crates.stamp = once(crates.stamp)
 sys.exit(rt.main(["ci"]))

@@ -1,5 +1,5 @@
 #!/usr/bin/env python3
-"""Runs `rt ci` and tells what it spent: see gate.sh.
+"""Runs `rt ci`, as `.ci/run` does, and tells what it spent: see gate.sh.
 
 The total is what the system counts for the gate and all that it started. The table is from samples
 of the running checks, two seconds apart, each told by its words: a proof, the proof of a crate's
@@ -78,9 +78,8 @@ def checks(found, gate):
 def run(log):
     """Runs the gate; its status, the minutes that it took, and the seconds of each check."""
     seen, began = {}, time.time()
-    gate = subprocess.Popen(
-        ["rt", "ci"], stdin=subprocess.DEVNULL, stdout=log, stderr=subprocess.STDOUT
-    )
+    how = {"stdin": subprocess.DEVNULL, "stdout": log, "stderr": subprocess.STDOUT}
+    gate = subprocess.Popen([sys.executable, "-B", "-u", ".ci/summed_once.py"], **how)
     while gate.poll() is None:
         for key, crate, kind, seconds in checks(processes(), str(gate.pid)):
             seen[key] = (crate, kind, max(seconds, seen.get(key, ("", "", 0))[2]))
