@@ -18,24 +18,13 @@ HERE = pathlib.Path(__file__).resolve().parent
 TOP = HERE.parent
 sys.path.insert(0, str(TOP / "tools"))
 
+import released  # noqa: E402
 import sources  # noqa: E402
 
 TABLE = HERE / "gate.txt"
 HEAD = re.compile(r"(\S+), (\d+) processors: (\d+) passed, 0 failed")
 TOOK = re.compile(r".*?([\d.]+) processor minutes")
 WORDS = {1: "one processor", 2: "two processors", 4: "four processors"}
-
-
-def table_of(lines):
-    """Minutes of each crate: of its proof, and of its proof as a program."""
-    known, found = sources.dependencies(), {}
-    for line in lines:
-        name = line[:24].strip()
-        if name in known:
-            cells = [line[24 + 10 * at : 34 + 10 * at].strip() for at in range(4)]
-            minutes = [float(cell or 0) for cell in cells]
-            found[name] = (minutes[0], minutes[3])
-    return found
 
 
 def longest(minutes):
@@ -52,11 +41,12 @@ def longest(minutes):
 
 def figures():
     """Each document, a pattern with the figures in groups, and what stands there by the table."""
-    lines = TABLE.read_text().splitlines()
+    text = TABLE.read_text()
+    lines = text.splitlines()
     version, kit = re.match(r"(\S+), kit (\S+)$", lines[0]).groups()
     day, processors, passed = HEAD.match(lines[1]).groups()
     spent = f"{float(TOOK.match(lines[2])[1]):.0f}"
-    minutes = table_of(lines)
+    minutes = {name: (row[0], row[3]) for name, row in released.rows_of_gate(text)}
 
     def first(name):
         proofs = (minutes.get(crate, (0, 0))[0] for crate in sources.closure([name]))

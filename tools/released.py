@@ -336,12 +336,20 @@ class Clock:
 def minutes_of_gate(kinds):
     """The minutes of each crate that bench/gate.txt has, those of these kinds together."""
     table, found = sources.TOP / "bench/gate.txt", {}
-    for row in table.read_text().splitlines() if table.exists() else []:
-        cells = [row[24 + 10 * at : 34 + 10 * at].strip() for at in range(len(COLUMNS))]
-        if all(re.fullmatch(r"(\d+\.\d)?", cell) for cell in cells):
-            minutes = (float(cell or 0) for cell, of in zip(cells, COLUMNS) if of in kinds)
-            found[row[:24].strip()] = sum(minutes)
+    for name, minutes in rows_of_gate(table.read_text()) if table.exists() else []:
+        found[name] = sum(spent for spent, of in zip(minutes, COLUMNS) if of in kinds)
     return found
+
+
+def rows_of_gate(table):
+    """Each crate of a table of bench/gate.sh, and its minutes by COLUMNS."""
+    known = sources.dependencies()
+    for row in table.splitlines():
+        name = row.partition(" ")[0]
+        if name in known:
+            begin = max(24, len(name))
+            cells = (row[begin + 10 * at :][:10].strip() for at in range(len(COLUMNS)))
+            yield name, [float(cell or 0) for cell in cells]
 
 
 def length_of(name):
