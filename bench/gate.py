@@ -79,7 +79,7 @@ def run(log):
     """Runs the gate; its status, the minutes that it took, and the seconds of each check."""
     seen, began = {}, time.time()
     how = {"stdin": subprocess.DEVNULL, "stdout": log, "stderr": subprocess.STDOUT}
-    gate = subprocess.Popen([sys.executable, "-B", "-u", ".ci/summed_once.py"], **how)
+    gate = subprocess.Popen([sys.executable, "-B", "-u", ".ci/gate.py"], **how)
     while gate.poll() is None:
         for key, crate, kind, seconds in checks(processes(), str(gate.pid)):
             seen[key] = (crate, kind, max(seconds, seen.get(key, ("", "", 0))[2]))

@@ -364,9 +364,10 @@ def gate(folder, crates, *words, kinds=COLUMNS):
     log = tempfile.mkstemp(prefix="gate-", suffix=".log")[1]
     print(f"the log of the gate is {log}")
     clock, last = Clock(crates, kinds), ""
+    command = [sys.executable, "-B", "-u", str(sources.TOP / ".ci/gate.py"), *words]
     how = {"stdin": subprocess.DEVNULL, "stdout": subprocess.PIPE, "stderr": subprocess.STDOUT}
     how |= {"cwd": folder, "text": True}
-    with open(log, "w") as opened, subprocess.Popen(["rt", "ci", *words], **how) as ran:
+    with open(log, "w") as opened, subprocess.Popen(command, **how) as ran:
         for line in ran.stdout:
             print(line, end="", file=opened, flush=True)
             last = line.strip() or last
