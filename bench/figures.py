@@ -6,7 +6,7 @@
     bench/figures.py TABLE KIT VERSION   takes what bench/gate.sh printed as gate.txt, and writes
 
 A crate's first proof is that of all libraries that it stands on; the longest chain is that of
-proofs, and of a program at its end.
+proofs, and of a program at its end. By layers DESIGN has proofs of libraries, and all else.
 """
 
 import functools
@@ -24,6 +24,7 @@ import sources  # noqa: E402
 TABLE = HERE / "gate.txt"
 HEAD = re.compile(r"(\S+), (\d+) processors: (\d+) passed, 0 failed")
 TOOK = re.compile(r".*?([\d.]+) processor minutes")
+LAYERS = (r"const_oid|der_core", r"der_types", r"x509_cert", r"cert_")
 WORDS = {1: "one processor", 2: "two processors", 4: "four processors"}
 
 
@@ -45,7 +46,8 @@ def figures():
     lines = text.splitlines()
     version, kit = re.match(r"(\S+), kit (\S+)$", lines[0]).groups()
     day, processors, passed = HEAD.match(lines[1]).groups()
-    spent = f"{float(TOOK.match(lines[2])[1]):.0f}"
+    total = float(TOOK.match(lines[2])[1])
+    spent = f"{total:.0f}"
     minutes = {name: (row[0], row[3]) for name, row in released.rows_of_gate(text)}
 
     def first(name):
@@ -64,6 +66,11 @@ def figures():
         version, day, kit, WORDS.get(int(processors), f"{processors} processors"), passed, spent,
         f"{longest(minutes):.0f}",
     ]
+    proofs = [
+        sum(row[0] for name, row in minutes.items() if re.match(layer, name)) for layer in LAYERS
+    ]
+    layers = [f"{each:.0f}" for each in (*proofs, total - sum(proofs))]
+    yield "docs/DESIGN.md", r"(?m)^\|" + r"\| ".join([r"(\d+)"] * 5) + r"\|$", layers
 
 
 def main(words):
