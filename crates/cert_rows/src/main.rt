@@ -58,17 +58,17 @@ mod errors;
 mod files;
 mod issues;
 mod judges;
+mod lines;
 mod listings;
 mod odd_signer;
 mod plain_split;
-mod questions;
 mod readings;
 mod refusal;
 mod schedules;
 mod splits;
 mod words;
 
-use questions::answer;
+use lines::answer;
 use std::io;
 use std::io::{BufWriter, Write};
 

@@ -2,7 +2,7 @@
 
 use crate::refusals::Refusal;
 use crate::shown::front_of;
-use crate::{contents, fields, headers, identifiers, kinds, made, readers, times, writers};
+use crate::{contents, fields, headers, kinds, made, object_identifiers, readers, times, writers};
 use std::alloc::Global;
 use std::io;
 use std::io::Write;
@@ -67,7 +67,7 @@ fn answer_of_words(alloc: Global, line: &str) -> Result<String, Refusal> {
         _ if word.starts_with("any-") || word.starts_with("set-") => {
             kinds::answer(alloc, word, rest)
         }
-        _ if word.starts_with("oid") => identifiers::answer(alloc, word, rest),
+        _ if word.starts_with("oid") => object_identifiers::answer(alloc, word, rest),
         _ => headers::answer(alloc, word, rest),
     }
 }

@@ -1,4 +1,4 @@
-//! Questions and their answers.
+//! A line that asks, and its answer.
 
 use crate::refusal::Refusal;
 use crate::{
