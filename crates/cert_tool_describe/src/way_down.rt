@@ -3,6 +3,7 @@
 use crate::inner_parts::{Fields, Taken};
 use crate::parts::Part;
 use der_core::{Error, ErrorKind, Tag, header_of};
+use der_core_head::MAX_LEVELS;
 use std::alloc::{AllocError, Global};
 
 /// A value among others that stand one after the other.
@@ -133,7 +134,7 @@ fn last_from(octets: &[u8], start: usize, fields: Fields) -> (Option<Step>, Fiel
 // Whether a part is wanting at the end of a value, or of the last of its parts, and so on.
 fn is_short(octets: &[u8], value: Step) -> bool {
     let mut around = value;
-    for _ in 0..64 {
+    for _ in 0..MAX_LEVELS {
         let Some((fields, inner)) = around.inside(octets) else {
             return false;
         };
@@ -225,7 +226,7 @@ impl Way {
         let mut fields = Fields::new(root, false);
         let mut start = 0;
         let mut inner = octets;
-        for _ in 0..64 {
+        for _ in 0..MAX_LEVELS {
             match find(inner, start, fields, sought) {
                 Found::In(step) => {
                     self.steps.push(step)?;
