@@ -142,28 +142,17 @@ in_four a b c d o =
     λ x. sym (put-append b (c ++ d) x) ∙ before_same (put b x) (put (c ++ d)) (λ y. put c y >>= put d) (λ y. sym (put-append c d y)) in
     sym (put-append a (b ++ (c ++ d)) o) ∙ before_same (put a o) (put (b ++ (c ++ d))) (λ x. put b x >>= λ y. put c y >>= put d) last
 
-plain_written : (arcs : List ℕ) (tag : Tag) (value : List ℕ) → IsIdentifier Bound arcs → length (identifier_octets arcs) ≤ 39 → number_of tag < 31 → IsOctets value
-    → length (identifier_octets arcs) + length value + 4 < 128 → (o : Out)
-    → write (type_and_value Bound) (pair arcs (record { tag = tag; contents = value })) o
-    ≡ (put (0x30 ∷ (length (identifier_octets arcs) + length value + 4) ∷ 0x06 ∷ length (identifier_octets arcs) ∷ []) o
-    >>= λ x. put (identifier_octets arcs) x >>= λ y. put (leading_octet tag ∷ length value ∷ []) y >>= put value)
-plain_written arcs tag value is most low are short o =
-    let i = identifier_octets arcs in
-    let s = plain arcs tag value is most low are short in
-    put_written (type_and_value Bound) (pair arcs (record { tag = tag; contents = value })) o s.valid ∙ ap (λ (u : List ℕ). put_some u o) (sym s.octets)
-    ∙ in_four (0x30 ∷ (length i + length value + 4) ∷ 0x06 ∷ length i ∷ []) i (leading_octet tag ∷ length value ∷ []) value o
-
 pub pieces_written : (arcs : List ℕ) (tag : Tag) (contents identifier value : List ℕ) (leading : ℕ) → identifier ≡ identifier_octets arcs → value ≡ contents → leading ≡ leading_octet tag
     → IsIdentifier Bound arcs → length (identifier_octets arcs) ≤ 39 → number_of tag < 31 → IsOctets value → length identifier + length value + 4 < 128 → (o : Out)
     → write (type_and_value Bound) (pair arcs (record { tag = tag; contents = contents })) o
     ≡ (put (0x30 ∷ (length identifier + length value + 4) ∷ 0x06 ∷ length identifier ∷ []) o >>= λ x. put identifier x >>= λ y. put (leading ∷ length value ∷ []) y >>= put value)
 pieces_written arcs tag contents identifier value leading e f l is most low are short o =
-    rw (e, f, l) (plain_written arcs tag contents is most low (subst IsOctets f are) (omega (arith, short, ap length e, ap length f)) o)
+    let i = identifier_octets arcs in
+    let s = plain arcs tag contents is most low (subst IsOctets f are) (omega (arith, short, ap length e, ap length f)) in
+    rw (e, f, l) (put_written (type_and_value Bound) (pair arcs (record { tag = tag; contents = contents })) o s.valid ∙ ap (λ (u : List ℕ). put_some u o) (sym s.octets)
+    ∙ in_four (0x30 ∷ (length i + length contents + 4) ∷ 0x06 ∷ length i ∷ []) i (leading_octet tag ∷ length contents ∷ []) contents o)
 
--- a call behind others does what is left
-pub writes_behind : (m : Bool) (old mid new : Out) (r : Result (Unit {0}) Error) (f g : Out → Result Out ErrorKind) → f old ≡ g mid → Writes m mid new r g → Writes m old new r f
-writes_behind m old mid new (Ok u) f g e h = e ∙ h
-writes_behind m old mid new (Err x) f g e h = λ free. e ∙ h free
-
-pub refused_behind : (m : Bool) (old mid new : Out) (x : Error) (f g k : Out → Result Out ErrorKind) → f old ≡ (g mid >>= k) → Writes m mid new (Err x) g → Writes m old new (Err x) f
-refused_behind m old mid new x f g k e h = λ free. e ∙ ap (λ r. r >>= k) (h free)
+-- a call that does one thing does the other
+pub writes_alike : (m : Bool) (old new : Out) (r : Result (Unit {0}) Error) (f g : Out → Result Out ErrorKind) → f old ≡ g old → Writes m old new r g → Writes m old new r f
+writes_alike m old new (Ok u) f g e h = e ∙ h
+writes_alike m old new (Err x) f g e h = λ free. e ∙ h free

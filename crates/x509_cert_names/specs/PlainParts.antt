@@ -1,8 +1,10 @@
 -- An attribute whose headers have two octets each.
-use Rattle.std.specs.Prelude.{◌≡◌, ℕ, ◌+◌, ◌<◌, List, [], ◌∷◌, ◌++◌, length}
-use Rattle.der_core_head.specs.Octets.{IsOctets}
+use Rattle.std.specs.Prelude.{◌≡◌, ℕ, ◌+◌, ◌<◌, List, [], ◌∷◌, ◌++◌, length, Result}
+use Rattle.der_core_head.specs.declared.error.ErrorKind.{ErrorKind}
+use Rattle.der_core_head.specs.Octets.{◌>>=◌, IsOctets}
 use Rattle.der_core_head.specs.Tags.{IsTag, tag_octets}
 use Rattle.der_core_head.specs.declared.tag.Tag.{Tag}
+use Rattle.der_core_head.specs.Writing.{Out, put}
 
 -- `octets` are a SEQUENCE (0x30) of an OBJECT IDENTIFIER (0x06), of which these are the octets,
 -- and of a value with this tag and this content, and each length takes one octet
@@ -14,3 +16,7 @@ pub record IsPlain (identifier : List ℕ) (tag : Tag) (value octets : List ℕ)
   pub tagged : tag_octets tag ≡ leading ∷ []
   pub known : IsTag tag
   pub are : IsOctets value
+
+-- octets, one after the other
+abbrev pub put_in_turn : List ℕ → List ℕ → List ℕ → List ℕ → Out → Result Out ErrorKind
+put_in_turn a b c d o = put a o >>= λ o. put b o >>= λ o. put c o >>= put d

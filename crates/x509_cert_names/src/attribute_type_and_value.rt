@@ -14,7 +14,7 @@ ghost use Rattle.x509_cert_names.specs.NameTexts.{ReadsAttribute, ReadsEncoding}
 ghost use Rattle.x509_cert_names.specs.ValueTexts.{attribute_read, encoding_of};
 ghost use Rattle.x509_cert_names.specs.Names.{type_and_value, type_and_value_fields};
 ghost use Rattle.x509_cert_names.specs.Pairs.{pair_plain};
-ghost use Rattle.x509_cert_names.specs.PlainParts.{IsPlain};
+ghost use Rattle.x509_cert_names.specs.PlainParts.{IsPlain, put_in_turn};
 
 use crate::value_texts::{text_of, value_of, write_encoding};
 use const_oid::ObjectIdentifier;
@@ -147,25 +147,13 @@ impl AttributeTypeAndValue {
         ensures { GivesNow (λ l. l.value) result
             (size (type_and_value Bound) (pair_plain self.now)) }
     {
-        match self.plain_count() {
-            Some(count) => Ok(count),
-            None => self.encoded_len(),
-        }
-    }
-
-    /// The number of octets, where each of the four headers has two.
-    #[inline(always)]
-    fn plain_count(&self) -> Option<Length>
-        ensures { IfSome result
-            (λ l. size (type_and_value Bound) (pair_plain self.now) ≡ Ok l.value) }
-    {
         let value = self.value.value();
         octets_in_range(value);
         let inside = self.oid.as_bytes().len() + value.len() + 4;
         if inside >= 128 || number_of(self.value.tag()) >= 31 {
-            return None;
+            return self.encoded_len();
         }
-        Some(Length::new(inside as u32 + 2))
+        Ok(Length::new(inside as u32 + 2))
     }
 
     /// Writes the octets. Where each of the four headers has two they are put together by two.
@@ -184,12 +172,33 @@ impl AttributeTypeAndValue {
         if inside >= 128 || number_of(self.value.tag()) >= 31 {
             return self.encode(writer);
         }
-        let tag = leading_octet_of(self.value.tag());
-        writer.write(&[0x30, inside as u8, 0x06, identifier.len() as u8])?;
-        writer.write(identifier)?;
-        writer.write(&[tag, value.len() as u8])?;
-        writer.write(value)
+        let outer = [0x30, inside as u8, 0x06, identifier.len() as u8];
+        let inner = [leading_octet_of(self.value.tag()), value.len() as u8];
+        write_four(writer, &outer, identifier, &inner, value)
     }
+}
+
+/// Writes four slices in turn.
+///
+/// # Errors
+/// Those of the writer.
+// Inlined, so that a known number of octets is copied without a call.
+#[inline(always)]
+fn write_four<W: Writer>(
+    writer: &mut W,
+    first: &[u8],
+    second: &[u8],
+    third: &[u8],
+    fourth: &[u8],
+) -> Result<(), Error>
+    ensures exact { Writes W.takes_memory (W.out writer.old) (W.out writer.new) result
+        (put_in_turn first.now second.now third.now fourth.now) }
+    ensures kept { Continues (W.out writer.old) (W.out writer.new) }
+{
+    writer.write(first)?;
+    writer.write(second)?;
+    writer.write(third)?;
+    writer.write(fourth)
 }
 
 /// What `from_str` reads.
