@@ -105,19 +105,14 @@ found a b c d third count identifier value rest tag one two small inside counted
 
 behind_read : (identifier behind value rest : List ℕ) (d : ℕ) → identifier ++ behind ≡ rest → 2 ≤ length behind → value ≡ take (length behind - 2) (drop 2 behind)
     → rest ≡ identifier ++ (get_or behind 0 0 ∷ get_or behind 1 0 ∷ value)
-behind_read identifier [] value rest d e two v = absurd (omega arith)
-behind_read identifier (t ∷ []) value rest d e two v = absurd (omega arith)
 behind_read identifier (t ∷ n ∷ u) value rest d e two v = sym e ∙ ap (λ s. identifier ++ (t ∷ n ∷ s)) (sym (v ∙ take_all (length (t ∷ n ∷ u) - 2) u (omega arith)))
+behind_read identifier _ value rest d e two v = absurd (omega arith)
 
 pub parts_plain : (w identifier behind value : List ℕ) (tag : Tag) → IsBytes w → 4 ≤ length w → get_or w 0 0 ≡ 0x30 → get_or w 2 0 ≡ 0x06 → get_or w 1 0 < 128
     → get_or w 1 0 ≡ length (take (length w - 4) (drop 4 w)) + 2 → get_or w 3 0 ≤ length (take (length w - 4) (drop 4 w))
     → identifier ≡ take (get_or w 3 0) (take (length w - 4) (drop 4 w)) → behind ≡ drop (get_or w 3 0) (take (length w - 4) (drop 4 w))
     → 2 ≤ length behind → value ≡ take (length behind - 2) (drop 2 behind) → get_or behind 1 0 ≡ length value → IsOctets value
     → ((u : List ℕ) → tag_at (get_or behind 0 0 ∷ u) ≡ Ok (tag, u)) → IsPlain identifier tag value w
-parts_plain [] identifier behind value tag bytes four one two small inside most front back some v valued are read = absurd (omega arith)
-parts_plain (a ∷ []) identifier behind value tag bytes four one two small inside most front back some v valued are read = absurd (omega arith)
-parts_plain (a ∷ b ∷ []) identifier behind value tag bytes four one two small inside most front back some v valued are read = absurd (omega arith)
-parts_plain (a ∷ b ∷ c ∷ []) identifier behind value tag bytes four one two small inside most front back some v valued are read = absurd (omega arith)
 parts_plain (a ∷ b ∷ c ∷ d ∷ r) identifier behind value tag bytes four one two small inside most front back some v valued are read =
     let k = length (a ∷ b ∷ c ∷ d ∷ r) - 4 in
     let all : take k r ≡ r = take_all k r (omega arith) in
@@ -129,6 +124,7 @@ parts_plain (a ∷ b ∷ c ∷ d ∷ r) identifier behind value tag bytes four o
     let bytes_behind : IsBytes behind = subst IsBytes (sym back_of) (bytes_drop d r (bytes_drop 4 (a ∷ b ∷ c ∷ d ∷ r) bytes)) in
     found a b c d (get_or behind 0 0) (get_or behind 1 0) identifier value r tag one two small (omega (arith, inside, ap length all)) counted (behind_read identifier behind value r d joined some v) valued
     (bytes_behind 0) read are
+parts_plain _ identifier behind value tag bytes four one two small inside most front back some v valued are read = absurd (omega arith)
 
 -- What is written of it, in four pieces
 

@@ -261,14 +261,6 @@ impl Clone for AttributeTypeAndValue {
     }
 }
 
-/// What stands behind the headers of an attribute.
-#[derive(Drop)]
-struct Parts<'a> {
-    identifier: &'a [u8],
-    tag: Tag,
-    value: &'a [u8],
-}
-
 /// The attribute that octets spell, where each of its four headers has two octets. That none is
 /// answered says nothing of the octets: headers may be longer, or memory may be short.
 // Inlined, so that the attribute is made where it is kept.
@@ -277,10 +269,11 @@ pub(crate) fn plain_attribute(alloc: Global, octets: &[u8]) -> Option<AttributeT
     ensures { IfSome result (λ a. Spells (type_and_value Bound) (pair_plain a) octets.now) }
 {
     let parts = plain_parts(octets)?;
-    let Ok(oid) = ObjectIdentifier::from_bytes_sized(parts.identifier) else {
+    let (identifier, tag, value) = parts;
+    let Ok(oid) = ObjectIdentifier::from_bytes_sized(identifier) else {
         return None;
     };
-    let Ok(lent) = AnyRef::new(parts.tag, parts.value) else {
+    let Ok(lent) = AnyRef::new(tag, value) else {
         return None;
     };
     match lent.ref_to_owned(alloc) {
@@ -289,11 +282,12 @@ pub(crate) fn plain_attribute(alloc: Global, octets: &[u8]) -> Option<AttributeT
     }
 }
 
-/// The parts of an attribute, where each of its headers has two octets.
+/// The identifier of an attribute, and the tag and content of its value, where each of its headers
+/// has two octets.
 // Inlined, so that nothing is handed on.
 #[inline(always)]
-fn plain_parts(octets: &[u8]) -> Option<Parts<'_>>
-    ensures { IfSome result (λ p. IsPlain p.identifier.now p.tag p.value.now octets.now) }
+fn plain_parts(octets: &[u8]) -> Option<(&[u8], Tag, &[u8])>
+    ensures { IfSome result (λ p. IsPlain p.0.now p.1 p.2.now octets.now) }
 {
     let [first, inner, second, len, rest @ ..] = octets else {
         return None;
@@ -314,9 +308,5 @@ fn plain_parts(octets: &[u8]) -> Option<Parts<'_>>
     }
     octets_in_range(value);
     let tag = short_tag_of(*third)?;
-    Some(Parts {
-        identifier,
-        tag,
-        value,
-    })
+    Some((identifier, tag, value))
 }

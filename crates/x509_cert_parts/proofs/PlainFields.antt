@@ -42,8 +42,6 @@ octets_tag = refl
 pub identifier_first : (w identifier behind : List ℕ) → 2 ≤ length w → get_or w 0 0 ≡ 0x06 → get_or w 1 0 ≤ length (take (length w - 2) (drop 2 w))
     → identifier ≡ take (get_or w 1 0) (take (length w - 2) (drop 2 w)) → behind ≡ drop (get_or w 1 0) (take (length w - 2) (drop 2 w))
     → w ≡ 0x06 ∷ length identifier ∷ (identifier ++ behind)
-identifier_first [] identifier behind two one most front back = absurd (omega arith)
-identifier_first (a ∷ []) identifier behind two one most front back = absurd (omega arith)
 identifier_first (a ∷ d ∷ r) identifier behind two one most front back =
     let k = length (a ∷ d ∷ r) - 2 in
     let all : take k r ≡ r = take_all k r (omega arith) in
@@ -53,6 +51,7 @@ identifier_first (a ∷ d ∷ r) identifier behind two one most front back =
     let within : d ≤ length r = omega (arith, most, ap length all) in
     let counted : d ≡ length identifier = sym (ap length front_of ∙ length-take-le d r within) in
     ap (λ n. n ∷ d ∷ r) one ∙ ap (λ n. 0x06 ∷ n ∷ r) counted ∙ ap (λ t. 0x06 ∷ length identifier ∷ t) (sym joined)
+identifier_first _ identifier behind two one most front back = absurd (omega arith)
 
 identifier_field : (arcs identifier : List ℕ) → IsIdentifier Bound arcs → length identifier ≤ 39 → identifier ≡ identifier_octets arcs
     → IsValid (object_identifier Bound) arcs × (octets_of (object_identifier Bound) arcs ≡ 0x06 ∷ length identifier ∷ identifier)

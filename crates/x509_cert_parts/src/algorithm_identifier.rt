@@ -83,9 +83,8 @@ impl FieldsView for AlgorithmIdentifier {
 /// octets.
 #[inline(always)]
 fn plain_parameters(alloc: Global, octets: &[u8]) -> Option<Option<Any>>
-    ensures valid { IfSome result (λ p. IsValid (optional any) (plain_option (λ v. v) p)) }
-    ensures octets { IfSome result
-        (λ p. octets.now ≡ octets_of (optional any) (plain_option (λ v. v) p)) }
+    ensures { IfSome result (λ p. IsValid (optional any) (plain_option (λ v. v) p)
+        × (octets.now ≡ octets_of (optional any) (plain_option (λ v. v) p))) }
 {
     if octets.is_empty() {
         return Some(None);
@@ -103,9 +102,8 @@ fn plain_parameters(alloc: Global, octets: &[u8]) -> Option<Option<Any>>
 /// its parameters are none or NULL. That none is answered says nothing of the octets.
 #[inline(always)]
 fn plain_fields(alloc: Global, octets: &[u8]) -> Option<AlgorithmIdentifier>
-    ensures valid { IfSome result (λ a. IsBody (algorithm_fields Bound) (algorithm_plain a)) }
-    ensures octets { IfSome result
-        (λ a. body_octets (algorithm_fields Bound) (algorithm_plain a) ≡ octets.now) }
+    ensures { IfSome result (λ a. IsBody (algorithm_fields Bound) (algorithm_plain a)
+        × (body_octets (algorithm_fields Bound) (algorithm_plain a) ≡ octets.now)) }
 {
     let Some((identifier, behind)) = identifier_front(octets) else {
         return None;

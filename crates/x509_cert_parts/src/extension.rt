@@ -67,9 +67,8 @@ impl FieldsView for Extension {
 /// is answered says nothing of the octets: headers may be longer, or memory may be short.
 #[inline(always)]
 fn plain_fields(alloc: Global, octets: &[u8]) -> Option<Extension>
-    ensures valid { IfSome result (λ e. IsBody (extension_fields Bound) (extension_plain e)) }
-    ensures octets { IfSome result
-        (λ e. body_octets (extension_fields Bound) (extension_plain e) ≡ octets.now) }
+    ensures { IfSome result (λ e. IsBody (extension_fields Bound) (extension_plain e)
+        × (body_octets (extension_fields Bound) (extension_plain e) ≡ octets.now)) }
 {
     let Some((identifier, behind)) = identifier_front(octets) else {
         return None;

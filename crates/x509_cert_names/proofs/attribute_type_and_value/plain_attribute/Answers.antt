@@ -11,4 +11,4 @@ returns-in-Ok-ref_to_owned c =
     let parts = c.in_ok-parts.parts in
     let oid = c.in-Ok.ensures.ok in
     let P : AnyValue → Type 0 = λ v. Spells (type_and_value Bound) (pair c.in-Ok.oid v) c.args.octets.now in
-    subst P (sym (c.in-Ok-ref_to_owned.ensures ∙ c.in-Ok-new.ensures.ok.1)) (plain_spells c.in-Ok.oid parts.tag parts.identifier.now parts.value.now c.args.octets.now c.in_ok-parts.ensures oid.0 oid.1 oid.2)
+    subst P (sym (c.in-Ok-ref_to_owned.ensures ∙ c.in-Ok-new.ensures.ok.1)) (plain_spells c.in-Ok.oid parts.1 parts.0.now parts.2.now c.args.octets.now c.in_ok-parts.ensures oid.0 oid.1 oid.2)

@@ -2,14 +2,8 @@ use Rattle.der_core_head.specs.Grammar.{plain_option}
 use Rattle.x509_cert_parts.proofs.PlainFields.{algorithm_body}
 use Rattle.x509_cert_parts.proofs.algorithm_identifier.plain_fields.Goals as goal
 
-pub returns-clause-valid : goal.returns-clause-valid
-returns-clause-valid c =
+pub returns : goal.returns
+returns c =
     let ok = c.in-Ok.ensures.ok in
     let found = c.in-Some-plain_parameters in
-    (algorithm_body c.in-Ok.oid c.in-Some.identifier.now c.in-Some.behind.now c.args.octets.now (plain_option (λ v. v) found.parameters) ok.0 ok.1 ok.2 c.in-Some.ensures found.ensures.valid found.ensures.octets).0
-
-pub returns-clause-octets : goal.returns-clause-octets
-returns-clause-octets c =
-    let ok = c.in-Ok.ensures.ok in
-    let found = c.in-Some-plain_parameters in
-    (algorithm_body c.in-Ok.oid c.in-Some.identifier.now c.in-Some.behind.now c.args.octets.now (plain_option (λ v. v) found.parameters) ok.0 ok.1 ok.2 c.in-Some.ensures found.ensures.valid found.ensures.octets).1
+    algorithm_body c.in-Ok.oid c.in-Some.identifier.now c.in-Some.behind.now c.args.octets.now (plain_option (λ v. v) found.parameters) ok.0 ok.1 ok.2 c.in-Some.ensures found.ensures.0 found.ensures.1

@@ -4,20 +4,12 @@ use Rattle.std.proofs.lemmas.List.{nil_from_length}
 use Rattle.x509_cert_parts.proofs.PlainFields.{no_parameters, null_parameters}
 use Rattle.x509_cert_parts.proofs.algorithm_identifier.plain_parameters.Goals as goal
 
-pub returns-then-is_empty-clause-valid : goal.returns-then-is_empty-clause-valid
-returns-then-is_empty-clause-valid c = no_parameters.0
-
-pub returns-then-is_empty-clause-octets : goal.returns-then-is_empty-clause-octets
-returns-then-is_empty-clause-octets c =
+pub returns-then-is_empty : goal.returns-then-is_empty
+returns-then-is_empty c =
     let none : length c.args.octets.now ≡ 0 = grind (arith, nat_tests, c.is_empty.ensures, c.if-is_empty.true) in
-    nil_from_length c.args.octets.now none ∙ no_parameters.1
+    (no_parameters.0, nil_from_length c.args.octets.now none ∙ no_parameters.1)
 
-pub returns-clause-valid : goal.returns-clause-valid
-returns-clause-valid c =
+pub returns : goal.returns
+returns c =
     let two : length c.args.octets.now ≡ 2 = omega (arith, c.in-len2.len_at_least, c.in-len2.len_below) in
-    rw c.null.ensures (null_parameters c.args.octets.now two c.if-first-ne5.false c.if-second-ne0.false).0
-
-pub returns-clause-octets : goal.returns-clause-octets
-returns-clause-octets c =
-    let two : length c.args.octets.now ≡ 2 = omega (arith, c.in-len2.len_at_least, c.in-len2.len_below) in
-    rw c.null.ensures (null_parameters c.args.octets.now two c.if-first-ne5.false c.if-second-ne0.false).1
+    rw c.null.ensures (null_parameters c.args.octets.now two c.if-first-ne5.false c.if-second-ne0.false)

@@ -11,5 +11,5 @@ returns-in-Some g c =
     let rest = c.remaining-octets.ensures.rest in
     let n = length c.remaining-octets.result.now in
     let is = c.in-Some.ensures in
-    let read = all_read (algorithm_fields Bound) state n (algorithm_plain c.in-Some.algorithm) refl refl (c.reads_der.ensures.der c.if-reads_der.true) (omega (arith, ap length rest)) is.valid (is.octets ∙ rest) in
+    let read = all_read (algorithm_fields Bound) state n (algorithm_plain c.in-Some.algorithm) refl refl (c.reads_der.ensures.der c.if-reads_der.true) (omega (arith, ap length rest)) is.0 (is.1 ∙ rest) in
     rw c.skip.ensures (read, refl, c.reads_der.ensures.ready c.if-reads_der.true, (n, refl))
