@@ -24,27 +24,19 @@ pub fn encode_tag<W: Writer>(writer: &mut W, tag: Tag) -> Result<(), Error>
 {
     let first = leading_octet_of(tag);
     let n = number_of(tag);
-    let last = (n % 128) as u8;
-    if n < 31 {
-        return writer.write(&[first]);
-    }
-    if n < 0x80 {
-        return writer.write(&[first, last]);
-    }
-    let d1 = 128 + (n / 0x80 % 128) as u8;
-    if n < 0x4000 {
-        return writer.write(&[first, d1, last]);
-    }
-    let d2 = 128 + (n / 0x4000 % 128) as u8;
-    if n < 0x20_0000 {
-        return writer.write(&[first, d2, d1, last]);
-    }
-    let d3 = 128 + (n / 0x20_0000 % 128) as u8;
-    if n < 0x1000_0000 {
-        return writer.write(&[first, d3, d2, d1, last]);
-    }
     let d4 = 128 + (n / 0x1000_0000) as u8;
-    writer.write(&[first, d4, d3, d2, d1, last])
+    let d3 = 128 + (n / 0x20_0000 % 128) as u8;
+    let d2 = 128 + (n / 0x4000 % 128) as u8;
+    let d1 = 128 + (n / 0x80 % 128) as u8;
+    let last = (n % 128) as u8;
+    match n {
+        0..=30 => writer.write(&[first]),
+        31..=0x7f => writer.write(&[first, last]),
+        0x80..=0x3fff => writer.write(&[first, d1, last]),
+        0x4000..=0x1f_ffff => writer.write(&[first, d2, d1, last]),
+        0x20_0000..=0xfff_ffff => writer.write(&[first, d3, d2, d1, last]),
+        _ => writer.write(&[first, d4, d3, d2, d1, last]),
+    }
 }
 
 /// Writes the octets of a length (X.690 8.1.3, 10.1).
@@ -60,23 +52,17 @@ pub fn encode_length<W: Writer>(writer: &mut W, len: Length) -> Result<(), Error
     ensures kept { Continues (W.out writer.old) (W.out writer.new) }
 {
     let n = len.value;
-    let last = (n % 256) as u8;
-    if n < 0x80 {
-        return writer.write(&[last]);
-    }
-    if n < 0x100 {
-        return writer.write(&[129, last]);
-    }
-    let d1 = (n / 0x100 % 256) as u8;
-    if n < 0x1_0000 {
-        return writer.write(&[130, d1, last]);
-    }
-    let d2 = (n / 0x1_0000 % 256) as u8;
-    if n < 0x100_0000 {
-        return writer.write(&[131, d2, d1, last]);
-    }
     let d3 = (n / 0x100_0000) as u8;
-    writer.write(&[132, d3, d2, d1, last])
+    let d2 = (n / 0x1_0000 % 256) as u8;
+    let d1 = (n / 0x100 % 256) as u8;
+    let last = (n % 256) as u8;
+    match n {
+        0..=0x7f => writer.write(&[last]),
+        0x80..=0xff => writer.write(&[129, last]),
+        0x100..=0xffff => writer.write(&[130, d1, last]),
+        0x1_0000..=0xff_ffff => writer.write(&[131, d2, d1, last]),
+        _ => writer.write(&[132, d3, d2, d1, last]),
+    }
 }
 
 /// Writes a header at once, whose tag has one octet: its number is below 31.
