@@ -23,26 +23,18 @@ short_tlv : (t : Tag) (b : ℕ) (c : List ℕ) → tag_octets t ≡ b ∷ [] →
 unfolding tlv head_octets length_octets
 short_tlv t b c e l = rw (e, lt-ltb (length c) 128 l) refl
 
-sequence_tag : tag_octets tags.Sequence ≡ 0x30 ∷ []
-unfolding tag_octets
-sequence_tag = refl
-
-identifier_tag : tag_octets tags.ObjectIdentifier ≡ 0x06 ∷ []
-unfolding tag_octets
-identifier_tag = refl
-
 pub plain_spells : (arcs : List ℕ) (tag : Tag) (identifier value w : List ℕ) → IsPlain identifier tag value w → IsIdentifier Bound arcs → length identifier ≤ 39 → identifier ≡ identifier_octets arcs
     → Spells (type_and_value Bound) (pair arcs (record { tag = tag; contents = value })) w
-unfolding octets_of contents body_octets IsValid
+unfolding octets_of contents body_octets IsValid tag_octets
 plain_spells arcs tag identifier value w p is most e =
-    let oid = short_tlv tags.ObjectIdentifier 0x06 (identifier_octets arcs) identifier_tag (omega (arith, ap length e, most)) in
+    let oid = short_tlv tags.ObjectIdentifier 0x06 (identifier_octets arcs) refl (omega (arith, ap length e, most)) in
     let any = short_tlv tag p.leading value p.tagged (omega (arith, p.short)) in
     let inside = tlv tags.ObjectIdentifier (identifier_octets arcs) ++ (tlv tag value ++ []) in
     let parts : inside ≡ 0x06 ∷ length identifier ∷ (identifier ++ (p.leading ∷ length value ∷ value)) =
     ap (λ t. t ++ (tlv tag value ++ [])) oid ∙ ap (λ t. (0x06 ∷ length (identifier_octets arcs) ∷ identifier_octets arcs) ++ t) (append-nil (tlv tag value) ∙ any)
     ∙ ap (λ t. 0x06 ∷ length t ∷ (t ++ (p.leading ∷ length value ∷ value))) (sym e) in
     let long : length inside ≡ length identifier + length value + 4 = ap length parts ∙ omega (arith, length-append identifier (p.leading ∷ length value ∷ value)) in
-    let all = short_tlv tags.Sequence 0x30 inside sequence_tag (omega (arith, long, p.short)) in
+    let all = short_tlv tags.Sequence 0x30 inside refl (omega (arith, long, p.short)) in
     let whole : tlv tags.Sequence inside ≡ w = all ∙ ap (λ n. 0x30 ∷ n ∷ inside) long ∙ ap (λ t. 0x30 ∷ (length identifier + length value + 4) ∷ t) parts ∙ sym p.whole in
     let few : length (tlv tags.Sequence inside) ≡ length identifier + length value + 6 = ap length all ∙ omega (arith, long) in
     record {

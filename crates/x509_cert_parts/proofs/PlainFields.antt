@@ -22,22 +22,6 @@ short_tlv : (t : Tag) (b : ℕ) (c : List ℕ) → tag_octets t ≡ b ∷ [] →
 unfolding tlv head_octets
 short_tlv t b c e l = rw (e, length-short (length c) l) refl
 
-identifier_tag : tag_octets tags.ObjectIdentifier ≡ 0x06 ∷ []
-unfolding tag_octets
-identifier_tag = refl
-
-null_tag : tag_octets tags.Null ≡ 0x05 ∷ []
-unfolding tag_octets
-null_tag = refl
-
-boolean_tag : tag_octets tags.Boolean ≡ 0x01 ∷ []
-unfolding tag_octets
-boolean_tag = refl
-
-octets_tag : tag_octets tags.OctetString ≡ 0x04 ∷ []
-unfolding tag_octets
-octets_tag = refl
-
 -- what the code finds at the front
 pub identifier_first : (w identifier behind : List ℕ) → 2 ≤ length w → get_or w 0 0 ≡ 0x06 → get_or w 1 0 ≤ length (take (length w - 2) (drop 2 w))
     → identifier ≡ take (get_or w 1 0) (take (length w - 2) (drop 2 w)) → behind ≡ drop (get_or w 1 0) (take (length w - 2) (drop 2 w))
@@ -55,11 +39,11 @@ identifier_first _ identifier behind two one most front back = absurd (omega ari
 
 identifier_field : (arcs identifier : List ℕ) → IsIdentifier Bound arcs → length identifier ≤ 39 → identifier ≡ identifier_octets arcs
     → IsValid (object_identifier Bound) arcs × (octets_of (object_identifier Bound) arcs ≡ 0x06 ∷ length identifier ∷ identifier)
-unfolding octets_of contents IsValid IsContent
+unfolding octets_of contents IsValid IsContent tag_octets
 identifier_field arcs identifier is most e =
     let few = ap length e in
     let spelled : tlv tags.ObjectIdentifier (identifier_octets arcs) ≡ 0x06 ∷ length identifier ∷ identifier =
-    short_tlv tags.ObjectIdentifier 0x06 (identifier_octets arcs) identifier_tag (omega (arith, few, most)) ∙ ap (λ t. 0x06 ∷ length t ∷ t) (sym e) in
+    short_tlv tags.ObjectIdentifier 0x06 (identifier_octets arcs) refl (omega (arith, few, most)) ∙ ap (λ t. 0x06 ∷ length t ∷ t) (sym e) in
     (((is, omega (arith, few, most)), omega arith, omega (arith, ap length spelled, most)), spelled)
 
 -- the parameters of an algorithm
@@ -71,9 +55,9 @@ abbrev pub null : AnyValue
 null = record { tag = tags.Null; contents = [] }
 
 pub null_parameters : (w : List ℕ) → length w ≡ 2 → get_or w 0 0 ≡ 0x05 → get_or w 1 0 ≡ 0x00 → IsValid (optional any) (Some null) × (w ≡ octets_of (optional any) (Some null))
-unfolding octets_of IsValid
+unfolding octets_of IsValid tag_octets
 null_parameters (a ∷ b ∷ []) two one other =
-    let spelled : tlv tags.Null [] ≡ 0x05 ∷ 0x00 ∷ [] = short_tlv tags.Null 0x05 [] null_tag (omega arith) in
+    let spelled : tlv tags.Null [] ≡ 0x05 ∷ 0x00 ∷ [] = short_tlv tags.Null 0x05 [] refl (omega arith) in
     ((tt, omega arith, omega (arith, ap length spelled)), ap (λ n. n ∷ b ∷ []) one ∙ ap (λ n. 0x05 ∷ n ∷ []) other ∙ sym spelled)
 null_parameters _ two one other = absurd (omega arith)
 
@@ -88,7 +72,8 @@ algorithm_body arcs identifier behind w p is most e whole valid spelled =
 
 -- a TRUE that is FALSE by default
 boolean_spelled : (b : ℕ) → tlv tags.Boolean (b ∷ []) ≡ 0x01 ∷ 0x01 ∷ b ∷ []
-boolean_spelled b = short_tlv tags.Boolean 0x01 (b ∷ []) boolean_tag (omega arith)
+unfolding tag_octets
+boolean_spelled b = short_tlv tags.Boolean 0x01 (b ∷ []) refl (omega arith)
 
 false_spelled : octets_of false_by_default false ≡ []
 unfolding octets_of contents unless
@@ -114,9 +99,9 @@ boolean_valid false = (tt, omega arith, omega (arith, ap length (boolean_spelled
 boolean_valid true = (tt, omega arith, omega (arith, ap length (boolean_spelled 255)))
 
 octets_field : (value : List ℕ) → IsOctets value → length value < 128 → IsValid octet_string value × (octets_of octet_string value ≡ 0x04 ∷ length value ∷ value)
-unfolding octets_of contents IsValid IsContent
+unfolding octets_of contents IsValid IsContent tag_octets
 octets_field value are few =
-    let spelled : tlv tags.OctetString value ≡ 0x04 ∷ length value ∷ value = short_tlv tags.OctetString 0x04 value octets_tag few in
+    let spelled : tlv tags.OctetString value ≡ 0x04 ∷ length value ∷ value = short_tlv tags.OctetString 0x04 value refl few in
     ((are, omega arith, omega (arith, ap length spelled, few)), spelled)
 
 -- what the code finds behind it
