@@ -32,14 +32,6 @@ pub fn write_hex<W: fmt::Write>(octets: &[u8], f: &mut fmt::Formatter<W>) -> fmt
     Ok(())
 }
 
-/// Writes a backslash and a sign.
-fn write_escaped_sign<W: fmt::Write>(sign: char, f: &mut fmt::Formatter<W>) -> fmt::Result
-    requires { sign < 128 }
-    ensures { WritesOnOk W.write_str_gives f.old result (92 ∷ sign ∷ []) f.new }
-{
-    write!(f, "\\{sign}")
-}
-
 /// Writes a backslash and two small hex digits.
 #[tactic(auto, using(std::proofs::lemmas::Fmt::hex_byte))]
 fn write_escaped_octet<W: fmt::Write>(octet: u8, f: &mut fmt::Formatter<W>) -> fmt::Result
@@ -58,7 +50,7 @@ fn write_escaped_char<W: fmt::Write>(
     ensures { WritesOnOk W.write_str_gives f.old result (escaped_char first last c) f.new }
 {
     if is_escaped_sign(c) || (c == '#' && first) || (c == ' ' && (first || last)) {
-        return write_escaped_sign(c, f);
+        return write!(f, "\\{c}");
     }
     if c < ' ' || c == '\x7f' {
         return write_escaped_octet(c as u8, f);
