@@ -48,19 +48,12 @@ impl Model for BmpString {
     ghost invariant = { IsBmpString };
 }
 
-/// Whether a number is a character, and no half of a surrogate pair.
-fn is_character(unit: u16) -> bool
-    ensures { result ≡ is_unit unit }
-{
-    !matches!(unit, 0xd800..=0xdfff)
-}
-
 /// Whether the characters of pairs of octets are none of them a half of a surrogate pair.
 fn has_no_half(octets: &[u8]) -> bool
     ensures { result ≡ list_all is_unit (units octets.now) }
 {
     for unit in BmpCodepoints::of(octets) {
-        if !is_character(unit) {
+        if matches!(unit, 0xd800..=0xdfff) {
             return false;
         }
     }

@@ -35,12 +35,8 @@ pub(crate) fn two(octets: &[u8]) -> Option<(u8, &[u8])>
     let [first, second, rest @ ..] = octets else {
         return None;
     };
-    let Some(tens) = digit(*first) else {
-        return None;
-    };
-    let Some(ones) = digit(*second) else {
-        return None;
-    };
+    let tens = digit(*first)?;
+    let ones = digit(*second)?;
     Some((10 * tens + ones, rest))
 }
 
@@ -95,27 +91,13 @@ fn behind(octets: &[u8], mark: u8) -> Option<&[u8]>
 pub(crate) fn date_of_text(text: &[u8]) -> Option<DateTime>
     ensures { result ≡ text_at text.now }
 {
-    let Some((century, rest)) = two(text) else {
-        return None;
-    };
-    let Some((year, rest)) = two(rest) else {
-        return None;
-    };
-    let Some(rest) = behind(rest, b'-') else {
-        return None;
-    };
-    let Some((month, rest)) = two(rest) else {
-        return None;
-    };
-    let Some(rest) = behind(rest, b'-') else {
-        return None;
-    };
-    let Some((day, rest)) = two(rest) else {
-        return None;
-    };
-    let Some(rest) = behind(rest, b'T') else {
-        return None;
-    };
+    let (century, rest) = two(text)?;
+    let (year, rest) = two(rest)?;
+    let rest = behind(rest, b'-')?;
+    let (month, rest) = two(rest)?;
+    let rest = behind(rest, b'-')?;
+    let (day, rest) = two(rest)?;
+    let rest = behind(rest, b'T')?;
     let year = 100 * u16::from(century) + u16::from(year);
     time_of_text(year, month, day, rest)
 }

@@ -46,19 +46,13 @@ impl Model for DateTime {
     ghost inverse = { inside_of };
 }
 
-/// Whether a year has a 29th of February.
-fn is_leap_year(year: u16) -> bool
-    ensures { result ≡ is_leap year }
-{
-    year % 4 == 0 && (year % 100 != 0 || year % 400 == 0)
-}
-
 /// How many days a month has, from 1 for January.
 fn month_length(year: u16, month: u8) -> u8
     ensures { result ≡ days_in_month year month }
 {
     match month {
-        2 => { if is_leap_year(year) { 29 } else { 28 } }
+        2 if year % 4 == 0 && (year % 100 != 0 || year % 400 == 0) => 29,
+        2 => 28,
         4 | 6 | 9 | 11 => 30,
         _ => 31,
     }

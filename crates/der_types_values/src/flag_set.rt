@@ -75,14 +75,6 @@ impl<F: NamedBits> Eq for FlagSet<F> {
     ghost laws = { on_equiv (λ x. F.set_of x.flags) nat_eq_equiv };
 }
 
-/// Whether each bit of a number has a name.
-fn are_named(number: u64, names: u32) -> bool
-    requires { names ≤ 64 }
-    ensures { result ≡ nat_lt number (2 ^ names) }
-{
-    names == 64 || number < 1 << names
-}
-
 /// Whether the last bit that counts is one, and of no octets none is unused.
 #[tactic(auto, using(crate::proofs::NamedSteps::ends))]
 fn ends_in_one(unused: u8, octets: &[u8]) -> bool
@@ -127,7 +119,7 @@ fn read_named(tag: Tag, octets: &[u8], names: u32) -> Result<u64, Error>
         return Err(Error::from(ErrorKind::Value { tag }));
     }
     let number = number_of(octets);
-    if !are_named(number, names) {
+    if names < 64 && number >= 1 << names {
         return Err(Error::from(ErrorKind::Value { tag }));
     }
     Ok(number)
