@@ -1,4 +1,4 @@
-//! Any value as a time.
+//! Any value as a time. An owned value is decoded as an `AnyRef` to it is.
 
 ghost use Rattle.der_core_head.specs.declared.tag.Tag.TheVariants as tags;
 ghost use Rattle.der_core_head.specs.Leaves.{utc_time, generalized_time};
@@ -26,7 +26,6 @@ impl<'a> TryFrom<AnyRef<'a>> for UtcTime {
     }
 }
 
-/// An owned value, as an `AnyRef` to it is decoded.
 impl<'a> TryFrom<&'a Any> for UtcTime {
     type Error = Error;
 
@@ -51,7 +50,6 @@ impl<'a> TryFrom<AnyRef<'a>> for GeneralizedTime {
     }
 }
 
-/// An owned value, as an `AnyRef` to it is decoded.
 impl<'a> TryFrom<&'a Any> for GeneralizedTime {
     type Error = Error;
 
@@ -76,7 +74,6 @@ impl<'a> TryFrom<AnyRef<'a>> for DateTime {
     }
 }
 
-/// An owned value, as an `AnyRef` to it is decoded.
 impl<'a> TryFrom<&'a Any> for DateTime {
     type Error = Error;
 

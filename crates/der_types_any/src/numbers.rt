@@ -1,4 +1,5 @@
-//! Any value as a number, and back.
+//! Any value as a number, that of an INTEGER, and back. An owned value is decoded as an `AnyRef` to
+//! it is.
 
 ghost use Rattle.std.specs.Prelude.{◌≡◌, pos};
 ghost use Rattle.der_core_head.specs.declared.tag.Tag.TheVariants as tags;
@@ -24,7 +25,6 @@ fn integer_from<T: Integer>(any: &AnyRef<'_>) -> Result<T, Error>
     Ok(T::from_integer(any.tag(), any.value())?)
 }
 
-/// The number of an INTEGER.
 impl<'a> TryFrom<AnyRef<'a>> for u8 {
     type Error = Error;
 
@@ -35,7 +35,6 @@ impl<'a> TryFrom<AnyRef<'a>> for u8 {
     }
 }
 
-/// An owned value, as an `AnyRef` to it is decoded.
 impl<'a> TryFrom<&'a Any> for u8 {
     type Error = Error;
 
@@ -46,7 +45,6 @@ impl<'a> TryFrom<&'a Any> for u8 {
     }
 }
 
-/// The number of an INTEGER.
 impl<'a> TryFrom<AnyRef<'a>> for u16 {
     type Error = Error;
 
@@ -57,7 +55,6 @@ impl<'a> TryFrom<AnyRef<'a>> for u16 {
     }
 }
 
-/// An owned value, as an `AnyRef` to it is decoded.
 impl<'a> TryFrom<&'a Any> for u16 {
     type Error = Error;
 
@@ -68,7 +65,6 @@ impl<'a> TryFrom<&'a Any> for u16 {
     }
 }
 
-/// The number of an INTEGER.
 impl<'a> TryFrom<AnyRef<'a>> for u32 {
     type Error = Error;
 
@@ -79,7 +75,6 @@ impl<'a> TryFrom<AnyRef<'a>> for u32 {
     }
 }
 
-/// An owned value, as an `AnyRef` to it is decoded.
 impl<'a> TryFrom<&'a Any> for u32 {
     type Error = Error;
 
@@ -90,7 +85,6 @@ impl<'a> TryFrom<&'a Any> for u32 {
     }
 }
 
-/// The number of an INTEGER.
 impl<'a> TryFrom<AnyRef<'a>> for u64 {
     type Error = Error;
 
@@ -101,7 +95,6 @@ impl<'a> TryFrom<AnyRef<'a>> for u64 {
     }
 }
 
-/// An owned value, as an `AnyRef` to it is decoded.
 impl<'a> TryFrom<&'a Any> for u64 {
     type Error = Error;
 
@@ -112,7 +105,6 @@ impl<'a> TryFrom<&'a Any> for u64 {
     }
 }
 
-/// The number of an INTEGER.
 impl<'a> TryFrom<AnyRef<'a>> for u128 {
     type Error = Error;
 
@@ -123,7 +115,6 @@ impl<'a> TryFrom<AnyRef<'a>> for u128 {
     }
 }
 
-/// An owned value, as an `AnyRef` to it is decoded.
 impl<'a> TryFrom<&'a Any> for u128 {
     type Error = Error;
 
@@ -134,7 +125,6 @@ impl<'a> TryFrom<&'a Any> for u128 {
     }
 }
 
-/// The number of an INTEGER.
 impl<'a> TryFrom<AnyRef<'a>> for i8 {
     type Error = Error;
 
@@ -146,7 +136,6 @@ impl<'a> TryFrom<AnyRef<'a>> for i8 {
     }
 }
 
-/// An owned value, as an `AnyRef` to it is decoded.
 impl<'a> TryFrom<&'a Any> for i8 {
     type Error = Error;
 
@@ -158,7 +147,6 @@ impl<'a> TryFrom<&'a Any> for i8 {
     }
 }
 
-/// The number of an INTEGER.
 impl<'a> TryFrom<AnyRef<'a>> for i16 {
     type Error = Error;
 
@@ -170,7 +158,6 @@ impl<'a> TryFrom<AnyRef<'a>> for i16 {
     }
 }
 
-/// An owned value, as an `AnyRef` to it is decoded.
 impl<'a> TryFrom<&'a Any> for i16 {
     type Error = Error;
 
@@ -182,7 +169,6 @@ impl<'a> TryFrom<&'a Any> for i16 {
     }
 }
 
-/// The number of an INTEGER.
 impl<'a> TryFrom<AnyRef<'a>> for i32 {
     type Error = Error;
 
@@ -194,7 +180,6 @@ impl<'a> TryFrom<AnyRef<'a>> for i32 {
     }
 }
 
-/// An owned value, as an `AnyRef` to it is decoded.
 impl<'a> TryFrom<&'a Any> for i32 {
     type Error = Error;
 
@@ -206,7 +191,6 @@ impl<'a> TryFrom<&'a Any> for i32 {
     }
 }
 
-/// The number of an INTEGER.
 impl<'a> TryFrom<AnyRef<'a>> for i64 {
     type Error = Error;
 
@@ -218,7 +202,6 @@ impl<'a> TryFrom<AnyRef<'a>> for i64 {
     }
 }
 
-/// An owned value, as an `AnyRef` to it is decoded.
 impl<'a> TryFrom<&'a Any> for i64 {
     type Error = Error;
 
@@ -230,7 +213,6 @@ impl<'a> TryFrom<&'a Any> for i64 {
     }
 }
 
-/// The number of an INTEGER.
 impl<'a> TryFrom<AnyRef<'a>> for i128 {
     type Error = Error;
 
@@ -242,7 +224,6 @@ impl<'a> TryFrom<AnyRef<'a>> for i128 {
     }
 }
 
-/// An owned value, as an `AnyRef` to it is decoded.
 impl<'a> TryFrom<&'a Any> for i128 {
     type Error = Error;
 
@@ -254,7 +235,6 @@ impl<'a> TryFrom<&'a Any> for i128 {
     }
 }
 
-/// The number of an INTEGER.
 impl<'a> TryFrom<AnyRef<'a>> for IntRef<'a> {
     type Error = Error;
 
@@ -268,7 +248,6 @@ impl<'a> TryFrom<AnyRef<'a>> for IntRef<'a> {
     }
 }
 
-/// An owned value, as an `AnyRef` to it is decoded.
 impl<'a> TryFrom<&'a Any> for IntRef<'a> {
     type Error = Error;
 
@@ -280,7 +259,6 @@ impl<'a> TryFrom<&'a Any> for IntRef<'a> {
     }
 }
 
-/// The number of an INTEGER.
 impl<'a> TryFrom<AnyRef<'a>> for UintRef<'a> {
     type Error = Error;
 
@@ -294,7 +272,6 @@ impl<'a> TryFrom<AnyRef<'a>> for UintRef<'a> {
     }
 }
 
-/// An owned value, as an `AnyRef` to it is decoded.
 impl<'a> TryFrom<&'a Any> for UintRef<'a> {
     type Error = Error;
 

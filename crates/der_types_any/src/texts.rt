@@ -1,4 +1,4 @@
-//! Any value as a text, and back.
+//! Any value as a text, and back. An owned value is decoded as an `AnyRef` to it is.
 
 ghost use Rattle.std.specs.Prelude.{◌≡◌};
 ghost use Rattle.der_core_head.specs.declared.tag.Tag.TheVariants as tags;
@@ -28,7 +28,6 @@ impl<'a, T: AsciiType> TryFrom<AnyRef<'a>> for AsciiStringRef<'a, T> {
     }
 }
 
-/// An owned value, as an `AnyRef` to it is decoded.
 impl<'a, T: AsciiType> TryFrom<&'a Any> for AsciiStringRef<'a, T> {
     type Error = Error;
 
@@ -54,7 +53,6 @@ impl<'a> TryFrom<AnyRef<'a>> for Utf8StringRef<'a> {
     }
 }
 
-/// An owned value, as an `AnyRef` to it is decoded.
 impl<'a> TryFrom<&'a Any> for Utf8StringRef<'a> {
     type Error = Error;
 
@@ -79,7 +77,6 @@ impl<'a> TryFrom<AnyRef<'a>> for &'a str {
     }
 }
 
-/// An owned value, as an `AnyRef` to it is decoded.
 impl<'a> TryFrom<&'a Any> for &'a str {
     type Error = Error;
 
@@ -104,7 +101,6 @@ impl<'a> TryFrom<AnyRef<'a>> for GeneralStringRef<'a> {
     }
 }
 
-/// An owned value, as an `AnyRef` to it is decoded.
 impl<'a> TryFrom<&'a Any> for GeneralStringRef<'a> {
     type Error = Error;
 

@@ -1,5 +1,5 @@
 //! Any value as a truth value, NULL, an identifier, a string of bits or octets or a SEQUENCE, and
-//! back.
+//! back. An owned value is decoded as an `AnyRef` to it is.
 
 ghost use Rattle.std.specs.Prelude.{◌≡◌, []};
 ghost use Rattle.const_oid.specs.Bound.{Bound};
@@ -38,7 +38,6 @@ impl<'a> TryFrom<AnyRef<'a>> for bool {
     }
 }
 
-/// An owned value, as an `AnyRef` to it is decoded.
 impl<'a> TryFrom<&'a Any> for bool {
     type Error = Error;
 
@@ -67,7 +66,6 @@ impl<'a> TryFrom<AnyRef<'a>> for () {
     }
 }
 
-/// An owned value, as an `AnyRef` to it is decoded.
 impl<'a> TryFrom<&'a Any> for () {
     type Error = Error;
 
@@ -90,7 +88,6 @@ impl<'a> TryFrom<AnyRef<'a>> for Null {
     }
 }
 
-/// An owned value, as an `AnyRef` to it is decoded.
 impl<'a> TryFrom<&'a Any> for Null {
     type Error = Error;
 
@@ -124,7 +121,6 @@ impl<'a, const MAX_SIZE: usize> TryFrom<AnyRef<'a>> for ObjectIdentifier<MAX_SIZ
     }
 }
 
-/// An owned value, as an `AnyRef` to it is decoded.
 impl<'a, const MAX_SIZE: usize> TryFrom<&'a Any> for ObjectIdentifier<MAX_SIZE> {
     type Error = Error;
 
@@ -150,7 +146,6 @@ impl<'a> TryFrom<AnyRef<'a>> for BitStringRef<'a> {
     }
 }
 
-/// An owned value, as an `AnyRef` to it is decoded.
 impl<'a> TryFrom<&'a Any> for BitStringRef<'a> {
     type Error = Error;
 
@@ -175,7 +170,6 @@ impl<'a> TryFrom<AnyRef<'a>> for OctetStringRef<'a> {
     }
 }
 
-/// An owned value, as an `AnyRef` to it is decoded.
 impl<'a> TryFrom<&'a Any> for OctetStringRef<'a> {
     type Error = Error;
 
@@ -212,7 +206,6 @@ impl<'a> TryFrom<AnyRef<'a>> for SequenceRef<'a> {
     }
 }
 
-/// An owned value, as an `AnyRef` to it is decoded.
 impl<'a> TryFrom<&'a Any> for SequenceRef<'a> {
     type Error = Error;
 
