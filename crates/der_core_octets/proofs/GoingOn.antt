@@ -259,46 +259,28 @@ module _ {R T F : Type 0} (state : R → State) (g : Once F (MutBor R × Unit {0
 
     -- the octets behind the end were given back
 
-    kept_there : (r : Result T Error) (failed : Bool) → Ran taken inner outer r → new ≡ restored taken failed (state outer) → Kept old new
+    pub kept_there : (r : Result T Error) (failed : Bool) → Ran taken inner outer r → new ≡ restored taken failed (state outer) → Kept old new
     kept_there r failed ran e = is_kept n taken failed old (state outer) new ran.enough ran.room ran.kept e ran.ready
 
-    pub nested_moved : (r : Result T Error) → Ran taken inner outer r → Closes taken (is_err r) (state outer) new (Ok tt) → OnOk r (IsNested n old new)
-    nested_moved (Ok x) ran closes = record {
-      ready = ran.ready;
-      enters = (omega (arith, ran.enough), ran.room);
-      rest = ap (λ (s : State). s.rest) closes.1 ∙ ap (λ (w : List ℕ). w ++ take taken (state outer).behind) (closes.0 refl)
-          ∙ ap (take taken) ran.kept.behind ∙ take_at (drop n old.rest) old.behind taken (at_length n taken old.rest ran.enough);
-      kept = kept_there (Ok x) _ ran closes.1;
-    }
-    nested_moved (Err e) ran closes = tt
-
-    pub nested_kept : (r : Result T Error) → Ran taken inner outer r → Closes taken (is_err r) (state outer) new (Ok tt) → OnErr r (Kept old new)
-    nested_kept (Ok x) ran closes = tt
-    nested_kept (Err e) ran closes = kept_there (Err e) _ ran closes.1
-
-    pub nested_failed : (r : Result T Error) → Closes taken (is_err r) (state outer) new (Ok tt) → OnErr r (new.failed ≡ true)
-    nested_failed (Ok x) closes = tt
-    nested_failed (Err e) closes = ap (λ (s : State). s.failed) closes.1 ∙ or_true (state outer).failed
-
-    pub nested_ran : (r : Result T Error) → Ran taken inner outer r → Closes taken (is_err r) (state outer) new (Ok tt) → IfOk r (Answered state g f n old)
-    nested_ran (Ok x) ran closes = (outer, called (Ok x) ran, closes.0 refl)
-    nested_ran (Err e) ran closes = tt
-
-    pub nested_refused : (r : Result T Error) → Ran taken inner outer r → IfErr r (RefusesNested state g f n old)
-    nested_refused (Ok x) ran = tt
-    nested_refused (Err e) ran = inr (inr (inl (outer, called (Err e) ran)))
+    pub nested_tells : (r : Result T Error) → Ran taken inner outer r → Closes taken (is_err r) (state outer) new (Ok tt)
+        → OnOk r (IsNested n old new) × IfOk r (Answered state g f n old) × OnErr r (Kept old new) × OnErr r (new.failed ≡ true) × IfErr r (RefusesNested state g f n old)
+    nested_tells (Ok x) ran closes =
+        let moved : IsNested n old new = record {
+          ready = ran.ready;
+          enters = (omega (arith, ran.enough), ran.room);
+          rest = ap (λ (s : State). s.rest) closes.1 ∙ ap (λ (w : List ℕ). w ++ take taken (state outer).behind) (closes.0 refl)
+              ∙ ap (take taken) ran.kept.behind ∙ take_at (drop n old.rest) old.behind taken (at_length n taken old.rest ran.enough);
+          kept = kept_there (Ok x) _ ran closes.1;
+        } in
+        (moved, (outer, called (Ok x) ran, closes.0 refl), tt, tt, tt)
+    nested_tells (Err e) ran closes =
+        (tt, tt, kept_there (Err e) _ ran closes.1, ap (λ (s : State). s.failed) closes.1 ∙ or_true (state outer).failed, inr (inr (inl (outer, called (Err e) ran))))
 
     pub nested_reads : (t : Tag) (b : Body) (view : T → BodyValue b) (r : Result T Error) → Ran taken inner outer r → Closes taken (is_err r) (state outer) new (Ok tt)
         → ClosureReads state g f b view → Reads view old new r (value_at (read_content_at old (nested b) t) n)
     nested_reads t b view r ran closes calls = gives t b view n taken old (state outer) new r ran.enough ran.room ran.ready (reads_there b view r ran calls) closes
 
     -- octets were left before the end
-
-    pub left_failed : (r : Result T Error) (e : Error) → Closes taken (is_err r) (state outer) new (Err e) → new.failed ≡ true
-    left_failed r e closes = ap (λ (s : State). s.failed) closes.3
-
-    pub left_kept : (r : Result T Error) (e : Error) → Ran taken inner outer r → Closes taken (is_err r) (state outer) new (Err e) → Kept old new
-    left_kept r e ran closes = kept_there r _ ran closes.3
 
     pub left_refused : (r : Result T Error) (e : Error) → Ran taken inner outer r → Closes taken (is_err r) (state outer) new (Err e) → RefusesNested state g f n old e
     left_refused (Ok x) e ran closes = inr (inr (inr ((outer, x, called (Ok x) ran, closes.1), closes.2)))

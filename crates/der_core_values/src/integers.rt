@@ -210,11 +210,8 @@ impl Integer for i8 {
 
     fn sign_and_bits(&self) -> (bool, u128) {
         let number = *self;
-        if number < 0 {
-            (true, (-1 - number) as u128)
-        } else {
-            (false, number as u128)
-        }
+        let bits = if number < 0 { -1 - number } else { number };
+        (number < 0, bits as u128)
     }
 }
 
@@ -235,11 +232,8 @@ impl Integer for i16 {
 
     fn sign_and_bits(&self) -> (bool, u128) {
         let number = *self;
-        if number < 0 {
-            (true, (-1 - number) as u128)
-        } else {
-            (false, number as u128)
-        }
+        let bits = if number < 0 { -1 - number } else { number };
+        (number < 0, bits as u128)
     }
 }
 
@@ -260,11 +254,8 @@ impl Integer for i32 {
 
     fn sign_and_bits(&self) -> (bool, u128) {
         let number = *self;
-        if number < 0 {
-            (true, (-1 - number) as u128)
-        } else {
-            (false, number as u128)
-        }
+        let bits = if number < 0 { -1 - number } else { number };
+        (number < 0, bits as u128)
     }
 }
 
@@ -285,11 +276,8 @@ impl Integer for i64 {
 
     fn sign_and_bits(&self) -> (bool, u128) {
         let number = *self;
-        if number < 0 {
-            (true, (-1 - number) as u128)
-        } else {
-            (false, number as u128)
-        }
+        let bits = if number < 0 { -1 - number } else { number };
+        (number < 0, bits as u128)
     }
 }
 
@@ -310,10 +298,7 @@ impl Integer for i128 {
 
     fn sign_and_bits(&self) -> (bool, u128) {
         let number = *self;
-        if number < 0 {
-            (true, (-1 - number) as u128)
-        } else {
-            (false, number as u128)
-        }
+        let bits = if number < 0 { -1 - number } else { number };
+        (number < 0, bits as u128)
     }
 }

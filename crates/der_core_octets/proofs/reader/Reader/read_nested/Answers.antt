@@ -1,7 +1,7 @@
 use Rattle.std.proofs.Common.{length, refl, ap, subst, arith, Ok, Err, Bool}
 use Rattle.std.proofs.lemmas.Result.{err_from_is_err_and}
 use Rattle.der_core_head.specs.Reading.{State, Closes}
-use Rattle.der_core_octets.proofs.GoingOn.{refused, behind_long, broken_kept, not_opened, ran_there, nested_moved, nested_kept, nested_failed, nested_ran, nested_refused, nested_reads, left_failed, left_kept, left_refused, left_reads}
+use Rattle.der_core_octets.proofs.GoingOn.{refused, behind_long, broken_kept, not_opened, ran_there, kept_there, nested_tells, nested_reads, left_refused, left_reads}
 use Rattle.der_core_octets.proofs.reader.Reader.read_nested.Goals as goal
 
 -- no end was set
@@ -54,8 +54,8 @@ returns-in_err-end_nested g c =
     rw (p.1, p.2) (record {
       moved = tt;
       ran = tt;
-      kept = left_kept state g.F.FnOnce f n old taken.value inner outer new r e ran closes;
-      failed = left_failed state g.F.FnOnce f n old taken.value inner outer new r e closes;
+      kept = kept_there state g.F.FnOnce f n old taken.value inner outer new r _ ran closes.3;
+      failed = ap (λ (s : State). s.failed) closes.3;
       refused = left_refused state g.F.FnOnce f n old taken.value inner outer new r e ran closes;
       reads = λ t b view calls. left_reads state g.F.FnOnce f n old taken.value inner outer new t b view r e ran closes calls;
     })
@@ -74,11 +74,12 @@ returns g c =
     let ran = ran_there state g.F.FnOnce f n old taken inner outer r c.requires.hands_back c.in_ok-behind.ensures (record { shown = _; shows = refl; left = _; met = c.f-outcome.ensures; leaves = refl }) in
     let Q : Bool → Type 0 = λ b. Closes taken.value b (state outer) new (Ok tt) in
     let closes = subst Q c.is_err.ensures.value c.in_ok-end_nested.ensures in
+    let tells = nested_tells state g.F.FnOnce f n old taken.value inner outer new r ran closes in
     record {
-      moved = nested_moved state g.F.FnOnce f n old taken.value inner outer new r ran closes;
-      ran = nested_ran state g.F.FnOnce f n old taken.value inner outer new r ran closes;
-      kept = nested_kept state g.F.FnOnce f n old taken.value inner outer new r ran closes;
-      failed = nested_failed state g.F.FnOnce f n old taken.value inner outer new r closes;
-      refused = nested_refused state g.F.FnOnce f n old taken.value inner outer new r ran;
+      moved = tells.0;
+      ran = tells.1;
+      kept = tells.2;
+      failed = tells.3;
+      refused = tells.4;
       reads = λ t b view calls. nested_reads state g.F.FnOnce f n old taken.value inner outer new t b view r ran closes calls;
     }
