@@ -23,9 +23,6 @@ impl<T: DerOrd> DerOrd for Option<T> {
 impl<T: FirstTag> FirstTag for Option<T> {
     #[tactic(auto, unfolding(der_core_head::specs::Shapes::octets_of, der_core_head::specs::Shapes::IsValid))]
     fn first_tag(&self) -> Option<Tag> {
-        match self {
-            Some(value) => value.first_tag(),
-            None => None,
-        }
+        self.as_ref()?.first_tag()
     }
 }

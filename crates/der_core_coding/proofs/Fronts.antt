@@ -19,7 +19,6 @@ use Rattle.der_core_head.specs.Octets.{◌>>=◌}
 use Rattle.der_core_head.specs.Writing.{Out, put, write, write_content, size, FailsTaking, Writes}
 use Rattle.der_core_head.proofs.Written.{writes_octets, writes_contents, writes_fitting, put_some-put, put_written, put_content, out, put-append, written_valid, content_valid}
 use Rattle.der_core_octets.specs.Outputs.{blank, finished, filled, appended}
-use Rattle.std.specs.Prelude.{}
 use Rattle.der_core_head.specs.declared.length.Length.{Length}
 use Rattle.der_core_head.specs.Ranges.{IsInRange, IsContentInRange}
 

@@ -11,30 +11,22 @@ use crate::implicit::{Implicit, ImplicitRef};
 pub fn implicit_of<T, const N: u32>(field: Option<Implicit<T, N>>) -> Option<T>
     ensures { result ≡ plain_option (λ f. f.value) field }
 {
-    match field {
-        Some(field) => Some(field.value),
-        None => None,
-    }
+    Some(field?.value)
 }
 
 /// The value behind a tag before its own.
 pub fn explicit_of<T, const N: u32>(field: Option<Explicit<T, N>>) -> Option<T>
     ensures { result ≡ plain_option (λ f. f.value) field }
 {
-    match field {
-        Some(field) => Some(field.value),
-        None => None,
-    }
+    Some(field?.value)
 }
 
 /// The value, lent behind a tag that replaces its own.
 pub fn implicit_ref<'a, T, const N: u32>(value: &'a Option<T>) -> Option<ImplicitRef<'a, T, N>>
     ensures { plain_option (λ r. r.value.now) result ≡ value.now }
 {
-    match value {
-        Some(value) => Some(ImplicitRef { value }),
-        None => None,
-    }
+    let value = value.as_ref()?;
+    Some(ImplicitRef { value })
 }
 
 /// The value, lent behind a tag before its own.
@@ -43,10 +35,6 @@ pub fn explicit_ref<'a, T, const N: u32>(
 ) -> Option<Explicit<EncodeRef<'a, T>, N>>
     ensures { plain_option (λ f. f.value.0.now) result ≡ value.now }
 {
-    match value {
-        Some(value) => Some(Explicit {
-            value: EncodeRef(value),
-        }),
-        None => None,
-    }
+    let value = EncodeRef(value.as_ref()?);
+    Some(Explicit { value })
 }

@@ -15,7 +15,6 @@ use Rattle.der_core_head.specs.Limits.{IsLength}
 use Rattle.der_core_head.specs.Fronts.{ReadsFront}
 use Rattle.der_core_head.proofs.Results.{IsBytes, ok_is}
 use Rattle.der_core_octets.specs.LoneLengths.{lone, lone_fault, lone_length_at}
-use Rattle.std.specs.Prelude.{}
 use Rattle.der_core_octets.specs.declared.header.Header.{Header}
 use Rattle.der_core_octets.specs.Headers.{head_of, AreAlike, Scans}
 use Rattle.std.proofs.lemmas.List.{length-append, drop-append-le}

@@ -32,17 +32,6 @@ fn digit_value(digit: u8) -> Option<u8>
     }
 }
 
-/// The octet of two hex digits.
-fn octet_of(high: u8, low: u8) -> Result<u8, Error>
-    ensures { GivesNow (λ octet. octet) result
-        (octet_of_digits (hex_digit_value high) (hex_digit_value low)) }
-{
-    match (digit_value(high), digit_value(low)) {
-        (Some(high), Some(low)) => Ok(high * 16 + low),
-        _ => Err(Error::from(ErrorKind::Failed)),
-    }
-}
-
 /// The octet of an escape, by what stands after its backslash, and what is left.
 fn escape(behind: &[u8]) -> Result<(u8, &[u8]), Error>
     ensures exact { GivesNow (λ x. (x.0, x.1.now)) result (escape behind.now) }
@@ -50,7 +39,10 @@ fn escape(behind: &[u8]) -> Result<(u8, &[u8]), Error>
 {
     match behind {
         [sign, left @ ..] if is_sign(*sign) => Ok((*sign, left)),
-        [high, low, left @ ..] => Ok((octet_of(*high, *low)?, left)),
+        [high, low, left @ ..] => match (digit_value(*high), digit_value(*low)) {
+            (Some(high), Some(low)) => Ok((high * 16 + low, left)),
+            _ => Err(Error::from(ErrorKind::Failed)),
+        },
         _ => Err(Error::from(ErrorKind::Failed)),
     }
 }

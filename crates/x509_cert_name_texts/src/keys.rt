@@ -85,8 +85,6 @@ pub fn type_of_key(key: &str) -> Result<ObjectIdentifier<39>, Error>
 pub fn key_of(oid: &ObjectIdentifier<39>) -> Option<&'static str>
     ensures { key_of oid.now ≡ option_map (λ name. name.now) result }
 {
-    match type_with(oid.as_bytes()) {
-        Some(named) => Some(named.short),
-        None => None,
-    }
+    let named = type_with(oid.as_bytes())?;
+    Some(named.short)
 }

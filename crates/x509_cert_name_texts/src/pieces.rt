@@ -105,8 +105,6 @@ pub fn split_member(text: &str) -> Option<(&str, &[u8])>
     ensures { key_and_value text.now ≡ option_map (λ halves. (halves.0.now, halves.1.now)) result }
 {
     let octets = text.as_bytes();
-    match place_of_equals(octets) {
-        None => None,
-        Some(i) => Some((&text[..i], &octets[i + 1..])),
-    }
+    let i = place_of_equals(octets)?;
+    Some((&text[..i], &octets[i + 1..]))
 }
