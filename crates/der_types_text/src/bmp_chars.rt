@@ -94,9 +94,7 @@ impl<'a> Iterator for BmpChars<'a> {
     ghost remaining = { item_count (λ s. s) };
 
     fn next(&mut self) -> Option<char> {
-        let Some(unit) = self.codepoints.next() else {
-            return None;
-        };
+        let unit = self.codepoints.next()?;
         Some(char_of(unit))
     }
 }

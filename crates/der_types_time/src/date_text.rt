@@ -47,18 +47,10 @@ pub(crate) fn date_of(year: u16, octets: &[u8]) -> Option<DateTime>
     ensures value { result ≡ civil_at year octets.now }
     ensures year { IfSome result (λ d. d.year ≡ year) }
 {
-    let Some((month, rest)) = two(octets) else {
-        return None;
-    };
-    let Some((day, rest)) = two(rest) else {
-        return None;
-    };
-    let Some((hour, rest)) = two(rest) else {
-        return None;
-    };
-    let Some((minutes, rest)) = two(rest) else {
-        return None;
-    };
+    let (month, rest) = two(octets)?;
+    let (day, rest) = two(rest)?;
+    let (hour, rest) = two(rest)?;
+    let (minutes, rest) = two(rest)?;
     let Some((seconds, rest)) = two(rest) else {
         return None;
     };
@@ -106,18 +98,10 @@ pub(crate) fn date_of_text(text: &[u8]) -> Option<DateTime>
 fn time_of_text(year: u16, month: u8, day: u8, text: &[u8]) -> Option<DateTime>
     ensures { result ≡ time_at year month day text.now }
 {
-    let Some((hour, rest)) = two(text) else {
-        return None;
-    };
-    let Some(rest) = behind(rest, b':') else {
-        return None;
-    };
-    let Some((minutes, rest)) = two(rest) else {
-        return None;
-    };
-    let Some(rest) = behind(rest, b':') else {
-        return None;
-    };
+    let (hour, rest) = two(text)?;
+    let rest = behind(rest, b':')?;
+    let (minutes, rest) = two(rest)?;
+    let rest = behind(rest, b':')?;
     let Some((seconds, rest)) = two(rest) else {
         return None;
     };

@@ -58,14 +58,6 @@ fn month_length(year: u16, month: u8) -> u8
     }
 }
 
-/// A year as jiff counts it.
-fn signed_year(year: u16) -> i16
-    requires { year ≤ 9999 }
-    ensures { result ≡ pos year }
-{
-    year as i16
-}
-
 /// The year of a day of the calendar from 1970 on.
 fn unsigned_year(date: Date) -> u16
     requires { pos 0 ≤ℤ epoch_day date }
@@ -194,7 +186,7 @@ impl DateTime {
         ensures { epoch_day result ≡ pos (unix_days self.now) }
     {
         Date {
-            year: signed_year(self.year),
+            year: self.year as i16,
             month: self.month,
             day: self.day,
         }

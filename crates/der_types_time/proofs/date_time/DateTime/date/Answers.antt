@@ -1,6 +1,6 @@
-use Rattle.std.proofs.Common.{◌≡◌, w16, ℤ, pos, arith, subst, sym, ◌∙◌, ap, to_z, of_z}
+use Rattle.std.proofs.Common.{◌≡◌, w16, ℤ, pos, arith, subst, sym, ◌∙◌, ap, to_z}
 use Rattle.jiff_core.specs.Calendar.{IsCivilDate, days_from_civil}
-use Rattle.jiff_core.proofs.SignedLemmas.{back_small}
+use Rattle.std.proofs.lemmas.Int.{to_z_pos}
 use Rattle.der_core_head.proofs.TextLaws.{civil_ranges}
 use Rattle.der_types_time.specs.Seconds.{unix_days}
 use Rattle.der_types_time.specs.DateTimes.{civil_of}
@@ -11,8 +11,7 @@ pub invariant_of-result : goal.invariant_of-result
 invariant_of-result c =
     let d = civil_of c.self.inside in
     let r = civil_ranges d c.self.invariant in
-    let y = c.signed_year.ensures in
-    let e : to_z w16 (of_z w16 c.signed_year.result) ≡ pos d.year = rw y (back_small w16 (pos d.year) (omega arith)) in
+    let e : to_z w16 d.year ≡ pos d.year = to_z_pos w16 d.year (omega arith) in
     let P : ℤ → Type 0 = λ k. IsCivilDate k d.month d.day in
     let p = subst P (sym e) (date_is d c.self.invariant) in
     record { year_in = p.0; month_in = p.1; day_in = p.2 }
@@ -21,7 +20,6 @@ pub returns : goal.returns
 returns c =
     let d = civil_of c.self.inside in
     let r = civil_ranges d c.self.invariant in
-    let y = c.signed_year.ensures in
-    let e : to_z w16 (of_z w16 c.signed_year.result) ≡ pos d.year = rw y (back_small w16 (pos d.year) (omega arith)) in
+    let e : to_z w16 d.year ≡ pos d.year = to_z_pos w16 d.year (omega arith) in
     let P : ℤ → Type 0 = λ k. days_from_civil k d.month d.day ≡ pos (unix_days c.args.self.now) in
     subst P (sym e) (unix_day_number d c.self.invariant ∙ ap (λ k. pos (unix_days k)) c.self.view_is)
