@@ -2,6 +2,5 @@ pub mod OrderLaws
 pub mod Sizes
 pub mod ShapeOrders
 pub mod IterOrders
-pub mod ChoiceOrders
 pub mod Rows
 pub mod ValueEquality

@@ -9,7 +9,7 @@ use std::cmp::Ordering;
 
 /// Nothing is below any encoding.
 impl<T: DerOrd> DerOrd for Option<T> {
-    #[tactic(auto, using(crate::proofs::ChoiceOrders::option_orders))]
+    #[tactic(auto, using(crate::proofs::ShapeOrders::option_orders))]
     fn der_cmp(&self, other: &Self) -> Result<Ordering, Error> {
         match (self, other) {
             (Some(value), Some(other)) => value.der_cmp(other),

@@ -125,7 +125,7 @@ impl<T: ValueOrd + EncodeValue + FixedTag> DerOrd for T {
 }
 
 impl<T: ValueOrd + FixedTag> FirstTag for T {
-    #[tactic(auto, using(crate::proofs::ChoiceOrders::tagged_starts))]
+    #[tactic(auto, using(crate::proofs::ShapeOrders::tagged_starts))]
     fn first_tag(&self) -> Option<Tag> {
         Some(T::tag())
     }

@@ -352,7 +352,7 @@ impl<'a> DerOrd for AnyRef<'a> {
 }
 
 impl<'a> FirstTag for AnyRef<'a> {
-    #[tactic(auto, using(der_core::proofs::ChoiceOrders::any_starts))]
+    #[tactic(auto, using(der_core::proofs::ShapeOrders::any_starts))]
     fn first_tag(&self) -> Option<Tag> {
         Some(self.tag)
     }

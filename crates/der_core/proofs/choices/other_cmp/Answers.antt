@@ -1,5 +1,5 @@
 use Rattle.std.proofs.Common.{◌∙◌}
-use Rattle.der_core.proofs.ChoiceOrders.{first_below, never_absent}
+use Rattle.der_core.proofs.ShapeOrders.{first_below, never_absent}
 use Rattle.der_core.proofs.choices.other_cmp.Goals as goal
 
 pub returns-in-Some : goal.returns-in-Some

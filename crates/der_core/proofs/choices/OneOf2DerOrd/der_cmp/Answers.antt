@@ -1,6 +1,6 @@
 use Rattle.std.proofs.Common.{Ok, ap, ◌∙◌}
 use Rattle.der_core_values.specs.Choices.{plain_of_two}
-use Rattle.der_core.proofs.ChoiceOrders.{both_first, both_second, mixed, mixed_turned}
+use Rattle.der_core.proofs.ShapeOrders.{both_first, both_second, mixed, mixed_turned}
 use Rattle.der_core.proofs.choices.OneOf2DerOrd.der_cmp.Goals as goal
 
 pub returns-in-First-First-clause-order : goal.returns-in-First-First-clause-order

@@ -1,6 +1,6 @@
 use Rattle.std.proofs.Common.{ap}
 use Rattle.der_core_head.specs.Grammar.{plain_option}
-use Rattle.der_core.proofs.ChoiceOrders.{some_order}
+use Rattle.der_core.proofs.ShapeOrders.{some_order}
 use Rattle.der_core.proofs.options.OptionDerOrd.der_cmp.Goals as goal
 
 pub returns-in-Some-Some-clause-order : goal.returns-in-Some-Some-clause-order
