@@ -3,7 +3,7 @@
 ghost use Rattle.std.specs.Prelude.{◌≡◌, ◌↔◌, ◌*◌, ◌/◌, ◌≤◌, ◌<◌, true, IsTrue, IsOk, IfOk, IfErr};
 ghost use Rattle.std.specs.Prelude.{pos, ◌+◌, ◌≤ℤ◌};
 ghost use Rattle.std.specs.Duration.{as_nanos};
-ghost use Rattle.der_core_head.specs.Dates.{Civil, is_leap, days_in_month, is_civil};
+ghost use Rattle.der_core_head.specs.Dates.{Civil, days_in_month, is_civil};
 ghost use Rattle.der_types_time.specs.Seconds.{unix_days, unix_seconds, last_second};
 ghost use Rattle.jiff_core.specs.Date.{epoch_day};
 

@@ -1,7 +1,7 @@
 //! Named bits.
 
 ghost use Rattle.std.specs.Prelude.{⊤, nat_eq, ◌≡◌, ◌==◌, ◌<◌, ◌≤◌, ◌-◌, ◌^◌, ℕ, length, take};
-ghost use Rattle.std.specs.Prelude.{nat_lt, IfOk, false, bit_and, bit_or};
+ghost use Rattle.std.specs.Prelude.{IfOk, false, bit_and, bit_or};
 ghost use Rattle.std.specs.Cmp.{on_per, on_equiv, nat_eq_equiv, partial_equiv_from_equiv};
 ghost use Rattle.bitflags.specs.Sets.{known_bits};
 ghost use Rattle.der_core_head.specs.declared.tag.Tag.TheVariants.{BitString};

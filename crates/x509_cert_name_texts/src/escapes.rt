@@ -3,8 +3,7 @@
 ghost use Rattle.std.specs.Prelude.{◌≡◌, ◌<◌, length, IfOk};
 ghost use Rattle.der_core_head.specs.Reading.{Gives, GivesNow};
 ghost use Rattle.hex.specs.Hex.{hex_digit_value};
-ghost use Rattle.x509_cert_name_texts.specs.Escapes.{is_sign, octet_of_digits, escape, undone};
-ghost use Rattle.x509_cert_name_texts.specs.Escapes.{hex_octets};
+ghost use Rattle.x509_cert_name_texts.specs.Escapes.{is_sign, escape, undone, hex_octets};
 
 use der_core_head::{Error, ErrorKind};
 use hex::FromHexError;
