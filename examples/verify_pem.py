@@ -4,15 +4,16 @@
     examples/verify_pem.py ROOTS CHAIN [--at TIME] [--purpose PURPOSE] [--tool CERT_TOOL]
 
 ROOTS holds the certificates that are trusted (/etc/ssl/certs/ca-certificates.crt, say); CHAIN the
-server's certificate first and its issuers behind it. Text around the certificates is passed over. A
-certificate of CHAIN that is a root stays out. TIME and PURPOSE are those of `cert_tool verify`:
-now and serverAuth, where nothing is said.
+server's certificate first and its issuers behind it. Text around the certificates is passed over,
+and so is what stands behind the first certificate of CHAIN that a name of ROOTS issued: the root
+itself, or one for its key by another root. TIME and PURPOSE are those of `cert_tool verify`: now
+and serverAuth, where nothing is said.
 
 It turns the chain round, has `cert_tool questions` say what its signatures ask, `answer.py` answer,
-and `cert_tool verify` judge; of a chain that isn't trusted it prints what `cert_tool explain chain`
-says. The status is that of `cert_tool verify`: 0 where the chain is trusted, 1 where it breaks a
-rule, others as docs/CLI.md says; 3 where CHAIN holds roots alone, 4 also where a file holds no
-certificate in PEM, and 5 where a file or a program is missing.
+and `cert_tool verify` judge; of a chain that isn't trusted, or that can't be read, it prints what
+`cert_tool explain` says. The status is that of `cert_tool verify`: 0 where the chain is trusted, 1
+where it breaks a rule, others as docs/CLI.md says; 4 also where a file holds no certificate in PEM,
+and 5 where a file or a program is missing.
 """
 
 import argparse
@@ -24,7 +25,7 @@ import tempfile
 
 HERE = pathlib.Path(__file__).resolve().parent
 TOOL = HERE.parent / "crates" / "cert_tool" / "out" / "cert_tool"
-EMPTY, ARGUMENTS, DEVICE = 3, 4, 5
+REFUSED, FAULTY, ARGUMENTS, DEVICE = 1, 2, 4, 5
 HEADER, FOOTER = "-----BEGIN CERTIFICATE-----", "-----END CERTIFICATE-----"
 
 
@@ -67,6 +68,17 @@ class Run:
     def tool_says(self, *words):
         return subprocess.run([self.tool, *words], cwd=self.folder, capture_output=True)
 
+    def asked(self, chain):
+        """The questions of a chain, the server's certificate first, which is written as a stream up
+        to the first certificate that an anchor's name issued, or whole."""
+        for count in range(1, len(chain) + 1):
+            self.write("chain.der", b"".join(reversed(chain[:count])))
+            asked = self.tool_says("questions", "chain.der", "--anchors", "anchors.der")
+            # a line of place 0 stands first, where there is one
+            if asked.returncode or asked.stdout.startswith(b"0 "):
+                break
+        return asked
+
     def answers(self, questions):
         said = subprocess.run(
             [sys.executable, HERE / "answer.py"], input=questions, stdout=subprocess.PIPE
@@ -96,26 +108,25 @@ def main():
     if not tool.is_file():
         stop(DEVICE, f"{tool} is missing: `rt run -- --help` in crates/cert_tool builds it")
     roots, chain = certificates(words.roots), certificates(words.chain)
-    chain = [it for it in chain if it not in roots]
-    if not chain:
-        stop(EMPTY, f"{words.chain} holds roots alone")
     with tempfile.TemporaryDirectory() as folder:
         run = Run(tool, pathlib.Path(folder))
         run.write("anchors.der", b"".join(roots))
-        run.write("chain.der", b"".join(reversed(chain)))
-        asked = run.tool_says("questions", "chain.der", "--anchors", "anchors.der")
+        asked = run.asked(chain)
         if asked.returncode:
-            pass_on(asked)
+            # the files that the error output names are gone afterwards
+            faulty = {FAULTY: ("stream", "chain.der"), ARGUMENTS: ("anchors", "anchors.der")}
+            words = faulty.get(asked.returncode)
+            pass_on(run.tool_says("explain", *words) if words else asked)
             sys.exit(asked.returncode)
         run.write("answers", run.answers(asked.stdout))
         files = ["chain.der", "--anchors", "anchors.der", "--answers", "answers"]
         terms = ["--at", words.at, "--purpose", words.purpose]
         verified = run.tool_says("verify", *files, *terms)
-        if verified.returncode == 1:
+        if verified.returncode == REFUSED:
             # what `verify` hints at on the error output is told here
             verified.stderr = b""
         pass_on(verified)
-        if verified.returncode == 1:
+        if verified.returncode == REFUSED:
             pass_on(run.tool_says("explain", "chain", *files, *terms))
     sys.exit(verified.returncode)
 
