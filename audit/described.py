@@ -13,9 +13,10 @@ A difference is a line that the other programs don't give (`+`), or one that is 
 name of an identifier has to be one that OpenSSL or `cryptography` has for it; not each that they
 know has one. What neither tells is read here: parameters of RSASSA-PSS, types of strings, policies
 that are mapped, distances of subtrees, identifiers of issuer and subject, and names and extensions
-that `cryptography` refuses. Signatures aren't verified.
+that `cryptography` refuses. Signatures aren't verified. It takes `cryptography` 45 or later.
 """
 
+import contextlib
 import datetime
 import difflib
 import hashlib
@@ -470,6 +471,17 @@ def content_lines(content, encoded):
                 yield f"  {FEATURES.get(number, number)}"
         case _:
             yield f"  octets {octets(encoded)}"
+            yield from told_value(encoded)
+
+
+def told_value(encoded):
+    """The line of the text or of the identifier that octets spell, if they spell one alone."""
+    with contextlib.suppress(IndexError, ValueError):
+        ((tag, content),) = values(encoded)
+        if encoding(tag, content) == encoded and tag in TEXTS:
+            yield "  " + value_text(tag, content)
+        elif encoding(tag, content) == encoded and tag == 0x06:
+            yield "  " + dotted(content)
 
 
 KEY = Ed25519PrivateKey.generate()

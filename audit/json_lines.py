@@ -214,6 +214,8 @@ def members(margin, of):
             yield from name(margin, f"{key} ", each)
         elif key == "curve":
             yield from curve(margin, each)
+        elif key == "value":
+            yield f"{margin}{identifier(each) if 'id' in each else value(each)}"
         elif key == "field":
             yield f"{margin}field {value(each)}"
         elif key in ("extensions", "crlExtensions", "crlEntryExtensions"):

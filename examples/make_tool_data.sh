@@ -563,6 +563,8 @@ certificate("known.der", extensions=[extension(37, seq(*[
     2a864886f70d010104 2a864886f70d010108 608648016503040301 608648016503040302 2a8648ce380403
     2b2403030208010107 2b240303020801010b 2b240303020801010d 2b06010505070202 2b06010505073003
     2b06010505073005 2b060104018237140203 2b06010505070809 2b06010505070805 2b06010505070807
+    551d17 2b06010505070103 2b0601050507010e 2b0601050507300105 6086480186f8420101
+    6086480186f842010d 2a8648ce380201 2a8648ce380202 2a8648ce380203
     """.split()]))])
 # timestamps with each hash and each algorithm of a signature
 def stamp(hash, signs):
@@ -579,6 +581,21 @@ crl("authorities.der", extensions=[AKI, extension(20, tlv(2, b"\1")), extension(
         21, tlv(10, bytes([number])))]) for number in (0, 1, 2, 3, 4, 5, 6, 8, 9, 10)])
 crl("attributes.der", extensions=[AKI, extension(20, tlv(2, b"\1")), extension(28, seq(tlv(
     0x85, b"\xff")), True)])
+# contents of other kinds: a text, a wide one, one that isn't spelled, two, an identifier that has a
+# name, one that is cut, and others
+NETSCAPE = (0x60, 0x86, 0x48, 1, 0x86, 0xF8, 0x42, 1)
+OTHER = (0x2B, 6, 1, 4, 1, 0x81, 0xFD, 0x59)
+certificate("others.der", extensions=[
+    extension(13, tlv(0x16, b"a text"), below=NETSCAPE),
+    extension(1, tlv(3, b"\5\xe0"), below=NETSCAPE),
+    extension(5, tlv(5), below=(*PE[:-1], 48, 1)), extension(3, seq(), below=PE),
+    extension(23, oid(0x2A, 0x86, 0x48, 0xCE, 0x38, 2, 3)),
+    *[extension(number, content, below=OTHER) for number, content in enumerate((
+        tlv(0x1E, b"\0w\0i"), tlv(0x0C, b"\xff"), tlv(0x0C, b"one") * 2, oid(0x2A, 3),
+        tlv(6, b"\x80"), tlv(0x0C, b"a\nb\\"), tlv(0x1E, b"\xd8\0"), b"", tlv(0x0C)))]])
+# an anchor that is a key with a name, and has extensions
+open("extended_anchor.der", "wb").write(tlv(0xA2, seq(KEY, tlv(4, b"key"), seq(named(b"above")), tlv(
+    0xA1, seq(SKI, extension(15, tlv(3, b"\2\4"), True))))))
 # an anchor whose policy flags end with a zero bit
 open("flags_anchor.der", "wb").write(tlv(0xA2, seq(KEY, tlv(4, b"key"), seq(
     named(b"above"), tlv(0x82, b"\0\x80")))))

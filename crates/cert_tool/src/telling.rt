@@ -151,7 +151,8 @@ pub(crate) fn tell_more<E: Output>(
         }
         ExitStatus::Arguments if are_read => {
             let part = "(of anchors: cert_tool explain anchors ";
-            tell(err, line_with(alloc, part, task.anchors, ")"));
+            let behind = "; of PEM tools/pem_to_der.sh makes DER, which is read)";
+            tell(err, line_with(alloc, part, task.anchors, behind));
         }
         _ => tell_fault(alloc, task, status, err),
     }

@@ -7,7 +7,7 @@ use der_core::{Decode, Error, FromDer, SliceReader};
 use x509_cert_anchors::TrustAnchorChoice;
 use x509_cert_certificates::TbsCertificateInner;
 use x509_cert_names::Name;
-use x509_cert_parts::{Extension, Raw, Validity};
+use x509_cert_parts::{Extension, Extensions, Raw, Validity};
 
 /// Begins what is said of the anchor at an octet.
 pub fn begin_anchor(lines: &mut Lines, offset: u64) {
@@ -36,25 +36,32 @@ fn add_dates(lines: &mut Lines, validity: &Validity<Raw>) {
     lines.end();
 }
 
-// Adds what a certificate says that is an anchor, beyond its name and its key.
-fn add_certified(lines: &mut Lines, signed: &TbsCertificateInner<Raw>) {
-    lines.list("unjudged");
-    add_dates(lines, signed.validity());
-    if let Some(extensions) = signed.extensions() {
+// Adds which extensions an anchor has, if it has some.
+fn add_extensions(lines: &mut Lines, extensions: Option<&Extensions>) {
+    if let Some(extensions) = extensions {
         if !extensions.is_empty() {
             add_kinds(lines, extensions.as_slice());
         }
     }
-    lines.end_list();
 }
 
-// What is certified of an anchor, unless its name and its key are told alone.
-fn certified_of(anchor: &TrustAnchorChoice<Raw>) -> Option<&TbsCertificateInner<Raw>> {
+// Adds what a certificate says that is an anchor, beyond its name and its key.
+fn add_certified(lines: &mut Lines, signed: &TbsCertificateInner<Raw>) {
+    add_dates(lines, signed.validity());
+    add_extensions(lines, signed.extensions());
+}
+
+// Adds what an anchor says beyond its name and its key.
+fn add_beyond(lines: &mut Lines, anchor: &TrustAnchorChoice<Raw>) {
+    lines.list("unjudged");
     match anchor {
-        TrustAnchorChoice::Certificate(certificate) => Some(certificate.tbs_certificate()),
-        TrustAnchorChoice::TbsCertificate(signed) => Some(signed),
-        TrustAnchorChoice::TaInfo(_) => None,
+        TrustAnchorChoice::Certificate(certificate) => {
+            add_certified(lines, certificate.tbs_certificate());
+        }
+        TrustAnchorChoice::TbsCertificate(signed) => add_certified(lines, signed),
+        TrustAnchorChoice::TaInfo(info) => add_extensions(lines, info.extensions.as_ref()),
     }
+    lines.end_list();
 }
 
 // The name of an anchor, if it has one.
@@ -96,9 +103,7 @@ impl Unjudged for TrustAnchorChoice<Raw> {
                 lines.key("subject");
                 lines.name_value(name);
             }
-            if let Some(signed) = certified_of(self) {
-                add_certified(lines, signed);
-            }
+            add_beyond(lines, self);
             lines.close();
         }
     }

@@ -4,7 +4,7 @@ use crate::described::Describe;
 use crate::general_names::{add_general_names, names_in};
 use crate::lines::Lines;
 use crate::timestamps::timestamps_fault;
-use crate::values::{read, read_list};
+use crate::values::{add_value_of, read, read_list};
 use const_oid::ObjectIdentifier;
 use der_core::describing::{DecodeWay, Described};
 use der_core::making::leaf_from_der;
@@ -116,8 +116,9 @@ fn has_timestamps(extension: &Extension) -> bool {
     extension.extn_id.as_bytes() == TIMESTAMPS
 }
 
-// Adds the lines of the content of an extension, of a kind that isn't known its octets (RFC 5280
-// 4.2.1, 4.2.2, 5.2, 5.3, RFC 6962 3.3, RFC 7633); answers why it isn't one value of its kind.
+// Adds the lines of the content of an extension, of a kind that isn't known its octets, and the text
+// or the identifier that they spell (RFC 5280 4.2.1, 4.2.2, 5.2, 5.3, RFC 6962 3.3, RFC 7633);
+// answers why it isn't one value of its kind.
 fn add_content_of(lines: &mut Lines, extension: &Extension) -> Option<Error> {
     let octets = extension.extn_value.as_bytes();
     match number_of(extension) {
@@ -150,6 +151,7 @@ fn add_content_of(lines: &mut Lines, extension: &Extension) -> Option<Error> {
         }
         _ => {
             add_octets(lines, octets);
+            add_value_of(lines, octets);
             None
         }
     }

@@ -66,8 +66,8 @@ const OF_KEYS: [(&[u8], &str); 24] = [
     (&[0x2b, 0x81, 0x04, 0, 35], "secp521r1"),
 ];
 
-// Of extensions below 2.5.29 (RFC 5280 4.2, 5.2, 5.3).
-const OF_EXTENSIONS: [(&[u8], &str); 24] = [
+// Of extensions below 2.5.29 (RFC 5280 4.2, 5.2, 5.3, RFC 3280 5.3.2).
+const OF_EXTENSIONS: [(&[u8], &str); 25] = [
     (&[0x55, 29, 9], "subjectDirectoryAttributes"),
     (&[0x55, 29, 14], "subjectKeyIdentifier"),
     (&[0x55, 29, 15], "keyUsage"),
@@ -77,6 +77,7 @@ const OF_EXTENSIONS: [(&[u8], &str); 24] = [
     (&[0x55, 29, 19], "basicConstraints"),
     (&[0x55, 29, 20], "cRLNumber"),
     (&[0x55, 29, 21], "reasonCode"),
+    (&[0x55, 29, 23], "holdInstructionCode"),
     (&[0x55, 29, 24], "invalidityDate"),
     (&[0x55, 29, 27], "deltaCRLIndicator"),
     (&[0x55, 29, 28], "issuingDistributionPoint"),
@@ -209,6 +210,22 @@ const OF_REST: [(&[u8], &str); 21] = [
     (&[43, 6, 1, 5, 5, 7, 8, 7], "dnsSRV"),
 ];
 
+// Of extensions that other documents have (RFC 3739, RFC 3820, RFC 6960 4.2.2.2.1, and those of
+// Netscape), and what is done with a certificate on hold (RFC 3280 5.3.2).
+const OF_OTHER_EXTENSIONS: [(&[u8], &str); 8] = [
+    (&[0x2b, 6, 1, 5, 5, 7, 1, 3], "qcStatements"),
+    (&[0x2b, 6, 1, 5, 5, 7, 1, 14], "proxyCertInfo"),
+    (&[0x2b, 6, 1, 5, 5, 7, 48, 1, 5], "noCheck"),
+    (&[0x60, 0x86, 0x48, 1, 0x86, 0xf8, 0x42, 1, 1], "nsCertType"),
+    (&[0x60, 0x86, 0x48, 1, 0x86, 0xf8, 0x42, 1, 13], "nsComment"),
+    (&[42, 0x86, 0x48, 0xce, 56, 2, 1], "holdInstructionNone"),
+    (
+        &[42, 0x86, 0x48, 0xce, 56, 2, 2],
+        "holdInstructionCallIssuer",
+    ),
+    (&[42, 0x86, 0x48, 0xce, 56, 2, 3], "holdInstructionReject"),
+];
+
 // Each table is lent by a function of its own: where one is named its rows are checked, in a time
 // that grows with the square of their number.
 
@@ -236,6 +253,10 @@ fn of_rest() -> Names {
     &OF_REST
 }
 
+fn of_other_extensions() -> Names {
+    &OF_OTHER_EXTENSIONS
+}
+
 // The name that a table has for an identifier of these octets. Most of a table differ in their last
 // octet.
 fn name_in(names: Names, octets: &[u8]) -> Option<&'static str> {
@@ -253,7 +274,13 @@ pub fn known_name(octets: &[u8]) -> Option<&'static str> {
         [0x55, 29, ..] => name_in(of_extensions(), octets),
         [0x55, 4, ..] => name_in(of_attributes(), octets),
         _ => {
-            for names in &[of_keys(), of_uses(), of_other_attributes(), of_rest()] {
+            for names in &[
+                of_keys(),
+                of_uses(),
+                of_other_attributes(),
+                of_rest(),
+                of_other_extensions(),
+            ] {
                 if let Some(name) = name_in(*names, octets) {
                     return Some(name);
                 }

@@ -1,9 +1,10 @@
 //! Values of any type: their texts, or their octets.
 
 use crate::lines::Lines;
+use const_oid::ObjectIdentifier;
 use der_core::describing::{DecodeWay, Described};
 use der_core::making::read_whole;
-use der_core::{Decode, Error, FixedTag, SliceReader, Tag};
+use der_core::{Decode, Error, FixedTag, FromDer, SliceReader, Tag};
 use der_types_any::Any;
 use std::alloc::Global;
 use std::str;
@@ -88,6 +89,34 @@ pub fn add_value(lines: &mut Lines, value: &Any) {
         lines.word("octets");
         lines.key("octets");
         lines.octets(value.value());
+    }
+}
+
+// Adds the line of a value, if it is a text or an identifier.
+fn add_plain_value(lines: &mut Lines, value: &Any) {
+    if is_string(value.tag()) && is_spelled(value) {
+        lines.row("", "value");
+        lines.brace();
+        add_value(lines, value);
+        lines.end_brace();
+    } else if value.tag() == Tag::ObjectIdentifier {
+        match value.decode_as::<ObjectIdentifier<39>>(lines.alloc) {
+            Ok(identifier) => {
+                lines.row("", "value");
+                lines.brace();
+                lines.members_of(&identifier);
+                lines.end_brace();
+            }
+            Err(error) => lines.note(error.kind),
+        }
+    }
+}
+
+// Adds the line of the text or the identifier that octets spell, if they spell one alone.
+pub fn add_value_of(lines: &mut Lines, octets: &[u8]) {
+    match Any::from_der(lines.alloc, octets) {
+        Ok(value) => add_plain_value(lines, &value),
+        Err(error) => lines.note(error.kind),
     }
 }
 
