@@ -37,7 +37,7 @@ mod words;
 use crate::files::HostFiles;
 use crate::serving::serve;
 use crate::words::obey;
-use cert_desk_io::{ExitStatus, FromRead, ToWrite, tell_memory};
+use cert_desk_io::{ExitStatus, FromRead, Output, ToWrite, complain, tell_memory};
 use std::alloc::{AllocError, Global};
 use std::io::IsTerminal;
 use std::process::ExitCode;
@@ -58,13 +58,16 @@ fn texts_of(alloc: Global, words: &[String]) -> Result<Vec<&str>, AllocError> {
     Ok(texts)
 }
 
-// The arguments. Of some that aren't texts nothing is read.
-fn words_of(rt: &HostRuntime) -> Result<Vec<String>, AllocError> {
+// The arguments. Where one is no text, that is told, and the status is the error.
+fn words_of<E: Output>(rt: &HostRuntime, err: &mut E) -> Result<Vec<String>, ExitStatus> {
     match env::args(rt) {
-        Ok(words) => words.collect(rt.alloc()),
+        Ok(words) => match words.collect(rt.alloc()) {
+            Ok(words) => Ok(words),
+            Err(_) => Err(tell_memory(err)),
+        },
         Err(error) => match error.kind() {
-            io::ErrorKind::OutOfMemory => Err(AllocError),
-            _ => Ok(Vec::new(rt.alloc())),
+            io::ErrorKind::OutOfMemory => Err(tell_memory(err)),
+            _ => Err(complain(err, b"a word isn't UTF-8\n", ExitStatus::Arguments)),
         },
     }
 }
@@ -72,8 +75,9 @@ fn words_of(rt: &HostRuntime) -> Result<Vec<String>, AllocError> {
 // Does what the arguments ask for.
 fn run(rt: &HostRuntime) -> ExitStatus {
     let mut err = ToWrite::new(rt.stderr());
-    let Ok(words) = words_of(rt) else {
-        return tell_memory(&mut err);
+    let words = match words_of(rt, &mut err) {
+        Ok(words) => words,
+        Err(status) => return status,
     };
     let Ok(texts) = texts_of(rt.alloc(), words.as_slice()) else {
         return tell_memory(&mut err);
