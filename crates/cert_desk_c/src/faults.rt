@@ -16,6 +16,7 @@ ghost use Rattle.cert_desk_c.specs.Values.{IsNoCertificate, IsNoList, IsNoReques
 use crate::reading::read_list;
 use cert_desk_buffers::code;
 use cert_desk_io::ExitStatus;
+use der_core::making::is_want_of_memory;
 use der_core::{Error, ErrorKind};
 use std::alloc::Global;
 use x509_cert_certificates::CertificateInner;
@@ -66,7 +67,7 @@ fn fault_number(kind: ErrorKind) -> u32
 fn tell(error: Error, fault: &mut WdFault) -> u32
     ensures { IsTold error.kind fault.new.kind result }
 {
-    if let ErrorKind::OutOfMemory = error.kind {
+    if is_want_of_memory(&error) {
         return code(ExitStatus::Memory);
     }
     fault.kind = fault_number(error.kind);

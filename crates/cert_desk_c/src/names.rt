@@ -11,7 +11,7 @@ ghost use Rattle.cert_desk_c.specs.Values.{IsEncodedName, IsNameText, IsNoName, 
 use crate::reading::name_of;
 use cert_desk_buffers::{code, give};
 use cert_desk_io::ExitStatus;
-use der_core::ErrorKind;
+use der_core::making::is_want_of_memory;
 use std::alloc::{AllocError, Global};
 use x509_cert_names::{Name, RdnSequence};
 
@@ -59,7 +59,7 @@ fn encoding_of(alloc: Global, text: &[u8]) -> Result<Vec<u8>, ExitStatus>
     match RdnSequence::encode_from_string(alloc, text) {
         Ok(octets) => Ok(octets),
         Err(error) => {
-            if let ErrorKind::OutOfMemory = error.kind {
+            if is_want_of_memory(&error) {
                 return Err(ExitStatus::Memory);
             }
             Err(ExitStatus::Faulty)

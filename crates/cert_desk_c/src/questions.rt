@@ -23,10 +23,7 @@ fn chain_of(alloc: Global, limit: u32, octets: &[u8]) -> Result<Bundle, ExitStat
     ensures other { IfErr result (λ status. (status ≡ statuses.Faulty)
         ⊎ ((status ≡ statuses.Empty) ⊎ (status ≡ statuses.Memory))) }
 {
-    let bundle = match bundle_of(alloc, limit, octets) {
-        Ok(bundle) => bundle,
-        Err(status) => return Err(status),
-    };
+    let bundle = bundle_of(alloc, limit, octets)?;
     match bundle.standing() {
         Standing::Ended => {}
         _ => return Err(ExitStatus::Faulty),
@@ -51,14 +48,8 @@ fn questions_of(
     ensures other { IfErr result (λ status. status ≢ statuses.Done) }
     ensures no_room { IfErr result (λ status. status ≢ statuses.Device) }
 {
-    let anchors: Vec<Anchor> = match anchors_of(alloc, anchors) {
-        Ok(anchors) => anchors,
-        Err(status) => return Err(status),
-    };
-    let bundle = match chain_of(alloc, limit, chain) {
-        Ok(bundle) => bundle,
-        Err(status) => return Err(status),
-    };
+    let anchors: Vec<Anchor> = anchors_of(alloc, anchors)?;
+    let bundle = chain_of(alloc, limit, chain)?;
     match chain_lines(alloc, anchors.as_slice(), &bundle) {
         Ok(text) => Ok(text),
         Err(_) => Err(ExitStatus::Memory),

@@ -16,7 +16,8 @@ ghost use Rattle.cert_desk_buffers.specs.Rooms.{IsLack};
 ghost use Rattle.cert_desk_c.specs.Values.{IsNoCertificate, IsNoList, IsNoName, IsNoRequest};
 
 use cert_desk_io::ExitStatus;
-use der_core::{Error, ErrorKind, FromDer};
+use der_core::making::is_want_of_memory;
+use der_core::{Error, FromDer};
 use std::alloc::Global;
 use x509_cert_certificates::CertificateInner;
 use x509_cert_lists::{CertReq, CertificateList};
@@ -35,7 +36,7 @@ pub(crate) fn certificate_of(
     match CertificateInner::<Raw>::from_der(alloc, octets) {
         Ok(certificate) => Ok(certificate),
         Err(error) => {
-            if let ErrorKind::OutOfMemory = error.kind {
+            if is_want_of_memory(&error) {
                 return Err(ExitStatus::Memory);
             }
             Err(ExitStatus::Faulty)
@@ -63,7 +64,7 @@ pub(crate) fn list_of(alloc: Global, octets: &[u8]) -> Result<CertificateList<Ra
     match read_list(alloc, octets) {
         Ok(list) => Ok(list),
         Err(error) => {
-            if let ErrorKind::OutOfMemory = error.kind {
+            if is_want_of_memory(&error) {
                 return Err(ExitStatus::Memory);
             }
             Err(ExitStatus::Faulty)
@@ -79,7 +80,7 @@ pub(crate) fn request_of(alloc: Global, octets: &[u8]) -> Result<CertReq, ExitSt
     match CertReq::try_from_bytes(alloc, octets) {
         Ok(request) => Ok(request),
         Err(error) => {
-            if let ErrorKind::OutOfMemory = error.kind {
+            if is_want_of_memory(&error) {
                 return Err(ExitStatus::Memory);
             }
             Err(ExitStatus::Faulty)
@@ -95,7 +96,7 @@ pub(crate) fn name_of(alloc: Global, octets: &[u8]) -> Result<Name, ExitStatus>
     match Name::from_der(alloc, octets) {
         Ok(name) => Ok(name),
         Err(error) => {
-            if let ErrorKind::OutOfMemory = error.kind {
+            if is_want_of_memory(&error) {
                 return Err(ExitStatus::Memory);
             }
             Err(ExitStatus::Faulty)

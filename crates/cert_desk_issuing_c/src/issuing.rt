@@ -20,7 +20,8 @@ use cert_desk_buffers::{code, give};
 use cert_desk_io::ExitStatus;
 use cert_desk_issuing::{IssueError, Issued, issue};
 use cert_desk_orders::{Order, OrdersError, orders_in};
-use der_core::{ErrorKind, FromDer, ToDer};
+use der_core::making::is_want_of_memory;
+use der_core::{FromDer, ToDer};
 use der_types_values::BitString;
 use std::alloc::{AllocError, Global};
 use x509_cert_certificates::Certificate;
@@ -47,7 +48,7 @@ fn algorithm_of(alloc: Global, octets: &[u8]) -> Result<AlgorithmIdentifier, Exi
     match AlgorithmIdentifier::from_der(alloc, octets) {
         Ok(algorithm) => Ok(algorithm),
         Err(error) => {
-            if let ErrorKind::OutOfMemory = error.kind {
+            if is_want_of_memory(&error) {
                 return Err(ExitStatus::Memory);
             }
             Err(ExitStatus::Arguments)

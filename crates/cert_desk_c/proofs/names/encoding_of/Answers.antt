@@ -1,4 +1,5 @@
 use Rattle.std.proofs.Common.{ℕ, List, Err, inl, inr, refl, subst}
+use Rattle.std.proofs.lemmas.Bool.{both_ways}
 use Rattle.const_oid.specs.Bound.{Bound}
 use Rattle.der_core_head.specs.Grammar.{plain_list}
 use Rattle.x509_cert_names.specs.Names.{name}
@@ -11,8 +12,8 @@ pub returns-in-Ok-encode_from_string-clause-read : goal.returns-in-Ok-encode_fro
 returns-in-Ok-encode_from_string-clause-read c =
     subst (λ (w : List ℕ). IsEncodedName w c.in-Ok-encode_from_string.octets.items) c.in-Ok.ensures.cases.0 c.in-Ok-encode_from_string.ensures
 
-pub returns-in_default-kind : goal.returns-in_default-kind
-returns-in_default-kind c =
+pub returns-else-is_want_of_memory : goal.returns-else-is_want_of_memory
+returns-else-is_want_of_memory c =
     let why = subst (λ (w : List ℕ). ReadsEncoding (name Bound) (plain_list relative_plain) (ReadsName Bound w) (Err c.in-Err.error.kind)) c.in-Ok.ensures.cases.0
-    (c.in-Err.ensures c.in_default-kind.not-OutOfMemory) in
+    (c.in-Err.ensures (λ memory. both_ways _ c.if-is_want_of_memory.false (c.is_want_of_memory.ensures.1 memory))) in
     record { read = tt; refused = inl (refl, inr (c.in-Err.error.kind, why)) }
