@@ -58,6 +58,21 @@ enum {
     WD_WRONG_SIGNATURE = 11
 };
 
+/* Why orders are refused: `number` where wd_audit returns WD_REFUSED and no rule is broken. The name
+   isn't read; isn't a root's; isn't a subscriber's; the serial number has no octets, or more than
+   20; a date isn't one, or the last is before the first; a subscriber has no DNS name, or one that
+   isn't ASCII; a length passes 2^32 - 1. */
+enum {
+    WD_ORDER_NO_ORDERS = 21,
+    WD_ORDER_NAME = 22,
+    WD_ORDER_ROOT_NAME = 23,
+    WD_ORDER_SUBSCRIBER_NAME = 24,
+    WD_ORDER_SERIAL = 25,
+    WD_ORDER_DATES = 26,
+    WD_ORDER_DNS_NAME = 27,
+    WD_ORDER_TOO_LONG = 28
+};
+
 /* What can be wrong with the octets of a chain: `number` where wd_verify returns WD_FAULTY. */
 enum {
     WD_CHAIN_NO_CERTIFICATE = 1,
@@ -130,6 +145,13 @@ typedef struct {
     uint64_t offset; /* of its first octet in the chain; of a fault alone */
     uint64_t number; /* of the rule, or of the kind of fault */
 } wd_place;
+
+/* Where orders are refused, and why; or where the chain that they ask for breaks a rule, and
+   which. */
+typedef struct {
+    uint64_t place;  /* of the order, counted from 0 */
+    uint64_t number; /* of the reason (WD_ORDER_..), or of the rule */
+} wd_reason;
 
 /* Whether octets, all of them, are the encoding of a certificate, a CRL, a CSR: WD_DONE where they
    are; WD_FAULTY where they aren't, and then `fault` is told; WD_MEMORY. */
@@ -226,6 +248,14 @@ uint32_t wd_signed_part(const uint8_t *orders, size_t orders_len, uint32_t place
 uint32_t wd_issue(const uint8_t *orders, size_t orders_len, uint32_t place,
                   const uint8_t *algorithm, size_t algorithm_len, const uint8_t *signature,
                   size_t signature_len, uint8_t *out, size_t out_len, size_t *size);
+
+/* Whether the chain that an orders file asks for, signed by this algorithm, is trusted under its own
+   root at a validation time for a key purpose, where its signatures are right: WD_DONE;
+   WD_REFUSED where the orders are refused or a rule is broken, and then `told` says why;
+   WD_ARGUMENTS where the orders file, the algorithm or the purpose is faulty; WD_MEMORY. */
+uint32_t wd_audit(const uint8_t *orders, size_t orders_len, const uint8_t *algorithm,
+                  size_t algorithm_len, uint64_t moment, const uint8_t *purpose,
+                  size_t purpose_len, wd_reason *told);
 
 #ifdef __cplusplus
 }

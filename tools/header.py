@@ -1,7 +1,7 @@
 #!/usr/bin/env python3
 """Compares calls/wurstdrape.h with the sources: each call of crates/cert_desk_c and
 cert_desk_issuing_c with each argument, each struct with each field, and each number of a status, a
-rule or a kind of fault with the definition that the contracts cite. Then the Rust crate and the
+rule, a kind of fault or a reason with the definition that the contracts cite. Then the Rust crate and the
 Python module with the header: each call that Rust declares, and the numbers of both.
 
     tools/header.py     the status is 1 where there is a difference, and each is told
@@ -27,6 +27,7 @@ NUMBERS = {
     "WD_FAULT_": ("cert_desk_c/specs/FaultNumbers.antt", "fault_number"),
     "WD_CHAIN_": ("cert_desk_bundle/specs/Faults.antt", "rank"),
     "WD_RULE_": ("cert_desk_rules/specs/Judging.antt", "number"),
+    "WD_ORDER_": ("cert_desk_issuing_c/specs/Reasons.antt", "reason_number"),
 }
 # The header's name for a status whose own name says what it is to a program.
 RENAMED = {"DEVICE": "NO_ROOM"}
@@ -39,6 +40,7 @@ STRUCTS = {
     "WdPlace": "wd_place",
     "WdSpan": "wd_span",
     "WdSpans": "wd_spans",
+    "WdReason": "wd_reason",
 }
 PLAIN = {"u32": "uint32_t", "u64": "uint64_t", "usize": "size_t", "bool": "bool"}
 
@@ -129,7 +131,13 @@ RUST_TYPES = {
     **PLAIN,
 }
 # Each enumeration of Rust and Python, and the prefix of its names in C.
-ENUMERATIONS = {"Status": "WD_", "Rule": "WD_", "ChainFault": "WD_CHAIN_", "FaultKind": "WD_FAULT_"}
+ENUMERATIONS = {
+    "Status": "WD_",
+    "Rule": "WD_",
+    "ChainFault": "WD_CHAIN_",
+    "FaultKind": "WD_FAULT_",
+    "OrderFault": "WD_ORDER_",
+}
 
 
 def calls_of_rust():

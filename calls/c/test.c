@@ -133,7 +133,13 @@ static uint32_t extension(void) {
     bool critical = false;
     return wd_extension(OF(server), purposes, sizeof purposes, &span, &critical);
 }
-static tells *const tellers[] = {is_certificate, is_list, is_request, parts_of, dates, extension};
+static uint32_t audit(void) {
+    wd_reason told;
+    return wd_audit(OF(orders), ecdsa, sizeof ecdsa, moment, server_auth, sizeof server_auth,
+                    &told);
+}
+static tells *const tellers[] = {is_certificate, is_list, is_request, parts_of,
+                                 dates,          extension, audit};
 #define TELLERS (sizeof tellers / sizeof *tellers)
 
 static const struct {
@@ -374,6 +380,42 @@ static void issued(void) {
           WD_REFUSED);
 }
 
+static uint32_t audit_of(const data *of, uint64_t at, wd_reason *told) {
+    return wd_audit(of->octets, of->length, ecdsa, sizeof ecdsa, at, server_auth,
+                    sizeof server_auth, told);
+}
+
+/* What the chain of orders comes to, and why there is none: nothing is signed yet. */
+static void audited(void) {
+    wd_reason told;
+    CHECK(audit_of(&orders, moment, &told) == WD_DONE);
+    CHECK(audit_of(&orders, 1, &told) == WD_REFUSED);
+    CHECK(told.place == 0 && told.number == WD_NOT_YET_VALID);
+    /* 2027-12-28: the last certificate alone has expired */
+    CHECK(audit_of(&orders, 1830000000, &told) == WD_REFUSED);
+    CHECK(told.place == 2 && told.number == WD_EXPIRED);
+    static const uint8_t email[] = {0x2b, 6, 1, 5, 5, 7, 3, 4};
+    CHECK(wd_audit(OF(orders), ecdsa, sizeof ecdsa, moment, email, sizeof email, &told) ==
+          WD_REFUSED);
+    CHECK(told.place == 1 && told.number == WD_AGAINST_PURPOSE);
+
+    static data other;
+    CHECK(audit_of(&other, moment, &told) == WD_REFUSED);
+    CHECK(told.number == WD_ORDER_NO_ORDERS);
+    /* a month that is none, in the first of the last order's dates */
+    other = orders;
+    char *last = strstr((char *)other.octets, "CN=desk.example");
+    memcpy(strstr(last, "2026-01"), "2026-13", 7);
+    CHECK(audit_of(&other, moment, &told) == WD_REFUSED);
+    CHECK(told.place == 2 && told.number == WD_ORDER_DATES);
+    other.octets[0] = 'x';
+    CHECK(audit_of(&other, moment, &told) == WD_ARGUMENTS);
+    CHECK(wd_audit(OF(orders), ecdsa, 0, moment, server_auth, sizeof server_auth, &told) ==
+          WD_ARGUMENTS);
+    CHECK(wd_audit(OF(orders), ecdsa, sizeof ecdsa, moment, server_auth, 0, &told) ==
+          WD_ARGUMENTS);
+}
+
 static void *calls(void *of) {
     size_t first = *(size_t *)of;
     uint8_t *out = malloc(65536), *again = malloc(65536);
@@ -416,6 +458,7 @@ int main(int count, char **words) {
     parts();
     verdicts();
     issued();
+    audited();
     for (size_t i = 0; i < WRITERS; i++) {
         unsigned before = failures;
         rooms(writers[i].call);

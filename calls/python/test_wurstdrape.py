@@ -11,7 +11,7 @@ import threading
 import unittest
 
 import wurstdrape
-from wurstdrape import ChainFault, Error, FaultKind, Kind, Malformed, Rule, Status
+from wurstdrape import ChainFault, Error, FaultKind, Kind, Malformed, OrderFault, Rule, Status
 
 TOP = pathlib.Path(__file__).resolve().parents[2]
 DATA = TOP / "crates" / "cert_tool" / "data"
@@ -229,6 +229,23 @@ class Issued(unittest.TestCase):
             with self.assertRaises(Error) as refused:
                 wurstdrape.issued(orders, place, algorithm, b"signature")
             self.assertIs(refused.exception.status, status)
+
+    def test_audit(self):
+        def audit(orders, at, **more):
+            return wurstdrape.audit(orders, self.ALGORITHM, at, **more)
+
+        self.assertTrue(audit(self.orders, MOMENT).trusted)
+        for at, place, rule in ((1, 0, Rule.NOT_YET_VALID), (1830000000, 2, Rule.EXPIRED)):
+            told = audit(self.orders, at)
+            self.assertEqual((told.trusted, told.place, told.rule), (False, place, rule))
+        told = audit(self.orders, MOMENT, purpose="1.3.6.1.5.5.7.3.4")
+        self.assertEqual((told.place, told.rule), (1, Rule.AGAINST_PURPOSE))
+        self.assertIs(audit("", MOMENT).fault, OrderFault.NO_ORDERS)
+        told = audit(self.orders.replace("serial 0a3f", "serial 01" + 20 * "00"), MOMENT)
+        self.assertEqual((told.place, told.fault), (2, OrderFault.SERIAL))
+        with self.assertRaises(Error) as refused:
+            audit("order\n", MOMENT)
+        self.assertIs(refused.exception.status, Status.ARGUMENTS)
 
     def test_by_cryptography(self):
         try:

@@ -6,8 +6,8 @@
 use std::ops::Range;
 
 use crate::{
-    ChainFault, Error, Extension, Fault, FaultKind, Kind, Parts, Result, Rule, Terms, Validity,
-    Verdict,
+    Audit, ChainFault, Error, Extension, Fault, FaultKind, Kind, OrderFault, Parts, Result, Rule,
+    Terms, Validity, Verdict,
 };
 
 #[repr(C)]
@@ -52,6 +52,13 @@ struct WdSpans {
 struct WdPlace {
     place: u64,
     offset: u64,
+    number: u64,
+}
+
+#[repr(C)]
+#[derive(Default)]
+struct WdReason {
+    place: u64,
     number: u64,
 }
 
@@ -150,6 +157,16 @@ extern "C" {
         out: *mut u8,
         out_len: usize,
         size: *mut usize,
+    ) -> u32;
+    fn wd_audit(
+        orders: *const u8,
+        orders_len: usize,
+        algorithm: *const u8,
+        algorithm_len: usize,
+        moment: u64,
+        purpose: *const u8,
+        purpose_len: usize,
+        told: *mut WdReason,
     ) -> u32;
 }
 
@@ -403,4 +420,33 @@ pub fn issue(orders: &[u8], place: u32, algorithm: &[u8], signature: &[u8]) -> R
             length,
         )
     })
+}
+
+pub fn audit(orders: &[u8], algorithm: &[u8], moment: u64, purpose: &[u8]) -> Result<Audit> {
+    let mut told = WdReason::default();
+    // SAFETY: the pointers are of slices, and of a value, that are lent for the call.
+    let status = unsafe {
+        wd_audit(
+            orders.as_ptr(),
+            orders.len(),
+            algorithm.as_ptr(),
+            algorithm.len(),
+            moment,
+            purpose.as_ptr(),
+            purpose.len(),
+            &mut told,
+        )
+    };
+    match (status, OrderFault::of(told.number)) {
+        (DONE, _) => Ok(Audit::Trusted),
+        (REFUSED, Some(fault)) => Ok(Audit::NotIssued {
+            place: told.place,
+            fault,
+        }),
+        (REFUSED, None) => Ok(Audit::Refused {
+            place: told.place,
+            rule: Rule::of(told.number),
+        }),
+        (status, _) => Err(error_of(status)),
+    }
 }

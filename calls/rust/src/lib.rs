@@ -10,7 +10,7 @@ mod numbers;
 use std::fmt;
 use std::ops::Range;
 
-pub use numbers::{ChainFault, FaultKind, Rule};
+pub use numbers::{ChainFault, FaultKind, OrderFault, Rule};
 
 /// The greatest number of octets of a certificate of a chain that fits most purposes.
 pub const LIMIT: u32 = 65536;
@@ -126,6 +126,27 @@ pub enum Verdict {
     },
     /// There is no certificate.
     Empty,
+}
+
+/// What the chain that orders ask for comes to.
+#[derive(Clone, Copy, Debug, PartialEq, Eq)]
+pub enum Audit {
+    /// It is trusted under its own root, where its signatures are right.
+    Trusted,
+    /// Its certificate at `place`, the first that breaks a rule, breaks `rule`, its first one.
+    Refused {
+        /// The place of the certificate, counted from 0.
+        place: u64,
+        /// The rule.
+        rule: Rule,
+    },
+    /// There is none: the order at `place` is refused.
+    NotIssued {
+        /// The place of the order, counted from 0.
+        place: u64,
+        /// What is wrong with it.
+        fault: OrderFault,
+    },
 }
 
 /// What a chain is judged by.
@@ -277,6 +298,16 @@ pub fn signed_part(orders: &str, place: u32, algorithm: &[u8]) -> Result<Vec<u8>
 /// Those of [`signed_part`].
 pub fn issue(orders: &str, place: u32, algorithm: &[u8], signature: &[u8]) -> Result<Vec<u8>> {
     calls::issue(orders.as_bytes(), place, algorithm, signature)
+}
+
+/// What the chain that an orders file asks for, signed by this algorithm, comes to under its own
+/// root at a validation time (seconds since 1970-01-01T00:00:00Z) and for a key purpose (the content
+/// octets of its identifier), where its signatures are right.
+///
+/// # Errors
+/// `Arguments` where the orders file, the algorithm or the purpose is faulty, `Memory`.
+pub fn audit(orders: &str, algorithm: &[u8], moment: u64, purpose: &[u8]) -> Result<Audit> {
+    calls::audit(orders.as_bytes(), algorithm, moment, purpose)
 }
 
 /// Text that a call wrote, which is UTF-8.

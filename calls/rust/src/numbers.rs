@@ -1,4 +1,4 @@
-//! The numbers of rules and of kinds of faults, those of `wurstdrape.h`.
+//! The numbers of rules, of reasons and of kinds of faults, those of `wurstdrape.h`.
 
 /// The rules of a chain (RFC 5280 6.1), in the order in which they are judged.
 #[derive(Clone, Copy, Debug, PartialEq, Eq)]
@@ -47,6 +47,47 @@ impl Rule {
 
     pub(crate) fn of(number: u64) -> Rule {
         Rule::ALL[number as usize - 1]
+    }
+}
+
+/// Why orders are refused.
+#[derive(Clone, Copy, Debug, PartialEq, Eq)]
+#[repr(u8)]
+pub enum OrderFault {
+    /// There is no order.
+    NoOrders = 21,
+    /// The text of the name isn't read.
+    Name = 22,
+    /// The name isn't one of a CA.
+    RootName = 23,
+    /// The name has an attribute that is no country and no common name.
+    SubscriberName = 24,
+    /// The serial number has no octets, or more than 20.
+    Serial = 25,
+    /// The text of a date isn't read, or the last date is before the first.
+    Dates = 26,
+    /// There is no DNS name, or one that isn't ASCII.
+    DnsName = 27,
+    /// A length passes 2^32 - 1.
+    TooLong = 28,
+}
+
+impl OrderFault {
+    /// All of them, in the order of their numbers.
+    pub const ALL: [OrderFault; 8] = [
+        OrderFault::NoOrders,
+        OrderFault::Name,
+        OrderFault::RootName,
+        OrderFault::SubscriberName,
+        OrderFault::Serial,
+        OrderFault::Dates,
+        OrderFault::DnsName,
+        OrderFault::TooLong,
+    ];
+
+    /// The one of a number, which is none where it is that of a rule.
+    pub(crate) fn of(number: u64) -> Option<OrderFault> {
+        OrderFault::ALL.into_iter().find(|fault| *fault as u64 == number)
     }
 }
 

@@ -4,7 +4,9 @@
 use std::fs;
 use std::path::Path;
 
-use wurstdrape::{ChainFault, Error, FaultKind, Kind, Parts, Rule, Terms, Verdict, SERVER_AUTH};
+use wurstdrape::{
+    Audit, ChainFault, Error, FaultKind, Kind, OrderFault, Parts, Rule, Terms, Verdict, SERVER_AUTH,
+};
 
 // 2026-05-28
 const MOMENT: u64 = 1_780_000_000;
@@ -191,6 +193,28 @@ fn a_chain_is_issued_by_signatures_from_outside() {
     assert_eq!(no("order\n", 0, &algorithm), Error::Arguments);
     assert_eq!(no(&orders, 0, &[]), Error::Arguments);
     assert_eq!(no("", 0, &algorithm), Error::Refused);
+}
+
+#[test]
+fn orders_are_audited_before_a_signature_is_made() {
+    let orders = String::from_utf8(read("examples/orders.txt")).unwrap();
+    let algorithm = [0x30, 10, 6, 8, 0x2a, 0x86, 0x48, 0xce, 0x3d, 4, 3, 2];
+    let audit = |orders: &str, moment| {
+        wurstdrape::audit(orders, &algorithm, moment, SERVER_AUTH)
+    };
+    assert_eq!(audit(&orders, 1780000000), Ok(Audit::Trusted));
+    let rule = |place, rule| Ok(Audit::Refused { place, rule });
+    assert_eq!(audit(&orders, 1), rule(0, Rule::NotYetValid));
+    assert_eq!(audit(&orders, 1830000000), rule(2, Rule::Expired));
+    let not_issued = |place, fault| Ok(Audit::NotIssued { place, fault });
+    assert_eq!(audit("", 1), not_issued(0, OrderFault::NoOrders));
+    let long = orders.replace("serial 02", &format!("serial 01{}", "00".repeat(20)));
+    assert_eq!(audit(&long, 1), not_issued(1, OrderFault::Serial));
+    assert_eq!(audit("order\n", 1), Err(Error::Arguments));
+    for (algorithm, purpose) in [(&algorithm[..], &[][..]), (&[], SERVER_AUTH)] {
+        let none = wurstdrape::audit(&orders, algorithm, 1, purpose);
+        assert_eq!(none, Err(Error::Arguments));
+    }
 }
 
 #[test]

@@ -1,6 +1,9 @@
-//! What the calls for C share: the number of a status, and texts in the caller's buffers.
+//! What the calls for C share: the numbers of statuses and of rules, and texts in the caller's
+//! buffers.
 #![tactic(auto)]
 
+mod numbers;
 mod rooms;
 
+pub use numbers::rule_number;
 pub use rooms::{code, give};

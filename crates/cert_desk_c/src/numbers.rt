@@ -2,14 +2,13 @@
 ghost use Rattle.std.specs.Prelude.{◌≡◌};
 ghost use Rattle.cert_desk_io.specs.Statuses.{code_of};
 ghost use Rattle.cert_desk_bundle.specs.Faults.{rank};
-ghost use Rattle.cert_desk_rules.specs.Judging.{number};
 ghost use Rattle.cert_desk_checking.specs.Runs.{status_of};
 ghost use Rattle.cert_desk_c.specs.Judged.{Tells};
 
-use cert_desk_buffers::code;
+use cert_desk_buffers::{code, rule_number};
 use cert_desk_bundle::FaultKind;
 use cert_desk_checking::status_of;
-use cert_desk_rules::{Rule, Verdict};
+use cert_desk_rules::Verdict;
 
 /// Where a chain is refused, and by which rule; or where its octets have a fault, and of which
 /// kind.
@@ -21,25 +20,6 @@ pub struct WdPlace {
     pub offset: u64,
     /// The number of the rule, or of the kind of fault.
     pub number: u64,
-}
-
-// The number of a rule.
-fn rule_number(rule: Rule) -> u64
-    ensures { result ≡ number rule }
-{
-    match rule {
-        Rule::AlgorithmsDiffer => 1,
-        Rule::DuplicateExtension => 2,
-        Rule::MalformedExtension => 3,
-        Rule::UnweighedCritical => 4,
-        Rule::WrongIssuer => 5,
-        Rule::NotYetValid => 6,
-        Rule::Expired => 7,
-        Rule::AgainstPurpose => 8,
-        Rule::NotAuthority => 9,
-        Rule::PathTooLong => 10,
-        Rule::WrongSignature => 11,
-    }
 }
 
 // The number of a kind of fault.

@@ -17,13 +17,16 @@ use Rattle.cert_desk_bundle.specs.Chains.{Chain}
 use Rattle.cert_desk_bundle.proofs.OneChain.{one_chain}
 use Rattle.cert_desk_orders.specs.declared.order.Order.{Order}
 use Rattle.cert_desk_orders.specs.OrdersFile.{SaysOrders}
+use Rattle.cert_desk_issuing.specs.declared.issue_error.IssueError.{IssueError}
+use Rattle.cert_desk_issuing.specs.declared.issue_error.IssueError.TheVariants as errors
 use Rattle.cert_desk_issuing.specs.Acceptance.{AcceptedOrders}
 use Rattle.cert_desk_issuing.specs.Chains.{IssuedChain}
 use Rattle.cert_desk_issuing.specs.Roles.{place_above, signers_for}
 use Rattle.cert_desk_issuing.specs.Runs.{signing_keys}
 use Rattle.cert_desk_issuing.proofs.AcceptedFronts.{plain_at}
 use Rattle.cert_desk_issuing_c.specs.declared.given_signer.GivenSigner.{GivenSigner}
-use Rattle.cert_desk_issuing_c.specs.Signing.{AreOrdered, AreSigners, HoldEach, IsBeyond, IsFault, IsRefusal, IsRefusalAt, PlainSigner, RefusesEach, all_bits, given_algorithm, given_key, gives, signer_for, signer_plain}
+use Rattle.cert_desk_issuing_c.specs.Reasons.{status_of}
+use Rattle.cert_desk_issuing_c.specs.Signing.{AreOrdered, AreRefusedFor, AreSigners, HoldEach, IsBeyond, IsFault, IsRefusal, IsRefusalAt, PlainSigner, RefusesEach, all_bits, given_algorithm, given_key, gives, signer_for, signer_plain}
 
 -- Two lists of which the same is said, one after the other
 
@@ -75,11 +78,33 @@ pub fault_by : {A B : Type 0} (status : ExitStatus) → (A → B) → IsFault A 
 fault_by status f (inl why) = inl (why.0, f why.1)
 fault_by status f (inr memory) = inr memory
 
-pub refused_by : (orders algorithm signature : List ℕ) (said others : List Order) (a : Algorithm) (bits : Bits) (status : ExitStatus) → SaysOrders orders said → Spells (algorithm_identifier Bound) a algorithm → others ≡ said → bits ≡ all_bits signature
-    → ((status ≡ statuses.Refused) × RefusesEach others a bits) ⊎ (status ≡ statuses.Memory) → IsRefusal orders algorithm signature status
-refused_by orders algorithm signature said others a bits status says spelled e f (inl why) =
-    inl (why.0, (said, a, says, spelled, subst (λ (b : Bits). RefusesEach said a b) f (subst (λ (os : List Order). RefusesEach os a bits) e why.1)))
-refused_by orders algorithm signature said others a bits status says spelled e f (inr memory) = inr (inr memory)
+-- a reason that isn't want of memory is a refusal
+memory_or_not : (error : IssueError) → (error ≡ errors.OutOfMemory) ⊎ ((error ≢ errors.OutOfMemory) × (status_of error ≡ statuses.Refused))
+memory_or_not errors.OutOfMemory = inl refl
+memory_or_not _ = inr ((λ e. absurd cc), refl)
+
+the_reason : {A B : Type 0} → A ⊎ B → (A → ⊥) → B
+the_reason (inl a) other = absurd (other a)
+the_reason (inr b) other = b
+
+module _ (orders algorithm signature : List ℕ) (said others : List Order) (a : Algorithm) (bits : Bits) (error : IssueError) (says : SaysOrders orders said) (spelled : Spells (algorithm_identifier Bound) a algorithm)
+    (e : others ≡ said) (f : bits ≡ all_bits signature) (why : (error ≡ errors.OutOfMemory) ⊎ RefusesEach others a bits error) where
+  pub refused_for : (error ≡ errors.OutOfMemory) ⊎ (AreRefusedFor orders algorithm signature error × (status_of error ≡ statuses.Refused))
+  refused_for = by_kind (memory_or_not error)
+    where
+      by_kind : (error ≡ errors.OutOfMemory) ⊎ ((error ≢ errors.OutOfMemory) × (status_of error ≡ statuses.Refused)) → (error ≡ errors.OutOfMemory) ⊎ (AreRefusedFor orders algorithm signature error × (status_of error ≡ statuses.Refused))
+      by_kind (inl memory) = inl memory
+      by_kind (inr other) =
+          let reason = the_reason why other.0 in
+          let here = subst (λ (b : Bits). RefusesEach said a b error) f (subst (λ (os : List Order). RefusesEach os a bits error) e reason) in
+          inr (((said, a, says, spelled, here), other.0), other.1)
+
+  pub refused_by : (status : ExitStatus) → status ≡ status_of error → IsRefusal orders algorithm signature status
+  refused_by status is = by_reason refused_for
+    where
+      by_reason : (error ≡ errors.OutOfMemory) ⊎ (AreRefusedFor orders algorithm signature error × (status_of error ≡ statuses.Refused)) → IsRefusal orders algorithm signature status
+      by_reason (inl memory) = inr (inr (is ∙ ap status_of memory))
+      by_reason (inr refused) = inl (is ∙ refused.1, (error, refused.0))
 
 -- each status is known, and isn't that of faulty octets
 abbrev pub IsKnown : ℕ → Type 0

@@ -1,1 +1,3 @@
+pub mod Auditing
+pub mod Reasons
 pub mod Signing

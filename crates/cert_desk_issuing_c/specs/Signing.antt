@@ -72,13 +72,11 @@ abbrev pub AreSigners : List Order → Algorithm → Bits → List GivenSigner �
 AreSigners said algorithm bits signers = map signer_plain signers
     ≡ map (signer_for algorithm bits) (take (signers_for (length said)) said)
 
--- No chain is made of these orders by this algorithm and with these bits, for a reason that isn't
--- want of memory.
-abbrev pub RefusesEach : List Order → Algorithm → Bits → Type 0
-RefusesEach said algorithm bits =
-    (signers : List GivenSigner) × (error : IssueError) × AreSigners said algorithm bits signers
+-- No chain is made of these orders by this algorithm and with these bits, for this reason.
+abbrev pub RefusesEach : List Order → Algorithm → Bits → IssueError → Type 0
+RefusesEach said algorithm bits error =
+    (signers : List GivenSigner) × AreSigners said algorithm bits signers
     × Refuses given_key given_algorithm gives (λ signer octets. ⊥) said signers error
-    × (error ≢ errors.OutOfMemory)
 
 -- The octets are an orders file and an algorithm, and it is so of what they say.
 abbrev pub UnderOrders : List ℕ → List ℕ → (List Order → Algorithm → Type 0) → Type 0
@@ -105,9 +103,14 @@ IsSignedPart orders place algorithm octets =
     × (slice_get cs place ≡ Some c) × (octets ≡ part_octets (tbs c))
 
 -- Why there is none: the orders are refused, there is none at the place, or an argument is faulty.
+abbrev pub AreRefusedFor : List ℕ → List ℕ → List ℕ → IssueError → Type 0
+AreRefusedFor orders algorithm signature error =
+    UnderOrders orders algorithm (λ said a. RefusesEach said a (all_bits signature) error)
+    × (error ≢ errors.OutOfMemory)
+
 abbrev pub AreRefused : List ℕ → List ℕ → List ℕ → Type 0
 AreRefused orders algorithm signature =
-    UnderOrders orders algorithm (λ said a. RefusesEach said a (all_bits signature))
+    (error : IssueError) × AreRefusedFor orders algorithm signature error
 
 abbrev pub IsBeyond : List ℕ → ℕ → Type 0
 IsBeyond orders place = (said : List Order) × SaysOrders orders said × (length said ≤ place)

@@ -16,6 +16,7 @@ ghost use Rattle.cert_desk_issuing_c.specs.Signing.{IsNoAlgorithm, IsRefusal, Is
 ghost use Rattle.cert_desk_issuing_c.specs.Signing.{IsSignedPart, RefusesEach, all_bits};
 
 use crate::given_signer::GivenSigner;
+use crate::reasons::status_of;
 use cert_desk_buffers::{code, give};
 use cert_desk_io::ExitStatus;
 use cert_desk_issuing::{IssueError, Issued, issue};
@@ -27,8 +28,8 @@ use std::alloc::{AllocError, Global};
 use x509_cert_certificates::Certificate;
 use x509_cert_parts::AlgorithmIdentifier;
 
-// The orders that octets say, or the status.
-fn orders_of(alloc: Global, octets: &[u8]) -> Result<Vec<Order>, ExitStatus>
+/// The orders that octets say, or the status.
+pub(crate) fn orders_of(alloc: Global, octets: &[u8]) -> Result<Vec<Order>, ExitStatus>
     ensures said { IfOk result (λ orders. SaysOrders octets.now orders.items) }
     ensures refused { IfErr result (IsFault (faulty_line octets.now ≢ None)) }
 {
@@ -39,8 +40,8 @@ fn orders_of(alloc: Global, octets: &[u8]) -> Result<Vec<Order>, ExitStatus>
     }
 }
 
-// The algorithm that octets encode, or the status.
-fn algorithm_of(alloc: Global, octets: &[u8]) -> Result<AlgorithmIdentifier, ExitStatus>
+/// The algorithm that octets encode, or the status.
+pub(crate) fn algorithm_of(alloc: Global, octets: &[u8]) -> Result<AlgorithmIdentifier, ExitStatus>
     ensures spelled { IfOk result
         (λ a. Spells (algorithm_identifier Bound) (algorithm_plain a) octets.now) }
     ensures refused { IfErr result (IsFault (IsNoAlgorithm octets.now)) }
@@ -56,8 +57,8 @@ fn algorithm_of(alloc: Global, octets: &[u8]) -> Result<AlgorithmIdentifier, Exi
     }
 }
 
-// All bits of octets, or the status.
-fn bits_of(alloc: Global, octets: &[u8]) -> Result<BitString, ExitStatus>
+/// All bits of octets, or the status.
+pub(crate) fn bits_of(alloc: Global, octets: &[u8]) -> Result<BitString, ExitStatus>
     ensures bits { IfOk result (λ bits. bits ≡ all_bits octets.now) }
     ensures refused { IfErr result (IsFault (length_max < length octets.now)) }
 {
@@ -102,21 +103,20 @@ fn signers_of<'a>(
     Ok(signers)
 }
 
-// The chain that orders ask for, by this algorithm and with these bits, or the status.
-fn issued_of(
+/// The chain that orders ask for, by this algorithm and with these bits, or why there is none.
+pub(crate) fn issued_of(
     alloc: Global,
     orders: &[Order],
     algorithm: &AlgorithmIdentifier,
     signature: &BitString,
-) -> Result<Issued, ExitStatus>
+) -> Result<Issued, IssueError>
     ensures issued { IfOk result (λ i. HoldEach orders.now (algorithm_plain algorithm.now)
         signature.now i.certificates) }
-    ensures refused { IfErr result (λ status. ((status ≡ statuses.Refused)
-        × RefusesEach orders.now (algorithm_plain algorithm.now) signature.now)
-        ⊎ (status ≡ statuses.Memory)) }
+    ensures refused { IfErr result (λ error. (error ≡ IssueError.OutOfMemory)
+        ⊎ RefusesEach orders.now (algorithm_plain algorithm.now) signature.now error) }
 {
     let Ok(signers) = signers_of(alloc, orders, algorithm, signature) else {
-        return Err(ExitStatus::Memory);
+        return Err(IssueError::OutOfMemory);
     };
     match issue(alloc, orders, signers.as_slice()) {
         Ok(issued) => {
@@ -124,12 +124,7 @@ fn issued_of(
             issued.stream();
             Ok(issued)
         }
-        Err(error) => {
-            if let IssueError::OutOfMemory = error {
-                return Err(ExitStatus::Memory);
-            }
-            Err(ExitStatus::Refused)
-        }
+        Err(error) => Err(error),
     }
 }
 
@@ -159,7 +154,7 @@ fn chain_of(
     };
     match issued_of(alloc, said.as_slice(), &by, &bits) {
         Ok(issued) => Ok(issued),
-        Err(status) => Err(status),
+        Err(error) => Err(status_of(&error)),
     }
 }
 

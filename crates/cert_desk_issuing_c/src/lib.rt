@@ -2,5 +2,8 @@
 //! kept between calls, so threads may call at once.
 #![tactic(auto)]
 
+mod auditing;
 mod given_signer;
 mod issuing;
+mod reasons;
+mod willing_judge;

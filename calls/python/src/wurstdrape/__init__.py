@@ -22,6 +22,7 @@ import pathlib
 import typing
 
 __all__ = [
+    "Audit",
     "ChainFault",
     "Error",
     "Fault",
@@ -29,12 +30,14 @@ __all__ = [
     "Kind",
     "LIMIT",
     "Malformed",
+    "OrderFault",
     "Parts",
     "Rule",
     "SERVER_AUTH",
     "Status",
     "Validity",
     "Verdict",
+    "audit",
     "describe",
     "describe_text",
     "extension",
@@ -112,6 +115,19 @@ class ChainFault(enum.IntEnum):
     TOO_LARGE = 5
     MALFORMED = 6
     TRUNCATED = 7
+
+
+class OrderFault(enum.IntEnum):
+    """Why orders are refused."""
+
+    NO_ORDERS = 21
+    NAME = 22
+    ROOT_NAME = 23
+    SUBSCRIBER_NAME = 24
+    SERIAL = 25
+    DATES = 26
+    DNS_NAME = 27
+    TOO_LONG = 28
 
 
 class FaultKind(enum.IntEnum):
@@ -209,6 +225,22 @@ class Verdict:
         return self.status is Status.DONE
 
 
+@dataclasses.dataclass(frozen=True)
+class Audit:
+    """What the chain that orders ask for comes to."""
+
+    status: Status
+    # The certificate that breaks the rule, or the order that is refused, counted from 0.
+    place: int | None = None
+    rule: Rule | None = None
+    fault: OrderFault | None = None
+
+    @property
+    def trusted(self) -> bool:
+        """Whether the chain is trusted where its signatures are right."""
+        return self.status is Status.DONE
+
+
 class _Fault(ctypes.Structure):
     _fields_ = [("kind", ctypes.c_uint32), ("octet", ctypes.c_uint64)]
 
@@ -227,6 +259,10 @@ class _Spans(ctypes.Structure):
 
 class _Place(ctypes.Structure):
     _fields_ = [(name, ctypes.c_uint64) for name in ("place", "offset", "number")]
+
+
+class _Reason(ctypes.Structure):
+    _fields_ = [(name, ctypes.c_uint64) for name in ("place", "number")]
 
 
 _IN = [ctypes.c_char_p, ctypes.c_size_t]
@@ -254,6 +290,7 @@ for _kind in Kind:
 _ISSUING_CALLS = {
     "wd_signed_part": _IN + [ctypes.c_uint32] + _IN + _OUT,
     "wd_issue": _IN + [ctypes.c_uint32] + _IN * 2 + _OUT,
+    "wd_audit": _IN * 2 + [ctypes.c_uint64] + _IN + [ctypes.POINTER(_Reason)],
 }
 
 
@@ -557,3 +594,25 @@ def issue(
             return certificates
         signature = sign(max(place - 1, 0), part)
         certificates.append(issued(orders, place, algorithm, signature))
+
+
+def audit(
+    orders: str,
+    algorithm: Octets,
+    at: datetime.datetime | int | None = None,
+    purpose: str = SERVER_AUTH,
+) -> Audit:
+    """What the chain that an orders file asks for, signed by this algorithm, comes to under its own
+    root, where its signatures are right: nothing is signed yet. Without `at` the moment is now.
+
+    Faulty orders and a faulty algorithm raise `Error`."""
+    told = _Reason()
+    lent = [*_lent(orders.encode()), *_lent(algorithm), _seconds(at)]
+    purpose_octets = _lent(identifier_of_text(purpose))
+    status = Status(_issuing().wd_audit(*lent, *purpose_octets, ctypes.byref(told)))
+    if status is Status.REFUSED:
+        if told.number in OrderFault.__members__.values():
+            return Audit(status, place=told.place, fault=OrderFault(told.number))
+        return Audit(status, place=told.place, rule=Rule(told.number))
+    _raise_unless_done("chain", status)
+    return Audit(status)

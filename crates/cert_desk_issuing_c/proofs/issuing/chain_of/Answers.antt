@@ -28,5 +28,5 @@ returns-in-Ok-issued_of-clause-issued c =
 
 pub returns-clause-refused : goal.returns-clause-refused
 returns-clause-refused c =
-    refused_by c.args.orders.now c.args.algorithm.now c.args.signature.now c.in-Ok.said.items c.as_slice.result.now (algorithm_plain c.in-Ok-algorithm_of.by) c.in-Ok-bits_of.bits c.in-Err-issued_of.status
-    c.in-Ok.ensures.said c.in-Ok-algorithm_of.ensures.spelled c.as_slice.ensures.value c.in-Ok-bits_of.ensures.bits c.in-Err-issued_of.ensures.refused
+    refused_by c.args.orders.now c.args.algorithm.now c.args.signature.now c.in-Ok.said.items c.as_slice.result.now (algorithm_plain c.in-Ok-algorithm_of.by) c.in-Ok-bits_of.bits c.in-Err-issued_of.error
+    c.in-Ok.ensures.said c.in-Ok-algorithm_of.ensures.spelled c.as_slice.ensures.value c.in-Ok-bits_of.ensures.bits c.in-Err-issued_of.ensures.refused c.status_of.result c.status_of.ensures

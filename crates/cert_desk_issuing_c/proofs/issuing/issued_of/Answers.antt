@@ -1,4 +1,4 @@
-use Rattle.std.proofs.Common.{map, inl, refl, ap, ◌∙◌}
+use Rattle.std.proofs.Common.{map, inr, ap, ◌∙◌}
 use Rattle.x509_cert_parts.specs.Views.{algorithm_plain}
 use Rattle.cert_desk_issuing_c.specs.Signing.{signer_plain}
 use Rattle.cert_desk_issuing_c.proofs.GivenChains.{hold_each}
@@ -11,4 +11,4 @@ returns-in-Ok-issue-clause-issued c =
 
 pub returns-clause-refused : goal.returns-clause-refused
 returns-clause-refused c =
-    inl (refl, (c.as_slice.result.now, c.in-Err.error, ap (map signer_plain) c.as_slice.ensures.value ∙ c.in-Ok.ensures, c.in-Err.ensures.refused, c.in_default-error.not-OutOfMemory))
+    inr (c.as_slice.result.now, ap (map signer_plain) c.as_slice.ensures.value ∙ c.in-Ok.ensures, c.in-Err.ensures.refused)

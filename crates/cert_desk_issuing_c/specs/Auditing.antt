@@ -1,0 +1,85 @@
+-- What the chain that orders ask for comes to, whoever signs it.
+use Rattle.std.specs.Prelude.{◌≡◌, ◌≢◌, ◌≤◌, ◌⊎◌, ℕ, List, [], ◌∷◌, length, true}
+use Rattle.const_oid.specs.Bound.{Bound}
+use Rattle.const_oid.specs.IdentifierOctets.{IsIdentifier, identifier_octets}
+use Rattle.der_core_head.specs.Limits.{length_max}
+use Rattle.x509_cert_certificates.specs.Certificates.{PlainCertificate}
+use Rattle.cert_desk_io.specs.declared.exit_status.ExitStatus.{ExitStatus}
+use Rattle.cert_desk_io.specs.declared.exit_status.ExitStatus.TheVariants as statuses
+use Rattle.cert_desk_rules.specs.declared.checked.Verdict.{Verdict}
+use Rattle.cert_desk_rules.specs.declared.checked.Verdict.TheVariants as verdicts
+use Rattle.cert_desk_rules.specs.declared.rule.Rule.{Rule}
+use Rattle.cert_desk_rules.specs.Judging.{Answers, number}
+use Rattle.cert_desk_rules.specs.Verdicts.{Refused, Trusted}
+use Rattle.cert_desk_orders.specs.declared.order.Order.{Order}
+use Rattle.cert_desk_issuing.specs.declared.issue_error.IssueError.{IssueError}
+use Rattle.cert_desk_issuing.specs.Acceptance.{AcceptedOrders}
+use Rattle.cert_desk_issuing.specs.Chains.{HoldsOrders}
+use Rattle.cert_desk_issuing.specs.Laws.{AreAnswered, AreWithin, terms_for}
+use Rattle.cert_desk_issuing.specs.PlainOrders.{PlainOrder}
+use Rattle.cert_desk_issuing.specs.Runs.{signing_keys}
+use Rattle.cert_desk_issuing_c.specs.Reasons.{place_of, reason_number}
+use Rattle.cert_desk_issuing_c.specs.Signing.{AreFaulty, AreRefusedFor, UnderOrders}
+
+-- yes to each signature
+abbrev pub always : Answers
+always = λ key algorithm octets bits. true
+
+-- Each chain that holds what these orders ask for is trusted under its own root, where each of its
+-- certificates is within the limit and each of its signatures is right.
+abbrev pub AreTrusted : ℕ → List ℕ → PlainOrder → List PlainOrder → Type 0
+AreTrusted moment purpose root below =
+    (cs : List PlainCertificate) (stream : List ℕ) (limit : ℕ) (answers : Answers)
+    → HoldsOrders (root ∷ below) cs stream → AreWithin limit cs
+    → AreAnswered answers (root ∷ below) cs
+    → Trusted (terms_for root moment purpose answers) limit stream
+
+-- A chain that holds it is refused at a place, though each signature is right.
+abbrev pub IsBroken : ℕ → List ℕ → PlainOrder → List PlainOrder → ℕ → Rule → Type 0
+IsBroken moment purpose root below place rule =
+    (cs : List PlainCertificate) × (stream : List ℕ) × HoldsOrders (root ∷ below) cs stream
+    × Refused (terms_for root moment purpose always) length_max stream place rule
+
+-- what the chain of orders is judged to be
+abbrev pub Judges : ℕ → List ℕ → PlainOrder → List PlainOrder → Verdict → Type 0
+Judges moment purpose root below verdicts.Trusted = AreTrusted moment purpose root below
+Judges moment purpose root below (verdicts.Refused place rule) =
+    IsBroken moment purpose root below place rule
+Judges moment purpose root below _ = ⊥
+
+-- The orders are accepted, and it is so of what they ask for, the root first.
+abbrev pub UnderAccepted : List Order → (PlainOrder → List PlainOrder → Type 0) → Type 0
+UnderAccepted said Says =
+    (root : PlainOrder) × (below : List PlainOrder)
+    × AcceptedOrders said (signing_keys said) (root ∷ below) × Says root below
+
+abbrev pub IsJudged : List Order → ℕ → List ℕ → Verdict → Type 0
+IsJudged said moment purpose verdict =
+    UnderAccepted said (λ root below. Judges moment purpose root below verdict)
+
+-- The octets are accepted orders, an algorithm and an identifier, and it is so of these.
+abbrev pub UnderAsked : List ℕ → List ℕ → List ℕ → (List ℕ → PlainOrder → List PlainOrder → Type 0)
+    → Type 0
+UnderAsked orders algorithm purpose Says =
+    (arcs : List ℕ) × (purpose ≡ identifier_octets arcs)
+    × UnderOrders orders algorithm (λ said a. UnderAccepted said (Says arcs))
+
+abbrev pub IsNoPurpose : List ℕ → Type 0
+IsNoPurpose purpose = (arcs : List ℕ) → IsIdentifier Bound arcs → length purpose ≤ 39
+    → purpose ≢ identifier_octets arcs
+
+-- What is so with a status: each such chain is trusted; the orders are refused, or a chain of them,
+-- at the place and for the reason told; an argument is faulty; there was no memory.
+abbrev pub IsAudit : List ℕ → List ℕ → ℕ → List ℕ → ℕ → ℕ → ExitStatus → Type 0
+IsAudit orders algorithm moment purpose place told statuses.Done =
+    UnderAsked orders algorithm purpose (λ arcs root below. AreTrusted moment arcs root below)
+IsAudit orders algorithm moment purpose place told statuses.Refused =
+    ((error : IssueError) × (place ≡ place_of error) × (told ≡ reason_number error)
+    × AreRefusedFor orders algorithm [] error)
+    ⊎ UnderAsked orders algorithm purpose
+    (λ arcs root below. (rule : Rule) × (told ≡ number rule)
+    × IsBroken moment arcs root below place rule)
+IsAudit orders algorithm moment purpose place told statuses.Arguments =
+    AreFaulty orders algorithm [] ⊎ IsNoPurpose purpose
+IsAudit orders algorithm moment purpose place told statuses.Memory = Unit {0}
+IsAudit orders algorithm moment purpose place told _ = ⊥

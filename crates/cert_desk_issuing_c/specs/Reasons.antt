@@ -1,0 +1,43 @@
+-- Why orders are refused, and which rule their chain breaks, in numbers.
+use Rattle.std.specs.Prelude.{◌≡◌, ℕ}
+use Rattle.cert_desk_io.specs.declared.exit_status.ExitStatus.{ExitStatus}
+use Rattle.cert_desk_io.specs.declared.exit_status.ExitStatus.TheVariants as statuses
+use Rattle.cert_desk_rules.specs.declared.checked.Verdict.{Verdict}
+use Rattle.cert_desk_rules.specs.declared.checked.Verdict.TheVariants as verdicts
+use Rattle.cert_desk_rules.specs.Judging.{number}
+use Rattle.cert_desk_issuing.specs.declared.issue_error.IssueError.{IssueError}
+use Rattle.cert_desk_issuing.specs.declared.issue_error.IssueError.TheVariants as errors
+
+abbrev pub status_of : IssueError → ExitStatus
+status_of errors.OutOfMemory = statuses.Memory
+status_of _ = statuses.Refused
+
+-- the place of the order that is refused
+abbrev pub place_of : IssueError → ℕ
+place_of (errors.Name place) = place
+place_of (errors.RootName place error) = place
+place_of (errors.SubscriberName place) = place
+place_of (errors.Serial place) = place
+place_of (errors.Dates place) = place
+place_of (errors.DnsName place) = place
+place_of (errors.TooLong place) = place
+place_of _ = 0
+
+-- No rule has one of these numbers. Signers of the orders' own keys are as many as these need, have
+-- the keys of these, and refuse nothing.
+abbrev pub reason_number : IssueError → ℕ
+reason_number errors.NoOrders = 21
+reason_number (errors.Name place) = 22
+reason_number (errors.RootName place error) = 23
+reason_number (errors.SubscriberName place) = 24
+reason_number (errors.Serial place) = 25
+reason_number (errors.Dates place) = 26
+reason_number (errors.DnsName place) = 27
+reason_number (errors.TooLong place) = 28
+reason_number _ = 0
+
+-- What is told of the verdict on a chain that has no fault and isn't empty, and the status.
+abbrev pub TellsVerdict : Verdict → ℕ → ℕ → ExitStatus → Type 0
+TellsVerdict (verdicts.Refused at rule) place told status =
+    (place ≡ at) × (told ≡ number rule) × (status ≡ statuses.Refused)
+TellsVerdict _ place told status = status ≡ statuses.Done

@@ -1,0 +1,99 @@
+//! What the chain that orders ask for comes to, whoever signs it.
+ghost use Rattle.std.specs.Prelude.{◌≡◌, ◌⊎◌, IfOk, IfErr};
+ghost use Rattle.x509_cert_parts.specs.Views.{algorithm_plain};
+ghost use Rattle.cert_desk_io.specs.Statuses.{code_of};
+ghost use Rattle.cert_desk_issuing_c.specs.Auditing.{IsAudit, IsJudged};
+ghost use Rattle.cert_desk_issuing_c.specs.Signing.{RefusesEach};
+
+use crate::issuing::{algorithm_of, bits_of, issued_of, orders_of};
+use crate::reasons::{WdReason, tell_error, tell_verdict};
+use crate::willing_judge::WillingJudge;
+use cert_desk_buffers::code;
+use cert_desk_io::ExitStatus;
+use cert_desk_issuing::IssueError;
+use cert_desk_orders::Order;
+use cert_desk_rules::Verdict;
+use const_oid::ObjectIdentifier;
+use der_types_values::BitString;
+use std::alloc::Global;
+use x509_cert_parts::AlgorithmIdentifier;
+
+// The verdict on the chain that orders ask for, where each signature is right.
+fn verdict_of(
+    alloc: Global,
+    orders: &[Order],
+    algorithm: &AlgorithmIdentifier,
+    signature: &BitString,
+    moment: u64,
+    purpose: &ObjectIdentifier<39>,
+) -> Result<Verdict, IssueError>
+    ensures judged { IfOk result (λ verdict. IsJudged orders.now moment purpose.now verdict) }
+    ensures refused { IfErr result (λ error. (error ≡ IssueError.OutOfMemory)
+        ⊎ RefusesEach orders.now (algorithm_plain algorithm.now) signature.now error) }
+{
+    let issued = match issued_of(alloc, orders, algorithm, signature) {
+        Ok(issued) => issued,
+        Err(error) => return Err(error),
+    };
+    // The certificates are those of the stream.
+    issued.stream();
+    let mut judge = WillingJudge { questions: 0 };
+    match issued.audit(alloc, u32::MAX, moment, purpose, &mut judge) {
+        Ok(checked) => Ok(checked.verdict),
+        Err(_) => Err(IssueError::OutOfMemory),
+    }
+}
+
+// What `wd_audit` says, as a status.
+fn audit_of(
+    alloc: Global,
+    orders: &[u8],
+    algorithm: &[u8],
+    moment: u64,
+    purpose: &[u8],
+    told: &mut WdReason,
+) -> ExitStatus
+    ensures { IsAudit orders.now algorithm.now moment purpose.now told.new.place told.new.number
+        result }
+{
+    let Ok(purpose) = ObjectIdentifier::<39>::from_bytes(purpose) else {
+        return ExitStatus::Arguments;
+    };
+    let said = match orders_of(alloc, orders) {
+        Ok(said) => said,
+        Err(status) => return status,
+    };
+    let by = match algorithm_of(alloc, algorithm) {
+        Ok(by) => by,
+        Err(status) => return status,
+    };
+    let bits = match bits_of(alloc, &[]) {
+        Ok(bits) => bits,
+        Err(status) => return status,
+    };
+    match verdict_of(alloc, said.as_slice(), &by, &bits, moment, &purpose) {
+        Ok(verdict) => tell_verdict(verdict, told),
+        Err(error) => tell_error(&error, told),
+    }
+}
+
+/// Whether each chain that an orders file asks for, signed by this algorithm, is trusted under its
+/// own root at a validation time (seconds since 1970-01-01T00:00:00Z) and for a key purpose (the
+/// content octets of its identifier), where its signatures are right: 0 where it is, 1 where the
+/// orders are refused, or a rule is broken, and then `told` says where, and for which reason or
+/// which rule, 4 where the orders file, the algorithm or the purpose is faulty, 6 out of memory.
+#[unsafe(no_mangle)]
+pub extern "C" fn wd_audit(
+    alloc: Global,
+    orders: &[u8],
+    algorithm: &[u8],
+    moment: u64,
+    purpose: &[u8],
+    told: &mut WdReason,
+) -> u32
+    ensures { (status : ExitStatus) × (result ≡ code_of status)
+        × IsAudit orders.now algorithm.now moment purpose.now told.new.place told.new.number
+        status }
+{
+    code(audit_of(alloc, orders, algorithm, moment, purpose, told))
+}

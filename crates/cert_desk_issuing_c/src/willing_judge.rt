@@ -1,0 +1,30 @@
+//! A judge that finds each signature right.
+
+use cert_desk_rules::SignatureJudge;
+use der_types_values::BitString;
+use x509_cert_parts::{AlgorithmIdentifier, SubjectPublicKeyInfo};
+
+/// A judge that says yes, whatever it is asked: by it a chain is judged that isn't signed yet.
+#[derive(Drop)]
+pub(crate) struct WillingJudge {
+    pub(crate) questions: u64,
+}
+
+impl SignatureJudge for WillingJudge {
+    ghost use Rattle.cert_desk_issuing_c.specs.Auditing.{always};
+
+    ghost answers = { λ _. always };
+
+    ghost questions = { λ judge. judge.questions };
+
+    fn accepts(
+        &mut self,
+        _key: &SubjectPublicKeyInfo,
+        _algorithm: &AlgorithmIdentifier,
+        _signed: &[u8],
+        _bits: &BitString,
+    ) -> bool {
+        self.questions = self.questions.saturating_add(1);
+        true
+    }
+}
