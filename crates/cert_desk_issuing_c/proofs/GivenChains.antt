@@ -56,6 +56,7 @@ module _ (said : List Order) (algorithm : Algorithm) (bits : Bits) (signers : Li
         accepted = subst (λ (keys : List PublicKey). AcceptedOrders said keys chain.asked) keys_are chain.accepted;
         count = chain.holds.count ∙ chain.accepted.all;
         held = chain.holds.held;
+        each = chain.holds.chain.each;
         algorithms = λ place c at. (let s = chain.signed place c at in s.algorithm_is ∙ (alike (place_above place) s.signer s.signer_is).0);
         signatures = λ place c at. (let s = chain.signed place c at in s.signed ∙ (alike (place_above place) s.signer s.signer_is).1);
       } in

@@ -1,2 +1,4 @@
 pub mod Audits
 pub mod GivenChains
+pub mod OneAsked
+pub mod OneByOne

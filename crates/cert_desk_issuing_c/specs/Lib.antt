@@ -1,3 +1,4 @@
 pub mod Auditing
+pub mod OneByOne
 pub mod Reasons
 pub mod Signing

@@ -1,6 +1,7 @@
 -- Certificates that orders ask for, with signatures that are made elsewhere.
 use Rattle.std.specs.Prelude.{◌≡◌, ◌≢◌, ◌≤◌, ◌<◌, ◌⊎◌, ℕ, List, [], length, map, take}
 use Rattle.std.specs.Prelude.{None, Some, slice_get}
+use Rattle.std.specs.List.{AllByRecursion}
 use Rattle.const_oid.specs.Bound.{Bound}
 use Rattle.der_core_head.specs.BitStrings.{Bits}
 use Rattle.der_core_head.specs.Limits.{length_max}
@@ -11,6 +12,7 @@ use Rattle.x509_cert_certificates.specs.Certificates.{PlainCertificate, certific
 use Rattle.x509_cert_certificates.specs.Certificates.{outer_algorithm, signature_bits, tbs}
 use Rattle.cert_desk_io.specs.declared.exit_status.ExitStatus.{ExitStatus}
 use Rattle.cert_desk_io.specs.declared.exit_status.ExitStatus.TheVariants as statuses
+use Rattle.cert_desk_bundle.specs.Chains.{Stands}
 use Rattle.cert_desk_orders.specs.declared.order.Order.{Order}
 use Rattle.cert_desk_orders.specs.OrdersFile.{SaysOrders, faulty_line}
 use Rattle.cert_desk_issuing.specs.declared.issue_error.IssueError.{IssueError}
@@ -28,14 +30,15 @@ use Rattle.cert_desk_issuing_c.specs.declared.given_signer.GivenSigner.{GivenSig
 abbrev pub all_bits : List ℕ → Bits
 all_bits octets = record { unused = 0; octets = octets }
 
--- One certificate for each of these orders, which holds it, by this algorithm and with these bits
--- for its signature.
+-- One certificate for each of these orders, which holds it and has an encoding, by this algorithm
+-- and with these bits for its signature.
 pub record HoldEach (said : List Order) (algorithm : Algorithm) (bits : Bits)
     (cs : List PlainCertificate) : Type 0 where
   pub asked : List PlainOrder
   pub accepted : AcceptedOrders said (signing_keys said) asked
   pub count : length cs ≡ length said
   pub held : HoldFront asked cs
+  pub each : AllByRecursion (Stands Bound length_max) cs
   pub algorithms : (place : ℕ) (c : PlainCertificate) → slice_get cs place ≡ Some c
       → outer_algorithm c ≡ algorithm
   pub signatures : (place : ℕ) (c : PlainCertificate) → slice_get cs place ≡ Some c

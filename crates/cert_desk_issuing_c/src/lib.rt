@@ -5,5 +5,6 @@
 mod auditing;
 mod given_signer;
 mod issuing;
+pub mod laws;
 mod reasons;
 mod willing_judge;

@@ -1,0 +1,27 @@
+-- Certificates that are issued of one orders file, one by one.
+use Rattle.std.specs.Prelude.{◌≡◌, ℕ, ◌<◌, ◌^◌, List, flat_map, length, Some, slice_get}
+use Rattle.x509_cert_certificates.specs.Certificates.{PlainCertificate}
+use Rattle.cert_desk_orders.specs.declared.order.Order.{Order}
+use Rattle.cert_desk_orders.specs.OrdersFile.{SaysOrders}
+use Rattle.cert_desk_issuing.specs.Acceptance.{AcceptedOrders}
+use Rattle.cert_desk_issuing.specs.Chains.{HoldsOrders}
+use Rattle.cert_desk_issuing.specs.PlainOrders.{PlainOrder}
+use Rattle.cert_desk_issuing.specs.Runs.{signing_keys}
+use Rattle.cert_desk_issuing_c.specs.Signing.{IsIssued}
+
+-- one behind the other
+abbrev pub joined : List (List ℕ) → List ℕ
+joined pieces = flat_map (λ octets. octets) pieces
+
+-- Octets of which each are those of the certificate issued at their place, by some algorithm and
+-- with some signature, are one chain, where they are as many as the orders: it holds what these
+-- ask for.
+abbrev pub IssuedAreOneChain : Type 0
+IssuedAreOneChain =
+    (orders : List ℕ) (said : List Order) (asked : List PlainOrder) (pieces : List (List ℕ))
+    → SaysOrders orders said → AcceptedOrders said (signing_keys said) asked
+    → length pieces ≡ length said → length (joined pieces) < 2 ^ 64
+    → ((place : ℕ) (octets : List ℕ) → slice_get pieces place ≡ Some octets
+    → (algorithm : List ℕ) × (signature : List ℕ)
+    × IsIssued orders place algorithm signature octets)
+    → (cs : List PlainCertificate) × HoldsOrders asked cs (joined pieces)
