@@ -594,8 +594,9 @@ certificate("others.der", extensions=[
         tlv(0x1E, b"\0w\0i"), tlv(0x0C, b"\xff"), tlv(0x0C, b"one") * 2, oid(0x2A, 3),
         tlv(6, b"\x80"), tlv(0x0C, b"a\nb\\"), tlv(0x1E, b"\xd8\0"), b"", tlv(0x0C)))]])
 # an anchor that is a key with a name, and has extensions
-open("extended_anchor.der", "wb").write(tlv(0xA2, seq(KEY, tlv(4, b"key"), seq(named(b"above")), tlv(
-    0xA1, seq(SKI, extension(15, tlv(3, b"\2\4"), True))))))
+open("extended_anchor.der", "wb").write(tlv(0xA2, seq(
+    KEY, tlv(4, b"key"), seq(named(b"above")),
+    tlv(0xA1, seq(SKI, extension(15, tlv(3, b"\2\4"), True))))))
 # an anchor whose policy flags end with a zero bit
 open("flags_anchor.der", "wb").write(tlv(0xA2, seq(KEY, tlv(4, b"key"), seq(
     named(b"above"), tlv(0x82, b"\0\x80")))))

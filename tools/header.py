@@ -1,8 +1,8 @@
 #!/usr/bin/env python3
 """Compares calls/wurstdrape.h with the sources: each call of crates/cert_desk_c and
 cert_desk_issuing_c with each argument, each struct with each field, and each number of a status, a
-rule, a kind of fault or a reason with the definition that the contracts cite. Then the Rust crate and the
-Python module with the header: each call that Rust declares, and the numbers of both.
+rule, a kind of fault or a reason with the definition that the contracts cite. Then the Rust crate
+and the Python module with the header: each call that Rust declares, and the numbers of both.
 
     tools/header.py     the status is 1 where there is a difference, and each is told
 """
