@@ -18,7 +18,6 @@ use Rattle.cert_desk_orders.specs.declared.order.Order.{Order}
 use Rattle.cert_desk_orders.specs.OrderValues.{key_in, octets_in}
 use Rattle.cert_desk_orders.specs.OrdersFile.{PlainLine, SayOrder, SayOrders, SaysOrders, by_order, lines_in, value_of}
 use Rattle.std.specs.Option.{option_and_then}
-use Rattle.cert_desk_issuing.specs.declared.role.Role.{Role}
 use Rattle.cert_desk_issuing.specs.Acceptance.{AcceptedOrders, IsAccepted}
 use Rattle.cert_desk_issuing.specs.Chains.{IsOrderedAt}
 use Rattle.cert_desk_issuing.specs.Ordered.{ordered_part}
@@ -57,7 +56,7 @@ module _ (lines : List PlainLine) (o q : Order) (say : SayOrder lines o) (again 
   dns_same = plain_is string_bytes o.dns.items ∙ sym say.dns ∙ again.dns ∙ sym (plain_is string_bytes q.dns.items)
 
   -- ask for one thing, where the name has an encoding
-  module _ (role other : Role) (k l : Option PublicKey) (p r : PlainOrder) (a : IsAccepted role k o p) (b : IsAccepted other l q r) (valid : IsValid (name Bound) p.subject) where
+  module _ (n m place : ℕ) (k l : Option PublicKey) (p r : PlainOrder) (a : IsAccepted (role_at n place) k o p) (b : IsAccepted (role_at m place) l q r) (valid : IsValid (name Bound) p.subject) where
     one_validity : p.validity ≡ r.validity
     one_validity =
         let first = one_by_text (civil_of (not_before p.validity)) (civil_of (not_before r.validity)) a.dates.first.0 b.dates.first.0 (sym a.dates.first.1 ∙ from_same ∙ b.dates.first.1) in
@@ -101,13 +100,13 @@ part_valid : (c : PlainCertificate) → IsValid (raw_certificate Bound) c → Is
 unfolding IsValid IsContent IsBody
 part_valid c v = v.0.0
 
-subject_valid : (role : Role) (p above : PlainOrder) (a : Algorithm) → IsValid (raw_tbs_certificate Bound) (ordered_part role p above a) → IsValid (name Bound) p.subject
+subject_valid : (n place : ℕ) (p above : PlainOrder) (a : Algorithm) → IsValid (raw_tbs_certificate Bound) (ordered_part (role_at n place) p above a) → IsValid (name Bound) p.subject
 unfolding IsValid IsContent IsBody
-subject_valid role p above a v = v.0.1.1.1.1.1.0
+subject_valid n place p above a v = v.0.1.1.1.1.1.0
 
-issuer_valid : (role : Role) (p above : PlainOrder) (a : Algorithm) → IsValid (raw_tbs_certificate Bound) (ordered_part role p above a) → IsValid (name Bound) above.subject
+issuer_valid : (n place : ℕ) (p above : PlainOrder) (a : Algorithm) → IsValid (raw_tbs_certificate Bound) (ordered_part (role_at n place) p above a) → IsValid (name Bound) above.subject
 unfolding IsValid IsContent IsBody
-issuer_valid role p above a v = v.0.1.1.1.0
+issuer_valid n place p above a v = v.0.1.1.1.0
 
 -- two readings of one file, both accepted
 module _ (orders : List ℕ) (said other : List Order) (says : SaysOrders orders said) (again : SaysOrders orders other) (ps qs : List PlainOrder) (a : AcceptedOrders said (signing_keys said) ps) (b : AcceptedOrders other (signing_keys other) qs) where
@@ -123,18 +122,17 @@ module _ (orders : List ℕ) (said other : List Order) (says : SaysOrders orders
       let its = said_at (by_order (lines_in orders)) other place that.order again.said that.stands in
       let same = same_Some its.0 mine.0 (sym its.1 ∙ mine.1) in
       let say = subst (λ (lines : List PlainLine). SayOrder lines that.order) same its.2 in
-      let one = one_asked mine.0 here.order that.order mine.2 say (role_at (length said) place) (role_at (length other) place) (slice_get (signing_keys said) place) (slice_get (signing_keys other) place) p r.0 here.accepted that.accepted valid in
+      let one = one_asked mine.0 here.order that.order mine.2 say (length said) (length other) place (slice_get (signing_keys said) place) (slice_get (signing_keys other) place) p r.0 here.accepted that.accepted valid in
       r.1 ∙ ap (λ (x : PlainOrder). Some x) (sym one)
 
   pub ordered_again : (place : ℕ) (c : PlainCertificate) → IsOrderedAt ps place c → IsValid (raw_certificate Bound) c → IsOrderedAt qs place c
   ordered_again place c h v =
-      let role = role_at (length ps) place in
       let part = subst (λ (t : Tbs). IsValid (raw_tbs_certificate Bound) t) h.part (part_valid c v) in
       record {
         order = h.order;
         above = h.above;
-        order_is = asked_at place h.order h.order_is (subject_valid role h.order h.above (outer_algorithm c) part);
+        order_is = asked_at place h.order h.order_is (subject_valid (length ps) place h.order h.above (outer_algorithm c) part);
         right = subst (λ n. IsRight (role_at n place) h.order) as_many h.right;
-        above_is = asked_at (place_above place) h.above h.above_is (issuer_valid role h.order h.above (outer_algorithm c) part);
+        above_is = asked_at (place_above place) h.above h.above_is (issuer_valid (length ps) place h.order h.above (outer_algorithm c) part);
         part = h.part ∙ ap (λ n. ordered_part (role_at n place) h.order h.above (outer_algorithm c)) as_many;
       }
