@@ -1,5 +1,5 @@
 -- Orders that a file says ask for one thing, however often they are read.
-use Rattle.std.proofs.Common.{◌≡◌, ℕ, zero, suc, ◌<◌, List, [], ◌∷◌, length, map, codes, Option, Some, Ok, slice_get, string_bytes, refl, sym, ap, ◌∙◌, subst, arith}
+use Rattle.std.proofs.Common.{◌≡◌, ℕ, zero, suc, ◌<◌, List, [], ◌∷◌, length, map, codes, Option, Some, slice_get, string_bytes, refl, sym, ap, ◌∙◌, subst, arith}
 use Rattle.std.proofs.lemmas.Option.{same_Some, slice_get_within}
 use Rattle.const_oid.specs.Bound.{Bound}
 use Rattle.der_core_head.specs.Dates.{Civil}

@@ -1,5 +1,5 @@
 -- Certificates that are issued of one orders file, one by one, are one chain.
-use Rattle.std.proofs.Common.{◌≡◌, ℕ, zero, suc, List, [], ◌∷◌, ◌++◌, flat_map, length, Some, slice_get, refl, sym, ap, ◌∙◌, subst}
+use Rattle.std.proofs.Common.{◌≡◌, ℕ, zero, suc, List, [], ◌∷◌, ◌++◌, length, Some, slice_get, refl, sym, ap, ◌∙◌, subst}
 use Rattle.std.specs.List.{AllByRecursion}
 use Rattle.std.proofs.lemmas.Option.{same_Some}
 use Rattle.const_oid.specs.Bound.{Bound}
@@ -48,9 +48,9 @@ pub issued_are_one_chain : IssuedAreOneChain
 issued_are_one_chain orders said asked pieces says accepted many short issued =
     let piece_at : (i : ℕ) (octets : List ℕ) → slice_get pieces i ≡ Some octets → IsPiece (λ c. IsOrderedAt asked i c) octets =
     λ i octets e.
-    (let one = issued i octets e in
-    let it = one.4.4 in
-    let stands = each_at (Stands Bound length_max) one.2 i one.3 it.each one.5 in
-    (one.3, one.6, stands, ordered_again orders one.4.0 said one.4.2 says it.asked asked it.accepted accepted i one.3 (it.held i one.3 one.5) stands.valid)) in
+    (let one = (issued i octets e).2 in
+    let it = one.2.4 in
+    let stands = each_at (Stands Bound length_max) one.0 i one.1 it.each one.3 in
+    (one.1, one.4, stands, ordered_again orders one.2.0 said one.2.2 says it.asked asked it.accepted accepted i one.1 (it.held i one.1 one.3) stands.valid)) in
     let all = collected (λ n c. IsOrderedAt asked n c) pieces piece_at in
     (all.certificates, record { count = all.count ∙ many ∙ sym accepted.all; chain = record { each = all.each; joins = all.joins; fits = short }; held = all.held })
