@@ -47,7 +47,6 @@ impl BuilderProfile for Badge {
         Ok(self.subject.clone(alloc)?)
     }
 
-    #[tactic(auto, using(x509_cert_builders::proofs::Faults::not_made))]
     fn build_extensions<'a, 'b>(
         &self,
         alloc: Global,
