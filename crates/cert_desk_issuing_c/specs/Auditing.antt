@@ -1,6 +1,6 @@
 -- What the chain that orders ask for comes to, whoever signs it.
 use Rattle.std.specs.Prelude.{◌≡◌, ◌≢◌, ◌≤◌, ◌⊎◌, ℕ, List, [], ◌∷◌, length, true}
-use Rattle.const_oid.specs.Bound.{Bound}
+use Rattle.const_oid.specs.Bound.{Bound, max_size}
 use Rattle.const_oid.specs.IdentifierOctets.{IsIdentifier, identifier_octets}
 use Rattle.der_core_head.specs.Limits.{length_max}
 use Rattle.x509_cert_certificates.specs.Certificates.{PlainCertificate}
@@ -65,7 +65,7 @@ UnderAsked orders algorithm purpose Says =
     × UnderOrders orders algorithm (λ said a. UnderAccepted said (Says arcs))
 
 abbrev pub IsNoPurpose : List ℕ → Type 0
-IsNoPurpose purpose = (arcs : List ℕ) → IsIdentifier Bound arcs → length purpose ≤ 39
+IsNoPurpose purpose = (arcs : List ℕ) → IsIdentifier Bound arcs → length purpose ≤ max_size
     → purpose ≢ identifier_octets arcs
 
 -- What is so with a status: each such chain is trusted; the orders are refused, or a chain of them,
