@@ -269,10 +269,7 @@ def lay(release, folder):
             above = sum(name in sources.closure([it], below) for it in others) - 1
             told = f"rt proves it anew, and {above} above it"
             print(f"{name}: its texts are not those of the release: {told}")
-    for name in below:
-        # What was built over another library than the one that is laid is of no use.
-        if left.intersection(sources.closure([name], below)):
-            shutil.rmtree(place(crates, name), ignore_errors=True)
+    clear(crates, below, left)
     laid = len(left)
     for name, sums in unpacked(release, frozenset(left), functools.partial(place, crates)):
         if sum_of_all(sums) != proved.crates[name].sum:
@@ -282,6 +279,19 @@ def lay(release, folder):
     if left:
         stop(f"{min(left)}: {LIBRARIES} does not have it")
     return laid, len(there)
+
+
+def clear(crates, below, libraries):
+    """Removes these libraries, and what was built over them: over others it is of no use."""
+    for name in below:
+        if libraries & set(sources.closure([name], below)):
+            shutil.rmtree(place(crates, name), ignore_errors=True)
+
+
+def rows_of(listed, names):
+    """The rows of a crates.txt that are of these crates."""
+    rows = listed.read_text().splitlines(True)
+    return "".join(row for row in rows if re.match(r"\w*", row)[0] in names)
 
 
 def place(crates, name):
