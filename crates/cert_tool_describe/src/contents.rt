@@ -116,8 +116,8 @@ fn has_timestamps(extension: &Extension) -> bool {
     extension.extn_id.as_bytes() == TIMESTAMPS
 }
 
-// Adds the lines of the content of an extension, of a kind that isn't known its octets, and the text
-// or the identifier that they spell (RFC 5280 4.2.1, 4.2.2, 5.2, 5.3, RFC 6962 3.3, RFC 7633);
+// Adds the lines of the content of an extension, of a kind that isn't known its octets, and the
+// text or the identifier that they spell (RFC 5280 4.2.1, 4.2.2, 5.2, 5.3, RFC 6962 3.3, RFC 7633);
 // answers why it isn't one value of its kind.
 fn add_content_of(lines: &mut Lines, extension: &Extension) -> Option<Error> {
     let octets = extension.extn_value.as_bytes();
