@@ -23,6 +23,8 @@ from=${3:-}
 
 # A toolchain whose clang makes functions one that have the same code, as a generic function has it
 # for each lifetime, before it puts any into another: behind that they are told apart no more.
+# Then it prefers the smaller of two forms of code, but for what it puts into another; what reads
+# lengths of more than one octet, and what adds lines of descriptions, stays a call.
 toolchain=$(mktemp -d)
 trap 'rm -rf "$toolchain"' EXIT
 mkdir "$toolchain/bin"
@@ -38,13 +40,15 @@ cat >>"$toolchain/bin/clang" <<'END'
 words=("$@")
 for at in "${!words[@]}"; do
     case ${words[at]} in
-        module.bc) words[at]=merged.bc ;;
+        module.bc) words[at]=merged.ll ;;
         -O3) words[at]=-O2 ;;
     esac
 done
 "$clang" "$1" -fPIC -O0 -Xclang -fmerge-functions -mllvm -mergefunc-use-aliases \
-    -emit-llvm -c -x ir module.bc -o merged.bc
-exec "$clang" "${words[@]}"
+    -emit-llvm -S -x ir module.bc -o merged.ll
+calls='der_core_octets::parse::long_length_of|cert_tool_describe::lines::Lines::'
+sed -i -E "/^define .*@\"($calls)/ s/ (#[0-9]+) \{\$/ noinline \1 {/" merged.ll
+exec "$clang" "${words[@]}" -mllvm -force-attribute=optsize -mllvm -inline-threshold=225
 END
 chmod +x "$toolchain/bin/clang"
 
