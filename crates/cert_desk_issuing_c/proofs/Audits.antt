@@ -32,9 +32,12 @@ use Rattle.cert_desk_issuing_c.proofs.GivenChains.{refused_for}
 -- What one chain of accepted orders is judged to be, each is.
 module _ (moment : ℕ) (purpose : List ℕ) (root : PlainOrder) (below : List PlainOrder) (cs : List PlainCertificate) (stream : List ℕ) (h : HoldsOrders (root ∷ below) cs stream) where
   are_trusted : Trusted (terms_for root moment purpose always) length_max stream → AreTrusted moment purpose root below
-  are_trusted t = λ ds other limit answers g within answered.
-      let p = trusted_is_permitted root below cs stream length_max moment purpose always h t in
-      held_is_trusted root below ds other limit moment purpose answers g (record { within = within; lasting = p.lasting; allowed = p.allowed; sufficient = p.sufficient; answered = answered })
+  are_trusted t = (
+    (cs, stream, h),
+    λ ds other limit answers g within answered.
+        let p = trusted_is_permitted root below cs stream length_max moment purpose always h t in
+        held_is_trusted root below ds other limit moment purpose answers g (record { within = within; lasting = p.lasting; allowed = p.allowed; sufficient = p.sufficient; answered = answered }),
+  )
 
   judges : (v : Verdict) → IsVerdict (terms_for root moment purpose always) length_max stream v → Judges moment purpose root below v
   judges (verdicts.StreamFault place offset kind) v = absurd (fault_no_chain Bound length_max v.certificates cs kind stream v.found h.chain)

@@ -25,14 +25,15 @@ use Rattle.cert_desk_issuing_c.specs.Signing.{AreFaulty, AreRefusedFor, UnderOrd
 abbrev pub always : Answers
 always = λ key algorithm octets bits. true
 
--- Each chain that holds what these orders ask for is trusted under its own root, where each of its
--- certificates is within the limit and each of its signatures is right.
+-- There is a chain that holds what these orders ask for, and each is trusted under its own root,
+-- where each of its certificates is within the limit and each of its signatures is right.
 abbrev pub AreTrusted : ℕ → List ℕ → PlainOrder → List PlainOrder → Type 0
 AreTrusted moment purpose root below =
-    (cs : List PlainCertificate) (stream : List ℕ) (limit : ℕ) (answers : Answers)
+    ((cs : List PlainCertificate) × (stream : List ℕ) × HoldsOrders (root ∷ below) cs stream)
+    × ((cs : List PlainCertificate) (stream : List ℕ) (limit : ℕ) (answers : Answers)
     → HoldsOrders (root ∷ below) cs stream → AreWithin limit cs
     → AreAnswered answers (root ∷ below) cs
-    → Trusted (terms_for root moment purpose answers) limit stream
+    → Trusted (terms_for root moment purpose answers) limit stream)
 
 -- A chain that holds it is refused at a place, though each signature is right.
 abbrev pub IsBroken : ℕ → List ℕ → PlainOrder → List PlainOrder → ℕ → Rule → Type 0
