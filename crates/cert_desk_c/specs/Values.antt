@@ -16,7 +16,7 @@ use Rattle.x509_cert_names.specs.PlainTexts.{name_text}
 use Rattle.x509_cert_parts.specs.Grammar.{PlainExtension, extension_arcs}
 use Rattle.x509_cert_certificates.specs.Certificates.{PlainCertificate, raw_certificate}
 use Rattle.x509_cert_certificates.specs.Certificates.{issuer, subject}
-use Rattle.x509_cert_lists.specs.Grammar.{cert_req}
+use Rattle.x509_cert_lists.specs.ListGrammar.{cert_req}
 use Rattle.cert_desk_listing.specs.Parts.{PlainList, PlainRequest, raw_certificate_list}
 
 -- the octets spell no certificate, no revocation list, no request, no name

@@ -8,7 +8,7 @@ ghost use Rattle.cert_desk_io.specs.declared.exit_status.ExitStatus.TheVariants.
 ghost use Rattle.cert_desk_io.specs.declared.exit_status.ExitStatus.TheVariants.{Memory};
 ghost use Rattle.cert_desk_io.specs.Statuses.{code_of};
 ghost use Rattle.x509_cert_certificates.specs.Certificates.{PlainCertificate, raw_certificate};
-ghost use Rattle.x509_cert_lists.specs.Grammar.{cert_req};
+ghost use Rattle.x509_cert_lists.specs.ListGrammar.{cert_req};
 ghost use Rattle.cert_desk_listing.specs.Parts.{PlainList, PlainRequest, raw_certificate_list};
 ghost use Rattle.cert_desk_c.specs.FaultNumbers.{IsTold, fault_number};
 ghost use Rattle.cert_desk_c.specs.Values.{IsNoCertificate, IsNoList, IsNoRequest};

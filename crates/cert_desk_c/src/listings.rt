@@ -8,7 +8,7 @@ ghost use Rattle.cert_desk_listing.specs.declared.file_kind.FileKind.TheVariants
 ghost use Rattle.cert_desk_listing.specs.Listing.{certificate_lines, list_lines, request_lines};
 ghost use Rattle.cert_desk_listing.specs.Shown.{IsListing};
 ghost use Rattle.x509_cert_certificates.specs.Views.{certificate_plain};
-ghost use Rattle.x509_cert_lists.specs.Views.{certificate_list_plain, cert_req_plain};
+ghost use Rattle.x509_cert_lists.specs.ListViews.{certificate_list_plain, cert_req_plain};
 ghost use Rattle.cert_desk_c.specs.Values.{IsNoCertificate, IsNoList, IsNoRequest};
 
 use crate::reading::{certificate_of, list_of, request_of};

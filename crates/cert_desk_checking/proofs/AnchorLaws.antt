@@ -2,7 +2,7 @@
 use Rattle.std.proofs.Common.{◌≡◌, ℕ, List, drop, Result, Ok, Err, refl, subst, sym}
 use Rattle.std.specs.Prelude.{IfOk, IfErr}
 use Rattle.der_core_head.specs.Limits.{levels_max}
-use Rattle.x509_cert_anchors.specs.Grammar.{PlainAnchor as PlainChoice}
+use Rattle.x509_cert_anchors.specs.Anchors.{PlainAnchor as PlainChoice}
 use Rattle.cert_desk_checking.specs.declared.anchor.Anchor.{Anchor}
 use Rattle.cert_desk_checking.specs.declared.anchor_fault.AnchorFault.{AnchorFault}
 use Rattle.cert_desk_checking.specs.declared.anchor_fault.AnchorFault.TheVariants as faults

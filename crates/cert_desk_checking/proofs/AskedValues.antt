@@ -11,7 +11,7 @@ use Rattle.x509_cert_certificates.specs.Certificates.{PlainCertificate, raw_cert
 use Rattle.x509_cert_certificates.specs.Certificates.{raw_tbs_certificate, subject, tbs}
 use Rattle.x509_cert_certificates.specs.Certificates.{tbs_public_key, tbs_subject, public_key}
 use Rattle.x509_cert_certificates.specs.Certificates.{signature_bits}
-use Rattle.x509_cert_anchors.specs.Grammar.{PlainControls, PlainAnchor as PlainChoice}
+use Rattle.x509_cert_anchors.specs.Anchors.{PlainControls, PlainAnchor as PlainChoice}
 use Rattle.x509_cert_parts.specs.Grammar.{PublicKey, algorithm_identifier, bit_string}
 use Rattle.x509_cert_parts.specs.Grammar.{public_key_info}
 use Rattle.cert_desk_checking.specs.declared.anchor_error.AnchorError.{AnchorError}

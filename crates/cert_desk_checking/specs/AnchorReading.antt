@@ -1,6 +1,6 @@
 -- How a file of anchors is read, one trust anchor after the other.
 use Rattle.std.specs.Prelude.{◌≡◌, ℕ, List, drop, Err}
-use Rattle.x509_cert_anchors.specs.Grammar.{PlainAnchor as PlainChoice}
+use Rattle.x509_cert_anchors.specs.Anchors.{PlainAnchor as PlainChoice}
 use Rattle.cert_desk_checking.specs.declared.anchor_error.AnchorError.TheVariants as errors
 use Rattle.cert_desk_checking.specs.declared.anchor_fault.AnchorFault.{AnchorFault}
 use Rattle.cert_desk_checking.specs.declared.anchor_fault.AnchorFault.TheVariants as faults

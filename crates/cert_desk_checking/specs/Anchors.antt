@@ -10,7 +10,7 @@ use Rattle.x509_cert_names.specs.Names.{PlainName}
 use Rattle.x509_cert_parts.specs.Grammar.{PublicKey}
 use Rattle.x509_cert_certificates.specs.Certificates.{subject, public_key, tbs_subject}
 use Rattle.x509_cert_certificates.specs.Certificates.{tbs_public_key}
-use Rattle.x509_cert_anchors.specs.Grammar.{PlainControls, PlainInfo, PlainAnchor as PlainChoice}
+use Rattle.x509_cert_anchors.specs.Anchors.{PlainControls, PlainInfo, PlainAnchor as PlainChoice}
 use Rattle.cert_desk_checking.specs.declared.anchor.Anchor.{Anchor}
 use Rattle.cert_desk_checking.specs.declared.anchor_error.AnchorError.{AnchorError}
 use Rattle.cert_desk_checking.specs.declared.anchor_error.AnchorError.TheVariants as errors

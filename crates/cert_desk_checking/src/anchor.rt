@@ -2,7 +2,7 @@
 ghost use Rattle.std.specs.Prelude.{◌≡◌, ◌≢◌, Ok, Err, IfOk, IfErr};
 ghost use Rattle.x509_cert_names.specs.Views.{name_plain};
 ghost use Rattle.x509_cert_parts.specs.Views.{key_plain};
-ghost use Rattle.x509_cert_anchors.specs.Views.{cert_path_controls_plain, trust_anchor_plain};
+ghost use Rattle.x509_cert_anchors.specs.AnchorViews.{cert_path_controls_plain, trust_anchor_plain};
 ghost use Rattle.cert_desk_checking.specs.Anchors.{anchor_plain, has_only_name, given_by};
 
 use crate::anchor_error::AnchorError;

@@ -1,7 +1,7 @@
 //! Files of anchors.
 ghost use Rattle.std.specs.Prelude.{◌≡◌, ◌<◌, ◌^◌, length, map, IfOk, IfErr};
 ghost use Rattle.der_core_head.specs.Heads.{Fits};
-ghost use Rattle.x509_cert_anchors.specs.Views.{trust_anchor_plain};
+ghost use Rattle.x509_cert_anchors.specs.AnchorViews.{trust_anchor_plain};
 ghost use Rattle.cert_desk_checking.specs.Anchors.{anchor_plain, given_by};
 ghost use Rattle.cert_desk_checking.specs.AnchorFiles.{IsAnchorFile};
 ghost use Rattle.cert_desk_checking.specs.AnchorReading.{StandsAt, GivesAt, IsUngiven, GivesNone};

@@ -19,7 +19,7 @@ use Rattle.der_core_head.specs.Tags.{context}
 use Rattle.x509_cert_builders.specs.Profiles.{authority_uses, authority_key_extension, constraints_extension, digital_signature, purposes_extension, subject_key_extension, usage_extension}
 use Rattle.x509_cert_parts.specs.Grammar.{PlainExtension, PublicKey}
 use Rattle.x509_cert_names.specs.Names.{PlainName}
-use Rattle.x509_cert_general_names.specs.Grammar.{general_names, general_name}
+use Rattle.x509_cert_general_names.specs.GeneralNames.{general_names, general_name}
 use Rattle.cert_desk_rules.specs.Judging.{are_distinct}
 use Rattle.cert_desk_rules.specs.Paths.{is_within}
 use Rattle.cert_desk_rules.specs.Weighing.{Meaning, uses, purposes, is_authority, is_malformed, is_unweighed, is_unweighed_critical, may_certify, path_length, serves, weigh, constraints, other_names, unweighed, basic_constraints, constraints_of, key_usage, extended_key_usage, meaning_by, meaning_of}

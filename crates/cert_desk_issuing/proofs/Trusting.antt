@@ -20,7 +20,7 @@ use Rattle.x509_cert_certificates.specs.Certificates.{tbs, certificate_octets, s
 use Rattle.x509_cert_parts.specs.Grammar.{Algorithm, algorithm_identifier, PublicKey, civil_of}
 use Rattle.x509_cert_names.specs.Names.{name_octets}
 use Rattle.cert_desk_bundle.specs.Chains.{Chain, Stands}
-use Rattle.x509_cert_general_names.specs.Grammar.{general_names}
+use Rattle.x509_cert_general_names.specs.GeneralNames.{general_names}
 use Rattle.cert_desk_rules.specs.Judging.{same_name, Answers, are_distinct, has_authority, keeps, keeps_at, signed_part}
 use Rattle.der_types_time.specs.Seconds.{unix_seconds}
 use Rattle.cert_desk_rules.specs.Paths.{used_up, counts, is_last, is_self_issued, is_within, is_within_lengths, keep_lengths, keeps_length}

@@ -13,7 +13,7 @@ use Rattle.x509_cert_builders.specs.Profiles.{subscriber_extensions}
 use Rattle.x509_cert_certificates.specs.Certificates.{Tbs, tbs_certificate}
 use Rattle.x509_cert_parts.specs.Grammar.{Algorithm, PlainExtension, PublicKey}
 use Rattle.x509_cert_names.specs.Names.{PlainName}
-use Rattle.x509_cert_general_names.specs.Grammar.{general_name, general_names}
+use Rattle.x509_cert_general_names.specs.GeneralNames.{general_name, general_names}
 use Rattle.cert_desk_issuing.specs.declared.role.Role.{Role}
 use Rattle.cert_desk_issuing.specs.declared.role.Role.TheVariants as roles
 use Rattle.cert_desk_issuing.specs.PlainOrders.{PlainOrder}

@@ -9,7 +9,7 @@ use Rattle.der_core_head.specs.declared.error.ErrorKind.{ErrorKind}
 use Rattle.der_core_head.specs.declared.tag.Tag.TheVariants as tags
 use Rattle.der_core_head.specs.Shapes.{AnyValue}
 use Rattle.x509_cert_certificates.specs.Certificates.{PlainCertificate, issuer, subject}
-use Rattle.x509_cert_lists.specs.Grammar.{extension_req_arcs, extension_req_content}
+use Rattle.x509_cert_lists.specs.ListGrammar.{extension_req_arcs, extension_req_content}
 use Rattle.x509_cert_names.specs.Names.{PlainAttribute}
 use Rattle.x509_cert_parts.specs.Grammar.{PlainExtension, extension_arcs, is_critical}
 use Rattle.der_types_any.specs.Contents.{content_as}

@@ -3,8 +3,8 @@ use Rattle.std.specs.Prelude.{ℕ, ℤ, List, [], Option, Some, None}
 use Rattle.der_core_head.specs.Shapes.{Shape, Value, BodyValue, AnyValue, sequence}
 use Rattle.x509_cert_certificates.specs.Certificates.{PlainCertificate, tbs, tbs_extensions}
 use Rattle.x509_cert_certificates.specs.Certificates.{tbs_validity}
-use Rattle.x509_cert_lists.specs.Grammar.{revoked_cert_fields, certificate_list_fields}
-use Rattle.x509_cert_lists.specs.Grammar.{cert_req_fields}
+use Rattle.x509_cert_lists.specs.ListGrammar.{revoked_cert_fields, certificate_list_fields}
+use Rattle.x509_cert_lists.specs.ListGrammar.{cert_req_fields}
 use Rattle.x509_cert_names.specs.Names.{PlainName, PlainAttribute}
 use Rattle.x509_cert_parts.specs.Grammar.{PlainExtension, time}
 

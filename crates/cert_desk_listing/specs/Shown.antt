@@ -9,7 +9,7 @@ use Rattle.cert_desk_io.specs.Whole.{IsWhole, IsUnread, most_octets}
 use Rattle.const_oid.specs.Bound.{Bound}
 use Rattle.der_core_head.specs.Shapes.{Spells}
 use Rattle.x509_cert_certificates.specs.Certificates.{PlainCertificate, raw_certificate}
-use Rattle.x509_cert_lists.specs.Grammar.{cert_req}
+use Rattle.x509_cert_lists.specs.ListGrammar.{cert_req}
 use Rattle.cert_desk_listing.specs.declared.finding.Finding.{Finding}
 use Rattle.cert_desk_listing.specs.declared.finding.Finding.TheVariants as findings
 use Rattle.cert_desk_listing.specs.declared.file_kind.FileKind.{FileKind}

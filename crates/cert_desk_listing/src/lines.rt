@@ -4,7 +4,7 @@ ghost use Rattle.std.specs.List.{flat_map};
 ghost use Rattle.der_core_head.specs.Grammar.{plain_option, plain_list};
 ghost use Rattle.x509_cert_names.specs.Views.{name_plain, attribute_plain};
 ghost use Rattle.x509_cert_parts.specs.Views.{extension_plain, extensions_plain, time_value};
-ghost use Rattle.x509_cert_lists.specs.Views.{revoked_cert_plain};
+ghost use Rattle.x509_cert_lists.specs.ListViews.{revoked_cert_plain};
 ghost use Rattle.x509_cert_names.specs.PlainTexts.{name_text};
 ghost use Rattle.x509_cert_parts.specs.Texts.{serial_text, time_text};
 ghost use Rattle.cert_desk_listing.specs.Listing.{alone, labelled, extension_line, extension_lines};

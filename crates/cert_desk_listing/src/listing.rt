@@ -2,7 +2,7 @@
 ghost use Rattle.std.specs.Prelude.{◌≡◌, IfOk, IfErr, OnOk, string_bytes};
 ghost use Rattle.cert_desk_io.specs.Devices.{IsWritten, sink};
 ghost use Rattle.x509_cert_certificates.specs.Views.{certificate_plain};
-ghost use Rattle.x509_cert_lists.specs.Views.{certificate_list_plain, cert_req_plain};
+ghost use Rattle.x509_cert_lists.specs.ListViews.{certificate_list_plain, cert_req_plain};
 ghost use Rattle.cert_desk_listing.specs.Listing.{certificate_lines, list_lines, request_lines};
 ghost use Rattle.cert_desk_listing.specs.Shown.{IsUnshown};
 

@@ -3,7 +3,7 @@ ghost use Rattle.std.specs.Prelude.{◌≡◌, ◌≢◌, IfOk, IfErr};
 ghost use Rattle.const_oid.specs.Bound.{Bound};
 ghost use Rattle.der_core_head.specs.declared.error.ErrorKind.TheVariants.{OutOfMemory};
 ghost use Rattle.der_core_head.specs.Shapes.{Spells};
-ghost use Rattle.x509_cert_lists.specs.Views.{certificate_list_plain};
+ghost use Rattle.x509_cert_lists.specs.ListViews.{certificate_list_plain};
 ghost use Rattle.cert_desk_io.specs.Devices.{sink, source};
 ghost use Rattle.cert_desk_listing.specs.Parts.{PlainList, raw_certificate_list};
 ghost use Rattle.cert_desk_listing.specs.declared.finding.Finding.{Finding};

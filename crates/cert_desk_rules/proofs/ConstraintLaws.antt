@@ -17,7 +17,7 @@ use Rattle.der_core_head.specs.Tags.{tag_octets}
 use Rattle.der_core_head.proofs.OneEncoding.{is_spelled, whole_again}
 use Rattle.der_core_head.proofs.Results.{IsBytes, bind_ok, unless_ok, whole_ok}
 use Rattle.der_core_head.proofs.HeadLaws.{length-short}
-use Rattle.x509_cert_policies.specs.Grammar.{basic_constraints_fields}
+use Rattle.x509_cert_policies.specs.Policies.{basic_constraints_fields}
 use Rattle.cert_desk_rules.specs.Weighing.{basic_constraints, ca_octets, constraints, constraints_of, malformed, meaning_by, meaning_of}
 
 -- pathLenConstraint

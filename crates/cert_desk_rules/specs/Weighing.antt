@@ -16,8 +16,8 @@ use Rattle.x509_cert_extensions.specs.NamedBits as bits
 use Rattle.x509_cert_extensions.specs.NamedBits.{bit_of, has_bit}
 use Rattle.x509_cert_parts.specs.Grammar.{PlainExtension, extension_arcs, extension_octets}
 use Rattle.x509_cert_parts.specs.Grammar.{is_critical, object_identifier}
-use Rattle.x509_cert_policies.specs.Grammar.{basic_constraints_fields}
-use Rattle.x509_cert_general_names.specs.Grammar.{general_name, general_names}
+use Rattle.x509_cert_policies.specs.Policies.{basic_constraints_fields}
+use Rattle.x509_cert_general_names.specs.GeneralNames.{general_name, general_names}
 
 -- KeyUsage ::= BIT STRING { digitalSignature (0), .. keyCertSign (5), .. decipherOnly (8) }
 --     (4.2.1.3)

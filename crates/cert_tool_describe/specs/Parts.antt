@@ -12,23 +12,23 @@ use Rattle.x509_cert_names.specs.Names.{relative_name}
 use Rattle.x509_cert_parts.specs.Grammar.{object_identifier, algorithm_identifier, public_key_info}
 use Rattle.x509_cert_parts.specs.Grammar.{version, validity, time, extension, extensions, number_of}
 use Rattle.x509_cert_certificates.specs.Certificates.{certificate, tbs_certificate}
-use Rattle.x509_cert_general_names.specs.Grammar.{general_name, general_names}
-use Rattle.x509_cert_general_names.specs.Grammar.{other_name_fields, edi_party_name_fields}
-use Rattle.x509_cert_general_names.specs.Grammar.{authority_key_identifier_fields}
-use Rattle.x509_cert_general_names.specs.Grammar.{general_subtree_fields, name_constraints_fields}
-use Rattle.x509_cert_general_names.specs.Grammar.{distribution_point_name}
-use Rattle.x509_cert_general_names.specs.Grammar.{distribution_point_fields}
-use Rattle.x509_cert_general_names.specs.Grammar.{issuing_distribution_point_fields}
-use Rattle.x509_cert_general_names.specs.Grammar.{access_description_fields}
-use Rattle.x509_cert_policies.specs.Grammar.{basic_constraints_fields, policy_constraints_fields}
-use Rattle.x509_cert_policies.specs.Grammar.{policy_mapping_fields, policy_qualifier_info_fields}
-use Rattle.x509_cert_policies.specs.Grammar.{policy_information_fields}
-use Rattle.x509_cert_policies.specs.Grammar.{private_key_usage_period_fields}
-use Rattle.x509_cert_lists.specs.Grammar.{revoked_cert_fields, tbs_cert_list_fields}
-use Rattle.x509_cert_lists.specs.Grammar.{certificate_list_fields, cert_req_info_fields}
-use Rattle.x509_cert_lists.specs.Grammar.{cert_req_fields}
-use Rattle.x509_cert_anchors.specs.Grammar.{cert_path_controls_fields}
-use Rattle.x509_cert_anchors.specs.Grammar.{trust_anchor_info_fields, trust_anchor_choice}
+use Rattle.x509_cert_general_names.specs.GeneralNames.{general_name, general_names}
+use Rattle.x509_cert_general_names.specs.GeneralNames.{other_name_fields, edi_party_name_fields}
+use Rattle.x509_cert_general_names.specs.GeneralNames.{authority_key_identifier_fields}
+use Rattle.x509_cert_general_names.specs.GeneralNames.{general_subtree_fields, name_constraints_fields}
+use Rattle.x509_cert_general_names.specs.GeneralNames.{distribution_point_name}
+use Rattle.x509_cert_general_names.specs.GeneralNames.{distribution_point_fields}
+use Rattle.x509_cert_general_names.specs.GeneralNames.{issuing_distribution_point_fields}
+use Rattle.x509_cert_general_names.specs.GeneralNames.{access_description_fields}
+use Rattle.x509_cert_policies.specs.Policies.{basic_constraints_fields, policy_constraints_fields}
+use Rattle.x509_cert_policies.specs.Policies.{policy_mapping_fields, policy_qualifier_info_fields}
+use Rattle.x509_cert_policies.specs.Policies.{policy_information_fields}
+use Rattle.x509_cert_policies.specs.Policies.{private_key_usage_period_fields}
+use Rattle.x509_cert_lists.specs.ListGrammar.{revoked_cert_fields, tbs_cert_list_fields}
+use Rattle.x509_cert_lists.specs.ListGrammar.{certificate_list_fields, cert_req_info_fields}
+use Rattle.x509_cert_lists.specs.ListGrammar.{cert_req_fields}
+use Rattle.x509_cert_anchors.specs.Anchors.{cert_path_controls_fields}
+use Rattle.x509_cert_anchors.specs.Anchors.{trust_anchor_info_fields, trust_anchor_choice}
 use Rattle.cert_tool_describe.specs.declared.parts.Node.{Node}
 use Rattle.cert_tool_describe.specs.declared.parts.Node.TheVariants as nodes
 

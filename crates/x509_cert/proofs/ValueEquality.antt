@@ -11,8 +11,8 @@ use Rattle.der_core_head.specs.Leaves.{integer}
 use Rattle.der_core_head.specs.Shapes.{Shape, Value, leaf, sequence, tagged}
 use Rattle.der_core_head.specs.declared.tag.Tag.{Tag}
 use Rattle.x509_cert.specs.Equality.{TellsValues}
-use Rattle.x509_cert_anchors.specs.Grammar.{anchor_version, trust_anchor_choice, trust_anchor_info_fields}
-use Rattle.x509_cert_anchors.specs.Views.{anchor_number, trust_anchor_info_plain, trust_anchor_plain}
+use Rattle.x509_cert_anchors.specs.Anchors.{anchor_version, trust_anchor_choice, trust_anchor_info_fields}
+use Rattle.x509_cert_anchors.specs.AnchorViews.{anchor_number, trust_anchor_info_plain, trust_anchor_plain}
 use Rattle.x509_cert_anchors.specs.contracts.anchor.VersionPartialEq.TheImpl.{eq-value as same_version}
 use Rattle.x509_cert_anchors.specs.contracts.trust_anchor_choice.TrustAnchorChoicePartialEq.TheImpl.{eq-value as same_choice}
 use Rattle.x509_cert_anchors.specs.contracts.trust_anchor_info.TrustAnchorInfoPartialEq.TheImpl.{eq-value as same_info}
@@ -31,8 +31,8 @@ use Rattle.x509_cert_extensions.specs.contracts.crl_reason.CrlReasonPartialEq.Th
 use Rattle.x509_cert_extensions.specs.declared.crl_reason.CrlReason.{CrlReason}
 use Rattle.x509_cert_extensions.specs.declared.crl_reason.CrlReason.TheVariants as reasons
 use Rattle.x509_cert_extensions.specs.Reasons.{reason_number, reason_numbers}
-use Rattle.x509_cert_general_names.specs.Grammar.{distribution_point_name, general_name}
-use Rattle.x509_cert_general_names.specs.Views.{distribution_point_name_plain, general_name_plain}
+use Rattle.x509_cert_general_names.specs.GeneralNames.{distribution_point_name, general_name}
+use Rattle.x509_cert_general_names.specs.GeneralNameViews.{distribution_point_name_plain, general_name_plain}
 use Rattle.x509_cert_general_names.specs.contracts.distribution_point_name.DistributionPointNamePartialEq.TheImpl.{eq-value as same_point}
 use Rattle.x509_cert_general_names.specs.contracts.general_name.GeneralNamePartialEq.TheImpl.{eq-value as same_name}
 use Rattle.x509_cert_general_names.specs.declared.distribution_point_name.DistributionPointName.{DistributionPointName}
@@ -41,8 +41,8 @@ use Rattle.x509_cert_general_names.specs.declared.general_name.GeneralName.{Gene
 use Rattle.x509_cert_general_names.specs.declared.general_name.GeneralName.TheVariants as cases
 use Rattle.x509_cert_names.proofs.SameOctets.{directories, names, pairs}
 use Rattle.der_types_any.proofs.AnyLaws.{values}
-use Rattle.x509_cert_policies.specs.Grammar.{display_text}
-use Rattle.x509_cert_policies.specs.Views.{display_plain}
+use Rattle.x509_cert_policies.specs.Policies.{display_text}
+use Rattle.x509_cert_policies.specs.PolicyViews.{display_plain}
 use Rattle.x509_cert_policies.specs.contracts.display_text.DisplayTextPartialEq.TheImpl.{eq-value as same_text}
 use Rattle.x509_cert_policies.specs.declared.display_text.DisplayText.{DisplayText}
 use Rattle.x509_cert_policies.specs.declared.display_text.DisplayText.TheVariants as texts

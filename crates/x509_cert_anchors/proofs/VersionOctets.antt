@@ -5,7 +5,7 @@ use Rattle.der_core_head.specs.Heads.{tlv, head_octets, length_octets}
 use Rattle.der_core_head.specs.Integers.{integer_octets}
 use Rattle.der_core_head.specs.Shapes.{octets_of, contents, IsValid, IsContent}
 use Rattle.der_core_head.specs.Tags.{tag_octets}
-use Rattle.x509_cert_anchors.specs.Grammar.{anchor_version, first_anchor_version_octets}
+use Rattle.x509_cert_anchors.specs.Anchors.{anchor_version, first_anchor_version_octets}
 
 one : integer_octets (pos 1) ≡ 1 ∷ []
 unfolding integer_octets

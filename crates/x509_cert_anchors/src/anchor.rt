@@ -1,8 +1,8 @@
 //! The versions of trust anchors.
 
 ghost use Rattle.std.specs.Prelude.{◌≡◌, refl};
-ghost use Rattle.x509_cert_anchors.specs.Grammar.{anchor_numbers, first_anchor_version_octets};
-ghost use Rattle.x509_cert_anchors.specs.Views.{anchor_number};
+ghost use Rattle.x509_cert_anchors.specs.Anchors.{anchor_numbers, first_anchor_version_octets};
+ghost use Rattle.x509_cert_anchors.specs.AnchorViews.{anchor_number};
 
 use der_core::DefaultValue;
 use der_core::describing::{AsNumbered, Described, Numbered, Ordered};

@@ -3,8 +3,8 @@
 
 ghost use Rattle.std.specs.Prelude.{◌≡◌, IfOk, string_bytes};
 ghost use Rattle.der_core.specs.Copies.{IsCopy};
-ghost use Rattle.x509_cert_anchors.specs.Views.{cert_path_controls_plain, trust_anchor_info_plain};
-ghost use Rattle.x509_cert_anchors.specs.Views.{trust_anchor_plain};
+ghost use Rattle.x509_cert_anchors.specs.AnchorViews.{cert_path_controls_plain, trust_anchor_info_plain};
+ghost use Rattle.x509_cert_anchors.specs.AnchorViews.{trust_anchor_plain};
 
 use crate::{CertPathControls, TrustAnchorChoice, TrustAnchorInfo};
 use der_core::making::{copies_of_option, copy_of_option};

@@ -3,11 +3,11 @@
 ghost use Rattle.std.specs.Prelude.{pos, refl};
 ghost use Rattle.const_oid.specs.Bound.{Bound};
 ghost use Rattle.der_core_head.specs.Grammar.{plain_list, plain_option};
-ghost use Rattle.x509_cert_general_names.specs.Views.{name_constraints_plain};
-ghost use Rattle.x509_cert_policies.specs.Views.{policy_information_plain};
-ghost use Rattle.x509_cert_anchors.specs.Grammar.{cert_path_controls_fields, cert_path_controls_by};
-ghost use Rattle.x509_cert_anchors.specs.Grammar.{constraint_fields};
-ghost use Rattle.x509_cert_anchors.specs.Views.{cert_path_controls_plain};
+ghost use Rattle.x509_cert_general_names.specs.GeneralNameViews.{name_constraints_plain};
+ghost use Rattle.x509_cert_policies.specs.PolicyViews.{policy_information_plain};
+ghost use Rattle.x509_cert_anchors.specs.Anchors.{cert_path_controls_fields, cert_path_controls_by};
+ghost use Rattle.x509_cert_anchors.specs.Anchors.{constraint_fields};
+ghost use Rattle.x509_cert_anchors.specs.AnchorViews.{cert_path_controls_plain};
 
 use crate::cert_policies::CertPolicyFlags;
 use der_core::describing::{AsRecord, DecodeRow, Described, FieldRow, RowUser, Rows};

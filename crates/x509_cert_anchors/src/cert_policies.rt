@@ -2,7 +2,7 @@
 
 ghost use Rattle.std.specs.Prelude.{⊤, refl};
 ghost use Rattle.bitflags.specs.Sets.{known_from};
-ghost use Rattle.x509_cert_anchors.specs.Grammar.{policy_flags};
+ghost use Rattle.x509_cert_anchors.specs.Anchors.{policy_flags};
 
 use bitflags::{Flag, Flags, bitflag_items};
 use der_types_values::{FlagSet, NamedBits};

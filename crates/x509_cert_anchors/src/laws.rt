@@ -4,8 +4,8 @@
 
 ghost use Rattle.std.specs.Prelude.{ℕ, Option, Bool};
 ghost use Rattle.der_core_head.specs.Shapes.{IsValid};
-ghost use Rattle.x509_cert_anchors.specs.Grammar.{PlainAnchor, trust_anchor_choice};
-ghost use Rattle.x509_cert_anchors.specs.Grammar.{trust_anchor_by};
+ghost use Rattle.x509_cert_anchors.specs.Anchors.{PlainAnchor, trust_anchor_choice};
+ghost use Rattle.x509_cert_anchors.specs.Anchors.{trust_anchor_by};
 
 /// A trust anchor that has an encoding has one where the dates of its certificates are re-encoded
 /// (RFC 5280 4.1.2.5).

@@ -2,8 +2,8 @@
 
 ghost use Rattle.std.specs.Prelude.{◌≡◌, refl};
 ghost use Rattle.const_oid.specs.Bound.{Bound};
-ghost use Rattle.x509_cert_anchors.specs.Grammar.{trust_anchor_choice, trust_anchor_by};
-ghost use Rattle.x509_cert_anchors.specs.Views.{trust_anchor_plain};
+ghost use Rattle.x509_cert_anchors.specs.Anchors.{trust_anchor_choice, trust_anchor_by};
+ghost use Rattle.x509_cert_anchors.specs.AnchorViews.{trust_anchor_plain};
 
 use crate::trust_anchor_info::TrustAnchorInfo;
 use der_core::{

@@ -2,8 +2,8 @@
 
 ghost use Rattle.std.specs.Prelude.{◌≡◌, refl};
 ghost use Rattle.const_oid.specs.Bound.{Bound};
-ghost use Rattle.x509_cert_anchors.specs.Grammar.{trust_anchor_info_fields, trust_anchor_info_by};
-ghost use Rattle.x509_cert_anchors.specs.Views.{trust_anchor_info_plain};
+ghost use Rattle.x509_cert_anchors.specs.Anchors.{trust_anchor_info_fields, trust_anchor_info_by};
+ghost use Rattle.x509_cert_anchors.specs.AnchorViews.{trust_anchor_info_plain};
 
 use crate::anchor::Version;
 use crate::cert_path_controls::CertPathControls;

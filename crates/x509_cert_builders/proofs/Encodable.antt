@@ -20,8 +20,8 @@ use Rattle.der_core_head.specs.Shapes.{leaf, tagged, sequence, sequence_of, octe
 use Rattle.der_core_head.specs.Tags.{tag_octets, context}
 use Rattle.sha1.specs.Sha1.{sha1, digest_bytes}
 use Rattle.x509_cert_parts.specs.Grammar.{false_by_default, object_identifier, octet_string, number_of, Algorithm, PlainExtension, PlainTime, time, version}
-use Rattle.x509_cert_general_names.specs.Grammar.{authority_key_identifier_fields}
-use Rattle.x509_cert_policies.specs.Grammar.{basic_constraints_fields}
+use Rattle.x509_cert_general_names.specs.GeneralNames.{authority_key_identifier_fields}
+use Rattle.x509_cert_policies.specs.Policies.{basic_constraints_fields}
 use Rattle.x509_cert_builders.specs.Profiles.{id_kp, purposes, digital_signature, use_where}
 use Rattle.der_core_head.specs.Dates.{Civil, is_civil}
 use Rattle.der_core_head.specs.Ranges.{IsInRange}

@@ -13,9 +13,9 @@ use Rattle.der_core_head.specs.Shapes.{Value, nested, sequence_of}
 use Rattle.x509_cert_names.specs.Names.{PlainName}
 use Rattle.x509_cert_parts.specs.Grammar.{PlainExtension, PublicKey}
 use Rattle.der_types_any.specs.Contents.{content_as}
-use Rattle.x509_cert_general_names.specs.Grammar.{general_name, hardware_module_name_fields}
+use Rattle.x509_cert_general_names.specs.GeneralNames.{general_name, hardware_module_name_fields}
 use Rattle.x509_cert_general_names.specs.Modules.{PlainModule, module_arcs, module_held}
-use Rattle.x509_cert_general_names.specs.Views.{general_name_plain}
+use Rattle.x509_cert_general_names.specs.GeneralNameViews.{general_name_plain}
 use Rattle.x509_cert_parts.specs.ExtensionTypes as types
 use Rattle.x509_cert_builders.specs.Profiles.{authority_key_extension, digital_signature}
 use Rattle.x509_cert_builders.specs.Profiles.{standard_extension, usage_extension}

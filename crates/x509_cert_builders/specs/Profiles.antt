@@ -14,8 +14,8 @@ use Rattle.x509_cert_extensions.specs.NamedBits as bits
 use Rattle.x509_cert_extensions.specs.NamedBits.{KeyUse, bit_of}
 use Rattle.x509_cert_parts.specs.Grammar.{PublicKey, PlainExtension, algorithm_arcs, key_algorithm}
 use Rattle.x509_cert_parts.specs.Grammar.{object_identifier, octet_string}
-use Rattle.x509_cert_general_names.specs.Grammar.{authority_key_identifier_fields}
-use Rattle.x509_cert_policies.specs.Grammar.{basic_constraints_fields}
+use Rattle.x509_cert_general_names.specs.GeneralNames.{authority_key_identifier_fields}
+use Rattle.x509_cert_policies.specs.Policies.{basic_constraints_fields}
 
 -- an extension of a type, whose content is the encoding of a value
 abbrev pub standard_extension : ExtensionType → Bool → (s : Shape) → Value s → PlainExtension

@@ -7,8 +7,8 @@ use Rattle.const_oid.specs.Bound.{Bound}
 use Rattle.der_core_head.specs.declared.error.ErrorKind.TheVariants as kinds
 use Rattle.der_core_head.specs.Grammar.{plain_list}
 use Rattle.der_core_head.specs.Shapes.{IsValid, Value}
-use Rattle.x509_cert_general_names.specs.Grammar.{general_name}
-use Rattle.x509_cert_general_names.specs.Views.{general_name_plain}
+use Rattle.x509_cert_general_names.specs.GeneralNames.{general_name}
+use Rattle.x509_cert_general_names.specs.GeneralNameViews.{general_name_plain}
 use Rattle.x509_cert_names.specs.Names.{PlainName, type_and_value}
 use Rattle.x509_cert_names.specs.Views.{name_plain}
 use Rattle.x509_cert_builders.specs.Refusals.{IsOfKind}

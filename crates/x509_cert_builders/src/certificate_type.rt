@@ -4,7 +4,7 @@ ghost use Rattle.std.specs.Prelude.{◌≡◌, ◌⊎◌, ◌∷◌, [], true, O
 ghost use Rattle.std.specs.List.{list_all};
 ghost use Rattle.der_core.specs.Copies.{IsCopy};
 ghost use Rattle.der_core_head.specs.Grammar.{plain_list};
-ghost use Rattle.x509_cert_general_names.specs.Views.{general_name_plain};
+ghost use Rattle.x509_cert_general_names.specs.GeneralNameViews.{general_name_plain};
 ghost use Rattle.x509_cert_names.specs.Views.{name_plain};
 ghost use Rattle.x509_cert_names.specs.Pairs.{relative_plain};
 ghost use Rattle.x509_cert_builders.specs.Naming.{common_name, country, is_among};

@@ -6,7 +6,7 @@ ghost use Rattle.der_core_head.specs.Grammar.{plain_list, plain_option};
 ghost use Rattle.x509_cert_certificates.specs.Certificates.{tbs_subject};
 ghost use Rattle.x509_cert_parts.specs.Views.{extensions_plain};
 ghost use Rattle.x509_cert_names.specs.Views.{name_plain};
-ghost use Rattle.x509_cert_general_names.specs.Views.{general_name_plain};
+ghost use Rattle.x509_cert_general_names.specs.GeneralNameViews.{general_name_plain};
 ghost use Rattle.x509_cert_builders.specs.Devices.{IsUnnameable, MayHave, MayNotHave, alternatives};
 ghost use Rattle.x509_cert_builders.specs.Devices.{PlainGeneralName, device_extensions, module_of};
 ghost use Rattle.x509_cert_builders.specs.Devices.{device_names, first_module, is_of_module};

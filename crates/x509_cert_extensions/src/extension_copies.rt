@@ -2,8 +2,8 @@
 
 ghost use Rattle.der_core_head.specs.Grammar.{plain_list};
 ghost use Rattle.der_core.specs.Copies.{IsCopy};
-ghost use Rattle.x509_cert_general_names.specs.Views.{access_description_plain};
-ghost use Rattle.x509_cert_general_names.specs.Views.{distribution_point_plain, general_name_plain};
+ghost use Rattle.x509_cert_general_names.specs.GeneralNameViews.{access_description_plain};
+ghost use Rattle.x509_cert_general_names.specs.GeneralNameViews.{distribution_point_plain, general_name_plain};
 ghost use Rattle.x509_cert_names.specs.Views.{attribute_plain};
 
 use crate::{

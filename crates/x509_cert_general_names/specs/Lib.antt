@@ -1,6 +1,6 @@
 pub mod Addresses
-pub mod Grammar
+pub mod GeneralNameViews
+pub mod GeneralNames
 pub mod KeyIdentifiers
 pub mod Modules
 pub mod NamedBits
-pub mod Views

@@ -6,7 +6,7 @@ use Rattle.der_core_head.specs.declared.tag.Tag.TheVariants.{Sequence}
 use Rattle.der_core_head.specs.Octets.{◌>>=◌}
 use Rattle.der_core_head.specs.Shapes.{BodyValue, any, nested, sequence, octets_of, IsValid, Spells}
 use Rattle.der_types_any.specs.Contents.{content_as, written_as}
-use Rattle.x509_cert_general_names.specs.Grammar.{other_name_fields, hardware_module_name_fields}
+use Rattle.x509_cert_general_names.specs.GeneralNames.{other_name_fields, hardware_module_name_fields}
 
 -- what is held, and what holds it
 abbrev pub PlainModule : Type 0

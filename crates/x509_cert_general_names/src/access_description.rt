@@ -2,8 +2,8 @@
 
 ghost use Rattle.std.specs.Prelude.{◌≡◌, refl};
 ghost use Rattle.const_oid.specs.Bound.{Bound};
-ghost use Rattle.x509_cert_general_names.specs.Grammar.{access_description_fields};
-ghost use Rattle.x509_cert_general_names.specs.Views.{access_description_plain};
+ghost use Rattle.x509_cert_general_names.specs.GeneralNames.{access_description_fields};
+ghost use Rattle.x509_cert_general_names.specs.GeneralNameViews.{access_description_plain};
 
 use crate::general_name::GeneralName;
 use const_oid::ObjectIdentifier;

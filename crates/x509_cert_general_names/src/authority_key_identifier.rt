@@ -3,9 +3,9 @@
 ghost use Rattle.std.specs.Prelude.{◌≡◌, Some, None, IfOk, IfErr, refl};
 ghost use Rattle.const_oid.specs.Bound.{Bound};
 ghost use Rattle.x509_cert_parts.specs.Views.{key_lent};
-ghost use Rattle.x509_cert_general_names.specs.Grammar.{authority_key_identifier_fields};
+ghost use Rattle.x509_cert_general_names.specs.GeneralNames.{authority_key_identifier_fields};
 ghost use Rattle.x509_cert_general_names.specs.KeyIdentifiers.{key_identifier};
-ghost use Rattle.x509_cert_general_names.specs.Views.{authority_key_identifier_plain};
+ghost use Rattle.x509_cert_general_names.specs.GeneralNameViews.{authority_key_identifier_plain};
 
 use crate::general_name::GeneralNames;
 use der_core::describing::{AsRecord, Described, FieldsView, RowUser, Rows};

@@ -1,8 +1,8 @@
 //! EdiPartyName.
 
 ghost use Rattle.std.specs.Prelude.{◌≡◌, refl};
-ghost use Rattle.x509_cert_general_names.specs.Grammar.{edi_party_name_fields};
-ghost use Rattle.x509_cert_general_names.specs.Views.{edi_party_name_plain};
+ghost use Rattle.x509_cert_general_names.specs.GeneralNames.{edi_party_name_fields};
+ghost use Rattle.x509_cert_general_names.specs.GeneralNameViews.{edi_party_name_plain};
 
 use der_core::describing::{AsRecord, Described, FieldsView, RowUser, Rows};
 use der_core::{DecodeFields, Error, Reader, lend, read_row};

@@ -4,8 +4,8 @@ ghost use Rattle.std.specs.Prelude.{◌≡◌, ◌≤◌, vec_len, refl, IfOk, I
 ghost use Rattle.const_oid.specs.Bound.{Bound};
 ghost use Rattle.der_core_head.specs.declared.error.ErrorKind.TheVariants.{OutOfMemory};
 ghost use Rattle.x509_cert_general_names.specs.Addresses.{address_octets};
-ghost use Rattle.x509_cert_general_names.specs.Grammar.{general_name};
-ghost use Rattle.x509_cert_general_names.specs.Views.{general_name_plain};
+ghost use Rattle.x509_cert_general_names.specs.GeneralNames.{general_name};
+ghost use Rattle.x509_cert_general_names.specs.GeneralNameViews.{general_name_plain};
 ghost use Rattle.x509_cert_general_names.specs.declared.general_name.GeneralName.TheVariants
     as names;
 

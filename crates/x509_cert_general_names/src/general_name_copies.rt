@@ -1,7 +1,7 @@
 //! Copies of general names, and of what holds them.
 
 ghost use Rattle.der_core.specs.Copies.{IsCopy};
-ghost use Rattle.x509_cert_general_names.specs.Views as views;
+ghost use Rattle.x509_cert_general_names.specs.GeneralNameViews as views;
 
 use crate::{
     AccessDescription, AuthorityKeyIdentifier, DistributionPoint, DistributionPointName,

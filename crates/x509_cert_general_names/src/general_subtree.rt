@@ -2,8 +2,8 @@
 
 ghost use Rattle.std.specs.Prelude.{◌≡◌, refl};
 ghost use Rattle.const_oid.specs.Bound.{Bound};
-ghost use Rattle.x509_cert_general_names.specs.Grammar.{general_subtree_fields};
-ghost use Rattle.x509_cert_general_names.specs.Views.{general_subtree_plain};
+ghost use Rattle.x509_cert_general_names.specs.GeneralNames.{general_subtree_fields};
+ghost use Rattle.x509_cert_general_names.specs.GeneralNameViews.{general_subtree_plain};
 
 use crate::general_name::GeneralName;
 use der_core::describing::{AsRecord, Described, FieldsView, RowUser, Rows};

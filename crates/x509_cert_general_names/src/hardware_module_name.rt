@@ -4,10 +4,10 @@ ghost use Rattle.std.specs.Prelude.{◌≡◌, true, false, Ok, Some, None, IsSo
 ghost use Rattle.const_oid.specs.Bound.{Bound};
 ghost use Rattle.der_core_head.specs.Grammar.{plain_option};
 ghost use Rattle.der_core_head.specs.Reading.{Gives};
-ghost use Rattle.x509_cert_general_names.specs.Grammar.{hardware_module_name_fields};
+ghost use Rattle.x509_cert_general_names.specs.GeneralNames.{hardware_module_name_fields};
 ghost use Rattle.x509_cert_general_names.specs.Modules.{PlainModule, is_of_module, HasEncoding};
 ghost use Rattle.x509_cert_general_names.specs.Modules.{HoldsModule, module_read};
-ghost use Rattle.x509_cert_general_names.specs.Views.{hardware_module_name_plain, other_name_plain};
+ghost use Rattle.x509_cert_general_names.specs.GeneralNameViews.{hardware_module_name_plain, other_name_plain};
 
 use crate::other_name::OtherName;
 use const_oid::{AssociatedOid, ObjectIdentifier};

@@ -2,8 +2,8 @@
 
 ghost use Rattle.std.specs.Prelude.{◌≡◌, refl};
 ghost use Rattle.const_oid.specs.Bound.{Bound};
-ghost use Rattle.x509_cert_general_names.specs.Grammar.{issuing_distribution_point_fields};
-ghost use Rattle.x509_cert_general_names.specs.Views.{issuing_distribution_point_plain};
+ghost use Rattle.x509_cert_general_names.specs.GeneralNames.{issuing_distribution_point_fields};
+ghost use Rattle.x509_cert_general_names.specs.GeneralNameViews.{issuing_distribution_point_plain};
 
 use crate::distribution_point_name::DistributionPointName;
 use crate::reason_flags::ReasonFlags;

@@ -2,8 +2,8 @@
 
 ghost use Rattle.std.specs.Prelude.{◌≡◌, refl};
 ghost use Rattle.const_oid.specs.Bound.{Bound};
-ghost use Rattle.x509_cert_general_names.specs.Grammar.{name_constraints_fields};
-ghost use Rattle.x509_cert_general_names.specs.Views.{name_constraints_plain};
+ghost use Rattle.x509_cert_general_names.specs.GeneralNames.{name_constraints_fields};
+ghost use Rattle.x509_cert_general_names.specs.GeneralNameViews.{name_constraints_plain};
 
 use crate::general_subtree::GeneralSubtrees;
 use der_core::describing::{AsRecord, Described, FieldsView, RowUser, Rows};

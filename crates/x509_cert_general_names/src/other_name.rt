@@ -3,9 +3,9 @@
 ghost use Rattle.std.specs.Prelude.{◌≡◌, refl};
 ghost use Rattle.const_oid.specs.Bound.{Bound};
 ghost use Rattle.der_core_head.specs.Reading.{Gives};
-ghost use Rattle.x509_cert_general_names.specs.Grammar.{other_name_fields};
+ghost use Rattle.x509_cert_general_names.specs.GeneralNames.{other_name_fields};
 ghost use Rattle.x509_cert_general_names.specs.Modules.{module_held};
-ghost use Rattle.x509_cert_general_names.specs.Views.{hardware_module_name_plain, other_name_plain};
+ghost use Rattle.x509_cert_general_names.specs.GeneralNameViews.{hardware_module_name_plain, other_name_plain};
 
 use crate::hardware_module_name::HardwareModuleName;
 use const_oid::{AssociatedOid, ObjectIdentifier};

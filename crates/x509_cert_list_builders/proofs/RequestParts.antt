@@ -9,7 +9,7 @@ use Rattle.der_core_head.specs.Reading.{Fails}
 use Rattle.der_core_head.specs.Shapes.{IsValid}
 use Rattle.der_core_head.proofs.Results.{or_memory}
 use Rattle.der_core.specs.Placed.{IsNotPlaced, is_below, placed, put_in_front, stands_among}
-use Rattle.x509_cert_lists.specs.Grammar.{extension_req_attribute}
+use Rattle.x509_cert_lists.specs.ListGrammar.{extension_req_attribute}
 use Rattle.x509_cert_names.specs.Names.{PlainAttribute, PlainName, attribute}
 use Rattle.x509_cert_parts.specs.Grammar.{PlainExtension, PublicKey}
 use Rattle.x509_cert_list_builders.specs.Requests.{HasNoAttribute, IsNotAdded, PlainInfo, request_of, with_request}

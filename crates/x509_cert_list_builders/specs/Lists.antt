@@ -11,12 +11,12 @@ use Rattle.der_core_head.specs.Shapes.{Shape, BodyValue, tagged, leaf, optional}
 use Rattle.der_core_head.specs.Shapes.{sequence, sequence_of, explicit}
 use Rattle.sha1.specs.Sha1.{sha1}
 use Rattle.x509_cert_certificates.specs.Certificates.{Tbs, tbs_public_key, tbs_extensions}
-use Rattle.x509_cert_lists.specs.Grammar.{revoked_cert_fields, tbs_cert_list_fields}
+use Rattle.x509_cert_lists.specs.ListGrammar.{revoked_cert_fields, tbs_cert_list_fields}
 use Rattle.x509_cert_parts.specs.ExtensionTypes as types
 use Rattle.x509_cert_parts.specs.ExtensionTypes.{identifier_of}
 use Rattle.x509_cert_parts.specs.Grammar.{PlainExtension, PublicKey, key_bits, extensions}
 use Rattle.x509_cert_parts.specs.ExtensionSearch.{only_value, extensions_in_field}
-use Rattle.x509_cert_general_names.specs.Grammar.{authority_key_identifier_fields}
+use Rattle.x509_cert_general_names.specs.GeneralNames.{authority_key_identifier_fields}
 use Rattle.x509_cert_builders.specs.Profiles.{standard_extension}
 use Rattle.x509_cert_builders.specs.Refusals.{HasNoEncoding}
 

@@ -5,7 +5,7 @@ use Rattle.der_core.specs.Placed.{placed, stands_among}
 use Rattle.der_core_head.specs.declared.error.ErrorKind.{ErrorKind}
 use Rattle.der_core_head.specs.declared.error.ErrorKind.TheVariants as kinds
 use Rattle.der_core_head.specs.Shapes.{Shape, BodyValue, IsValid, sequence}
-use Rattle.x509_cert_lists.specs.Grammar.{cert_req_info_fields, extension_req_attribute}
+use Rattle.x509_cert_lists.specs.ListGrammar.{cert_req_info_fields, extension_req_attribute}
 use Rattle.x509_cert_builders.specs.Refusals.{IsOfKind, IsUnwritten}
 use Rattle.x509_cert_builders.specs.declared.build_error.Error.{Error}
 use Rattle.x509_cert_names.specs.Names.{PlainAttribute, PlainName, attribute}

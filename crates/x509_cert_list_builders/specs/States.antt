@@ -5,8 +5,8 @@ use Rattle.x509_cert_parts.specs.Grammar.{Algorithm, PlainExtension, PlainTime}
 use Rattle.x509_cert_names.specs.Names.{PlainAttribute, PlainName}
 use Rattle.x509_cert_names.specs.Views.{attribute_plain, name_plain}
 use Rattle.x509_cert_parts.specs.Views.{extensions_plain, time_value}
-use Rattle.x509_cert_lists.specs.Views.{cert_req_info_plain, revoked_cert_plain}
-use Rattle.x509_cert_lists.specs.Views.{tbs_cert_list_plain}
+use Rattle.x509_cert_lists.specs.ListViews.{cert_req_info_plain, revoked_cert_plain}
+use Rattle.x509_cert_lists.specs.ListViews.{tbs_cert_list_plain}
 use Rattle.x509_cert_list_builders.specs.Lists.{PlainEntry, PlainList}
 use Rattle.x509_cert_list_builders.specs.Requests.{PlainInfo}
 use Rattle.x509_cert_list_builders.specs.declared.crl_builder.CrlBuilder.TheInside as lists

@@ -11,9 +11,9 @@ ghost use Rattle.x509_cert_certificates.specs.Views.{certificate_plain, tbs_plai
 ghost use Rattle.x509_cert_certificates.specs.Certificates.{tbs, tbs_subject};
 ghost use Rattle.x509_cert_parts.specs.Views.{algorithm_plain, extensions_plain, key_plain};
 ghost use Rattle.x509_cert_parts.specs.Views.{time_value};
-ghost use Rattle.x509_cert_general_names.specs.Views.{authority_key_identifier_plain};
-ghost use Rattle.x509_cert_lists.specs.Views.{certificate_list_plain, revoked_cert_plain};
-ghost use Rattle.x509_cert_lists.specs.Views.{tbs_cert_list_plain};
+ghost use Rattle.x509_cert_general_names.specs.GeneralNameViews.{authority_key_identifier_plain};
+ghost use Rattle.x509_cert_lists.specs.ListViews.{certificate_list_plain, revoked_cert_plain};
+ghost use Rattle.x509_cert_lists.specs.ListViews.{tbs_cert_list_plain};
 ghost use Rattle.x509_cert_builders.specs.Refusals.{IsUnwritten, IsWantOfMemory};
 ghost use Rattle.x509_cert_list_builders.specs.Lists.{HasNoExtensions, PlainAuthority, entries};
 ghost use Rattle.x509_cert_list_builders.specs.Lists.{given_or_made, issuing_key, key_extension};

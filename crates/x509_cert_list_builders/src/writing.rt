@@ -10,7 +10,7 @@ ghost use Rattle.der_core_head.specs.Shapes.{IsValid, octets_of};
 ghost use Rattle.der_core_head.specs.Grammar.{plain_list, plain_option};
 ghost use Rattle.der_core_head.specs.Ranges.{IsInRange};
 ghost use Rattle.x509_cert_parts.specs.Views.{extensions_plain};
-ghost use Rattle.x509_cert_lists.specs.Views.{tbs_cert_list_plain, revoked_cert_plain};
+ghost use Rattle.x509_cert_lists.specs.ListViews.{tbs_cert_list_plain, revoked_cert_plain};
 ghost use Rattle.x509_cert_builders.specs.Refusals.{IsUnwritten, IsWantOfMemory};
 ghost use Rattle.x509_cert_list_builders.specs.Lists.{list_part, entries_field, extensions_field};
 ghost use Rattle.x509_cert_list_builders.specs.Lists.{raw_entry};

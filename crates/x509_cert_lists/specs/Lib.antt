@@ -1,3 +1,3 @@
 pub mod Attributes
-pub mod Grammar
-pub mod Views
+pub mod ListGrammar
+pub mod ListViews

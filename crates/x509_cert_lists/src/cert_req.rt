@@ -5,8 +5,8 @@ ghost use Rattle.const_oid.specs.Bound.{Bound};
 ghost use Rattle.der_core_head.specs.Grammar.{read_whole};
 ghost use Rattle.der_core_head.specs.Reading.{Gives};
 ghost use Rattle.der_core_head.specs.Shapes.{Spells, Value};
-ghost use Rattle.x509_cert_lists.specs.Grammar.{cert_req, cert_req_fields};
-ghost use Rattle.x509_cert_lists.specs.Views.{cert_req_plain};
+ghost use Rattle.x509_cert_lists.specs.ListGrammar.{cert_req, cert_req_fields};
+ghost use Rattle.x509_cert_lists.specs.ListViews.{cert_req_plain};
 
 use crate::cert_req_info::CertReqInfo;
 use der_core::describing::{AsRecord, Described, FieldsView, RowUser, Rows};

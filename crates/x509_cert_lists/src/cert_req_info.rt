@@ -2,8 +2,8 @@
 
 ghost use Rattle.std.specs.Prelude.{◌≡◌, refl};
 ghost use Rattle.const_oid.specs.Bound.{Bound};
-ghost use Rattle.x509_cert_lists.specs.Grammar.{cert_req_info_fields};
-ghost use Rattle.x509_cert_lists.specs.Views.{cert_req_info_plain};
+ghost use Rattle.x509_cert_lists.specs.ListGrammar.{cert_req_info_fields};
+ghost use Rattle.x509_cert_lists.specs.ListViews.{cert_req_info_plain};
 
 use crate::request::Version;
 use der_core::describing::{AsRecord, Described, FieldsView, RowUser, Rows};

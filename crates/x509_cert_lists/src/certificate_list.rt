@@ -2,8 +2,8 @@
 
 ghost use Rattle.std.specs.Prelude.{◌≡◌, refl};
 ghost use Rattle.const_oid.specs.Bound.{Bound};
-ghost use Rattle.x509_cert_lists.specs.Grammar.{certificate_list_fields};
-ghost use Rattle.x509_cert_lists.specs.Views.{certificate_list_plain};
+ghost use Rattle.x509_cert_lists.specs.ListGrammar.{certificate_list_fields};
+ghost use Rattle.x509_cert_lists.specs.ListViews.{certificate_list_plain};
 
 use crate::tbs_cert_list::TbsCertList;
 use der_core::describing::{AsRecord, Described, FieldsView, RowUser, Rows};

@@ -5,7 +5,7 @@ ghost use Rattle.const_oid.specs.Bound.{Bound};
 ghost use Rattle.der_core_head.specs.Reading.{Gives};
 ghost use Rattle.x509_cert_names.specs.Views.{attribute_plain};
 ghost use Rattle.x509_cert_parts.specs.Views.{extensions_plain};
-ghost use Rattle.x509_cert_lists.specs.Grammar.{extension_req_arcs, extension_req_attribute};
+ghost use Rattle.x509_cert_lists.specs.ListGrammar.{extension_req_arcs, extension_req_attribute};
 
 use const_oid::{AssociatedOid, ObjectIdentifier};
 use der_core::describing::{AsField, Described, Ordered, Wraps};

@@ -7,10 +7,10 @@ ghost use Rattle.const_oid.specs.Bound.{Bound};
 ghost use Rattle.der_core.specs.Equality.{IsOfValues};
 ghost use Rattle.der_core_head.specs.Shapes.{octets_of, sequence};
 ghost use Rattle.x509_cert_lists.specs.Attributes.{challenge_password_arcs};
-ghost use Rattle.x509_cert_lists.specs.Grammar as grammar;
+ghost use Rattle.x509_cert_lists.specs.ListGrammar as grammar;
 ghost use Rattle.x509_cert_parts.specs.Grammar.{extensions};
 ghost use Rattle.x509_cert_parts.specs.Views.{extensions_plain};
-ghost use Rattle.x509_cert_lists.specs.Views as views;
+ghost use Rattle.x509_cert_lists.specs.ListViews as views;
 
 use crate::{
     CertReq, CertReqInfo, CertificateList, ChallengePassword, ExtensionReq, RevokedCert,

@@ -3,9 +3,9 @@
 
 ghost use Rattle.der_core.specs.Copies.{IsCopy};
 ghost use Rattle.x509_cert_parts.specs.Views.{extensions_plain};
-ghost use Rattle.x509_cert_lists.specs.Views.{cert_req_info_plain, cert_req_plain};
-ghost use Rattle.x509_cert_lists.specs.Views.{certificate_list_plain, revoked_cert_plain};
-ghost use Rattle.x509_cert_lists.specs.Views.{tbs_cert_list_plain};
+ghost use Rattle.x509_cert_lists.specs.ListViews.{cert_req_info_plain, cert_req_plain};
+ghost use Rattle.x509_cert_lists.specs.ListViews.{certificate_list_plain, revoked_cert_plain};
+ghost use Rattle.x509_cert_lists.specs.ListViews.{tbs_cert_list_plain};
 
 use crate::cert_req::CertReq;
 use crate::cert_req_info::CertReqInfo;

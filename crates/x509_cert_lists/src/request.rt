@@ -1,8 +1,8 @@
 //! The versions of CSRs.
 
 ghost use Rattle.std.specs.Prelude.{◌≡◌, refl};
-ghost use Rattle.x509_cert_lists.specs.Grammar.{request_numbers};
-ghost use Rattle.x509_cert_lists.specs.Views.{request_number};
+ghost use Rattle.x509_cert_lists.specs.ListGrammar.{request_numbers};
+ghost use Rattle.x509_cert_lists.specs.ListViews.{request_number};
 
 use der_core::describing::{AsNumbered, Described, Numbered, Ordered};
 

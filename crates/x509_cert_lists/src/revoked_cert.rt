@@ -2,8 +2,8 @@
 
 ghost use Rattle.std.specs.Prelude.{◌≡◌, refl};
 ghost use Rattle.const_oid.specs.Bound.{Bound};
-ghost use Rattle.x509_cert_lists.specs.Grammar.{revoked_cert_fields};
-ghost use Rattle.x509_cert_lists.specs.Views.{revoked_cert_plain};
+ghost use Rattle.x509_cert_lists.specs.ListGrammar.{revoked_cert_fields};
+ghost use Rattle.x509_cert_lists.specs.ListViews.{revoked_cert_plain};
 
 use der_core::describing::{AsRecord, Described, FieldsView, RowUser, Rows};
 use der_core::{DecodeFields, Error, Reader, lend, read_row};

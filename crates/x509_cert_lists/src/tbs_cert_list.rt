@@ -2,8 +2,8 @@
 
 ghost use Rattle.std.specs.Prelude.{◌≡◌, refl};
 ghost use Rattle.const_oid.specs.Bound.{Bound};
-ghost use Rattle.x509_cert_lists.specs.Grammar.{tbs_cert_list_fields};
-ghost use Rattle.x509_cert_lists.specs.Views.{tbs_cert_list_plain};
+ghost use Rattle.x509_cert_lists.specs.ListGrammar.{tbs_cert_list_fields};
+ghost use Rattle.x509_cert_lists.specs.ListViews.{tbs_cert_list_plain};
 
 use crate::revoked_cert::RevokedCert;
 use der_core::describing::{AsRecord, Described, FieldsView, RowUser, Rows};

@@ -1,2 +1,2 @@
-pub mod Grammar
-pub mod Views
+pub mod Policies
+pub mod PolicyViews

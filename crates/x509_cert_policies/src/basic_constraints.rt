@@ -1,8 +1,8 @@
 //! BasicConstraints.
 
 ghost use Rattle.std.specs.Prelude.{◌≡◌, refl};
-ghost use Rattle.x509_cert_policies.specs.Grammar.{basic_constraints_fields};
-ghost use Rattle.x509_cert_policies.specs.Views.{basic_constraints_plain};
+ghost use Rattle.x509_cert_policies.specs.Policies.{basic_constraints_fields};
+ghost use Rattle.x509_cert_policies.specs.PolicyViews.{basic_constraints_plain};
 
 use der_core::describing::{AsRecord, Described, FieldsView, RowUser, Rows};
 use der_core::{DecodeFields, Error, Reader, lend, read_row};

@@ -1,8 +1,8 @@
 //! DisplayText.
 
 ghost use Rattle.std.specs.Prelude.{◌≡◌, refl};
-ghost use Rattle.x509_cert_policies.specs.Grammar.{display_text};
-ghost use Rattle.x509_cert_policies.specs.Views.{display_plain};
+ghost use Rattle.x509_cert_policies.specs.Policies.{display_text};
+ghost use Rattle.x509_cert_policies.specs.PolicyViews.{display_plain};
 
 use der_core::{
     AsRead, Choice, Decode, DerOrd, Element, Encode, EncodeRef, Error, FirstTag, Length, Member,

@@ -1,8 +1,8 @@
 //! NoticeReference.
 
 ghost use Rattle.std.specs.Prelude.{◌≡◌, refl};
-ghost use Rattle.x509_cert_policies.specs.Grammar.{notice_reference_fields};
-ghost use Rattle.x509_cert_policies.specs.Views.{notice_reference_plain};
+ghost use Rattle.x509_cert_policies.specs.Policies.{notice_reference_fields};
+ghost use Rattle.x509_cert_policies.specs.PolicyViews.{notice_reference_plain};
 
 use crate::display_text::DisplayText;
 use der_core::describing::{AsRecord, Described, FieldsView, RowUser, Rows};

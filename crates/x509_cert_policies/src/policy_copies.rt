@@ -2,7 +2,7 @@
 
 ghost use Rattle.der_core_head.specs.Grammar.{plain_list};
 ghost use Rattle.der_core.specs.Copies.{IsCopy};
-ghost use Rattle.x509_cert_policies.specs.Views as views;
+ghost use Rattle.x509_cert_policies.specs.PolicyViews as views;
 
 use crate::{
     CertificatePolicies, DisplayText, NoticeReference, PolicyInformation, PolicyMappings,

@@ -2,8 +2,8 @@
 
 ghost use Rattle.std.specs.Prelude.{◌≡◌, refl};
 ghost use Rattle.const_oid.specs.Bound.{Bound};
-ghost use Rattle.x509_cert_policies.specs.Grammar.{policy_information_fields};
-ghost use Rattle.x509_cert_policies.specs.Views.{policy_information_plain};
+ghost use Rattle.x509_cert_policies.specs.Policies.{policy_information_fields};
+ghost use Rattle.x509_cert_policies.specs.PolicyViews.{policy_information_plain};
 
 use crate::policy_qualifier_info::PolicyQualifierInfo;
 use const_oid::ObjectIdentifier;

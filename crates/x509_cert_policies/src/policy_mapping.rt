@@ -2,8 +2,8 @@
 
 ghost use Rattle.std.specs.Prelude.{◌≡◌, refl};
 ghost use Rattle.const_oid.specs.Bound.{Bound};
-ghost use Rattle.x509_cert_policies.specs.Grammar.{policy_mapping_fields};
-ghost use Rattle.x509_cert_policies.specs.Views.{policy_mapping_plain};
+ghost use Rattle.x509_cert_policies.specs.Policies.{policy_mapping_fields};
+ghost use Rattle.x509_cert_policies.specs.PolicyViews.{policy_mapping_plain};
 
 use const_oid::ObjectIdentifier;
 use der_core::describing::{AsRecord, Described, FieldsView, RowUser, Rows};

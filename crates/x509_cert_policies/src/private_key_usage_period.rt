@@ -1,8 +1,8 @@
 //! PrivateKeyUsagePeriod.
 
 ghost use Rattle.std.specs.Prelude.{◌≡◌, refl};
-ghost use Rattle.x509_cert_policies.specs.Grammar.{private_key_usage_period_fields};
-ghost use Rattle.x509_cert_policies.specs.Views.{private_key_usage_period_plain};
+ghost use Rattle.x509_cert_policies.specs.Policies.{private_key_usage_period_fields};
+ghost use Rattle.x509_cert_policies.specs.PolicyViews.{private_key_usage_period_plain};
 
 use der_core::describing::{AsRecord, Described, FieldsView, RowUser, Rows};
 use der_core::{DecodeFields, Error, Reader, lend, read_row};

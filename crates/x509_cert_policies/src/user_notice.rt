@@ -1,8 +1,8 @@
 //! UserNotice.
 
 ghost use Rattle.std.specs.Prelude.{◌≡◌, refl};
-ghost use Rattle.x509_cert_policies.specs.Grammar.{user_notice_fields};
-ghost use Rattle.x509_cert_policies.specs.Views.{user_notice_plain};
+ghost use Rattle.x509_cert_policies.specs.Policies.{user_notice_fields};
+ghost use Rattle.x509_cert_policies.specs.PolicyViews.{user_notice_plain};
 
 use crate::display_text::DisplayText;
 use crate::notice_reference::NoticeReference;

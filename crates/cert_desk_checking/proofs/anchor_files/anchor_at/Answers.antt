@@ -1,5 +1,5 @@
 -- What stands there gives it, or none.
-use Rattle.x509_cert_anchors.specs.Views.{trust_anchor_plain}
+use Rattle.x509_cert_anchors.specs.AnchorViews.{trust_anchor_plain}
 use Rattle.cert_desk_checking.proofs.AnchorLaws.{given_there}
 use Rattle.cert_desk_checking.proofs.anchor_files.anchor_at.Goals as goal
 

@@ -15,7 +15,7 @@ use Rattle.der_core_head.specs.Texts.{ascii, text_read}
 use Rattle.der_core_head.specs.declared.error.Error.{Error}
 use Rattle.der_core_head.specs.declared.error.ErrorKind.{ErrorKind}
 use Rattle.der_core_head.specs.declared.error.ErrorKind.TheVariants.{OutOfMemory}
-use Rattle.x509_cert_general_names.specs.Grammar.{general_name, general_names}
+use Rattle.x509_cert_general_names.specs.GeneralNames.{general_name, general_names}
 use Rattle.cert_desk_issuing.specs.Ordered.{dns_name, dns_names}
 use Rattle.cert_desk_issuing.proofs.AcceptedFronts.{plain_at}
 use Rattle.der_core_head.proofs.Results.{only_memory}

@@ -2,8 +2,8 @@ use Rattle.std.specs.Prelude.{refl}
 use Rattle.der_core_head.specs.Bounds.{IsValidUnder, identifiers_of}
 use Rattle.der_core_head.specs.Shapes.{IsValid, octets_of, sequence}
 use Rattle.der_core_head.proofs.BoundLaws.{spelled_exactly}
-use Rattle.x509_cert_anchors.specs.Grammar.{trust_anchor_choice}
-use Rattle.x509_cert_lists.specs.Grammar.{certificate_list_fields, cert_req}
+use Rattle.x509_cert_anchors.specs.Anchors.{trust_anchor_choice}
+use Rattle.x509_cert_lists.specs.ListGrammar.{certificate_list_fields, cert_req}
 use Rattle.x509_cert.proofs.laws.wider_bounds_keep_types.Goals as goal
 
 -- Revocation lists, requests and trust anchors under two bounds of arcs: values and octets don't depend on the bound.

@@ -2,7 +2,7 @@ use Rattle.std.proofs.Common.{drop}
 use Rattle.std.specs.List.{AllByRecursion}
 use Rattle.der_core_head.specs.Grammar.{plain_list}
 use Rattle.der_core_head.specs.Ranges.{IsInRange}
-use Rattle.x509_cert_lists.specs.Views.{revoked_cert_plain}
+use Rattle.x509_cert_lists.specs.ListViews.{revoked_cert_plain}
 use Rattle.x509_cert_list_builders.specs.Lists.{raw_entry}
 use Rattle.x509_cert_list_builders.proofs.writing.entries_in_range.Given as goal
 

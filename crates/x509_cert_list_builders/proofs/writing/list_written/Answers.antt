@@ -1,6 +1,6 @@
 use Rattle.std.proofs.lemmas.Result.{err_from_is_err_and}
 use Rattle.x509_cert_builders.proofs.Faults.{or_unwritten}
-use Rattle.x509_cert_lists.specs.Views.{tbs_cert_list_plain}
+use Rattle.x509_cert_lists.specs.ListViews.{tbs_cert_list_plain}
 use Rattle.x509_cert_list_builders.specs.Lists.{list_part, PlainEntry, PlainList}
 use Rattle.std.proofs.Common.{◌≡◌, ℕ, List, Option, Some, None, Ok}
 use Rattle.der_core_head.specs.Ranges.{IsInRange}

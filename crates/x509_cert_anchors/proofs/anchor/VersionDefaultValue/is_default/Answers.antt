@@ -1,5 +1,5 @@
 use Rattle.std.proofs.Common.{ℕ, List, sym, ap, bytes_eq}
-use Rattle.x509_cert_anchors.specs.Grammar.{first_anchor_version_octets}
+use Rattle.x509_cert_anchors.specs.Anchors.{first_anchor_version_octets}
 use Rattle.x509_cert_anchors.proofs.VersionOctets.{one_octets, one_valid}
 use Rattle.x509_cert_anchors.proofs.anchor.VersionDefaultValue.is_default.Goals as goal
 

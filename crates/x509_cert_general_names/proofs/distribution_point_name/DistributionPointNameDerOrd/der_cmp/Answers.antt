@@ -1,6 +1,6 @@
 use Rattle.const_oid.specs.Bound.{Bound}
-use Rattle.x509_cert_general_names.specs.Grammar.{distribution_point_name}
-use Rattle.x509_cert_general_names.specs.Views.{distribution_point_name_plain}
+use Rattle.x509_cert_general_names.specs.GeneralNames.{distribution_point_name}
+use Rattle.x509_cert_general_names.specs.GeneralNameViews.{distribution_point_name_plain}
 use Rattle.x509_cert_names.proofs.Rows.{compared}
 use Rattle.x509_cert_general_names.proofs.distribution_point_name.DistributionPointNameDerOrd.der_cmp.Goals as goal
 

@@ -1,6 +1,6 @@
 use Rattle.const_oid.specs.Bound.{Bound}
-use Rattle.x509_cert_general_names.specs.Grammar.{general_name}
-use Rattle.x509_cert_general_names.specs.Views.{general_name_plain}
+use Rattle.x509_cert_general_names.specs.GeneralNames.{general_name}
+use Rattle.x509_cert_general_names.specs.GeneralNameViews.{general_name_plain}
 use Rattle.x509_cert_names.proofs.Rows.{started}
 use Rattle.x509_cert_general_names.proofs.general_name.GeneralNameFirstTag.first_tag.Goals as goal
 

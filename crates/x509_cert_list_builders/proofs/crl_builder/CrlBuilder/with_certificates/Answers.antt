@@ -1,4 +1,4 @@
-use Rattle.x509_cert_lists.specs.Views.{revoked_cert_plain}
+use Rattle.x509_cert_lists.specs.ListViews.{revoked_cert_plain}
 use Rattle.x509_cert_list_builders.proofs.RequestParts.{added_same}
 use Rattle.x509_cert_list_builders.proofs.crl_builder.CrlBuilder.with_certificates.Goals as goal
 

@@ -2,7 +2,7 @@ use Rattle.std.proofs.Common.{refl, sym, ap, ◌∙◌}
 use Rattle.std.proofs.lemmas.Result.{err_from_is_err_and}
 use Rattle.const_oid.specs.Bound.{Bound}
 use Rattle.der_core_head.specs.Grammar.{plain_list}
-use Rattle.x509_cert_lists.specs.Grammar.{extension_req_attribute}
+use Rattle.x509_cert_lists.specs.ListGrammar.{extension_req_attribute}
 use Rattle.x509_cert_names.specs.Views.{attribute_plain, name_plain}
 use Rattle.x509_cert_parts.specs.Views.{extensions_plain, key_plain}
 use Rattle.x509_cert_list_builders.proofs.RequestParts.{answered_same, one_part, placed_same, same_reason, same_valid}

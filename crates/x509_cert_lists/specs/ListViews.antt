@@ -2,9 +2,9 @@
 use Rattle.std.specs.Prelude.{ℕ, pos, None}
 use Rattle.der_core_head.specs.Grammar.{plain_option, plain_list}
 use Rattle.der_core_head.specs.Shapes.{BodyValue}
-use Rattle.x509_cert_lists.specs.Grammar.{revoked_cert_fields, tbs_cert_list_fields}
-use Rattle.x509_cert_lists.specs.Grammar.{certificate_list_fields, cert_req_info_fields}
-use Rattle.x509_cert_lists.specs.Grammar.{cert_req_fields}
+use Rattle.x509_cert_lists.specs.ListGrammar.{revoked_cert_fields, tbs_cert_list_fields}
+use Rattle.x509_cert_lists.specs.ListGrammar.{certificate_list_fields, cert_req_info_fields}
+use Rattle.x509_cert_lists.specs.ListGrammar.{cert_req_fields}
 use Rattle.x509_cert_lists.specs.declared.cert_req.CertReq.{CertReq}
 use Rattle.x509_cert_lists.specs.declared.cert_req_info.CertReqInfo.{CertReqInfo}
 use Rattle.x509_cert_lists.specs.declared.certificate_list.CertificateList.{CertificateList}

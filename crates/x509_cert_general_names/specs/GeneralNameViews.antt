@@ -6,12 +6,12 @@ use Rattle.der_core_head.specs.Shapes.{Value, BodyValue}
 use Rattle.x509_cert_names.specs.DirectoryStrings.{directory_plain}
 use Rattle.x509_cert_names.specs.Views.{name_plain}
 use Rattle.x509_cert_names.specs.Pairs.{relative_plain}
-use Rattle.x509_cert_general_names.specs.Grammar.{other_name_fields, hardware_module_name_fields}
-use Rattle.x509_cert_general_names.specs.Grammar.{edi_party_name_fields, access_description_fields}
-use Rattle.x509_cert_general_names.specs.Grammar.{general_name, issuing_distribution_point_fields}
-use Rattle.x509_cert_general_names.specs.Grammar.{authority_key_identifier_fields}
-use Rattle.x509_cert_general_names.specs.Grammar.{general_subtree_fields, distribution_point_fields}
-use Rattle.x509_cert_general_names.specs.Grammar.{name_constraints_fields, distribution_point_name}
+use Rattle.x509_cert_general_names.specs.GeneralNames.{other_name_fields, hardware_module_name_fields}
+use Rattle.x509_cert_general_names.specs.GeneralNames.{edi_party_name_fields, access_description_fields}
+use Rattle.x509_cert_general_names.specs.GeneralNames.{general_name, issuing_distribution_point_fields}
+use Rattle.x509_cert_general_names.specs.GeneralNames.{authority_key_identifier_fields}
+use Rattle.x509_cert_general_names.specs.GeneralNames.{general_subtree_fields, distribution_point_fields}
+use Rattle.x509_cert_general_names.specs.GeneralNames.{name_constraints_fields, distribution_point_name}
 use Rattle.x509_cert_general_names.specs.declared.access_description.AccessDescription.{AccessDescription}
 use Rattle.x509_cert_general_names.specs.declared.authority_key_identifier.AuthorityKeyIdentifier.{AuthorityKeyIdentifier}
 use Rattle.x509_cert_general_names.specs.declared.distribution_point.DistributionPoint.{DistributionPoint}

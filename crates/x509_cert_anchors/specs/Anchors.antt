@@ -10,11 +10,11 @@ use Rattle.der_core_head.specs.Shapes.{Shape, Body, Value, BodyValue, tagged, le
 use Rattle.der_core_head.specs.Shapes.{optional, defaulted, field, done, many, sequence, explicit}
 use Rattle.x509_cert_certificates.specs.Certificates.{certificate_fields, certificate}
 use Rattle.x509_cert_certificates.specs.Certificates.{tbs_certificate, certificate_by, tbs_by}
-use Rattle.x509_cert_general_names.specs.Grammar.{inside, name_constraints_fields}
+use Rattle.x509_cert_general_names.specs.GeneralNames.{inside, name_constraints_fields}
 use Rattle.x509_cert_parts.specs.Grammar.{implicit_leaf, whole_number}
 use Rattle.x509_cert_names.specs.Names.{name}
 use Rattle.x509_cert_parts.specs.Grammar.{octet_string, public_key_info, extensions}
-use Rattle.x509_cert_policies.specs.Grammar.{policy_information_fields}
+use Rattle.x509_cert_policies.specs.Policies.{policy_information_fields}
 
 -- CertPolicyFlags ::= BIT STRING { inhibitPolicyMapping (0), requireExplicitPolicy (1),
 --     inhibitAnyPolicy (2) } (2.5)

@@ -3,11 +3,11 @@ use Rattle.std.specs.Prelude.{pos, string_bytes}
 use Rattle.std.proofs.Common.{inl, inr}
 use Rattle.der_core_head.specs.Grammar.{plain_option, plain_list}
 use Rattle.der_core_head.specs.Shapes.{Value, BodyValue}
-use Rattle.x509_cert_policies.specs.Grammar.{basic_constraints_fields, policy_constraints_fields}
-use Rattle.x509_cert_policies.specs.Grammar.{policy_mapping_fields, policy_qualifier_info_fields}
-use Rattle.x509_cert_policies.specs.Grammar.{policy_information_fields, display_text}
-use Rattle.x509_cert_policies.specs.Grammar.{notice_reference_fields, user_notice_fields}
-use Rattle.x509_cert_policies.specs.Grammar.{private_key_usage_period_fields}
+use Rattle.x509_cert_policies.specs.Policies.{basic_constraints_fields, policy_constraints_fields}
+use Rattle.x509_cert_policies.specs.Policies.{policy_mapping_fields, policy_qualifier_info_fields}
+use Rattle.x509_cert_policies.specs.Policies.{policy_information_fields, display_text}
+use Rattle.x509_cert_policies.specs.Policies.{notice_reference_fields, user_notice_fields}
+use Rattle.x509_cert_policies.specs.Policies.{private_key_usage_period_fields}
 use Rattle.x509_cert_policies.specs.declared.basic_constraints.BasicConstraints.{BasicConstraints}
 use Rattle.x509_cert_policies.specs.declared.notice_reference.NoticeReference.{NoticeReference}
 use Rattle.x509_cert_policies.specs.declared.policy_constraints.PolicyConstraints.{PolicyConstraints}
