@@ -1,8 +1,8 @@
 #!/usr/bin/env bash
 # Judges a chain of four certificates that OpenSSL makes (three authorities and a server below an
 # RSA root, the anchor), with cert_desk_checking under a judge who says yes and with mbedTLS
-# (libmbedtls-dev) without its digest and signature: instructions a chain, by the difference of 101
-# rounds and one, reading left out (bench/README.md).
+# (libmbedtls-dev) without its digest and signature: instructions and calls for memory a chain, by
+# the difference of 101 rounds and one, reading left out (bench/README.md).
 . "$(dirname "$0")/program.sh"
 build chains chain_judged 'cert_desk x509_cert const_oid'
 
@@ -39,6 +39,10 @@ each() {
     few=$(instructions "$command" 1 "$@")
     many=$(instructions "$command" 101 "$@")
     echo "$name: $(((many - few) / 100)) instructions"
+    few=$(wants "$command" 1 "$@")
+    many=$(wants "$command" 101 "$@")
+    awk -v name="$name" -v all=$((many - few)) \
+        'BEGIN { printf "%s: %.2f calls for memory\n", name, all / 100 }'
 }
 moment=$(date +%s)
 "$program" 1 "$moment" root.der chain.der

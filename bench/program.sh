@@ -49,3 +49,19 @@ each() {
     many=$(instructions "$@" 11)
     echo "$name: $(((many - few) / (10 * count))) instructions"
 }
+
+# wants COMMAND..: how often it asks for memory
+wants() {
+    valgrind "$@" 2>&1 >/dev/null |
+        sed -n 's/.*total heap usage: \([0-9,]*\) allocs.*/\1/p' | tr -d ,
+}
+
+# memory NAME COMMAND..: how often one of the $count asks for memory, by the same difference
+memory() {
+    local name=$1 few many
+    shift
+    few=$(wants "$@" 1)
+    many=$(wants "$@" 11)
+    awk -v name="$name" -v all=$((many - few)) -v count=$((10 * count)) \
+        'BEGIN { printf "%s: %.2f calls for memory\n", name, all / count }'
+}

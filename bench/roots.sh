@@ -20,21 +20,6 @@ gcc -O2 -o "$work/mbedtls" "$top/bench/roots/mbedtls.c" -lmbedx509 -lmbedcrypto
 gcc -O2 -o "$work/walk" "$top/bench/headers/walk.c"
 count=$("$work/mbedtls" "$work/roots.der" 1)
 
-# wants COMMAND..: how often it asks for memory
-wants() {
-    valgrind "$@" 2>&1 >/dev/null |
-        sed -n 's/.*total heap usage: \([0-9,]*\) allocs.*/\1/p' | tr -d ,
-}
-# memory NAME COMMAND..: how often a certificate asks for memory
-memory() {
-    local name=$1 few many
-    shift
-    few=$(wants "$@" 1)
-    many=$(wants "$@" 11)
-    awk -v name="$name" -v all=$((many - few)) -v count=$((10 * count)) \
-        'BEGIN { printf "%s: %.2f calls for memory\n", name, all / count }'
-}
-
 echo "$count roots"
 each 'x509_cert, read' "$reads" "$work/roots.der"
 each 'x509_cert, read by a program that lends it' "$uses" read "$work/roots.der"
@@ -45,7 +30,9 @@ each 'cert_desk_checking, read into a bundle and checked' "$checks" check "$work
 each 'mbedTLS, read' "$work/mbedtls" "$work/roots.der"
 each 'headers in C' "$work/walk" "$work/roots.der"
 memory 'x509_cert, read' "$reads" "$work/roots.der"
+memory 'x509_cert, read and written' "$uses" write "$work/roots.der"
 memory 'x509_cert, read and weighed' "$uses" weigh "$work/roots.der"
+memory 'cert_desk_checking, read into a bundle' "$checks" read "$work/roots.der"
 memory 'cert_desk_checking, read into a bundle and checked' "$checks" check "$work/roots.der"
 memory 'mbedTLS, read' "$work/mbedtls" "$work/roots.der"
 echo "read and differ: $("$uses" write "$work/roots.der" 1)"

@@ -1,9 +1,10 @@
 #!/usr/bin/env bash
 # What cert_tool costs beside cert_desk, in instructions of whole runs, and of these less a run of
-# the same program that finds a wrong word: `describe` and `show` of the roots of ca-certificates,
-# `verify` and `check` of a chain of four that `issue` makes of the orders of examples/ and of one
-# authority more. Both programs have to be built. usage: bench/tool.sh [FOLDER], where FOLDER has
-# both programs; without it they are those of `out/`
+# the same program that finds a wrong word, and in calls for memory less those of that run:
+# `describe` and `show` of the roots of ca-certificates, `verify` and `check` of a chain of four
+# that `issue` makes of the orders of examples/ and of one authority more. Both programs have to be
+# built. usage: bench/tool.sh [FOLDER], where FOLDER has both programs; without it they are those of
+# `out/`
 set -euo pipefail
 top=$(cd "$(dirname "$0")/.." && pwd)
 work=$(mktemp -d)
@@ -15,6 +16,12 @@ instructions() {
         sed -n 's/.*Collected : //p'
 }
 
+# how often a program's run asks for memory, whatever its status
+wants() {
+    { valgrind "$@" || true; } 2>&1 >/dev/null |
+        sed -n 's/.*total heap usage: \([0-9,]*\) allocs.*/\1/p' | tr -d ,
+}
+
 # ratio MANY FEW: how many times the first is the second
 ratio() { awk -v many="$1" -v few="$2" 'BEGIN { printf "%.2f", many / few }'; }
 
@@ -22,11 +29,15 @@ desk=${1-$top/crates/cert_desk_program/out}/cert_desk_program
 tool=${1-$top/crates/cert_tool/out}/cert_tool
 tool_start=$(instructions "$tool" nothing)
 desk_start=$(instructions "$desk" nothing)
-described=0 shown=0 count=0
+tool_wants=$(wants "$tool" nothing)
+desk_wants=$(wants "$desk" nothing)
+described=0 shown=0 count=0 describing=0 showing=0
 for file in /usr/share/ca-certificates/mozilla/*.crt; do
     openssl x509 -in "$file" -outform DER -out "$work/root.der"
     described=$((described + $(instructions "$tool" describe certificate "$work/root.der")))
     shown=$((shown + $(instructions "$desk" show certificate "$work/root.der")))
+    describing=$((describing + $(wants "$tool" describe certificate "$work/root.der") - tool_wants))
+    showing=$((showing + $(wants "$desk" show certificate "$work/root.der") - desk_wants))
     count=$((count + 1))
 done
 echo "describe: $((described / count)) instructions a root, show: $((shown / count));" \
@@ -34,6 +45,7 @@ echo "describe: $((described / count)) instructions a root, show: $((shown / cou
 described=$((described / count - tool_start)) shown=$((shown / count - desk_start))
 echo "less a run that finds a wrong word ($tool_start, $desk_start):" \
     "$described, $shown: $(ratio $described $shown)"
+echo "calls for memory less that: $(ratio $describing $count), $(ratio $showing $count)"
 
 # the second order once more, without its path length
 awk 'BEGIN { RS = ""; ORS = "\n\n" }
@@ -57,3 +69,6 @@ checked=$(instructions "$desk" check "${checks[@]}")
 echo "verify: $verified instructions, check: $checked: $(ratio "$verified" "$checked")"
 verified=$((verified - tool_start)) checked=$((checked - desk_start))
 echo "less that: $verified, $checked: $(ratio $verified $checked)"
+verifying=$(($(wants "$tool" verify "${words[@]}") - tool_wants))
+checking=$(($(wants "$desk" check "${checks[@]}") - desk_wants))
+echo "calls for memory of both less that: $verifying, $checking"
