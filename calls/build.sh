@@ -46,7 +46,7 @@ for at in "${!words[@]}"; do
 done
 "$clang" "$1" -fPIC -O0 -Xclang -fmerge-functions -mllvm -mergefunc-use-aliases \
     -emit-llvm -S -x ir module.bc -o merged.ll
-calls='der_core_octets::parse::long_length_of|cert_tool_describe::lines::Lines::'
+calls='der_core_octets::parse::long_length_of|cert_tool_lines::lines::Lines::'
 sed -i -E "/^define .*@\"($calls)/ s/ (#[0-9]+) \{\$/ noinline \1 {/" merged.ll
 exec "$clang" "${words[@]}" -mllvm -force-attribute=optsize -mllvm -inline-threshold=225
 END

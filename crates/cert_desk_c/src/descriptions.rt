@@ -5,7 +5,8 @@ ghost use Rattle.cert_desk_io.specs.Statuses.{code_of};
 
 use cert_desk_buffers::{code, give};
 use cert_desk_io::ExitStatus;
-use cert_tool_describe::{Lines, add_certificate, add_list, add_request};
+use cert_tool_describe::{add_certificate, add_list, add_request};
+use cert_tool_lines::Lines;
 use der_core::ErrorKind;
 use std::alloc::Global;
 

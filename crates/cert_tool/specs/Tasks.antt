@@ -11,8 +11,8 @@ use Rattle.der_types_time.specs.Seconds.{last_second, unix_seconds}
 use Rattle.cert_desk_checking.specs.Arguments.{IsNumber}
 use Rattle.cert_tool.specs.declared.given.Key.{Key}
 use Rattle.cert_tool.specs.declared.given.Key.TheVariants as keys
-use Rattle.cert_tool_describe.specs.declared.kind.Kind.{Kind}
-use Rattle.cert_tool_describe.specs.declared.kind.Kind.TheVariants as kinds
+use Rattle.cert_tool_explain.specs.declared.kind.Kind.{Kind}
+use Rattle.cert_tool_explain.specs.declared.kind.Kind.TheVariants as kinds
 use Rattle.cert_tool.specs.declared.arguments.Moment.{Moment}
 use Rattle.cert_tool.specs.declared.arguments.Moment.TheVariants as moments
 use Rattle.cert_tool.specs.declared.tasks.Command.{Command}

@@ -8,7 +8,8 @@ use cert_desk_bundle::{Bundle, BundleError, FaultKind, ReadError};
 use cert_desk_checking::Outcome;
 use cert_desk_io::{ExitStatus, Input, Output, write_all};
 use cert_desk_rules::{Checked, Verdict};
-use cert_tool_describe::{Lines, add_certificate};
+use cert_tool_describe::add_certificate;
+use cert_tool_lines::Lines;
 use std::alloc::{AllocError, Global};
 
 // The certificates of a stream that were described: how many, and how many octets they have.

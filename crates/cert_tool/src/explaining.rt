@@ -3,15 +3,14 @@
 ghost use Rattle.std.specs.Prelude.{◌≤◌};
 
 use crate::arguments::Terms;
-use crate::breaches::{Judged, add_chain};
-use crate::heard::Heard;
 use crate::reading::{read_input, tell_text};
 use crate::verifying::{read_answers, tell_none};
 use cert_desk_bundle::{Bundle, Standing};
 use cert_desk_checking::{Anchor, Outcome, judge_each, read_anchors, read_stream};
 use cert_desk_io::{ExitStatus, FromRead, Input, Output, complain, tell_device, tell_memory};
 use cert_desk_rules::{Answer, AnswersJudge, KeptRules};
-use cert_tool_describe::Lines;
+use cert_tool_chains::{Heard, Judged, add_chain};
+use cert_tool_lines::Lines;
 use std::alloc::{AllocError, Global};
 
 // What each certificate of a chain breaks, as it was judged.

@@ -3,31 +3,22 @@
 //! `cert_tool serve` answers requests in frames on standard input, until it ends.
 #![tactic(auto)]
 
-mod alike_names;
-mod anchor_refusal;
 mod arguments;
 mod asking;
-mod breaches;
-mod chain_place;
 mod chains;
 mod each_certificate;
 mod explaining;
 mod files;
 mod given;
-mod heard;
 mod help;
 mod json_texts;
 mod no_command;
 mod reading;
-mod reasons;
-mod remarks;
 mod sent;
-mod serial_numbers;
 mod serving;
 mod splitting;
 mod stopping;
 mod stream_fault;
-mod stream_refusal;
 mod streams;
 mod tasks;
 mod telling;

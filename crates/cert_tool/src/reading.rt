@@ -2,15 +2,14 @@
 
 ghost use Rattle.std.specs.Prelude.{◌≤◌};
 
-use crate::anchor_refusal::explain_anchors;
 use crate::files::{open, tell_failure};
-use crate::stream_refusal::explain_stream;
 use crate::tasks::{Command, Task};
 use cert_desk_io::{
     ExitStatus, Input, NamedInputs, Output, ReadAllError, answer, complain, read_all, tell_device,
     tell_memory,
 };
-use cert_tool_describe::{describe, explain_octets};
+use cert_tool_chains::{explain_anchors, explain_stream};
+use cert_tool_explain::{describe, explain_octets};
 use std::alloc::{AllocError, Global};
 
 // What an input holds, to its end. Where it can't be had, that is told, and the status is the

@@ -13,7 +13,7 @@ ghost use Rattle.cert_tool.specs.Tasks.{IsLimit, moment_text, purpose_text, limi
 
 use crate::arguments::{Moment, limit_in, moment_in, number_in, purpose_in};
 use crate::given::{Given, Key, WordFault, given_in};
-use cert_tool_describe::Kind;
+use cert_tool_explain::Kind;
 use const_oid::ObjectIdentifier;
 
 /// What is done.

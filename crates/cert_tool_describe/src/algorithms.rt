@@ -1,7 +1,7 @@
 //! Algorithms, and the parameters of RSASSA-PSS (RFC 4055 3.1).
 
-use crate::lines::Lines;
 use crate::values::{read, values_in};
+use cert_tool_lines::Lines;
 use der_core::Error;
 use der_core::making::leaf_from_der;
 use der_types_any::Any;

@@ -2,9 +2,9 @@
 
 use crate::described::Describe;
 use crate::general_names::{add_general_names, names_in};
-use crate::lines::Lines;
 use crate::timestamps::timestamps_fault;
 use crate::values::{add_value_of, read, read_list};
+use cert_tool_lines::Lines;
 use const_oid::ObjectIdentifier;
 use der_core::describing::{DecodeWay, Described};
 use der_core::making::leaf_from_der;

@@ -1,6 +1,6 @@
 //! Values that descriptions have lines of.
 
-use crate::lines::Lines;
+use cert_tool_lines::Lines;
 use der_core::{Error, ErrorKind};
 use std::alloc::Global;
 

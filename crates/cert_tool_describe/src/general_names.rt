@@ -2,8 +2,8 @@
 
 ghost use Rattle.std.specs.Prelude.{◌≡◌, length};
 
-use crate::lines::Lines;
 use crate::values::{add_name_members, add_value, read_list};
+use cert_tool_lines::Lines;
 use der_core::Error;
 use std::alloc::Global;
 use std::net::{Ipv4Addr, Ipv6Addr};

@@ -3,9 +3,8 @@
 use crate::algorithms::add_members as add_algorithm;
 use crate::contents::{add_malformed, add_members};
 use crate::described::Describe;
-use crate::known_names::known_name;
-use crate::lines::Lines;
 use crate::values::{add_value, list_in, values_in};
+use cert_tool_lines::{Lines, known_name};
 use const_oid::ObjectIdentifier;
 use der_core::making::leaf_from_der;
 use der_core::{ErrorKind, Tag, ToDer};

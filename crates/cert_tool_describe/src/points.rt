@@ -3,8 +3,8 @@
 
 use crate::described::Describe;
 use crate::general_names::{add_general_name, add_general_names};
-use crate::lines::Lines;
 use crate::uses::add_flags;
+use cert_tool_lines::Lines;
 use x509_cert_extensions::{AuthorityInfoAccessSyntax, CrlDistributionPoints};
 use x509_cert_general_names::{
     AuthorityKeyIdentifier, DistributionPoint, DistributionPointName, GeneralSubtree,

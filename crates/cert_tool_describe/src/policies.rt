@@ -1,8 +1,8 @@
 //! Policies (RFC 5280 4.2.1.4, 4.2.1.5, 4.2.1.11, 4.2.1.14).
 
 use crate::described::Describe;
-use crate::lines::Lines;
 use crate::values::{add_value, list_in, values_in};
+use cert_tool_lines::Lines;
 use const_oid::ObjectIdentifier;
 use der_core::{ErrorKind, Tag};
 use der_types_any::Any;

@@ -1,7 +1,7 @@
 //! Timestamps of logs (RFC 6962 3.3).
 
 use crate::described::Describe;
-use crate::lines::Lines;
+use cert_tool_lines::Lines;
 use der_core::making::leaf_from_der;
 use der_core::{Error as DerError, ErrorKind, Tag};
 use der_types_values::OctetString;

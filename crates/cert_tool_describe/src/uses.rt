@@ -2,7 +2,7 @@
 //! 4.2.1.12, 5.3.2, RFC 3280 4.2.1.4, RFC 7633).
 
 use crate::described::Describe;
-use crate::lines::Lines;
+use cert_tool_lines::Lines;
 use der_types_time::GeneralizedTime;
 use der_types_values::{FlagSet, NamedBits};
 use x509_cert_extensions::{ExtendedKeyUsage, KeyUsage, KeyUsages, SubjectKeyIdentifier};

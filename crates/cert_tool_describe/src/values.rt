@@ -1,6 +1,6 @@
 //! Values of any type: their texts, or their octets.
 
-use crate::lines::Lines;
+use cert_tool_lines::Lines;
 use const_oid::ObjectIdentifier;
 use der_core::describing::{DecodeWay, Described};
 use der_core::making::read_whole;

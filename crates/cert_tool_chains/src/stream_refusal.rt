@@ -3,7 +3,8 @@
 ghost use Rattle.std.specs.Prelude.{◌≤◌};
 
 use cert_desk_bundle::{Bundle, BundleError, FaultKind, first_fault};
-use cert_tool_describe::{Lines, add_certificate_fault, is_pem};
+use cert_tool_explain::{Node, add_fault, is_pem};
+use cert_tool_lines::Lines;
 use std::alloc::{AllocError, Global};
 
 // What is said of certificates in PEM.
@@ -32,7 +33,7 @@ fn meaning(kind: FaultKind) -> &'static str {
 // Adds why the octets at an offset are no certificate.
 fn add_malformed(lines: &mut Lines, rest: &[u8], offset: u64) {
     match first_fault(lines.alloc, rest) {
-        Ok(Some(error)) => add_certificate_fault(lines, rest, offset, &error),
+        Ok(Some(error)) => add_fault(lines, rest, offset, Node::Certificate, &error),
         Ok(None) => {}
         Err(_) => lines.fail(),
     }
@@ -109,10 +110,10 @@ fn add_stream(lines: &mut Lines, octets: &[u8], limit: u32)
     }
 }
 
-// Why octets aren't certificates, one behind the other, each of at most `limit` octets: the first
-// fault, the octet where it stands, and the parts around it. Certificates in the order of TLS, the
-// leaf first, are said to be so.
-pub(crate) fn explain_stream(
+/// Why octets aren't certificates, one behind the other, each of at most `limit` octets: the first
+/// fault, the octet where it stands, and the parts around it. Certificates in the order of TLS, the
+/// leaf first, are said to be so.
+pub fn explain_stream(
     alloc: Global,
     octets: &[u8],
     limit: u32,

@@ -29,8 +29,8 @@ use Rattle.x509_cert_lists.specs.ListGrammar.{certificate_list_fields, cert_req_
 use Rattle.x509_cert_lists.specs.ListGrammar.{cert_req_fields}
 use Rattle.x509_cert_anchors.specs.Anchors.{cert_path_controls_fields}
 use Rattle.x509_cert_anchors.specs.Anchors.{trust_anchor_info_fields, trust_anchor_choice}
-use Rattle.cert_tool_describe.specs.declared.parts.Node.{Node}
-use Rattle.cert_tool_describe.specs.declared.parts.Node.TheVariants as nodes
+use Rattle.cert_tool_explain.specs.declared.parts.Node.{Node}
+use Rattle.cert_tool_explain.specs.declared.parts.Node.TheVariants as nodes
 
 -- what is inside a value: no values, those of a body, or one of a choice
 pub data Inside : Type 0 where

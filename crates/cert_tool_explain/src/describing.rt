@@ -1,12 +1,10 @@
 //! Descriptions of files.
 
-use crate::description::add_certificate;
 use crate::kind::Kind;
-use crate::lines::Lines;
-use crate::lists::add_list;
 use crate::refusal::explain_octets;
-use crate::requests::add_request;
 use cert_desk_io::{ExitStatus, Output, answer, complain, tell_memory};
+use cert_tool_describe::{add_certificate, add_list, add_request};
+use cert_tool_lines::Lines;
 use der_core::ErrorKind;
 use std::alloc::{AllocError, Global};
 

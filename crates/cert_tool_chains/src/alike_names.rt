@@ -1,7 +1,7 @@
 //! What differs between names that print alike, or nearly so.
 
 use crate::reasons::begin_detail;
-use cert_tool_describe::Lines;
+use cert_tool_lines::Lines;
 use x509_cert_names::{AttributeTypeAndValue, Name};
 
 // These octets behind the blanks in front.

@@ -1,13 +1,12 @@
 //! Why octets are refused.
 
 use crate::certificate_remarks::add_lone_remarks;
-use crate::described::DescribeFile;
 use crate::faults::add_fault;
 use crate::kind::Kind;
-use crate::lines::Lines;
 use crate::list_remarks::add_list_remarks;
 use crate::parts::Node;
-use der_core::Error;
+use cert_tool_describe::DescribeFile;
+use cert_tool_lines::Lines;
 use std::alloc::{AllocError, Global};
 use x509_cert_certificates::CertificateInner;
 use x509_cert_lists::{CertReq, CertificateList};
@@ -50,12 +49,6 @@ pub fn is_pem(octets: &[u8]) -> bool {
         }
     }
     false
-}
-
-/// Adds what is wrong with a certificate that begins at an offset of a file, and the way down to
-/// it.
-pub fn add_certificate_fault(lines: &mut Lines, octets: &[u8], offset: u64, error: &Error) {
-    add_fault(lines, octets, offset, Node::Certificate, error);
 }
 
 // What fills a file, and may be otherwise than RFC 5280 asks.

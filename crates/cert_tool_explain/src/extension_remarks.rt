@@ -1,10 +1,10 @@
 //! What the extensions of certificates and lists must be (RFC 5280 4.2, 5.2, 5.3): each that isn't
 //! so, as a remark.
 
-use crate::contents::number_of;
-use crate::lines::Lines;
 use crate::name_remarks::add_name_remarks;
 use crate::remark_lines::{Seen, add_each, begin_remark, end_remark};
+use cert_tool_describe::number_of;
+use cert_tool_lines::Lines;
 use const_oid::ObjectIdentifier;
 use der_core::describing::{DecodeWay, Described};
 use der_core::making::read_whole;

@@ -1,7 +1,7 @@
 //! Attributes of names whose texts aren't of their type, or are too short or too long.
 
-use crate::lines::Lines;
 use crate::remark_lines::{begin_remark, end_remark};
+use cert_tool_lines::Lines;
 use const_oid::ObjectIdentifier;
 use der_core::Tag;
 use std::str;

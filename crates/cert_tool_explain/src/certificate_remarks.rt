@@ -2,14 +2,14 @@
 
 use crate::attribute_remarks::add_attribute_remarks;
 use crate::content_faults::add_content_fault;
-use crate::contents::{content_fault, number_of};
 use crate::extension_remarks::{
     OF_CERTIFICATES, add_content_remarks, add_mark_remarks, issuer_key_in, value_in,
 };
-use crate::lines::Lines;
 use crate::remark_lines::{
     add_each, add_serial_remarks, begin_remark, end_remark, has_twins, is_long_for_its_year,
 };
+use cert_tool_describe::{content_fault, number_of};
+use cert_tool_lines::Lines;
 use der_core::making::leaf_from_der;
 use der_types_values::FlagSet;
 use x509_cert_certificates::{CertificateInner, TbsCertificateInner};

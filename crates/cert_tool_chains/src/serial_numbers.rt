@@ -1,7 +1,7 @@
 //! Serial numbers of the certificates of a chain.
 
 use crate::chain_place::ChainPlace;
-use cert_tool_describe::Lines;
+use cert_tool_lines::Lines;
 use der_core::ToDer;
 use std::alloc::{AllocError, Global};
 use std::collections::BTreeMap;

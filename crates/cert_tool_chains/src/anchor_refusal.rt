@@ -1,9 +1,11 @@
 //! Why octets give no anchors.
 
+use crate::anchors::{add_anchor_fault, add_unjudged, begin_anchor};
 use crate::stream_refusal::PEM_STREAM;
 use cert_desk_checking::{AnchorFault, Outcome, read_anchors};
 use cert_desk_io::FromRead;
-use cert_tool_describe::{Lines, add_anchor_fault, add_unjudged, begin_anchor, is_pem};
+use cert_tool_explain::is_pem;
+use cert_tool_lines::Lines;
 use std::alloc::{AllocError, Global};
 
 // What a fault of an anchor means.
@@ -59,13 +61,9 @@ fn add_anchors(lines: &mut Lines, octets: &[u8]) {
     }
 }
 
-// Why octets aren't trust anchors, one behind the other, each with a name and a key: the first
-// fault, and the octet where it stands. Of octets that are, what they say that isn't judged.
-pub(crate) fn explain_anchors(
-    alloc: Global,
-    octets: &[u8],
-    is_json: bool,
-) -> Result<Vec<u8>, AllocError> {
+/// Why octets aren't trust anchors, one behind the other, each with a name and a key: the first
+/// fault, and the octet where it stands. Of octets that are, what they say that isn't judged.
+pub fn explain_anchors(alloc: Global, octets: &[u8], is_json: bool) -> Result<Vec<u8>, AllocError> {
     let mut lines = Lines::new(alloc, is_json);
     lines.list("findings");
     add_anchors(&mut lines, octets);

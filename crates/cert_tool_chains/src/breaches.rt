@@ -1,6 +1,7 @@
 //! Which rules the certificates of a chain break, and why.
 
 use crate::alike_names::{add_differences, are_alike};
+use crate::anchors::add_unjudged;
 use crate::chain_place::ChainPlace;
 use crate::heard::{Heard, add_algorithm};
 use crate::reasons::{LengthReasons, add_reason_of, begin_breach, begin_detail};
@@ -10,7 +11,8 @@ use crate::stream_refusal::{LEAF_FIRST, is_leaf_first};
 use cert_desk_bundle::Bundle;
 use cert_desk_checking::Anchor;
 use cert_desk_rules::{KeptRules, Rule};
-use cert_tool_describe::{Lines, add_unjudged, end_remark};
+use cert_tool_explain::end_remark;
+use cert_tool_lines::Lines;
 use const_oid::ObjectIdentifier;
 use x509_cert_names::Name;
 use x509_cert_parts::Time;
@@ -30,17 +32,17 @@ const RULES: [Rule; 11] = [
     Rule::WrongSignature,
 ];
 
-// How a chain was judged.
+/// How a chain was judged.
 #[derive(Clone, Copy)]
-pub(crate) struct Judged<'a> {
-    // Which rules each of its certificates keeps.
-    pub(crate) kept: &'a [KeptRules],
-    pub(crate) anchors: &'a [Anchor],
-    // Which the anchors were read of.
-    pub(crate) anchor_octets: &'a [u8],
-    pub(crate) heard: &'a Heard,
-    // What the chain is wanted for.
-    pub(crate) purpose: &'a ObjectIdentifier<39>,
+pub struct Judged<'a> {
+    /// Which rules each of its certificates keeps.
+    pub kept: &'a [KeptRules],
+    pub anchors: &'a [Anchor],
+    /// Which the anchors were read of.
+    pub anchor_octets: &'a [u8],
+    pub heard: &'a Heard,
+    /// What the chain is wanted for.
+    pub purpose: &'a ObjectIdentifier<39>,
 }
 
 // Adds in what anchors' names differ that are like this one.
@@ -205,9 +207,9 @@ fn add_places(
     }
 }
 
-// Adds what the anchors of a chain's name say and isn't judged; what each certificate breaks, as it
-// was judged, with its first reason, and what is unwise.
-pub(crate) fn add_chain(lines: &mut Lines, bundle: &Bundle, judged: &Judged<'_>) {
+/// Adds what the anchors of a chain's name say and isn't judged; what each certificate breaks, as
+/// it was judged, with its first reason, and what is unwise.
+pub fn add_chain(lines: &mut Lines, bundle: &Bundle, judged: &Judged<'_>) {
     if is_leaf_first(bundle) {
         lines.finding(LEAF_FIRST);
     }

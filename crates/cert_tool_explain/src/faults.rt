@@ -1,9 +1,9 @@
 //! Faults of octets: where they stand, why they are faults, and the parts around them.
 
 use crate::fault_words::words_of;
-use crate::lines::Lines;
 use crate::parts::{Node, Part, parts_of};
 use crate::way_down::{Step, Way, content_at, is_followed, way_to};
+use cert_tool_lines::Lines;
 use der_core::{Error, ErrorKind, Tag};
 
 // What octets of a kind are, as the one part of a file.

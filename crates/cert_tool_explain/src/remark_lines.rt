@@ -1,6 +1,6 @@
 //! Remarks: what must be otherwise, though it is read, and no rule of a chain forbids it.
 
-use crate::lines::Lines;
+use cert_tool_lines::Lines;
 use std::alloc::Global;
 use std::collections::BTreeMap;
 use x509_cert_parts::{Extension, Time};

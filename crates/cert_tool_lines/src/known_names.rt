@@ -268,7 +268,7 @@ fn name_in(names: Names, octets: &[u8]) -> Option<&'static str> {
     None
 }
 
-// The name of an identifier of these octets, if it is well known.
+/// The name of an identifier of these octets, if it is well known.
 pub fn known_name(octets: &[u8]) -> Option<&'static str> {
     match octets {
         [0x55, 29, ..] => name_in(of_extensions(), octets),

@@ -1,8 +1,8 @@
 //! Names of each kind that aren't well formed (RFC 5280 4.2.1.6).
 
-use crate::general_names::add_general_name;
-use crate::lines::Lines;
 use crate::remark_lines::{begin_remark, end_text};
+use cert_tool_describe::add_general_name;
+use cert_tool_lines::Lines;
 use x509_cert_general_names::GeneralName;
 
 // Whether octets are a label of a host's name (RFC 1034 3.5, RFC 1123 2.1).

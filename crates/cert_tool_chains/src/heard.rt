@@ -2,22 +2,22 @@
 
 use crate::reasons::begin_detail;
 use cert_desk_rules::Answer;
-use cert_tool_describe::Lines;
+use cert_tool_lines::Lines;
 use const_oid::ObjectIdentifier;
 use std::alloc::{AllocError, Global};
 use std::collections::BTreeMap;
 
-// Of which octets answers say that a signature over them is right.
+/// Of which octets answers say that a signature over them is right.
 #[derive(Drop)]
-pub(crate) struct Heard {
+pub struct Heard {
     signed: BTreeMap<Vec<u8>, ()>,
     // How many answers there are.
     count: usize,
 }
 
 impl Heard {
-    // Those of answers.
-    pub(crate) fn of(alloc: Global, answers: &[Answer]) -> Result<Heard, AllocError> {
+    /// Those of answers.
+    pub fn of(alloc: Global, answers: &[Answer]) -> Result<Heard, AllocError> {
         let mut signed = BTreeMap::new(alloc);
         for answer in answers {
             let octets = answer.signed.as_slice().to_vec(alloc)?;

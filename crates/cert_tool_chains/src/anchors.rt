@@ -1,8 +1,7 @@
 //! Trust anchors: why octets begin with none, and what anchors say that no rule looks at.
 
-use crate::faults::add_fault;
-use crate::lines::Lines;
-use crate::parts::Node;
+use cert_tool_explain::{Node, add_fault};
+use cert_tool_lines::Lines;
 use der_core::{Decode, Error, FromDer, SliceReader};
 use x509_cert_anchors::TrustAnchorChoice;
 use x509_cert_certificates::TbsCertificateInner;

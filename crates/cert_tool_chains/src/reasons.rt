@@ -4,7 +4,9 @@ use crate::chain_place::ChainPlace;
 use cert_desk_bundle::Bundle;
 use cert_desk_checking::reason_of;
 use cert_desk_rules::{KeptRules, Reason, Rule};
-use cert_tool_describe::{Lines, add_content_fault, content_fault, end_remark};
+use cert_tool_describe::content_fault;
+use cert_tool_explain::{add_content_fault, end_remark};
+use cert_tool_lines::Lines;
 use const_oid::ObjectIdentifier;
 use x509_cert_parts::Extension;
 

@@ -1,7 +1,8 @@
 //! What no rule of a chain forbids, and who issued it may not have meant.
 
 use crate::chain_place::ChainPlace;
-use cert_tool_describe::{Lines, add_certificate_remarks, begin_remark, end_remark};
+use cert_tool_explain::{add_certificate_remarks, begin_remark, end_remark};
+use cert_tool_lines::Lines;
 
 // Adds that a certificate is valid after the one before isn't any more.
 fn add_date_remark(lines: &mut Lines, place: &ChainPlace<'_>) {

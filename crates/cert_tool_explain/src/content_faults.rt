@@ -1,9 +1,9 @@
 //! Why contents of extensions aren't values of their kinds, in words.
 
-use crate::contents::number_of;
 use crate::faults::add_fault_of_content;
-use crate::lines::Lines;
 use crate::parts::{Node, Part};
+use cert_tool_describe::number_of;
+use cert_tool_lines::Lines;
 use der_core::Error;
 use x509_cert_parts::Extension;
 
