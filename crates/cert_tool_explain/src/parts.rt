@@ -5,8 +5,8 @@
 //! which it is read: that is the contract of `parts_of`.
 
 ghost use Rattle.std.specs.Prelude.{◌≡◌, map};
-ghost use Rattle.cert_tool_explain.specs.Parts.{inside_of, is_many, names_of, part_plain};
-ghost use Rattle.cert_tool_explain.specs.Parts.{parts_in};
+ghost use Rattle.cert_tool_explain.specs.NodeParts.{inside_of, is_many, names_of, part_plain};
+ghost use Rattle.cert_tool_explain.specs.NodeParts.{parts_in};
 
 /// What is inside a value; `Leaf` where no parts are that have names. Inside an explicit tag is one
 /// part, and of a choice one part stands.
