@@ -15,17 +15,17 @@ pub enum LineFault {
     NoAnchor,
     /// The third word, the key, isn't octets in base 16.
     KeyNotBase16,
-    /// The octets of the key aren't the encoding of a SubjectPublicKeyInfo (RFC 5280 4.1.2.7).
+    /// The octets of the key encode no SubjectPublicKeyInfo (RFC 5280 4.1.2.7).
     NoKey,
     /// The fourth word, the algorithm, isn't octets in base 16.
     AlgorithmNotBase16,
-    /// Those of the algorithm aren't the encoding of an AlgorithmIdentifier (RFC 5280 4.1.1.2).
+    /// The octets of the algorithm encode no AlgorithmIdentifier (RFC 5280 4.1.1.2).
     NoAlgorithm,
     /// The fifth word, what is signed, isn't octets in base 16.
     SignedNotBase16,
     /// The sixth word, the signature, isn't octets in base 16.
     BitsNotBase16,
-    /// Those of the signature aren't the encoding of a BIT STRING (X.690 8.6, 11.2).
+    /// The octets of the signature encode no BIT STRING (X.690 8.6, 11.2).
     NoBits,
 }
 

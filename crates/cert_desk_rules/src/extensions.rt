@@ -20,13 +20,13 @@ use x509_cert_parts::{Extension, Raw};
 /// The last arc of keyUsage, below 2.5.29 (RFC 5280 4.2.1.3).
 pub const KEY_USAGE: u8 = 15;
 
-/// That of subjectAltName (4.2.1.6).
+/// The last arc of subjectAltName (RFC 5280 4.2.1.6).
 pub const SUBJECT_ALT_NAME: u8 = 17;
 
-/// That of basicConstraints (4.2.1.9).
+/// The last arc of basicConstraints (RFC 5280 4.2.1.9).
 pub const BASIC_CONSTRAINTS: u8 = 19;
 
-/// That of extKeyUsage (4.2.1.12).
+/// The last arc of extKeyUsage (RFC 5280 4.2.1.12).
 pub const EXT_KEY_USAGE: u8 = 37;
 
 // Up to so many extensions each is compared with each.

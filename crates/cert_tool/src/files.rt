@@ -34,7 +34,7 @@ pub struct HostFiles<'a> {
 }
 
 impl<'a> HostFiles<'a> {
-    /// Those of this system.
+    /// The files of this system.
     pub fn new(rt: &'a HostRuntime) -> HostFiles<'a> {
         HostFiles { rt }
     }

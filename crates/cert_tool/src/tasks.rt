@@ -57,7 +57,7 @@ pub enum Need {
 pub enum Misuse<'a> {
     /// An option or another word is wrong.
     Words(WordFault<'a>),
-    /// Those that are neither options nor values are no command with a file after it.
+    /// The words that are neither options nor values are no command with a file after it.
     NoCommand,
     /// The command needs this option.
     Missing(Key),

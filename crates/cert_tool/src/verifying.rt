@@ -149,8 +149,8 @@ pub fn run_verify<N: Input, A: Input, S: Input, O: Output, E: Output>(
     json: bool,
 ) -> Result<ExitStatus, NoAnswers>
     requires { 6 ≤ limit }
-    // These are the answers, and what is found and told is what `run_check` finds under a judge
-    // that says yes to these alone.
+    // The file says these answers, and what is found and told is what `run_check` finds under a
+    // judge that says yes to these alone.
     ensures judged { IfOk result (λ status. (listing : List Question) × (old_judge : AnswersJudge)
         × (new_judge : AnswersJudge) × (outcome : Outcome)
         × AreAnswers (source N.takes N.is_ended N.failures answers.old answers.new) (Ok listing)
@@ -162,7 +162,7 @@ pub fn run_verify<N: Input, A: Input, S: Input, O: Output, E: Output>(
         moment (purpose_plain purpose.now) limit outcome
         × IsToldAs json (sink O.gives O.failures out.old out.new)
         (sink E.gives E.failures err.old err.new) outcome status) }
-    // There are none, and nothing else is touched.
+    // The file says no answers, and nothing else is touched.
     ensures none { IfErr result (λ none. AreAnswers
         (source N.takes N.is_ended N.failures answers.old answers.new) (Err none)) }
     ensures untouched { OnErr result ((anchors.new ≡ anchors.old) × (stream.new ≡ stream.old)

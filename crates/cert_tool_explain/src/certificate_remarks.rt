@@ -36,7 +36,7 @@ struct Facts {
 }
 
 impl Facts {
-    // Those of no extension.
+    // The facts of no extension.
     fn new() -> Facts {
         Facts {
             has_key_usage: false,

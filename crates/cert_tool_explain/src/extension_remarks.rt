@@ -19,7 +19,7 @@ use x509_cert_policies::{PolicyConstraints, PolicyInformation, PolicyMapping};
 /// The number of a kind, whether it is to be critical, its name, and the section.
 pub type Mark = (u16, bool, &'static str, &'static str);
 
-/// Those of certificates (RFC 5280 4.2).
+/// The kinds in certificates (RFC 5280 4.2).
 pub const OF_CERTIFICATES: [Mark; 9] = [
     (9, false, "subjectDirectoryAttributes", "RFC 5280 4.2.1.8"),
     (14, false, "subjectKeyIdentifier", "RFC 5280 4.2.1.2"),
@@ -32,7 +32,7 @@ pub const OF_CERTIFICATES: [Mark; 9] = [
     (267, false, "subjectInfoAccess", "RFC 5280 4.2.2.2"),
 ];
 
-/// Those of lists (RFC 5280 5.2).
+/// The kinds in lists (RFC 5280 5.2).
 pub const OF_LISTS: [Mark; 6] = [
     (20, false, "cRLNumber", "RFC 5280 5.2.3"),
     (27, true, "deltaCRLIndicator", "RFC 5280 5.2.4"),

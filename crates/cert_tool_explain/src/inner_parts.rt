@@ -42,12 +42,12 @@ fn part_taken(part: &Part, first: u8) -> Option<Taken> {
 pub struct Fields {
     parts: &'static [Part],
     is_list: bool,
-    // Those before this one stand further in front.
+    // The place of the first part that may stand next.
     from: usize,
 }
 
 impl Fields {
-    // These, from the first on.
+    // These parts, from the first on.
     pub fn new(parts: &'static [Part], is_list: bool) -> Fields {
         Fields {
             parts,
@@ -56,7 +56,7 @@ impl Fields {
         }
     }
 
-    // Those of a value, at its beginning.
+    // The parts of a value, at its beginning.
     pub fn of(node: Node) -> Fields {
         Fields::new(parts_of(node), is_list(node))
     }
@@ -66,7 +66,7 @@ impl Fields {
         !self.parts.is_empty()
     }
 
-    // Those of which one may stand here: up to the first that may not be left out.
+    // The parts of which one may stand here: up to the first that may not be left out.
     pub fn next(&self) -> &'static [Part] {
         let Some(rest) = self.parts.get(self.from..) else {
             return &[];

@@ -27,7 +27,7 @@ struct Facts {
 }
 
 impl Facts {
-    // Those of no extension.
+    // The facts of no extension.
     fn new() -> Facts {
         Facts {
             has_number: false,
@@ -81,7 +81,7 @@ struct EntryFacts {
 }
 
 impl EntryFacts {
-    // Those of no entry.
+    // The facts of no entry.
     fn new() -> EntryFacts {
         EntryFacts {
             has_wrong_serial: false,
