@@ -1,7 +1,7 @@
 //! What the program says of itself.
 
 // Which program it is.
-pub(crate) const VERSION: &str = "cert_tool 0.19.0\n";
+pub(crate) const VERSION: &str = "cert_tool 1.0.0\n";
 
 // How the program is called.
 const USAGE: &str = "usage: cert_tool COMMAND OPTIONS FILE, where COMMAND is one of
