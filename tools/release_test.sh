@@ -1,7 +1,8 @@
 #!/usr/bin/env bash
-# Tries that a release with one octet changed is refused, and that the sentence names the file; and
-# that an octet changed in a library once it is laid is told by `tools/unpack --laid`, of one file
-# of each kind. It says of which `rt check` notices nothing.
+# Tries that a release with one octet changed is refused, and that the sentence names the file, of a
+# program and an archive also where SUMS has the new sum; and that an octet changed in a library
+# once it is laid is told by `tools/unpack --laid`, of one file of each kind. It says of which
+# `rt check` notices nothing.
 #   tools/release_test.sh RELEASE
 set -euo pipefail
 top=$(cd "$(dirname "$0")/.." && pwd)
@@ -38,6 +39,11 @@ touch "$work/empty/crates.txt"
     change "$work/changed/$file"
     [ "$file" = SUMS ] && named=SUMS || named="$file: "
     refused "$named" "$top/tools/unpack" "$work/changed" "$work/empty"
+    case $file in programs/* | archives/*)
+        sum=$(sha256sum "$work/changed/$file" | cut -c1-64)
+        sed -i "s,^[0-9a-f]*  $file\$,$sum  $file," "$work/changed/SUMS"
+        refused "$file: SUMS has $sum" "$top/tools/unpack" "$work/changed" "$work/empty" ;;
+    esac
 done
 
 # an octet of a library, once it is laid: of one file of each kind

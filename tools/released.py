@@ -141,7 +141,7 @@ def sums_of(release):
 
 
 def read(release, whole=True):
-    """PROVED of a release; it stops at the first file that hasn't the sum of SUMS.
+    """PROVED of a release; it stops at the first file that hasn't the sum of SUMS, or of PROVED.
 
     Unless it has to be whole, others than PROVED may not be there."""
     release, wanted = pathlib.Path(release), sums_of(release)
@@ -164,7 +164,17 @@ def read(release, whole=True):
             crates[name] = Crate(word, stamp, built)
         else:
             heads[word] = rest
+    proved = {file_of(name, it): it.sum for name, it in crates.items() if it.kind != "library"}
+    for path in sorted(wanted.keys() | proved.keys()):
+        if not re.fullmatch(rf"PROVED|{LIBRARIES}|LICENSE-\w+|calls/.+", path):
+            if wanted.get(path) != proved.get(path):
+                stop(f"{path}: SUMS has {wanted.get(path, 'none')}, PROVED {proved.get(path, 'none')}")
     return Proved(heads["kit"], heads["version"], heads["commit"], crates)
+
+
+def file_of(name, crate):
+    """Where a program or an archive lies in a release."""
+    return f"programs/{name}" if crate.kind == "program" else f"archives/lib{name}.a"
 
 
 def same_kit(proved):
@@ -172,6 +182,15 @@ def same_kit(proved):
     here = asked("rt", "version")
     if here != proved.kit:
         stop(f"'{proved.kit}' proved this, the kit at hand is '{here}': prove anew, by tools/prove")
+
+
+def told_commit(proved):
+    """Says of which commit a release is, where another one stands here."""
+    here = asked("git", "rev-parse", "HEAD")
+    if here != proved.commit:
+        known = asked("git", "merge-base", proved.commit, "HEAD") == proved.commit
+        told = "" if known else ", which is not in the history here"
+        print(f"the release is of commit {proved.commit[:12]}{told}; this is {here[:12] or 'none'}")
 
 
 def zstd():
@@ -200,7 +219,8 @@ def packed(path, libraries):
 def unpacked(release, names, place):
     """Unpacks these libraries of a release, each into the folder that `place` has for its name.
 
-    Gives the name of each that is whole, and the sums of its files."""
+    Without places it only reads. Gives the name of each that is whole, and the sums of its files.
+    """
     words = [zstd(), "-q", "-d", "-c", WINDOW, str(pathlib.Path(release) / LIBRARIES)]
     now, sums = None, {}
     try:
@@ -212,7 +232,9 @@ def unpacked(release, names, place):
                 if name != now and now in names:
                     yield now, sums
                 now, sums = name, sums if name == now else {}
-                if name in names:
+                if name in names and not place:
+                    sums[path] = copied(file)
+                elif name in names:
                     target = place(name) / f"{name}.rlib" / path
                     target.parent.mkdir(parents=True, exist_ok=True)
                     with open(target, "wb") as opened:
@@ -221,6 +243,20 @@ def unpacked(release, names, place):
                 yield now, sums
     except tarfile.ReadError:
         stop(f"{LIBRARIES} cannot be read")
+
+
+def as_proved(release, proved, names, place=None):
+    """Unpacks libraries likewise, and stops at the first that hasn't the sum of PROVED.
+
+    Gives the name of each that has."""
+    left = set(names)
+    for name, sums in unpacked(release, names, place):
+        if sum_of_all(sums) != proved.crates[name].sum:
+            stop(f"{name}: what {LIBRARIES} has of it has not the sum of PROVED")
+        left.discard(name)
+        yield name
+    if left:
+        stop(f"{min(left)}: {LIBRARIES} does not have it")
 
 
 def difference(release, name, crate, there, room):
@@ -256,9 +292,7 @@ def lay(release, folder):
     Says what differs. Gives how many were laid, and how many of the release the folder has."""
     proved = read(release)
     same_kit(proved)
-    head = asked("git", "rev-parse", "HEAD", folder=folder)
-    if head != proved.commit and asked("git", "cat-file", "-t", proved.commit, folder=folder):
-        print(f"the release is of commit {proved.commit[:12]}, and {head[:12]} stands here")
+    told_commit(proved)
     crates, here = pathlib.Path(folder) / "crates", stamps(folder)
     below = sources.dependencies(pathlib.Path(folder) / "crates.txt")
     there = [name for name, it in proved.crates.items() if it.kind == "library" and name in here]
@@ -270,15 +304,9 @@ def lay(release, folder):
             told = f"rt proves it anew, and {above} above it"
             print(f"{name}: its texts are not those of the release: {told}")
     clear(crates, below, left)
-    laid = len(left)
-    for name, sums in unpacked(release, frozenset(left), functools.partial(place, crates)):
-        if sum_of_all(sums) != proved.crates[name].sum:
-            stop(f"{name}: what {LIBRARIES} has of it has not the sum of PROVED")
+    for name in as_proved(release, proved, left, functools.partial(place, crates)):
         (place(crates, name) / "stamp").write_text(proved.crates[name].stamp)
-        left.remove(name)
-    if left:
-        stop(f"{min(left)}: {LIBRARIES} does not have it")
-    return laid, len(there)
+    return len(left), len(there)
 
 
 def clear(crates, below, libraries):
