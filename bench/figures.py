@@ -9,7 +9,6 @@ A crate's first proof is that of all libraries that it stands on; the longest ch
 proofs, and of a program at its end. By layers DESIGN has proofs of libraries, and all else.
 """
 
-import functools
 import pathlib
 import re
 import sys
@@ -26,18 +25,6 @@ HEAD = re.compile(r"(\S+), (\d+) processors: (\d+) passed, 0 failed")
 TOOK = re.compile(r".*?([\d.]+) processor minutes")
 LAYERS = (r"const_oid|der_core", r"der_types", r"x509_cert", r"cert_")
 WORDS = {1: "one processor", 2: "two processors", 4: "four processors"}
-
-
-def longest(minutes):
-    """The minutes of the dearest chain of crates."""
-    below = sources.dependencies()
-
-    @functools.cache
-    def up_to(name):
-        before = max((up_to(lib) for lib in below[name] if lib in below), default=0)
-        return before + sum(minutes.get(name, (0, 0)))
-
-    return max(map(up_to, below))
 
 
 def figures():
@@ -64,7 +51,7 @@ def figures():
             r"(\S+)\spassed,\s(\S+)\sminutes\sof\sprocessor,\s(\S+)\sfor\sthe\slongest")
     yield "docs/DESIGN.md", told, [
         version, day, kit, WORDS.get(int(processors), f"{processors} processors"), passed, spent,
-        f"{longest(minutes):.0f}",
+        f"{released.longest({name: sum(row) for name, row in minutes.items()}):.0f}",
     ]
     proofs = [
         sum(row[0] for name, row in minutes.items() if re.match(layer, name)) for layer in LAYERS

@@ -349,26 +349,44 @@ class Clock:
     """The minutes so far, and an estimate of those that are left.
 
     It is by the processor minutes that the gate took of each crate for these kinds of work
-    (bench/gate.txt, as bench/gate.sh prints them), and by the lines of one that has no row there.
+    (bench/gate.txt, as bench/gate.sh prints them), and by the lines of one that has no row there:
+    those of the dearest chain of crates, or of a processor, where that is more. The machine is
+    taken to be as fast as it was so far, and as that table for twenty minutes before.
     """
 
     def __init__(self, crates, kinds=("proof", "programs")):
         self.began = self.last = time.time()
         told = minutes_of_gate(kinds)
         self.left = {name: told.get(name) or length_of(name) / 700 for name in crates}
-        # Four processors take some half of the minutes of one; what takes seconds was built before.
-        self.seconds, self.done = 30, 1
+        self.minutes = self.done = 20
+
+    def ahead(self):
+        return max(longest(self.left), sum(self.left.values()) / len(os.sched_getaffinity(0)))
 
     def ended(self, name):
-        now, minutes = time.time(), self.left.pop(name)
+        now, before = time.time(), self.ahead()
+        self.left.pop(name)
+        # What takes seconds was built before.
         if now - self.last > 5:
-            self.seconds, self.done = self.seconds + now - self.last, self.done + minutes
+            self.minutes += (now - self.last) / 60
+            self.done += before - self.ahead()
         self.last = now
 
     def told(self):
         minutes = (time.time() - self.began) / 60
-        left = sum(self.left.values()) * self.seconds / self.done / 60
-        return f"{minutes:.0f} min, about {left:.0f} left"
+        return f"{minutes:.0f} min, about {self.ahead() * self.minutes / self.done:.0f} left"
+
+
+def longest(minutes):
+    """The minutes of the dearest chain of crates."""
+    below = sources.dependencies()
+
+    @functools.cache
+    def up_to(name):
+        before = max((up_to(lib) for lib in below[name] if lib in below), default=0)
+        return before + minutes.get(name, 0)
+
+    return max(map(up_to, below))
 
 
 def minutes_of_gate(kinds):
