@@ -68,6 +68,7 @@ def stop(why):
 
 def asked(*words, folder=sources.TOP):
     """What a command prints; nothing where it fails."""
+    shutil.which(words[0]) or stop(f"there is no `{words[0]}`")
     ran = subprocess.run(words, cwd=folder, capture_output=True, text=True)
     return ran.stdout.strip() if ran.returncode == 0 else ""
 
@@ -81,11 +82,16 @@ def run(*words, folder, why):
         stop(why)
 
 
+def kit():
+    """The folder of `rt`."""
+    rt = shutil.which("rt") or stop("there is no `rt`: the kit's bin/ has to stand in PATH")
+    return pathlib.Path(rt).resolve().parent
+
+
 def stamps(folder):
     """The stamp of each crate in the repository of a folder, as the kit makes it."""
     sys.dont_write_bytecode = True
-    rt = shutil.which("rt") or stop("there is no `rt`: the kit is not at hand")
-    path = pathlib.Path(rt).resolve().parent / "rtlib.py"
+    path = kit() / "rtlib.py"
     loader = importlib.machinery.SourceFileLoader("rtlib", str(path))
     rtlib = importlib.util.module_from_spec(importlib.util.spec_from_loader("rtlib", loader))
     sys.modules["rtlib"] = rtlib
@@ -179,6 +185,7 @@ def file_of(name, crate):
 
 def same_kit(proved):
     """Stops where the kit at hand isn't the one that proved a release."""
+    kit()
     here = asked("rt", "version")
     if here != proved.kit:
         stop(f"'{proved.kit}' proved this, the kit at hand is '{here}': prove anew, by tools/prove")
@@ -417,6 +424,7 @@ def length_of(name):
 
 def gate(folder, crates, *words, kinds=COLUMNS):
     """Runs `rt ci` in a clone, with a line for each crate that it has proved."""
+    kit()
     log = tempfile.mkstemp(prefix="gate-", suffix=".log")[1]
     print(f"the log of the gate is {log}")
     clock, last = Clock(crates, kinds), ""

@@ -113,6 +113,8 @@ def main(words):
     if "--list" in flags:
         print("\n".join(lines_of(names).values()))
         return 0
+    if release:
+        released.same_kit(released.read(release))
     take(names, folder, "--again" in flags, "--edits" in flags)
     if release:
         print("{} of {} libraries laid".format(*released.lay(release, folder)))
