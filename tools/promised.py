@@ -22,6 +22,8 @@ import sources
 import take
 
 TOP = sources.TOP
+# What types are declared by isn't promised.
+OTHERS = ("der_core::making", "der_core::describing")
 CLAUSE = re.compile(r"\s+(requires|ensures)\b\*? ?(\w*)")
 
 
@@ -78,7 +80,7 @@ def promised(top):
     house, found = items.House(sources.sources()), {}
     for item in (item for own in house.own.values() for item in own.values()):
         for path in item.imports:
-            found |= of_item(path, item)
+            found |= {} if path.startswith(OTHERS) else of_item(path, item)
         if item.call and item.call.is_exported:
             found |= clauses(item.name, item.call)
     for path, told in (
