@@ -74,7 +74,7 @@ pub fn read_all<I: Input>(alloc: Global, input: &mut I, most: u32) -> Result<Vec
 {
     let most = most as usize;
     let mut octets = Vec::new(alloc);
-    let mut buffer = [0; 4096];
+    let mut buffer = [0; 2048];
     loop {
         let room = (most + 1 - octets.len()).min(buffer.len());
         let Ok(count) = input.read(&mut buffer[..room]) else {

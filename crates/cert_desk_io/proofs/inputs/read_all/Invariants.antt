@@ -5,7 +5,7 @@ use Rattle.cert_desk_io.proofs.inputs.read_all.Given as goal
 abbrev pub invariant-loop-count : goal.invariant-loop-count
 invariant-loop-count g l = record {
   within : length l.octets.items ≤ l.most;
-  room : length l.buffer ≡ 4096;
+  room : length l.buffer ≡ 2048;
   taken : g.I.Input.takes l.fn.input l.octets.items l.input;
   sound : g.I.Input.failures l.input ≡ g.I.Input.failures l.fn.input;
 }
