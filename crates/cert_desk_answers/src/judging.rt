@@ -92,14 +92,8 @@ pub fn verdict_of(
         Err(NoAnswers::OutOfMemory) => return Err(ExitStatus::Memory),
         Err(_) => return Err(ExitStatus::Arguments),
     };
-    let anchors = match anchors_of(alloc, anchors) {
-        Ok(anchors) => anchors,
-        Err(status) => return Err(status),
-    };
-    let bundle = match bundle_of(alloc, limit, chain) {
-        Ok(bundle) => bundle,
-        Err(status) => return Err(status),
-    };
+    let anchors = anchors_of(alloc, anchors)?;
+    let bundle = bundle_of(alloc, limit, chain)?;
     let mut judge = AnswersJudge::new(answers);
     match check(
         alloc,

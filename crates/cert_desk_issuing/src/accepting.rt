@@ -103,14 +103,9 @@ fn subject_of(alloc: Global, role: Role, order: &Order) -> Result<Name, Fault>
     ensures refused { (key : Option PublicKey)
         → IfErr result (λ f. RefusesOrder role key order.now f) }
 {
-    let subject = match name_of(alloc, order) {
-        Ok(subject) => subject,
-        Err(fault) => return Err(fault),
-    };
-    match check_name(alloc, role, &subject) {
-        Ok(()) => Ok(subject),
-        Err(fault) => Err(fault),
-    }
+    let subject = name_of(alloc, order)?;
+    check_name(alloc, role, &subject)?;
+    Ok(subject)
 }
 
 /// The serial number of an order whose name is right.
@@ -249,14 +244,8 @@ pub(crate) fn accept_one<'a>(
         (λ f. RefusesOrder role (plain_option (λ k. key_plain k.now) signer_key.entry)
         order.now f) }
 {
-    let subject = match subject_of(alloc, role, order) {
-        Ok(subject) => subject,
-        Err(fault) => return Err(fault),
-    };
-    let serial_number = match serial_of(alloc, order) {
-        Ok(serial_number) => serial_number,
-        Err(fault) => return Err(fault),
-    };
+    let subject = subject_of(alloc, role, order)?;
+    let serial_number = serial_of(alloc, order)?;
     let Some(validity) = validity_of(order) else {
         return Err(Fault::Dates);
     };

@@ -56,14 +56,9 @@ pub fn issue<S: Signer>(
     if signers.len() != signers_for(orders.len()) {
         return Err(IssueError::SignerCount);
     }
-    let accepted = match accept_all(alloc, orders, signers) {
-        Ok(accepted) => accepted,
-        Err(error) => return Err(error),
-    };
-    match issue_all(alloc, accepted.as_slice(), signers) {
-        Ok(issued) => Ok(issued),
-        Err(error) => Err(error),
-    }
+    let accepted = accept_all(alloc, orders, signers)?;
+    let issued = issue_all(alloc, accepted.as_slice(), signers)?;
+    Ok(issued)
 }
 
 /// How many signers so many orders need.

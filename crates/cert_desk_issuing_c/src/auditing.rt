@@ -31,10 +31,7 @@ fn verdict_of(
     ensures refused { IfErr result (λ error. (error ≡ IssueError.OutOfMemory)
         ⊎ RefusesEach orders.now (algorithm_plain algorithm.now) signature.now error) }
 {
-    let issued = match issued_of(alloc, orders, algorithm, signature) {
-        Ok(issued) => issued,
-        Err(error) => return Err(error),
-    };
+    let issued = issued_of(alloc, orders, algorithm, signature)?;
     // The certificates are those of the stream.
     issued.stream();
     let mut judge = WillingJudge { questions: 0 };

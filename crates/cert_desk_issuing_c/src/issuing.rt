@@ -140,18 +140,9 @@ fn chain_of(
         (λ i. AreOrdered orders.now algorithm.now signature.now i.certificates) }
     ensures refused { IfErr result (IsRefusal orders.now algorithm.now signature.now) }
 {
-    let said = match orders_of(alloc, orders) {
-        Ok(said) => said,
-        Err(status) => return Err(status),
-    };
-    let by = match algorithm_of(alloc, algorithm) {
-        Ok(by) => by,
-        Err(status) => return Err(status),
-    };
-    let bits = match bits_of(alloc, signature) {
-        Ok(bits) => bits,
-        Err(status) => return Err(status),
-    };
+    let said = orders_of(alloc, orders)?;
+    let by = algorithm_of(alloc, algorithm)?;
+    let bits = bits_of(alloc, signature)?;
     match issued_of(alloc, said.as_slice(), &by, &bits) {
         Ok(issued) => Ok(issued),
         Err(error) => Err(status_of(&error)),
@@ -171,10 +162,7 @@ fn certificate_at(
     ensures refused { IfErr result
         (IsRefusalAt orders.now place algorithm.now signature.now) }
 {
-    let issued = match chain_of(alloc, orders, algorithm, signature) {
-        Ok(issued) => issued,
-        Err(status) => return Err(status),
-    };
+    let issued = chain_of(alloc, orders, algorithm, signature)?;
     let certificates: &[Certificate] = issued.certificates();
     if place >= certificates.len() {
         return Err(ExitStatus::Empty);
@@ -196,10 +184,7 @@ fn signed_part_at(
         (λ octets. IsSignedPart orders.now place algorithm.now octets.items) }
     ensures refused { IfErr result (IsRefusalAt orders.now place algorithm.now []) }
 {
-    let issued = match chain_of(alloc, orders, algorithm, &[]) {
-        Ok(issued) => issued,
-        Err(status) => return Err(status),
-    };
+    let issued = chain_of(alloc, orders, algorithm, &[])?;
     let certificates: &[Certificate] = issued.certificates();
     if place >= certificates.len() {
         return Err(ExitStatus::Empty);

@@ -24,10 +24,7 @@ fn types_of(
 {
     let mut found = TypesBefore::new(alloc);
     for relative in name.iter_rdn() {
-        let oid = match found.type_behind(relative, multiple_allowed) {
-            Ok(oid) => oid,
-            Err(error) => return Err(error),
-        };
+        let oid = found.type_behind(relative, multiple_allowed)?;
         found = found.and(oid)?;
     }
     Ok(found.into_types())

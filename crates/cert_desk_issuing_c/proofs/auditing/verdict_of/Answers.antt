@@ -4,5 +4,5 @@ use Rattle.cert_desk_issuing_c.proofs.auditing.verdict_of.Goals as goal
 
 pub returns-in-Ok-audit-clause-judged : goal.returns-in-Ok-audit-clause-judged
 returns-in-Ok-audit-clause-judged c =
-    is_judged c.args.orders.now c.args.moment c.args.purpose.now c.in-Ok.issued.certificates c.in-Ok.issued.stream c.in-Ok-audit.checked.verdict c.stream.ensures.chain c.in-Ok-audit.ensures.verdict
-    (algorithm_plain c.args.algorithm.now) c.args.signature.now c.in-Ok.ensures.issued
+    is_judged c.args.orders.now c.args.moment c.args.purpose.now c.in_ok-issued.issued.certificates c.in_ok-issued.issued.stream c.in-Ok-audit.checked.verdict c.stream.ensures.chain c.in-Ok-audit.ensures.verdict
+    (algorithm_plain c.args.algorithm.now) c.args.signature.now c.in_ok-issued.ensures.issued

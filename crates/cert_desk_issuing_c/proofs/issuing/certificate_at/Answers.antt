@@ -6,14 +6,14 @@ use Rattle.cert_desk_issuing_c.proofs.issuing.certificate_at.Goals as goal
 
 pub returns-then-place-certificates-clause-refused : goal.returns-then-place-certificates-clause-refused
 returns-then-place-certificates-clause-refused c =
-    inl (refl, beyond (λ c. as_written (certificate_plain c)) c.certificates-certificates.result.now c.in-Ok.issued.certificates c.args.place c.certificates-certificates.ensures c.args.orders.now c.args.algorithm.now c.args.signature.now c.in-Ok.ensures.issued (omega arith))
+    inl (refl, beyond (λ c. as_written (certificate_plain c)) c.certificates-certificates.result.now c.in_ok-issued.issued.certificates c.args.place c.certificates-certificates.ensures c.args.orders.now c.args.algorithm.now c.args.signature.now c.in_ok-issued.ensures.issued (omega arith))
 
 pub returns-in-Ok-to_der-clause-made : goal.returns-in-Ok-to_der-clause-made
 returns-in-Ok-to_der-clause-made c =
     let it = as_written (certificate_plain c.index-certificates-place.result) in (
-      c.in-Ok.issued.certificates,
+      c.in_ok-issued.issued.certificates,
       it,
-      c.in-Ok.ensures.issued,
-      at_place (λ c. as_written (certificate_plain c)) c.certificates-certificates.result.now c.in-Ok.issued.certificates c.args.place c.certificates-certificates.ensures c.index-certificates-place.result (omega arith) c.index-certificates-place.is,
+      c.in_ok-issued.ensures.issued,
+      at_place (λ c. as_written (certificate_plain c)) c.certificates-certificates.result.now c.in_ok-issued.issued.certificates c.args.place c.certificates-certificates.ensures c.index-certificates-place.result (omega arith) c.index-certificates-place.is,
       c.in-Ok-to_der.ensures.octets.0 ∙ whole_octets it,
     )
