@@ -6,8 +6,8 @@ use Rattle.x509_cert_anchors.specs.Anchors.{PlainAnchor as PlainChoice}
 use Rattle.cert_desk_checking.specs.declared.anchor.Anchor.{Anchor}
 use Rattle.cert_desk_checking.specs.declared.anchor_fault.AnchorFault.{AnchorFault}
 use Rattle.cert_desk_checking.specs.declared.anchor_fault.AnchorFault.TheVariants as faults
-use Rattle.cert_desk_checking.specs.declared.outcome.Outcome.{Outcome}
-use Rattle.cert_desk_checking.specs.declared.outcome.Outcome.TheVariants as outcomes
+use Rattle.cert_desk_checking.specs.declared.anchor_files.NoAnchors.{NoAnchors}
+use Rattle.cert_desk_checking.specs.declared.anchor_files.NoAnchors.TheVariants as reasons
 use Rattle.cert_desk_checking.specs.Anchors.{anchor_plain, given_by}
 use Rattle.cert_desk_checking.specs.AnchorFiles.{raw_choice, IsFaulty}
 use Rattle.cert_desk_checking.specs.AnchorReading.{StandsAt, GivesAt, UngivenFor, IsUngiven, GivesNone}
@@ -24,19 +24,17 @@ ungiven octets c faults.Malformed b h = absurd h
 ungiven octets c faults.NoName b h = record { value = c; begins = b; refused = h }
 ungiven octets c faults.PathControls b h = record { value = c; begins = b; refused = h }
 
-pub gives_none : (octets : List ℕ) (start end : ℕ) (c : PlainChoice) (outcome : Outcome) → StandsAt octets start end c → IsUngiven c start outcome → GivesNone octets start outcome
-gives_none octets start end c (outcomes.Checked checked) s h = absurd h
-gives_none octets start end c (outcomes.BadAnchors offset fault) s h = (h.0, ungiven (drop start octets) c fault (begins_with raw_choice octets start end c s) h.1)
-gives_none octets start end c outcomes.Device s h = absurd h
-gives_none octets start end c outcomes.OutOfMemory s h = tt
+pub gives_none : (octets : List ℕ) (start end : ℕ) (c : PlainChoice) (reason : NoAnchors) → StandsAt octets start end c → IsUngiven c start reason → GivesNone octets start reason
+gives_none octets start end c (reasons.Faulty offset fault) s h = (h.0, ungiven (drop start octets) c fault (begins_with raw_choice octets start end c s) h.1)
+gives_none octets start end c reasons.OutOfMemory s h = tt
 
 -- what is given of the trust anchor that stands there is given there
-pub given_there : (octets : List ℕ) (start end : ℕ) (c : PlainChoice) (r : Result (Anchor × ℕ) Outcome) → StandsAt octets start end c
+pub given_there : (octets : List ℕ) (start end : ℕ) (c : PlainChoice) (r : Result (Anchor × ℕ) NoAnchors) → StandsAt octets start end c
     → IfOk r (λ p. given_by c ≡ Ok (anchor_plain p.0)) → IfOk r (λ p. p.1 ≡ end) → IfErr r (IsUngiven c start)
     → IfOk r (λ p. GivesAt octets start p.1 (anchor_plain p.0)) × IfErr r (GivesNone octets start)
 given_there octets start end c (Ok p) s given ends ungiven =
     (subst (λ (n : ℕ). GivesAt octets start n (anchor_plain p.0)) (sym ends) (record { value = c; stands = s; given = given }), tt)
-given_there octets start end c (Err outcome) s given ends ungiven = (tt, gives_none octets start end c outcome s ungiven)
+given_there octets start end c (Err reason) s given ends ungiven = (tt, gives_none octets start end c reason s ungiven)
 
 -- the anchors so far are those of the trust anchors up to the start
 abbrev pub AnchorsSoFar : List ℕ → List PlainAnchor → ℕ → Type 0

@@ -4,8 +4,8 @@ use Rattle.x509_cert_anchors.specs.Anchors.{PlainAnchor as PlainChoice}
 use Rattle.cert_desk_checking.specs.declared.anchor_error.AnchorError.TheVariants as errors
 use Rattle.cert_desk_checking.specs.declared.anchor_fault.AnchorFault.{AnchorFault}
 use Rattle.cert_desk_checking.specs.declared.anchor_fault.AnchorFault.TheVariants as faults
-use Rattle.cert_desk_checking.specs.declared.outcome.Outcome.{Outcome}
-use Rattle.cert_desk_checking.specs.declared.outcome.Outcome.TheVariants as outcomes
+use Rattle.cert_desk_checking.specs.declared.anchor_files.NoAnchors.{NoAnchors}
+use Rattle.cert_desk_checking.specs.declared.anchor_files.NoAnchors.TheVariants as reasons
 use Rattle.cert_desk_checking.specs.Anchors.{given_by}
 use Rattle.cert_desk_checking.specs.AnchorFiles.{raw_choice, IsFaulty, HasFirstFault}
 use Rattle.cert_desk_checking.specs.Files as files
@@ -26,23 +26,17 @@ UngivenFor c faults.Malformed = ⊥
 UngivenFor c faults.NoName = given_by c ≡ Err errors.NoName
 UngivenFor c faults.PathControls = given_by c ≡ Err errors.PathControls
 
-abbrev pub IsUngiven : PlainChoice → ℕ → Outcome → Type 0
-IsUngiven c start (outcomes.Checked checked) = ⊥
-IsUngiven c start (outcomes.BadAnchors offset fault) = (offset ≡ start) × UngivenFor c fault
-IsUngiven c start outcomes.Device = ⊥
-IsUngiven c start outcomes.OutOfMemory = Unit {0}
+abbrev pub IsUngiven : PlainChoice → ℕ → NoAnchors → Type 0
+IsUngiven c start (reasons.Faulty offset fault) = (offset ≡ start) × UngivenFor c fault
+IsUngiven c start reasons.OutOfMemory = Unit {0}
 
 -- why no anchor begins at the start: what stands there is faulty, or there was no memory
-abbrev pub GivesNone : List ℕ → ℕ → Outcome → Type 0
-GivesNone octets start (outcomes.Checked checked) = ⊥
-GivesNone octets start (outcomes.BadAnchors offset fault) = (offset ≡ start)
+abbrev pub GivesNone : List ℕ → ℕ → NoAnchors → Type 0
+GivesNone octets start (reasons.Faulty offset fault) = (offset ≡ start)
     × IsFaulty fault (drop start octets)
-GivesNone octets start outcomes.Device = ⊥
-GivesNone octets start outcomes.OutOfMemory = Unit {0}
+GivesNone octets start reasons.OutOfMemory = Unit {0}
 
 -- why a file gives no anchors: one of them is faulty, or there was no memory
-abbrev pub IsNoAnchorFile : List ℕ → Outcome → Type 0
-IsNoAnchorFile octets (outcomes.Checked checked) = ⊥
-IsNoAnchorFile octets (outcomes.BadAnchors offset fault) = HasFirstFault octets offset fault
-IsNoAnchorFile octets outcomes.Device = ⊥
-IsNoAnchorFile octets outcomes.OutOfMemory = Unit {0}
+abbrev pub IsNoAnchorFile : List ℕ → NoAnchors → Type 0
+IsNoAnchorFile octets (reasons.Faulty offset fault) = HasFirstFault octets offset fault
+IsNoAnchorFile octets reasons.OutOfMemory = Unit {0}

@@ -10,18 +10,31 @@ ghost use Rattle.cert_desk_checking.specs.AnchorReading.{IsNoAnchorFile};
 use crate::anchor::Anchor;
 use crate::anchor_error::AnchorError;
 use crate::anchor_fault::AnchorFault;
-use crate::outcome::Outcome;
 use der_core::FromDer;
 use der_core::making::is_want_of_memory;
 use std::alloc::Global;
 use x509_cert_anchors::TrustAnchorChoice;
 use x509_cert_parts::Raw;
 
+/// Why octets give no anchors.
+#[derive(Clone, Copy)]
+pub(crate) enum NoAnchors {
+    /// The trust anchor that begins at this offset is faulty.
+    Faulty {
+        /// Where it begins.
+        offset: u64,
+        /// What is wrong with it.
+        fault: AnchorFault,
+    },
+    /// Out of memory.
+    OutOfMemory,
+}
+
 // That the trust anchor that begins at the start is faulty.
-fn faulty(start: usize, fault: AnchorFault) -> Outcome
-    ensures { result ≡ Outcome.BadAnchors start fault }
+fn faulty(start: usize, fault: AnchorFault) -> NoAnchors
+    ensures { result ≡ NoAnchors.Faulty start fault }
 {
-    Outcome::BadAnchors {
+    NoAnchors::Faulty {
         offset: start as u64,
         fault,
     }
@@ -32,7 +45,7 @@ fn choice_at(
     alloc: Global,
     octets: &[u8],
     start: usize,
-) -> Result<(TrustAnchorChoice<Raw>, usize), Outcome>
+) -> Result<(TrustAnchorChoice<Raw>, usize), NoAnchors>
     requires some { start < length octets.now }
     requires short { Fits octets.now }
     ensures stands { IfOk result (λ p. StandsAt octets.now start p.1 (trust_anchor_plain p.0)) }
@@ -42,7 +55,7 @@ fn choice_at(
         Ok((choice, behind)) => Ok((choice, octets.len() - behind.len())),
         Err(error) => {
             if is_want_of_memory(&error) {
-                return Err(Outcome::OutOfMemory);
+                return Err(NoAnchors::OutOfMemory);
             }
             Err(faulty(start, AnchorFault::Malformed))
         }
@@ -55,7 +68,7 @@ fn given(
     choice: &TrustAnchorChoice<Raw>,
     start: usize,
     end: usize,
-) -> Result<(Anchor, usize), Outcome>
+) -> Result<(Anchor, usize), NoAnchors>
     ensures given { IfOk result (λ p. given_by (trust_anchor_plain choice.now)
         ≡ Ok (anchor_plain p.0)) }
     ensures end { IfOk result (λ p. p.1 ≡ end) }
@@ -65,25 +78,23 @@ fn given(
         Ok(anchor) => Ok((anchor, end)),
         Err(AnchorError::NoName) => Err(faulty(start, AnchorFault::NoName)),
         Err(AnchorError::PathControls) => Err(faulty(start, AnchorFault::PathControls)),
-        Err(AnchorError::OutOfMemory) => Err(Outcome::OutOfMemory),
+        Err(AnchorError::OutOfMemory) => Err(NoAnchors::OutOfMemory),
     }
 }
 
 // The anchor that is given at the start, and where the next one begins.
-fn anchor_at(alloc: Global, octets: &[u8], start: usize) -> Result<(Anchor, usize), Outcome>
+fn anchor_at(alloc: Global, octets: &[u8], start: usize) -> Result<(Anchor, usize), NoAnchors>
     requires some { start < length octets.now }
     requires short { Fits octets.now }
     ensures given { IfOk result (λ p. GivesAt octets.now start p.1 (anchor_plain p.0)) }
     ensures none { IfErr result (GivesNone octets.now start) }
 {
-    match choice_at(alloc, octets, start) {
-        Ok((choice, end)) => given(alloc, &choice, start, end),
-        Err(outcome) => Err(outcome),
-    }
+    let (choice, end) = choice_at(alloc, octets, start)?;
+    given(alloc, &choice, start, end)
 }
 
 // The anchors that the trust anchors of a file give, or why there are none.
-pub(crate) fn anchors_in(alloc: Global, octets: &[u8]) -> Result<Vec<Anchor>, Outcome>
+pub(crate) fn anchors_in(alloc: Global, octets: &[u8]) -> Result<Vec<Anchor>, NoAnchors>
     requires { Fits octets.now }
     ensures read { IfOk result
         (λ anchors. IsAnchorFile octets.now (map anchor_plain anchors.items)) }
@@ -92,12 +103,9 @@ pub(crate) fn anchors_in(alloc: Global, octets: &[u8]) -> Result<Vec<Anchor>, Ou
     let mut anchors = Vec::new(alloc);
     let mut start = 0;
     while start < octets.len() {
-        let (anchor, end) = match anchor_at(alloc, octets, start) {
-            Ok(read) => read,
-            Err(outcome) => return Err(outcome),
-        };
+        let (anchor, end) = anchor_at(alloc, octets, start)?;
         if anchors.push(anchor).is_err() {
-            return Err(Outcome::OutOfMemory);
+            return Err(NoAnchors::OutOfMemory);
         }
         start = end;
     }

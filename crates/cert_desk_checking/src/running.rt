@@ -10,7 +10,7 @@ ghost use Rattle.cert_desk_checking.specs.Runs.{judging, status_of};
 
 use crate::anchor::Anchor;
 use crate::anchor_fault::AnchorFault;
-use crate::anchor_files::anchors_in;
+use crate::anchor_files::{NoAnchors, anchors_in};
 use crate::checking::check;
 use crate::outcome::Outcome;
 use crate::verdict_lines::{anchors_line, verdict_line};
@@ -61,7 +61,8 @@ pub fn read_anchors<A: Input>(alloc: Global, input: &mut A) -> Result<Vec<Anchor
     };
     match anchors_in(alloc, octets.as_slice()) {
         Ok(anchors) => Ok(anchors),
-        Err(outcome) => Err(outcome),
+        Err(NoAnchors::Faulty { offset, fault }) => Err(Outcome::BadAnchors { offset, fault }),
+        Err(NoAnchors::OutOfMemory) => Err(Outcome::OutOfMemory),
     }
 }
 
