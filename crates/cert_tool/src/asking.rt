@@ -28,10 +28,7 @@ fn find_questions<A: Input, S: Input>(
         (source S.takes S.is_ended S.failures stream.old stream.new) limit
         (Err outcome)) }
 {
-    let anchors = match read_anchors(alloc, anchors) {
-        Ok(anchors) => anchors,
-        Err(outcome) => return Err(outcome),
-    };
+    let anchors = read_anchors(alloc, anchors)?;
     let bundle = read_stream(alloc, limit, stream);
     if let Some(outcome) = stop_of(&bundle) {
         return Err(outcome);

@@ -59,18 +59,9 @@ fn open_all<I: Drop, F: NamedInputs<I>, E: Output>(
     ensures stopped { IfErr result (λ status.
         (status ≡ ExitStatus.Device) ⊎ (status ≡ ExitStatus.Memory)) }
 {
-    let answers = match open(alloc, files, task.answers, err) {
-        Ok(answers) => answers,
-        Err(status) => return Err(status),
-    };
-    let anchors = match open(alloc, files, task.anchors, err) {
-        Ok(anchors) => anchors,
-        Err(status) => return Err(status),
-    };
-    let stream = match open(alloc, files, task.file, err) {
-        Ok(stream) => stream,
-        Err(status) => return Err(status),
-    };
+    let answers = open(alloc, files, task.answers, err)?;
+    let anchors = open(alloc, files, task.anchors, err)?;
+    let stream = open(alloc, files, task.file, err)?;
     Ok(Opened {
         answers,
         anchors,

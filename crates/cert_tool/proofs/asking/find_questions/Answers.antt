@@ -4,8 +4,8 @@ use Rattle.cert_tool.proofs.asking.find_questions.Goals as goal
 
 pub returns-in-Some-clause-stopped : goal.returns-in-Some-clause-stopped
 returns-in-Some-clause-stopped g c =
-    inr (map anchor_plain c.in-Ok.anchors.items, c.read_stream-bundle.result, c.in-Ok.ensures.read, (c.read_stream-bundle.ensures.limit, c.read_stream-bundle.ensures.fed), inl (sym c.stop_of.ensures ∙ c.in-Some.is))
+    inr (map anchor_plain c.in_ok-anchors.anchors.items, c.read_stream-bundle.result, c.in_ok-anchors.ensures.read, (c.read_stream-bundle.ensures.limit, c.read_stream-bundle.ensures.fed), inl (sym c.stop_of.ensures ∙ c.in-Some.is))
 
 pub returns-clause-stopped : goal.returns-clause-stopped
 returns-clause-stopped g c =
-    inr (map anchor_plain c.in-Ok.anchors.items, c.read_stream-bundle.result, c.in-Ok.ensures.read, (c.read_stream-bundle.ensures.limit, c.read_stream-bundle.ensures.fed), inr refl)
+    inr (map anchor_plain c.in_ok-anchors.anchors.items, c.read_stream-bundle.result, c.in_ok-anchors.ensures.read, (c.read_stream-bundle.ensures.limit, c.read_stream-bundle.ensures.fed), inr refl)
