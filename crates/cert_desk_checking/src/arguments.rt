@@ -44,13 +44,13 @@ impl<'a> Arguments<'a> {
         if command.as_str() != "check" {
             return None;
         }
-        let Some(moment) = number(moment.as_str()) else {
+        let Some(moment) = number_in(moment.as_str()) else {
             return None;
         };
         let Ok(purpose) = ObjectIdentifier::<39>::new(purpose.as_str()) else {
             return None;
         };
-        let Some(limit) = limit_of(limit.as_str()) else {
+        let Some(limit) = limit_in(limit.as_str()) else {
             return None;
         };
         Some(Arguments {
@@ -63,9 +63,9 @@ impl<'a> Arguments<'a> {
     }
 }
 
-// A number of one or more decimal digits, below 2^64. Leading zeros are read, and no sign.
+/// A number of one or more decimal digits, below 2^64. Leading zeros are read, and no sign.
 #[tactic(auto, unfolding(crate::specs::Arguments::IsNumber))]
-fn number(text: &str) -> Option<u64>
+pub fn number_in(text: &str) -> Option<u64>
     ensures read { IfSome result (λ n. IsNumber n text.now) }
     ensures refused { IfNone result ((n : ℕ) → IsNumber n text.now → n < 2 ^ 64 → ⊥) }
 {
@@ -75,14 +75,14 @@ fn number(text: &str) -> Option<u64>
     text.parse().ok()
 }
 
-// A limit: a number from 6 to 2^32 - 1.
+/// A limit: a number from 6 to 2^32 - 1.
 #[tactic(auto, unfolding(crate::specs::Arguments::IsNumber))]
-fn limit_of(text: &str) -> Option<u32>
+pub fn limit_in(text: &str) -> Option<u32>
     ensures read { IfSome result (λ n. IsNumber n text.now) }
     ensures least { IfSome result (λ n. 6 ≤ n) }
     ensures refused { IfNone result ((n : ℕ) → IsNumber n text.now → 6 ≤ n → n < 2 ^ 32 → ⊥) }
 {
-    let Some(limit) = number(text) else {
+    let Some(limit) = number_in(text) else {
         return None;
     };
     if limit < LEAST_LIMIT {

@@ -20,7 +20,7 @@ mod verdict_lines;
 pub use anchor::Anchor;
 pub use anchor_error::AnchorError;
 pub use anchor_fault::AnchorFault;
-pub use arguments::{Arguments, USAGE};
+pub use arguments::{Arguments, USAGE, limit_in, number_in};
 pub use checking::{check, is_issued_by};
 pub use each_place::judge_each;
 pub use outcome::Outcome;

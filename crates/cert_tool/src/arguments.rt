@@ -1,6 +1,6 @@
 //! The values of options.
 
-ghost use Rattle.std.specs.Prelude.{◌≡◌, ◌≢◌, ℕ, ◌<◌, ◌≤◌, ◌^◌, true, IfSome, IfNone};
+ghost use Rattle.std.specs.Prelude.{◌≡◌, ◌≢◌, ℕ, ◌≤◌, true, IfSome, IfNone};
 ghost use Rattle.const_oid.specs.Bound.{Bound, max_size};
 ghost use Rattle.const_oid.specs.TextReading.{read_text};
 ghost use Rattle.der_core_head.specs.Dates.{Civil, is_civil};
@@ -9,11 +9,9 @@ ghost use Rattle.der_types_time.specs.Seconds.{last_second};
 ghost use Rattle.cert_desk_checking.specs.Arguments.{IsNumber};
 ghost use Rattle.cert_tool.specs.Tasks.{IsMoment, IsNoMoment, arcs_of};
 
+use cert_desk_checking::number_in;
 use const_oid::{Error, ObjectIdentifier};
 use der_types_time::DateTime;
-
-// The least limit: a certificate has a header and some content.
-const LEAST_LIMIT: u64 = 6;
 
 /// The validation time: when a chain is judged.
 #[derive(Clone, Copy)]
@@ -35,18 +33,6 @@ pub(crate) struct Terms {
     pub(crate) limit: u32,
     // Whether JSON is written.
     pub(crate) is_json: bool,
-}
-
-// A number of one or more decimal digits, below 2^64. Leading zeros are read, and no sign.
-#[tactic(auto, unfolding(cert_desk_checking::specs::Arguments::IsNumber))]
-pub(crate) fn number_in(text: &str) -> Option<u64>
-    ensures read { IfSome result (λ n. IsNumber n text.now) }
-    ensures refused { IfNone result ((n : ℕ) → IsNumber n text.now → n < 2 ^ 64 → ⊥) }
-{
-    if text.as_bytes().first() == Some(&b'+') {
-        return None;
-    }
-    text.parse().ok()
 }
 
 // The seconds of a moment that isn't `now`: a date, or a number of seconds.
@@ -104,23 +90,4 @@ pub(crate) fn purpose_in(text: &str) -> Result<ObjectIdentifier<39>, Error>
     ensures { result ≡ read_text Bound max_size (arcs_of text.now) }
 {
     ObjectIdentifier::<39>::new(arcs_of(text))
-}
-
-// A limit: a number from 6 to 2^32 - 1.
-#[tactic(auto, unfolding(cert_desk_checking::specs::Arguments::IsNumber))]
-pub(crate) fn limit_in(text: &str) -> Option<u32>
-    ensures read { IfSome result (λ n. IsNumber n text.now) }
-    ensures least { IfSome result (λ n. 6 ≤ n) }
-    ensures refused { IfNone result ((n : ℕ) → IsNumber n text.now → 6 ≤ n → n < 2 ^ 32 → ⊥) }
-{
-    let Some(limit) = number_in(text) else {
-        return None;
-    };
-    if limit < LEAST_LIMIT {
-        return None;
-    }
-    if limit > u64::from(u32::MAX) {
-        return None;
-    }
-    Some(limit as u32)
 }

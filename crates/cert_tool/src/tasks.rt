@@ -11,8 +11,9 @@ ghost use Rattle.cert_tool.specs.Tasks.{command_in, plain_command, describes, te
 ghost use Rattle.cert_tool.specs.Tasks.{is_octets_in_json, IsMisuse, IsMoment, IsPurpose};
 ghost use Rattle.cert_tool.specs.Tasks.{IsLimit, moment_text, purpose_text, limit_text};
 
-use crate::arguments::{Moment, limit_in, moment_in, number_in, purpose_in};
+use crate::arguments::{Moment, moment_in, purpose_in};
 use crate::given::{Given, Key, WordFault, given_in};
+use cert_desk_checking::{limit_in, number_in};
 use cert_tool_explain::Kind;
 use const_oid::ObjectIdentifier;
 

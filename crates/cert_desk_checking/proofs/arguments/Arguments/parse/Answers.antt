@@ -22,7 +22,7 @@ returns-clause-read c =
       purpose_is = search rules;
       purpose_valid = c.in-Ok.ensures.ok.1;
       purpose_fits = c.in-Ok.ensures.ok.2;
-      limit_is = subst (λ x. IsNumber c.in-Some-limit_of.limit x) c.as_str-4.ensures.value c.in-Some-limit_of.ensures.read;
-      limit_least = c.in-Some-limit_of.ensures.least;
+      limit_is = subst (λ x. IsNumber c.in-Some-limit_in.limit x) c.as_str-4.ensures.value c.in-Some-limit_in.ensures.read;
+      limit_least = c.in-Some-limit_in.ensures.least;
       limit_fits = search rules;
     }
