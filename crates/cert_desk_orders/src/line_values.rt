@@ -4,7 +4,8 @@ ghost use Rattle.der_core_head.specs.Grammar.{plain_option};
 ghost use Rattle.cert_desk_orders.specs.OrderValues.{octets_in, key_in, key_read, length_in};
 ghost use Rattle.x509_cert_parts.specs.Views.{key_plain};
 
-use der_core::{ErrorKind, FromDer};
+use der_core::FromDer;
+use der_core::making::is_want_of_memory;
 use hex::FromHexError;
 use std::alloc::{AllocError, Global};
 use x509_cert_parts::SubjectPublicKeyInfo;
@@ -27,10 +28,12 @@ fn key_of_octets(alloc: Global, octets: &[u8]) -> Result<Option<SubjectPublicKey
 {
     match SubjectPublicKeyInfo::from_der(alloc, octets) {
         Ok(key) => Ok(Some(key)),
-        Err(error) => match error.kind {
-            ErrorKind::OutOfMemory => Err(AllocError),
-            _ => Ok(None),
-        },
+        Err(error) => {
+            if is_want_of_memory(&error) {
+                return Err(AllocError);
+            }
+            Ok(None)
+        }
     }
 }
 

@@ -18,8 +18,8 @@ use crate::extensions::{BASIC_CONSTRAINTS, EXT_KEY_USAGE, KEY_USAGE, SUBJECT_ALT
 use crate::findings::Findings;
 use crate::weight::Weight;
 use const_oid::ObjectIdentifier;
-use der_core::making::{leaf_from_der, read_whole};
-use der_core::{Decode, Error, ErrorKind, Explicit, Implicit, OneOf8, SliceReader};
+use der_core::making::{is_want_of_memory, leaf_from_der, read_whole};
+use der_core::{Decode, Error, Explicit, Implicit, OneOf8, SliceReader};
 use der_types_text::Ia5StringRef;
 use der_types_values::{FlagSet, OctetStringRef};
 use std::alloc::{AllocError, Global};
@@ -163,8 +163,8 @@ fn malformed(error: Error) -> Result<Weight, AllocError>
     ensures { IfOk result (λ weight. (weight ≡ Weight.Malformed)
         × (error.kind ≢ ErrorKind.OutOfMemory)) }
 {
-    match error.kind {
-        ErrorKind::OutOfMemory => Err(AllocError),
-        _ => Ok(Weight::Malformed),
+    if is_want_of_memory(&error) {
+        return Err(AllocError);
     }
+    Ok(Weight::Malformed)
 }
