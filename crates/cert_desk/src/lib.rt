@@ -10,8 +10,9 @@ pub use cert_desk_bundle::{
     Bundle, BundleError, Entry, FaultKind, ReadError, Standing, first_fault,
 };
 pub use cert_desk_checking::{
-    Anchor, AnchorError, AnchorFault, Arguments, Outcome, USAGE, anchors_line, chain_lines, check,
-    judge_each, read_anchors, read_stream, reason_of, run_check, status_of, verdict_line,
+    Anchor, AnchorError, AnchorFault, AnchorsError, Arguments, Outcome, USAGE, anchors_line,
+    chain_lines, check, judge_each, read_anchors, read_stream, reason_of, run_check, status_of,
+    verdict_line,
 };
 pub use cert_desk_io::{
     DeviceError, ExitStatus, FromRead, Input, MemoryInput, MemoryOutput, NamedInputs, OpenError,

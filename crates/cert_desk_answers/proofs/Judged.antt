@@ -4,7 +4,7 @@ use Rattle.cert_desk_io.specs.declared.memory_inputs.MemoryInput.{MemoryInput}
 use Rattle.cert_desk_io.specs.Devices.{Device, source}
 use Rattle.cert_desk_io.specs.Memory.{HasEnded, octets_left, read_failures}
 use Rattle.cert_desk_checking.specs.declared.anchor_fault.AnchorFault.{AnchorFault}
-use Rattle.cert_desk_checking.specs.declared.outcome.Outcome.TheVariants as outcomes
+use Rattle.cert_desk_checking.specs.declared.anchors_error.AnchorsError.TheVariants as errors
 use Rattle.cert_desk_checking.specs.AnchorFiles.{IsAnchorFile, HasFirstFault}
 use Rattle.cert_desk_rules.specs.Judging.{Answers, PlainAnchor}
 use Rattle.cert_desk_checking.specs.Laws.{HasOneAnchorFile}
@@ -20,7 +20,7 @@ all_left a b octets moved ended = sym (moved ∙ ap (λ x. octets ++ x) ended �
 
 -- octets that aren't too many and hold a faulty anchor are no file of anchors
 pub no_anchors : (a b : MemoryInput) (octets : List ℕ) (offset : ℕ) (fault : AnchorFault) → HasOneAnchorFile → octets_left a ≡ octets → length octets < 2 ^ 32
-    → HasNoAnchors (memory a b) (outcomes.BadAnchors offset fault) → (given : List PlainAnchor) → IsAnchorFile octets given → ⊥
+    → HasNoAnchors (memory a b) (errors.BadAnchors offset fault) → (given : List PlainAnchor) → IsAnchorFile octets given → ⊥
 no_anchors a b octets offset fault one e short (inl h) given is =
     let whole = all_left (octets_left a) (octets_left b) h.0 h.1.0 h.1.2.1 ∙ e in
     let wrong : HasFirstFault octets offset fault = subst (λ (x : List ℕ). HasFirstFault x offset fault) whole h.2 in

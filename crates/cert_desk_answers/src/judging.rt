@@ -20,7 +20,7 @@ use crate::answer_lines::answers_in;
 use crate::no_answers::NoAnswers;
 use cert_desk_bundle::{Bundle, BundleError};
 use cert_desk_checking::laws::one_anchor_file;
-use cert_desk_checking::{Anchor, Outcome, check, read_anchors};
+use cert_desk_checking::{Anchor, AnchorsError, check, read_anchors};
 use cert_desk_io::{ExitStatus, MemoryInput};
 use cert_desk_rules::{AnswersJudge, Verdict};
 use const_oid::ObjectIdentifier;
@@ -39,7 +39,7 @@ pub fn anchors_of(alloc: Global, octets: &[u8]) -> Result<Vec<Anchor>, ExitStatu
     let mut input = MemoryInput::new(octets, &[], None);
     match read_anchors(alloc, &mut input) {
         Ok(anchors) => Ok(anchors),
-        Err(Outcome::BadAnchors { .. }) => Err(ExitStatus::Arguments),
+        Err(AnchorsError::BadAnchors { .. }) => Err(ExitStatus::Arguments),
         Err(_) => Err(ExitStatus::Memory),
     }
 }

@@ -8,6 +8,8 @@ use Rattle.cert_desk_io.specs.Devices.{Device, Moved, MetEnd, Sound, Untouched}
 use Rattle.cert_desk_io.specs.Telling.{IsAnswer, IsComplaint, IsDeviceTold, IsMemoryTold}
 use Rattle.cert_desk_io.specs.Whole.{IsWhole, IsUnread, most_octets}
 use Rattle.cert_desk_checking.specs.declared.anchor_fault.AnchorFault.TheVariants as faults
+use Rattle.cert_desk_checking.specs.declared.anchors_error.AnchorsError.{AnchorsError}
+use Rattle.cert_desk_checking.specs.declared.anchors_error.AnchorsError.TheVariants as errors
 use Rattle.cert_desk_rules.specs.declared.checked.Verdict.{Verdict}
 use Rattle.cert_desk_rules.specs.declared.checked.Verdict.TheVariants as verdicts
 use Rattle.cert_desk_bundle.specs.declared.fault_kind.FaultKind.TheVariants as kinds
@@ -26,14 +28,19 @@ HasAnchors input anchors = (octets : List ℕ) × IsWhole input most_octets octe
 
 -- Why an input gave no anchors: one of them is faulty, the first one where there are too many
 -- octets; or why it wasn't read, or found no memory.
-abbrev pub HasNoAnchors : Device → Outcome → Type 0
-HasNoAnchors input (outcomes.Checked checked) = ⊥
-HasNoAnchors input (outcomes.BadAnchors offset fault) =
+abbrev pub HasNoAnchors : Device → AnchorsError → Type 0
+HasNoAnchors input (errors.BadAnchors offset fault) =
     ((octets : List ℕ) × IsWhole input most_octets octets × HasFirstFault octets offset fault)
     ⊎ (IsUnread input most_octets reasons.TooMuch × (offset ≡ 0) × (fault ≡ faults.Malformed))
-HasNoAnchors input outcomes.Device = IsUnread input most_octets reasons.Device
-HasNoAnchors input outcomes.OutOfMemory = ((octets : List ℕ) × IsWhole input most_octets octets)
+HasNoAnchors input errors.Device = IsUnread input most_octets reasons.Device
+HasNoAnchors input errors.OutOfMemory = ((octets : List ℕ) × IsWhole input most_octets octets)
     ⊎ IsUnread input most_octets reasons.OutOfMemory
+
+-- what a run comes to that gets no anchors
+abbrev pub outcome_of : AnchorsError → Outcome
+outcome_of (errors.BadAnchors offset fault) = outcomes.BadAnchors offset fault
+outcome_of errors.Device = outcomes.Device
+outcome_of errors.OutOfMemory = outcomes.OutOfMemory
 
 -- how far a stream has to be read for a verdict: to its end, or to the read that brings the fault
 abbrev pub IsReadFor : Verdict → Device → ℕ → Type 0
@@ -100,13 +107,13 @@ IsOutcome anchors stream judge moment purpose limit (outcomes.Checked checked) =
     × IsCounted (run_terms given moment purpose (judge.answers judge.old)) limit octets checked
     (judge.questions judge.old) (judge.questions judge.new)
 IsOutcome anchors stream judge moment purpose limit (outcomes.BadAnchors offset fault) =
-    HasNoAnchors anchors (outcomes.BadAnchors offset fault) × Untouched stream × IsUnasked judge
+    HasNoAnchors anchors (errors.BadAnchors offset fault) × Untouched stream × IsUnasked judge
 IsOutcome anchors stream judge moment purpose limit outcomes.Device =
-    ((HasNoAnchors anchors outcomes.Device × Untouched stream)
+    ((HasNoAnchors anchors errors.Device × Untouched stream)
     ⊎ ((given : List PlainAnchor) × HasAnchors anchors given × ReadFailed stream limit))
     × IsUnasked judge
 IsOutcome anchors stream judge moment purpose limit outcomes.OutOfMemory =
-    (HasNoAnchors anchors outcomes.OutOfMemory × Untouched stream × IsUnasked judge)
+    (HasNoAnchors anchors errors.OutOfMemory × Untouched stream × IsUnasked judge)
     ⊎ ((given : List PlainAnchor) × HasAnchors anchors given
     × IsReadInVain stream judge (run_terms given moment purpose (judge.answers judge.old)) limit)
 

@@ -11,6 +11,7 @@ ghost use Rattle.cert_desk_checking.specs.Runs.{judging, status_of};
 use crate::anchor::Anchor;
 use crate::anchor_fault::AnchorFault;
 use crate::anchor_files::{NoAnchors, anchors_in};
+use crate::anchors_error::AnchorsError;
 use crate::checking::check;
 use crate::outcome::Outcome;
 use crate::verdict_lines::{anchors_line, verdict_line};
@@ -41,7 +42,7 @@ pub fn read_stream<I: Input>(alloc: Global, limit: u32, input: &mut I) -> Bundle
 ///
 /// `BadAnchors` where one is faulty, or there are 2^32 octets or more, of which the first one is
 /// told; `Device` and `OutOfMemory`.
-pub fn read_anchors<A: Input>(alloc: Global, input: &mut A) -> Result<Vec<Anchor>, Outcome>
+pub fn read_anchors<A: Input>(alloc: Global, input: &mut A) -> Result<Vec<Anchor>, AnchorsError>
     ensures read { IfOk result (λ anchors. HasAnchors
         (source A.takes A.is_ended A.failures input.old input.new)
         (map anchor_plain anchors.items)) }
@@ -51,18 +52,18 @@ pub fn read_anchors<A: Input>(alloc: Global, input: &mut A) -> Result<Vec<Anchor
     let octets = match read_all(alloc, input, u32::MAX) {
         Ok(octets) => octets,
         Err(ReadAllError::TooMuch) => {
-            return Err(Outcome::BadAnchors {
+            return Err(AnchorsError::BadAnchors {
                 offset: 0,
                 fault: AnchorFault::Malformed,
             });
         }
-        Err(ReadAllError::Device) => return Err(Outcome::Device),
-        Err(ReadAllError::OutOfMemory) => return Err(Outcome::OutOfMemory),
+        Err(ReadAllError::Device) => return Err(AnchorsError::Device),
+        Err(ReadAllError::OutOfMemory) => return Err(AnchorsError::OutOfMemory),
     };
     match anchors_in(alloc, octets.as_slice()) {
         Ok(anchors) => Ok(anchors),
-        Err(NoAnchors::Faulty { offset, fault }) => Err(Outcome::BadAnchors { offset, fault }),
-        Err(NoAnchors::OutOfMemory) => Err(Outcome::OutOfMemory),
+        Err(NoAnchors::Faulty { offset, fault }) => Err(AnchorsError::BadAnchors { offset, fault }),
+        Err(NoAnchors::OutOfMemory) => Err(AnchorsError::OutOfMemory),
     }
 }
 
@@ -86,7 +87,7 @@ pub fn find_outcome<A: Input, S: Input, J: SignatureJudge>(
 {
     let anchors = match read_anchors(alloc, anchors) {
         Ok(anchors) => anchors,
-        Err(outcome) => return outcome,
+        Err(error) => return Outcome::from(error),
     };
     let bundle = read_stream(alloc, limit, stream);
     match check(alloc, &bundle, &anchors, moment, purpose, judge) {

@@ -4,12 +4,13 @@ use Rattle.cert_desk_io.specs.declared.exit_status.ExitStatus.{ExitStatus}
 use Rattle.cert_desk_io.specs.declared.exit_status.ExitStatus.TheVariants as statuses
 use Rattle.cert_desk_io.specs.Devices.{Device, Untouched}
 use Rattle.cert_desk_io.specs.Telling.{IsAnswer}
+use Rattle.cert_desk_checking.specs.declared.anchors_error.AnchorsError.{AnchorsError}
 use Rattle.cert_desk_checking.specs.declared.outcome.Outcome.{Outcome}
 use Rattle.cert_desk_checking.specs.declared.outcome.Outcome.TheVariants as outcomes
 use Rattle.const_oid.specs.Bound.{Bound}
 use Rattle.cert_desk_bundle.specs.Chains.{joined}
 use Rattle.cert_desk_rules.specs.Judging.{PlainAnchor}
-use Rattle.cert_desk_checking.specs.Runs.{HasAnchors, HasNoAnchors}
+use Rattle.cert_desk_checking.specs.Runs.{HasAnchors, HasNoAnchors, outcome_of}
 use Rattle.cert_desk_bundle.specs.Streams.{Kept}
 use Rattle.cert_desk_checking.specs.QuestionLines.{chain_lines, lines_octets}
 use Rattle.cert_tool.specs.Stops.{FedWithin, IsStopTold, stop_of}
@@ -24,7 +25,8 @@ IsAsked anchors_in stream limit (Ok text) =
     × (stop_of b ≡ None)
     × (text ≡ lines_octets (chain_lines anchors b.certificates (joined Bound b.certificates)))
 IsAsked anchors_in stream limit (Err outcome) =
-    (HasNoAnchors anchors_in outcome × Untouched stream)
+    ((error : AnchorsError) × (outcome ≡ outcome_of error) × HasNoAnchors anchors_in error
+    × Untouched stream)
     ⊎ ((anchors : List PlainAnchor) × (b : Kept) × HasAnchors anchors_in anchors
     × FedWithin stream limit b
     × ((stop_of b ≡ Some outcome) ⊎ (outcome ≡ outcomes.OutOfMemory)))

@@ -6,7 +6,7 @@ use crate::arguments::Terms;
 use crate::reading::{read_input, tell_text};
 use crate::verifying::{read_answers, tell_none};
 use cert_desk_bundle::{Bundle, Standing};
-use cert_desk_checking::{Anchor, Outcome, judge_each, read_anchors, read_stream};
+use cert_desk_checking::{Anchor, AnchorsError, judge_each, read_anchors, read_stream};
 use cert_desk_io::{ExitStatus, FromRead, Input, Output, complain, tell_device, tell_memory};
 use cert_desk_rules::{Answer, AnswersJudge, KeptRules};
 use cert_tool_chains::{Heard, Judged, add_chain};
@@ -76,9 +76,9 @@ fn anchors_in<E: Output>(
 ) -> Result<Vec<Anchor>, ExitStatus> {
     match read_anchors(alloc, &mut FromRead::new(octets)) {
         Ok(anchors) => Ok(anchors),
-        Err(Outcome::Device) => Err(tell_device(err)),
-        Err(Outcome::OutOfMemory) => Err(tell_memory(err)),
-        Err(_) => Err(complain(
+        Err(AnchorsError::Device) => Err(tell_device(err)),
+        Err(AnchorsError::OutOfMemory) => Err(tell_memory(err)),
+        Err(AnchorsError::BadAnchors { .. }) => Err(complain(
             err,
             b"the anchors can't be read: `cert_tool explain anchors` says why\n",
             ExitStatus::Arguments,

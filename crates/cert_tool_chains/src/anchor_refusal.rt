@@ -2,7 +2,7 @@
 
 use crate::anchors::{add_anchor_fault, add_unjudged, begin_anchor};
 use crate::stream_refusal::PEM_STREAM;
-use cert_desk_checking::{AnchorFault, Outcome, read_anchors};
+use cert_desk_checking::{AnchorFault, AnchorsError, read_anchors};
 use cert_desk_io::FromRead;
 use cert_tool_explain::is_pem;
 use cert_tool_lines::Lines;
@@ -33,11 +33,9 @@ fn add_fault(lines: &mut Lines, octets: &[u8], offset: u64, fault: AnchorFault) 
 }
 
 // How many anchors octets give.
-fn count_anchors(alloc: Global, octets: &[u8]) -> Result<usize, Outcome> {
-    match read_anchors(alloc, &mut FromRead::new(octets)) {
-        Ok(anchors) => Ok(anchors.len()),
-        Err(outcome) => Err(outcome),
-    }
+fn count_anchors(alloc: Global, octets: &[u8]) -> Result<usize, AnchorsError> {
+    let anchors = read_anchors(alloc, &mut FromRead::new(octets))?;
+    Ok(anchors.len())
 }
 
 // Adds what is to be said of octets that should be anchors.
@@ -54,7 +52,7 @@ fn add_anchors(lines: &mut Lines, octets: &[u8]) {
             lines.close();
             add_unjudged(lines, octets, None);
         }
-        Err(Outcome::BadAnchors { offset, fault }) => {
+        Err(AnchorsError::BadAnchors { offset, fault }) => {
             add_fault(lines, octets, offset, fault);
         }
         Err(_) => lines.fail(),

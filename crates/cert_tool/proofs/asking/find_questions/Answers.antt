@@ -1,6 +1,12 @@
 use Rattle.std.proofs.Common.{map, inl, inr, sym, ◌∙◌, refl}
+use Rattle.std.proofs.lemmas.Result.{err_from_is_err_and}
 use Rattle.cert_desk_checking.specs.Anchors.{anchor_plain}
 use Rattle.cert_tool.proofs.asking.find_questions.Goals as goal
+
+pub returns-in_err-anchors-clause-stopped : goal.returns-in_err-anchors-clause-stopped
+returns-in_err-anchors-clause-stopped g c =
+    let p = err_from_is_err_and c.from_residual.result c.from_residual.ensures.1 in
+    rw p.1 (inl (c.in_err-anchors.field-0.0, p.2, c.in_err-anchors.ensures.stopped, refl))
 
 pub returns-in-Some-clause-stopped : goal.returns-in-Some-clause-stopped
 returns-in-Some-clause-stopped g c =
