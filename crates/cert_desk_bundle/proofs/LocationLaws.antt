@@ -1,92 +1,108 @@
 -- Where a certificate's parts stand in its octets, and where it stands in a bundle.
-use Rattle.std.proofs.Common.{◌≡◌, ℕ, zero, suc, ◌+◌, ◌-◌, ◌^◌, ◌<◌, ◌≤◌, List, [], ◌∷◌, ◌++◌, length, take, drop, Some, Result, Ok, Err, is_ok, true, false, cond, refl, sym, ap, subst, ◌∙◌, arith, ◌⊎◌, inl, inr, append_assoc, length-append, slice_get}
+use Rattle.std.proofs.Common.{◌≡◌, ℕ, zero, suc, ◌+◌, ◌-◌, ◌^◌, ◌<◌, ◌≤◌, ◌≢◌, List, [], ◌∷◌, ◌++◌, length, take, drop, Some, Result, Ok, Err, is_ok, true, false, cond, refl, sym, ap, subst, ◌∙◌, arith, ◌⊎◌, inl, inr, length-append, length-drop, slice_get}
 use Rattle.std.proofs.lemmas.List.{take_at, drop_at, take-append-le, map_push, length-map}
 use Rattle.std.specs.List.{AllByRecursion}
 use Rattle.der_core_head.specs.declared.tag.Tag.TheVariants as tags
-use Rattle.der_core_head.specs.Heads.{head_octets, tlv, Fits}
+use Rattle.der_core_head.specs.Heads.{head_octets, head_at, tlv, Fits}
 use Rattle.der_core_head.specs.Shapes.{IsValid, IsContent, IsBody, Spells, octets_of, body_octets, contents}
 use Rattle.x509_cert_certificates.specs.Certificates.{PlainCertificate, raw_certificate}
-use Rattle.x509_cert_certificates.specs.Certificates.{raw_certificate_fields, raw_tbs_certificate}
-use Rattle.x509_cert_certificates.specs.Certificates.{raw_tbs_fields, certificate_octets, tbs}
+use Rattle.x509_cert_certificates.specs.Certificates.{raw_tbs_certificate, certificate_octets, tbs}
 use Rattle.x509_cert_certificates.specs.Certificates.{signed_start, signed_length}
 use Rattle.x509_cert_parts.specs.Grammar.{algorithm_identifier, bit_string}
 use Rattle.const_oid.specs.Bound.{Bound}
+use Rattle.der_core_head.specs.declared.error.ErrorKind.{ErrorKind}
+use Rattle.der_core_head.specs.declared.error.ErrorKind.TheVariants as errors
+use Rattle.cert_desk_bundle.specs.declared.fault_kind.FaultKind.TheVariants as kinds
+use Rattle.cert_desk_bundle.specs.declared.standing.Standing.{Standing}
+use Rattle.cert_desk_bundle.specs.declared.standing.Standing.TheVariants as standings
 use Rattle.cert_desk_bundle.specs.declared.located.Located.{Located}
 use Rattle.cert_desk_bundle.specs.Chains.{Stands, joined, offset_at}
-use Rattle.cert_desk_bundle.specs.Faults.{whole_length}
-use Rattle.cert_desk_bundle.specs.Locations.{plain_of, certificates_of, IsPlacedAt, AreKept}
+use Rattle.cert_desk_bundle.specs.Headers.{IsContentAt}
+use Rattle.cert_desk_bundle.specs.Locations.{plain_of, certificates_of, IsPlacedAt, IsUnread, AreKept}
+use Rattle.cert_desk_bundle.proofs.Scans.{at_header, one_content}
 use Rattle.cert_desk_bundle.proofs.SeriesLaws.{each-more}
 use Rattle.cert_desk_bundle.proofs.Readings.{joined-more}
 
--- The parts of a certificate
+-- The fields of a certificate
 
--- a certificate's octets are a header, the signed part, and more
-pub record Parts (bound : ℕ) (c : PlainCertificate) : Type 0 where
-  pub number : ℕ
-  pub number_small : number < 2 ^ 32
-  pub start_is : signed_start bound c ≡ length (head_octets tags.Sequence number)
-  pub more : List ℕ
-  pub tbs_body : List ℕ
-  pub small : Fits tbs_body
-  pub signed : octets_of (raw_tbs_certificate bound) (tbs c) ≡ head_octets tags.Sequence (length tbs_body) ++ tbs_body
-  pub octets : certificate_octets bound c ≡ head_octets tags.Sequence number ++ (octets_of (raw_tbs_certificate bound) (tbs c) ++ more)
+-- what stands behind the signed part, and behind the header
+abbrev pub behind_signed : ℕ → PlainCertificate → List ℕ
+behind_signed bound c = octets_of (algorithm_identifier bound) c.1.0 ++ (octets_of bit_string c.1.1.0 ++ [])
 
-pub certificate-parts : (bound : ℕ) (c : PlainCertificate) → IsValid (raw_certificate bound) c → Parts bound c
-unfolding octets_of contents body_octets IsValid IsContent IsBody tlv signed_start
-certificate-parts bound c valid =
-    let tbs_body = body_octets (raw_tbs_fields bound) (tbs c) in
-    let body = body_octets (raw_certificate_fields bound) c in
-    record {
-      number = length body;
-      number_small = omega (arith, valid.2, length-append (head_octets tags.Sequence (length body)) body);
-      start_is = refl;
-      more = octets_of (algorithm_identifier bound) c.1.0 ++ (octets_of bit_string c.1.1.0 ++ []);
-      tbs_body = tbs_body;
-      small = omega (arith, valid.0.0.2, length-append (head_octets tags.Sequence (length tbs_body)) tbs_body);
-      signed = refl;
-      octets = refl;
-    }
+abbrev pub fields_octets : ℕ → PlainCertificate → List ℕ
+fields_octets bound c = octets_of (raw_tbs_certificate bound) (tbs c) ++ behind_signed bound c
+
+pub octets_by_fields : (bound : ℕ) (c : PlainCertificate) → certificate_octets bound c ≡ head_octets tags.Sequence (length (fields_octets bound c)) ++ fields_octets bound c
+unfolding octets_of contents body_octets tlv
+octets_by_fields bound c = refl
+
+pub start_by_fields : (bound : ℕ) (c : PlainCertificate) → signed_start bound c ≡ length (head_octets tags.Sequence (length (fields_octets bound c)))
+unfolding signed_start body_octets
+start_by_fields bound c = refl
 
 signed_length-is : (bound : ℕ) (c : PlainCertificate) → signed_length bound c ≡ length (octets_of (raw_tbs_certificate bound) (tbs c))
 unfolding signed_length
 signed_length-is bound c = refl
 
 -- the signed part, and what is behind it, in a certificate's octets
-pub behind_header : (bound : ℕ) (c : PlainCertificate) → (p : Parts bound c) → drop (signed_start bound c) (certificate_octets bound c) ≡ octets_of (raw_tbs_certificate bound) (tbs c) ++ p.more
-behind_header bound c p =
-    ap (λ (x : List ℕ). drop (signed_start bound c) x) p.octets
-    ∙ drop_at (head_octets tags.Sequence p.number) (octets_of (raw_tbs_certificate bound) (tbs c) ++ p.more) (signed_start bound c) (sym p.start_is)
+pub signed_in : (bound : ℕ) (c : PlainCertificate) → take (signed_length bound c) (drop (signed_start bound c) (certificate_octets bound c)) ≡ octets_of (raw_tbs_certificate bound) (tbs c)
+signed_in bound c =
+    let fields = fields_octets bound c in
+    let behind : drop (signed_start bound c) (certificate_octets bound c) ≡ fields =
+    ap (λ (x : List ℕ). drop (signed_start bound c) x) (octets_by_fields bound c) ∙ drop_at (head_octets tags.Sequence (length fields)) fields (signed_start bound c) (sym (start_by_fields bound c)) in
+    ap (λ (x : List ℕ). take (signed_length bound c) x) behind
+    ∙ take_at (octets_of (raw_tbs_certificate bound) (tbs c)) (behind_signed bound c) (signed_length bound c) (sym (signed_length-is bound c))
 
-pub signed_in : (bound : ℕ) (c : PlainCertificate) → IsValid (raw_certificate bound) c → take (signed_length bound c) (drop (signed_start bound c) (certificate_octets bound c)) ≡ octets_of (raw_tbs_certificate bound) (tbs c)
-signed_in bound c valid =
-    let p = certificate-parts bound c valid in
-    ap (λ (x : List ℕ). take (signed_length bound c) x) (behind_header bound c p)
-    ∙ take_at (octets_of (raw_tbs_certificate bound) (tbs c)) p.more (signed_length bound c) (sym (signed_length-is bound c))
+pub signed_within : (bound : ℕ) (c : PlainCertificate) → signed_start bound c + signed_length bound c ≤ length (certificate_octets bound c)
+signed_within bound c =
+    let fields = fields_octets bound c in
+    omega (arith, ap length (octets_by_fields bound c), length-append (head_octets tags.Sequence (length fields)) fields, length-append (octets_of (raw_tbs_certificate bound) (tbs c)) (behind_signed bound c), start_by_fields bound c, signed_length-is bound c)
 
-pub signed_within : (bound : ℕ) (c : PlainCertificate) → IsValid (raw_certificate bound) c → signed_start bound c + signed_length bound c ≤ length (certificate_octets bound c)
-signed_within bound c valid =
-    let p = certificate-parts bound c valid in
-    omega (arith, ap length p.octets, length-append (head_octets tags.Sequence p.number) (octets_of (raw_tbs_certificate bound) (tbs c) ++ p.more), length-append (octets_of (raw_tbs_certificate bound) (tbs c)) p.more, p.start_is, signed_length-is bound c)
+-- Fields that are read one after the other
 
--- What is read of them by the headers at the front
+pub fields_valid : (bound : ℕ) (c : PlainCertificate) → IsValid (raw_certificate bound) c → IsValid (raw_tbs_certificate bound) (tbs c) × IsValid (algorithm_identifier bound) c.1.0 × IsValid bit_string c.1.1.0
+unfolding IsValid IsContent IsBody
+fields_valid bound c valid = (valid.0.0, valid.0.1.0, valid.0.1.1.0)
 
-module _ (bound : ℕ) (c : PlainCertificate) (octets : List ℕ) (s : Spells (raw_certificate bound) c octets) where
-  pub read-header : (count len : ℕ) → ((n : ℕ) (w : List ℕ) → n < 2 ^ 32 → octets ≡ head_octets tags.Sequence n ++ w → (count ≡ length (head_octets tags.Sequence n)) × (len ≡ whole_length n)) → count ≡ signed_start bound c
-  read-header count len is =
-      let p = certificate-parts bound c s.valid in
-      (is p.number (octets_of (raw_tbs_certificate bound) (tbs c) ++ p.more) p.number_small (s.octets ∙ p.octets)).0 ∙ sym p.start_is
+pub valid_of : (bound : ℕ) (c : PlainCertificate) → IsValid (raw_tbs_certificate bound) (tbs c) → IsValid (algorithm_identifier bound) c.1.0 → IsValid bit_string c.1.1.0 → Fits (certificate_octets bound c) → IsValid (raw_certificate bound) c
+unfolding IsValid IsContent IsBody octets_of
+valid_of bound c t a b fits = ((t, (a, (b, tt))), omega arith, fits)
 
-  pub header_within : (header : ℕ) → header ≡ signed_start bound c → header ≤ length octets
-  header_within header e = omega (arith, signed_within bound c s.valid, ap length s.octets)
+pub signed_by_fields : (c : PlainCertificate) (content behind : List ℕ) → content ≡ octets_of (raw_tbs_certificate Bound) (tbs c) ++ behind → length content - length behind ≡ signed_length Bound c
+signed_by_fields c content behind e = omega (arith, signed_length-is Bound c, ap length e, length-append (octets_of (raw_tbs_certificate Bound) (tbs c)) behind)
 
-  pub read-signed : (header count len : ℕ) → header ≡ signed_start bound c
-      → ((n : ℕ) (w : List ℕ) → n < 2 ^ 32 → drop header octets ≡ head_octets tags.Sequence n ++ w → (count ≡ length (head_octets tags.Sequence n)) × (len ≡ whole_length n)) → len ≡ signed_length bound c
-  read-signed header count len e is =
-      let p = certificate-parts bound c s.valid in
-      let there : drop header octets ≡ head_octets tags.Sequence (length p.tbs_body) ++ (p.tbs_body ++ p.more) =
-      ap (λ (n : ℕ). drop n octets) e ∙ ap (λ (x : List ℕ). drop (signed_start bound c) x) s.octets ∙ behind_header bound c p
-      ∙ ap (λ (x : List ℕ). x ++ p.more) p.signed ∙ append_assoc (head_octets tags.Sequence (length p.tbs_body)) p.tbs_body p.more in
-      omega (arith, (is (length p.tbs_body) (p.tbs_body ++ p.more) p.small there).1, signed_length-is bound c, ap length p.signed, length-append (head_octets tags.Sequence (length p.tbs_body)) p.tbs_body)
+-- why there is no certificate, where something isn't read for another reason than out of memory
+pub unread : (octets : List ℕ) (standing : Standing) (k : ErrorKind) → (standing ≡ standings.NoMemory) ⊎ ((standing ≡ standings.Faulted kinds.Malformed) × (k ≢ errors.OutOfMemory))
+    → (k ≢ errors.OutOfMemory → (c : PlainCertificate) → Spells (raw_certificate Bound) c octets → ⊥) → IsUnread octets standing
+unread octets standing k (inl m) none = inl m
+unread octets standing k (inr f) none = inr (f.0, none f.1)
+
+module _ (octets : List ℕ) (start : ℕ) (at : IsContentAt octets start) where
+  pub start_within : start ≤ length octets
+  start_within = omega (arith, at.start_is, ap length at.whole, length-append (head_octets tags.Sequence (length (drop start octets))) (drop start octets))
+
+  pub rest_fits : Fits (drop start octets)
+  rest_fits = omega (arith, at.fits, length-drop start octets)
+
+  -- what stands behind the header of a certificate that has these octets
+  pub fields_there : (c : PlainCertificate) → Spells (raw_certificate Bound) c octets → drop start octets ≡ fields_octets Bound c
+  fields_there c s =
+      let fields = fields_octets Bound c in
+      let there : octets ≡ head_octets tags.Sequence (length fields) ++ fields = s.octets ∙ octets_by_fields Bound c in
+      let small : length fields < 2 ^ 32 = omega (arith, at.fits, ap length there, length-append (head_octets tags.Sequence (length fields)) fields) in
+      one_content (length (drop start octets)) (length fields) (drop start octets) fields
+      (sym (ap head_at at.whole ∙ at_header (length (drop start octets)) (drop start octets) (omega (arith, rest_fits))) ∙ (ap head_at there ∙ at_header (length fields) fields small))
+
+  pub second_fits : (c : PlainCertificate) → Spells (raw_certificate Bound) c octets → Fits (behind_signed Bound c)
+  second_fits c s = omega (arith, rest_fits, ap length (fields_there c s), length-append (octets_of (raw_tbs_certificate Bound) (tbs c)) (behind_signed Bound c))
+
+  -- fields that stand there one after the other are a certificate's
+  pub fields_spell : (c : PlainCertificate) → IsValid (raw_tbs_certificate Bound) (tbs c) → IsValid (algorithm_identifier Bound) c.1.0 → IsValid bit_string c.1.1.0
+      → drop start octets ≡ fields_octets Bound c → (Spells (raw_certificate Bound) c octets) × (start ≡ signed_start Bound c)
+  fields_spell c t a b e =
+      let is : octets ≡ certificate_octets Bound c = at.whole ∙ ap (λ (w : List ℕ). head_octets tags.Sequence (length w) ++ w) e ∙ sym (octets_by_fields Bound c) in
+      let fits : Fits (certificate_octets Bound c) = omega (arith, at.fits, ap length is) in
+      (record { valid = valid_of Bound c t a b fits; octets = is }, at.start_is ∙ ap (λ (w : List ℕ). length (head_octets tags.Sequence (length w))) e ∙ sym (start_by_fields Bound c))
 
 -- No certificate, and one more
 

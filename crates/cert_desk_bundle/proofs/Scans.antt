@@ -10,7 +10,7 @@ use Rattle.der_core_head.specs.declared.tag.Tag.TheVariants as tags
 use Rattle.der_core_head.specs.Octets.{◌>>=◌}
 use Rattle.der_core_head.specs.Tags.{universal_tag, tag_octets, tag_at}
 use Rattle.der_core_head.specs.Heads.{Head, length_octets, head_octets, tlv, Fits, length_at, head_at}
-use Rattle.der_core_head.specs.Shapes.{Shape, Body, Value, sequence, IsValid, octets_of, body_octets, contents}
+use Rattle.der_core_head.specs.Shapes.{Shape, Body, Value, sequence, IsValid, Spells, octets_of, body_octets, contents}
 use Rattle.der_core_head.proofs.Results.{IsBytes, ok_is, bind_ok}
 use Rattle.der_core_head.proofs.HeadLaws.{head_again, head_sound, length_at-short, length_at-indefinite, length_at-large, length_at-cut}
 use Rattle.der_core_head.proofs.LeafLaws.{read_stays}
@@ -20,7 +20,7 @@ use Rattle.cert_desk_bundle.specs.declared.fault_kind.FaultKind.{FaultKind}
 use Rattle.cert_desk_bundle.specs.declared.fault_kind.FaultKind.TheVariants as kinds
 use Rattle.cert_desk_bundle.specs.Series.{MayStand}
 use Rattle.cert_desk_bundle.specs.Faults.{whole_length, Says, rank, NoneBefore, IsFault}
-use Rattle.cert_desk_bundle.specs.Headers.{IsUnfinished, HasWhole, Awaits, IsWanted, IsEarlyFault, fault_of}
+use Rattle.cert_desk_bundle.specs.Headers.{IsUnfinished, HasWhole, Awaits, IsContentAt, IsWanted, IsEarlyFault, fault_of}
 
 -- Headers behind the octet of a SEQUENCE
 
@@ -467,20 +467,40 @@ module _ (limit offset : ℕ) (rest : List ℕ) (some : 1 ≤ length rest) (firs
   pub wanted_cut : 6 ≤ limit → offset < 2 ^ 64 → Scans rest (Ok None) → IsWanted limit offset rest (length rest + 1)
   wanted_cut room below h = record { whole = λ long. absurd (omega arith); awaits = λ short. awaits_header limit offset room below rest (drop 1 rest) at_front h }
 
-module _ (rest w : List ℕ) (n : ℕ) (small : n < 2 ^ 32) (e : rest ≡ head_octets tags.Sequence n ++ w) where
-  there : head_at rest ≡ header n w
-  there = ap head_at e ∙ at_header n w small
+-- All of the octets
 
-  pub sequence_read : (x : Header × ℕ) → Scans rest (Ok (Some x)) → (x.1 ≡ length (head_octets tags.Sequence n)) × (x.1 + x.0.length.value ≡ whole_length n)
-  sequence_read x h =
-      let both = ok_is (head_of x.0, drop x.1 rest) (record { tag = tags.Sequence; len = n }, w) (sym h.0 ∙ there) in
-      let number : x.0.length.value ≡ n = ap (λ (q : Head × List ℕ). q.0.len) both in
-      let left : drop x.1 rest ≡ w = ap (λ (q : Head × List ℕ). q.1) both in
-      let count : x.1 ≡ length (head_octets tags.Sequence n) = omega (arith, h.1, length-drop x.1 rest, ap length left, ap length e, length-append (head_octets tags.Sequence n) w) in
-      (count, omega arith)
+-- where the content begins of what was scanned, if that is all of them
+pub content_at : (rest : List ℕ) → 1 ≤ length rest → get_or rest 0 0 ≡ 0x30 → IsBytes rest → (x : Header × ℕ) → Scans rest (Ok (Some x))
+    → x.1 + x.0.length.value ≡ length rest → length rest < 2 ^ 32 → IsContentAt rest x.1
+content_at rest some first bytes x h all small =
+    let is = headed rest (drop 1 rest) (first_is rest some first) bytes x h in
+    let n : x.0.length.value ≡ length (drop x.1 rest) = omega (arith, all, h.1, length-drop x.1 rest) in
+    record {
+      fits = omega arith;
+      whole = is.octets ∙ ap (λ (m : ℕ). head_octets tags.Sequence m ++ drop x.1 rest) n;
+      start_is = is.count_is ∙ ap (λ (m : ℕ). length (head_octets tags.Sequence m)) n;
+    }
 
-  pub sequence_not_cut : Scans rest (Ok None) → ⊥
-  sequence_not_cut h = cc (h, there)
+module _ (rest : List ℕ) (fields : Body) (v : Value (sequence fields)) (s : Spells (sequence fields) v rest) where
+  all_of : Begun fields rest v []
+  all_of = begun fields rest v [] s.valid (rw append-nil s.octets)
 
-  pub sequence_not_refused : (k : Error) → Scans rest (Err k) → ⊥
-  sequence_not_refused k h = cc (h.0, there)
+  pub spelled_some : length rest < 1 → ⊥
+  spelled_some none = omega (arith, none, ap length all_of.first)
+
+  pub spelled_first : get_or rest 0 0 ≡ 0x30
+  spelled_first = ap (λ (l : List ℕ). get_or l 0 0) all_of.first
+
+  pub spelled_read : (k : ErrorKind) → head_at rest ≡ Err k → ⊥
+  spelled_read k e = cc (e, all_of.read)
+
+  pub spelled_small : length rest < 2 ^ 32
+  spelled_small = omega (arith, value-fits fields v s.valid, ap length s.octets)
+
+  pub spelled_whole : (x : Header × ℕ) → Scans rest (Ok (Some x)) → x.1 + x.0.length.value ≡ length rest
+  spelled_whole x h =
+      let body = all_of.body in
+      let both = ok_is (record { tag = tags.Sequence; len = length body }, body ++ []) (head_of x.0, drop x.1 rest) (sym all_of.read ∙ h.0) in
+      let number : length body ≡ x.0.length.value = ap (λ (q : Head × List ℕ). q.0.len) both in
+      let left : body ++ [] ≡ drop x.1 rest = ap (λ (q : Head × List ℕ). q.1) both in
+      omega (arith, h.1, number, ap length left, length-append body [], length-drop x.1 rest)

@@ -1,9 +1,9 @@
 -- What stands where a value behind a SEQUENCE tag should: too few octets, a fault, or all of it.
-use Rattle.std.specs.Prelude.{◌≡◌, ◌≢◌, ℕ, ◌+◌, ◌≤◌, ◌<◌, ◌^◌, List, ◌++◌, length}
+use Rattle.std.specs.Prelude.{◌≡◌, ◌≢◌, ℕ, ◌+◌, ◌≤◌, ◌<◌, ◌^◌, List, ◌++◌, length, drop}
 use Rattle.der_core_head.specs.declared.error.ErrorKind.{ErrorKind}
 use Rattle.der_core_head.specs.declared.error.ErrorKind.TheVariants as errors
 use Rattle.der_core_head.specs.declared.tag.Tag.TheVariants as tags
-use Rattle.der_core_head.specs.Heads.{head_octets}
+use Rattle.der_core_head.specs.Heads.{head_octets, Fits}
 use Rattle.der_core_head.specs.Shapes.{Shape, Body, Value, octets_of, sequence}
 use Rattle.cert_desk_bundle.specs.declared.fault_kind.FaultKind.{FaultKind}
 use Rattle.cert_desk_bundle.specs.declared.fault_kind.FaultKind.TheVariants as kinds
@@ -36,6 +36,13 @@ pub record Awaits (limit offset : ℕ) (rest : List ℕ) (wanted : ℕ) : Type 0
   pub unfinished : (b : Body) (more : List ℕ) → length (rest ++ more) < wanted
       → IsUnfinished (sequence b) limit offset (rest ++ more)
   pub exact : (more : List ℕ) (len : ℕ) → HasWhole limit offset (rest ++ more) len → wanted ≤ len
+
+-- these octets are a SEQUENCE whose content begins there
+pub record IsContentAt (octets : List ℕ) (start : ℕ) : Type 0 where
+  pub fits : Fits octets
+  pub whole : octets
+      ≡ head_octets tags.Sequence (length (drop start octets)) ++ drop start octets
+  pub start_is : start ≡ length (head_octets tags.Sequence (length (drop start octets)))
 
 -- so many octets have to be there: where they are, all of it is there
 pub record IsWanted (limit offset : ℕ) (rest : List ℕ) (wanted : ℕ) : Type 0 where

@@ -1,14 +1,17 @@
 // A certificate of a stream, with its own octets.
-ghost use Rattle.std.specs.Prelude.{◌≡◌, IfOk, IfErr};
+ghost use Rattle.std.specs.Prelude.{◌≡◌, ◌≢◌, ◌⊎◌, IfOk, IfErr};
 ghost use Rattle.cert_desk_bundle.specs.Locations.{IsPlacedAt, IsUnread};
 
 use crate::fault_kind::FaultKind;
-use crate::scan::sequence_len;
+use crate::scan::content_start;
 use crate::standing::Standing;
 use der_core::making::is_want_of_memory;
+use der_core::{Error, ErrorKind, FromDer};
+use der_types_values::BitString;
 use std::alloc::Global;
-use x509_cert_certificates::CertificateInner;
-use x509_cert_parts::Raw;
+use x509_cert_certificates::assembling::certificate_of;
+use x509_cert_certificates::{CertificateInner, TbsCertificateInner};
+use x509_cert_parts::{AlgorithmIdentifier, Raw};
 
 /// A certificate, its octets, and where it stands.
 #[derive(Drop)]
@@ -23,22 +26,30 @@ pub struct Located {
 }
 
 impl Located {
-    // The certificate that has these octets, which begin at this offset.
+    // The certificate that has these octets, which begin at this offset. Its fields are read one
+    // after the other and put together here, so that they are moved through fewer results.
     pub fn read(alloc: Global, offset: u64, octets: Vec<u8>) -> Result<Located, Standing>
         ensures read { IfOk result (IsPlacedAt offset octets.items) }
         ensures unread { IfErr result (IsUnread octets.items) }
     {
-        let certificate = match CertificateInner::<Raw>::from_der(alloc, octets.as_slice()) {
-            Ok(certificate) => certificate,
-            Err(error) => {
-                if is_want_of_memory(&error) {
-                    return Err(Standing::NoMemory);
-                }
-                return Err(Standing::Faulted(FaultKind::Malformed));
-            }
+        let Some(header) = content_start(&octets) else {
+            return Err(Standing::Faulted(FaultKind::Malformed));
         };
-        let (header, _) = sequence_len(&octets);
-        let (_, signed) = sequence_len(&octets[header..]);
+        let content = &octets[header..];
+        let (part, behind) = match TbsCertificateInner::<Raw>::from_der_partial(alloc, content) {
+            Ok(front) => front,
+            Err(error) => return Err(standing_of(&error)),
+        };
+        let signed = content.len() - behind.len();
+        let (algorithm, last) = match AlgorithmIdentifier::from_der_partial(alloc, behind) {
+            Ok(front) => front,
+            Err(error) => return Err(standing_of(&error)),
+        };
+        let signature = match BitString::from_der(alloc, last) {
+            Ok(signature) => signature,
+            Err(error) => return Err(standing_of(&error)),
+        };
+        let certificate = certificate_of(part, algorithm, signature);
         Ok(Located {
             offset,
             octets,
@@ -47,4 +58,15 @@ impl Located {
             certificate,
         })
     }
+}
+
+// How a bundle stands that has no certificate for this reason.
+fn standing_of(error: &Error) -> Standing
+    ensures { (result ≡ Standing.NoMemory) ⊎ ((result ≡ Standing.Faulted FaultKind.Malformed)
+        × (error.now.kind ≢ ErrorKind.OutOfMemory)) }
+{
+    if is_want_of_memory(error) {
+        return Standing::NoMemory;
+    }
+    Standing::Faulted(FaultKind::Malformed)
 }

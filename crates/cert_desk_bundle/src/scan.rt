@@ -1,9 +1,7 @@
 // Where a certificate ends, by the header at its front.
-ghost use Rattle.std.specs.Prelude.{◌≡◌, ℕ, ◌<◌, ◌≤◌, ◌^◌, List, ◌++◌, length, IfOk, IfErr};
-ghost use Rattle.der_core_head.specs.declared.tag.Tag.TheVariants as tags;
-ghost use Rattle.der_core_head.specs.Heads.{head_octets};
-ghost use Rattle.cert_desk_bundle.specs.Faults.{whole_length};
-ghost use Rattle.cert_desk_bundle.specs.Headers.{fault_of, IsWanted, IsEarlyFault};
+ghost use Rattle.std.specs.Prelude.{◌≡◌, ◌≤◌, IfOk, IfErr, IfSome, IfNone};
+ghost use Rattle.der_core_head.specs.Shapes.{Body, Value, Spells, sequence};
+ghost use Rattle.cert_desk_bundle.specs.Headers.{fault_of, IsContentAt, IsWanted, IsEarlyFault};
 
 use crate::fault_kind::FaultKind;
 use der_core::{ErrorKind, Header};
@@ -44,14 +42,29 @@ pub fn wanted_len(octets: &[u8], offset: u64, limit: u32) -> Result<usize, Fault
     Ok(len as usize)
 }
 
-// How many octets the header takes of a SEQUENCE that begins these, and how many all of it.
-pub fn sequence_len(octets: &[u8]) -> (usize, usize)
-    ensures { (n : ℕ) (w : List ℕ) → n < 2 ^ 32 → octets.now ≡ head_octets tags.Sequence n ++ w
-        → (result.0 ≡ length (head_octets tags.Sequence n)) × (result.1 ≡ whole_length n) }
+// Where the content begins of a SEQUENCE that all of these octets are, if they are one.
+pub fn content_start(octets: &[u8]) -> Option<usize>
+    ensures content { IfSome result (IsContentAt octets.now) }
+    ensures none { IfNone result ((b : Body) (v : Value (sequence b))
+        → Spells (sequence b) v octets.now → ⊥) }
 {
-    match Header::scan(octets) {
-        Ok(Some((header, count))) => (count, count + header.length.value as usize),
-        Ok(None) => (0, 0),
-        Err(_) => (0, 0),
+    let [first, ..] = octets else {
+        return None;
+    };
+    if *first != 0x30 {
+        return None;
     }
+    let (header, count) = match Header::scan(octets) {
+        Ok(Some(front)) => front,
+        Ok(None) => return None,
+        Err(_) => return None,
+    };
+    let len = count as u64 + u64::from(header.length.value);
+    if len != octets.len() as u64 {
+        return None;
+    }
+    if len > u64::from(u32::MAX) {
+        return None;
+    }
+    Some(count)
 }

@@ -27,12 +27,12 @@ placed c = c.self.invariant.kept.places c.args.place c.in-Some.located.now (ther
 pub overflow_add-result : goal.overflow_add-result
 overflow_add-result c =
     let p = placed (goal.at.overflow_add-result c).In-Some in
-    omega (arith, signed_within Bound (plain_of c.in-Some.located.now) p.spelled.valid, p.header, p.signed, ap length p.octets_are, ap length c.deref-3.ensures.value, c.deref-3.type_inv)
+    omega (arith, signed_within Bound (plain_of c.in-Some.located.now), p.header, p.signed, ap length p.octets_are, ap length c.deref-3.ensures.value, c.deref-3.type_inv)
 
 pub slice_bounds-result-end : goal.slice_bounds-result-end
 slice_bounds-result-end c =
     let p = placed (goal.at.slice_bounds-result-end c).In-Some in
-    omega (arith, signed_within Bound (plain_of c.in-Some.located.now) p.spelled.valid, p.header, p.signed, ap length p.octets_are, ap length c.deref-3.ensures.value)
+    omega (arith, signed_within Bound (plain_of c.in-Some.located.now), p.header, p.signed, ap length p.octets_are, ap length c.deref-3.ensures.value)
 
 pub returns-clause-entry : goal.returns-clause-entry
 returns-clause-entry c =
@@ -51,6 +51,6 @@ returns-clause-entry c =
           ∙ ap (λ (x : List ℕ). take l.signed (drop l.header x)) own
           ∙ ap (λ (n : ℕ). take n (drop l.header (certificate_octets Bound (plain_of l)))) p.signed
           ∙ ap (λ (n : ℕ). take (signed_length Bound (plain_of l)) (drop n (certificate_octets Bound (plain_of l)))) p.header
-          ∙ signed_in Bound (plain_of l) p.spelled.valid;
+          ∙ signed_in Bound (plain_of l);
       offset = p.offset_is ∙ ap (λ (cs : List PlainCertificate). offset_at Bound cs c.args.place) (sym kept);
     }
