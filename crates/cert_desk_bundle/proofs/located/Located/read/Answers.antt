@@ -7,7 +7,7 @@ use Rattle.der_core_head.specs.Shapes.{Value, octets_of}
 use Rattle.x509_cert_parts.specs.Grammar.{algorithm_identifier, bit_string}
 use Rattle.x509_cert_parts.specs.Views.{algorithm_plain}
 use Rattle.x509_cert_certificates.specs.Certificates.{PlainCertificate, Tbs, raw_tbs_certificate, tbs}
-use Rattle.x509_cert_certificates.specs.Views.{certificate_plain, tbs_plain}
+use Rattle.x509_cert_certificates.specs.Views.{tbs_plain}
 use Rattle.cert_desk_bundle.specs.Headers.{IsContentAt}
 use Rattle.cert_desk_bundle.proofs.LocationLaws.{behind_signed, fields_valid, fields_there, fields_spell, rest_fits, second_fits, signed_by_fields, unread}
 use Rattle.cert_desk_bundle.proofs.located.Located.read.Goals as goal
