@@ -16,8 +16,8 @@ pub struct Heard {
 }
 
 impl Heard {
-    // What answers say.
-    pub(crate) fn of(alloc: Global, answers: &[Answer]) -> Result<Heard, AllocError> {
+    /// What answers say.
+    pub fn of(alloc: Global, answers: &[Answer]) -> Result<Heard, AllocError> {
         let mut signed = BTreeMap::new(alloc);
         for answer in answers {
             let octets = answer.signed.as_slice().to_vec(alloc)?;
