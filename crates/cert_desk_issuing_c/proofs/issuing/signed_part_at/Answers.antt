@@ -12,12 +12,12 @@ pub returns-then-place-certificates-clause-refused : goal.returns-then-place-cer
 returns-then-place-certificates-clause-refused c =
     inl (refl, beyond (λ c. as_written (certificate_plain c)) c.certificates-certificates.result.now c.in_ok-issued.issued.certificates c.args.place c.certificates-certificates.ensures c.args.orders.now c.args.algorithm.now [] c.in_ok-issued.ensures.issued (omega arith))
 
-pub returns-in-Ok-to_der-clause-made : goal.returns-in-Ok-to_der-clause-made
-returns-in-Ok-to_der-clause-made c =
+pub returns-in-Ok-clause-made : goal.returns-in-Ok-clause-made
+returns-in-Ok-clause-made c =
     let it = as_written (certificate_plain c.index-certificates-place.result) in (
       c.in_ok-issued.issued.certificates,
       it,
       c.in_ok-issued.ensures.issued,
       at_place (λ c. as_written (certificate_plain c)) c.certificates-certificates.result.now c.in_ok-issued.issued.certificates c.args.place c.certificates-certificates.ensures c.index-certificates-place.result (omega arith) c.index-certificates-place.is,
-      c.in-Ok-to_der.ensures.octets.0 ∙ ap (λ (t : Tbs). octets_of (tbs_certificate Bound (Some 21)) (tbs_by true t)) c.tbs_certificate.ensures ∙ raw_octets (tbs it),
+      c.in-Ok.ensures.octets.0 ∙ ap (λ (t : Tbs). octets_of (tbs_certificate Bound (Some 21)) (tbs_by true t)) c.tbs_certificate.ensures ∙ raw_octets (tbs it),
     )
