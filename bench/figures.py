@@ -41,8 +41,10 @@ def figures():
         proofs = (minutes.get(crate, (0, 0))[0] for crate in sources.closure([name]))
         return f"{sum(proofs):.0f}"
 
-    yield "README.md", r"# without: (\S+) minutes of processor more", [first("cert_desk")]
-    yield "README.md", r"`N passed, 0 failed`;\s(\S+)\stook\s(\S+)\sminutes", [version, spent]
+    told = r"Proving\sthe\slibraries\stakes\s(\S+)\sminutes"
+    yield "README.md", told, [first("cert_desk")]
+    told = r"`N passed, 0 failed`;\s(\S+)\stook\s(\S+)\sminutes\s[^(]*\(([\d-]+)\)"
+    yield "README.md", told, [version, spent, day]
     for name in ("const_oid", "der_core", "der_types", "x509_cert", "cert_desk"):
         yield "docs/GUIDE.md", rf"(?m)^\|[^|]+\| `{name}`\|[^|]+\| ([^\s|]+)\|$", [first(name)]
     told = r"in\sminutes\sof\sprocessor\s\((\S+),\s([\d-]+)\)"

@@ -1,6 +1,6 @@
 #!/usr/bin/env python3
 """Lays out documents: lines of at most 100 columns, but for tables and fenced blocks; the bars of a
-table stand at its words, so that `wc -w` counts words alone.
+table stand at its words.
 
     tools/wrap.py FILE..            lays out each file in place
     tools/wrap.py --check FILE..    changes nothing; its status is 1 where a line is too long

@@ -17,14 +17,14 @@ fn main(rt: HostRuntime) -> io::Result<()> {
     }
 }
 
-/// A certificate's subject.
+/// Returns the subject of a certificate, and the subject's common name.
 fn described(alloc: Global, octets: &[u8]) -> Result<String> {
     let certificate = CertificateInner::<Raw>::from_der(alloc, octets)?;
     let subject = certificate.tbs_certificate().subject();
     lines_of(alloc, subject)
 }
 
-/// A name (RFC 4514), and its common name.
+/// Returns a name as text (RFC 4514), and its common name.
 fn lines_of(alloc: Global, subject: &Name) -> Result<String> {
     let common_name = subject.common_name(alloc)?;
     let common_name = common_name.as_ref().map_or("none", |name| name.as_str());
