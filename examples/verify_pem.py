@@ -3,20 +3,26 @@
 
     examples/verify_pem.py ROOTS CHAIN [--at TIME] [--purpose PURPOSE] [--tool CERT_TOOL]
 
-ROOTS holds the certificates that are trusted (/etc/ssl/certs/ca-certificates.crt, say); CHAIN the
-server's certificate first and its issuers behind it. Text around the certificates is passed over,
-and so is what stands behind the first certificate of CHAIN that a name of ROOTS issued: the root
-itself, or one for its key by another root. TIME and PURPOSE are those of `cert_tool verify`: now
-and serverAuth, where nothing is said.
+ROOTS holds the certificates that are trusted (/etc/ssl/certs/ca-certificates.crt, say). CHAIN holds
+the server's certificate first, then its issuer, then that one's issuer, and so on. Text around the
+certificates is ignored. TIME and PURPOSE are those of `cert_tool verify`; the defaults are now and
+serverAuth.
 
-It turns the chain round, has `cert_tool questions` say what its signatures ask, `answer.py` answer,
-and `cert_tool verify` judge; of a chain that isn't trusted, or that can't be read, it prints what
-`cert_tool explain` says. The status is that of `cert_tool verify`: 0 where the chain is trusted, 1
-where it breaks a rule, others as docs/CLI.md says; 4 also where a file holds no certificate in PEM,
-and 5 where a file or a program is missing.
+The first certificate of CHAIN is always the one that is judged. What stands after the first
+certificate that a name of ROOTS issued isn't needed: the root itself, or a certificate for the same
+name by another root. Each certificate that is left out is named on the error output. A file in
+another order is refused: every certificate after the first has to be the issuer of one before it.
+Names are compared byte for byte.
+
+The script reverses the chain, runs `cert_tool questions`, has `answer.py` answer, and runs
+`cert_tool verify`. If the chain isn't trusted, or can't be read, it prints what `cert_tool explain`
+says. The status is that of `cert_tool verify`: 0 if the chain is trusted, 1 if it breaks a rule,
+others as docs/CLI.md says. It is 4 also if a file holds no certificate in PEM, or if CHAIN stands
+in another order, and 5 if a file or a program is missing.
 """
 
 import argparse
+import json
 import pathlib
 import ssl
 import subprocess
@@ -55,6 +61,36 @@ def certificates(file):
     return found
 
 
+def parts(octets):
+    """The encodings that follow each other in these octets, each with its content."""
+    while octets:
+        start, length = 2, octets[1]
+        if length & 0x80:
+            start += length & 0x7F
+            length = int.from_bytes(octets[2:start], "big")
+        yield octets[: start + length], octets[start : start + length]
+        octets = octets[start + length :]
+
+
+class Certificate:
+    """A certificate that `cert_tool` can read: its number in the file, its bytes and its names."""
+
+    def __init__(self, number, octets, described):
+        self.number = number
+        self.octets = octets
+        # The names as text, for messages: no control character reaches the terminal.
+        self.issuer_text, self.subject_text = (
+            json.dumps(described[name]["text"])[1:-1] for name in ("issuer", "subject")
+        )
+        # The names as bytes (RFC 5280 4.1): version if any, serialNumber, signature, issuer, ..
+        signed = next(parts(next(parts(octets))[1]))[1]
+        fields = [whole for whole, _ in parts(signed) if whole[0] != 0xA0]
+        self.issuer, self.subject = fields[2], fields[4]
+
+    def __str__(self):
+        return f"certificate {self.number} ({self.subject_text or 'without a name'})"
+
+
 class Run:
     """Runs of the program over files of one folder."""
 
@@ -68,16 +104,39 @@ class Run:
     def tool_says(self, *words):
         return subprocess.run([self.tool, *words], cwd=self.folder, capture_output=True)
 
+    def read(self, file, encodings):
+        """The certificates of a file; stops at the first that isn't one."""
+        chain = []
+        for number, octets in enumerate(encodings, 1):
+            self.write("certificate.der", octets)
+            described = self.tool_says("describe", "certificate", "--json", "certificate.der")
+            if described.returncode:
+                print(f"verify_pem.py: {file}: certificate {number} can't be read", file=sys.stderr)
+                self.end_as(described, {FAULTY: ("certificate", "certificate.der")})
+            chain.append(Certificate(number, octets, json.loads(described.stdout)))
+        return chain
+
     def asked(self, chain):
-        """The questions of a chain, the server's certificate first, which is written as a stream up
-        to the first certificate that an anchor's name issued, or whole."""
+        """Writes the chain up to the first certificate that a name of an anchor issued, or whole.
+        Returns the questions of that chain, and how many certificates it has."""
         for count in range(1, len(chain) + 1):
-            self.write("chain.der", b"".join(reversed(chain[:count])))
+            stream = b"".join(certificate.octets for certificate in reversed(chain[:count]))
+            self.write("chain.der", stream)
             asked = self.tool_says("questions", "chain.der", "--anchors", "anchors.der")
-            # a line of place 0 stands first, where there is one
-            if asked.returncode or asked.stdout.startswith(b"0 "):
+            if asked.returncode:
+                faulty = {FAULTY: ("stream", "chain.der"), ARGUMENTS: ("anchors", "anchors.der")}
+                self.end_as(asked, faulty)
+            # A line of place 0 stands first, if there is one.
+            if asked.stdout.startswith(b"0 "):
                 break
-        return asked
+        return asked.stdout, count
+
+    def end_as(self, said, faulty):
+        """Ends with the status of a run that failed, and explains the file that is faulty then."""
+        # The files that the error output names are gone afterwards.
+        words = faulty.get(said.returncode)
+        pass_on(self.tool_says("explain", *words) if words else said)
+        sys.exit(said.returncode)
 
     def answers(self, questions):
         said = subprocess.run(
@@ -86,6 +145,30 @@ class Run:
         if said.returncode:
             sys.exit(DEVICE)
         return said.stdout
+
+
+def compare_order(file, chain, count):
+    """Stops unless each of the first certificates is the issuer of the one before it, and each
+    further one the issuer of any before it."""
+    for place in range(1, len(chain)):
+        here = chain[place]
+        issued = chain[place - 1 : place] if place < count else chain[:place]
+        if any(here.subject == other.issuer for other in issued):
+            continue
+        fault = f"isn't the issuer of {chain[place - 1]}"
+        issuer = next((other for other in chain[:place] if other.subject == here.issuer), None)
+        if issuer:
+            fault = f"stands after its issuer, {issuer}"
+        order = "the server's certificate has to be first, and each issuer after what it issued"
+        stop(ARGUMENTS, f"{file}: {here} {fault}; {order}")
+
+
+def tell_left_out(chain, count):
+    """Names each certificate that isn't needed."""
+    last = chain[count - 1]
+    for certificate in chain[count:]:
+        why = f"ROOTS has the issuer of {last}: {last.issuer_text}"
+        print(f"left out: {certificate}, since {why}", file=sys.stderr)
 
 
 def pass_on(said):
@@ -107,23 +190,20 @@ def main():
     tool = pathlib.Path(words.tool).absolute()
     if not tool.is_file():
         stop(DEVICE, f"{tool} is missing: `rt run -- --help` in crates/cert_tool builds it")
-    roots, chain = certificates(words.roots), certificates(words.chain)
+    roots, encodings = certificates(words.roots), certificates(words.chain)
     with tempfile.TemporaryDirectory() as folder:
         run = Run(tool, pathlib.Path(folder))
         run.write("anchors.der", b"".join(roots))
-        asked = run.asked(chain)
-        if asked.returncode:
-            # the files that the error output names are gone afterwards
-            faulty = {FAULTY: ("stream", "chain.der"), ARGUMENTS: ("anchors", "anchors.der")}
-            words = faulty.get(asked.returncode)
-            pass_on(run.tool_says("explain", *words) if words else asked)
-            sys.exit(asked.returncode)
-        run.write("answers", run.answers(asked.stdout))
+        chain = run.read(words.chain, encodings)
+        questions, count = run.asked(chain)
+        compare_order(words.chain, chain, count)
+        tell_left_out(chain, count)
+        run.write("answers", run.answers(questions))
         files = ["chain.der", "--anchors", "anchors.der", "--answers", "answers"]
         terms = ["--at", words.at, "--purpose", words.purpose]
         verified = run.tool_says("verify", *files, *terms)
         if verified.returncode == REFUSED:
-            # what `verify` hints at on the error output is told here
+            # What `verify` hints at on the error output is told here
             verified.stderr = b""
         pass_on(verified)
         if verified.returncode == REFUSED:
