@@ -4,8 +4,8 @@ compares each answer with what stands there.
 
     audit/served.py CERT_TOOL    the status is 1 where an answer differs
     audit/served.py --write      writes what the gate runs crates/cert_tool on, and what it has to
-                                 answer (stdin, stdout): these rows, a request without words, and
-                                 one that is cut
+                                 answer (stdin, stdout): these rows, files with names that a
+                                 hint quotes, a request without words, and one that is cut
     audit/served.py --check      the status is 1 where these aren't what it would write
 
 A row is words with one blank between them. Behind it stand the lines of the output, or its octets
@@ -22,6 +22,15 @@ import sys
 TOP = pathlib.Path(__file__).resolve().parents[1]
 TOOL = TOP / "crates" / "cert_tool"
 DATA = TOOL / "data"
+# Names of files, and the word of a shell that a hint has for each, if it has one.
+HINTED = [
+    ("$(id)`id`.der", "'$(id)`id`.der'"),
+    ("it's;id", "'it'\\''s;id'"),
+    ("a b\\\"!", "'a b\\\"!'"),
+    ("A_z-0./:@%+,", "A_z-0./:@%+,"),
+    ("\x1b[2J", None),
+    ("\u202e", None),
+]
 
 
 def frame(octets):
@@ -82,10 +91,20 @@ def told(row):
     return answer(status, written(output), text(errors))
 
 
+def hinted():
+    """Requests about files of these names, none a stream, and their answers."""
+    for name, word in HINTED:
+        words, file = frame(f"split\n{name}".encode()), frame(name.encode()) + frame(b"1")
+        errors = ["fault 0 0 NoCertificate"]
+        end = f" {word}" if word else ", with this file"
+        errors.append(f"(why: cert_tool explain stream --limit 65536{end})")
+        yield frame(words + file), answer(2, b"", text(errors))
+
+
 def run_on():
     """What the gate runs the program on, and what it has to answer."""
-    requests = b"".join(request(row[0]) for row in asked())
-    answers = b"".join(told(row) for row in asked())
+    requests = b"".join([request(row[0]) for row in asked()] + [it for it, _ in hinted()])
+    answers = b"".join([told(row) for row in asked()] + [it for _, it in hinted()])
     # no words; a name that is sent with another input; a number without its octets
     requests += frame(b"") + frame(frame(b"split\nchain.der") + frame(b"none.der") + frame(b""))
     answers += answer(4, b"", b"") + answer(5, b"", b'cannot open "chain.der"\n')

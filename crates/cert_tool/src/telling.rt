@@ -3,6 +3,7 @@
 use crate::given::{Key, WordFault};
 use crate::help::help_of;
 use crate::no_command::no_command_line;
+use crate::shell_words::shell_word;
 use crate::tasks::{Misuse, Task};
 use cert_desk_io::{ExitStatus, Output, tell_memory, write_all};
 use std::alloc::{AllocError, Global};
@@ -122,6 +123,27 @@ pub(crate) fn tell_misuse<E: Output>(
     let _ = write_all(err, help.as_bytes());
 }
 
+// The command that tells why a stream can't be read, in a line.
+fn stream_hint(alloc: Global, limit: u32, file: &str) -> Result<String, AllocError> {
+    match shell_word(alloc, file)? {
+        Some(file) => {
+            format!(in alloc; "(why: cert_tool explain stream --limit {limit} {file})\n")
+        }
+        None => {
+            format!(in alloc; "(why: cert_tool explain stream --limit {limit}, with this file)\n")
+        }
+    }
+}
+
+// The command that tells why anchors can't be read, in a line.
+fn anchors_hint(alloc: Global, file: &str) -> Result<String, AllocError> {
+    let pem = "tools/pem_to_der.sh converts PEM to DER";
+    match shell_word(alloc, file)? {
+        Some(file) => format!(in alloc; "(why: cert_tool explain anchors {file}; {pem})\n"),
+        None => format!(in alloc; "(why: cert_tool explain anchors, with this file; {pem})\n"),
+    }
+}
+
 // Says what tells more of a stream that isn't certificates.
 pub(crate) fn tell_fault<E: Output>(
     alloc: Global,
@@ -130,9 +152,7 @@ pub(crate) fn tell_fault<E: Output>(
     err: &mut E,
 ) {
     if status == ExitStatus::Faulty {
-        let (limit, file) = (task.limit, task.file);
-        let text = format!(in alloc; "(why: cert_tool explain stream --limit {limit} {file:?})\n");
-        tell(err, text);
+        tell(err, stream_hint(alloc, task.limit, task.file));
     }
 }
 
@@ -149,11 +169,7 @@ pub(crate) fn tell_more<E: Output>(
             let part = "(why: cert_tool explain chain, with the same options and file)\n";
             let _ = write_all(err, part.as_bytes());
         }
-        ExitStatus::Arguments if are_read => {
-            let part = "(of anchors: cert_tool explain anchors ";
-            let behind = "; of PEM tools/pem_to_der.sh makes DER, which is read)";
-            tell(err, line_with(alloc, part, task.anchors, behind));
-        }
+        ExitStatus::Arguments if are_read => tell(err, anchors_hint(alloc, task.anchors)),
         _ => tell_fault(alloc, task, status, err),
     }
 }

@@ -1,0 +1,39 @@
+//! Texts as words of a command.
+
+use std::alloc::{AllocError, Global};
+
+// Whether a shell reads this octet as itself at each place of a word, and the word as it stands.
+fn is_bare(octet: u8) -> bool {
+    octet.is_ascii_alphanumeric()
+        || matches!(
+            octet,
+            b'_' | b'.' | b'/' | b':' | b'@' | b'%' | b'+' | b',' | b'-'
+        )
+}
+
+// The text in single quotes, in which no character but that quote means more than itself.
+fn quoted(alloc: Global, text: &str) -> Result<String, AllocError> {
+    let mut word = String::new(alloc);
+    word.push('\'')?;
+    for letter in text.chars() {
+        match letter {
+            '\'' => word.push_str("'\\''")?,
+            _ => word.push(letter)?,
+        }
+    }
+    word.push('\'')?;
+    Ok(word)
+}
+
+/// Returns the word that a shell reads as this text (POSIX 2.2), or nothing if a character isn't a
+/// printable one of ASCII: a terminal might act on it.
+pub(crate) fn shell_word(alloc: Global, text: &str) -> Result<Option<String>, AllocError> {
+    let octets = text.as_bytes();
+    if !octets.is_empty() && octets.iter().all(|octet| is_bare(*octet)) {
+        return Ok(Some(format!(in alloc; "{text}")?));
+    }
+    if !octets.iter().all(|octet| (b' '..=b'~').contains(octet)) {
+        return Ok(None);
+    }
+    Ok(Some(quoted(alloc, text)?))
+}
