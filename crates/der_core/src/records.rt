@@ -2,11 +2,11 @@
 
 ghost use Rattle.std.specs.Prelude.{◌≡◌, true, Ok, IfErr};
 ghost use Rattle.der_core_head.specs.declared.tag.Tag.TheVariants.{Sequence};
-ghost use Rattle.der_core_head.specs.Shapes.{Body, BodyValue, IsBody, nested};
+ghost use Rattle.der_core_head.specs.Shapes.{Body, BodyValue, IsBody, body_octets, nested};
 ghost use Rattle.der_core_head.specs.Reading.{GivesNow};
 ghost use Rattle.der_core_head.specs.Writing.{Writes, size_body, write_body};
 ghost use Rattle.der_core_head.specs.Spelling.{is_body_apart};
-ghost use Rattle.der_core_octets.specs.Outputs.{Continues};
+ghost use Rattle.der_core_octets.specs.Outputs.{AddsFront, Continues};
 ghost use Rattle.der_core.specs.Orders.{bodies_cmp, Overflows};
 
 use crate::order::{OrderWay, Ordered};
@@ -115,7 +115,8 @@ impl<W: Writer> RowUser for W {
     type Answer = Result<(), Error>;
 
     ghost answers = { λ b v _ old new result. Writes W.takes_memory (W.out old) (W.out new) result
-        (write_body b v) × Continues (W.out old) (W.out new) };
+        (write_body b v) × Continues (W.out old) (W.out new)
+        × AddsFront (body_octets b v) (W.out old) (W.out new) };
 
     #[inline(always)]
     fn take<Row: EncodeFields + FieldsOrd>(
@@ -194,6 +195,7 @@ impl<T: Rows> Way<T> for AsRecord {
     }
 
     #[inline(always)]
+    #[tactic(auto, unfolding(der_core_head::specs::Shapes::contents))]
     fn encode_by<W: Writer>(value: &T, writer: &mut W) -> Result<(), Error> {
         value.with_rows(value, writer)
     }

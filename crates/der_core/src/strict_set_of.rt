@@ -196,6 +196,7 @@ impl<T: Encode + DerOrd + Member + InRange> EncodeValue for StrictSetOf<T> {
     /// # Errors
     /// Those of the members and of the writer; then `SetDuplicate` for the same encoding as the one
     /// before, `SetOrdering` for a lower one (X.690 11.6).
+    #[tactic(auto, unfolding(der_core_head::specs::Shapes::contents))]
     fn encode_value<W: Writer>(&self, writer: &mut W) -> Result<(), Error> {
         self.values.encode_value(writer)?;
         self.values.value_in_range();

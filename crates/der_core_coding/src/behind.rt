@@ -3,7 +3,7 @@
 ghost use Rattle.std.specs.Prelude.{◌≡◌, ◌+◌, ◌∷◌};
 ghost use Rattle.der_core_head.specs.Reading.{GivesNow};
 ghost use Rattle.der_core_head.specs.Writing.{Writes, put, fit_len};
-ghost use Rattle.der_core_octets.specs.Outputs.{Continues};
+ghost use Rattle.der_core_octets.specs.Outputs.{AddsFront, Continues};
 
 use der_core_head::{Error, Length};
 use der_core_octets::Writer;
@@ -22,10 +22,12 @@ pub fn len_behind(octets: Length) -> Result<Length, Error>
 ///
 /// # Errors
 /// Those of the writer.
+#[tactic(auto, using(der_core_octets::proofs::Added::refused_adds))]
 pub fn encode_behind<W: Writer>(writer: &mut W, first: u8, octets: &[u8]) -> Result<(), Error>
     ensures exact { Writes W.takes_memory (W.out writer.old) (W.out writer.new) result
         (put (first ∷ octets.now)) }
     ensures kept { Continues (W.out writer.old) (W.out writer.new) }
+    ensures front { AddsFront (first ∷ octets.now) (W.out writer.old) (W.out writer.new) }
 {
     writer.write_byte(first)?;
     writer.write(octets)

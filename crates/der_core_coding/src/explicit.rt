@@ -68,6 +68,7 @@ impl<T: Encode, const N: u32> EncodeValue for Explicit<T, N> {
         self.value.encoded_len()
     }
 
+    #[tactic(auto, unfolding(der_core_head::specs::Shapes::contents))]
     fn encode_value<W: Writer>(&self, writer: &mut W) -> Result<(), Error> {
         self.value.encode(writer)
     }

@@ -1,8 +1,9 @@
 //! Fields in a row: `(A, (B, (C, ())))`.
 
 ghost use Rattle.der_core_head.specs.Reading.{GivesNow};
+ghost use Rattle.der_core_head.specs.Shapes.{body_octets};
 ghost use Rattle.der_core_head.specs.Writing.{Writes, size_body, write_body};
-ghost use Rattle.der_core_octets.specs.Outputs.{Continues};
+ghost use Rattle.der_core_octets.specs.Outputs.{AddsFront, Continues};
 
 use der_core_head::{Error, Length};
 use der_core_octets::Writer;
@@ -27,7 +28,9 @@ pub trait EncodeFields: FieldRow {
     fn encode_fields<W: Writer>(&self, writer: &mut W) -> Result<(), Error>
         ensures exact { Writes W.takes_memory (W.out writer.old) (W.out writer.new) result
             (write_body Self.fields (Self.fields_written self.now)) }
-        ensures kept { Continues (W.out writer.old) (W.out writer.new) };
+        ensures kept { Continues (W.out writer.old) (W.out writer.new) }
+        ensures front { AddsFront (body_octets Self.fields (Self.fields_written self.now))
+            (W.out writer.old) (W.out writer.new) };
 }
 
 impl EncodeFields for () {
@@ -35,6 +38,7 @@ impl EncodeFields for () {
         Ok(Length { value: 0 })
     }
 
+    #[tactic(auto, using(der_core_octets::proofs::Added::none_added))]
     fn encode_fields<W: Writer>(&self, _writer: &mut W) -> Result<(), Error> {
         Ok(())
     }
@@ -48,6 +52,7 @@ impl<A: Encode, B: EncodeFields> EncodeFields for (A, B) {
         first + others
     }
 
+    #[tactic(auto, using(der_core_octets::proofs::Added::first_added, der_core_octets::proofs::Added::value_then_added), unfolding(der_core_head::specs::Shapes::body_octets))]
     fn encode_fields<W: Writer>(&self, writer: &mut W) -> Result<(), Error> {
         self.0.encode(writer)?;
         self.1.encode_fields(writer)
@@ -59,6 +64,7 @@ impl<T> EncodeFields for PhantomData<T> {
         Ok(Length { value: 0 })
     }
 
+    #[tactic(auto, using(der_core_octets::proofs::Added::none_added))]
     fn encode_fields<W: Writer>(&self, _writer: &mut W) -> Result<(), Error> {
         Ok(())
     }

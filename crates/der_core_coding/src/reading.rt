@@ -37,7 +37,7 @@ fn read_only<'a, R: Reader<'a>, T: Decode<'a, R>>(
 /// The value behind a tag in front of its own (X.690 8.14.2).
 ///
 /// # Errors
-/// `TagUnexpected` behind another tag; else the first fault from the left, or `OutOfMemory`;
+/// `TagUnexpected` behind another tag; else the first error met in reading, or `OutOfMemory`;
 /// `Failed` where the reader failed before.
 #[tactic(auto, unfolding(der_core_head::specs::Grammar::tlv_at))]
 pub fn read_explicit<'a, R: Reader<'a>, T: Decode<'a, R>>(
@@ -69,7 +69,7 @@ fn read_implicit<'a, R: Reader<'a>, T: DecodeValue<'a, R>>(
 /// The value behind a tag in front of its own, if that tag stands next (X.690 8.14.2).
 ///
 /// # Errors
-/// The first fault from the left, or `OutOfMemory`; `Failed` where the reader failed before.
+/// The first error met in reading, or `OutOfMemory`; `Failed` where the reader failed before.
 #[tactic(auto, unfolding(der_core_head::specs::Grammar::opt_at))]
 pub fn optional_explicit<'a, R: Reader<'a>, T: Decode<'a, R>>(
     alloc: Global,
@@ -92,7 +92,7 @@ pub fn optional_explicit<'a, R: Reader<'a>, T: Decode<'a, R>>(
 /// The value behind a tag in place of its own, if that tag stands next (X.690 8.14.3).
 ///
 /// # Errors
-/// The first fault from the left, or `OutOfMemory`; `Failed` where the reader failed before.
+/// The first error met in reading, or `OutOfMemory`; `Failed` where the reader failed before.
 #[tactic(auto, unfolding(der_core_head::specs::Grammar::opt_at))]
 pub fn optional_implicit<'a, R: Reader<'a>, T: DecodeValue<'a, R>>(
     alloc: Global,
@@ -117,7 +117,7 @@ pub trait Reading<'r>: Reader<'r> + Sized {
     /// The value that stands next. After a refusal the reader has failed.
     ///
     /// # Errors
-    /// The first fault from the left, or `OutOfMemory`; `Failed` where the reader failed before.
+    /// The first error met in reading, or `OutOfMemory`; `Failed` where the reader failed before.
     final fn decode<T: Decode<'r, Self>>(&mut self, alloc: Global) -> Result<T, Error>
         ensures reads { Reads T.plain (Self.state self.old) (Self.state self.new) result
             (read_at (Self.state self.old) T.shape) }
@@ -130,7 +130,7 @@ pub trait Reading<'r>: Reader<'r> + Sized {
     /// (X.690 8.14).
     ///
     /// # Errors
-    /// The first fault from the left, or `OutOfMemory`; `Failed` where the reader failed before.
+    /// The first error met in reading, or `OutOfMemory`; `Failed` where the reader failed before.
     final fn context_specific<T: DecodeValue<'r, Self> + FixedTag>(
         &mut self,
         alloc: Global,

@@ -4,10 +4,10 @@ ghost use Rattle.std.specs.Prelude.{◌≡◌, ◌≤◌, ◌<◌, length, [], S
 ghost use Rattle.std.specs.Prelude.{IsNone, IsErrAnd, OnOk, OnErr, true, false};
 ghost use Rattle.der_core_head.specs.Limits.{IsLength, length_max};
 ghost use Rattle.der_core_head.specs.Tags.{implicit_tag};
-ghost use Rattle.der_core_head.specs.Shapes.{explicit, tagged};
+ghost use Rattle.der_core_head.specs.Shapes.{explicit, octets_of, tagged};
 ghost use Rattle.der_core_head.specs.Reading.{GivesNow};
 ghost use Rattle.der_core_head.specs.Writing.{write};
-ghost use Rattle.der_core_octets.specs.Outputs.{Continues, Encloses, blank};
+ghost use Rattle.der_core_octets.specs.Outputs.{AddsFront, Continues, Encloses, blank};
 ghost use Rattle.der_core_coding.specs.Sequences.{RefusesEnclosed, failing};
 
 use crate::tagging::{encode_explicit, encode_implicit};
@@ -87,6 +87,7 @@ impl<'a> SliceWriter<'a> {
     /// # Errors
     /// `Failed` where the writer failed before, `Overlength` where there is no room, `Overflow`
     /// where a length passes 2^32 - 1.
+    #[tactic(auto, using(der_core_octets::proofs::Added::none_added))]
     pub fn encode<T: Encode>(&mut self, value: &T) -> Result<(), Error>
         ensures writes { (output self.old).failed ≡ false
             → GivesNow (λ _. output self.new) result
@@ -96,6 +97,8 @@ impl<'a> SliceWriter<'a> {
             × (output self.new ≡ output self.old) }
         ensures refused { OnErr result ((output self.new).failed ≡ true) }
         ensures kept { Continues (output self.old) (output self.new) }
+        ensures front { AddsFront (octets_of T.shape (T.written value.now)) (output self.old)
+            (output self.new) }
     {
         if self.failed {
             return Err(Error::from(ErrorKind::Failed));
@@ -115,6 +118,7 @@ impl<'a> SliceWriter<'a> {
     /// # Errors
     /// `Failed` where the writer failed before, `Overlength` where there is no room, `Overflow`
     /// where a length passes 2^32 - 1.
+    #[tactic(auto, using(der_core_octets::proofs::Added::none_added))]
     pub fn context_specific<T: EncodeValue + FixedTag>(
         &mut self,
         tag_number: TagNumber,
@@ -134,6 +138,12 @@ impl<'a> SliceWriter<'a> {
             × (output self.new ≡ output self.old) }
         ensures refused { OnErr result ((output self.new).failed ≡ true) }
         ensures kept { Continues (output self.old) (output self.new) }
+        ensures front_explicit { tag_mode ≡ TagMode.Explicit → AddsFront
+            (octets_of (explicit tag_number.value (tagged T.fixed_tag T.content))
+            (T.value_written value.now)) (output self.old) (output self.new) }
+        ensures front_implicit { tag_mode ≡ TagMode.Implicit → AddsFront
+            (octets_of (tagged (implicit_tag tag_number.value T.fixed_tag) T.content)
+            (T.value_written value.now)) (output self.old) (output self.new) }
     {
         if self.failed {
             return Err(Error::from(ErrorKind::Failed));

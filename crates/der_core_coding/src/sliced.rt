@@ -13,7 +13,7 @@ use std::alloc::Global;
 /// are those that spell it.
 ///
 /// # Errors
-/// The first fault from the left, or `OutOfMemory`; `Failed` where the reader failed before.
+/// The first error met in reading, or `OutOfMemory`; `Failed` where the reader failed before.
 pub fn decode_sliced<'a, R: Reader<'a>, T: Decode<'a, R> + Member>(
     alloc: Global,
     reader: &mut R,

@@ -2,9 +2,9 @@
 
 ghost use Rattle.std.specs.Prelude.{◌≡◌, true};
 ghost use Rattle.der_core_head.specs.Tags.{context, implicit_tag};
-ghost use Rattle.der_core_head.specs.Shapes.{nested, only, tagged};
+ghost use Rattle.der_core_head.specs.Shapes.{nested, octets_of, only, tagged};
 ghost use Rattle.der_core_head.specs.Writing.{Writes, write};
-ghost use Rattle.der_core_octets.specs.Outputs.{Continues};
+ghost use Rattle.der_core_octets.specs.Outputs.{AddsFront, Continues};
 
 use crate::encode_ref::EncodeRef;
 use crate::explicit::Explicit;
@@ -16,7 +16,7 @@ use der_core_values::{Encode, EncodeValue, FixedTag};
 ///
 /// # Errors
 /// `Overflow` where a length passes 2^32 - 1, and those of the writer.
-#[tactic(auto, unfolding(der_core_head::specs::Writing::write_tlv))]
+#[tactic(auto, using(der_core_octets::proofs::Added::none_added, der_core_octets::proofs::Added::header_adds, der_core_octets::proofs::Added::content_adds), unfolding(der_core_head::specs::Writing::write_tlv))]
 pub fn encode_tagged<W: Writer, T: EncodeValue>(
     writer: &mut W,
     tag: Tag,
@@ -25,6 +25,8 @@ pub fn encode_tagged<W: Writer, T: EncodeValue>(
     ensures exact { Writes W.takes_memory (W.out writer.old) (W.out writer.new) result
         (write (tagged tag T.content) (T.value_written value.now)) }
     ensures kept { Continues (W.out writer.old) (W.out writer.new) }
+    ensures front { AddsFront (octets_of (tagged tag T.content) (T.value_written value.now))
+        (W.out writer.old) (W.out writer.new) }
 {
     let len = value.value_len()?;
     encode_header(writer, tag, len)?;
@@ -43,6 +45,9 @@ pub fn encode_explicit<W: Writer, T: Encode>(
     ensures exact { Writes W.takes_memory (W.out writer.old) (W.out writer.new) result
         (write (tagged (context true number.value) (nested (only T.shape))) (T.written value.now)) }
     ensures kept { Continues (W.out writer.old) (W.out writer.new) }
+    ensures front { AddsFront
+        (octets_of (tagged (context true number.value) (nested (only T.shape)))
+        (T.written value.now)) (W.out writer.old) (W.out writer.new) }
 {
     let constructed = true;
     let tag = Tag::ContextSpecific {
@@ -69,6 +74,9 @@ pub fn encode_implicit<W: Writer, T: EncodeValue + FixedTag>(
         (write (tagged (implicit_tag number.value T.fixed_tag) T.content)
         (T.value_written value.now)) }
     ensures kept { Continues (W.out writer.old) (W.out writer.new) }
+    ensures front { AddsFront
+        (octets_of (tagged (implicit_tag number.value T.fixed_tag) T.content)
+        (T.value_written value.now)) (W.out writer.old) (W.out writer.new) }
 {
     let constructed = is_constructed(T::tag());
     let tag = Tag::ContextSpecific {

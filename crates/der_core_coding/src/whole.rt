@@ -97,7 +97,7 @@ pub trait FromDer<'a>: Decode<'a, SliceReader<'a>> {
     /// ```
     ///
     /// # Errors
-    /// `Overflow` for 2^32 octets or more, else the first fault from the left, `TrailingData` where
+    /// `Overflow` for 2^32 octets or more, else the first error met in reading, `TrailingData` if
     /// octets are left after the value, or `OutOfMemory`.
     final fn from_der(alloc: Global, bytes: &'a [u8]) -> Result<Self, Error>
         // What is read is spelled so.
@@ -120,7 +120,7 @@ pub trait FromDer<'a>: Decode<'a, SliceReader<'a>> {
     /// The value at the front of the octets, and the octets after it.
     ///
     /// # Errors
-    /// `Overflow` for 2^32 octets or more, else the first fault from the left, or `OutOfMemory`.
+    /// `Overflow` for 2^32 octets or more, else the first error met in reading, or `OutOfMemory`.
     final fn from_der_partial(alloc: Global, bytes: &'a [u8]) -> Result<(Self, &'a [u8]), Error>
         // What is read is spelled so, and what is lent follows it.
         ensures spelled { is_apart Self.shape ≡ true → IfOk result (λ x.

@@ -67,7 +67,7 @@ impl<T: Encode + DefaultValue> Encode for WithDefault<T> {
 
     // Inlined, so that what is answered isn't moved.
     #[inline(always)]
-    #[tactic(auto, unfolding(der_core_head::specs::Writing::default_write))]
+    #[tactic(auto, using(der_core_octets::proofs::Added::none_added), unfolding(der_core_head::specs::Writing::default_write, der_core_head::specs::Shapes::octets_of, der_core_head::specs::Shapes::unless))]
     fn encode<W: Writer>(&self, writer: &mut W) -> Result<(), Error> {
         if self.value.is_default() {
             Ok(())

@@ -1,5 +1,6 @@
 -- What a writer holds after a call, and what is written to a slice or behind octets.
-use Rattle.std.specs.Prelude.{◌≡◌, ◌+◌, ℕ, List, [], Bool, true, false, length, take, Some, None}
+use Rattle.std.specs.Prelude.{◌≡◌, ◌+◌, ℕ, List, [], ◌++◌, Bool, true, false, length, take}
+use Rattle.std.specs.Prelude.{Some, None}
 use Rattle.std.specs.Prelude.{Result, Ok, Err, if◌then◌else◌}
 use Rattle.std.specs.Borrow.{MutBor}
 use Rattle.std.specs.Fn.{Once, FnOnceReturnsAtMut}
@@ -26,6 +27,11 @@ IsFront w o = take (length w) o.written ≡ w
 abbrev pub Continues : Out → Out → Type 0
 Continues old new = ((w : List ℕ) → IsFront w old → IsFront w new)
     × (old.failed ≡ true → new.failed ≡ true)
+
+-- What was added is a prefix of these octets.
+pub record AddsFront (octets : List ℕ) (old new : Out) : Type 0 where
+  pub count : ℕ
+  pub written : new.written ≡ old.written ++ take count octets
 
 -- so much room, and nothing written yet
 abbrev pub blank : ℕ → Out

@@ -2,10 +2,10 @@
 
 ghost use Rattle.std.specs.Prelude.{◌≡◌, ◌<◌, ◌++◌, length};
 ghost use Rattle.der_core_head.specs.Tags.{number_of, tag_octets};
-ghost use Rattle.der_core_head.specs.Heads.{length_octets};
+ghost use Rattle.der_core_head.specs.Heads.{head_octets, length_octets};
 ghost use Rattle.der_core_head.specs.Reading.{GivesNow};
 ghost use Rattle.der_core_head.specs.Writing.{Writes, put, put_head, fit_len};
-ghost use Rattle.der_core_octets.specs.Outputs.{Continues};
+ghost use Rattle.der_core_octets.specs.Outputs.{AddsFront, Continues};
 
 use crate::writer::Writer;
 use der_core_head::{Error, Length, Tag, leading_octet_of, number_of};
@@ -16,11 +16,12 @@ use der_core_head::{Error, Length, Tag, leading_octet_of, number_of};
 /// Those of the writer.
 // Inlined, so that a known tag is one octet and nothing that is answered is moved.
 #[inline(always)]
-#[tactic(auto, using(der_core_head::proofs::TagLaws::tag_forms))]
+#[tactic(auto, using(der_core_head::proofs::TagLaws::tag_forms, crate::proofs::Added::write_adds))]
 pub fn encode_tag<W: Writer>(writer: &mut W, tag: Tag) -> Result<(), Error>
     ensures exact { Writes W.takes_memory (W.out writer.old) (W.out writer.new) result
         (put (tag_octets tag)) }
     ensures kept { Continues (W.out writer.old) (W.out writer.new) }
+    ensures front { AddsFront (tag_octets tag) (W.out writer.old) (W.out writer.new) }
 {
     let first = leading_octet_of(tag);
     let n = number_of(tag);
@@ -45,11 +46,12 @@ pub fn encode_tag<W: Writer>(writer: &mut W, tag: Tag) -> Result<(), Error>
 /// Those of the writer.
 // Inlined, so that a known tag is one octet and nothing that is answered is moved.
 #[inline(always)]
-#[tactic(auto, using(der_core_head::proofs::HeadLaws::length_forms))]
+#[tactic(auto, using(der_core_head::proofs::HeadLaws::length_forms, crate::proofs::Added::write_adds))]
 pub fn encode_length<W: Writer>(writer: &mut W, len: Length) -> Result<(), Error>
     ensures exact { Writes W.takes_memory (W.out writer.old) (W.out writer.new) result
         (put (length_octets len.value)) }
     ensures kept { Continues (W.out writer.old) (W.out writer.new) }
+    ensures front { AddsFront (length_octets len.value) (W.out writer.old) (W.out writer.new) }
 {
     let n = len.value;
     let d3 = (n / 0x100_0000) as u8;
@@ -70,12 +72,13 @@ pub fn encode_length<W: Writer>(writer: &mut W, len: Length) -> Result<(), Error
 /// # Errors
 /// Those of the writer.
 #[inline(always)]
-#[tactic(auto, using(der_core_head::proofs::TagLaws::tag_forms, der_core_head::proofs::HeadLaws::length_forms))]
+#[tactic(auto, using(der_core_head::proofs::TagLaws::tag_forms, der_core_head::proofs::HeadLaws::length_forms, crate::proofs::Added::write_adds))]
 fn encode_short_header<W: Writer>(writer: &mut W, tag: Tag, len: Length) -> Result<(), Error>
     requires { number_of tag < 31 }
     ensures exact { Writes W.takes_memory (W.out writer.old) (W.out writer.new) result
         (put (tag_octets tag ++ length_octets len.value)) }
     ensures kept { Continues (W.out writer.old) (W.out writer.new) }
+    ensures front { AddsFront (tag_octets tag ++ length_octets len.value) (W.out writer.old) (W.out writer.new) }
 {
     let first = leading_octet_of(tag);
     let n = len.value;
@@ -98,11 +101,12 @@ fn encode_short_header<W: Writer>(writer: &mut W, tag: Tag, len: Length) -> Resu
 /// `Overflow` where header and content pass 2^32 - 1 octets together, and those of the writer.
 // Inlined, so that a known tag is one octet and nothing that is answered is moved.
 #[inline(always)]
-#[tactic(auto, unfolding(der_core_head::specs::Writing::put_head))]
+#[tactic(auto, using(crate::proofs::Added::first_added, crate::proofs::Added::put_then_added), unfolding(der_core_head::specs::Writing::put_head, der_core_head::specs::Heads::head_octets))]
 pub fn encode_header<W: Writer>(writer: &mut W, tag: Tag, len: Length) -> Result<(), Error>
     ensures exact { Writes W.takes_memory (W.out writer.old) (W.out writer.new) result
         (put_head tag len.value) }
     ensures kept { Continues (W.out writer.old) (W.out writer.new) }
+    ensures front { AddsFront (head_octets tag len.value) (W.out writer.old) (W.out writer.new) }
 {
     let _whole = len.for_tlv(tag)?;
     if number_of(tag) < 31 {

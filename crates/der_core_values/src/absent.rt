@@ -51,6 +51,7 @@ impl<T> Encode for PhantomData<T> {
         Ok(Length { value: 0 })
     }
 
+    #[tactic(auto, using(der_core_octets::proofs::Added::none_added))]
     fn encode<W: Writer>(&self, _writer: &mut W) -> Result<(), Error> {
         Ok(())
     }

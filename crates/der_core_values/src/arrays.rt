@@ -90,6 +90,7 @@ impl<T: Encode, const N: usize> EncodeValue for [T; N] {
         members_len(self.as_slice())
     }
 
+    #[tactic(auto, unfolding(der_core_head::specs::Shapes::contents))]
     fn encode_value<W: Writer>(&self, writer: &mut W) -> Result<(), Error> {
         encode_members(self.as_slice(), writer)
     }

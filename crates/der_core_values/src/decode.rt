@@ -35,7 +35,7 @@ pub trait Decode<'a, R: Reader<'a>>: Shaped + Drop {
     /// refusal the reader has failed.
     ///
     /// # Errors
-    /// The first fault from the left, or `OutOfMemory`; `Failed` where the reader failed before.
+    /// The first error met in reading, or `OutOfMemory`; `Failed` where the reader failed before.
     fn decode(alloc: Global, reader: &mut R) -> Result<Self, Error>
         ensures { Reads Self.plain (R.state reader.old) (R.state reader.new) result
             (read_at (R.state reader.old) Self.shape) };
@@ -57,7 +57,7 @@ pub trait DecodeValue<'a, R: Reader<'a>>: ShapedValue + Drop {
     /// reader has failed.
     ///
     /// # Errors
-    /// The first fault from the left, or `OutOfMemory`; `Failed` where the reader failed before.
+    /// The first error met in reading, or `OutOfMemory`; `Failed` where the reader failed before.
     fn decode_value(alloc: Global, reader: &mut R, header: Header) -> Result<Self, Error>
         ensures { Reads Self.value_plain (R.state reader.old) (R.state reader.new) result
             (value_at (read_content_at (R.state reader.old) Self.content header.tag)
@@ -75,7 +75,7 @@ impl<T: ShapedValue + FixedTag> Shaped for T {
 /// The value of the type's tag that stands next.
 ///
 /// # Errors
-/// `TagUnexpected` for another tag; else the first fault from the left, or `OutOfMemory`; `Failed`
+/// `TagUnexpected` for another tag; else the first error met in reading, or `OutOfMemory`; `Failed`
 /// where the reader failed before.
 #[inline(always)]
 #[tactic(auto, unfolding(der_core_head::specs::Grammar::tlv_at))]

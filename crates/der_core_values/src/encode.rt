@@ -1,8 +1,9 @@
 //! Writing of values.
 
 ghost use Rattle.der_core_head.specs.Reading.{GivesNow};
+ghost use Rattle.der_core_head.specs.Shapes.{contents, octets_of};
 ghost use Rattle.der_core_head.specs.Writing.{Writes, size, write, size_content, write_content};
-ghost use Rattle.der_core_octets.specs.Outputs.{Continues};
+ghost use Rattle.der_core_octets.specs.Outputs.{AddsFront, Continues};
 
 use crate::decode::{FixedTag, Shaped, ShapedValue};
 use der_core_head::{Error, Length};
@@ -25,7 +26,9 @@ pub trait Encode: Shaped {
     fn encode<W: Writer>(&self, writer: &mut W) -> Result<(), Error>
         ensures exact { Writes W.takes_memory (W.out writer.old) (W.out writer.new) result
             (write Self.shape (Self.written self.now)) }
-        ensures kept { Continues (W.out writer.old) (W.out writer.new) };
+        ensures kept { Continues (W.out writer.old) (W.out writer.new) }
+        ensures front { AddsFront (octets_of Self.shape (Self.written self.now)) (W.out writer.old)
+            (W.out writer.new) };
 }
 
 /// What is written behind a header.
@@ -46,7 +49,9 @@ pub trait EncodeValue: ShapedValue {
     fn encode_value<W: Writer>(&self, writer: &mut W) -> Result<(), Error>
         ensures exact { Writes W.takes_memory (W.out writer.old) (W.out writer.new) result
             (write_content Self.content (Self.value_written self.now)) }
-        ensures kept { Continues (W.out writer.old) (W.out writer.new) };
+        ensures kept { Continues (W.out writer.old) (W.out writer.new) }
+        ensures front { AddsFront (contents Self.content (Self.value_written self.now))
+            (W.out writer.old) (W.out writer.new) };
 }
 
 impl<T: EncodeValue + FixedTag> Encode for T {
@@ -60,7 +65,7 @@ impl<T: EncodeValue + FixedTag> Encode for T {
 
     // Inlined, so that what is answered isn't moved.
     #[inline(always)]
-    #[tactic(auto, unfolding(der_core_head::specs::Writing::write_tlv))]
+    #[tactic(auto, using(der_core_octets::proofs::Added::none_added, der_core_octets::proofs::Added::header_adds, der_core_octets::proofs::Added::content_adds), unfolding(der_core_head::specs::Writing::write_tlv))]
     fn encode<W: Writer>(&self, writer: &mut W) -> Result<(), Error> {
         let len = self.value_len()?;
         encode_header(writer, T::tag(), len)?;

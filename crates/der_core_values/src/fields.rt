@@ -48,7 +48,7 @@ pub trait DecodeFields<'a, R: Reader<'a>>: Fields {
     /// The fields that stand next. After a refusal the reader has failed.
     ///
     /// # Errors
-    /// The first fault from the left, or `OutOfMemory`; `Failed` where the reader failed before.
+    /// The first error met in reading, or `OutOfMemory`; `Failed` where the reader failed before.
     fn decode_fields(alloc: Global, reader: &mut R) -> Result<Self, Error>
         ensures { Reads Self.fields_plain (R.state reader.old) (R.state reader.new) result
             (read_body_at (R.state reader.old) Self.fields) };

@@ -66,6 +66,7 @@ impl<T: Integer> Way<T> for AsInteger {
         Ok(Length::new((17 - start) as u32))
     }
 
+    #[tactic(auto, using(der_core_octets::proofs::Added::write_adds), unfolding(der_core_head::specs::Shapes::contents))]
     fn encode_by<W: Writer>(value: &T, writer: &mut W) -> Result<(), Error> {
         let (negative, number) = value.sign_and_bits();
         let (octets, start) = integer_octets_of(negative, number);

@@ -3,9 +3,9 @@
 ghost use Rattle.std.specs.Prelude.{◌≡◌, refl};
 ghost use Rattle.der_core_head.specs.Leaves.{leaf_contents, IsLeafValue};
 ghost use Rattle.der_core_head.specs.Reading.{GivesNow};
-ghost use Rattle.der_core_head.specs.Shapes.{leaf};
+ghost use Rattle.der_core_head.specs.Shapes.{contents, leaf};
 ghost use Rattle.der_core_head.specs.Writing.{Writes, size_content, write_content};
-ghost use Rattle.der_core_octets.specs.Outputs.{Continues};
+ghost use Rattle.der_core_octets.specs.Outputs.{AddsFront, Continues};
 
 use crate::leaves::{Leaf, Primitive, decode_leaf};
 use crate::ways::{AsReadWay, DecodeWay, RangeWay, Way};
@@ -36,6 +36,7 @@ impl<T: Octets> Way<T> for AsOctets {
         slice_len(value.content())
     }
 
+    #[tactic(auto, using(der_core_octets::proofs::Added::write_adds), unfolding(der_core_head::specs::Shapes::contents))]
     fn encode_by<W: Writer>(value: &T, writer: &mut W) -> Result<(), Error> {
         writer.write(value.content())
     }
@@ -78,7 +79,9 @@ pub trait EncodeLeaf: Primitive {
     fn encode_leaf<W: Writer>(&self, writer: &mut W) -> Result<(), Error>
         ensures exact { Writes W.takes_memory (W.out writer.old) (W.out writer.new) result
             (write_content (leaf Self.kind) (Self.leaf_plain self.now)) }
-        ensures kept { Continues (W.out writer.old) (W.out writer.new) };
+        ensures kept { Continues (W.out writer.old) (W.out writer.new) }
+        ensures front { AddsFront (contents (leaf Self.kind) (Self.leaf_plain self.now))
+            (W.out writer.old) (W.out writer.new) };
 }
 
 /// As a content that the type reads from octets and writes. Its tag, its range and its order are

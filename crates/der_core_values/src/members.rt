@@ -1,10 +1,10 @@
 //! Encodings of members, one after the other.
 
-ghost use Rattle.der_core_head.specs.Shapes.{many};
+ghost use Rattle.der_core_head.specs.Shapes.{body_octets, many};
 ghost use Rattle.der_core_head.specs.Grammar.{plain_list};
 ghost use Rattle.der_core_head.specs.Reading.{GivesNow};
 ghost use Rattle.der_core_head.specs.Writing.{Writes, size_body, write_body};
-ghost use Rattle.der_core_octets.specs.Outputs.{Continues};
+ghost use Rattle.der_core_octets.specs.Outputs.{AddsFront, Continues};
 
 use crate::encode::Encode;
 use der_core_head::{Error, Length};
@@ -33,6 +33,8 @@ pub fn encode_members<T: Encode, W: Writer>(members: &[T], writer: &mut W) -> Re
     ensures exact { Writes W.takes_memory (W.out writer.old) (W.out writer.new) result
         (write_body (many T.shape) (plain_list T.written members.now)) }
     ensures kept { Continues (W.out writer.old) (W.out writer.new) }
+    ensures front { AddsFront (body_octets (many T.shape) (plain_list T.written members.now))
+        (W.out writer.old) (W.out writer.new) }
 {
     for member in members {
         member.encode(writer)?;

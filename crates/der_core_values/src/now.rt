@@ -13,7 +13,7 @@ use std::alloc::Global;
 /// The value of the type's tag that stands next. After a refusal the reader has failed.
 ///
 /// # Errors
-/// `TagUnexpected` for another tag; else the first fault from the left, or, of a type that takes
+/// `TagUnexpected` for another tag; else the first error met in reading, or, of a type that takes
 /// memory, `OutOfMemory`; `Failed` where the reader failed before.
 #[tactic(auto, unfolding(der_core_head::specs::Grammar::tlv_at))]
 pub fn decode_leaf_of_tag<'a, R: Reader<'a>, T: Leaf<'a> + FixedTag>(

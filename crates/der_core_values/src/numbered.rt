@@ -117,6 +117,7 @@ impl<T: Numbered, K> Way<T> for AsNumbered<K> {
         <AsInteger as Way<u8>>::len_by(&value.to_number())
     }
 
+    #[tactic(auto, unfolding(der_core_head::specs::Shapes::contents))]
     fn encode_by<W: Writer>(value: &T, writer: &mut W) -> Result<(), Error> {
         <AsInteger as Way<u8>>::encode_by(&value.to_number(), writer)
     }

@@ -91,6 +91,7 @@ impl<A: Encode, B: Encode, C: Encode, D: Encode> Encode for OneOf4<A, B, C, D> {
         }
     }
 
+    #[tactic(auto, unfolding(der_core_head::specs::Shapes::octets_of))]
     fn encode<W: Writer>(&self, writer: &mut W) -> Result<(), Error> {
         match self {
             OneOf4::First(value) => value.encode(writer),

@@ -72,6 +72,7 @@ impl<A: Encode, B: Encode> Encode for OneOf2<A, B> {
         }
     }
 
+    #[tactic(auto, unfolding(der_core_head::specs::Shapes::octets_of))]
     fn encode<W: Writer>(&self, writer: &mut W) -> Result<(), Error> {
         match self {
             OneOf2::First(value) => value.encode(writer),

@@ -45,6 +45,7 @@ impl<T: Encode> Encode for Option<T> {
 
     // Inlined, so that what is answered isn't moved.
     #[inline(always)]
+    #[tactic(auto, using(der_core_octets::proofs::Added::none_added), unfolding(der_core_head::specs::Shapes::octets_of))]
     fn encode<W: Writer>(&self, writer: &mut W) -> Result<(), Error> {
         match self {
             Some(value) => value.encode(writer),

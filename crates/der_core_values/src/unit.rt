@@ -60,6 +60,7 @@ impl EncodeValue for () {
         Ok(Length { value: 0 })
     }
 
+    #[tactic(auto, using(der_core_octets::proofs::Added::write_adds), unfolding(der_core_head::specs::Shapes::contents))]
     fn encode_value<W: Writer>(&self, writer: &mut W) -> Result<(), Error> {
         writer.write(&[])
     }

@@ -106,6 +106,7 @@ impl<T: Encode> EncodeValue for Vec<T> {
         members_len(self.as_slice())
     }
 
+    #[tactic(auto, unfolding(der_core_head::specs::Shapes::contents))]
     fn encode_value<W: Writer>(&self, writer: &mut W) -> Result<(), Error> {
         encode_members(self.as_slice(), writer)
     }

@@ -3,13 +3,13 @@
 
 ghost use Rattle.std.specs.Prelude.{◌≡◌, true};
 ghost use Rattle.der_core_head.specs.declared.tag.Tag.{Tag};
-ghost use Rattle.der_core_head.specs.Shapes.{Content, ContentValue};
+ghost use Rattle.der_core_head.specs.Shapes.{Content, ContentValue, contents};
 ghost use Rattle.der_core_head.specs.Grammar.{value_at};
 ghost use Rattle.der_core_head.specs.Ranges.{IsContentInRange};
 ghost use Rattle.der_core_head.specs.Reading.{Reads, GivesNow, read_content_at};
 ghost use Rattle.der_core_head.specs.Spelling.{is_content_apart};
 ghost use Rattle.der_core_head.specs.Writing.{Writes, size_content, write_content};
-ghost use Rattle.der_core_octets.specs.Outputs.{Continues};
+ghost use Rattle.der_core_octets.specs.Outputs.{AddsFront, Continues};
 
 use crate::decode::{DecodeValue, FixedTag, ShapedValue};
 use crate::elements::{ApartValue, AsReadValue};
@@ -43,7 +43,9 @@ pub trait Way<T> {
     fn encode_by<W: Writer>(value: &T, writer: &mut W) -> Result<(), Error>
         ensures exact { Writes W.takes_memory (W.out writer.old) (W.out writer.new) result
             (write_content content_by (written_by value.now)) }
-        ensures kept { Continues (W.out writer.old) (W.out writer.new) };
+        ensures kept { Continues (W.out writer.old) (W.out writer.new) }
+        ensures front { AddsFront (contents content_by (written_by value.now)) (W.out writer.old)
+            (W.out writer.new) };
 
     /// Contents are told apart by the first tags in them, so that each value has one.
     ghost apart_by: { is_content_apart content_by ≡ true };

@@ -63,6 +63,7 @@ impl<F: EncodeFields> EncodeValue for Record<F> {
         self.fields.fields_len()
     }
 
+    #[tactic(auto, unfolding(der_core_head::specs::Shapes::contents))]
     fn encode_value<W: Writer>(&self, writer: &mut W) -> Result<(), Error> {
         self.fields.encode_fields(writer)
     }

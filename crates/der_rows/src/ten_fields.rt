@@ -63,6 +63,7 @@ impl Encode for NumberOrText {
         }
     }
 
+    #[tactic(auto, unfolding(der_core_head::specs::Shapes::octets_of))]
     fn encode<W: Writer>(&self, writer: &mut W) -> Result<(), Error> {
         match self {
             NumberOrText::Number(number) => number.encode(writer),

@@ -2,6 +2,12 @@
 //! seconds, a set's octets don't depend on the order of insertions, what is written behind a tag is
 //! read back. Each is a function with nothing to run, and its contract is the law.
 
+ghost use Rattle.std.specs.Prelude.{ℕ};
+ghost use Rattle.der_types_tagged.specs.Fields.{explicit_field};
+ghost use Rattle.der_types.specs.Levels.{NeedsNone, NeedsOneMore};
+
+use crate::*;
+use der_core::{Shaped, StrictSetOf};
 pub use der_types_any::laws::any_forms_agree;
 pub use der_types_numbers::laws::{integer_forms_agree, natural_forms_agree};
 pub use der_types_sets::laws::{borrowed_and_owned_agree, order_of_insertions};
@@ -13,3 +19,55 @@ pub use der_types_text::laws::{
 };
 pub use der_types_time::laws::{one_date, order_is_that_of_seconds};
 pub use der_types_values::laws::{bit_forms_agree, octet_forms_agree};
+
+/// How many levels of values within values the types need: none, or where they hold others, one
+/// more than those. So each nests no deeper than a reader allows where its members do.
+pub fn levels_of_types<'a, T: Shaped + 'a, F: NamedBits, const N: usize>()
+    ensures numbers { NeedsNone ⟦<bool as Shaped>⟧.shape
+        × NeedsNone ⟦<u8 as Shaped>⟧.shape
+        × NeedsNone ⟦<u16 as Shaped>⟧.shape
+        × NeedsNone ⟦<u32 as Shaped>⟧.shape
+        × NeedsNone ⟦<u64 as Shaped>⟧.shape
+        × NeedsNone ⟦<u128 as Shaped>⟧.shape
+        × NeedsNone ⟦<i8 as Shaped>⟧.shape
+        × NeedsNone ⟦<i16 as Shaped>⟧.shape
+        × NeedsNone ⟦<i32 as Shaped>⟧.shape
+        × NeedsNone ⟦<i64 as Shaped>⟧.shape
+        × NeedsNone ⟦<i128 as Shaped>⟧.shape
+        × NeedsNone ⟦<Int as Shaped>⟧.shape
+        × NeedsNone ⟦<IntRef<'static> as Shaped>⟧.shape
+        × NeedsNone ⟦<Uint as Shaped>⟧.shape
+        × NeedsNone ⟦<UintRef<'static> as Shaped>⟧.shape }
+    ensures strings { NeedsNone ⟦<BitString as Shaped>⟧.shape
+        × NeedsNone ⟦<BitStringRef<'static> as Shaped>⟧.shape
+        × NeedsNone ⟦<OctetString as Shaped>⟧.shape
+        × NeedsNone ⟦<OctetStringRef<'static> as Shaped>⟧.shape
+        × NeedsNone ⟦<BmpString as Shaped>⟧.shape
+        × NeedsNone ⟦<GeneralStringRef<'static> as Shaped>⟧.shape
+        × NeedsNone ⟦<Ia5String as Shaped>⟧.shape
+        × NeedsNone ⟦<Ia5StringRef<'static> as Shaped>⟧.shape
+        × NeedsNone ⟦<PrintableString as Shaped>⟧.shape
+        × NeedsNone ⟦<PrintableStringRef<'static> as Shaped>⟧.shape
+        × NeedsNone ⟦<TeletexString as Shaped>⟧.shape
+        × NeedsNone ⟦<TeletexStringRef<'static> as Shaped>⟧.shape
+        × NeedsNone ⟦<Utf8StringRef<'static> as Shaped>⟧.shape
+        × NeedsNone ⟦<VideotexStringRef<'static> as Shaped>⟧.shape
+        × NeedsNone ⟦<String as Shaped>⟧.shape
+        × NeedsNone ⟦<&'static str as Shaped>⟧.shape }
+    ensures others { NeedsNone ⟦<Any as Shaped>⟧.shape
+        × NeedsNone ⟦<AnyRef<'static> as Shaped>⟧.shape
+        × NeedsNone ⟦<Null as Shaped>⟧.shape
+        × NeedsNone ⟦<SequenceRef<'static> as Shaped>⟧.shape
+        × NeedsNone ⟦<DateTime as Shaped>⟧.shape
+        × NeedsNone ⟦<GeneralizedTime as Shaped>⟧.shape
+        × NeedsNone ⟦<UtcTime as Shaped>⟧.shape
+        × NeedsNone ⟦<FlagSet<F> as Shaped>⟧.shape }
+    ensures lists { NeedsOneMore ⟦<Vec<T> as Shaped>⟧.shape T.shape
+        × NeedsOneMore ⟦<[T; N] as Shaped>⟧.shape T.shape
+        × NeedsOneMore ⟦<SequenceOf<T, N> as Shaped>⟧.shape T.shape }
+    ensures sets { NeedsOneMore ⟦<SetOf<T, N> as Shaped>⟧.shape T.shape
+        × NeedsOneMore ⟦<SetOfRef<'a, T> as Shaped>⟧.shape T.shape
+        × NeedsOneMore ⟦<SetOfVec<T> as Shaped>⟧.shape T.shape
+        × NeedsOneMore ⟦<StrictSetOf<T> as Shaped>⟧.shape T.shape }
+    ensures tagged { (class n : ℕ) → NeedsOneMore (explicit_field class n T.shape) T.shape }
+{}

@@ -334,7 +334,7 @@ impl<'a> Encode for AnyRef<'a> {
 
     // Inlined, so that what is answered isn't moved.
     #[inline(always)]
-    #[tactic(auto, unfolding(der_core_head::specs::Writing::write_tlv))]
+    #[tactic(auto, using(der_core_octets::proofs::Added::none_added), unfolding(der_core_head::specs::Writing::write_tlv))]
     fn encode<W: Writer>(&self, writer: &mut W) -> Result<(), Error> {
         let len = slice_len(self.bytes)?;
         encode_header(writer, self.tag, len)?;

@@ -8,7 +8,7 @@ ghost use Rattle.const_oid.specs.Orders as orders;
 ghost use Rattle.der_core_head.specs.Integers.{integer_of, integer_octets, is_redundant};
 ghost use Rattle.der_core_head.specs.Writing.{Writes, put};
 ghost use Rattle.der_types_numbers.specs.Numbers.{has_leading_zero, is_first_bit_set};
-ghost use Rattle.der_core_octets.specs.Outputs.{Continues};
+ghost use Rattle.der_core_octets.specs.Outputs.{AddsFront, Continues};
 
 use der_core::making::{encode_behind, has_redundant_octet};
 use der_core::{Error, Writer};
@@ -121,6 +121,8 @@ pub fn encode_natural<W: Writer>(writer: &mut W, octets: &[u8]) -> Result<(), Er
     ensures exact { Writes W.takes_memory (W.out writer.old) (W.out writer.new) result
         (put (integer_octets (pos (number_from_digits 256 octets.now)))) }
     ensures kept { Continues (W.out writer.old) (W.out writer.new) }
+    ensures front { AddsFront (integer_octets (pos (number_from_digits 256 octets.now)))
+        (W.out writer.old) (W.out writer.new) }
 {
     if begins_with_one_bit(octets) {
         return encode_behind(writer, 0, octets);

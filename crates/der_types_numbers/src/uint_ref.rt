@@ -249,6 +249,7 @@ impl<'a> EncodeLeaf for UintRef<'a> {
         Ok(Length::try_from(content_len(self.bytes))?)
     }
 
+    #[tactic(auto, unfolding(der_core_head::specs::Shapes::contents))]
     fn encode_leaf<W: Writer>(&self, writer: &mut W) -> Result<(), Error> {
         encode_natural(writer, self.bytes)
     }

@@ -103,6 +103,11 @@ octets_written memory s f l old new r h some writes =
     subst (λ (v : List (Value s)). Writes memory old new r (write_in_order not_below (write s) (octets_of s) v)) (sym (of_octets s f l h some))
     (writes_ordered memory s v old new r (λ _. h.joined.ascend) (writes_same memory old new r (write_many (write s) v) (put l.octets) same writes))
 
+-- the octets are those of the content
+pub octets_lent : {A : Type 0} (s : Shape) (f : A → Value s) (l : Lent A) → IsLent s f l → 0 < length l.octets → l.octets ≡ contents (nested (in_order not_below s)) (members_lent s f l)
+unfolding contents
+octets_lent s f l h some = h.joined.octets_are ∙ ap (body_octets (many s)) (sym (of_octets s f l h some))
+
 -- The order of contents, whichever way sets are lent.
 
 -- Into memory a value is written, or its encoding passes what a length can count, or a strict set in it doesn't rise.

@@ -216,6 +216,7 @@ impl<T: Encode, const N: usize> EncodeValue for SequenceOf<T, N> {
         members_len(self.members.as_slice())
     }
 
+    #[tactic(auto, unfolding(der_core_head::specs::Shapes::contents))]
     fn encode_value<W: Writer>(&self, writer: &mut W) -> Result<(), Error> {
         encode_members(self.members.as_slice(), writer)
     }

@@ -239,7 +239,7 @@ impl<T: DerOrd + Member + Default + Drop, const N: usize> SetOf<T, N> {
     /// Members past the `N`th aren't looked at.
     ///
     /// # Errors
-    /// `Overflow` for 2^32 octets or more, else the first fault from the left, among them
+    /// `Overflow` for 2^32 octets or more, else the first error met in reading, among them
     /// `Overlength` for more than `N` members, `TrailingData` where octets are left after the set,
     /// or `OutOfMemory`.
     pub fn from_der<'a>(alloc: Global, bytes: &'a [u8]) -> Result<SetOf<T, N>, Error>
@@ -300,6 +300,7 @@ impl<T: Encode, const N: usize> EncodeValue for SetOf<T, N> {
         members_len(self.members.as_slice())
     }
 
+    #[tactic(auto, unfolding(der_core_head::specs::Shapes::contents))]
     fn encode_value<W: Writer>(&self, writer: &mut W) -> Result<(), Error> {
         encode_members(self.members.as_slice(), writer)
     }

@@ -338,6 +338,7 @@ impl<'a, T: Encode + InRange> EncodeValue for SetOfRef<'a, T> {
         self.content_len()
     }
 
+    #[tactic(auto, unfolding(der_core_head::specs::Shapes::contents))]
     fn encode_value<W: Writer>(&self, writer: &mut W) -> Result<(), Error> {
         if self.octets.is_empty() {
             list_in_range(self.values);

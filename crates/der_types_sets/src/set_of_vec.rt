@@ -324,7 +324,7 @@ impl<T: DerOrd + Member + Drop> SetOfVec<T> {
     /// The set that octets spell by DER, all of the octets, whose members stand in any order.
     ///
     /// # Errors
-    /// `Overflow` for 2^32 octets or more, else the first fault from the left, `TrailingData` where
+    /// `Overflow` for 2^32 octets or more, else the first error met in reading, `TrailingData` if
     /// octets are left after the set, or `OutOfMemory`.
     pub fn from_der<'a>(alloc: Global, bytes: &'a [u8]) -> Result<SetOfVec<T>, Error>
     where
@@ -393,6 +393,7 @@ impl<T: Encode> EncodeValue for SetOfVec<T> {
         self.members.value_len()
     }
 
+    #[tactic(auto, unfolding(der_core_head::specs::Shapes::contents))]
     fn encode_value<W: Writer>(&self, writer: &mut W) -> Result<(), Error> {
         self.members.encode_value(writer)
     }

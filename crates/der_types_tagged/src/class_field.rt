@@ -4,7 +4,7 @@ ghost use Rattle.std.specs.Prelude.{◌≡◌, ◌↔◌, ◌/◌, [], Ok, None,
 ghost use Rattle.std.specs.Prelude.{IfErr};
 ghost use Rattle.der_core_head.specs.Classes.{tag_class};
 ghost use Rattle.der_core_head.specs.Shapes.{nested, only, optional, tagged, IsContent, IsValid};
-ghost use Rattle.der_core_head.specs.Shapes.{octets_of};
+ghost use Rattle.der_core_head.specs.Shapes.{contents, octets_of};
 ghost use Rattle.der_core_head.specs.Spelling.{is_content_apart};
 ghost use Rattle.der_core_head.specs.Grammar.{plain_option};
 ghost use Rattle.der_core_head.specs.Reading.{Gives, GivesNow, Reads, read_at};
@@ -12,7 +12,7 @@ ghost use Rattle.der_core_head.specs.Writing.{Writes, size, size_content, write,
 ghost use Rattle.der_core.specs.Orders.{contents_cmp, octets_cmp, Overflows};
 ghost use Rattle.der_types_tagged.specs.Fields.{field_tag, explicit_field, implicit_field};
 ghost use Rattle.der_types_tagged.specs.Fields.{numbered_at, IsClass};
-ghost use Rattle.der_core_octets.specs.Outputs.{Continues};
+ghost use Rattle.der_core_octets.specs.Outputs.{AddsFront, Continues};
 
 use crate::class_field_ref::ClassFieldRef;
 use crate::fields::{
@@ -68,7 +68,7 @@ impl<T, const CLASS: u8> ClassField<T, CLASS> {
     /// (X.690 8.14.2). Where another tag or the end stands nothing is read.
     ///
     /// # Errors
-    /// The first fault from the left, or `OutOfMemory`; `Failed` where the reader failed before.
+    /// The first error met in reading, or `OutOfMemory`; `Failed` where the reader failed before.
     pub fn decode_explicit<'a, R: Reader<'a>>(
         alloc: Global,
         reader: &mut R,
@@ -102,7 +102,7 @@ impl<T, const CLASS: u8> ClassField<T, CLASS> {
     /// read.
     ///
     /// # Errors
-    /// The first fault from the left, or `OutOfMemory`; `Failed` where the reader failed before.
+    /// The first error met in reading, or `OutOfMemory`; `Failed` where the reader failed before.
     pub fn decode_implicit<'a, R: Reader<'a>>(
         alloc: Global,
         reader: &mut R,
@@ -134,8 +134,8 @@ impl<T, const CLASS: u8> ClassField<T, CLASS> {
     /// (X.690 8.14.2).
     ///
     /// # Errors
-    /// `TagUnexpected` behind a tag of another class, or of a primitive value; else the first fault
-    /// from the left, or `OutOfMemory`; `Failed` where the reader failed before.
+    /// `TagUnexpected` behind a tag of another class, or of a primitive value; else the first error
+    /// met in reading, or `OutOfMemory`; `Failed` where the reader failed before.
     #[tactic(auto, unfolding(crate::specs::Fields::numbered_at))]
     pub fn decode<'a, R: Reader<'a>>(
         alloc: Global,
@@ -229,6 +229,11 @@ impl<T: EncodeValue + FixedTag, const CLASS: u8> ClassField<T, CLASS> {
             → Writes W.takes_memory (W.out writer.old) (W.out writer.new) result
             (write_content T.content (T.value_written self.now.value)) }
         ensures kept { Continues (W.out writer.old) (W.out writer.new) }
+        ensures front_explicit { self.now.tag_mode ≡ TagMode.Explicit → AddsFront
+            (contents (nested (only (tagged T.fixed_tag T.content))) (T.value_written self.now.value))
+            (W.out writer.old) (W.out writer.new) }
+        ensures front_implicit { self.now.tag_mode ≡ TagMode.Implicit → AddsFront
+            (contents T.content (T.value_written self.now.value)) (W.out writer.old) (W.out writer.new) }
     {
         encode_value_of_field(writer, self.tag_mode, &self.value)
     }
@@ -264,6 +269,12 @@ impl<T: EncodeValue + FixedTag, const CLASS: u8> ClassField<T, CLASS> {
             (write (implicit_field CLASS self.now.tag_number.value T.fixed_tag T.content)
             (T.value_written self.now.value)) }
         ensures kept { Continues (W.out writer.old) (W.out writer.new) }
+        ensures front_explicit { self.now.tag_mode ≡ TagMode.Explicit → AddsFront
+            (octets_of (explicit_field CLASS self.now.tag_number.value (tagged T.fixed_tag T.content))
+            (T.value_written self.now.value)) (W.out writer.old) (W.out writer.new) }
+        ensures front_implicit { self.now.tag_mode ≡ TagMode.Implicit → AddsFront
+            (octets_of (implicit_field CLASS self.now.tag_number.value T.fixed_tag T.content)
+            (T.value_written self.now.value)) (W.out writer.old) (W.out writer.new) }
     {
         encode_field(writer, CLASS, self.tag_mode, self.tag_number, &self.value)
     }

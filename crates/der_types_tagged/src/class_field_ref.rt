@@ -1,11 +1,11 @@
 //! Lent values after tags of one class.
 
 ghost use Rattle.std.specs.Prelude.{◌≡◌, [], Ok, None, false, IsOk, IfOk, ⊤};
-ghost use Rattle.der_core_head.specs.Shapes.{nested, only, tagged, IsValid, octets_of};
+ghost use Rattle.der_core_head.specs.Shapes.{nested, only, tagged, IsValid, contents, octets_of};
 ghost use Rattle.der_core_head.specs.Reading.{Gives, GivesNow};
 ghost use Rattle.der_core_head.specs.Writing.{Writes, size, size_content, write, write_content};
 ghost use Rattle.der_types_tagged.specs.Fields.{field_tag, explicit_field, implicit_field, IsClass};
-ghost use Rattle.der_core_octets.specs.Outputs.{Continues};
+ghost use Rattle.der_core_octets.specs.Outputs.{AddsFront, Continues};
 
 use crate::class_field::ClassField;
 use crate::fields::{
@@ -101,6 +101,11 @@ impl<'a, T: EncodeValue + FixedTag, const CLASS: u8> ClassFieldRef<'a, T, CLASS>
             → Writes W.takes_memory (W.out writer.old) (W.out writer.new) result
             (write_content T.content (T.value_written self.now.value.now)) }
         ensures kept { Continues (W.out writer.old) (W.out writer.new) }
+        ensures front_explicit { self.now.tag_mode ≡ TagMode.Explicit → AddsFront
+            (contents (nested (only (tagged T.fixed_tag T.content))) (T.value_written self.now.value.now))
+            (W.out writer.old) (W.out writer.new) }
+        ensures front_implicit { self.now.tag_mode ≡ TagMode.Implicit → AddsFront
+            (contents T.content (T.value_written self.now.value.now)) (W.out writer.old) (W.out writer.new) }
     {
         encode_value_of_field(writer, self.tag_mode, self.value)
     }
@@ -136,6 +141,12 @@ impl<'a, T: EncodeValue + FixedTag, const CLASS: u8> ClassFieldRef<'a, T, CLASS>
             (write (implicit_field CLASS self.now.tag_number.value T.fixed_tag T.content)
             (T.value_written self.now.value.now)) }
         ensures kept { Continues (W.out writer.old) (W.out writer.new) }
+        ensures front_explicit { self.now.tag_mode ≡ TagMode.Explicit → AddsFront
+            (octets_of (explicit_field CLASS self.now.tag_number.value (tagged T.fixed_tag T.content))
+            (T.value_written self.now.value.now)) (W.out writer.old) (W.out writer.new) }
+        ensures front_implicit { self.now.tag_mode ≡ TagMode.Implicit → AddsFront
+            (octets_of (implicit_field CLASS self.now.tag_number.value T.fixed_tag T.content)
+            (T.value_written self.now.value.now)) (W.out writer.old) (W.out writer.new) }
     {
         encode_field(writer, CLASS, self.tag_mode, self.tag_number, self.value)
     }

@@ -1,13 +1,13 @@
 //! Fields after tags of a class and a number, by their mode.
 
 ghost use Rattle.std.specs.Prelude.{◌≡◌, [], Ok, None, false, true, IfErr};
-ghost use Rattle.der_core_head.specs.Shapes.{nested, only, tagged, IsContent, IsValid, octets_of};
+ghost use Rattle.der_core_head.specs.Shapes.{nested, only, tagged, IsContent, IsValid, contents, octets_of};
 ghost use Rattle.der_core_head.specs.Spelling.{is_content_apart};
 ghost use Rattle.der_core_head.specs.Reading.{Gives, GivesNow};
 ghost use Rattle.der_core_head.specs.Writing.{Writes, size, size_content, write, write_content};
 ghost use Rattle.der_core.specs.Orders.{contents_cmp, octets_cmp, Overflows};
 ghost use Rattle.der_types_tagged.specs.Fields.{field_tag, explicit_field, implicit_field};
-ghost use Rattle.der_core_octets.specs.Outputs.{Continues};
+ghost use Rattle.der_core_octets.specs.Outputs.{AddsFront, Continues};
 
 use der_core::making::{cmp_behind, encode_tagged, is_constructed, tag_of_class};
 use der_core::{
@@ -45,6 +45,7 @@ pub fn value_len_of_field<T: EncodeValue + FixedTag>(
 }
 
 /// Writes the content.
+#[tactic(auto, unfolding(der_core_head::specs::Shapes::contents))]
 pub fn encode_value_of_field<W: Writer, T: EncodeValue + FixedTag>(
     writer: &mut W,
     mode: TagMode,
@@ -57,6 +58,11 @@ pub fn encode_value_of_field<W: Writer, T: EncodeValue + FixedTag>(
         → Writes W.takes_memory (W.out writer.old) (W.out writer.new) result
         (write_content T.content (T.value_written value.now)) }
     ensures kept { Continues (W.out writer.old) (W.out writer.new) }
+    ensures front_explicit { mode ≡ TagMode.Explicit → AddsFront
+        (contents (nested (only (tagged T.fixed_tag T.content))) (T.value_written value.now))
+        (W.out writer.old) (W.out writer.new) }
+    ensures front_implicit { mode ≡ TagMode.Implicit → AddsFront
+        (contents T.content (T.value_written value.now)) (W.out writer.old) (W.out writer.new) }
 {
     match mode {
         TagMode::Explicit => value.encode(writer),
@@ -104,6 +110,12 @@ pub fn encode_field<W: Writer, T: EncodeValue + FixedTag>(
         (write (implicit_field class number.value T.fixed_tag T.content)
         (T.value_written value.now)) }
     ensures kept { Continues (W.out writer.old) (W.out writer.new) }
+    ensures front_explicit { mode ≡ TagMode.Explicit → AddsFront
+        (octets_of (explicit_field class number.value (tagged T.fixed_tag T.content))
+        (T.value_written value.now)) (W.out writer.old) (W.out writer.new) }
+    ensures front_implicit { mode ≡ TagMode.Implicit → AddsFront
+        (octets_of (implicit_field class number.value T.fixed_tag T.content)
+        (T.value_written value.now)) (W.out writer.old) (W.out writer.new) }
 {
     let tag = tag_of_field(class, mode, number, T::tag());
     match mode {
@@ -250,6 +262,7 @@ impl<'a, T: Encode> EncodeValue for Whole<'a, T> {
         self.0.encoded_len()
     }
 
+    #[tactic(auto, unfolding(der_core_head::specs::Shapes::contents))]
     fn encode_value<W: Writer>(&self, writer: &mut W) -> Result<(), Error> {
         self.0.encode(writer)
     }

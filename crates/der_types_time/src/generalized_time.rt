@@ -152,6 +152,7 @@ impl EncodeLeaf for GeneralizedTime {
         Ok(Length { value: 15 })
     }
 
+    #[tactic(auto, using(der_core_octets::proofs::Added::write_adds), unfolding(der_core_head::specs::Shapes::contents))]
     fn encode_leaf<W: Writer>(&self, writer: &mut W) -> Result<(), Error> {
         writer.write(&self.to_content())
     }

@@ -164,6 +164,7 @@ impl EncodeLeaf for UtcTime {
         Ok(Length { value: 13 })
     }
 
+    #[tactic(auto, using(der_core_octets::proofs::Added::write_adds), unfolding(der_core_head::specs::Shapes::contents))]
     fn encode_leaf<W: Writer>(&self, writer: &mut W) -> Result<(), Error> {
         writer.write(&self.to_content())
     }

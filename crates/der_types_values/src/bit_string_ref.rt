@@ -243,6 +243,7 @@ impl<'a> EncodeLeaf for BitStringRef<'a> {
         len_behind(self.byte_len())
     }
 
+    #[tactic(auto, unfolding(der_core_head::specs::Shapes::contents))]
     fn encode_leaf<W: Writer>(&self, writer: &mut W) -> Result<(), Error> {
         encode_behind(writer, self.unused_bits, self.bytes)
     }

@@ -220,6 +220,7 @@ impl<F: NamedBits> EncodeLeaf for FlagSet<F> {
         Ok(Length { value: len as u32 })
     }
 
+    #[tactic(auto, using(der_core_octets::proofs::Added::write_adds), unfolding(der_core_head::specs::Shapes::contents))]
     fn encode_leaf<W: Writer>(&self, writer: &mut W) -> Result<(), Error> {
         let (octets, len) = named_octets_of(self.flags.to_number());
         writer.write(&octets[..len])

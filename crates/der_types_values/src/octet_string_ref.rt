@@ -76,7 +76,7 @@ impl<'a> OctetStringRef<'a> {
     /// The value that the octets spell, all of the octets.
     ///
     /// # Errors
-    /// The first fault from the left, `TrailingData` where octets are left after the value, or
+    /// The first error met in reading, `TrailingData` where octets are left after the value, or
     /// `OutOfMemory`.
     pub fn decode_into<T: Decode<'a, SliceReader<'a>>>(&self, alloc: Global) -> Result<T, Error>
         // What is read is spelled so.

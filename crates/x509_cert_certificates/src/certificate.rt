@@ -81,7 +81,7 @@ impl<P: Profile> CertificateInner<P> {
     /// ```
     ///
     /// # Errors
-    /// The first fault from the left, or `OutOfMemory`.
+    /// The first error met in reading, or `OutOfMemory`.
     pub fn from_der(alloc: Global, bytes: &[u8]) -> Result<CertificateInner<P>, Error>
         // What is read is spelled so.
         ensures spelled { IfOk result

@@ -61,7 +61,7 @@ impl CertReq {
     /// Reads a request, all of the octets.
     ///
     /// # Errors
-    /// The first fault from the left, or `OutOfMemory`.
+    /// The first error met in reading, or `OutOfMemory`.
     pub fn try_from_bytes(alloc: Global, bytes: &[u8]) -> Result<CertReq, Error>
         // What is read is spelled so.
         ensures spelled { IfOk result (λ r. Spells (cert_req Bound) (cert_req_plain r) bytes.now) }

@@ -220,6 +220,7 @@ impl<P: Profile> EncodeLeaf for SerialNumber<P> {
         self.inner.value_len()
     }
 
+    #[tactic(auto, unfolding(der_core_head::specs::Shapes::contents))]
     fn encode_leaf<W: Writer>(&self, writer: &mut W) -> Result<(), Error> {
         self.inner.encode_value(writer)
     }

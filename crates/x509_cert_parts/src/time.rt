@@ -102,6 +102,7 @@ impl Encode for Time {
 
     // Inlined, so that what is answered isn't moved.
     #[inline(always)]
+    #[tactic(auto, unfolding(der_core_head::specs::Shapes::octets_of))]
     fn encode<W: Writer>(&self, writer: &mut W) -> Result<(), Error> {
         match self {
             Time::UtcTime(time) => time.encode(writer),

@@ -138,6 +138,7 @@ impl<P: Profile> EncodeValue for Validity<P> {
         self.spelled()?.fields_len()
     }
 
+    #[tactic(auto, using(der_core_octets::proofs::Added::none_added), unfolding(der_core_head::specs::Shapes::contents))]
     fn encode_value<W: Writer>(&self, writer: &mut W) -> Result<(), Error> {
         self.spelled()?.encode_fields(writer)
     }

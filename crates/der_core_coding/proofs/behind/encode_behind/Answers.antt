@@ -1,5 +1,6 @@
-use Rattle.std.proofs.Common.{[], ◌∷◌}
+use Rattle.std.proofs.Common.{[], ◌∷◌, refl}
 use Rattle.std.proofs.lemmas.Result.{err_from_is_err_and}
+use Rattle.der_core_octets.proofs.Added.{put_then_added, write_adds}
 use Rattle.der_core_coding.proofs.Fronts.{first_refused, writes_both}
 use Rattle.der_core_coding.proofs.behind.encode_behind.Goals as goal
 
@@ -10,3 +11,7 @@ returns-in_err-write_byte-clause-exact g c =
 
 pub returns-clause-exact : goal.returns-clause-exact
 returns-clause-exact g c = writes_both g.W.Writer.takes_memory (c.args.first ∷ []) c.args.octets.now _ _ _ _ c.in_ok-write_byte.ensures.exact c.write.ensures.exact
+
+pub returns-clause-front : goal.returns-clause-front
+returns-clause-front g c =
+    put_then_added (c.args.first ∷ []) c.args.octets.now _ _ _ c.in_ok-write_byte.ensures.exact (write_adds _ _ _ _ _ _ c.write.ensures.exact c.write.ensures.refused refl)

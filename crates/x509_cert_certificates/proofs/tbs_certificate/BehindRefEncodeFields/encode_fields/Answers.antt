@@ -1,4 +1,7 @@
+use Rattle.std.proofs.Common.{subst}
 use Rattle.const_oid.specs.Bound.{Bound}
+use Rattle.der_core_head.specs.Shapes.{BodyValue, body_octets}
+use Rattle.der_core_octets.specs.Outputs.{AddsFront}
 use Rattle.x509_cert_certificates.specs.Certificates.{from_validity}
 use Rattle.x509_cert_names.proofs.Rows.{written}
 use Rattle.x509_cert_certificates.proofs.tbs_certificate.BehindRefEncodeFields.encode_fields.Goals as goal
@@ -6,3 +9,7 @@ use Rattle.x509_cert_certificates.proofs.tbs_certificate.BehindRefEncodeFields.e
 pub returns-clause-exact : goal.returns-clause-exact
 returns-clause-exact g c =
     written (from_validity Bound) _ _ g.W.Writer.takes_memory (g.W.Writer.out c.args.writer.now) (g.W.Writer.out c.encode_fields.new.writer) c.encode_fields.result c.behind.ensures c.encode_fields.ensures.exact
+
+pub returns-clause-front : goal.returns-clause-front
+returns-clause-front g c =
+    subst (λ (v : BodyValue (from_validity Bound)). AddsFront (body_octets (from_validity Bound) v) (g.W.Writer.out c.args.writer.now) (g.W.Writer.out c.encode_fields.new.writer)) c.behind.ensures c.encode_fields.ensures.front

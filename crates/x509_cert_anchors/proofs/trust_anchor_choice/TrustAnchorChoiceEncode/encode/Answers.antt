@@ -1,0 +1,10 @@
+use Rattle.std.proofs.Common.{subst}
+use Rattle.const_oid.specs.Bound.{Bound}
+use Rattle.der_core_head.specs.Shapes.{Value, octets_of}
+use Rattle.der_core_octets.specs.Outputs.{AddsFront}
+use Rattle.x509_cert_anchors.specs.Anchors.{trust_anchor_choice}
+use Rattle.x509_cert_anchors.proofs.trust_anchor_choice.TrustAnchorChoiceEncode.encode.Goals as goal
+
+pub returns-clause-front : goal.returns-clause-front
+returns-clause-front g c =
+    subst (λ (v : Value (trust_anchor_choice Bound g.P.Profile.serial_limit)). AddsFront (octets_of (trust_anchor_choice Bound g.P.Profile.serial_limit) v) (g.W.Writer.out c.args.writer.now) (g.W.Writer.out c.encode.new.writer)) c.cases.ensures c.encode.ensures.front
