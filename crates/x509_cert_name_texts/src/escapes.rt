@@ -3,7 +3,8 @@
 ghost use Rattle.std.specs.Prelude.{◌≡◌, ◌<◌, length, IfOk};
 ghost use Rattle.der_core_head.specs.Reading.{Gives, GivesNow};
 ghost use Rattle.hex.specs.Hex.{hex_digit_value};
-ghost use Rattle.x509_cert_name_texts.specs.Escapes.{is_sign, escape, undone, hex_octets};
+ghost use Rattle.x509_cert_name_texts.specs.Answers.{GivesBy};
+ghost use Rattle.x509_cert_name_texts.specs.Escapes.{is_sign, escape, ReadsOctets, hex_octets};
 
 use der_core_head::{Error, ErrorKind};
 use hex::FromHexError;
@@ -52,7 +53,7 @@ fn escape(behind: &[u8]) -> Result<(u8, &[u8]), Error>
 /// # Errors
 /// `Failed` for any other octet after a backslash, or `OutOfMemory`.
 pub fn undo_escapes(alloc: Global, text: &[u8]) -> Result<Vec<u8>, Error>
-    ensures { Gives (λ v. v.items) result (undone text.now) }
+    ensures { GivesBy (λ v. v.items) result (ReadsOctets text.now) }
 {
     let mut octets = Vec::new(alloc);
     let mut left = text;

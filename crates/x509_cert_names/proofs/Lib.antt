@@ -6,3 +6,4 @@ pub mod OneName
 mod TextBounds
 mod PlainSpelled
 pub mod SameOctets
+mod ReadBack

@@ -1,5 +1,6 @@
 -- Lists of lists, seen by their elements.
-use Rattle.std.proofs.Common.{◌≡◌, List, [], ◌∷◌, ◌++◌, refl, ap, ◌∙◌, flat_map}
+use Rattle.std.proofs.Common.{◌≡◌, List, [], ◌∷◌, ◌++◌, reverse, refl, sym, ap, ◌∙◌, subst, flat_map}
+use Rattle.std.proofs.lemmas.List.{reverse-append}
 use Rattle.std.specs.List.{AllByRecursion}
 use Rattle.der_core_head.specs.Grammar.{plain_list}
 use Rattle.der_core_head.proofs.Results.{plain-append}
@@ -11,3 +12,7 @@ plain_all f (x ∷ xs) = plain-append f x (flat_map (λ r. r) xs) ∙ ap (λ zs.
 pub all_more : {A : Type 0} (P : A → Type 0) (xs : List A) (y : A) → AllByRecursion P xs → P y → AllByRecursion P (xs ++ y ∷ [])
 all_more P [] y h p = (p, tt)
 all_more P (x ∷ xs) y h p = (h.0, all_more P xs y h.1 p)
+
+pub all_turned : {A : Type 0} (P : A → Type 0) (xs : List A) → AllByRecursion P xs → AllByRecursion P (reverse xs)
+all_turned P [] h = tt
+all_turned {A} P (x ∷ xs) h = subst (λ (ys : List A). AllByRecursion P ys) (sym (reverse-append (x ∷ []) xs)) (all_more P (reverse xs) x (all_turned P xs h.1) h.0)

@@ -1,24 +1,28 @@
--- A text spells one name, where it has an encoding, and isn't refused then; each relative name has an attribute.
-use Rattle.std.proofs.Common.{◌≡◌, ℕ, ◌<◌, List, [], ◌∷◌, ◌++◌, length, reverse, Result, Ok, Err, refl, sym, ap, ◌∙◌, subst, arith, inl, inr, IfOk, IsPermutation, ◌≤◌, take, get_or, Option, Some, None, ◌⊎◌, length-append, append-nil, map}
+-- A text spells one name, and isn't refused then; each relative name has an attribute.
+use Rattle.std.proofs.Common.{◌≡◌, ℕ, ◌<◌, List, [], ◌∷◌, ◌++◌, length, reverse, Result, Ok, Err, refl, sym, ap, ◌∙◌, subst, arith, inl, inr, IfOk, IsPermutation, ◌≤◌, take, get_or, Option, Some, None, ◌⊎◌, length-append, append-nil, map, unwrap_or}
 use Rattle.std.specs.List.{AllByRecursion, IsDistinct}
 use Rattle.std.proofs.lemmas.List.{reverse-append}
-use Rattle.std.proofs.lemmas.List.Sorted.{IsPermutation-reverse, IsPermutation-sym, IsPermutation-trans, length_permutation}
+use Rattle.std.proofs.lemmas.List.Sorted.{IsPermutation-sym, IsPermutation-trans, length_permutation}
 use Rattle.std.proofs.lemmas.Map.Keys.{IsDistinct-IsPermutation}
 use Rattle.const_oid.specs.Bound.{Bound}
 use Rattle.der_core_head.specs.declared.error.ErrorKind.{ErrorKind}
 use Rattle.der_core_head.specs.Grammar.{plain_list}
-use Rattle.der_core_head.specs.Shapes.{IsBody, IsContent, IsValid}
+use Rattle.der_core_head.specs.Octets.{◌>>=◌}
+use Rattle.der_core_head.specs.Shapes.{AnyValue, IsValid}
 use Rattle.der_core_head.proofs.Results.{plain-append, plain_permutation}
 use Rattle.der_core.specs.Placed.{AllValid}
 use Rattle.der_types_sets.proofs.Arranged.{valid_moved}
 use Rattle.der_types_sets.proofs.AscendingSteps.{ascends-plain, one_set}
+use Rattle.x509_cert_name_texts.specs.Escapes.{ReadsOctets}
 use Rattle.x509_cert_name_texts.specs.Pieces.{ReadsPieces, Counts, HasNone, IsFirstPiece, in_front_of}
 use Rattle.x509_cert_names.specs.declared.attribute_type_and_value.AttributeTypeAndValue.{AttributeTypeAndValue}
-use Rattle.x509_cert_names.specs.Names.{PlainName, name, relative_name, type_and_value}
+use Rattle.x509_cert_names.specs.Names.{PlainName, type_and_value}
 use Rattle.x509_cert_names.specs.NameTexts.{ReadsAttribute, ReadsName, ReadsRelative, name_printed}
 use Rattle.x509_cert_names.specs.Pairs.{pair_plain, relative_plain, same_pair, same_pair_equiv}
 use Rattle.x509_cert_names.specs.PlainTexts.{SpellsName, attribute_of, name_text}
-use Rattle.x509_cert_names.proofs.Lists.{all_more}
+use Rattle.x509_cert_names.specs.ValueTexts.{ReadsValue, encoded_value, of_content, tag_for}
+use Rattle.x509_cert_name_texts.proofs.EscapeSteps.{stands_for_one}
+use Rattle.x509_cert_names.proofs.Lists.{all_turned}
 use Rattle.std.specs.Prelude.{⊤}
 use Rattle.std.proofs.lemmas.Bool.{cases_lt}
 use Rattle.const_oid.proofs.DigitLaws.{split-same_length}
@@ -114,81 +118,38 @@ module _ {A E : Type 0} (separator : ℕ) (reads : List ℕ → Result A E → T
     agree (ReadsPieces.refused text p left d f h) (ReadsPieces.more text1 q u b s g k m) = tt
     agree (ReadsPieces.refused text p left d f h) (ReadsPieces.refused text1 q left1 d1 g k) = tt
 
--- attributes are read by a function
-same_attribute : (w : List ℕ) (a b : AttributeTypeAndValue) → ReadsAttribute Bound w (Ok a) → ReadsAttribute Bound w (Ok b) → a ≡ b
-same_attribute w a b h k = cc
+-- A text has one value at most
 
-not_both : (w : List ℕ) (a : AttributeTypeAndValue) (e : ErrorKind) → ReadsAttribute Bound w (Ok a) → ReadsAttribute Bound w (Err e) → ⊥
-not_both w a e h k = cc
+one_octets : (w : List ℕ) (r s : Result (List ℕ) ErrorKind) → ReadsOctets w r → ReadsOctets w s → r ≡ s
+one_octets w (Ok x) (Ok y) h k = ap (λ (v : List ℕ). Ok v) (stands_for_one w x y h k)
+one_octets w (Ok x) (Err e) h k = absurd (k.1 x h)
+one_octets w (Err d) (Ok y) h k = absurd (h.1 y k)
+one_octets w (Err d) (Err e) h k = cc (h.0, k.0)
 
-all_equal : (xs ys : List AttributeTypeAndValue) → AllSame 43 (ReadsAttribute Bound) (λ a b. a ≡ b) (λ a. ⊥) xs ys → xs ≡ ys
-all_equal [] [] h = refl
-all_equal (x ∷ xs) (y ∷ ys) h = let more = all_equal xs ys h.1 in rw (h.0, more) refl
-all_equal xs ys h = absurd h
+one_value : (arcs w : List ℕ) (r s : Result AnyValue ErrorKind) → ReadsValue arcs w r → ReadsValue arcs w s → r ≡ s
+one_value arcs w r s (ReadsValue.hexstring d e f) (ReadsValue.hexstring c g h) = let same : d ≡ c = cc (e, g) in f ∙ ap encoded_value same ∙ sym h
+one_value arcs w r s (ReadsValue.hexstring d e f) (ReadsValue.string n h) = absurd (n d e)
+one_value arcs w r s (ReadsValue.string n h) (ReadsValue.hexstring d e f) = absurd (n d e)
+one_value arcs w r s (ReadsValue.string n h) (ReadsValue.string m k) = h.2 ∙ ap (λ (o : Result (List ℕ) ErrorKind). o >>= of_content (tag_for arcs)) (one_octets w h.0 k.0 h.1 k.1) ∙ sym k.2
 
-none_odd : (xs : List AttributeTypeAndValue) → AnyOdd 43 (ReadsAttribute Bound) (λ a b. a ≡ b) (λ a. ⊥) xs → ⊥
-none_odd [] h = h
-none_odd (x ∷ xs) (inl h) = h
-none_odd (x ∷ xs) (inr h) = none_odd xs h
+value_again : (a b v w : List ℕ) (r s : Result AnyValue ErrorKind) → a ≡ b → v ≡ w → ReadsValue a v r → ReadsValue b w s → r ≡ s
+value_again a b v w r s e f h k = one_value a v r s h (subst (λ x. ReadsValue x v s) (sym e) (subst (λ x. ReadsValue b x s) (sym f) k))
 
-one_members : (w : List ℕ) (xs ys : List AttributeTypeAndValue) → ReadsPieces 43 (ReadsAttribute Bound) w (Ok xs) → ReadsPieces 43 (ReadsAttribute Bound) w (Ok ys) → xs ≡ ys
-one_members w xs ys h k = all_equal xs ys (agree 43 (ReadsAttribute Bound) (λ a b. a ≡ b) (λ a. ⊥) same_attribute not_both h k)
+one_pair : (o : Option (List ℕ × List ℕ)) (key rest other left : List ℕ) → o ≡ Some (key, rest) → o ≡ Some (other, left) → (key ≡ other) × (rest ≡ left)
+one_pair o key rest other left e f =
+    let first : Option (List ℕ × List ℕ) → List ℕ = λ p. (unwrap_or p ([], [])).0 in
+    let second : Option (List ℕ × List ℕ) → List ℕ = λ p. (unwrap_or p ([], [])).1 in
+    (ap first (sym e ∙ f), ap second (sym e ∙ f))
 
-no_fault : (w : List ℕ) (xs : List AttributeTypeAndValue) (e : ErrorKind) → ReadsPieces 43 (ReadsAttribute Bound) w (Ok xs) → ReadsPieces 43 (ReadsAttribute Bound) w (Err e) → ⊥
-no_fault w xs e h k = none_odd xs (agree 43 (ReadsAttribute Bound) (λ a b. a ≡ b) (λ a. ⊥) same_attribute not_both h k)
+-- what each value has, each plain value has
+all_plain : {A B : Type 0} (f : A → B) (P : B → Type 0) (xs : List A) → AllByRecursion (λ a. P (f a)) xs → AllByRecursion P (plain_list f xs)
+all_plain f P [] h = tt
+all_plain f P (x ∷ xs) h = (h.0, all_plain f P xs h.1)
 
--- what each plain value has, each value has
-all_behind : {A B : Type 0} (f : A → B) (P : B → Type 0) (xs : List A) → AllByRecursion P (plain_list f xs) → AllByRecursion (λ a. P (f a)) xs
-all_behind f P [] h = tt
-all_behind f P (x ∷ xs) h = (h.0, all_behind f P xs h.1)
-
-members_valid : (r : List AttributeTypeAndValue) → IsValid (relative_name Bound) (relative_plain r) → AllByRecursion (λ a. IsValid (type_and_value Bound) a) (relative_plain r)
-unfolding IsValid IsContent IsBody
-members_valid r v = v.0.0
-
-relatives_valid : (n : List (List AttributeTypeAndValue)) → IsValid (name Bound) (plain_list relative_plain n) → AllByRecursion (λ r. IsValid (relative_name Bound) r) (plain_list relative_plain n)
-unfolding IsValid IsContent IsBody
-relatives_valid n v = v.0
-
--- a relative name that has an encoding is the only one that the text spells, and the text isn't refused
-abbrev IsOnly : List AttributeTypeAndValue → List AttributeTypeAndValue → Type 0
-IsOnly r s = IsValid (relative_name Bound) (relative_plain r) → relative_plain r ≡ relative_plain s
-
-abbrev IsWithoutEncoding : List AttributeTypeAndValue → Type 0
-IsWithoutEncoding r = IsValid (relative_name Bound) (relative_plain r) → ⊥
-
-one_relative : (w : List ℕ) (r s : List AttributeTypeAndValue) → ReadsRelative Bound w (Ok r) → ReadsRelative Bound w (Ok s) → IsOnly r s
-one_relative w r s (ReadsRelative.set xs r1 h p a d) (ReadsRelative.set ys s1 k q b e) = λ v.
-    let back = IsPermutation-sym xs r p in
-    let there = subst (λ (zs : List AttributeTypeAndValue). IsPermutation zs s) (sym (one_members w xs ys h k)) q in
-    let moved = IsPermutation-trans r xs s back there in
-    one_set (type_and_value Bound) (relative_plain r) (relative_plain s) refl refl (members_valid r v)
-    (ascends-plain (type_and_value Bound) pair_plain r a) (ascends-plain (type_and_value Bound) pair_plain s b) (plain_permutation pair_plain r s moved)
-
-not_refused : (w : List ℕ) (r : List AttributeTypeAndValue) (e : ErrorKind) → ReadsRelative Bound w (Ok r) → ReadsRelative Bound w (Err e) → IsWithoutEncoding r
-not_refused w r e (ReadsRelative.set xs r1 h p a d) (ReadsRelative.refused e1 k) = absurd (no_fault w xs e h k)
-not_refused w r e (ReadsRelative.set xs r1 h p a d) (ReadsRelative.twice ys k none) =
-    let same = one_members w xs ys h k in
-    let distinct = IsDistinct-IsPermutation same_pair same_pair_equiv.symm r xs (IsPermutation-sym xs r p) d in
-    absurd (none (subst (λ (zs : List AttributeTypeAndValue). IsDistinct same_pair zs) same distinct))
-not_refused w r e (ReadsRelative.set xs r1 h p a d) (ReadsRelative.too_long ys k none) = λ v.
-    let same = one_members w xs ys h k in
-    let all = all_behind pair_plain (λ a. IsValid (type_and_value Bound) a) r (members_valid r v) in
-    let there = valid_moved (type_and_value Bound) pair_plain r xs (IsPermutation-sym xs r p) all in
-    none (subst (λ (zs : List AttributeTypeAndValue). AllValid (type_and_value Bound) pair_plain zs) same there)
-
-abbrev AllRight : List (List AttributeTypeAndValue) → Type 0
-AllRight n = AllByRecursion (λ r. IsValid (relative_name Bound) (relative_plain r)) n
-
-all_only : (n m : List (List AttributeTypeAndValue)) → AllSame 44 (ReadsRelative Bound) IsOnly IsWithoutEncoding n m → AllRight n → plain_list relative_plain n ≡ plain_list relative_plain m
-all_only [] [] h v = refl
-all_only (r ∷ n) (s ∷ m) h v = rw (h.0 v.0, all_only n m h.1 v.1) refl
-all_only n m h v = absurd h
-
-none_has : (n : List (List AttributeTypeAndValue)) → AnyOdd 44 (ReadsRelative Bound) IsOnly IsWithoutEncoding n → AllRight n → ⊥
-none_has [] h v = h
-none_has (r ∷ n) (inl h) v = h v.0
-none_has (r ∷ n) (inr h) v = none_has n h v.1
+none_odd : {A E : Type 0} (separator : ℕ) (reads : List ℕ → Result A E → Type 0) (Same : A → A → Type 0) (xs : List A) → AnyOdd separator reads Same (λ a. ⊥) xs → ⊥
+none_odd separator reads Same [] h = h
+none_odd separator reads Same (x ∷ xs) (inl h) = h
+none_odd separator reads Same (x ∷ xs) (inr h) = none_odd separator reads Same xs h
 
 -- in turn, and the last one first
 turned : {A B : Type 0} (f : A → B) (xs : List A) → plain_list f (reverse xs) ≡ reverse (plain_list f xs)
@@ -197,44 +158,81 @@ turned f (x ∷ xs) =
     ap (plain_list f) (reverse-append (x ∷ []) xs) ∙ plain-append f (reverse xs) (x ∷ []) ∙ ap (λ zs. zs ++ f x ∷ []) (turned f xs)
     ∙ sym (reverse-append (f x ∷ []) (plain_list f xs))
 
-right_turned : (n : List (List AttributeTypeAndValue)) → IsValid (name Bound) (plain_list relative_plain (reverse n)) → AllRight n
-right_turned n v =
-    let all = all_behind relative_plain (λ r. IsValid (relative_name Bound) r) (reverse n) (relatives_valid (reverse n) v) in
-    valid_moved (relative_name Bound) relative_plain (reverse n) n (IsPermutation-sym n (reverse n) (IsPermutation-reverse n)) all
+abbrev IsOnly : List AttributeTypeAndValue → List AttributeTypeAndValue → Type 0
+IsOnly r s = relative_plain r ≡ relative_plain s
 
-one_name : (text : List ℕ) (n m : List (List AttributeTypeAndValue)) → ReadsName Bound text (Ok n) → ReadsName Bound text (Ok m) → IsValid (name Bound) (plain_list relative_plain n)
-    → plain_list relative_plain n ≡ plain_list relative_plain m
-one_name text n m (ReadsName.empty e) (ReadsName.empty f) v = refl
-one_name text n m (ReadsName.empty e) (ReadsName.pieces s some k) v = absurd (some e)
-one_name text n m (ReadsName.pieces r some h) (ReadsName.empty e) v = absurd (some e)
-one_name text n m (ReadsName.pieces r some h) (ReadsName.pieces s other k) v =
-    let same = all_only r s (agree 44 (ReadsRelative Bound) IsOnly IsWithoutEncoding one_relative not_refused h k) (right_turned r v) in
-    turned relative_plain r ∙ ap (λ zs. reverse zs) same ∙ sym (turned relative_plain s)
+module _ (bound : ℕ) where
+  same_attribute : (w : List ℕ) (a b : AttributeTypeAndValue) → ReadsAttribute bound w (Ok a) → ReadsAttribute bound w (Ok b) → a ≡ b
+  same_attribute w a b (ReadsAttribute.member key rest a1 e f v) (ReadsAttribute.member other left b1 g h u) =
+      let p = one_pair _ key rest other left e g in
+      let types : a.oid ≡ b.oid = cc (f, h, p.0) in
+      let read = value_again a.oid b.oid rest left (Ok a.value) (Ok b.value) types p.1 v u in
+      let values : a.value ≡ b.value = cc read in
+      λ i. record { oid = types i; value = values i }
 
-name_stands : (text : List ℕ) (n : List (List AttributeTypeAndValue)) (e : ErrorKind) → ReadsName Bound text (Ok n) → ReadsName Bound text (Err e) → IsValid (name Bound) (plain_list relative_plain n) → ⊥
-name_stands text n e (ReadsName.empty f) (ReadsName.refused d some k) v = some f
-name_stands text n e (ReadsName.pieces r some h) (ReadsName.refused d other k) v =
-    none_has r (agree 44 (ReadsRelative Bound) IsOnly IsWithoutEncoding one_relative not_refused h k) (right_turned r v)
+  not_both : (w : List ℕ) (a : AttributeTypeAndValue) (k : ErrorKind) → ReadsAttribute bound w (Ok a) → ReadsAttribute bound w (Err k) → ⊥
+  not_both w a k (ReadsAttribute.member key rest a1 e f v) (ReadsAttribute.no_equals g) = cc (e, g)
+  not_both w a k (ReadsAttribute.member key rest a1 e f v) (ReadsAttribute.no_key other left k1 g h) = let p = one_pair _ key rest other left e g in cc (f, h, p.0)
+  not_both w a k (ReadsAttribute.member key rest a1 e f v) (ReadsAttribute.no_value other left arcs k1 g h u) =
+      let p = one_pair _ key rest other left e g in
+      let types : a.oid ≡ arcs = cc (f, h, p.0) in
+      let read = value_again a.oid arcs rest left (Ok a.value) (Err k) types p.1 v u in
+      cc read
 
-pub one_spelled : (text : List ℕ) (n m : PlainName) → SpellsName Bound text n → SpellsName Bound text m → IsValid (name Bound) n → n ≡ m
-one_spelled text n m h k v =
-    let P : PlainName → Type 0 = λ x. IsValid (name Bound) x in
-    h.2 ∙ one_name text h.0 k.0 h.1 k.1 (subst P h.2 v) ∙ sym k.2
+  all_equal : (xs ys : List AttributeTypeAndValue) → AllSame 43 (ReadsAttribute bound) (λ a b. a ≡ b) (λ a. ⊥) xs ys → xs ≡ ys
+  all_equal [] [] h = refl
+  all_equal (x ∷ xs) (y ∷ ys) h = let more = all_equal xs ys h.1 in rw (h.0, more) refl
+  all_equal xs ys h = absurd h
 
-pub spelled_stands : (text : List ℕ) (n : PlainName) (e : ErrorKind) → SpellsName Bound text n → ReadsName Bound text (Err e) → IsValid (name Bound) n → ⊥
-spelled_stands text n e h k v =
-    let P : PlainName → Type 0 = λ x. IsValid (name Bound) x in
-    name_stands text h.0 e h.1 k (subst P h.2 v)
+  one_members : (w : List ℕ) (xs ys : List AttributeTypeAndValue) → ReadsPieces 43 (ReadsAttribute bound) w (Ok xs) → ReadsPieces 43 (ReadsAttribute bound) w (Ok ys) → xs ≡ ys
+  one_members w xs ys h k = all_equal xs ys (agree 43 (ReadsAttribute bound) (λ a b. a ≡ b) (λ a. ⊥) same_attribute not_both h k)
+
+  no_fault : (w : List ℕ) (xs : List AttributeTypeAndValue) (e : ErrorKind) → ReadsPieces 43 (ReadsAttribute bound) w (Ok xs) → ReadsPieces 43 (ReadsAttribute bound) w (Err e) → ⊥
+  no_fault w xs e h k = none_odd 43 (ReadsAttribute bound) (λ a b. a ≡ b) xs (agree 43 (ReadsAttribute bound) (λ a b. a ≡ b) (λ a. ⊥) same_attribute not_both h k)
+
+  one_relative : (w : List ℕ) (r s : List AttributeTypeAndValue) → ReadsRelative bound w (Ok r) → ReadsRelative bound w (Ok s) → IsOnly r s
+  one_relative w r s (ReadsRelative.set xs r1 h p a d v) (ReadsRelative.set ys s1 k q b e u) =
+      let there = subst (λ (zs : List AttributeTypeAndValue). IsPermutation zs s) (sym (one_members w xs ys h k)) q in
+      let moved = IsPermutation-trans r xs s (IsPermutation-sym xs r p) there in
+      one_set (type_and_value bound) (relative_plain r) (relative_plain s) refl refl (all_plain pair_plain (λ x. IsValid (type_and_value bound) x) r v)
+      (ascends-plain (type_and_value bound) pair_plain r a) (ascends-plain (type_and_value bound) pair_plain s b) (plain_permutation pair_plain r s moved)
+
+  not_refused : (w : List ℕ) (r : List AttributeTypeAndValue) (e : ErrorKind) → ReadsRelative bound w (Ok r) → ReadsRelative bound w (Err e) → ⊥
+  not_refused w r e (ReadsRelative.set xs r1 h p a d v) (ReadsRelative.refused e1 k) = no_fault w xs e h k
+  not_refused w r e (ReadsRelative.set xs r1 h p a d v) (ReadsRelative.twice ys k none) =
+      let distinct = IsDistinct-IsPermutation same_pair same_pair_equiv.symm r xs (IsPermutation-sym xs r p) d in
+      none (subst (λ (zs : List AttributeTypeAndValue). IsDistinct same_pair zs) (one_members w xs ys h k) distinct)
+  not_refused w r e (ReadsRelative.set xs r1 h p a d v) (ReadsRelative.too_long ys k none) =
+      let there = valid_moved (type_and_value bound) pair_plain r xs (IsPermutation-sym xs r p) v in
+      none (subst (λ (zs : List AttributeTypeAndValue). AllValid (type_and_value bound) pair_plain zs) (one_members w xs ys h k) there)
+
+  all_only : (n m : List (List AttributeTypeAndValue)) → AllSame 44 (ReadsRelative bound) IsOnly (λ r. ⊥) n m → plain_list relative_plain n ≡ plain_list relative_plain m
+  all_only [] [] h = refl
+  all_only (r ∷ n) (s ∷ m) h = let more = all_only n m h.1 in rw (h.0, more) refl
+  all_only n m h = absurd h
+
+  one_name : (text : List ℕ) (n m : List (List AttributeTypeAndValue)) → ReadsName bound text (Ok n) → ReadsName bound text (Ok m) → plain_list relative_plain n ≡ plain_list relative_plain m
+  one_name text n m (ReadsName.empty e) (ReadsName.empty f) = refl
+  one_name text n m (ReadsName.empty e) (ReadsName.pieces s some k) = absurd (some e)
+  one_name text n m (ReadsName.pieces r some h) (ReadsName.empty e) = absurd (some e)
+  one_name text n m (ReadsName.pieces r some h) (ReadsName.pieces s other k) =
+      let same = all_only r s (agree 44 (ReadsRelative bound) IsOnly (λ r. ⊥) one_relative not_refused h k) in
+      turned relative_plain r ∙ ap (λ zs. reverse zs) same ∙ sym (turned relative_plain s)
+
+  name_stands : (text : List ℕ) (n : List (List AttributeTypeAndValue)) (e : ErrorKind) → ReadsName bound text (Ok n) → ReadsName bound text (Err e) → ⊥
+  name_stands text n e (ReadsName.empty f) (ReadsName.refused d some k) = some f
+  name_stands text n e (ReadsName.pieces r some h) (ReadsName.refused d other k) =
+      none_odd 44 (ReadsRelative bound) IsOnly r (agree 44 (ReadsRelative bound) IsOnly (λ r. ⊥) one_relative not_refused h k)
+
+pub one_spelled : (bound : ℕ) (text : List ℕ) (n m : PlainName) → SpellsName bound text n → SpellsName bound text m → n ≡ m
+one_spelled bound text n m h k = h.2 ∙ one_name bound text h.0 k.0 h.1 k.1 ∙ sym k.2
+
+pub spelled_stands : (bound : ℕ) (text : List ℕ) (n : PlainName) (e : ErrorKind) → SpellsName bound text n → ReadsName bound text (Err e) → ⊥
+spelled_stands bound text n e h k = name_stands bound text h.0 e h.1 k
 
 -- a name that a text spells has an attribute in each relative name
 abbrev pub HasSome : List AttributeTypeAndValue → Type 0
 HasSome r = 0 < length r
-
-some_turned : (n : List (List AttributeTypeAndValue)) → AllByRecursion HasSome n → AllByRecursion HasSome (reverse n)
-some_turned [] h = tt
-some_turned (r ∷ n) h =
-    let more = all_more HasSome (reverse n) r (some_turned n h.1) h.0 in
-    subst (λ (m : List (List AttributeTypeAndValue)). AllByRecursion HasSome m) (sym (reverse-append (r ∷ []) n)) more
 
 some_members : (w : List ℕ) (r : Result (List AttributeTypeAndValue) ErrorKind) → ReadsPieces 43 (ReadsAttribute Bound) w r → IfOk r HasSome
 some_members w r (ReadsPieces.last t p a f h) = omega arith
@@ -243,7 +241,7 @@ some_members w r (ReadsPieces.more t p rest a (Err e) f h others) = tt
 some_members w r (ReadsPieces.refused t p left e f h) = tt
 
 some_attributes : (w : List ℕ) (r : List AttributeTypeAndValue) → ReadsRelative Bound w (Ok r) → HasSome r
-some_attributes w r (ReadsRelative.set members attributes h p a d) =
+some_attributes w r (ReadsRelative.set members attributes h p a d v) =
     let some = some_members w (Ok members) h in
     omega (arith, some, length_permutation members r p)
 
@@ -255,7 +253,7 @@ all_some w r (ReadsPieces.refused t p left e f h) = tt
 
 pub read_some : (w : List ℕ) (n : List (List AttributeTypeAndValue)) → ReadsName Bound w (Ok n) → AllByRecursion HasSome n
 read_some w n (ReadsName.empty e) = tt
-read_some w n (ReadsName.pieces m some h) = some_turned m (all_some w (Ok m) h)
+read_some w n (ReadsName.pieces m some h) = all_turned HasSome m (all_some w (Ok m) h)
 
 -- What is printed of a name is the text of its plain value.
 

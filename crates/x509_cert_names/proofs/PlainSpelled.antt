@@ -130,6 +130,12 @@ in_four a b c d o =
     λ x. sym (put-append b (c ++ d) x) ∙ before_same (put b x) (put (c ++ d)) (λ y. put c y >>= put d) (λ y. sym (put-append c d y)) in
     sym (put-append a (b ++ (c ++ d)) o) ∙ before_same (put a o) (put (b ++ (c ++ d))) (λ x. put b x >>= λ y. put c y >>= put d) last
 
+pub pieces_octets : (arcs : List ℕ) (tag : Tag) (contents identifier value : List ℕ) (leading : ℕ) → identifier ≡ identifier_octets arcs → value ≡ contents → leading ≡ leading_octet tag
+    → IsIdentifier Bound arcs → length (identifier_octets arcs) ≤ 39 → number_of tag < 31 → IsOctets value → length identifier + length value + 4 < 128
+    → 0x30 ∷ (length identifier + length value + 4) ∷ 0x06 ∷ length identifier ∷ (identifier ++ (leading ∷ length value ∷ value)) ≡ octets_of (type_and_value Bound) (pair arcs (record { tag = tag; contents = contents }))
+pieces_octets arcs tag contents identifier value leading e f l is most low are short =
+    rw (e, f, l) (plain arcs tag contents is most low (subst IsOctets f are) (omega (arith, short, ap length e, ap length f))).octets
+
 pub pieces_written : (arcs : List ℕ) (tag : Tag) (contents identifier value : List ℕ) (leading : ℕ) → identifier ≡ identifier_octets arcs → value ≡ contents → leading ≡ leading_octet tag
     → IsIdentifier Bound arcs → length (identifier_octets arcs) ≤ 39 → number_of tag < 31 → IsOctets value → length identifier + length value + 4 < 128 → (o : Out)
     → write (type_and_value Bound) (pair arcs (record { tag = tag; contents = contents })) o

@@ -4,21 +4,18 @@ use Rattle.std.specs.Prelude.{⊤, map, IsPermutation}
 use Rattle.std.specs.List.{AllByRecursion, find, list_all}
 use Rattle.std.proofs.lemmas.List.Elements.{All-from_recursion, recursion_from_All}
 use Rattle.std.proofs.lemmas.List.Sorted.{All-permutation, IsPermutation-reverse, IsPermutation-sym}
-use Rattle.der_core_head.specs.declared.error.ErrorKind.{ErrorKind}
 use Rattle.der_core_head.specs.Bounds.{IsValidUnder, identifiers_of, AreBelow, HoldsLarge}
 use Rattle.der_core_head.specs.Grammar.{plain_list}
-use Rattle.der_core_head.specs.Octets.{◌>>=◌}
-use Rattle.der_core_head.specs.Shapes.{AnyValue, IsValid, octets_of}
+use Rattle.der_core_head.specs.Shapes.{IsValid, octets_of}
 use Rattle.der_core_head.proofs.BoundLaws.{below_or_large, Family, valid_narrow}
-use Rattle.der_core_head.proofs.Results.{bind_ok, ok_is}
+use Rattle.der_core.specs.Placed.{AllValid}
 use Rattle.der_types_sets.specs.Sets.{Ascends, NotAbove}
 use Rattle.x509_cert_name_texts.specs.Keys.{key_arcs, Named, named_types, type_named, dotted_arcs, arcs_or}
-use Rattle.x509_cert_name_texts.specs.Pieces.{IsFirstPiece, ReadsPieces, in_front_of, key_and_value}
+use Rattle.x509_cert_name_texts.specs.Pieces.{IsFirstPiece, ReadsPieces, in_front_of}
 use Rattle.x509_cert_names.specs.Names.{PlainName, TypeAndValue, type_and_value, name, type_of, all_of}
 use Rattle.x509_cert_names.specs.NameTexts.{ReadsAttribute, ReadsName, ReadsRelative}
 use Rattle.x509_cert_names.specs.Pairs.{pair_plain, relative_plain}
 use Rattle.x509_cert_names.specs.PlainTexts.{SpellsName}
-use Rattle.x509_cert_names.specs.ValueTexts.{attribute_read, halves_read, value_read}
 use Rattle.x509_cert_names.specs.declared.attribute_type_and_value.AttributeTypeAndValue.{AttributeTypeAndValue}
 use Rattle.x509_cert_names.proofs.NameBounds.{names_alike}
 use Rattle.std.proofs.lemmas.Bool.{and_parts, cases_cond, ltb-true}
@@ -136,29 +133,13 @@ IsLow bound a = ArcsBelow bound a.oid
 abbrev AreLow : ℕ → List AttributeTypeAndValue → Type 0
 AreLow bound r = AllByRecursion (IsLow bound) r
 
-abbrev with_value : List ℕ → Result (List ℕ) ErrorKind → Result AttributeTypeAndValue ErrorKind
-with_value text key = key >>= λ arcs. value_read arcs text >>= λ value. Ok (record { oid = arcs; value = value })
-
-type_is : (text arcs : List ℕ) (a : AttributeTypeAndValue) → with_value text (Ok arcs) ≡ Ok a → arcs ≡ a.oid
-type_is text arcs a e =
-    let made : AnyValue → AttributeTypeAndValue = λ v. record { oid = arcs; value = v } in
-    let h = bind_ok (value_read arcs text) (λ v. Ok (made v)) a e in
-    ap (λ (x : AttributeTypeAndValue). x.oid) (ok_is (made h.0) a h.2)
-
 -- What is read has arcs below the bound, where that lets the types pass that have names
 
 low_attribute : (bound : ℕ) → 19200300 < bound → (w : List ℕ) (a : AttributeTypeAndValue) → ReadsAttribute bound w (Ok a) → IsLow bound a
-unfolding attribute_read
-low_attribute bound lt w a e = by (key_and_value w) (sym e)
-  where
-    by : (o : Option (List ℕ × List ℕ)) → halves_read bound o ≡ Ok a → IsLow bound a
-    by None g = absurd (cc g)
-    by (Some h) g =
-        let k = bind_ok (key_arcs bound h.0) (λ arcs. with_value h.1 (Ok arcs)) a g in
-        subst (ArcsBelow bound) (type_is h.1 k.0 a k.2) (key_below bound lt h.0 k.0 k.1)
+low_attribute bound lt w a (ReadsAttribute.member key rest a1 e f v) = key_below bound lt key a.oid f
 
 low_relative : (bound : ℕ) → 19200300 < bound → (w : List ℕ) (r : List AttributeTypeAndValue) → ReadsRelative bound w (Ok r) → AreLow bound r
-low_relative bound lt w r (ReadsRelative.set members r1 h moved ascend distinct) =
+low_relative bound lt w r (ReadsRelative.set members r1 h moved ascend distinct valid) =
     all_moved (IsLow bound) members r moved (have 43 (ReadsAttribute bound) (IsLow bound) (low_attribute bound lt) h)
 
 low_name : (bound : ℕ) → 19200300 < bound → (text : List ℕ) (n : List (List AttributeTypeAndValue)) → ReadsName bound text (Ok n) → AllByRecursion (AreLow bound) n
@@ -182,27 +163,24 @@ pairs = record {
   enough = λ b. refl;
 }
 
+pair_moves : (least one other : ℕ) → least ≤ one → (a : AttributeTypeAndValue) → IsLow least a → IsValid (type_and_value other) (pair_plain a) → IsValid (type_and_value one) (pair_plain a)
+unfolding identifiers_of
+pair_moves least one other le a low v = valid_narrow (type_and_value 0) type_and_value pairs one other (pair_plain a) v (below_wider least one le a.oid low, tt)
+
+all_move : (least one other : ℕ) → least ≤ one → (r : List AttributeTypeAndValue) → AreLow least r → AllValid (type_and_value other) pair_plain r → AllValid (type_and_value one) pair_plain r
+all_move least one other le [] low v = tt
+all_move least one other le (a ∷ r) low v = (pair_moves least one other le a low.0 v.0, all_move least one other le r low.1 v.1)
+
 -- What is read under one bound is read under another, where the arcs are below both
 
 module _ (least one other : ℕ) (root : 40 ≤ least) (first : least ≤ one) (second : least ≤ other) where
   attribute_again : (w : List ℕ) (a : AttributeTypeAndValue) → ReadsAttribute one w (Ok a) → IsLow least a → ReadsAttribute other w (Ok a)
-  unfolding attribute_read
-  attribute_again w a e low = sym (by (key_and_value w) (sym e))
-    where
-      by : (o : Option (List ℕ × List ℕ)) → halves_read one o ≡ Ok a → halves_read other o ≡ Ok a
-      by None g = g
-      by (Some h) g =
-          let k = bind_ok (key_arcs one h.0) (λ arcs. with_value h.1 (Ok arcs)) a g in
-          let below = subst (ArcsBelow other) (sym (type_is h.1 k.0 a k.2)) (below_wider least other second a.oid low) in
-          rw (key_again one other (omega (arith, root, second)) h.0 k.0 k.1 below) k.2
-
-  pair_again : (a : AttributeTypeAndValue) → IsLow least a → IsValid (type_and_value other) (pair_plain a) → IsValid (type_and_value one) (pair_plain a)
-  unfolding identifiers_of
-  pair_again a low v = valid_narrow (type_and_value 0) type_and_value pairs one other (pair_plain a) v (below_wider least one first a.oid low, tt)
+  attribute_again w a (ReadsAttribute.member key rest a1 e f v) low =
+      ReadsAttribute.member key rest a e (key_again one other (omega (arith, root, second)) key a.oid f (below_wider least other second a.oid low)) v
 
   not_above_again : (x y : AttributeTypeAndValue) → IsLow least x → IsLow least y → NotAbove (type_and_value one) pair_plain x y → NotAbove (type_and_value other) pair_plain x y
   unfolding octets_of
-  not_above_again x y p q h = λ v w. h (pair_again x p v) (pair_again y q w)
+  not_above_again x y p q h = λ v w. h (pair_moves least one other first x p v) (pair_moves least one other first y q w)
 
   ascends_again : (r : List AttributeTypeAndValue) → AreLow least r → Ascends (type_and_value one) pair_plain r → Ascends (type_and_value other) pair_plain r
   ascends_again [] low h = tt
@@ -210,9 +188,10 @@ module _ (least one other : ℕ) (root : 40 ≤ least) (first : least ≤ one) (
   ascends_again (x ∷ y ∷ r) low h = (not_above_again x y low.0 low.1.0 h.0, ascends_again (y ∷ r) low.1 h.1)
 
   relative_again : (w : List ℕ) (r : List AttributeTypeAndValue) → ReadsRelative one w (Ok r) → AreLow least r → ReadsRelative other w (Ok r)
-  relative_again w r (ReadsRelative.set members r1 h moved ascend distinct) low =
+  relative_again w r (ReadsRelative.set members r1 h moved ascend distinct valid) low =
       let back = all_moved (IsLow least) r members (IsPermutation-sym members r moved) low in
       ReadsRelative.set members r (read_again 43 (ReadsAttribute one) (IsLow least) (ReadsAttribute other) attribute_again h back) moved (ascends_again r low ascend) distinct
+      (all_move least other one second r low valid)
 
   name_again : (text : List ℕ) (n : List (List AttributeTypeAndValue)) → ReadsName one text (Ok n) → AllByRecursion (AreLow least) n → ReadsName other text (Ok n)
   name_again text n (ReadsName.empty e) low = ReadsName.empty e

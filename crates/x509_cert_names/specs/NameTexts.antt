@@ -1,6 +1,6 @@
 -- Names as texts (RFC 4514 2, 3). What reads one takes the bound of arcs.
-use Rattle.std.specs.Prelude.{◌≡◌, ◌≢◌, ℕ, List, [], ◌∷◌, ◌++◌, reverse, None, false, Result, Ok}
-use Rattle.std.specs.Prelude.{Err, IsPermutation}
+use Rattle.std.specs.Prelude.{◌≡◌, ◌≢◌, ℕ, List, [], ◌∷◌, ◌++◌, reverse, Some, None, false}
+use Rattle.std.specs.Prelude.{Result, Ok, Err, IsPermutation}
 use Rattle.std.specs.List.{IsDistinct, flat_map}
 use Rattle.der_core_head.specs.declared.error.ErrorKind.{ErrorKind}
 use Rattle.der_core_head.specs.declared.error.ErrorKind.TheVariants as kinds
@@ -8,23 +8,35 @@ use Rattle.der_core_head.specs.Shapes.{Shape, Value, octets_of}
 use Rattle.der_core_head.specs.Writing.{write}
 use Rattle.der_core.specs.Placed.{AllValid}
 use Rattle.der_types_sets.specs.Sets.{Ascends}
-use Rattle.x509_cert_name_texts.specs.Pieces.{ReadsPieces}
+use Rattle.x509_cert_name_texts.specs.Keys.{key_arcs}
+use Rattle.x509_cert_name_texts.specs.Pieces.{ReadsPieces, key_and_value}
 use Rattle.x509_cert_names.specs.Names.{type_and_value}
 use Rattle.x509_cert_names.specs.Pairs.{pair_plain, same_pair}
-use Rattle.x509_cert_names.specs.ValueTexts.{attribute_read, attribute_printed}
+use Rattle.x509_cert_names.specs.ValueTexts.{ReadsValue, attribute_printed}
 use Rattle.x509_cert_names.specs.declared.attribute_type_and_value.AttributeTypeAndValue.{AttributeTypeAndValue}
 
--- what a text is read as where it spells one attribute
-abbrev pub ReadsAttribute : ℕ → List ℕ → Result AttributeTypeAndValue ErrorKind → Type 0
-ReadsAttribute bound text r = r ≡ attribute_read bound text
+-- What the text of an attribute is read as (RFC 4514 3, attributeTypeAndValue): a key, the first =,
+-- and a value.
+pub data ReadsAttribute (bound : ℕ) (text : List ℕ) : Result AttributeTypeAndValue ErrorKind
+    → Type 0 where
+  member : (key rest : List ℕ) (a : AttributeTypeAndValue) → key_and_value text ≡ Some (key, rest)
+      → key_arcs bound key ≡ Ok a.oid → ReadsValue a.oid rest (Ok a.value)
+      → ReadsAttribute bound text (Ok a)
+  no_equals : key_and_value text ≡ None → ReadsAttribute bound text (Err kinds.Failed)
+  no_key : (key rest : List ℕ) (e : ErrorKind) → key_and_value text ≡ Some (key, rest)
+      → key_arcs bound key ≡ Err e → ReadsAttribute bound text (Err e)
+  no_value : (key rest arcs : List ℕ) (e : ErrorKind) → key_and_value text ≡ Some (key, rest)
+      → key_arcs bound key ≡ Ok arcs → ReadsValue arcs rest (Err e)
+      → ReadsAttribute bound text (Err e)
 
--- Attributes between +, of which none stands twice, in the order of their encodings.
+-- Attributes between +, each of which has an encoding and none stands twice, in the order of their
+-- encodings.
 pub data ReadsRelative (bound : ℕ) (text : List ℕ) : Result (List AttributeTypeAndValue) ErrorKind
     → Type 0 where
   set : (members attributes : List AttributeTypeAndValue)
       → ReadsPieces 43 (ReadsAttribute bound) text (Ok members)
       → IsPermutation members attributes → Ascends (type_and_value bound) pair_plain attributes
-      → IsDistinct same_pair attributes
+      → IsDistinct same_pair attributes → AllValid (type_and_value bound) pair_plain attributes
       → ReadsRelative bound text (Ok attributes)
   refused : (e : ErrorKind) → ReadsPieces 43 (ReadsAttribute bound) text (Err e)
       → ReadsRelative bound text (Err e)

@@ -1,10 +1,13 @@
 -- The text of a name by its plain value.
-use Rattle.std.specs.Prelude.{◌≡◌, ℕ, List, map, Ok}
+use Rattle.std.specs.Prelude.{◌≡◌, ◌≢◌, ℕ, List, [], ◌∷◌, map, Option, Some, Ok, ⊤, IsPermutation}
+use Rattle.std.specs.List.{AllByRecursion}
+use Rattle.x509_cert_name_texts.specs.Keys.{key_of}
 use Rattle.der_core_head.specs.Grammar.{plain_list}
 use Rattle.x509_cert_names.specs.Names.{PlainName, TypeAndValue, type_of, value_of}
-use Rattle.x509_cert_names.specs.Pairs.{relative_plain}
+use Rattle.x509_cert_names.specs.Pairs.{pair, relative_plain}
 use Rattle.x509_cert_names.specs.declared.attribute_type_and_value.AttributeTypeAndValue.{AttributeTypeAndValue}
 use Rattle.x509_cert_names.specs.NameTexts.{ReadsName, name_printed}
+use Rattle.x509_cert_names.specs.ValueTexts.{tag_for, text_of}
 
 -- an attribute of a name
 abbrev pub attribute_of : TypeAndValue → AttributeTypeAndValue
@@ -19,3 +22,24 @@ abbrev pub SpellsName : ℕ → List ℕ → PlainName → Type 0
 SpellsName bound text n =
     (relative_names : List (List AttributeTypeAndValue)) × ReadsName bound text (Ok relative_names)
     × (n ≡ plain_list relative_plain relative_names)
+
+-- an attribute as it is read from what is printed of it: where that is a name and a text, the text
+-- with the tag for the type, and else what it was
+abbrev pub read_by : Option (List ℕ) → Option (List ℕ) → TypeAndValue → TypeAndValue
+read_by (Some key) (Some text) a = pair (type_of a)
+    (record { tag = tag_for (type_of a); contents = text })
+read_by _ _ a = a
+
+unfoldable pub as_read : TypeAndValue → TypeAndValue
+as_read a = read_by (key_of (type_of a)) (text_of (value_of a)) a
+
+-- each RDN of a name has an attribute, and each attribute is read as it is
+abbrev pub IsAsRead : PlainName → Type 0
+IsAsRead n = AllByRecursion (λ r. (r ≢ []) × AllByRecursion (λ a. as_read a ≡ a) r) n
+
+-- a name as it is read from what is printed of another one, each RDN of which has an attribute: the
+-- attributes as they are read, in any order
+abbrev pub IsReadBack : PlainName → PlainName → Type 0
+IsReadBack [] [] = ⊤
+IsReadBack (r ∷ n) (s ∷ m) = (r ≢ []) × IsPermutation (map as_read r) s × IsReadBack n m
+IsReadBack _ _ = ⊥

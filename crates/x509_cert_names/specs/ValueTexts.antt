@@ -1,5 +1,5 @@
--- Attributes as texts (RFC 4514 2.3, 2.4, 3): a key, the first =, a value.
-use Rattle.std.specs.Prelude.{ℕ, ◌==◌, ◌||◌, nat_lt, List, [], ◌∷◌, ◌++◌, length, Option, Some}
+-- Values as texts (RFC 4514 2.4, 3), and attributes as they are printed (2.3).
+use Rattle.std.specs.Prelude.{◌≡◌, ◌≢◌, ℕ, ◌||◌, nat_lt, List, ◌∷◌, ◌++◌, length, Option, Some}
 use Rattle.std.specs.Prelude.{None, Result, Ok, Err, if◌then◌else◌, chars}
 use Rattle.std.specs.Result.{result_ok}
 use Rattle.const_oid.specs.Comparing.{owned_eq}
@@ -16,9 +16,8 @@ use Rattle.der_core_head.specs.Octets.{◌>>=◌}
 use Rattle.der_core_head.specs.Shapes.{AnyValue, any}
 use Rattle.der_core_head.specs.Texts.{printable, ascii}
 use Rattle.der_types_any.specs.Contents.{leaf_as}
-use Rattle.x509_cert_name_texts.specs.Escapes.{undone, hex_octets, escaped, in_hex}
-use Rattle.x509_cert_name_texts.specs.Keys.{x520, pilot, email_address, key_arcs, key_of}
-use Rattle.x509_cert_name_texts.specs.Pieces.{key_and_value}
+use Rattle.x509_cert_name_texts.specs.Escapes.{ReadsOctets, hex_octets, escaped, in_hex}
+use Rattle.x509_cert_name_texts.specs.Keys.{x520, pilot, email_address, key_of}
 use Rattle.x509_cert_names.specs.declared.attribute_type_and_value.AttributeTypeAndValue.{AttributeTypeAndValue}
 
 -- the tag of a value that is spelled as a text: a country and a serial number are a
@@ -39,24 +38,19 @@ abbrev pub of_content : Tag → List ℕ → Result AnyValue ErrorKind
 of_content t w = if nat_lt length_max (length w) then Err kinds.Overflow
     else Ok (record { tag = t; contents = w })
 
--- the value with this content, its escapes undone; whether the content is one of the tag isn't
--- asked
-unfoldable pub text_value : List ℕ → List ℕ → Result AnyValue ErrorKind
-text_value arcs w = undone w >>= of_content (tag_for arcs)
+-- what the octets that a text stands for are read as: the content of a value with the tag for the
+-- type; whether it is one of that tag isn't asked
+abbrev pub ReadsString : List ℕ → List ℕ → Result AnyValue ErrorKind → Type 0
+ReadsString arcs w r = (octets : Result (List ℕ) ErrorKind) × ReadsOctets w octets
+    × (r ≡ (octets >>= of_content (tag_for arcs)))
 
--- the value of an attribute, which begins with # where it is an encoding
-unfoldable pub value_read : List ℕ → List ℕ → Result AnyValue ErrorKind
-value_read arcs [] = text_value arcs []
-value_read arcs (c ∷ w) = if c == 35 then encoded_value w else text_value arcs (c ∷ w)
-
-abbrev pub halves_read : ℕ → Option (List ℕ × List ℕ) → Result AttributeTypeAndValue ErrorKind
-halves_read bound None = Err kinds.Failed
-halves_read bound (Some halves) = key_arcs bound halves.0 >>= λ arcs. value_read arcs halves.1
-    >>= λ value. Ok (record { oid = arcs; value = value })
-
--- what an attribute's text is read as, under the bound of arcs
-unfoldable pub attribute_read : ℕ → List ℕ → Result AttributeTypeAndValue ErrorKind
-attribute_read bound w = halves_read bound (key_and_value w)
+-- What the text of a value is read as (RFC 4514 3, attributeValue): what follows a # as the hex
+-- digits of an encoding, any other text as a string.
+pub data ReadsValue (arcs text : List ℕ) (r : Result AnyValue ErrorKind) : Type 0 where
+  hexstring : (digits : List ℕ) → text ≡ 35 ∷ digits → r ≡ encoded_value digits
+      → ReadsValue arcs text r
+  string : ((digits : List ℕ) → text ≢ 35 ∷ digits) → ReadsString arcs text r
+      → ReadsValue arcs text r
 
 -- the text of a value, where it reads as its PrintableString, UTF8String, IA5String or
 -- TeletexString

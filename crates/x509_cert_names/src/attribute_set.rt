@@ -139,6 +139,7 @@ impl EncodeValue for AttributeSet {
         }
     }
 
+    #[tactic(auto, using(der_core_octets::proofs::Added::first_added), unfolding(der_core_head::specs::Shapes::contents))]
     fn encode_value<W: Writer>(&self, writer: &mut W) -> Result<(), Error> {
         match &self.store {
             Store::One(one) => one.write_octets(writer),

@@ -4,14 +4,14 @@ ghost use Rattle.std.specs.Prelude.{◌≡◌, ◌∷◌, ◌++◌, refl, Ok, If
 ghost use Rattle.std.specs.Fmt.{WritesOnOk};
 ghost use Rattle.const_oid.specs.Bound.{Bound};
 ghost use Rattle.const_oid.specs.DottedText.{dotted};
-ghost use Rattle.der_core_head.specs.Reading.{Gives, GivesNow};
-ghost use Rattle.der_core_head.specs.Shapes.{Spells};
+ghost use Rattle.der_core_head.specs.Reading.{GivesNow};
+ghost use Rattle.der_core_head.specs.Shapes.{Spells, octets_of};
 ghost use Rattle.der_core_head.specs.Writing.{size, write, Writes};
-ghost use Rattle.der_core_octets.specs.Outputs.{Continues};
+ghost use Rattle.der_core_octets.specs.Outputs.{AddsFront, Continues};
 ghost use Rattle.x509_cert_name_texts.specs.Answers.{GivesBy};
 ghost use Rattle.x509_cert_name_texts.specs.Escapes.{escaped, in_hex};
 ghost use Rattle.x509_cert_names.specs.NameTexts.{ReadsAttribute, ReadsEncoding};
-ghost use Rattle.x509_cert_names.specs.ValueTexts.{attribute_read, encoding_of};
+ghost use Rattle.x509_cert_names.specs.ValueTexts.{encoding_of};
 ghost use Rattle.x509_cert_names.specs.Names.{type_and_value, type_and_value_fields};
 ghost use Rattle.x509_cert_names.specs.Pairs.{pair_plain};
 ghost use Rattle.x509_cert_names.specs.PlainParts.{IsPlain, put_in_turn};
@@ -99,9 +99,8 @@ impl AttributeTypeAndValue {
     /// `Failed` where there is no `=`, for an escape that is none, and for bad hex; `OidMalformed`
     /// for a key that is neither a name nor an identifier; those of `from_der` for the encoding;
     /// `Overflow` for a content of 2^32 octets or more; `OutOfMemory`.
-    #[tactic(auto, unfolding(crate::specs::ValueTexts::attribute_read))]
     pub fn from_str(alloc: Global, text: &str) -> Result<AttributeTypeAndValue, Error>
-        ensures { Gives (λ a. a) result (attribute_read Bound text.now) }
+        ensures { GivesBy (λ a. a) result (ReadsAttribute Bound text.now) }
     {
         match split_member(text) {
             None => Err(Error::from(ErrorKind::Failed)),
@@ -164,6 +163,8 @@ impl AttributeTypeAndValue {
         ensures exact { Writes W.takes_memory (W.out writer.old) (W.out writer.new) result
             (write (type_and_value Bound) (pair_plain self.now)) }
         ensures kept { Continues (W.out writer.old) (W.out writer.new) }
+        ensures front { AddsFront (octets_of (type_and_value Bound) (pair_plain self.now))
+            (W.out writer.old) (W.out writer.new) }
     {
         let identifier = self.oid.as_bytes();
         let value = self.value.value();
@@ -184,6 +185,7 @@ impl AttributeTypeAndValue {
 /// Those of the writer.
 // Inlined, so that a known number of octets is copied without a call.
 #[inline(always)]
+#[tactic(auto, using(der_core_octets::proofs::Added::refused_adds))]
 fn write_four<W: Writer>(
     writer: &mut W,
     first: &[u8],
@@ -194,6 +196,8 @@ fn write_four<W: Writer>(
     ensures exact { Writes W.takes_memory (W.out writer.old) (W.out writer.new) result
         (put_in_turn first.now second.now third.now fourth.now) }
     ensures kept { Continues (W.out writer.old) (W.out writer.new) }
+    ensures front { AddsFront (first.now ++ (second.now ++ (third.now ++ fourth.now)))
+        (W.out writer.old) (W.out writer.new) }
 {
     writer.write(first)?;
     writer.write(second)?;

@@ -2,15 +2,19 @@
 //!
 //! Each is the contract of a function that does nothing.
 
-ghost use Rattle.std.specs.Prelude.{◌≡◌, ◌≤◌, ◌<◌, ◌↔◌, ℕ, List, [], Ok, map};
+ghost use Rattle.std.specs.Prelude.{◌≡◌, ◌≤◌, ◌<◌, ◌↔◌, ℕ, List, [], Ok, Err, map};
+ghost use Rattle.std.specs.Prelude.{IsUtf8, chars};
 ghost use Rattle.const_oid.specs.Bound.{Bound};
 ghost use Rattle.der_core_head.specs.Bounds.{AreBelow, HoldsLarge};
+ghost use Rattle.der_core_head.specs.declared.error.ErrorKind.{ErrorKind};
 ghost use Rattle.der_core_head.specs.Grammar.{read_whole};
 ghost use Rattle.der_core_head.specs.Octets.{IsOctets};
 ghost use Rattle.der_core_head.specs.Shapes.{IsValid, Spells};
 ghost use Rattle.der_core.specs.Equality.{IsOfValues};
 ghost use Rattle.x509_cert_names.specs.Names.{PlainName, all_of, name, name_octets, type_of};
-ghost use Rattle.x509_cert_names.specs.PlainTexts.{SpellsName};
+ghost use Rattle.x509_cert_name_texts.specs.Escapes.{IsString, StandsFor, escaped};
+ghost use Rattle.x509_cert_names.specs.NameTexts.{ReadsName};
+ghost use Rattle.x509_cert_names.specs.PlainTexts.{SpellsName, name_text, IsAsRead, IsReadBack};
 ghost use Rattle.x509_cert_names.specs.Views.{name_plain};
 
 use crate::name::Name;
@@ -47,6 +51,38 @@ pub fn newly_read_name_texts_hold_a_large_arc()
     ensures new { (small large : ℕ) (text : List ℕ) (n : PlainName) → 40 ≤ small → small ≤ large
         → SpellsName large text n → (SpellsName small text n → ⊥)
         → HoldsLarge small (map type_of (all_of n)) }
+{}
+
+/// A text is read as at most one name, and one that is read as a name isn't refused.
+pub fn texts_are_read_as_one_name()
+    ensures one { (bound : ℕ) (text : List ℕ) (n m : PlainName) → SpellsName bound text n
+        → SpellsName bound text m → n ≡ m }
+    ensures not_refused { (bound : ℕ) (text : List ℕ) (n : PlainName) (e : ErrorKind)
+        → SpellsName bound text n → ReadsName bound text (Err e) → ⊥ }
+{}
+
+/// A text stands for the octets of one value at most. What is printed of a value's text stands for
+/// that text, and is a string of RFC 4514.
+pub fn printed_values_are_strings()
+    ensures one { (text v w : List ℕ) → StandsFor text v → StandsFor text w → v ≡ w }
+    ensures stands { (w : List ℕ) → IsUtf8 w → StandsFor (escaped (chars w)) w }
+    ensures string { (w : List ℕ) → IsString (escaped (chars w)) }
+{}
+
+/// What is printed of a name is read back. An attribute that is printed as a text is read as that
+/// text with the tag for its type, any other as it is; a name without another attribute is read as
+/// itself. An RDN without attributes isn't printed, and so has none in these names.
+pub fn printed_names_are_read()
+    ensures alike { (bound : ℕ) (n m : PlainName) → 40 ≤ bound → IsValid (name bound) m
+        → IsReadBack n m → SpellsName bound (name_text n) m }
+    ensures itself { (bound : ℕ) (n : PlainName) → 40 ≤ bound → IsValid (name bound) n
+        → IsAsRead n → SpellsName bound (name_text n) n }
+{}
+
+/// Names whose attributes are as they are read are equal where their texts are.
+pub fn texts_identify_names()
+    ensures { (bound : ℕ) (n m : PlainName) → 40 ≤ bound → IsValid (name bound) n
+        → IsValid (name bound) m → IsAsRead n → IsAsRead m → name_text n ≡ name_text m → n ≡ m }
 {}
 
 /// `==` of names is of their plain values.

@@ -144,6 +144,7 @@ impl RelativeDistinguishedName {
     pub fn try_from_vec(attributes: Vec<AttributeTypeAndValue>) -> Result<Self, Error>
         ensures ok { IfOk result (IsPermutation attributes.items) }
         ensures ordered { IfOk result (IsOrdered Bound) }
+        ensures valid { IfOk result (AllValid (type_and_value Bound) pair_plain) }
         ensures refused { IfErr result
             (λ e. (e.kind ≡ ErrorKind.SetDuplicate × (IsDistinct same_pair attributes.items → ⊥))
             ⊎ TooLong (type_and_value Bound) pair_plain attributes.items e) }

@@ -4,8 +4,10 @@ ghost use Rattle.std.specs.Prelude.{◌≡◌, option_map};
 ghost use Rattle.std.specs.Fmt.{WritesOnOk};
 ghost use Rattle.der_core_head.specs.Heads.{head_octets};
 ghost use Rattle.der_core_head.specs.Reading.{Gives, GivesNow};
+ghost use Rattle.x509_cert_name_texts.specs.Answers.{GivesBy};
 ghost use Rattle.x509_cert_name_texts.specs.Escapes.{in_hex};
-ghost use Rattle.x509_cert_names.specs.ValueTexts.{tag_for, encoded_value, text_value, value_read};
+ghost use Rattle.x509_cert_names.specs.ValueTexts.{tag_for, encoded_value};
+ghost use Rattle.x509_cert_names.specs.ValueTexts.{ReadsString, ReadsValue};
 ghost use Rattle.x509_cert_names.specs.ValueTexts.{text_of, encoding_of};
 
 use crate::attribute_type_and_value::{AttributeType, AttributeValue};
@@ -41,22 +43,20 @@ fn encoded_value(alloc: Global, digits: &[u8]) -> Result<AttributeValue, Error>
 }
 
 /// The value with this content, its escapes undone.
-#[tactic(auto, unfolding(crate::specs::ValueTexts::text_value))]
 fn text_value(alloc: Global, oid: &AttributeType, text: &[u8]) -> Result<AttributeValue, Error>
-    ensures { Gives (λ a. a) result (text_value oid.now text.now) }
+    ensures { GivesBy (λ a. a) result (ReadsString oid.now text.now) }
 {
     let octets = undo_escapes(alloc, text)?;
     Ok(Any::new(tag_for(oid), octets)?)
 }
 
 /// The value that stands after the `=` of an attribute.
-#[tactic(auto, unfolding(crate::specs::ValueTexts::value_read))]
 pub(crate) fn value_of(
     alloc: Global,
     oid: &AttributeType,
     text: &[u8],
 ) -> Result<AttributeValue, Error>
-    ensures { Gives (λ a. a) result (value_read oid.now text.now) }
+    ensures { GivesBy (λ a. a) result (ReadsValue oid.now text.now) }
 {
     match text {
         [b'#', digits @ ..] => encoded_value(alloc, digits),

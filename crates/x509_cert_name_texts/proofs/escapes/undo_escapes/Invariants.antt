@@ -1,6 +1,5 @@
 use Rattle.std.proofs.Common.{◌≡◌, length}
-use Rattle.x509_cert_name_texts.specs.Escapes.{undone}
-use Rattle.x509_cert_name_texts.proofs.EscapeSteps.{in_front}
+use Rattle.x509_cert_name_texts.proofs.EscapeSteps.{undone, in_front}
 use Rattle.x509_cert_name_texts.proofs.escapes.undo_escapes.Given as goal
 
 -- what was undone, in front of what is left

@@ -21,4 +21,4 @@ returns-in_err-relative c =
 pub returns : goal.returns
 returns c =
     let ordered = c.in_ok-relative.ensures.ordered in
-    ReadsRelative.set c.in_ok-attributes.attributes.items c.in_ok-relative.relative c.in_ok-attributes.ensures c.in_ok-relative.ensures.ok ordered.1 ordered.0
+    ReadsRelative.set c.in_ok-attributes.attributes.items c.in_ok-relative.relative c.in_ok-attributes.ensures c.in_ok-relative.ensures.ok ordered.1 ordered.0 c.in_ok-relative.ensures.valid

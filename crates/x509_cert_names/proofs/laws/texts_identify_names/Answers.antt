@@ -1,0 +1,5 @@
+use Rattle.x509_cert_names.proofs.ReadBack.{one_text}
+use Rattle.x509_cert_names.proofs.laws.texts_identify_names.Goals as goal
+
+pub returns : goal.returns
+returns c = one_text
