@@ -4,13 +4,15 @@
     tools/definitions.py            writes docs/tables/DEFINITIONS.md from the sources
     tools/definitions.py --check    writes nothing; its status is 1 where that page is out of date,
                                     or an import names no definition
-    tools/definitions.py CALL..     each definition that the contract of a call rests on
+    tools/definitions.py CALL..     each definition that the contracts of these calls rest on
 
-A CALL is a function (`check`), or one of a type (`Issued::audit`). A variable that has the name of
-a definition counts as that one, so the list may be too long by such names, and never too short but
-for the kit's `std/specs`, which isn't counted.
+A CALL is a function (`check`), one of a type (`Issued::audit`), or what a type states of itself
+(`Issued`); its crate may stand before (`cert_desk_checking::check`). A variable of a `λ` that has
+the name of a definition counts as that one, so the list may be too long by such names, and never
+too short but for the kit's `std/specs`, which isn't counted.
 """
 
+import re
 import sys
 
 import sources
@@ -20,22 +22,26 @@ PAGE = sources.TOP / "docs" / "tables" / "DEFINITIONS.md"
 
 # What is claimed most often, in the words of a user, and the call whose contract says it.
 CLAIMS = [
-    ("the text of an identifier is read", "const_oid", "ObjectIdentifier::new"),
-    ("the octets of an identifier are read", "const_oid", "ObjectIdentifier::from_bytes_sized"),
-    ("a value is read from DER", "der_core_coding", "FromDer::from_der"),
-    ("a value is written as DER", "der_core_coding", "ToDer::to_der"),
-    ("two encodings are compared", "der_core", "DerOrd::der_cmp"),
-    ("a certificate is read", "x509_cert_certificates", "CertificateInner::from_der"),
-    ("the text of a name is read", "x509_cert_names", "Name::from_str"),
-    ("an extension is looked up and read", "x509_cert_parts", "get_extension"),
-    ("a certificate is made", "x509_cert_builders", "Builder::build CertificateBuilder"),
-    ("a listing is written", "cert_desk_listing", "run_show"),
-    ("a chain is judged", "cert_desk_checking", "check"),
-    ("a run of `check` is told", "cert_desk_checking", "run_check"),
-    ("a chain is judged by answers from outside", "cert_tool", "run_verify"),
-    ("what a verifier has to answer is written", "cert_tool", "run_questions"),
-    ("a chain is issued", "cert_desk_issuing", "issue"),
-    ("an issued chain is trusted", "cert_desk_issuing", "Issued::audit"),
+    ("the text of an identifier is read", "const_oid::ObjectIdentifier::new"),
+    ("the octets of an identifier are read", "const_oid::ObjectIdentifier::from_bytes_sized"),
+    ("a value is read from DER", "der_core_coding::FromDer::from_der"),
+    ("a value is written as DER", "der_core_coding::ToDer::to_der"),
+    ("two encodings are compared", "der_core::DerOrd::der_cmp"),
+    ("a certificate is read", "x509_cert_certificates::CertificateInner::from_der"),
+    ("the text of a name is read", "x509_cert_names::Name::from_str"),
+    ("an extension is looked up and read", "x509_cert_parts::get_extension"),
+    ("a certificate is made",
+     "x509_cert_builders::Builder::build x509_cert_builders::CertificateBuilder"),
+    ("a listing is written", "cert_desk_listing::run_show"),
+    ("a chain is judged", "cert_desk_checking::check"),
+    ("a stream is read and judged",
+     "cert_desk_checking::check cert_desk_bundle::Bundle::new cert_desk_bundle::Bundle::feed "
+     "cert_desk_bundle::Bundle::finish cert_desk_bundle::Bundle::read_from"),
+    ("a run of `check` is told", "cert_desk_checking::run_check"),
+    ("a chain is judged by answers from outside", "cert_tool::run_verify"),
+    ("what a verifier has to answer is written", "cert_tool::run_questions"),
+    ("a chain is issued", "cert_desk_issuing::issue"),
+    ("an issued chain is trusted", "cert_desk_issuing::Issued::audit"),
 ]
 
 HEAD = """\
@@ -54,8 +60,13 @@ script prints each definition that its contract rests on, with its file and line
 tools/definitions.py Issued::audit
 ```
 
+Of a proof that a definition names, its statement counts and has to be read, and no more of it.
+
 A contract that is generic, as that of `from_der`, speaks of what its type states: its shape and its
-plain value, which stand in the `impl` of the type and cite the grammar of its crate.
+plain value, which stand in the `impl` of the type and cite the grammar of its crate. Of such ghost
+members the first table counts those through which a contract sees its arguments: what a trait
+states that the clauses name (`J.answers`), and the `impl Model` of each type of the signature. What
+the types of a crate state is counted with the crate.
 
 Lines are those of the file. Which calls cite a definition, and which section of a standard it
 stands for, the [reference](../../tools/README.md#sources-and-documents) says of each.
@@ -66,12 +77,48 @@ def calls_of(code):
     return [call for source in code for call in source.calls]
 
 
-def find(code, name, crate=None):
+def find(code, name):
     """The calls of this name, or what a type of this name states of itself."""
-    calls = [c for c in calls_of(code) if crate is None or c.crate == crate]
+    crate, _, bare = name.partition("::")
+    calls = [call for call in calls_of(code) if call.crate == crate and bare]
+    name, calls = (bare, calls) if calls else (name, calls_of(code))
     found = [c for c in calls if c.title == name]
     stated = [c for c in calls if c.owner == name and c.name.startswith("ghost ")]
     return [c for c in found if c.clauses] or found or stated
+
+
+def rests_on(files, calls):
+    """The definitions that contracts of calls rest on; what serves a ghost member isn't read."""
+    keys = set()
+    for call in calls:
+        keys |= sources.reached(files, call.cites)
+    found = [files[key[:2]].definitions[key[2]] for key in sorted(keys)]
+    return [one for one in found if one.sort != "proof"]
+
+
+def members_of(code, calls):
+    """The ghost members through which the contracts of calls see their arguments."""
+    members = [call for call in calls_of(code) if call.name.startswith("ghost ")]
+    members = [call for call in members if call.stated == "Model"]
+    told = [member for source in code for member in source.declared]
+    found = set()
+    for call in calls:
+        if call.name.startswith("ghost "):
+            found.add(call)
+            continue
+        below = sources.closure([call.crate])
+        signature = call.text[: len(call.text) - len(sources.contract_text(call))]
+        types = set(re.findall(r"\w+", signature))
+        types |= {call.owner} if "self" in types else set()
+        found |= {member for member in members if member.owner in types}
+        for name in set(re.findall(r"\b(?:Self|[A-Z])\.(\w+)", sources.contract_text(call))):
+            of_name = [one for one in told if one.name == name and one.crate in below]
+            found |= {one for one in of_name if one.owner in types} or set(of_name)
+    return found
+
+
+def told_many(items, one, many):
+    return f"{len(items)} {one if len(items) == 1 else many}"
 
 
 def first_sentence(text):
@@ -91,18 +138,20 @@ def page():
     heading = "Proofs that stand among the definitions"
     contents += [f"- [{heading}](#{heading.lower().replace(' ', '-')})"]
     lines = [HEAD.replace("CONTENTS", "\n".join(contents)), "## What to read for which claim", ""]
-    lines += ["| Claim | Call | Definitions | Lines | Files |", "|---|---|---|---|---|"]
-    for words, crate, name in CLAIMS:
-        keys = set()
-        for part in name.split():
-            for call in find(code, part, crate):
-                keys |= sources.reached(files, call.cites)
-        kept = [files[k[:2]].definitions[k[2]] for k in keys]
-        kept = [d for d in kept if d.sort != "proof"]
+    lines += ["| Claim | Call | Definitions | Lines | Files | Ghost members |"]
+    lines += ["|---|---|---|---|---|---|"]
+    for words, names in CLAIMS:
+        calls = [call for name in names.split() for call in find(code, name)]
+        kept = rests_on(files, calls)
         where = len({d.key[:2] for d in kept})
         size = sum(d.lines for d in kept)
-        call = f"`{name.split()[0]}` (`{crate}`)"
-        lines.append(f"| {words} | {call} | {len(kept)} | {size} | {where} |")
+        crate, _, name = names.split()[0].partition("::")
+        more = [name.split("::") for name in names.split()[1:]]
+        told = f"`{name}` (`{crate}`)"
+        if more and len(more[0]) > 2:
+            told += f", with `{more[0][1]}::{{{', '.join(part[-1] for part in more)}}}`"
+        ghosts = len(members_of(code, calls))
+        lines.append(f"| {words} | {told} | {len(kept)} | {size} | {where} | {ghosts} |")
     lines.append("")
     for crate in sources.closure(sources.dependencies()):
         own = [file for file in files.values() if file.crate == crate and file.name != "Lib"]
@@ -110,11 +159,13 @@ def page():
         passing = [f for f in own if f.passed_on.paths and f not in here]
         if not own:
             continue
-        total = sum(len(f.lines) for f in here)
         lines += [f"## `{crate}`", ""]
+        total = f"{told_many(here, 'file', 'files')}, {sum(len(f.lines) for f in here)} lines"
+        stated = [c for c in calls_of(code) if c.crate == crate and c.name.startswith("ghost ")]
+        size = sum(len(call.text.splitlines()) for call in stated)
+        members = f"{told_many(stated, 'ghost member', 'ghost members')} of impls, {size} lines"
+        lines += ["; ".join([total] * bool(here) + [members] * bool(stated)) + ".", ""]
         if here:
-            count = "1 file" if len(here) == 1 else f"{len(here)} files"
-            lines += [f"{count}, {total} lines.", ""]
             lines += ["| File | Lines | Definitions | What it says |", "|---|---|---|---|"]
         for file in here:
             kept = [d for d in file.definitions.values() if d.sort != "proof"]
@@ -129,7 +180,7 @@ def page():
     lines += [f"## {heading}", ""]
     ghosts = [call for call in calls_of(code) if call.name.startswith("ghost ")]
     direct = set().union(*(call.cites for call in ghosts))
-    behind_them = sources.reached(files, direct)
+    behind_them = sources.reached(files, direct, proofs=True)
     counted = sum(proof.key in direct for proof in proofs)
     serving = sum(proof.key in behind_them for proof in proofs) - counted
     told = (
@@ -145,22 +196,25 @@ def page():
 
 def claim(names):
     files, code = sources.read_all()
-    status = 0
+    status, calls = 0, []
     for name in names:
         found = find(code, name)
         if not found:
             print(f"no call {name}", file=sys.stderr)
             status = 1
-        for call in found:
-            print(f"{call.title}: crates/{call.crate}/src/{call.path}:{call.line}")
-            keys = sources.reached(files, call.cites)
-            for key in sorted(keys):
-                definition = files[key[:2]].definitions[key[2]]
-                if definition.sort == "proof":
-                    continue
-                mark = "cited" if key in call.cites else "below"
-                place = f"crates/{key[0]}/specs/{key[1]}.antt:{definition.line}"
-                print(f"  {mark} {definition.name}: {place}")
+        calls += found
+    for call in calls:
+        print(f"{call.title}: crates/{call.crate}/src/{call.path}:{call.line}")
+    cited = {key for call in calls for key in call.cites}
+    kept = rests_on(files, calls)
+    for one in kept:
+        mark = "cited" if one.key in cited else "below"
+        print(f"  {mark} {one.name}: crates/{one.crate}/specs/{one.file}.antt:{one.line}")
+    for member in sorted(members_of(code, calls), key=lambda one: (one.crate, one.path, one.line)):
+        name = member.name.removeprefix("ghost ")
+        place = f"crates/{member.crate}/src/{member.path}:{member.line}"
+        print(f"  ghost {member.owner}.{name}: {place}")
+    print(f"{told_many(kept, 'definition', 'definitions')}, {sum(one.lines for one in kept)} lines")
     return status
 
 

@@ -36,7 +36,7 @@ def clauses(path, call):
             name = " ".join(word for word in (path, *clause.groups()) if word)
             while name in found:
                 name += "'"
-        found[name] = found.get(name, "") + f" {line.strip()}"
+        found[name] = found.get(name, "") + f" {line.strip().rstrip(';')}"
     return found
 
 

@@ -12,7 +12,9 @@ CRATES = TOP / "crates"
 
 COMMENT = re.compile(r"(?:^|(?<=\s))(?:--|//).*$", re.M)
 SIGN = re.compile(r"(?<=\s)[^\w\s(){},]+(?=\s)")
-WORD = re.compile(r"[^\W\d][\w'-]*(?:\.[^\W\d][\w'-]*)*")
+WORD = re.compile(r"(?<![\w.'-])[^\W\d][\w'-]*(?:\.[^\W\d][\w'-]*)*")
+LABEL = re.compile(r"(?:(?<=[{;])|^)\s*[\w'-]+ =(?=\s)", re.M)
+FIELD = re.compile(r"^ +(?:pub )?[\w'-]+(?: [\w'-]+)* :(?=\s)", re.M)
 SIGNATURE = re.compile(
     r"^(?P<opened>abbrev |unfoldable )?(?P<pub>pub )?(?P<sort>data |record )?"
     r"(?P<name>[^\s:({]+)\s*(?P<rest>.*)$"
@@ -97,11 +99,32 @@ class Definition:
         self.crate, self.file, self.name, self.line = crate, path, name, line
         self.sort, self.public = sort, public
         self.text, self.lines, self.comment, self.cites = "", 0, "", set()
-        self.around = ""
+        self.around, self.cases, self.proof = "", set(), ""
 
     @property
     def key(self):
         return (self.crate, self.file, self.name)
+
+    def add(self, line):
+        """A line more. Of a proof only the statement is text that a reader has to read."""
+        if self.sort == "proof" and (self.proof or line.startswith(f"{self.name} ") and self.text):
+            self.proof += line + "\n"
+            return
+        self.text += line + "\n"
+        self.lines += 1
+
+    @property
+    def clauses(self):
+        """The text in parts, each with the patterns before its `=`, where it has some.
+
+        It is without what it names itself: fields, labels of a record's parts.
+        """
+        text = LABEL.sub(" ", self.text)
+        if self.sort in ("data", "record"):
+            return [("", FIELD.sub(" ", text))]
+        parts = re.split(rf"^(?={re.escape(self.name)} (?!:))", text, flags=re.M)
+        ends = [part.find(" =") if at else 0 for at, part in enumerate(parts)]
+        return [(part[: max(end, 0)], part) for part, end in zip(parts, ends)]
 
 
 Block = collections.namedtuple("Block", "opened parameters")
@@ -167,11 +190,11 @@ class SpecFile:
                 continue
             if line[0].isspace():
                 if current:
-                    current.text += line + "\n"
-                    current.lines += 1
+                    current.add(line)
                     case = CASE.match(line)
                     if case and current.sort == "data":
                         self.cases[case[1]] = current
+                        current.cases.add(case[1])
                 continue
             if line.startswith("unfolding "):
                 continue
@@ -193,8 +216,7 @@ class SpecFile:
             elif current is None:  # else a clause of an operator, between its arguments
                 continue
             comment = []
-            current.text += line + "\n"
-            current.lines += 1
+            current.add(line)
 
     @property
     def sections(self):
@@ -267,7 +289,7 @@ class Source:
         self.crate, self.name = parts[0], "/".join(parts[2:])
         self.lines = path.read_text().splitlines()
         self.imports = Imports()
-        self.calls = []
+        self.calls, self.declared = [], []
         self.parse()
 
     def parse(self):
@@ -292,7 +314,8 @@ class Source:
             elif line == "}":
                 owner = stated = None
             else:
-                ghost = re.match(r"^    ghost ([\w_]+) ?=", line) if owner else None
+                ghost = re.match(r"^    ghost (\w+) ?=", line) if owner else None
+                declared = re.match(r"^    ghost (\w+) ?:", line) if owner else None
                 match = FUNCTION.match(line)
                 if ghost:
                     call = Call(self.crate, self.name, owner, f"ghost {ghost[1]}", at + 1)
@@ -306,6 +329,8 @@ class Source:
                     call.public = True
                     call.stated = stated
                     self.calls.append(call)
+                elif declared:
+                    self.declared.append(Call(self.crate, self.name, owner, declared[1], at + 1))
                 elif match and bool(match[1]) == bool(owner):
                     self.call(match, owner, stated, scope, at)
             at += 1
@@ -404,28 +429,55 @@ def words_of(text):
     return set(WORD.findall(text)) | {f"◌{sign}◌" for sign in SIGN.findall(text)}
 
 
-def cite(files, imports, text, own=None):
-    """The definitions that a text names."""
-    found = set()
+def target_of(files, imports, word, own=None):
+    """The definition that a word names, or one of whose cases it is."""
+    here = own and own.find(word.split(".")[0])
+    if here:
+        return here
+    path = imports.find(word)
+    target = stands_at(files, path) if path else None
+    return target if isinstance(target, Definition) else None
+
+
+def cite(files, imports, text, own=None, cases=(), patterns=""):
+    """The definitions that a text names; a name of its own cases is that of no other type.
+
+    What stands in patterns and is no case is a variable.
+    """
+    found, variables = set(), set()
+    for word in words_of(patterns) if patterns else ():
+        target = target_of(files, imports, word, own)
+        if target is None or (target.sort != "data" or target.name == word) and "." not in word:
+            variables.add(word)
     for word in words_of(text):
-        here = own and own.find(word.split(".")[0])
-        if here:
-            found.add(here.key)
-            continue
-        path = imports.find(word)
-        target = stands_at(files, path) if path else None
-        if isinstance(target, Definition):
+        head = word.split(".")[0]
+        target = None if head in variables or head in cases else target_of(
+            files, imports, word, own)
+        if target:
             found.add(target.key)
     return found
 
 
 def read_all():
-    """Definitions with what they cite, and calls with what their contracts cite."""
+    """Definitions with what they cite, and calls with what their contracts cite.
+
+    A proof that a definition names counts by its statement, which says all that is known of it.
+    """
     files, code = specs(), sources()
     for file in files.values():
         for definition in file.definitions.values():
-            text = definition.around + definition.text
-            definition.cites = cite(files, file.imports, text, file) - {definition.key}
+            definition.cites = cite(files, file.imports, definition.around, file)
+            for patterns, text in definition.clauses:
+                definition.cites |= cite(
+                    files, file.imports, text, file, definition.cases, patterns)
+            definition.cites.discard(definition.key)
+            definition.serving = cite(files, file.imports, definition.proof, file)
+    named = {key for file in files.values() for definition in file.definitions.values()
+             if definition.sort != "proof" for key in definition.cites}
+    for file in files.values():
+        for definition in file.definitions.values():
+            if definition.sort == "proof" and definition.key in named:
+                definition.sort = "stated"
     for source in code:
         for call in source.calls:
             call.cites = cite(files, source.imports, contract_text(call))
@@ -439,12 +491,14 @@ def contract_text(call):
     return call.text[at.start() :] if at else ""
 
 
-def reached(files, keys):
-    """These definitions and all that they rest on."""
+def reached(files, keys, proofs=False):
+    """These definitions and all that they rest on; with what their proofs name, where told so."""
     seen, todo = set(), list(keys)
     while todo:
         key = todo.pop()
         if key not in seen:
             seen.add(key)
-            todo += files[key[:2]].definitions[key[2]].cites
+            definition = files[key[:2]].definitions[key[2]]
+            todo += definition.cites
+            todo += definition.serving if proofs else ()
     return seen

@@ -39,6 +39,33 @@ a <+> b = second a
 
 pub proved : (n : ℕ) → first n ≡ 1
 proved n = refl
+
+-- one of two types that have a case of one name
+pub data Other : Type 0 where
+  empty : Other
+  marked : Pair → Other
+
+pub data Another : Type 0 where
+  marked : ℕ → Another
+  from : marked ≡ marked → Another
+
+-- a field and a label of the name of a definition
+pub record Named : Type 0 where
+  pub first : ℕ
+
+abbrev pub named : ℕ → Named
+named n = record { first = n }
+
+-- a variable of the name of a definition
+abbrev pub matching : Sort → ℕ → ℕ
+matching plain first = first
+
+-- is known by its statement alone
+pub stated : (n : ℕ) → Another
+stated n = marked (second n)
+
+abbrev pub stating : ℕ → Another
+stating n = stated n
 """,
     "low/Blocks": """\
 -- Definitions inside of blocks.
@@ -90,11 +117,15 @@ SORT, PAIR, NEXT = {"Sort"}, {"Pair", "Sort"}, {"first", "second"}
 WAYS = [
     ("low.specs.Kinds.{Sort}", "Sort", SORT),
     ("low.specs.Kinds.{Pair as Two}", "Two", PAIR),
-    ("low.specs.Kinds.{marked}", "result ≡ marked 1", SORT),
     ("low.specs.Kinds.Sort as sorts", "result ≡ sorts.plain", SORT),
     ("low.specs.Kinds as kinds", "kinds.second 1", NEXT),
     ("low.specs.Kinds.{◌<+>◌}", "result ≡ (1 <+> 2)", NEXT | {"◌<+>◌"}),
     ("low.specs.Kinds.{proved}", "proved 1", {"proved", "first"}),
+    ("low.specs.Kinds.{plain}", "result ≡ plain", SORT),
+    ("low.specs.Kinds.{empty}", "result ≡ empty", PAIR | {"Other"}),
+    ("low.specs.Kinds.{named}", "(named 1).first ≡ 1", {"named", "Named"}),
+    ("low.specs.Kinds.{matching}", "matching sort 1", SORT | {"matching"}),
+    ("low.specs.Kinds.{stating}", "stating 1", {"stating", "stated", "Another"}),
     ("low.specs.Blocks.{even}", "even 1", {"even", "odd", "first"}),
     ("low.specs.Blocks.{inside}", "inside 1", PAIR | {"inside"}),
     ("low.specs.Blocks.{Further}", "Further", SORT | {"Further"}),
@@ -155,7 +186,7 @@ def differences(files, code):
              for file in files.values() for key in [d.key for d in file.definitions.values()]}
     for name, sort in [("Sort", "data"), ("Pair", "record"), ("first", "abbrev"),
                        ("second", "unfoldable"), ("odd", "abbrev"), ("Further", "record"),
-                       ("furthest", "abbrev"), ("proved", "proof")]:
+                       ("furthest", "abbrev"), ("proved", "proof"), ("stated", "stated")]:
         if kinds.get(name) != sort:
             yield f"{name} is {kinds.get(name)} in place of {sort}"
     calls = {source.name: source.calls for source in code}

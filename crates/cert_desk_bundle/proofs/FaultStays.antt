@@ -71,7 +71,7 @@ module _ (fields : Body) (limit offset : ℕ) (rest more : List ℕ) where
       subst (λ (x : List ℕ). IsFault (sequence fields) limit offset kinds.NoCertificate x) (sym (ap (λ (x : List ℕ). x ++ more) s.2)) (fault_first fields limit offset s.0 (s.1 ++ more) s.3)
   IsFault-stays kinds.Indefinite ne f = head_stays kinds.Indefinite errors.IndefiniteLength (omega arith) (heads (sequence fields) limit offset kinds.Indefinite rest f.says) (λ x. absurd cc) f
   IsFault-stays kinds.LengthTooWide ne f = head_stays kinds.LengthTooWide errors.Overlength (omega arith) (heads (sequence fields) limit offset kinds.LengthTooWide rest f.says) (λ x. absurd cc) f
-  IsFault-stays kinds.LengthNotShortest ne f = head_stays kinds.LengthNotShortest (errors.Length tags.Sequence) (omega arith) f.says (λ x. absurd cc) f
+  IsFault-stays kinds.LengthNotShortest ne f = head_stays kinds.LengthNotShortest (errors.Length tags.Sequence) (omega arith) (heads (sequence fields) limit offset kinds.LengthNotShortest rest f.says) (λ x. absurd cc) f
   IsFault-stays kinds.TooLarge ne f = large_stays f
   IsFault-stays kinds.Malformed ne f = malformed_stays f
   IsFault-stays kinds.Truncated ne f = absurd (ne refl)

@@ -1,13 +1,14 @@
 -- What is taken of an input in several reads is read in turn.
-use Rattle.std.proofs.Common.{◌≡◌, ℕ, ◌≤◌, List, [], ◌++◌, length, take, sym, arith, ap, subst, ◌∙◌, append_assoc, append-nil, length-take}
-use Rattle.cert_desk_io.specs.Devices.{one_more}
+use Rattle.std.proofs.Common.{◌≡◌, ◌⊎◌, inl, inr, ℕ, ◌≤◌, List, [], ◌++◌, length, take, refl, arith, subst, append_assoc, append-nil, length-take}
+use Rattle.cert_desk_io.specs.Devices.{Device, one_more, source}
 use Rattle.cert_desk_bundle.specs.declared.bundle_error.BundleError.{BundleError}
 use Rattle.cert_desk_bundle.specs.declared.bundle_error.BundleError.TheVariants as errors
+use Rattle.cert_desk_bundle.specs.declared.bundle_error.ReadError.{ReadError}
 use Rattle.cert_desk_bundle.specs.declared.bundle_error.ReadError.TheVariants as reads
 use Rattle.cert_desk_bundle.specs.declared.standing.Standing.{Standing}
 use Rattle.cert_desk_bundle.specs.declared.standing.Standing.TheVariants as standings
-use Rattle.cert_desk_bundle.specs.Streams.{Kept, Reads, AreFrontOf}
-use Rattle.cert_desk_bundle.specs.Steps.{ReadsExtended, ReadsUnchanged, HasFailed, stopped, Takes, DeviceFails, StopsAtOnce, most_read, RefusesPiece, RefusesEnd, RefusesInput}
+use Rattle.cert_desk_bundle.specs.Streams.{Kept, Reads}
+use Rattle.cert_desk_bundle.specs.Steps.{ReadsExtended, ReadsUnchanged, HasFailed, stopped, Takes, LastStops, StopsAtLast, most_read, RefusesPiece, RefusesEnd, RefusesInput}
 
 module _ {State : Type 0} (takes : State → List ℕ → State → Type 0)
     (in_turn : (a b c : State) (first second : List ℕ) → takes a first b → takes b second c → takes a (first ++ second) c)
@@ -28,56 +29,43 @@ module _ {State : Type 0} (takes : State → List ℕ → State → Type 0)
     λ stream reads. still (stream ++ before.0) (before.2 stream reads),
   )
 
-  module _ (is_ended : State → Type 0) (failures : State → ℕ) (was_open : old.standing ≡ standings.Open) (is_open : now.standing ≡ standings.Open) (limit : now.limit ≡ old.limit) where
-    pub device_fails : takes mid [] to → new ≡ stopped now standings.NoDevice → (is_ended to → ⊥) → failures mid ≡ failures from → failures to ≡ one_more (failures mid) → DeviceFails takes is_ended failures from to bound old new
-    device_fails taken e not_ended sound once =
-        let opened : now ≡ record new { rest = now.rest; standing = standings.Open } =
-        ap (λ (s : Standing). record now { standing = s }) is_open ∙ ap (λ (k : Kept). record k { rest = now.rest; standing = standings.Open }) (sym e) in
-        record {
-          was_open = was_open;
-          standing = ap (λ (k : Kept). k.standing) e;
-          octets = before.0;
-          failed = record { before = mid; moved = before.1; sound = sound; stopped = taken; not_ended = not_ended; once = once };
-          rest = now.rest;
-          reads = λ stream reads. subst (λ (k : Kept). Reads bound k (stream ++ before.0)) opened (before.2 stream reads);
-        }
+  module _ (is_ended : State → Type 0) (failures : State → ℕ) (was_open : old.standing ≡ standings.Open) (is_open : now.standing ≡ standings.Open) (limit : now.limit ≡ old.limit)
+      (sound : failures mid ≡ failures from) where
+    abbrev input : Device
+    input = source takes is_ended failures from to
 
     -- what was taken before the last read was read
-    stops : (piece : List ℕ) → takes mid piece to → length piece ≤ most_read → StopsAtOnce takes from to bound old
-    stops piece taken short = record { before = mid; now = now; is_open = is_open; limit = limit; reads = before; piece = piece; taken = taken; short = short }
+    at_last : (e : ReadError) (piece : List ℕ) → length piece ≤ most_read → takes mid piece to → LastStops input bound mid now new piece e → StopsAtLast input bound old new e
+    at_last e piece short taken stops = record {
+      was_open = was_open;
+      before = mid;
+      octets = before.0;
+      moved = before.1;
+      sound = sound;
+      now = now;
+      is_open = is_open;
+      limit = limit;
+      reads = before.2;
+      piece = piece;
+      short = short;
+      last = taken;
+      whole = in_turn from mid to before.0 piece before.1 taken;
+      stops = stops;
+    }
 
-    pub end-refused : (e : BundleError) → failures to ≡ failures from → takes mid [] to → is_ended to → RefusesEnd bound now new e → RefusesInput takes is_ended failures from to bound old new (reads.Bundle e)
-    end-refused (errors.Fault place offset kind) sound taken ended r = record {
-      was_open = was_open;
-      found = r.found;
-      ends = λ e. ended;
-      reads = Takes-still taken r.reads;
-      stops = stops [] taken (omega arith);
-      sound = sound;
-    }
-    end-refused errors.OutOfMemory sound taken ended r = absurd r
-    end-refused errors.Failed sound taken ended r =
-        let failed : ⊥ = subst (λ (s : Standing). HasFailed s) is_open r.failed in absurd failed
+    pub device_fails : takes mid [] to → new ≡ stopped now standings.NoDevice → (is_ended to → ⊥) → failures to ≡ one_more (failures mid) → RefusesInput input bound old new reads.Device
+    device_fails taken same not_ended once = at_last reads.Device [] (omega arith) taken (refl, not_ended, once, same)
 
-    pub piece-refused : (e : BundleError) (piece : List ℕ) → failures to ≡ failures from → length piece ≤ most_read → takes mid piece to → RefusesPiece bound now new piece e → RefusesInput takes is_ended failures from to bound old new (reads.Bundle e)
-    piece-refused (errors.Fault place offset kind) piece sound short taken r = record {
-      was_open = was_open;
-      found = r.found;
-      ends = λ e. absurd (r.streams e);
-      reads = Takes-more piece taken r.reads;
-      stops = stops piece taken short;
-      sound = sound;
-    }
-    piece-refused errors.OutOfMemory piece sound short taken r = record {
-      was_open = was_open;
-      standing = r.standing;
-      octets = before.0 ++ piece;
-      taken = in_turn from mid to before.0 piece before.1 taken;
-      begins = λ stream reads. subst (λ (x : List ℕ). AreFrontOf bound new.limit new.certificates x) (append_assoc stream before.0 piece) (r.begins (stream ++ before.0) (before.2 stream reads));
-      stops = stops piece taken short;
-      sound = sound;
-    }
-    piece-refused errors.Failed piece sound short taken r = absurd (r.was_shut is_open)
+    pub end-refused : (e : BundleError) → failures to ≡ failures mid → takes mid [] to → is_ended to → RefusesEnd bound now new e → RefusesInput input bound old new (reads.Bundle e)
+    end-refused (errors.Fault place offset kind) still taken ended r = at_last (reads.Bundle (errors.Fault place offset kind)) [] (omega arith) taken (still, inr (refl, ended, r))
+    end-refused errors.OutOfMemory still taken ended r = absurd r
+    end-refused errors.Failed still taken ended r =
+        let failed : ⊥ = subst (λ (s : Standing). HasFailed s) is_open r.0 in absurd failed
+
+    pub piece-refused : (e : BundleError) (piece : List ℕ) → failures to ≡ failures mid → length piece ≤ most_read → takes mid piece to → RefusesPiece bound now new piece e → RefusesInput input bound old new (reads.Bundle e)
+    piece-refused (errors.Fault place offset kind) piece still short taken r = at_last (reads.Bundle (errors.Fault place offset kind)) piece short taken (still, inl r)
+    piece-refused errors.OutOfMemory piece still short taken r = at_last (reads.Bundle errors.OutOfMemory) piece short taken (still, inl r)
+    piece-refused errors.Failed piece still short taken r = absurd (r.was_shut is_open)
 
 -- what a read put into the buffer is no more than a read takes
 pub short_piece : (count : ℕ) (buffer : List ℕ) → length buffer ≡ most_read → length (take count buffer) ≤ most_read

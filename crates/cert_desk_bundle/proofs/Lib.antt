@@ -1,3 +1,4 @@
+pub mod Decodings
 pub mod Scans
 pub mod SeriesLaws
 pub mod SeriesReading

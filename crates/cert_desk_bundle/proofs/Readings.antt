@@ -10,7 +10,7 @@ use Rattle.cert_desk_bundle.specs.declared.standing.Standing.TheVariants as stan
 use Rattle.cert_desk_bundle.specs.Chains.{Stands, Chain, joined}
 use Rattle.cert_desk_bundle.specs.Faults.{Split}
 use Rattle.cert_desk_bundle.specs.Headers.{IsUnfinished}
-use Rattle.cert_desk_bundle.specs.Streams.{Kept, Reads, ReadsUnder}
+use Rattle.cert_desk_bundle.specs.Streams.{Kept, Reads, ReadsSeries}
 use Rattle.cert_desk_bundle.specs.Steps.{kept_octets, Grows, Advances, TakesFront, StopsBy, Stops, stopped, error_of, RefusesPiece}
 use Rattle.cert_desk_bundle.proofs.Scans.{unfinished_none}
 use Rattle.cert_desk_bundle.proofs.SeriesLaws.{encodings-more, Series-more}
@@ -29,6 +29,10 @@ Chain-more bound limit cs c chain stands fits = Series-more (raw_certificate bou
 
 pub Reads-nil : (bound limit : ℕ) → Reads bound (record { limit = limit; certificates = []; rest = []; standing = standings.Open }) []
 Reads-nil bound limit = reads_nothing (raw_certificate_fields bound) limit
+
+-- what is read by a bundle that stands so
+abbrev pub ReadsUnder : ℕ → Standing → Kept → List ℕ → Type 0
+ReadsUnder bound standing b stream = ReadsSeries (raw_certificate bound) b.limit standing b.certificates b.rest stream
 
 -- What a bundle read that takes pieces
 
@@ -121,14 +125,13 @@ module _ (bound : ℕ) (old mid new : Kept) (piece : List ℕ) (opened : old.sta
   refuses-by : (standing : Standing) → StopsBy bound old (old.rest ++ piece) standing → RefusesPiece bound old (stopped old standing) piece (error_of bound old standing)
   refuses-by standings.Open why = absurd why
   refuses-by standings.Ended why = absurd why
-  refuses-by (standings.Faulted kind) why = record {
-    was_open = opened;
-    found = record { standing = refl; place_is = refl; offset_is = refl };
-    streams = why.0;
-    reads = λ stream reads.
+  refuses-by (standings.Faulted kind) why = (
+    record { was_open = opened; standing = refl; place_is = refl; offset_is = refl },
+    why.0,
+    λ stream reads.
         let split = open_split bound old stream opened reads in
-        reads_fault (raw_certificate_fields bound) old.limit old.certificates (old.rest ++ piece) (stream ++ piece) split.front (whole-more bound old stream piece split) kind why.0 why.1;
-  }
+        reads_fault (raw_certificate_fields bound) old.limit old.certificates (old.rest ++ piece) (stream ++ piece) split.front (whole-more bound old stream piece split) kind why.0 why.1,
+  )
   refuses-by standings.NoMemory why = record {
     was_open = opened;
     standing = refl;
@@ -160,12 +163,11 @@ error_stopped bound b standings.NoDevice = refl
 
 -- behind octets that were taken
 pub advances-refused : (bound : ℕ) (old now new : Kept) (front left : List ℕ) (e : BundleError) → old.standing ≡ standings.Open → Advances bound old now front → RefusesPiece bound now new left e → RefusesPiece bound old new (front ++ left) e
-advances-refused bound old now new front left (errors.Fault place offset kind) opened a r = record {
-  was_open = opened;
-  found = r.found;
-  streams = r.streams;
-  reads = λ stream reads. rw append_assoc at (r.reads (stream ++ front) (a.reads stream reads));
-}
+advances-refused bound old now new front left (errors.Fault place offset kind) opened a r = (
+  record { was_open = opened; standing = r.0.standing; place_is = r.0.place_is; offset_is = r.0.offset_is },
+  r.1,
+  λ stream reads. rw append_assoc at (r.2 (stream ++ front) (a.reads stream reads)),
+)
 advances-refused bound old now new front left errors.OutOfMemory opened a r = record {
   was_open = opened;
   standing = r.standing;

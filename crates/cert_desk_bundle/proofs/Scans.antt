@@ -2,7 +2,9 @@
 use Rattle.std.proofs.Common.{◌≡◌, ◌≢◌, ℕ, ◌+◌, ◌-◌, ◌^◌, ◌<◌, ◌≤◌, Bool, true, false, cond, List, [], ◌∷◌, ◌++◌, length, get_or, take, drop, Some, None, Result, Ok, Err, refl, sym, ap, subst, ◌∙◌, arith, ◌⊎◌, inl, inr, append_assoc, append-nil, length-append, length-drop}
 use Rattle.std.proofs.lemmas.Bool.{cases_lt, le-ltb, ne_eqb}
 use Rattle.std.proofs.lemmas.List.{take_at, take-append-le, take-append-drop, length-take-le}
-use Rattle.const_oid.proofs.DigitLaws.{split-same_length}
+use Rattle.std.specs.Int.Digits.{number_from_digits}
+use Rattle.const_oid.proofs.DigitLaws.{number_from_digits-digits, split-same_length}
+use Rattle.const_oid.specs.Digits.{digits}
 use Rattle.der_core_head.specs.declared.error.Error.{Error}
 use Rattle.der_core_head.specs.declared.error.ErrorKind.{ErrorKind}
 use Rattle.der_core_head.specs.declared.error.ErrorKind.TheVariants as errors
@@ -12,7 +14,7 @@ use Rattle.der_core_head.specs.Tags.{universal_tag, tag_octets, tag_at}
 use Rattle.der_core_head.specs.Heads.{Head, length_octets, head_octets, tlv, Fits, length_at, head_at}
 use Rattle.der_core_head.specs.Shapes.{Shape, Body, Value, sequence, IsValid, Spells, octets_of, body_octets, contents}
 use Rattle.der_core_head.proofs.Results.{IsBytes, ok_is, bind_ok}
-use Rattle.der_core_head.proofs.HeadLaws.{head_again, head_sound, length_at-short, length_at-indefinite, length_at-large, length_at-cut}
+use Rattle.der_core_head.proofs.HeadLaws.{head_again, head_sound, length-short, length-long, length_at-short, length_at-indefinite, length_at-large, length_at-cut, length_at-digits, shortest-ok, shortest-err}
 use Rattle.der_core_head.proofs.LeafLaws.{read_stays}
 use Rattle.der_core_octets.specs.declared.header.Header.{Header}
 use Rattle.der_core_octets.specs.Headers.{Scans, head_of}
@@ -32,10 +34,6 @@ head_is : (v : List ℕ) → head_at (0x30 ∷ v) ≡ (length_at tags.Sequence v
 unfolding head_at tag_at universal_tag
 head_is v = refl
 
-head_none : head_at [] ≡ Err errors.Incomplete
-unfolding head_at tag_at
-head_none = refl
-
 -- the header of so many octets
 abbrev pub header : ℕ → List ℕ → Result (Head × List ℕ) ErrorKind
 header n w = Ok (record { tag = tags.Sequence; len = n }, w)
@@ -54,7 +52,8 @@ pub data Cause (v : List ℕ) (k : ErrorKind) : Type 0 where
   cut : k ≡ errors.Incomplete → length v < 5 → Cause v k
   indefinite : (w : List ℕ) → k ≡ errors.IndefiniteLength → v ≡ 0x80 ∷ w → Cause v k
   wide : (n : ℕ) (w : List ℕ) → k ≡ errors.Overlength → v ≡ n ∷ w → 0x85 ≤ n → Cause v k
-  longer : k ≡ errors.Length tags.Sequence → Cause v k
+  longer : (ds w : List ℕ) → k ≡ errors.Length tags.Sequence → v ≡ (0x80 + length ds) ∷ (ds ++ w) → 0 < length ds → length ds ≤ 4
+      → ((n : ℕ) → length_octets n ≡ (0x80 + length ds) ∷ ds → ⊥) → Cause v k
 
 bind_err : (r : Result (ℕ × List ℕ) ErrorKind) (f : ℕ × List ℕ → Head × List ℕ) (k : ErrorKind) → (r >>= λ x. Ok (f x)) ≡ Err k → r ≡ Err k
 bind_err (Ok x) f k e = absurd cc
@@ -63,6 +62,23 @@ bind_err (Err d) f k e = cc
 fails : (b : Bool) (x : ℕ × List ℕ) (d k : ErrorKind) → cond b (Ok x) (Err d) ≡ Err k → k ≡ d
 fails true x d k e = absurd cc
 fails false x d k e = cc
+
+-- octets of a length are those of the number of its digits
+of_number : (n : ℕ) (ds : List ℕ) → 0 < length ds → length_octets n ≡ (0x80 + length ds) ∷ ds → length_octets (number_from_digits 256 ds) ≡ (0x80 + length ds) ∷ ds
+of_number n ds some e =
+    elim (cases_lt n 128) [
+      | inl small ↦ absurd (omega (arith, ap (λ (l : List ℕ). get_or l 0 0) (sym (length-short n small) ∙ e)))
+      | inr large ↦
+          let is : digits 256 n ≡ ds = ap (drop 1) (sym (length-long n (digits 256 n) large refl) ∙ e) in
+          ap (λ (l : List ℕ). length_octets (number_from_digits 256 l)) (sym is) ∙ ap length_octets (number_from_digits-digits 256 n (omega arith)) ∙ e
+    ]
+
+-- digits that are refused are those of no length
+length_longer : (ds w : List ℕ) (k : ErrorKind) → 0 < length ds → length ds ≤ 4 → length_at tags.Sequence ((0x80 + length ds) ∷ (ds ++ w)) ≡ Err k
+    → (n : ℕ) → length_octets n ≡ (0x80 + length ds) ∷ ds → ⊥
+length_longer ds w k some few e n is =
+    let read = shortest-ok tags.Sequence (0x80 + length ds) ds w (of_number n ds some is) in
+    absurd (cc (e, length_at-digits tags.Sequence ds w some few, read))
 
 length_cause : (v : List ℕ) (k : ErrorKind) → length_at tags.Sequence v ≡ Err k → Cause v k
 unfolding length_at
@@ -76,7 +92,13 @@ length_cause (n ∷ w) k e =
           | inl large ↦ wide n w (cc (length_at-large tags.Sequence n w large)) refl large
           | inr few ↦ elim (cases_lt (length w) (n - 128)) [
             | inl short ↦ cut (cc (length_at-cut tags.Sequence n w digits few short)) (omega arith)
-            | inr enough ↦ longer (fails _ _ _ k (rw (le-ltb n 128 some, ne_eqb n 128 (λ x. omega arith), le-ltb 132 n few, le-ltb (length w) (n - 128) enough) at e))
+            | inr enough ↦
+                let ds = take (n - 128) w in
+                let count : length ds ≡ n - 128 = length-take-le (n - 128) w enough in
+                let is : n ≡ 0x80 + length ds = omega arith in
+                let at : n ∷ w ≡ (0x80 + length ds) ∷ (ds ++ drop (n - 128) w) = cc (is, take-append-drop (n - 128) w) in
+                longer ds (drop (n - 128) w) (fails _ _ _ k (rw (le-ltb n 128 some, ne_eqb n 128 (λ x. omega arith), le-ltb 132 n few, le-ltb (length w) (n - 128) enough) at e)) at (omega arith) (omega arith)
+                (length_longer ds (drop (n - 128) w) k (omega arith) (omega arith) (ap (length_at tags.Sequence) (sym at) ∙ e))
           ]
         ]
       ]
@@ -123,7 +145,8 @@ pub heads : (s : Shape) (limit offset : ℕ) (kind : FaultKind) (rest : List ℕ
 heads s limit offset kinds.NoCertificate rest h = tt
 heads s limit offset kinds.Indefinite rest h = ap head_at h.1 ∙ rw (head_is (0x80 ∷ h.0), length_at-indefinite tags.Sequence h.0) refl
 heads s limit offset kinds.LengthTooWide rest h = ap head_at h.2 ∙ rw (head_is (h.0 ∷ h.1), length_at-large tags.Sequence h.0 h.1 (omega (arith, h.3))) refl
-heads s limit offset kinds.LengthNotShortest rest h = h
+heads s limit offset kinds.LengthNotShortest rest h =
+    ap head_at h.2 ∙ rw (head_is ((0x80 + length h.0) ∷ (h.0 ++ h.1)), length_at-digits tags.Sequence h.0 h.1 h.3 h.4, shortest-err tags.Sequence (0x80 + length h.0) h.0 h.1 (h.5 (number_from_digits 256 h.0))) refl
 heads s limit offset kinds.TooLarge rest h = (h.0, h.1, ap head_at h.3 ∙ at_header h.0 h.1 h.2, h.4)
 heads s limit offset kinds.Malformed rest h =
     (h.0, h.1, h.2, ap head_at (h.4 ∙ append_assoc (head_octets tags.Sequence h.0) h.1 h.2) ∙ at_header h.0 (h.1 ++ h.2) h.3, h.5, h.6)
@@ -137,7 +160,7 @@ pub says_some : (s : Shape) (limit offset : ℕ) (kind : FaultKind) → Says s l
 says_some s limit offset kinds.NoCertificate h = cc (h.2)
 says_some s limit offset kinds.Indefinite h = cc (h.1)
 says_some s limit offset kinds.LengthTooWide h = cc (h.2)
-says_some s limit offset kinds.LengthNotShortest h = cc (h, head_none)
+says_some s limit offset kinds.LengthNotShortest h = cc (h.2)
 says_some s limit offset kinds.TooLarge h = no_head h.0 h.1 h.3
 says_some s limit offset kinds.Malformed h = no_head h.0 (h.1 ++ h.2) (h.4 ∙ append_assoc (head_octets tags.Sequence h.0) h.1 h.2)
 says_some s limit offset kinds.Truncated h = h refl
@@ -264,7 +287,7 @@ module _ (fields : Body) (limit offset : ℕ) where
       | cut is few ↦ absurd (other is)
       | indefinite w is at ↦ rw is (record { says = (w, first ∙ ap (λ x. 0x30 ∷ x) at); first = before kinds.Indefinite (λ x. omega arith) (λ x. absurd cc) (λ x. absurd cc) })
       | wide n w is at large ↦ rw is (record { says = (n, w, first ∙ ap (λ x. 0x30 ∷ x) at, large); first = before kinds.LengthTooWide (λ x. absurd cc) (λ x. omega arith) (λ x. absurd cc) })
-      | longer is ↦ rw is (record { says = e ∙ ap (λ x. Err x) is; first = before kinds.LengthNotShortest (λ x. absurd cc) (λ x. absurd cc) (λ x. omega arith) })
+      | longer ds w is at some few none ↦ rw is (record { says = (ds, w, first ∙ ap (λ x. 0x30 ∷ x) at, some, few, none); first = before kinds.LengthNotShortest (λ x. absurd cc) (λ x. absurd cc) (λ x. omega arith) })
     ]
       where
         before : (kind : FaultKind) → (k ≡ errors.IndefiniteLength → rank kind ≤ 2) → (k ≡ errors.Overlength → rank kind ≤ 3) → (k ≡ errors.Length tags.Sequence → rank kind ≤ 4)
@@ -353,7 +376,7 @@ module _ (limit offset : ℕ) (room : 6 ≤ limit) (below : offset < 2 ^ 64) whe
           | cut is h ↦ h
           | indefinite w is at ↦ absurd cc
           | wide n w is at large ↦ absurd cc
-          | longer is ↦ absurd cc
+          | longer ds w is at some most none ↦ absurd cc
         ]
 
         still : (b : Body) (more : List ℕ) → length (rest ++ more) < length rest + 1 → IsUnfinished (sequence b) limit offset (rest ++ more)
@@ -433,7 +456,7 @@ early : (v : List ℕ) (k : ErrorKind) → Cause v k → k ≢ errors.Incomplete
 early v k (cut is few) other = absurd (other is)
 early v k (indefinite w is at) other = rw is (λ e. cc, λ e. cc)
 early v k (wide n w is at large) other = rw is (λ e. cc, λ e. cc)
-early v k (longer is) other = rw is (λ e. cc, λ e. cc)
+early v k (longer ds w is at some few none) other = rw is (λ e. cc, λ e. cc)
 
 module _ (limit offset : ℕ) (rest : List ℕ) (some : 1 ≤ length rest) (first : get_or rest 0 0 ≡ 0x30) where
   at_front : rest ≡ 0x30 ∷ drop 1 rest

@@ -1,7 +1,7 @@
 -- Certificates that a stream joins: a series of them.
-use Rattle.std.specs.Prelude.{ℕ, List}
+use Rattle.std.specs.Prelude.{ℕ, List, length, take}
 use Rattle.x509_cert_certificates.specs.Certificates.{PlainCertificate, raw_certificate}
-use Rattle.cert_desk_bundle.specs.Series.{MayStand, Series, encodings, start_of}
+use Rattle.cert_desk_bundle.specs.Series.{MayStand, Series, encodings}
 
 -- a certificate that may stand in a stream: it has an encoding, within the limit
 abbrev pub Stands : ℕ → ℕ → PlainCertificate → Type 0
@@ -13,7 +13,7 @@ joined bound cs = encodings (raw_certificate bound) cs
 
 -- where the certificate at a place begins
 abbrev pub offset_at : ℕ → List PlainCertificate → ℕ → ℕ
-offset_at bound cs place = start_of (raw_certificate bound) cs place
+offset_at bound cs place = length (joined bound (take place cs))
 
 -- The stream joins the encodings of these certificates, each within the limit, and has at most 2^64
 -- - 1 octets.

@@ -1,10 +1,8 @@
 -- What can be wrong where a value of a shape should begin that stands behind a SEQUENCE tag; and
 -- with a stream: said of the values with which it begins, and of the rest.
 use Rattle.std.specs.Prelude.{◌≡◌, ◌≢◌, ℕ, ◌+◌, ◌≤◌, ◌<◌, ◌^◌, ◌⊎◌, List, [], ◌∷◌, ◌++◌, length}
-use Rattle.std.specs.Prelude.{Err}
-use Rattle.der_core_head.specs.declared.error.ErrorKind.TheVariants as errors
 use Rattle.der_core_head.specs.declared.tag.Tag.TheVariants as tags
-use Rattle.der_core_head.specs.Heads.{head_octets, head_at}
+use Rattle.der_core_head.specs.Heads.{head_octets, length_octets}
 use Rattle.der_core_head.specs.Shapes.{Shape, Value, octets_of, IsValid}
 use Rattle.x509_cert_certificates.specs.Certificates.{PlainCertificate, raw_certificate}
 use Rattle.cert_desk_bundle.specs.declared.fault_kind.FaultKind.{FaultKind}
@@ -21,7 +19,10 @@ Says s limit offset kinds.NoCertificate rest = (b : ℕ) × (w : List ℕ) × (r
 Says s limit offset kinds.Indefinite rest = (w : List ℕ) × (rest ≡ 0x30 ∷ 0x80 ∷ w)
 Says s limit offset kinds.LengthTooWide rest = (n : ℕ) × (w : List ℕ) × (rest ≡ 0x30 ∷ n ∷ w)
     × (0x85 ≤ n)
-Says s limit offset kinds.LengthNotShortest rest = head_at rest ≡ Err (errors.Length tags.Sequence)
+Says s limit offset kinds.LengthNotShortest rest =
+    (octets : List ℕ) × (w : List ℕ) × (rest ≡ 0x30 ∷ (0x80 + length octets) ∷ (octets ++ w))
+    × (0 < length octets) × (length octets ≤ 4)
+    × ((n : ℕ) → length_octets n ≢ (0x80 + length octets) ∷ octets)
 Says s limit offset kinds.TooLarge rest =
     (n : ℕ) × (w : List ℕ) × (n < 2 ^ 32) × (rest ≡ head_octets tags.Sequence n ++ w)
     × ((limit < whole_length n) ⊎ (2 ^ 64 ≤ offset + whole_length n))

@@ -1,3 +1,4 @@
+pub mod Decoding
 pub mod Series
 pub mod Chains
 pub mod FaultNames

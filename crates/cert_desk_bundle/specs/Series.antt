@@ -1,6 +1,6 @@
 -- Values of a shape whose encodings stand one behind the other: certificates of a stream, trust
 -- anchors of a file.
-use Rattle.std.specs.Prelude.{◌≡◌, ℕ, ◌≤◌, ◌<◌, ◌^◌, List, [], ◌∷◌, ◌++◌, length, take, flat_map}
+use Rattle.std.specs.Prelude.{◌≡◌, ℕ, ◌≤◌, ◌<◌, ◌^◌, List, [], ◌∷◌, ◌++◌, length, flat_map}
 use Rattle.std.specs.Prelude.{true}
 use Rattle.std.specs.List.{AllByRecursion}
 use Rattle.der_core_head.specs.Shapes.{Shape, Value, octets_of, IsValid}
@@ -17,10 +17,6 @@ pub record IsUnambiguous (s : Shape) : Type 0 where
 -- the encodings of values, in turn
 abbrev pub encodings : (s : Shape) → List (Value s) → List ℕ
 encodings s vs = flat_map (octets_of s) vs
-
--- where the value at a place begins
-abbrev pub start_of : (s : Shape) → List (Value s) → ℕ → ℕ
-start_of s vs place = length (encodings s (take place vs))
 
 -- a value that may stand in a series: it has an encoding, within the limit
 pub record MayStand (s : Shape) (limit : ℕ) (v : Value s) : Type 0 where

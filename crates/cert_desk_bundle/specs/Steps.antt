@@ -1,6 +1,6 @@
 -- How a bundle changes.
-use Rattle.std.specs.Prelude.{◌≡◌, ◌≢◌, ℕ, ◌+◌, ◌≤◌, ◌<◌, ◌^◌, List, [], ◌++◌, length, take}
-use Rattle.cert_desk_io.specs.Devices.{Fails, source}
+use Rattle.std.specs.Prelude.{◌≡◌, ◌≢◌, ℕ, ◌+◌, ◌≤◌, ◌<◌, ◌^◌, ◌⊎◌, List, [], ◌++◌, length, take}
+use Rattle.cert_desk_io.specs.Devices.{Device, one_more}
 use Rattle.x509_cert_certificates.specs.Certificates.{PlainCertificate, raw_certificate}
 use Rattle.cert_desk_bundle.specs.declared.bundle_error.BundleError.{BundleError}
 use Rattle.cert_desk_bundle.specs.declared.bundle_error.BundleError.TheVariants as errors
@@ -12,7 +12,8 @@ use Rattle.cert_desk_bundle.specs.declared.standing.Standing.{Standing}
 use Rattle.cert_desk_bundle.specs.declared.standing.Standing.TheVariants as standings
 use Rattle.cert_desk_bundle.specs.Chains.{joined}
 use Rattle.cert_desk_bundle.specs.Faults.{IsFault}
-use Rattle.cert_desk_bundle.specs.Streams.{Kept, Reads, AreFrontOf}
+use Rattle.cert_desk_bundle.specs.Series.{BeginsSeries}
+use Rattle.cert_desk_bundle.specs.Streams.{Kept, Reads}
 
 -- the octets that a bundle keeps
 abbrev pub kept_octets : ℕ → Kept → List ℕ
@@ -60,13 +61,15 @@ pub record Stops (bound : ℕ) (old new : Kept) (octets : List ℕ) (standing : 
 abbrev pub stopped : Kept → Standing → Kept
 stopped b standing = record b { rest = []; standing = standing }
 
--- where a fault stands: so many certificates and octets are before it
-pub record IsFoundAt (bound : ℕ) (b : Kept) (place offset : ℕ) (kind : FaultKind) : Type 0 where
-  pub standing : b.standing ≡ standings.Faulted kind
-  pub place_is : place ≡ length b.certificates
-  pub offset_is : offset ≡ length (joined bound b.certificates)
+-- An open bundle stopped at a fault: so many certificates and octets are before it.
+pub record IsFoundAt (bound : ℕ) (old new : Kept) (place offset : ℕ) (kind : FaultKind) : Type 0
+  where
+    pub was_open : old.standing ≡ standings.Open
+    pub standing : new.standing ≡ standings.Faulted kind
+    pub place_is : place ≡ length new.certificates
+    pub offset_is : offset ≡ length (joined bound new.certificates)
 
--- how that is told
+-- how it is told that a bundle stands so
 abbrev pub error_of : ℕ → Kept → Standing → BundleError
 error_of bound b standings.Open = errors.OutOfMemory
 error_of bound b standings.Ended = errors.OutOfMemory
@@ -75,44 +78,29 @@ error_of bound b (standings.Faulted kind) =
 error_of bound b standings.NoMemory = errors.OutOfMemory
 error_of bound b standings.NoDevice = errors.OutOfMemory
 
--- A piece has a fault, or what comes before it in the stream and it.
-pub record FeedsFault (bound : ℕ) (old new : Kept) (piece : List ℕ) (place offset : ℕ)
-    (kind : FaultKind) : Type 0 where
-  pub was_open : old.standing ≡ standings.Open
-  pub found : IsFoundAt bound new place offset kind
-  pub streams : kind ≢ kinds.Truncated
-  pub reads : ReadsExtended bound old new piece
-
 -- There was no memory for a piece.
 pub record FeedsNone (bound : ℕ) (old new : Kept) (piece : List ℕ) : Type 0 where
   pub was_open : old.standing ≡ standings.Open
   pub standing : new.standing ≡ standings.NoMemory
   pub begins : (stream : List ℕ) → Reads bound old stream
-      → AreFrontOf bound new.limit new.certificates (stream ++ piece)
+      → BeginsSeries (raw_certificate bound) new.limit new.certificates (stream ++ piece)
 
 -- a bundle wasn't open, and nothing changed
 pub record IsShut (old new : Kept) : Type 0 where
   pub was_shut : old.standing ≢ standings.Open
   pub same : new ≡ old
 
--- why a piece is refused
+-- why a piece is refused: it has a fault, or what comes before it in the stream and it
 abbrev pub RefusesPiece : ℕ → Kept → Kept → List ℕ → BundleError → Type 0
 RefusesPiece bound old new piece (errors.Fault place offset kind) =
-    FeedsFault bound old new piece place offset kind
+    IsFoundAt bound old new place offset kind × (kind ≢ kinds.Truncated)
+    × ReadsExtended bound old new piece
 RefusesPiece bound old new piece errors.OutOfMemory = FeedsNone bound old new piece
 RefusesPiece bound old new piece errors.Failed = IsShut old new
 
 -- every stream that the old bundle reads the new one reads
 abbrev pub ReadsUnchanged : ℕ → Kept → Kept → Type 0
 ReadsUnchanged bound old new = (stream : List ℕ) → Reads bound old stream → Reads bound new stream
-
--- The stream ends inside a certificate.
-pub record EndsInside (bound : ℕ) (old new : Kept) (place offset : ℕ) (kind : FaultKind) : Type 0
-  where
-    pub was_open : old.standing ≡ standings.Open
-    pub found : IsFoundAt bound new place offset kind
-    pub ends : kind ≡ kinds.Truncated
-    pub reads : ReadsUnchanged bound old new
 
 abbrev pub HasFailed : Standing → Type 0
 HasFailed standings.Open = ⊥
@@ -121,17 +109,13 @@ HasFailed (standings.Faulted kind) = Unit {0}
 HasFailed standings.NoMemory = Unit {0}
 HasFailed standings.NoDevice = Unit {0}
 
--- a bundle had failed, and nothing changed
-pub record HadFailed (old new : Kept) : Type 0 where
-  pub failed : HasFailed old.standing
-  pub same : new ≡ old
-
--- why a bundle doesn't end
+-- why a bundle doesn't end: the stream ends inside a certificate, or the bundle had failed
 abbrev pub RefusesEnd : ℕ → Kept → Kept → BundleError → Type 0
 RefusesEnd bound old new (errors.Fault place offset kind) =
-    EndsInside bound old new place offset kind
+    IsFoundAt bound old new place offset kind × (kind ≡ kinds.Truncated)
+    × ReadsUnchanged bound old new
 RefusesEnd bound old new errors.OutOfMemory = ⊥
-RefusesEnd bound old new errors.Failed = HadFailed old new
+RefusesEnd bound old new errors.Failed = HasFailed old.standing × (new ≡ old)
 
 -- Octets were taken, and for every stream that the old bundle reads the new one reads it and them.
 abbrev pub Takes : {State : Type 0} → (State → List ℕ → State → Type 0) → State → State → ℕ → Kept
@@ -143,63 +127,38 @@ Takes takes from to bound old new = (octets : List ℕ) × takes from octets to
 abbrev pub most_read : ℕ
 most_read = 4096
 
+-- How the last read stops an open bundle: it failed, and moved nothing; or it didn't, and the bundle
+-- refuses its piece, or the end that it met.
+abbrev pub LastStops : (input : Device) → ℕ → input.State → Kept → Kept → List ℕ → ReadError → Type 0
+LastStops input bound before now new piece reads.Device =
+    (piece ≡ []) × (input.is_ended input.new → ⊥)
+    × (input.failures input.new ≡ one_more (input.failures before))
+    × (new ≡ stopped now standings.NoDevice)
+LastStops input bound before now new piece (reads.Bundle e) =
+    (input.failures input.new ≡ input.failures before)
+    × (RefusesPiece bound now new piece e
+    ⊎ ((piece ≡ []) × input.is_ended input.new × RefusesEnd bound now new e))
+
 -- All that was taken before the last read is read by a bundle that still takes pieces: no octet was
 -- asked for behind what stops it.
-pub record StopsAtOnce {State : Type 0} (takes : State → List ℕ → State → Type 0) (from to : State)
-    (bound : ℕ) (old : Kept) : Type 0 where
-  pub before : State
+pub record StopsAtLast (input : Device) (bound : ℕ) (old new : Kept) (e : ReadError) : Type 0 where
+  pub was_open : old.standing ≡ standings.Open
+  pub before : input.State
+  pub octets : List ℕ
+  pub moved : input.moves input.old octets before
+  pub sound : input.failures before ≡ input.failures input.old
   pub now : Kept
   pub is_open : now.standing ≡ standings.Open
   pub limit : now.limit ≡ old.limit
-  pub reads : Takes takes from before bound old now
+  pub reads : ReadsExtended bound old now octets
   pub piece : List ℕ
-  pub taken : takes before piece to
   pub short : length piece ≤ most_read
-
--- The last read failed, and no other: the certificates are those of the octets before it, of which
--- a rest was dropped.
-pub record DeviceFails {State : Type 0} (takes : State → List ℕ → State → Type 0)
-    (is_ended : State → Type 0) (failures : State → ℕ) (from to : State) (bound : ℕ)
-    (old new : Kept) : Type 0 where
-  pub was_open : old.standing ≡ standings.Open
-  pub standing : new.standing ≡ standings.NoDevice
-  pub octets : List ℕ
-  pub failed : Fails (source takes is_ended failures from to) octets
-  pub rest : List ℕ
-  pub reads : ReadsExtended bound old (record new { rest = rest; standing = standings.Open }) octets
-
--- The stream has a fault, or ends inside a certificate. No read failed.
-pub record InputFaulty {State : Type 0} (takes : State → List ℕ → State → Type 0)
-    (is_ended : State → Type 0) (failures : State → ℕ) (from to : State) (bound : ℕ)
-    (old new : Kept) (place offset : ℕ) (kind : FaultKind) : Type 0 where
-  pub was_open : old.standing ≡ standings.Open
-  pub found : IsFoundAt bound new place offset kind
-  pub ends : kind ≡ kinds.Truncated → is_ended to
-  pub reads : Takes takes from to bound old new
-  pub stops : StopsAtOnce takes from to bound old
-  pub sound : failures to ≡ failures from
-
--- There was no memory for what was taken. No read failed.
-pub record InputFitsNot {State : Type 0} (takes : State → List ℕ → State → Type 0)
-    (failures : State → ℕ) (from to : State) (bound : ℕ) (old new : Kept) : Type 0 where
-  pub was_open : old.standing ≡ standings.Open
-  pub standing : new.standing ≡ standings.NoMemory
-  pub octets : List ℕ
-  pub taken : takes from octets to
-  pub begins : (stream : List ℕ) → Reads bound old stream
-      → AreFrontOf bound new.limit new.certificates (stream ++ octets)
-  pub stops : StopsAtOnce takes from to bound old
-  pub sound : failures to ≡ failures from
+  pub last : input.moves before piece input.new
+  pub whole : input.moves input.old (octets ++ piece) input.new
+  pub stops : LastStops input bound before now new piece e
 
 -- why an input isn't read to its end
-abbrev pub RefusesInput : {State : Type 0} → (State → List ℕ → State → Type 0) → (State → Type 0)
-    → (State → ℕ) → State → State → ℕ → Kept → Kept → ReadError → Type 0
-RefusesInput takes is_ended failures from to bound old new reads.Device =
-    DeviceFails takes is_ended failures from to bound old new
-RefusesInput takes is_ended failures from to bound old new
-    (reads.Bundle (errors.Fault place offset kind)) =
-    InputFaulty takes is_ended failures from to bound old new place offset kind
-RefusesInput takes is_ended failures from to bound old new (reads.Bundle errors.OutOfMemory) =
-    InputFitsNot takes failures from to bound old new
-RefusesInput takes is_ended failures from to bound old new (reads.Bundle errors.Failed) =
-    IsShut old new × (to ≡ from)
+abbrev pub RefusesInput : Device → ℕ → Kept → Kept → ReadError → Type 0
+RefusesInput input bound old new (reads.Bundle errors.Failed) = IsShut old new
+    × (input.new ≡ input.old)
+RefusesInput input bound old new e = StopsAtLast input bound old new e

@@ -5,7 +5,7 @@ use Rattle.x509_cert_certificates.specs.Certificates.{PlainCertificate, raw_cert
 use Rattle.cert_desk_bundle.specs.declared.fault_kind.FaultKind.TheVariants as kinds
 use Rattle.cert_desk_bundle.specs.declared.standing.Standing.{Standing}
 use Rattle.cert_desk_bundle.specs.declared.standing.Standing.TheVariants as standings
-use Rattle.cert_desk_bundle.specs.Series.{Series, SeriesSplit, BeginsSeries, encodings}
+use Rattle.cert_desk_bundle.specs.Series.{Series, SeriesSplit, encodings}
 use Rattle.cert_desk_bundle.specs.Faults.{SeriesFault, NoneBefore}
 
 -- Whoever stands so, with these values and this rest, has read this stream. After out of memory or
@@ -25,14 +25,7 @@ pub record Kept : Type 0 where
   pub rest : List ℕ
   pub standing : Standing
 
--- What a bundle keeps is what this stream gives.
-abbrev pub ReadsUnder : ℕ → Standing → Kept → List ℕ → Type 0
-ReadsUnder bound standing b stream =
-    ReadsSeries (raw_certificate bound) b.limit standing b.certificates b.rest stream
-
+-- what a bundle keeps is what this stream gives
 abbrev pub Reads : ℕ → Kept → List ℕ → Type 0
-Reads bound b stream = ReadsUnder bound b.standing b stream
-
--- the certificates are a front of those with which this stream begins
-abbrev pub AreFrontOf : ℕ → ℕ → List PlainCertificate → List ℕ → Type 0
-AreFrontOf bound limit cs stream = BeginsSeries (raw_certificate bound) limit cs stream
+Reads bound b stream =
+    ReadsSeries (raw_certificate bound) b.limit b.standing b.certificates b.rest stream

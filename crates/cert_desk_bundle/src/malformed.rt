@@ -20,7 +20,7 @@ fn placed_within(error: Error, len: usize) -> Error
     }
 }
 
-/// Why no certificate begins these octets: the first fault from the left, or none where one does.
+/// Why no certificate begins these octets: the first error met in reading, or none where one does.
 ///
 /// It is meant for a stream that is `Malformed` at an offset: for its octets from there on. The
 /// kind is that of the first fault. The position is the octet where the reader found it, counted

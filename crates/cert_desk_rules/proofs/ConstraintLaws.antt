@@ -5,20 +5,19 @@ use Rattle.std.proofs.lemmas.List.{append-nil}
 use Rattle.std.specs.Int.RustNames.{unsigned_abs}
 use Rattle.const_oid.proofs.DigitLaws.{digits-one}
 use Rattle.der_core_head.specs.declared.error.ErrorKind.{ErrorKind}
-use Rattle.der_core_head.specs.declared.error.ErrorKind.TheVariants as kinds
 use Rattle.der_core_head.specs.declared.tag.Tag.TheVariants as tags
-use Rattle.der_core_head.specs.Grammar.{plain_option, read, read_whole, whole}
+use Rattle.der_core_head.specs.Grammar.{plain_option, read_whole}
 use Rattle.der_core_head.specs.Heads.{head_octets, length_octets, tlv}
 use Rattle.der_core_head.specs.Integers.{integer_octets, unsigned}
 use Rattle.der_core_head.specs.Leaves.{boolean, integer}
-use Rattle.der_core_head.specs.Octets.{◌>>=◌}
 use Rattle.der_core_head.specs.Shapes.{Shape, Spells, IsValid, Value, leaf, octets_of, body_octets, optional, tagged, unless}
 use Rattle.der_core_head.specs.Tags.{tag_octets}
 use Rattle.der_core_head.proofs.OneEncoding.{is_spelled, whole_again}
-use Rattle.der_core_head.proofs.Results.{IsBytes, bind_ok, unless_ok, whole_ok}
+use Rattle.der_core_head.proofs.Results.{IsBytes}
 use Rattle.der_core_head.proofs.HeadLaws.{length-short}
 use Rattle.x509_cert_policies.specs.Policies.{basic_constraints_fields}
-use Rattle.cert_desk_rules.specs.Weighing.{basic_constraints, ca_octets, constraints, constraints_of, malformed, meaning_by, meaning_of}
+use Rattle.cert_desk_rules.specs.Weighing.{basic_constraints_in, ca_octets, constraints, constraints_of, malformed, meaning_of}
+use Rattle.cert_desk_rules.proofs.Meanings.{basic_constraints, meaning_none, meaning_once}
 
 -- pathLenConstraint
 abbrev pub number : Shape
@@ -122,39 +121,25 @@ valid-parts v h = h.0.1.0
 
 -- what octets in this form say
 says : (ca : Bool) (o : Option ℤ) (w : List ℕ) → IsValid (optional number) o → w ≡ 48 ∷ length (body ca o) ∷ body ca o
-    → meaning_by basic_constraints constraints_of w ≡ constraints ca (plain_option unsigned_abs o)
+    → meaning_of constraints_of (basic_constraints_in w) ≡ constraints ca (plain_option unsigned_abs o)
 says ca o w v e =
-    ap (λ (r : Result (Value basic_constraints × List ℕ) ErrorKind). meaning_of constraints_of r)
-    (whole_again basic_constraints (ca, (o, tt)) w refl refl (record { valid = valid-whole ca o v; octets = e ∙ sym (whole-is ca o v) }))
-
-read-spells : (w : List ℕ) (p : Value basic_constraints × List ℕ) → IsBytes w → read_whole basic_constraints w ≡ Ok p → Spells basic_constraints p.0 w
-unfolding read_whole
-read-spells w (v, q) bytes e =
-    let h = unless_ok (ltb 4294967295 (length w)) kinds.Overflow (read basic_constraints 64 w >>= whole) (v, q) e in
-    let x = bind_ok (read basic_constraints 64 w) whole (v, q) h.1 in
-    let o = whole_ok x.0 (v, q) x.2 in
-    let none : q ≡ [] = ap (λ (p : Value basic_constraints × List ℕ). p.1) (sym o.0) ∙ o.1 in
-    is_spelled basic_constraints (λ u. u) w (Ok v) refl bytes (e ∙ ap (λ (r : List ℕ). Ok (v, r)) none)
+    meaning_once basic_constraints constraints_of w refl refl (ca, (o, tt)) (record { valid = valid-whole ca o v; octets = e ∙ sym (whole-is ca o v) }) (basic_constraints_in w)
 
 -- octets in no form of a value
-says-none : (w : List ℕ) → IsBytes w → ((ca : Bool) (o : Option ℤ) → IsValid (optional number) o → w ≡ 48 ∷ length (body ca o) ∷ body ca o → ⊥)
-    → meaning_by basic_constraints constraints_of w ≡ malformed
-says-none w bytes none = by (read_whole basic_constraints w) refl
+says-none : (w : List ℕ) → ((ca : Bool) (o : Option ℤ) → IsValid (optional number) o → w ≡ 48 ∷ length (body ca o) ∷ body ca o → ⊥)
+    → meaning_of constraints_of (basic_constraints_in w) ≡ malformed
+says-none w none = meaning_none basic_constraints constraints_of w refl refl spells-none (basic_constraints_in w)
   where
-    no : (v : Value basic_constraints) → Spells basic_constraints v w → ⊥
-    no v h = let ok = valid-parts v h.valid in none v.0 v.1.0 ok (h.octets ∙ whole-is v.0 v.1.0 ok)
-
-    by : (r : Result (Value basic_constraints × List ℕ) ErrorKind) → read_whole basic_constraints w ≡ r → meaning_of constraints_of r ≡ malformed
-    by (Ok p) e = absurd (no p.0 (read-spells w p bytes e))
-    by (Err k) e = refl
+    spells-none : (v : Value basic_constraints) → Spells basic_constraints v w → ⊥
+    spells-none v h = let ok = valid-parts v h.valid in none v.0 v.1.0 ok (h.octets ∙ whole-is v.0 v.1.0 ok)
 
 empty : (l : List ℕ) → (length l == 0) ≡ true → l ≡ []
 empty [] h = refl
 empty (x ∷ l) h = absurd (omega (arith, eqb-true (length (x ∷ l)) 0 h))
 
 -- no SEQUENCE
-pub no_sequence : (w : List ℕ) → IsBytes w → ((fields : List ℕ) → w ≡ 48 ∷ length fields ∷ fields → ⊥) → meaning_by basic_constraints constraints_of w ≡ malformed
-no_sequence w bytes none = says-none w bytes (λ ca o v e. none (body ca o) e)
+pub no_sequence : (w : List ℕ) → ((fields : List ℕ) → w ≡ 48 ∷ length fields ∷ fields → ⊥) → meaning_of constraints_of (basic_constraints_in w) ≡ malformed
+no_sequence w none = says-none w (λ ca o v e. none (body ca o) e)
 
 module _ (w fields rest : List ℕ) (ca : Bool) (is : w ≡ 48 ∷ length fields ∷ fields) (split : fields ≡ ca_octets ca ++ rest) where
   form : (o : Option ℤ) → rest ≡ length_octets_of o → w ≡ 48 ∷ length (body ca o) ∷ body ca o
@@ -168,11 +153,11 @@ module _ (w fields rest : List ℕ) (ca : Bool) (is : w ≡ 48 ∷ length fields
       by false e = omega (arith, bytes (suc (suc i)), ap (λ (l : List ℕ). get_or l (suc (suc i)) 0) e)
 
   -- no length
-  pub no_length : (length rest == 0) ≡ true → meaning_by basic_constraints constraints_of w ≡ constraints ca None
+  pub no_length : (length rest == 0) ≡ true → meaning_of constraints_of (basic_constraints_in w) ≡ constraints ca None
   no_length none = says ca None w none-valid (form None (empty rest none ∙ sym none-is))
 
   -- a length
-  pub a_length : (n : ℕ) → IsBytes w → read_whole number rest ≡ Ok (pos n, []) → meaning_by basic_constraints constraints_of w ≡ constraints ca (Some n)
+  pub a_length : (n : ℕ) → IsBytes w → read_whole number rest ≡ Ok (pos n, []) → meaning_of constraints_of (basic_constraints_in w) ≡ constraints ca (Some n)
   a_length n bytes e =
       let h = is_spelled number (λ z. z) rest (Ok (pos n)) refl (bytes-rest bytes) e in
       says ca (Some (pos n)) w (valid-optional (pos n) h.valid) (form (Some (pos n)) (h.octets ∙ sym (some-is (pos n))))
@@ -189,9 +174,9 @@ module _ (w fields rest : List ℕ) (ca : Bool) (is : w ≡ 48 ∷ length fields
       by false false p s f g = sym s ∙ g
 
   -- constraints whose path length is refused are malformed
-  pub bad_length : (k : ErrorKind) → IsBytes w → (ca ≡ false → (r : List ℕ) → fields ≡ 1 ∷ 1 ∷ 255 ∷ r → ⊥) → (length rest == 0) ≡ false → read_whole number rest ≡ Err k
-      → meaning_by basic_constraints constraints_of w ≡ malformed
-  bad_length k bytes flagged some fails = says-none w bytes (λ b o v e. by o v (rest-is b o flagged (ap (drop 2) (sym is ∙ e))))
+  pub bad_length : (k : ErrorKind) → (ca ≡ false → (r : List ℕ) → fields ≡ 1 ∷ 1 ∷ 255 ∷ r → ⊥) → (length rest == 0) ≡ false → read_whole number rest ≡ Err k
+      → meaning_of constraints_of (basic_constraints_in w) ≡ malformed
+  bad_length k flagged some fails = says-none w (λ b o v e. by o v (rest-is b o flagged (ap (drop 2) (sym is ∙ e))))
     where
       by : (o : Option ℤ) → IsValid (optional number) o → rest ≡ length_octets_of o → ⊥
       by None v e = absurd (cc (some, ap (λ (l : List ℕ). length l == 0) (e ∙ none-is)))

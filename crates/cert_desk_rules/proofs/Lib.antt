@@ -2,8 +2,10 @@ pub mod Folds
 pub mod FoundLaws
 pub mod PathLaws
 pub mod ExtensionLaws
+pub mod Meanings
 pub mod ConstraintLaws
 pub mod MemoryLaws
+pub mod Asking
 pub mod RuleList
 pub mod DigestOctets
 pub mod DigestLaws

@@ -6,10 +6,8 @@ use Rattle.std.specs.Option.{option_map_or}
 use Rattle.const_oid.specs.Comparing.{owned_eq}
 use Rattle.der_core_head.specs.BitStrings.{Bits}
 use Rattle.der_core_head.specs.Shapes.{octets_of}
-use Rattle.x509_cert_certificates.specs.Certificates.{PlainCertificate, outer_algorithm}
-use Rattle.x509_cert_certificates.specs.Certificates.{inner_algorithm, signature_bits, issuer}
-use Rattle.x509_cert_certificates.specs.Certificates.{subject, not_before, not_after, public_key}
-use Rattle.x509_cert_certificates.specs.Certificates.{extensions_of, signed_start, signed_length}
+use Rattle.x509_cert_certificates.specs.Certificates.{PlainCertificate, signed_start}
+use Rattle.x509_cert_certificates.specs.Certificates.{signed_length}
 use Rattle.x509_cert_parts.specs.Grammar.{PlainExtension, PublicKey, Algorithm}
 use Rattle.x509_cert_parts.specs.Grammar.{algorithm_identifier, extension_arcs}
 use Rattle.x509_cert_names.specs.Names.{PlainName, name_octets}
@@ -17,6 +15,7 @@ use Rattle.der_types_time.specs.Seconds.{unix_seconds}
 use Rattle.cert_desk_rules.specs.declared.rule.Rule.{Rule}
 use Rattle.cert_desk_rules.specs.declared.rule.Rule.TheVariants as rules
 use Rattle.cert_desk_bundle.specs.Chains.{offset_at}
+use Rattle.cert_desk_rules.specs.CertificateFields.{fields}
 use Rattle.cert_desk_rules.specs.Paths.{is_last, is_within_lengths}
 use Rattle.cert_desk_rules.specs.Weighing.{is_authority, is_malformed, is_unweighed_critical}
 use Rattle.cert_desk_rules.specs.Weighing.{may_certify, serves, weigh}
@@ -43,38 +42,42 @@ same_name bound a b = bytes_eq (name_octets bound a) (name_octets bound b)
 
 -- the algorithm outside is the one that is signed (RFC 5280 4.1.1.2)
 abbrev pub has_one_algorithm : ℕ → PlainCertificate → Bool
-has_one_algorithm bound c = bytes_eq (octets_of (algorithm_identifier bound) (inner_algorithm c))
-    (octets_of (algorithm_identifier bound) (outer_algorithm c))
+has_one_algorithm bound c = bytes_eq (octets_of (algorithm_identifier bound) (fields c).signature)
+    (octets_of (algorithm_identifier bound) (fields c).signature_algorithm)
 
 -- the place's part of the stream that is signed
 abbrev pub signed_part : ℕ → List PlainCertificate → List ℕ → ℕ → PlainCertificate → List ℕ
 signed_part bound cs stream place c =
     take (signed_length bound c) (drop (offset_at bound cs place + signed_start bound c) stream)
 
--- the judge's yes on a certificate, under a key
-abbrev pub says_yes : Terms → List PlainCertificate → List ℕ → ℕ → PlainCertificate → PublicKey
-    → Bool
-says_yes t cs stream place c key =
-    t.answers key (outer_algorithm c) (signed_part t.bound cs stream place c) (signature_bits c)
+-- the judge's answer on a certificate whose signed octets are these, under a key
+abbrev pub accepted : Answers → List ℕ → PlainCertificate → PublicKey → Bool
+accepted answers signed c key = answers key (fields c).signature_algorithm signed
+    (fields c).signature_value
 
 -- the anchors of the issuer's name
 abbrev pub is_named : ℕ → PlainCertificate → PlainAnchor → Bool
-is_named bound c a = same_name bound (issuer c) a.name
+is_named bound c a = same_name bound (fields c).issuer a.name
 
 -- the first certificate's issuer is an anchor, another's is the certificate before
 abbrev pub is_linked : Terms → List PlainCertificate → ℕ → PlainCertificate → Bool
 is_linked t cs zero c = list_any (is_named t.bound c) t.anchors
 is_linked t cs (suc before) c =
-    option_map_or (λ b. same_name t.bound (issuer c) (subject b)) (slice_get cs before) false
+    option_map_or (λ b. same_name t.bound (fields c).issuer (fields b).subject)
+    (slice_get cs before) false
 
 -- the judge says yes under the issuer's key; of the first certificate, under the key of an anchor
 -- of the issuer's name
 abbrev pub is_signed : Terms → List PlainCertificate → List ℕ → ℕ → PlainCertificate → Bool
 is_signed t cs stream zero c =
-    list_any (λ a. is_named t.bound c a && says_yes t cs stream zero c a.key) t.anchors
+    list_any
+    (λ a. is_named t.bound c a
+    && accepted t.answers (signed_part t.bound cs stream zero c) c a.key)
+    t.anchors
 is_signed t cs stream (suc before) c =
-    option_map_or (λ b. says_yes t cs stream (suc before) c (public_key b)) (slice_get cs before)
-    false
+    option_map_or
+    (λ b. accepted t.answers (signed_part t.bound cs stream (suc before) c) c (fields b).public_key)
+    (slice_get cs before) false
 
 -- the extension has the identifier of no other
 abbrev pub is_alone : PlainExtension → List PlainExtension → Bool
@@ -94,22 +97,22 @@ has_twin (e ∷ others) (suc place) = has_twin others place
 
 -- each certificate but the last is an authority's, whose key may sign certificates (6.1.4 (k), (n))
 abbrev pub has_authority : ℕ → PlainCertificate → Bool
-has_authority bound c = list_any (λ e. is_authority (weigh bound e)) (extensions_of c)
-    && list_all (λ e. may_certify (weigh bound e)) (extensions_of c)
+has_authority bound c = list_any (λ e. is_authority (weigh bound e)) (fields c).extensions
+    && list_all (λ e. may_certify (weigh bound e)) (fields c).extensions
 
 -- Whether the certificate c at a place keeps a rule.
 abbrev pub keeps : Rule → Terms → List PlainCertificate → List ℕ → ℕ → PlainCertificate → Bool
 keeps rules.AlgorithmsDiffer t cs stream place c = has_one_algorithm t.bound c
-keeps rules.DuplicateExtension t cs stream place c = are_distinct (extensions_of c)
+keeps rules.DuplicateExtension t cs stream place c = are_distinct (fields c).extensions
 keeps rules.MalformedExtension t cs stream place c =
-    not (list_any (λ e. is_malformed (weigh t.bound e)) (extensions_of c))
+    not (list_any (λ e. is_malformed (weigh t.bound e)) (fields c).extensions)
 keeps rules.UnweighedCritical t cs stream place c =
-    not (list_any (is_unweighed_critical t.bound) (extensions_of c))
+    not (list_any (is_unweighed_critical t.bound) (fields c).extensions)
 keeps rules.WrongIssuer t cs stream place c = is_linked t cs place c
-keeps rules.NotYetValid t cs stream place c = nat_le (unix_seconds (not_before c)) t.moment
-keeps rules.Expired t cs stream place c = nat_le t.moment (unix_seconds (not_after c))
+keeps rules.NotYetValid t cs stream place c = nat_le (unix_seconds (fields c).not_before) t.moment
+keeps rules.Expired t cs stream place c = nat_le t.moment (unix_seconds (fields c).not_after)
 keeps rules.AgainstPurpose t cs stream place c =
-    list_all (λ e. serves t.purpose (weigh t.bound e)) (extensions_of c)
+    list_all (λ e. serves t.purpose (weigh t.bound e)) (fields c).extensions
 keeps rules.NotAuthority t cs stream place c = is_last cs place || has_authority t.bound c
 keeps rules.PathTooLong t cs stream place c = is_within_lengths t.bound cs place
 keeps rules.WrongSignature t cs stream place c = is_signed t cs stream place c
@@ -144,7 +147,3 @@ before_signature =
 -- the judge may be asked where all of them are kept
 abbrev pub may_ask : Terms → List PlainCertificate → List ℕ → ℕ → Bool
 may_ask t cs stream place = list_all (λ rule. keeps_at rule t cs stream place) before_signature
-
-abbrev pub keeps_all : Terms → List PlainCertificate → List ℕ → ℕ → Bool
-keeps_all t cs stream place = may_ask t cs stream place && keeps_at rules.WrongSignature t cs stream
-    place

@@ -1,3 +1,4 @@
+pub mod CertificateFields
 pub mod Weighing
 pub mod Paths
 pub mod Findings

@@ -5,15 +5,16 @@ use Rattle.std.specs.Prelude.{Option, Some, None, nat_le, ◌==◌, ◌&&◌, �
 use Rattle.std.specs.Prelude.{slice_get}
 use Rattle.std.specs.List.{list_all}
 use Rattle.std.specs.Option.{option_map_or}
-use Rattle.x509_cert_certificates.specs.Certificates.{PlainCertificate, extensions_of, issuer}
-use Rattle.x509_cert_certificates.specs.Certificates.{subject}
+use Rattle.x509_cert_certificates.specs.Certificates.{PlainCertificate}
 use Rattle.x509_cert_parts.specs.Grammar.{PlainExtension}
 use Rattle.x509_cert_names.specs.Names.{name_octets}
+use Rattle.cert_desk_rules.specs.CertificateFields.{fields}
 use Rattle.cert_desk_rules.specs.Weighing.{path_length, weigh}
 
 -- issuer and subject have the same octets
 abbrev pub is_self_issued : ℕ → PlainCertificate → Bool
-is_self_issued bound c = bytes_eq (name_octets bound (issuer c)) (name_octets bound (subject c))
+is_self_issued bound c = bytes_eq (name_octets bound (fields c).issuer)
+    (name_octets bound (fields c).subject)
 
 abbrev pub is_last : List PlainCertificate → ℕ → Bool
 is_last cs place = (place + 1) == length cs
@@ -35,7 +36,7 @@ is_within n None = true
 is_within n (Some most) = nat_le n most
 
 abbrev pub extensions_at : List PlainCertificate → ℕ → List PlainExtension
-extensions_at cs place = option_map_or extensions_of (slice_get cs place) []
+extensions_at cs place = option_map_or (λ c. (fields c).extensions) (slice_get cs place) []
 
 -- at a place: no more places count behind it, up to another one, than its path length allows
 abbrev pub keeps_length : ℕ → List PlainCertificate → ℕ → ℕ → Bool

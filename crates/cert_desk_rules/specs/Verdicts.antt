@@ -2,18 +2,17 @@
 use Rattle.std.specs.Prelude.{◌≡◌, ℕ, zero, suc, ◌+◌, ◌-◌, ◌<◌, ◌^◌, ◌⊎◌, List, [], ◌∷◌, length}
 use Rattle.std.specs.Prelude.{Bool, true, false, min, max, ◌&&◌, if◌then◌else◌, slice_get}
 use Rattle.std.specs.Option.{option_map_or}
-use Rattle.x509_cert_certificates.specs.Certificates.{PlainCertificate, outer_algorithm}
-use Rattle.x509_cert_certificates.specs.Certificates.{signature_bits}
-use Rattle.x509_cert_parts.specs.Grammar.{PublicKey}
+use Rattle.x509_cert_certificates.specs.Certificates.{PlainCertificate}
 use Rattle.cert_desk_rules.specs.declared.checked.Checked.{Checked}
 use Rattle.cert_desk_rules.specs.declared.checked.Verdict.{Verdict}
 use Rattle.cert_desk_rules.specs.declared.checked.Verdict.TheVariants as verdicts
 use Rattle.cert_desk_bundle.specs.declared.fault_kind.FaultKind.{FaultKind}
 use Rattle.cert_desk_rules.specs.declared.rule.Rule.{Rule}
+use Rattle.cert_desk_rules.specs.declared.rule.Rule.TheVariants as rules
 use Rattle.cert_desk_bundle.specs.Chains.{Chain, joined}
 use Rattle.cert_desk_bundle.specs.Faults.{StreamFault}
 use Rattle.cert_desk_rules.specs.Judging.{Answers, Terms, PlainAnchor, keeps_at, number, may_ask}
-use Rattle.cert_desk_rules.specs.Judging.{keeps_all, is_named, signed_part}
+use Rattle.cert_desk_rules.specs.Judging.{accepted, is_named, signed_part}
 use Rattle.cert_desk_rules.specs.Paths.{extensions_at}
 use Rattle.cert_desk_rules.specs.Weighing.{may_take_memory}
 
@@ -56,10 +55,6 @@ IsVerdict t limit stream verdicts.Empty = stream ≡ []
 IsVerdict t limit stream verdicts.Trusted = Trusted t limit stream
 IsVerdict t limit stream (verdicts.Refused place rule) = Refused t limit stream place rule
 
--- the answer on a certificate whose signed octets are these, under a key
-abbrev pub accepted : Answers → List ℕ → PlainCertificate → PublicKey → Bool
-accepted answers signed c key = answers key (outer_algorithm c) signed (signature_bits c)
-
 -- how many anchors of the issuer's name are asked, up to the first yes
 abbrev pub asked_until : ℕ → Answers → List ℕ → PlainCertificate → List PlainAnchor → ℕ
 asked_until bound answers signed c [] = 0
@@ -69,51 +64,35 @@ asked_until bound answers signed c (a ∷ more) =
     else 1 + asked_until bound answers signed c more)
     else asked_until bound answers signed c more
 
--- of a stream's first certificate
-abbrev pub asked_anchors : Terms → List PlainCertificate → List ℕ → PlainCertificate
-    → List PlainAnchor → ℕ
-asked_anchors t cs stream c anchors =
-    asked_until t.bound t.answers (signed_part t.bound cs stream 0 c) c anchors
-
 -- how many questions the signature at a place takes
 abbrev pub asked_signature : Terms → List PlainCertificate → List ℕ → ℕ → ℕ
 asked_signature t cs stream zero =
-    option_map_or (λ c. asked_anchors t cs stream c t.anchors) (slice_get cs 0) 0
+    option_map_or
+    (λ c. asked_until t.bound t.answers (signed_part t.bound cs stream 0 c) c t.anchors)
+    (slice_get cs 0) 0
 asked_signature t cs stream (suc before) = 1
-
--- the judge is asked at a place where all rules before the signature are kept there, and all rules
--- at the places before
-abbrev pub asked_first : Terms → List PlainCertificate → List ℕ → ℕ
-asked_first t cs stream = if may_ask t cs stream 0 then asked_signature t cs stream 0 else 0
 
 abbrev pub all_kept_below : Terms → List PlainCertificate → List ℕ → ℕ → Bool
 all_kept_below t cs stream zero = true
 all_kept_below t cs stream (suc place) = all_kept_below t cs stream place
-    && keeps_all t cs stream place
+    && (may_ask t cs stream place && keeps_at rules.WrongSignature t cs stream place)
 
--- at the places from 1 to this one
-abbrev pub asked_later : Terms → List PlainCertificate → List ℕ → ℕ → ℕ
-asked_later t cs stream zero = 0
-asked_later t cs stream (suc place) =
-    asked_later t cs stream place + (if all_kept_below t cs stream (suc place)
-    && may_ask t cs stream (suc place) then 1 else 0)
-
--- at the places before this one
+-- At the places before this one. The judge is asked at a place where all rules before the signature
+-- are kept there, and all rules at the places before.
 abbrev pub asked_below : Terms → List PlainCertificate → List ℕ → ℕ → ℕ
 asked_below t cs stream zero = 0
-asked_below t cs stream (suc place) = asked_first t cs stream + asked_later t cs stream place
+asked_below t cs stream (suc place) =
+    asked_below t cs stream place
+    + (if all_kept_below t cs stream place && may_ask t cs stream place
+    then asked_signature t cs stream place else 0)
 
 -- how often the judge is asked about the certificates of a stream
 unfoldable pub asked : Terms → List PlainCertificate → List ℕ → ℕ
 asked t cs stream = asked_below t cs stream (length cs)
 
--- a count that stays at 2^64 - 1
-abbrev pub capped : ℕ → ℕ
-capped n = min n (2 ^ 64 - 1)
-
 -- a count that stays at 2^64 - 1, after so many more
 abbrev pub raised : ℕ → ℕ → ℕ
-raised old n = max old (capped (old + n))
+raised old n = max old (min (old + n) (2 ^ 64 - 1))
 
 -- the number of questions about a stream: none where it isn't a chain
 pub record Asks (t : Terms) (limit : ℕ) (stream : List ℕ) (n : ℕ) : Type 0 where
@@ -125,7 +104,7 @@ pub record IsCounted (t : Terms) (limit : ℕ) (stream : List ℕ) (checked : Ch
     (old_questions new_questions : ℕ) : Type 0 where
   pub number_asked : ℕ
   pub asks : Asks t limit stream number_asked
-  pub calls : checked.calls ≡ capped number_asked
+  pub calls : checked.calls ≡ min number_asked (2 ^ 64 - 1)
   pub questions : new_questions ≡ raised old_questions number_asked
 
 -- Memory ran out at a place of the stream's certificates, whose extensions may take it: those

@@ -1,44 +1,39 @@
 -- What the extensions say by which a chain is judged (RFC 5280 4.2.1.3, 4.2.1.6, 4.2.1.9,
 -- 4.2.1.12).
-use Rattle.std.specs.Prelude.{ℕ, List, [], ◌∷◌, Bool, true, false, Option, None, Result, Ok, Err}
+use Rattle.std.specs.Prelude.{ℕ, List, [], ◌∷◌, Bool, true, false, Option, None}
 use Rattle.std.specs.Prelude.{if◌then◌else◌, ◌&&◌, ◌||◌, length, nat_lt}
 use Rattle.std.specs.Int.RustNames.{unsigned_abs}
 use Rattle.std.specs.List.{list_any}
+use Rattle.std.proofs.Common.{refl}
 use Rattle.const_oid.specs.Comparing.{owned_eq}
-use Rattle.der_core_head.specs.declared.error.ErrorKind.{ErrorKind}
 use Rattle.der_core_head.specs.declared.tag.Tag.TheVariants as tags
-use Rattle.der_core_head.specs.Grammar.{plain_option, read_whole}
+use Rattle.der_core_head.specs.Grammar.{plain_option}
 use Rattle.der_core_head.specs.Leaves.{named}
 use Rattle.der_core_head.specs.Shapes.{Shape, BodyValue, Value, leaf, sequence, sequence_of, tagged}
-use Rattle.x509_cert_parts.specs.ExtensionTypes as types
-use Rattle.x509_cert_parts.specs.ExtensionTypes.{identifier_of}
-use Rattle.x509_cert_extensions.specs.NamedBits as bits
-use Rattle.x509_cert_extensions.specs.NamedBits.{bit_of, has_bit}
+use Rattle.x509_cert_parts.specs.ExtensionTypes.{id_ce}
+use Rattle.x509_cert_extensions.specs.NamedBits.{has_bit}
 use Rattle.x509_cert_parts.specs.Grammar.{PlainExtension, extension_arcs, extension_octets}
 use Rattle.x509_cert_parts.specs.Grammar.{is_critical, object_identifier}
 use Rattle.x509_cert_policies.specs.Policies.{basic_constraints_fields}
 use Rattle.x509_cert_general_names.specs.GeneralNames.{general_name, general_names}
+use Rattle.cert_desk_bundle.specs.Decoding.{Decoding, decodes_to, decodes_to_none}
+use Rattle.cert_desk_bundle.proofs.Decodings.{decoding}
 
--- KeyUsage ::= BIT STRING { digitalSignature (0), .. keyCertSign (5), .. decipherOnly (8) }
---     (4.2.1.3)
+-- KeyUsage ::= BIT STRING { digitalSignature (0), .. keyCertSign (5), .. decipherOnly (8) },
+--     id-ce 15 (4.2.1.3)
 abbrev pub key_usage : Shape
 key_usage = tagged tags.BitString (leaf (named 9))
 
--- SubjectAltName ::= GeneralNames (4.2.1.6)
+-- SubjectAltName ::= GeneralNames, id-ce 17 (4.2.1.6)
 abbrev pub subject_alt_name : ℕ → Shape
 subject_alt_name bound = general_names bound
-
--- BasicConstraints ::= SEQUENCE { cA BOOLEAN DEFAULT FALSE, pathLenConstraint INTEGER (0..255)
---     OPTIONAL } (4.2.1.9)
-abbrev pub basic_constraints : Shape
-basic_constraints = sequence basic_constraints_fields
 
 -- cA as it is spelled: FALSE is the default (X.690 11.5)
 abbrev pub ca_octets : Bool → List ℕ
 ca_octets true = 1 ∷ 1 ∷ 255 ∷ []
 ca_octets false = []
 
--- ExtKeyUsageSyntax ::= SEQUENCE OF KeyPurposeId (4.2.1.12)
+-- ExtKeyUsageSyntax ::= SEQUENCE OF KeyPurposeId, id-ce 37 (4.2.1.12)
 abbrev pub extended_key_usage : ℕ → Shape
 extended_key_usage bound = sequence_of (object_identifier bound)
 
@@ -55,33 +50,46 @@ pub data Meaning : Type 0 where
 abbrev pub constraints_of : BodyValue basic_constraints_fields → Meaning
 constraints_of v = constraints v.0 (plain_option unsigned_abs v.1.0)
 
--- what all of the octets spell, if they spell one value
-abbrev pub meaning_of : {P Q : Type 0} → (P → Meaning) → Result (P × Q) ErrorKind → Meaning
-meaning_of says (Ok read) = says read.0
-meaning_of says (Err fault) = malformed
+-- The value of its kind that a content is the encoding of, or that it is the encoding of none.
+pub key_usage_in : (octets : List ℕ) → Decoding key_usage octets
+key_usage_in octets = decoding key_usage octets refl refl
 
-abbrev pub meaning_by : (s : Shape) → (Value s → Meaning) → List ℕ → Meaning
-meaning_by s says octets = meaning_of says (read_whole s octets)
+pub subject_alt_name_in : (bound : ℕ) (octets : List ℕ) → Decoding (subject_alt_name bound) octets
+subject_alt_name_in bound octets = decoding (subject_alt_name bound) octets refl refl
+
+-- BasicConstraints, id-ce 19 (4.2.1.9)
+pub basic_constraints_in : (octets : List ℕ) → Decoding (sequence basic_constraints_fields) octets
+basic_constraints_in octets = decoding (sequence basic_constraints_fields) octets refl refl
+
+pub extended_key_usage_in : (bound : ℕ) (octets : List ℕ) → Decoding (extended_key_usage bound)
+    octets
+extended_key_usage_in bound octets = decoding (extended_key_usage bound) octets refl refl
+
+-- what such a value says
+abbrev pub meaning_of : {s : Shape} {octets : List ℕ} → (Value s → Meaning) → Decoding s octets
+    → Meaning
+meaning_of says (decodes_to v encoding) = says v
+meaning_of says (decodes_to_none none) = malformed
+
+-- the identifier of the extension is id-ce n
+abbrev pub has_number : ℕ → PlainExtension → Bool
+has_number n e = owned_eq (extension_arcs e) (id_ce n)
 
 -- the kind is known by the identifier, wherever the extension stands, critical or not
-abbrev pub weigh_octets : ℕ → List ℕ → List ℕ → Meaning
-weigh_octets bound arcs octets =
-    if owned_eq arcs (identifier_of types.key_usage) then meaning_by key_usage uses octets
-    else if owned_eq arcs (identifier_of types.subject_alt_name)
-    then meaning_by (subject_alt_name bound) other_names octets
-    else if owned_eq arcs (identifier_of types.basic_constraints)
-    then meaning_by basic_constraints constraints_of octets
-    else if owned_eq arcs (identifier_of types.extended_key_usage)
-    then meaning_by (extended_key_usage bound) purposes octets
-    else unweighed
-
 abbrev pub weigh : ℕ → PlainExtension → Meaning
-weigh bound e = weigh_octets bound (extension_arcs e) (extension_octets e)
+weigh bound e =
+    if has_number 15 e then meaning_of uses (key_usage_in (extension_octets e))
+    else if has_number 17 e
+    then meaning_of other_names (subject_alt_name_in bound (extension_octets e))
+    else if has_number 19 e
+    then meaning_of constraints_of (basic_constraints_in (extension_octets e))
+    else if has_number 37 e
+    then meaning_of purposes (extended_key_usage_in bound (extension_octets e))
+    else unweighed
 
 -- the value of the extension is a list: other names of the subject, or purposes
 abbrev pub has_list : PlainExtension → Bool
-has_list e = owned_eq (extension_arcs e) (identifier_of types.subject_alt_name)
-    || owned_eq (extension_arcs e) (identifier_of types.extended_key_usage)
+has_list e = has_number 17 e || has_number 37 e
 
 -- Judging these extensions may take memory: for a list, or to compare more than 16 by a set of
 -- their identifiers.
@@ -118,7 +126,7 @@ is_authority _ = false
 
 -- a key's uses, if they are listed, have the signing of certificates: keyCertSign (4.2.1.3)
 abbrev pub may_certify : Meaning → Bool
-may_certify (uses set) = has_bit (bit_of bits.key_cert_sign) set
+may_certify (uses set) = has_bit 5 set
 may_certify _ = true
 
 -- how many counted places may follow (4.2.1.9)

@@ -1,8 +1,8 @@
 //! Basic constraints, read without memory (RFC 5280 4.2.1.9).
 ghost use Rattle.std.specs.Prelude.{◌≡◌, ◌≢◌, ℕ, List, ◌∷◌, ◌++◌, false, length, IfSome, IfNone};
 ghost use Rattle.cert_desk_rules.specs.Findings.{weight_of};
-ghost use Rattle.cert_desk_rules.specs.Weighing.{basic_constraints, ca_octets, constraints_of};
-ghost use Rattle.cert_desk_rules.specs.Weighing.{meaning_by};
+ghost use Rattle.cert_desk_rules.specs.Weighing.{basic_constraints_in, ca_octets, constraints_of};
+ghost use Rattle.cert_desk_rules.specs.Weighing.{meaning_of};
 
 use crate::weight::Weight;
 use der_core::making::leaf_from_der;
@@ -12,7 +12,7 @@ use std::alloc::Global;
 // one octet.
 pub fn weigh_constraints(alloc: Global, octets: &[u8]) -> Weight
     ensures { (purpose : List ℕ)
-        → result ≡ weight_of purpose (meaning_by basic_constraints constraints_of octets.now) }
+        → result ≡ weight_of purpose (meaning_of constraints_of (basic_constraints_in octets.now)) }
 {
     let Some(fields) = fields_of(octets) else {
         return Weight::Malformed;

@@ -8,10 +8,10 @@ ghost use Rattle.der_core_head.specs.Reading.{Gives};
 ghost use Rattle.der_core_head.specs.Shapes.{sequence_of};
 ghost use Rattle.x509_cert_parts.specs.Views.{extension_plain, extensions_plain};
 ghost use Rattle.cert_desk_rules.specs.Findings.{found, weight_of};
-ghost use Rattle.cert_desk_rules.specs.Weighing.{any_purpose, extended_key_usage, has_list};
-ghost use Rattle.cert_desk_rules.specs.Weighing.{key_usage, may_take_memory, meaning_by};
+ghost use Rattle.cert_desk_rules.specs.Weighing.{any_purpose, extended_key_usage_in, has_list};
+ghost use Rattle.cert_desk_rules.specs.Weighing.{key_usage_in, may_take_memory, meaning_of};
 ghost use Rattle.cert_desk_rules.specs.Weighing.{other_names, purposes, serves};
-ghost use Rattle.cert_desk_rules.specs.Weighing.{subject_alt_name, uses, weigh};
+ghost use Rattle.cert_desk_rules.specs.Weighing.{subject_alt_name_in, uses, weigh};
 
 use crate::constraints::weigh_constraints;
 use crate::extensions::{BASIC_CONSTRAINTS, EXT_KEY_USAGE, KEY_USAGE, SUBJECT_ALT_NAME, number_of};
@@ -93,7 +93,7 @@ fn weigh(
 // What a key usage weighs. It takes no memory.
 fn weigh_key_usage(alloc: Global, octets: &[u8]) -> Weight
     ensures { (purpose : List ℕ)
-        → result ≡ weight_of purpose (meaning_by key_usage uses octets.now) }
+        → result ≡ weight_of purpose (meaning_of uses (key_usage_in octets.now)) }
 {
     match leaf_from_der::<FlagSet<KeyUsages>>(alloc, octets) {
         Ok(usages) => Weight::KeyUsage {
@@ -118,7 +118,8 @@ fn list_in<'a, T: Decode<'a, SliceReader<'a>>>(
 // What other names of the subject weigh.
 fn weigh_names(alloc: Global, octets: &[u8]) -> Result<Weight, AllocError>
     ensures { IfOk result (λ weight. (purpose : List ℕ)
-        → weight ≡ weight_of purpose (meaning_by (subject_alt_name Bound) other_names octets.now)) }
+        → weight
+        ≡ weight_of purpose (meaning_of other_names (subject_alt_name_in Bound octets.now))) }
 {
     match list_in::<NameLent<'_>>(alloc, octets) {
         Ok(_) => Ok(Weight::AlternativeNames),
@@ -134,7 +135,8 @@ fn weigh_purposes(
 ) -> Result<Weight, AllocError>
     ensures { IfOk result
         (λ weight. weight
-        ≡ weight_of purpose.now (meaning_by (extended_key_usage Bound) purposes octets.now)) }
+        ≡ weight_of purpose.now
+        (meaning_of purposes (extended_key_usage_in Bound octets.now))) }
 {
     match list_in::<ObjectIdentifier<39>>(alloc, octets) {
         Ok(listed) => Ok(Weight::Purposes {

@@ -9,15 +9,15 @@ use Rattle.const_oid.specs.Bound.{Bound}
 pub returns-in_default-clause-refused : goal.returns-in_default-clause-refused
 returns-in_default-clause-refused g c =
     device_fails g.I.Input.takes g.met.I.Input.takes_in_turn c.args.input.now c.loop-count.input c.read.new.self Bound c.args.self.now c.loop-count.self c.stop.new.self c.loop-count.invariant.reads
-    g.I.Input.is_ended g.I.Input.failures c.loop-count.invariant.was_open c.loop-count.invariant.is_open c.loop-count.invariant.limit
-    c.in_default.ensures.none_taken c.stop.ensures c.in_default.ensures.not_ended c.loop-count.invariant.sound c.in_default.ensures.once
+    g.I.Input.is_ended g.I.Input.failures c.loop-count.invariant.was_open c.loop-count.invariant.is_open c.loop-count.invariant.limit c.loop-count.invariant.sound
+    c.in_default.ensures.none_taken c.stop.ensures c.in_default.ensures.not_ended c.in_default.ensures.once
 
 pub returns-in_err-finish-clause-refused : goal.returns-in_err-finish-clause-refused
 returns-in_err-finish-clause-refused g c =
     let p = err_from_is_err_and c.from_residual.result c.from_residual.ensures.1 in
     rw (p.1, p.2)
     (end-refused g.I.Input.takes g.met.I.Input.takes_in_turn c.args.input.now c.loop-count.input c.read.new.self Bound c.args.self.now c.loop-count.self c.finish.new.self c.loop-count.invariant.reads
-    g.I.Input.is_ended g.I.Input.failures c.loop-count.invariant.was_open c.loop-count.invariant.is_open c.loop-count.invariant.limit c.in_err-finish.field-0.0 (c.in-Ok.ensures.sound ∙ c.loop-count.invariant.sound)
+    g.I.Input.is_ended g.I.Input.failures c.loop-count.invariant.was_open c.loop-count.invariant.is_open c.loop-count.invariant.limit c.loop-count.invariant.sound c.in_err-finish.field-0.0 c.in-Ok.ensures.sound
     (subst (λ (n : ℕ). g.I.Input.takes c.loop-count.input (take n c.read.new.buffer) c.read.new.self) c.if-count-eq0.true c.in-Ok.ensures.taken) (c.in-Ok.ensures.end.0 c.if-count-eq0.true) c.in_err-finish.ensures.refused)
 
 pub returns-then-count-eq0-clause-reads : goal.returns-then-count-eq0-clause-reads
@@ -43,5 +43,5 @@ returns-in_err-feed-clause-refused g c =
     let p = err_from_is_err_and c.from_residual-in_err-feed.result c.from_residual-in_err-feed.ensures.1 in
     rw (p.1, p.2)
     (piece-refused g.I.Input.takes g.met.I.Input.takes_in_turn c.args.input.now c.loop-count.input c.read.new.self Bound c.args.self.now c.loop-count.self c.feed.new.self c.loop-count.invariant.reads
-    g.I.Input.is_ended g.I.Input.failures c.loop-count.invariant.was_open c.loop-count.invariant.is_open c.loop-count.invariant.limit c.in_err-feed.field-0.0 (take c.in-Ok.count c.read.new.buffer)
-    (c.in-Ok.ensures.sound ∙ c.loop-count.invariant.sound) (short_piece c.in-Ok.count c.read.new.buffer (c.read.auto.buffer ∙ c.loop-count.invariant.room)) c.in-Ok.ensures.taken c.in_err-feed.ensures.refused)
+    g.I.Input.is_ended g.I.Input.failures c.loop-count.invariant.was_open c.loop-count.invariant.is_open c.loop-count.invariant.limit c.loop-count.invariant.sound c.in_err-feed.field-0.0 (take c.in-Ok.count c.read.new.buffer)
+    c.in-Ok.ensures.sound (short_piece c.in-Ok.count c.read.new.buffer (c.read.auto.buffer ∙ c.loop-count.invariant.room)) c.in-Ok.ensures.taken c.in_err-feed.ensures.refused)

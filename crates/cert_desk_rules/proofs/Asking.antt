@@ -1,0 +1,19 @@
+-- What is asked under some terms.
+use Rattle.std.proofs.Common.{ℕ, List, Bool, ◌&&◌}
+use Rattle.x509_cert_certificates.specs.Certificates.{PlainCertificate}
+use Rattle.x509_cert_parts.specs.Grammar.{PublicKey}
+use Rattle.cert_desk_rules.specs.Judging.{PlainAnchor, Terms, accepted, keeps_at, may_ask, signed_part}
+use Rattle.cert_desk_rules.specs.declared.rule.Rule.TheVariants as rules
+use Rattle.cert_desk_rules.specs.Verdicts.{asked_until}
+
+-- the judge's yes on the certificate at a place, under a key
+abbrev pub says_yes : Terms → List PlainCertificate → List ℕ → ℕ → PlainCertificate → PublicKey → Bool
+says_yes t cs stream place c key = accepted t.answers (signed_part t.bound cs stream place c) c key
+
+-- how many of these anchors are asked about the first certificate
+abbrev pub asked_anchors : Terms → List PlainCertificate → List ℕ → PlainCertificate → List PlainAnchor → ℕ
+asked_anchors t cs stream c anchors = asked_until t.bound t.answers (signed_part t.bound cs stream 0 c) c anchors
+
+-- every rule is kept at a place
+abbrev pub keeps_all : Terms → List PlainCertificate → List ℕ → ℕ → Bool
+keeps_all t cs stream place = may_ask t cs stream place && keeps_at rules.WrongSignature t cs stream place
