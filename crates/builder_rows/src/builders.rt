@@ -12,6 +12,8 @@ use x509_cert::builder::{Builder, Signer};
 pub enum Manner {
     /// What is signed, made twice.
     Part,
+    /// What is signed where the builder is finalized before it is changed.
+    Between,
     /// The certificate is built.
     Whole,
     /// The builder is assembled at once.
@@ -33,6 +35,7 @@ impl Manner {
     pub fn parse(word: &str) -> Result<Manner, Refusal> {
         match word {
             "part" | "signed" => Ok(Manner::Part),
+            "between" => Ok(Manner::Between),
             "whole" => Ok(Manner::Whole),
             "unready" => Ok(Manner::Unready),
             "late" => Ok(Manner::Late),
@@ -57,7 +60,7 @@ pub struct Asked<'a> {
 
 impl Asked<'_> {
     /// The signer.
-    fn signer(&self, alloc: Global) -> Result<DigestSigner, Refusal> {
+    pub fn signer(&self, alloc: Global) -> Result<DigestSigner, Refusal> {
         DigestSigner::parse(alloc, self.signer, "1.3.6.1.4.1.32473.2")
     }
 
@@ -77,7 +80,7 @@ impl Manner {
     /// Whether what is signed is asked for, and no whole.
     pub fn is_part(self) -> bool {
         match self {
-            Manner::Part | Manner::Again => true,
+            Manner::Part | Manner::Between | Manner::Again => true,
             _ => false,
         }
     }
@@ -92,6 +95,7 @@ pub fn part_of<B: Change + Drop>(
     let signer = asked.signer(alloc)?;
     match asked.manner {
         Manner::Again => again(alloc, builder, asked.change, &signer),
+        Manner::Between => between(alloc, builder, asked.change, &signer),
         _ => twice(alloc, builder, asked.change, &signer),
     }
 }
@@ -116,6 +120,18 @@ fn again<B: Change + Drop>(
         builder.change(alloc, change)?;
     }
     finalized_again(alloc, builder, signer)
+}
+
+/// What is signed after a change that comes between two calls.
+fn between<B: Change + Drop>(
+    alloc: Global,
+    builder: &mut B,
+    change: &str,
+    signer: &DigestSigner,
+) -> Result<Vec<u8>, Refusal> {
+    let _octets = builder.finalize(alloc, signer)?;
+    builder.change(alloc, change)?;
+    Ok(builder.finalize(alloc, signer)?)
 }
 
 /// What is signed, at the second call where the first finds no memory.
@@ -167,7 +183,9 @@ fn whole_by<B: Change + Drop>(
     signer: &DigestSigner,
 ) -> Result<B::Output, Refusal> {
     match asked.manner {
-        Manner::Part | Manner::Again | Manner::Whole => built(alloc, builder, asked, signer),
+        Manner::Part | Manner::Between | Manner::Again | Manner::Whole => built(
+            alloc, builder, asked, signer,
+        ),
         Manner::Drawn => drawn(alloc, builder, asked, signer),
         Manner::Unready => assembled(alloc, builder, &[], signer),
         Manner::Late => late(alloc, builder, asked, signer),

@@ -1,5 +1,11 @@
 //! Certificates of each profile.
 
+ghost use Rattle.std.specs.Prelude.{◌≡◌, ◌++◌, ◌∷◌, [], IfOk};
+ghost use Rattle.der_core_head.specs.Shapes.{octets_of};
+ghost use Rattle.x509_cert_builders.specs.SignedParts.{part_shape};
+ghost use Rattle.x509_cert_builders.specs.States.{part_for};
+ghost use Rattle.x509_cert_parts.specs.Views.{extension_plain};
+
 use crate::builders::{Asked, Change, Manner, part_of, whole_of};
 use crate::refusals::Refusal;
 use crate::words::{Words, extension_of, key_of, list_of, octets_of, time_of, written_in};
@@ -7,11 +13,11 @@ use const_oid::ObjectIdentifier;
 use std::alloc::Global;
 use std::str::FromStr;
 use x509_cert::builder::{
-    BuilderProfile, CertificateBuilder, CertificateType, DevId, Root, Subordinate, Subscriber,
-    Tls12Options, TpmVersion,
+    Builder, BuilderProfile, CertificateBuilder, CertificateType, DevId, Root, Signer, Subordinate,
+    Subscriber, Tls12Options, TpmVersion,
 };
 use x509_cert::{
-    Certificate, GeneralName, GeneralNames, Name, OctetString, SerialNumber, Validity,
+    Certificate, Extension, GeneralName, GeneralNames, Name, OctetString, SerialNumber, Validity,
 };
 
 impl<P: BuilderProfile + Drop> Change for CertificateBuilder<P> {
@@ -80,13 +86,37 @@ impl<'a> Settled<'a> {
     }
 }
 
+/// What is signed where an extension is added between two calls of `finalize`: what was added
+/// before, this extension, and those that the profile gives, made anew. The contracts of the three
+/// calls say so.
+fn signed_with<P: BuilderProfile + Drop, S: Signer>(
+    alloc: Global,
+    builder: &mut CertificateBuilder<P>,
+    extension: Extension,
+    signer: &S,
+) -> Result<Vec<u8>, Refusal>
+    ensures { IfOk result (λ v. v.items
+        ≡ octets_of part_shape
+        (part_for P.extensions
+        (record builder.old { added = builder.old.added ++ extension_plain extension ∷ [] })
+        (S.public_key signer.now) (S.signs_by signer.now))) }
+{
+    let _before = builder.finalize(alloc, signer)?;
+    builder.add_extension(alloc, extension)?;
+    let octets = builder.finalize(alloc, signer)?;
+    Ok(octets)
+}
+
 /// What is made by a builder.
 fn made_by<P: BuilderProfile + Drop>(
     alloc: Global,
     mut builder: CertificateBuilder<P>,
     asked: &Asked<'_>,
 ) -> Result<Vec<u8>, Refusal> {
-    if asked.manner.is_part() {
+    if let Manner::Between = asked.manner {
+        let extension = extension_of(alloc, asked.change)?;
+        signed_with(alloc, &mut builder, extension, &asked.signer(alloc)?)
+    } else if asked.manner.is_part() {
         part_of(alloc, &mut builder, asked)
     } else {
         written_in::<Certificate>(alloc, whole_of(alloc, builder, asked))

@@ -19,6 +19,7 @@
 //! | `HOW` | |
 //! |---|---|
 //! | `part`, `signed` | what is signed, made twice; `changed` where both differ |
+//! | `between` | what is signed where the builder is finalized before the change, too |
 //! | `whole` | the whole, whose bits are the digest of the signer's key and the signed octets |
 //! | `drawn` | the same, built with random octets, of which the signer takes none |
 //! | `unready` | the same, assembled before anything is finalized |

@@ -10,5 +10,5 @@ pub use cert_desk_checking::laws::{
 };
 pub use cert_desk_issuing::laws::{
     held_is_refused_for, held_is_trusted, issuable_is_issued, issued_is_trusted, says_as_ordered,
-    signed_is_sliced, trusted_is_permitted,
+    shorter_bits_fit, signed_is_sliced, trusted_is_permitted,
 };

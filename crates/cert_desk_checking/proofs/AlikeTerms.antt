@@ -9,8 +9,9 @@ use Rattle.cert_desk_bundle.specs.declared.fault_kind.FaultKind.{FaultKind}
 use Rattle.cert_desk_rules.specs.declared.rule.Rule.{Rule}
 use Rattle.cert_desk_rules.specs.declared.rule.Rule.TheVariants as rules
 use Rattle.cert_desk_bundle.specs.Chains.{Chain}
-use Rattle.cert_desk_rules.specs.Judging.{Terms, before_signature, keeps_all, keeps_at, may_ask}
-use Rattle.cert_desk_rules.specs.Verdicts.{Faulty, IsVerdict, all_kept_below, asked, asked_anchors, asked_first, asked_later}
+use Rattle.cert_desk_rules.specs.Judging.{Terms, before_signature, keeps_at, may_ask}
+use Rattle.cert_desk_rules.specs.Verdicts.{Faulty, IsVerdict, all_kept_below, asked, asked_below, asked_signature}
+use Rattle.cert_desk_rules.proofs.Asking.{asked_anchors, keeps_all}
 
 pub list_all-same : {A : Type 0} (test other : A → Bool) → ((x : A) → test x ≡ other x) → (xs : List A) → list_all test xs ≡ list_all other xs
 list_all-same test other same [] = refl
@@ -41,23 +42,21 @@ module _ (t u : Terms) (cs : List PlainCertificate) (stream : List ℕ) (alike :
   below_alike (suc place) =
       ap (λ b. b && keeps_all t cs stream place) (below_alike place) ∙ ap (λ b. all_kept_below u cs stream place && b) (all_alike place)
 
-  first_alike : asked_first t cs stream ≡ asked_first u cs stream
-  first_alike =
-      ap (λ b. cond b (asked_of_first t cs stream) 0) (may_ask_alike 0) ∙ ap (λ n. cond (may_ask u cs stream 0) n 0) alike.first
+  signature_alike : (place : ℕ) → asked_signature t cs stream place ≡ asked_signature u cs stream place
+  signature_alike zero = alike.first
+  signature_alike (suc place) = refl
 
-  later_alike : (place : ℕ) → asked_later t cs stream place ≡ asked_later u cs stream place
-  later_alike zero = refl
-  later_alike (suc place) =
-      ap (λ n. n + cond (all_kept_below t cs stream (suc place) && may_ask t cs stream (suc place)) 1 0) (later_alike place)
-      ∙ ap (λ b. asked_later u cs stream place + cond (b && may_ask t cs stream (suc place)) 1 0) (below_alike (suc place))
-      ∙ ap (λ b. asked_later u cs stream place + cond (all_kept_below u cs stream (suc place) && b) 1 0) (may_ask_alike (suc place))
+  asked_below_alike : (place : ℕ) → asked_below t cs stream place ≡ asked_below u cs stream place
+  asked_below_alike zero = refl
+  asked_below_alike (suc place) =
+      ap (λ n. n + cond (all_kept_below t cs stream place && may_ask t cs stream place) (asked_signature t cs stream place) 0) (asked_below_alike place)
+      ∙ ap (λ b. asked_below u cs stream place + cond (b && may_ask t cs stream place) (asked_signature t cs stream place) 0) (below_alike place)
+      ∙ ap (λ b. asked_below u cs stream place + cond (all_kept_below u cs stream place && b) (asked_signature t cs stream place) 0) (may_ask_alike place)
+      ∙ ap (λ n. asked_below u cs stream place + cond (all_kept_below u cs stream place && may_ask u cs stream place) n 0) (signature_alike place)
 
 pub asked_alike : (t u : Terms) (cs : List PlainCertificate) (stream : List ℕ) → Alike t u cs stream → asked t cs stream ≡ asked u cs stream
 unfolding asked
-asked_alike t u [] stream alike = refl
-asked_alike t u (c ∷ cs) stream alike =
-    ap (λ n. n + asked_later t (c ∷ cs) stream (length cs)) (first_alike t u (c ∷ cs) stream alike)
-    ∙ ap (λ n. asked_first u (c ∷ cs) stream + n) (later_alike t u (c ∷ cs) stream alike (length cs))
+asked_alike t u cs stream alike = asked_below_alike t u cs stream alike (length cs)
 
 module _ (t u : Terms) (limit : ℕ) (stream : List ℕ) (there : (cs : List PlainCertificate) → Chain t.bound limit cs stream → Chain u.bound limit cs stream)
     (alike : (cs : List PlainCertificate) → Chain t.bound limit cs stream → Alike t u cs stream) where

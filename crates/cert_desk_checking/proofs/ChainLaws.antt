@@ -11,10 +11,11 @@ use Rattle.cert_desk_bundle.specs.Chains.{Chain, joined}
 use Rattle.cert_desk_bundle.specs.Faults.{StreamFault}
 use Rattle.cert_desk_rules.specs.Judging.{Terms, keeps_at}
 use Rattle.cert_desk_rules.specs.Verdicts.{IsVerdict, Trusted, Asks, IsCounted, asked}
-use Rattle.cert_desk_bundle.specs.Streams.{Kept, Reads, ReadsUnder}
+use Rattle.cert_desk_bundle.specs.Streams.{Kept, Reads}
 use Rattle.cert_desk_checking.specs.Places.{Rises}
 use Rattle.cert_desk_bundle.proofs.OneChain.{one_chain, fault_no_chain}
 use Rattle.cert_desk_checking.proofs.Encodings.{certificate_octets-first}
+use Rattle.cert_desk_bundle.proofs.Readings.{ReadsUnder}
 
 -- an encoding isn't empty
 pub encoding_is_some : (bound : ℕ) (c : PlainCertificate) (w : List ℕ) → [] ≡ certificate_octets bound c ++ w → ⊥

@@ -10,8 +10,9 @@ use Rattle.cert_desk_rules.specs.declared.rule.Rule.{Rule}
 use Rattle.cert_desk_rules.specs.declared.rule.Rule.TheVariants as rules
 use Rattle.cert_desk_bundle.specs.Chains.{Chain, Stands, joined}
 use Rattle.cert_desk_checking.specs.Issuers.{among, as_anchor}
-use Rattle.cert_desk_rules.specs.Judging.{Terms, is_named, keeps, keeps_at, same_name, says_yes, signed_part}
+use Rattle.cert_desk_rules.specs.Judging.{Terms, is_named, keeps, keeps_at, same_name, signed_part}
 use Rattle.cert_desk_rules.specs.Verdicts.{Trusted}
+use Rattle.cert_desk_rules.proofs.Asking.{says_yes}
 use Rattle.cert_desk_bundle.proofs.OneChain.{one_chain}
 use Rattle.cert_desk_bundle.proofs.SeriesLaws.{encodings-append}
 use Rattle.cert_desk_checking.proofs.Windows.{Window, same_signed, trusted_window}

@@ -1,4 +1,4 @@
--- What is said of each place, and the verdict.
+-- What is said of each place, the verdict, and how often the judge is asked.
 use Rattle.std.proofs.Common.{◌≡◌, ℕ, zero, suc, ◌+◌, ◌<◌, ◌≤◌, List, [], ◌∷◌, ◌++◌, length, true, false, Some, slice_get, inl, inr, length-append, refl, sym, ap, ◌∙◌, subst, arith}
 use Rattle.std.specs.Option.{option_map_or}
 use Rattle.std.proofs.lemmas.Bool.{both_ways, cases_lt, cases_order}
@@ -10,7 +10,9 @@ use Rattle.cert_desk_rules.specs.declared.rule.Rule.{Rule}
 use Rattle.cert_desk_rules.specs.Judging.{Terms, keeps, keeps_at}
 use Rattle.cert_desk_rules.specs.KeptRules.{AreJudged, IsFirstBreach, kept_at, kept_by}
 use Rattle.cert_desk_checking.specs.Laws.{RefusedAtFirstBreach, TrustedWithoutBreach}
-use Rattle.cert_desk_rules.specs.Verdicts.{IsVerdict, Refused, Trusted}
+use Rattle.cert_desk_rules.specs.Verdicts.{IsVerdict, Refused, Trusted, asked_signature}
+use Rattle.cert_desk_checking.specs.Places.{Rises, asked_each}
+use Rattle.cert_desk_checking.proofs.Counts.{Rises-by, Rises-more}
 use Rattle.cert_desk_bundle.proofs.OneChain.{one_chain}
 use Rattle.cert_desk_checking.proofs.OneVerdict.{one_verdict}
 
@@ -110,3 +112,14 @@ module _ (t : Terms) (cs : List PlainCertificate) (stream : List ℕ) (judged : 
           ∙ sym (ap (λ o. option_map_or (keeps rule t cs stream place) o true) (slice_get_past cs place (omega (arith, ge, end))))
     ];
   }
+
+-- One place more is asked about.
+each_more : (t : Terms) (cs : List PlainCertificate) (stream : List ℕ) (place : ℕ) → asked_each t cs stream place + asked_signature t cs stream place ≡ asked_each t cs stream (suc place)
+each_more t cs stream zero = omega arith
+each_more t cs stream (suc before) = omega arith
+
+pub counted-more : (t : Terms) (cs : List PlainCertificate) (stream : List ℕ) (place n q c r d u v : ℕ) → n ≡ asked_signature t cs stream place → Rises (asked_each t cs stream place) q c r d → Rises n r d u v
+    → Rises (asked_each t cs stream (place + 1)) q c u v
+counted-more t cs stream place n q c r d u v here before this =
+    let next : suc place ≡ place + 1 = omega arith in
+    Rises-more _ _ _ _ _ _ _ _ _ (each_more t cs stream place ∙ ap (asked_each t cs stream) next) before (Rises-by _ _ _ _ _ _ here this)

@@ -7,9 +7,10 @@ use Rattle.cert_desk_rules.specs.declared.checked.Verdict.{Verdict}
 use Rattle.cert_desk_rules.specs.declared.rule.Rule.{Rule}
 use Rattle.cert_desk_rules.specs.declared.rule.Rule.TheVariants as rules
 use Rattle.cert_desk_bundle.specs.Chains.{Chain}
-use Rattle.cert_desk_rules.specs.Judging.{Answers, Terms, PlainAnchor, is_named, is_signed, keeps, says_yes}
+use Rattle.cert_desk_rules.specs.Judging.{Answers, Terms, PlainAnchor, is_named, is_signed, keeps}
 use Rattle.cert_desk_rules.specs.Questions.{Question, question, anchor_questions, questions_of, answer_on, AnswerAlike, under}
-use Rattle.cert_desk_rules.specs.Verdicts.{IsVerdict, Asks, asked_anchors}
+use Rattle.cert_desk_rules.specs.Verdicts.{IsVerdict, Asks}
+use Rattle.cert_desk_rules.proofs.Asking.{asked_anchors, says_yes}
 use Rattle.cert_desk_checking.proofs.AlikeTerms.{Alike, asked_alike, verdict_alike}
 
 -- of a list that begins with a question only where a test holds

@@ -5,7 +5,8 @@ use Rattle.x509_cert_certificates.specs.Certificates.{PlainCertificate}
 use Rattle.cert_desk_rules.specs.declared.rule.Rule.{Rule}
 use Rattle.cert_desk_rules.specs.declared.rule.Rule.TheVariants as rules
 use Rattle.cert_desk_bundle.specs.Chains.{Chain, joined}
-use Rattle.cert_desk_rules.specs.Judging.{Terms, keeps_at, keeps_all, may_ask, number}
+use Rattle.cert_desk_rules.specs.Judging.{Terms, keeps_at, may_ask, number}
+use Rattle.cert_desk_rules.proofs.Asking.{keeps_all}
 use Rattle.cert_desk_rules.specs.Paths.{extensions_at}
 use Rattle.cert_desk_rules.specs.Weighing.{may_take_memory}
 use Rattle.cert_desk_rules.specs.Verdicts.{Trusted, Refused, StopsAsking, all_kept_below, asked, asked_below, asked_signature, raised}
@@ -87,8 +88,7 @@ module _ (t : Terms) (cs : List PlainCertificate) (stream : List ℕ) where
   asked-is = refl
 
   asked_step : (n : ℕ) → asked_below t cs stream (suc n) ≡ asked_below t cs stream n + cond (all_kept_below t cs stream n && may_ask t cs stream n) (asked_signature t cs stream n) 0
-  asked_step zero = omega arith
-  asked_step (suc n) = omega arith
+  asked_step n = refl
 
   -- where the rules before the signature are kept, the judge is asked about it
   pub asks_signature : (place : ℕ) → all_kept_below t cs stream place ≡ true → IsFirstUnsigned t cs stream place None

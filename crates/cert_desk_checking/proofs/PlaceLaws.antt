@@ -23,11 +23,12 @@ use Rattle.cert_desk_rules.specs.declared.rule.Rule.TheVariants as rules
 use Rattle.cert_desk_checking.specs.Anchors.{anchor_plain, terms_of}
 use Rattle.cert_desk_bundle.specs.Entries.{IsEntry}
 use Rattle.cert_desk_rules.specs.Findings.{IsRoom}
-use Rattle.cert_desk_rules.specs.Judging.{Answers, Terms, has_one_algorithm, keeps, keeps_at, number, may_ask, is_named, same_name, signed_part}
+use Rattle.cert_desk_rules.specs.Judging.{accepted, Answers, Terms, has_one_algorithm, keeps, keeps_at, number, may_ask, is_named, same_name, signed_part}
 use Rattle.cert_desk_checking.specs.Places.{IsIssuer, StandsAt, asked_of, linked_to, signed_by, signs}
-use Rattle.cert_desk_rules.specs.Verdicts.{accepted, asked_anchors, asked_signature, asked_until}
+use Rattle.cert_desk_rules.specs.Verdicts.{asked_signature, asked_until}
 use Rattle.cert_desk_checking.proofs.OneEncoding.{one_algorithm}
 use Rattle.cert_desk_rules.proofs.RuleList.{test_of_all, all_of_tests, or_signature}
+use Rattle.cert_desk_rules.proofs.Asking.{asked_anchors}
 use Rattle.cert_desk_checking.proofs.Encodings.{valid_algorithms}
 
 pub entry_at : (bound : ℕ) (cs : List PlainCertificate) (place : ℕ) (o : Option Entry) (e : Entry) → IfSome o (λ e. IsEntry bound cs place e) → o ≡ Some e → IsEntry bound cs place e

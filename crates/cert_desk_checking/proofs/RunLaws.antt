@@ -1,5 +1,5 @@
 -- What a run reads.
-use Rattle.std.proofs.Common.{◌≡◌, ◌≢◌, ℕ, ◌<◌, List, [], length, Result, Ok, Err, OnOk, IfErr, ◌⊎◌, inl, inr, refl, subst, sym, ◌∙◌, arith}
+use Rattle.std.proofs.Common.{◌≡◌, ◌≢◌, ℕ, ◌<◌, List, [], ◌++◌, length, Result, Ok, Err, OnOk, IfErr, ◌⊎◌, inl, inr, refl, subst, sym, ap, ◌∙◌, arith, append-nil}
 use Rattle.const_oid.specs.Bound.{Bound}
 use Rattle.cert_desk_io.specs.Devices.{Device, Moved, MetEnd, Sound}
 use Rattle.x509_cert_certificates.specs.Certificates.{PlainCertificate, raw_certificate}
@@ -13,16 +13,17 @@ use Rattle.cert_desk_bundle.specs.declared.fault_kind.FaultKind.TheVariants as k
 use Rattle.cert_desk_bundle.specs.declared.standing.Standing.{Standing}
 use Rattle.cert_desk_bundle.specs.declared.standing.Standing.TheVariants as standings
 use Rattle.cert_desk_bundle.specs.Chains.{Chain}
-use Rattle.cert_desk_bundle.specs.Faults.{Says, StreamFault, NoneBefore, rank}
+use Rattle.cert_desk_bundle.specs.Faults.{Says, Split, StreamFault, NoneBefore, rank}
 use Rattle.cert_desk_rules.specs.Judging.{Terms}
 use Rattle.cert_desk_checking.specs.Reading.{MayGoOn, AsksNoMore, ReadFailed, FedUnder, IsFed}
 use Rattle.cert_desk_checking.specs.Runs.{IsReadFor, IsReadInVain, Judge, IsUnasked}
 use Rattle.cert_desk_bundle.specs.Series.{SeriesSplit, encodings}
-use Rattle.cert_desk_bundle.specs.Steps.{StopsAtOnce, Takes, RefusesInput}
-use Rattle.cert_desk_bundle.specs.Streams.{Kept, Reads, ReadsUnder}
+use Rattle.cert_desk_bundle.specs.Steps.{RefusesInput, StopsAtLast, Takes}
+use Rattle.cert_desk_bundle.specs.Streams.{Kept, Reads}
 use Rattle.cert_desk_rules.specs.Verdicts.{IsVerdict, StopsAsking}
 use Rattle.cert_desk_bundle.proofs.OneChain.{certificates_told, fault_no_chain}
 use Rattle.cert_desk_bundle.proofs.SeriesLaws.{one_split}
+use Rattle.cert_desk_bundle.proofs.Readings.{ReadsUnder}
 
 early : (kind : FaultKind) → kind ≢ kinds.Truncated → rank kind < rank kinds.Truncated
 early kinds.NoCertificate ne = omega arith
@@ -56,32 +57,54 @@ module _ (input : Device) (old new : Kept) (opened : old.standing ≡ standings.
       no_fault Bound now.limit now.certificates cs now.rest octets kind ne reads.0 reads.1
       (subst (λ (n : ℕ). StreamFault Bound n octets cs kind) (limit ∙ sym same) f)
 
-  asks_no_more : StopsAtOnce input.moves input.old input.new Bound old → AsksNoMore input new.limit
-  asks_no_more s =
-      let reads : ReadsUnder Bound standings.Open s.now s.reads.0 = subst (λ (x : Standing). ReadsUnder Bound x s.now s.reads.0) s.is_open (s.reads.2 [] empty) in
-      record {
-        before = s.before;
-        octets = s.reads.0;
-        taken = s.reads.1;
-        sound = may_go_on s.now s.limit s.reads.0 reads;
-        piece = s.piece;
-        last = s.taken;
-        short = s.short;
-      }
+  module _ (e : ReadError) (r : StopsAtLast input Bound old new e) where
+    open_reads : ReadsUnder Bound standings.Open r.now r.octets
+    open_reads = subst (λ (x : Standing). ReadsUnder Bound x r.now r.octets) r.is_open (r.reads [] empty)
 
-  fed_refused : (e : ReadError) → RefusesInput input.moves input.is_ended input.failures input.old input.new Bound old new e → IsFed input new
-  fed_refused read_errors.Device r = fed_under standings.NoDevice r.standing
-      (let reads = r.reads [] empty in
-      (r.octets, r.failed, may_go_on (record new { rest = r.rest; standing = standings.Open }) limit r.octets reads, (r.rest, reads.0)))
-  fed_refused (read_errors.Bundle (errors.Fault place offset kind)) r =
-      fed_under (standings.Faulted kind) r.found.standing (r.reads.0, r.reads.1, r.reads.2 [] empty, r.ends, asks_no_more r.stops, r.sound)
-  fed_refused (read_errors.Bundle errors.OutOfMemory) r = fed_under standings.NoMemory r.standing
-      (r.octets, r.taken, r.begins [] empty, asks_no_more r.stops, r.sound)
+    goes_on : MayGoOn new.limit r.octets
+    goes_on = may_go_on r.now r.limit r.octets open_reads
+
+    asks_no_more : AsksNoMore input new.limit
+    asks_no_more = record { before = r.before; octets = r.octets; taken = r.moved; sound = goes_on; piece = r.piece; last = r.last; short = r.short }
+
+  device_fed : (r : StopsAtLast input Bound old new read_errors.Device) → FedUnder input new standings.NoDevice
+  device_fed r = (
+    r.octets,
+    record {
+      before = r.before;
+      moved = r.moved;
+      sound = r.sound;
+      stopped = subst (λ (w : List ℕ). input.moves r.before w input.new) r.stops.0 r.last;
+      not_ended = r.stops.1;
+      once = r.stops.2;
+    },
+    goes_on read_errors.Device r,
+    subst (λ (k : Kept). (rest : List ℕ) × Split Bound k.limit r.octets k.certificates rest) (sym r.stops.3) (r.now.rest, (open_reads read_errors.Device r).0),
+  )
+
+  fault_fed : (place offset : ℕ) (kind : FaultKind) → StopsAtLast input Bound old new (read_errors.Bundle (errors.Fault place offset kind)) → IsFed input new
+  fault_fed place offset kind r =
+      elim r.stops.1 [
+        | inl h ↦ fed_under (standings.Faulted kind) h.0.standing
+            (r.octets ++ r.piece, r.whole, h.2 r.octets (r.reads [] empty), λ e. absurd (h.1 e), asks_no_more (read_errors.Bundle (errors.Fault place offset kind)) r, r.stops.0 ∙ r.sound)
+        | inr h ↦ fed_under (standings.Faulted kind) h.2.0.standing
+            (r.octets ++ r.piece, r.whole, subst (λ (w : List ℕ). Reads Bound new w) (sym (ap (λ (p : List ℕ). r.octets ++ p) h.0 ∙ append-nil r.octets)) (h.2.2 r.octets (r.reads [] empty)), λ e. h.1, asks_no_more (read_errors.Bundle (errors.Fault place offset kind)) r, r.stops.0 ∙ r.sound)
+      ]
+
+  fed_refused : (e : ReadError) → RefusesInput input Bound old new e → IsFed input new
+  fed_refused read_errors.Device r = fed_under standings.NoDevice (ap (λ (k : Kept). k.standing) r.stops.3) (device_fed r)
+  fed_refused (read_errors.Bundle (errors.Fault place offset kind)) r = fault_fed place offset kind r
+  fed_refused (read_errors.Bundle errors.OutOfMemory) r =
+      elim r.stops.1 [
+        | inl h ↦ fed_under standings.NoMemory h.standing
+            (r.octets ++ r.piece, r.whole, h.begins r.octets (r.reads [] empty), asks_no_more (read_errors.Bundle errors.OutOfMemory) r, r.stops.0 ∙ r.sound)
+        | inr h ↦ absurd h.2
+      ]
   fed_refused (read_errors.Bundle errors.Failed) r = absurd (r.0.was_shut opened)
 
   pub fed_by : {T : Type 0} (r : Result T ReadError) → OnOk r (new.standing ≡ standings.Ended) → OnOk r (MetEnd input) → OnOk r (Sound input)
       → OnOk r (Takes input.moves input.old input.new Bound old new)
-      → IfErr r (RefusesInput input.moves input.is_ended input.failures input.old input.new Bound old new) → IsFed input new
+      → IfErr r (RefusesInput input Bound old new) → IsFed input new
   fed_by (Ok x) standing ended sound reads refused = fed_under standings.Ended standing (reads.0, reads.1, reads.2 [] empty, ended, sound)
   fed_by (Err e) standing ended sound reads refused = fed_refused e refused
 

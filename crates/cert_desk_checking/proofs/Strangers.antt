@@ -8,8 +8,9 @@ use Rattle.cert_desk_rules.specs.declared.rule.Rule.{Rule}
 use Rattle.cert_desk_rules.specs.declared.rule.Rule.TheVariants as rules
 use Rattle.cert_desk_bundle.specs.Chains.{Chain}
 use Rattle.cert_desk_checking.specs.Issuers.{among, anchors_named}
-use Rattle.cert_desk_rules.specs.Judging.{Terms, PlainAnchor, is_named, keeps, keeps_at, may_ask, says_yes}
-use Rattle.cert_desk_rules.specs.Verdicts.{IsVerdict, all_kept_below, asked, asked_anchors, asked_first, asked_later}
+use Rattle.cert_desk_rules.specs.Judging.{Terms, PlainAnchor, is_named, keeps, keeps_at, may_ask}
+use Rattle.cert_desk_rules.specs.Verdicts.{IsVerdict, all_kept_below, asked, asked_below}
+use Rattle.cert_desk_rules.proofs.Asking.{asked_anchors, says_yes}
 use Rattle.cert_desk_checking.proofs.AlikeTerms.{Alike, asked_alike, asked_of_first, verdict_alike}
 
 -- what a filter keeps
@@ -63,20 +64,17 @@ at_most : (b : Bool) (n most : ℕ) → n ≤ most → cond b n 0 ≤ most
 at_most true n most h = h
 at_most false n most h = omega arith
 
-few_later : (t : Terms) (cs : List PlainCertificate) (stream : List ℕ) (place : ℕ) → asked_later t cs stream place ≤ place
-few_later t cs stream zero = omega arith
-few_later t cs stream (suc place) =
-    let one : cond (all_kept_below t cs stream (suc place) && may_ask t cs stream (suc place)) 1 0 ≤ 1 =
-    at_most (all_kept_below t cs stream (suc place) && may_ask t cs stream (suc place)) 1 1 (omega arith) in
-    omega (arith, one, few_later t cs stream place)
+few_below : (t : Terms) (c : PlainCertificate) (cs : List PlainCertificate) (stream : List ℕ) (place : ℕ)
+    → asked_below t (c ∷ cs) stream (suc place) ≤ place + length (anchors_named t.bound c t.anchors)
+few_below t c cs stream zero =
+    omega (arith, at_most (all_kept_below t (c ∷ cs) stream 0 && may_ask t (c ∷ cs) stream 0) (asked_anchors t (c ∷ cs) stream c t.anchors) (length (anchors_named t.bound c t.anchors)) (few_anchors t (c ∷ cs) stream c t.anchors))
+few_below t c cs stream (suc place) =
+    omega (arith, at_most (all_kept_below t (c ∷ cs) stream (suc place) && may_ask t (c ∷ cs) stream (suc place)) 1 1 (omega arith), few_below t c cs stream place)
 
 few_named : (t : Terms) (c : PlainCertificate) (cs : List PlainCertificate) (stream : List ℕ)
     → asked t (c ∷ cs) stream ≤ length cs + length (anchors_named t.bound c t.anchors)
 unfolding asked
-few_named t c cs stream =
-    let first : asked_first t (c ∷ cs) stream ≤ length (anchors_named t.bound c t.anchors) =
-    at_most (may_ask t (c ∷ cs) stream 0) (asked_anchors t (c ∷ cs) stream c t.anchors) (length (anchors_named t.bound c t.anchors)) (few_anchors t (c ∷ cs) stream c t.anchors) in
-    omega (arith, first, few_later t (c ∷ cs) stream (length cs))
+few_named t c cs stream = few_below t c cs stream (length cs)
 
 pub few_questions : (t : Terms) (c : PlainCertificate) (cs : List PlainCertificate) (stream : List ℕ)
     → (asked t (c ∷ cs) stream ≤ length cs + length (anchors_named t.bound c t.anchors)) × (asked t (c ∷ cs) stream ≤ length cs + length t.anchors)

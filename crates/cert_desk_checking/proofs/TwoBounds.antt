@@ -13,17 +13,17 @@ use Rattle.der_core_head.specs.Octets.{IsOctets, ◌>>=◌}
 use Rattle.der_core_head.specs.declared.tag.Tag.TheVariants as tags
 use Rattle.der_core_head.specs.Leaves.{octets}
 use Rattle.der_core_head.specs.Shapes.{Shape, Value, IsValid, IsContent, IsBody, done, explicit, field, leaf, octets_of, optional, sequence, sequence_of, tagged}
+use Rattle.der_core_head.proofs.OneEncoding.{bytes_are}
 use Rattle.der_core_head.proofs.BoundLaws.{below_or_large, Family, same_octets, valid_wider, valid_narrow, whole_wider, whole_new}
 use Rattle.x509_cert_certificates.specs.Certificates.{PlainCertificate, extensions_of}
 use Rattle.x509_cert_certificates.specs.Certificates.{raw_certificate}
-use Rattle.x509_cert_parts.specs.ExtensionTypes as types
-use Rattle.x509_cert_parts.specs.ExtensionTypes.{identifier_of}
 use Rattle.x509_cert_parts.specs.Grammar.{PlainExtension, extension_arcs, extension_octets}
 use Rattle.x509_cert_parts.specs.Grammar.{object_identifier, false_by_default}
 use Rattle.der_core_head.proofs.Results.{bind_ok, unless_ok, whole_ok}
 use Rattle.cert_desk_checking.specs.Bounded.{BecomesReadable, OneBecomesReadable, OneHoldsLarge, identifiers_in, identifiers_said}
 use Rattle.cert_desk_bundle.specs.Chains.{Chain, Stands, joined}
-use Rattle.cert_desk_rules.specs.Weighing.{Meaning, basic_constraints, constraints_of, extended_key_usage, is_malformed, key_usage, malformed, meaning_by, meaning_of, other_names, purposes, subject_alt_name, unweighed, uses, weigh}
+use Rattle.cert_desk_rules.specs.Weighing.{Meaning, basic_constraints_in, constraints_of, extended_key_usage, extended_key_usage_in, has_number, is_malformed, key_usage_in, malformed, meaning_of, other_names, purposes, subject_alt_name, subject_alt_name_in, unweighed, uses, weigh}
+use Rattle.cert_desk_rules.proofs.Meanings.{meaning_read, read_meaning}
 use Rattle.cert_desk_bundle.proofs.SeriesLaws.{each-so}
 
 -- Certificates
@@ -185,29 +185,38 @@ Weighed small m n = (m ≡ n) ⊎ ((m ≡ malformed) × (is_malformed n ≡ fals
 weighed_by : {V : Type 0} (says : V → Meaning) → ((v : V) → is_malformed (says v) ≡ false) → (small : ℕ) (r q : Result (V × List ℕ) ErrorKind)
     → ((v : V) (x : List ℕ) → r ≡ Ok (v, x) → q ≡ Ok (v, []))
     → ((v : V) (x : List ℕ) (d : ErrorKind) → q ≡ Ok (v, x) → r ≡ Err d → HoldsLarge small (identifiers_said (says v)))
-    → Weighed small (meaning_of says r) (meaning_of says q)
-weighed_by says fine small (Ok p) q keeps new = inl (sym (ap (meaning_of says) (keeps p.0 p.1 refl)))
+    → Weighed small (read_meaning says r) (read_meaning says q)
+weighed_by says fine small (Ok p) q keeps new = inl (sym (ap (read_meaning says) (keeps p.0 p.1 refl)))
 weighed_by says fine small (Err d) (Err k) keeps new = inl refl
 weighed_by says fine small (Err d) (Ok p) keeps new = inr (refl, fine p.0, new p.0 p.1 d refl refl)
 
-module _ (small large : ℕ) (le : small ≤ large) where
-  names_weighed : (w : List ℕ) → IsOctets w → Weighed small (meaning_by (subject_alt_name small) other_names w) (meaning_by (subject_alt_name large) other_names w)
-  names_weighed w o =
-      weighed_by other_names (λ v. refl) small (read_whole (subject_alt_name small) w) (read_whole (subject_alt_name large) w)
-      (λ v x e. whole_wider (subject_alt_name 0) (λ b. subject_alt_name b) names small large v w le o (leaves_none (subject_alt_name small) w v x e))
-      (λ v x d e r. whole_new (subject_alt_name 0) (λ b. subject_alt_name b) names small large v w d o (leaves_none (subject_alt_name large) w v x e) r)
+weighed_as : (small : ℕ) (m n p q : Meaning) → m ≡ p → n ≡ q → Weighed small p q → Weighed small m n
+weighed_as small m n p q e f h = subst (λ (x : Meaning). Weighed small x n) (sym e) (subst (λ (x : Meaning). Weighed small p x) (sym f) h)
 
-  usages_weighed : (w : List ℕ) → IsOctets w → Weighed small (meaning_by (extended_key_usage small) purposes w) (meaning_by (extended_key_usage large) purposes w)
+module _ (small large : ℕ) (le : small ≤ large) where
+  names_weighed : (w : List ℕ) → IsOctets w → Weighed small (meaning_of other_names (subject_alt_name_in small w)) (meaning_of other_names (subject_alt_name_in large w))
+  names_weighed w o =
+      weighed_as small _ _ _ _
+      (meaning_read (subject_alt_name small) other_names w refl refl (bytes_are w o) (read_whole (subject_alt_name small) w) refl (subject_alt_name_in small w))
+      (meaning_read (subject_alt_name large) other_names w refl refl (bytes_are w o) (read_whole (subject_alt_name large) w) refl (subject_alt_name_in large w))
+      (weighed_by other_names (λ v. refl) small (read_whole (subject_alt_name small) w) (read_whole (subject_alt_name large) w)
+      (λ v x e. whole_wider (subject_alt_name 0) (λ b. subject_alt_name b) names small large v w le o (leaves_none (subject_alt_name small) w v x e))
+      (λ v x d e r. whole_new (subject_alt_name 0) (λ b. subject_alt_name b) names small large v w d o (leaves_none (subject_alt_name large) w v x e) r))
+
+  usages_weighed : (w : List ℕ) → IsOctets w → Weighed small (meaning_of purposes (extended_key_usage_in small w)) (meaning_of purposes (extended_key_usage_in large w))
   usages_weighed w o =
-      weighed_by purposes (λ v. refl) small (read_whole (extended_key_usage small) w) (read_whole (extended_key_usage large) w)
+      weighed_as small _ _ _ _
+      (meaning_read (extended_key_usage small) purposes w refl refl (bytes_are w o) (read_whole (extended_key_usage small) w) refl (extended_key_usage_in small w))
+      (meaning_read (extended_key_usage large) purposes w refl refl (bytes_are w o) (read_whole (extended_key_usage large) w) refl (extended_key_usage_in large w))
+      (weighed_by purposes (λ v. refl) small (read_whole (extended_key_usage small) w) (read_whole (extended_key_usage large) w)
       (λ v x e. whole_wider (extended_key_usage 0) (λ b. extended_key_usage b) usages small large v w le o (leaves_none (extended_key_usage small) w v x e))
-      (λ v x d e r. whole_new (extended_key_usage 0) (λ b. extended_key_usage b) usages small large v w d o (leaves_none (extended_key_usage large) w v x e) r)
+      (λ v x d e r. whole_new (extended_key_usage 0) (λ b. extended_key_usage b) usages small large v w d o (leaves_none (extended_key_usage large) w v x e) r))
 
   abbrev by_kind : ℕ → Bool → Bool → Bool → Bool → List ℕ → Meaning
   by_kind bound a b c d w =
-      cond a (meaning_by key_usage uses w)
-      (cond b (meaning_by (subject_alt_name bound) other_names w)
-      (cond c (meaning_by basic_constraints constraints_of w) (cond d (meaning_by (extended_key_usage bound) purposes w) unweighed)))
+      cond a (meaning_of uses (key_usage_in w))
+      (cond b (meaning_of other_names (subject_alt_name_in bound w))
+      (cond c (meaning_of constraints_of (basic_constraints_in w)) (cond d (meaning_of purposes (extended_key_usage_in bound w)) unweighed)))
 
   kind_weighed : (a b c d : Bool) (w : List ℕ) → IsOctets w → Weighed small (by_kind small a b c d w) (by_kind large a b c d w)
   kind_weighed true b c d w o = inl refl
@@ -218,8 +227,7 @@ module _ (small large : ℕ) (le : small ≤ large) where
 
   extension_weighed : (e : PlainExtension) → IsOctets (extension_octets e) → (weigh small e ≡ weigh large e) ⊎ BecomesReadable small large e
   extension_weighed e o =
-      elim (kind_weighed (owned_eq (extension_arcs e) (identifier_of types.key_usage)) (owned_eq (extension_arcs e) (identifier_of types.subject_alt_name))
-      (owned_eq (extension_arcs e) (identifier_of types.basic_constraints)) (owned_eq (extension_arcs e) (identifier_of types.extended_key_usage)) (extension_octets e) o) [
+      elim (kind_weighed (has_number 15 e) (has_number 17 e) (has_number 19 e) (has_number 37 e) (extension_octets e) o) [
         | inl same ↦ inl same
         | inr new ↦ inr (record { unread = new.0; readable = new.1; holds = new.2 })
       ]

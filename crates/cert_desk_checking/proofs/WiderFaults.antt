@@ -17,7 +17,7 @@ use Rattle.cert_desk_bundle.specs.declared.fault_kind.FaultKind.TheVariants as k
 use Rattle.cert_desk_checking.specs.Bounded.{identifiers_in}
 use Rattle.cert_desk_bundle.specs.Chains.{Chain, Stands, joined}
 use Rattle.cert_desk_bundle.specs.Faults.{IsFault, NoneBefore, Says, StreamFault, whole_length}
-use Rattle.cert_desk_bundle.specs.Streams.{AreFrontOf}
+use Rattle.cert_desk_bundle.specs.Series.{BeginsSeries}
 use Rattle.cert_desk_bundle.proofs.SeriesLaws.{Series-more, each-last, encodings-more}
 use Rattle.cert_desk_bundle.proofs.SeriesReading.{reads_fault}
 use Rattle.cert_desk_checking.proofs.TwoBounds.{certificate_or_large, certificate_wider, chain_wider, leaves_none, same_encoding, same_joined}
@@ -99,11 +99,11 @@ module _ (small large : ℕ) (le : small ≤ large) (limit : ℕ) (cs : List Pla
         (fault_wider kind (record { says = says; first = first_wider kind first }))
 
     abbrev OrBegins : FaultKind → Type 0
-    OrBegins kind = StreamFault large limit stream cs kind ⊎ ((c : PlainCertificate) × AreFrontOf large limit (cs ++ c ∷ []) stream × HoldsLarge small (identifiers_in c))
+    OrBegins kind = StreamFault large limit stream cs kind ⊎ ((c : PlainCertificate) × BeginsSeries (raw_certificate large) limit (cs ++ c ∷ []) stream × HoldsLarge small (identifiers_in c))
 
     -- a certificate that stands where none did
     begins_wider : (c : PlainCertificate) (more : List ℕ) → Stands large limit c → offset + length (octets_of (raw_certificate large) c) < 2 ^ 64
-        → rest ≡ octets_of (raw_certificate large) c ++ more → AreFrontOf large limit (cs ++ c ∷ []) stream
+        → rest ≡ octets_of (raw_certificate large) c ++ more → BeginsSeries (raw_certificate large) limit (cs ++ c ∷ []) stream
     begins_wider c more stands fits e =
         let s = raw_certificate large in
         let longer : joined large (cs ++ c ∷ []) ≡ joined large cs ++ octets_of s c = encodings-more s cs c in
@@ -187,6 +187,6 @@ module _ (small large : ℕ) (le : small ≤ large) (limit : ℕ) (cs : List Pla
     kind_wider kinds.Truncated longest f = inl (truncated_wider longest f)
 
 pub faults_wider : (small large limit : ℕ) (cs : List PlainCertificate) (kind : FaultKind) (stream : List ℕ) → small ≤ large → StreamFault small limit stream cs kind
-    → StreamFault large limit stream cs kind ⊎ ((c : PlainCertificate) × AreFrontOf large limit (cs ++ c ∷ []) stream × HoldsLarge small (identifiers_in c))
+    → StreamFault large limit stream cs kind ⊎ ((c : PlainCertificate) × BeginsSeries (raw_certificate large) limit (cs ++ c ∷ []) stream × HoldsLarge small (identifiers_in c))
 faults_wider small large limit cs kind stream le f =
     kind_wider small large le limit cs f.rest stream f.split.front f.split.whole kind f.split.longest f.fault

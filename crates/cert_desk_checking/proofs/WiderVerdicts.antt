@@ -14,11 +14,12 @@ use Rattle.cert_desk_rules.specs.declared.rule.Rule.{Rule}
 use Rattle.cert_desk_rules.specs.declared.rule.Rule.TheVariants as rules
 use Rattle.cert_desk_checking.specs.Bounded.{OneBecomesReadable, bounded}
 use Rattle.cert_desk_bundle.specs.Chains.{Chain}
-use Rattle.cert_desk_rules.specs.Judging.{PlainAnchor, Terms, has_one_algorithm, is_linked, is_named, is_signed, keeps, keeps_at, says_yes}
+use Rattle.cert_desk_rules.specs.Judging.{PlainAnchor, Terms, has_one_algorithm, is_linked, is_named, is_signed, keeps, keeps_at}
 use Rattle.cert_desk_rules.specs.Paths.{used_up, counts, extensions_at, is_last, is_within, is_within_lengths, keep_lengths, keeps_length}
-use Rattle.cert_desk_rules.specs.Verdicts.{Trusted, asked, asked_anchors}
+use Rattle.cert_desk_rules.specs.Verdicts.{Trusted, asked}
 use Rattle.cert_desk_checking.specs.WiderBounds.{IsJudgedSame}
 use Rattle.cert_desk_rules.specs.Weighing.{Meaning, is_authority, is_malformed, is_unweighed, may_certify, path_length, serves, weigh}
+use Rattle.cert_desk_rules.proofs.Asking.{asked_anchors, says_yes}
 use Rattle.cert_desk_checking.proofs.AlikeTerms.{Alike, asked_alike, asked_of_first, verdict_alike}
 use Rattle.cert_desk_bundle.proofs.OneChain.{fault_no_chain, one_chain}
 use Rattle.cert_desk_bundle.proofs.SeriesLaws.{each-so}

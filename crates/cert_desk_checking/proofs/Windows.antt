@@ -12,12 +12,13 @@ use Rattle.cert_desk_rules.specs.declared.rule.Rule.{Rule}
 use Rattle.cert_desk_rules.specs.declared.rule.Rule.TheVariants as rules
 use Rattle.cert_desk_bundle.specs.Chains.{Stands, joined}
 use Rattle.cert_desk_checking.specs.Issuers.{among}
-use Rattle.cert_desk_rules.specs.Judging.{PlainAnchor, Terms, has_authority, is_linked, is_signed, keeps, keeps_at, same_name, says_yes, signed_part}
+use Rattle.cert_desk_rules.specs.Judging.{PlainAnchor, Terms, has_authority, is_linked, is_signed, keeps, keeps_at, same_name, signed_part}
 use Rattle.cert_desk_rules.specs.Paths.{used_up, counts, extensions_at, is_last, is_self_issued, is_within, is_within_lengths, keep_lengths, keeps_length}
 use Rattle.cert_desk_rules.specs.Verdicts.{Trusted}
 use Rattle.cert_desk_rules.specs.Weighing.{path_length, weigh}
 use Rattle.cert_desk_checking.proofs.Encodings.{signed_part-is}
 use Rattle.cert_desk_rules.proofs.Folds.{or_yes}
+use Rattle.cert_desk_rules.proofs.Asking.{says_yes}
 
 -- cs stand in ds, from a place on
 pub record Window (ds cs : List PlainCertificate) (from : ℕ) : Type 0 where

@@ -59,6 +59,6 @@ terms_of anchors moment purpose answers =
       bound = Bound;
       anchors = map anchor_plain anchors;
       moment = moment;
-      purpose = purpose_plain purpose;
+      purpose = purpose;
       answers = answers;
     }

@@ -1,6 +1,6 @@
 -- What is found at one place of a chain, and how often the judge is asked there.
-use Rattle.std.specs.Prelude.{◌≡◌, ℕ, zero, suc, ◌<◌, List, map, Bool, true, false, Option, Some}
-use Rattle.std.specs.Prelude.{None, ◌&&◌, if◌then◌else◌, slice_get}
+use Rattle.std.specs.Prelude.{◌≡◌, ℕ, zero, suc, ◌+◌, ◌<◌, List, map, Bool, true, false, Option}
+use Rattle.std.specs.Prelude.{Some, None, ◌&&◌, if◌then◌else◌, slice_get}
 use Rattle.std.specs.List.{list_any}
 use Rattle.const_oid.specs.Bound.{Bound}
 use Rattle.x509_cert_certificates.specs.Certificates.{PlainCertificate, issuer, public_key, subject}
@@ -14,9 +14,9 @@ use Rattle.cert_desk_rules.specs.declared.rule.Rule.TheVariants as rules
 use Rattle.cert_desk_checking.specs.Anchors.{anchor_plain}
 use Rattle.cert_desk_rules.specs.Findings.{IsRoom}
 use Rattle.cert_desk_rules.specs.Judging.{Answers, Terms, PlainAnchor, keeps_at, number}
-use Rattle.cert_desk_rules.specs.Judging.{is_named, same_name}
+use Rattle.cert_desk_rules.specs.Judging.{accepted, is_named, same_name}
 use Rattle.cert_desk_rules.specs.Paths.{is_last}
-use Rattle.cert_desk_rules.specs.Verdicts.{accepted, asked_until, raised}
+use Rattle.cert_desk_rules.specs.Verdicts.{asked_signature, asked_until, raised}
 
 -- the first rule before the signature that the certificate at a place breaks, or none
 abbrev pub IsFirstUnsigned : Terms → List PlainCertificate → List ℕ → ℕ → Option Rule → Type 0
@@ -76,3 +76,9 @@ pub record StandsAt (cs : List PlainCertificate) (anchors : List Anchor) (place 
 pub record Rises (n old_questions old_calls new_questions new_calls : ℕ) : Type 0 where
   pub questions : new_questions ≡ raised old_questions n
   pub calls : new_calls ≡ raised old_calls n
+
+-- How often the judge is asked about the first n certificates where each is judged, whatever the
+-- others break: about the first up to the first yes, and about each other once.
+abbrev pub asked_each : Terms → List PlainCertificate → List ℕ → ℕ → ℕ
+asked_each t cs stream zero = 0
+asked_each t cs stream (suc others) = asked_signature t cs stream 0 + others

@@ -2,14 +2,15 @@
 use Rattle.std.specs.Prelude.{◌≡◌, ◌≢◌, ℕ, ◌≤◌, List, length}
 use Rattle.const_oid.specs.Bound.{Bound}
 use Rattle.cert_desk_io.specs.Devices.{Device, Moved, MetEnd, Sound, Fails}
-use Rattle.x509_cert_certificates.specs.Certificates.{PlainCertificate}
+use Rattle.x509_cert_certificates.specs.Certificates.{PlainCertificate, raw_certificate}
 use Rattle.cert_desk_bundle.specs.declared.fault_kind.FaultKind.{FaultKind}
 use Rattle.cert_desk_bundle.specs.declared.fault_kind.FaultKind.TheVariants as kinds
 use Rattle.cert_desk_bundle.specs.declared.standing.Standing.{Standing}
 use Rattle.cert_desk_bundle.specs.declared.standing.Standing.TheVariants as standings
 use Rattle.cert_desk_bundle.specs.Faults.{Split, StreamFault}
 use Rattle.cert_desk_bundle.specs.Steps.{most_read}
-use Rattle.cert_desk_bundle.specs.Streams.{AreFrontOf, Kept, Reads}
+use Rattle.cert_desk_bundle.specs.Series.{BeginsSeries}
+use Rattle.cert_desk_bundle.specs.Streams.{Kept, Reads}
 
 -- octets with no fault but that they may end too early
 abbrev pub MayGoOn : ℕ → List ℕ → Type 0
@@ -42,7 +43,8 @@ FedUnder input b (standings.Faulted kind) =
     (octets : List ℕ) × Moved input octets × Reads Bound b octets
     × (kind ≡ kinds.Truncated → MetEnd input) × AsksNoMore input b.limit × Sound input
 FedUnder input b standings.NoMemory = (octets : List ℕ) × Moved input octets
-    × AreFrontOf Bound b.limit b.certificates octets × AsksNoMore input b.limit × Sound input
+    × BeginsSeries (raw_certificate Bound) b.limit b.certificates octets
+    × AsksNoMore input b.limit × Sound input
 FedUnder input b standings.NoDevice =
     (octets : List ℕ) × Fails input octets × MayGoOn b.limit octets
     × ((rest : List ℕ) × Split Bound b.limit octets b.certificates rest)

@@ -1,7 +1,7 @@
 -- What a wider bound of arcs changes of streams and their verdicts.
 use Rattle.std.specs.Prelude.{◌≡◌, ℕ, ◌≤◌, ◌⊎◌, List, [], ◌∷◌, ◌++◌}
 use Rattle.der_core_head.specs.Bounds.{HoldsLarge}
-use Rattle.x509_cert_certificates.specs.Certificates.{PlainCertificate}
+use Rattle.x509_cert_certificates.specs.Certificates.{PlainCertificate, raw_certificate}
 use Rattle.cert_desk_rules.specs.declared.checked.Verdict.{Verdict}
 use Rattle.cert_desk_bundle.specs.declared.fault_kind.FaultKind.{FaultKind}
 use Rattle.cert_desk_checking.specs.Bounded.{OneBecomesReadable, OneHoldsLarge, bounded}
@@ -9,7 +9,7 @@ use Rattle.cert_desk_checking.specs.Bounded.{identifiers_in}
 use Rattle.cert_desk_bundle.specs.Chains.{Chain}
 use Rattle.cert_desk_bundle.specs.Faults.{StreamFault}
 use Rattle.cert_desk_rules.specs.Judging.{Terms}
-use Rattle.cert_desk_bundle.specs.Streams.{AreFrontOf}
+use Rattle.cert_desk_bundle.specs.Series.{BeginsSeries}
 use Rattle.cert_desk_rules.specs.Verdicts.{IsVerdict, Trusted, asked}
 
 -- A chain is the same chain under a wider bound.
@@ -54,5 +54,5 @@ WiderKeepsFaults =
     (small large limit : ℕ) (cs : List PlainCertificate) (kind : FaultKind) (stream : List ℕ)
     → small ≤ large → StreamFault small limit stream cs kind
     → StreamFault large limit stream cs kind
-    ⊎ ((c : PlainCertificate) × AreFrontOf large limit (cs ++ c ∷ []) stream
+    ⊎ ((c : PlainCertificate) × BeginsSeries (raw_certificate large) limit (cs ++ c ∷ []) stream
     × HoldsLarge small (identifiers_in c))

@@ -1,9 +1,11 @@
 //! Each place of a chain is judged by each rule.
-ghost use Rattle.std.specs.Prelude.{◌≡◌, IfOk};
+ghost use Rattle.std.specs.Prelude.{◌≡◌, ◌≤◌, ℕ, length, IfOk, OnOk, OnErr};
 ghost use Rattle.const_oid.specs.Bound.{Bound};
 ghost use Rattle.cert_desk_checking.specs.Anchors.{terms_of};
+ghost use Rattle.cert_desk_checking.specs.Places.{asked_each};
 ghost use Rattle.cert_desk_bundle.specs.Chains.{joined};
 ghost use Rattle.cert_desk_rules.specs.KeptRules.{AreJudged};
+ghost use Rattle.cert_desk_rules.specs.Verdicts.{raised};
 
 use crate::anchor::Anchor;
 use crate::checking::{is_signed, rules_kept};
@@ -17,13 +19,13 @@ use std::alloc::{AllocError, Global};
 /// validation time (seconds since 1970-01-01T00:00:00Z), for this key purpose.
 ///
 /// Where [`check`](crate::check) stops at the first certificate that breaks a rule, this goes on:
-/// so the judge may be asked more. It is asked about each certificate but the first under the key
-/// of the one before, whatever else they break, and about the first up to the first yes.
+/// so the judge may be asked more. It is asked about each certificate but the first once, under the
+/// key of the one before, whatever else they break, and about the first up to the first yes.
 ///
 /// # Errors
 ///
 /// Out of memory: what is said of a certificate takes a few octets, and its extensions may take
-/// memory.
+/// memory. The judge was then asked about so many certificates, from the first on.
 pub fn judge_each<J: SignatureJudge>(
     alloc: Global,
     bundle: &Bundle,
@@ -35,6 +37,16 @@ pub fn judge_each<J: SignatureJudge>(
     ensures judged { IfOk result (λ judged.
         AreJudged (terms_of anchors.now moment purpose.now (J.answers judge.old))
         bundle.now.certificates (joined Bound bundle.now.certificates) judged.items) }
+    ensures counted { OnOk result (J.questions judge.new
+        ≡ raised (J.questions judge.old)
+        (asked_each (terms_of anchors.now moment purpose.now (J.answers judge.old))
+        bundle.now.certificates (joined Bound bundle.now.certificates)
+        (length bundle.now.certificates))) }
+    ensures stopped { OnErr result ((n : ℕ) × (n ≤ length bundle.now.certificates)
+        × (J.questions judge.new
+        ≡ raised (J.questions judge.old)
+        (asked_each (terms_of anchors.now moment purpose.now (J.answers judge.old))
+        bundle.now.certificates (joined Bound bundle.now.certificates) n))) }
     ensures kept { J.answers judge.new ≡ J.answers judge.old }
 {
     let len = bundle.len();

@@ -138,7 +138,7 @@ module _ (xs : List Accepted) (place : ℕ) (role : Role) (x y : Accepted) (x_is
     order_is = order_there;
     above_is = above_there;
     signer_is = s_is;
-    stops = subst (λ (r : Role). Stops (may_refuse s) (signs s) (algorithm s) r (accepted_plain x).dns (ordered_part r (accepted_plain x) (accepted_plain y) (algorithm s)) t) role_is h;
+    holds = subst (λ (r : Role). Stops (may_refuse s) (signs s) (algorithm s) r (accepted_plain x).dns (ordered_part r (accepted_plain x) (accepted_plain y) (algorithm s)) t) role_is h;
   }
 
 -- what is told where no certificate is made, behind those that are

@@ -1,5 +1,6 @@
 -- Orders that are accepted ask for one thing, and where nothing stands in the way they are refused for want of memory alone.
 use Rattle.std.proofs.Common.{◌≡◌, ℕ, ◌<◌, List, length, true, false, Option, Some, None, refl, sym, ap, ◌∙◌, subst, arith, inl, inr, slice_get, string_bytes, map, Ok, Err}
+use Rattle.std.specs.Bool.{⊤}
 use Rattle.std.proofs.lemmas.List.{length-map}
 use Rattle.std.proofs.lemmas.Option.{same_Some, slice_get_within}
 use Rattle.const_oid.specs.Bound.{Bound}
@@ -21,10 +22,10 @@ use Rattle.x509_cert_builders.specs.declared.build_error.Error.{Error}
 use Rattle.x509_cert_names.proofs.OneName.{one_spelled, spelled_stands}
 use Rattle.der_types_time.proofs.SecondsOrders.{one_by_text}
 use Rattle.cert_desk_issuing.specs.Acceptance.{IsAccepted, IsAcceptedAt, IsKeyOf, IsNamedFor, IsTextOf, SpellDates, names_subscriber}
-use Rattle.cert_desk_issuing.specs.Issuable.{AreIssuable, IsShort}
+use Rattle.cert_desk_issuing.specs.Issuable.{AreIssuable, AreSignable, IsMemoryOrLong, IsShort}
 use Rattle.cert_desk_issuing.specs.Ordered.{ordered_part, part_octets}
 use Rattle.cert_desk_issuing.specs.PlainOrders.{HasNamesFor, PlainOrder}
-use Rattle.cert_desk_issuing.specs.Refusals.{HasFaultyDates, IsOtherKey, IsRefusedAt, RefusesName, RefusesOrder, Faults, Refuses, Stops, StopsAt}
+use Rattle.cert_desk_issuing.specs.Refusals.{HasFaultyDates, HasPart, HoldsAt, IsOtherKey, IsRefusedAt, MayBeTooLong, RefusesName, RefusesOrder, Faults, Refuses, Stops, StopsAt}
 use Rattle.cert_desk_issuing.specs.Roles.{role_at, place_above}
 use Rattle.cert_desk_issuing.specs.declared.fault.Fault.{Fault}
 use Rattle.cert_desk_issuing.specs.declared.issue_error.IssueError.{IssueError}
@@ -98,7 +99,7 @@ module _ (role : Role) (key : Option PublicKey) (o : Order) (p : PlainOrder) (a 
   -- what an order asks for
   one_order : (q : PlainOrder) → IsAccepted role key o q → p ≡ q
   one_order q b =
-      let subject = one_spelled (string_bytes o.name) p.subject q.subject a.name b.name valid in
+      let subject = one_spelled Bound (string_bytes o.name) p.subject q.subject a.name b.name in
       let serial : p.serial ≡ q.serial = cc (a.serial, b.serial) in
       let validity = one_validity (string_bytes o.not_before) (string_bytes o.not_after) p.validity q.validity a.dates b.dates in
       let same_key = a.key_is ∙ sym b.key_is in
@@ -109,11 +110,11 @@ module _ (role : Role) (key : Option PublicKey) (o : Order) (p : PlainOrder) (a 
       λ i. record { subject = subject i; serial = serial i; validity = validity i; key = same_key i; path = path i; dns = dns i; clients = clients i; answers = answers i }
 
   named : (n : PlainName) → SpellsName Bound (string_bytes o.name) n → IsNamedFor role n
-  named n s = subst (λ x. IsNamedFor role x) (one_spelled (string_bytes o.name) p.subject n a.name s valid) a.naming
+  named n s = subst (λ x. IsNamedFor role x) (one_spelled Bound (string_bytes o.name) p.subject n a.name s) a.naming
 
   -- an order that is accepted is refused for want of memory alone
   order_stands : (f : Fault) → RefusesOrder role key o f → f ≡ faults.OutOfMemory
-  order_stands faults.Name r = absurd (spelled_stands (string_bytes o.name) p.subject r.0 a.name r.1 valid)
+  order_stands faults.Name r = absurd (spelled_stands Bound (string_bytes o.name) p.subject r.0 a.name r.1)
   order_stands (faults.RootName e) r =
       name_stands role r.0 (faults.RootName e) (named r.0 r.1) r.2
   order_stands faults.SubscriberName r = name_stands role r.0 faults.SubscriberName (named r.0 r.1) r.2
@@ -139,15 +140,33 @@ module _ (orders : List Order) (keys : List PublicKey) (place : ℕ) (p : PlainO
       let same : r.order ≡ a.order = same_Some r.order a.order (sym r.stands ∙ a.stands) in
       order_stands role key a.order p a.accepted valid f (subst (λ (o : Order). RefusesOrder role key o f) same r.refused)
 
--- what may be signed, and is short enough, isn't stopped
-not_stopped : (may_refuse : List ℕ → Type 0) (signs : List ℕ → Bits → Type 0) (a : Algorithm) (role : Role) (dns : List (List ℕ)) (t : Tbs) → (may_refuse (part_octets t) → ⊥) → IsShort signs a role dns t
-    → (stop : Stop) → Stops may_refuse signs a role dns t stop → stop ≡ stops.OutOfMemory
-not_stopped may_refuse signs a role dns t signable short stops.Refused h = absurd (signable h)
-not_stopped may_refuse signs a role dns t signable short stops.TooLong (inl part) = absurd (part (short.names, short.part))
-not_stopped may_refuse signs a role dns t signable short stops.TooLong (inr whole) = absurd (whole.3 (short.whole whole.0 whole.1 whole.2))
-not_stopped may_refuse signs a role dns t signable short stops.OutOfMemory h = refl
+-- what holds at a place holds of the same order and signer
+module _ {S : Type 0} (algorithm : S → Algorithm) (P Q : S → Role → PlainOrder → Tbs → Type 0) (asked : List PlainOrder) (signers : List S) (place : ℕ) (h : HoldsAt algorithm P asked signers place) (k : HoldsAt algorithm Q asked signers place) where
+  same_place : Q h.signer (role_at (length asked) place) h.order (ordered_part (role_at (length asked) place) h.order h.above (algorithm h.signer))
+  same_place =
+      let role = role_at (length asked) place in
+      let order : k.order ≡ h.order = same_Some k.order h.order (sym k.order_is ∙ h.order_is) in
+      let above : k.above ≡ h.above = same_Some k.above h.above (sym k.above_is ∙ h.above_is) in
+      let signer : k.signer ≡ h.signer = same_Some k.signer h.signer (sym k.signer_is ∙ h.signer_is) in
+      let R : PlainOrder → PlainOrder → S → Type 0 = λ p b s. Q s role p (ordered_part role p b (algorithm s)) in
+      let one = subst (λ p. R p k.above k.signer) order k.holds in
+      let two = subst (λ b. R h.order b k.signer) above one in
+      subst (λ s. R h.order h.above s) signer two
 
-module _ {S : Type 0} (key : S → PublicKey) (algorithm : S → Algorithm) (signs : S → List ℕ → Bits → Type 0) (may_refuse : S → List ℕ → Type 0) (orders : List Order) (signers : List S) (h : AreIssuable key algorithm signs may_refuse orders signers) where
+-- what may be signed is stopped by want of memory alone, or by bits that are too long
+abbrev Left : (List ℕ → Bits → Type 0) → Algorithm → Tbs → Stop → Type 0
+Left signs a t stops.Refused = ⊥
+Left signs a t stops.TooLong = MayBeTooLong signs a t
+Left signs a t stops.OutOfMemory = ⊤
+
+not_stopped : (may_refuse : List ℕ → Type 0) (signs : List ℕ → Bits → Type 0) (a : Algorithm) (role : Role) (dns : List (List ℕ)) (t : Tbs) → (may_refuse (part_octets t) → ⊥) → HasPart role dns t
+    → (stop : Stop) → Stops may_refuse signs a role dns t stop → Left signs a t stop
+not_stopped may_refuse signs a role dns t signable part stops.Refused h = signable h
+not_stopped may_refuse signs a role dns t signable part stops.TooLong (inl none) = absurd (none part)
+not_stopped may_refuse signs a role dns t signable part stops.TooLong (inr long) = long
+not_stopped may_refuse signs a role dns t signable part stops.OutOfMemory h = tt
+
+module _ {S : Type 0} (key : S → PublicKey) (algorithm : S → Algorithm) (signs : S → List ℕ → Bits → Type 0) (may_refuse : S → List ℕ → Type 0) (orders : List Order) (signers : List S) (h : AreSignable key algorithm may_refuse orders signers) where
   -- no order is refused
   no_fault : (place : ℕ) (f : Fault) → Faults key algorithm signs may_refuse orders signers place f → f ≡ faults.OutOfMemory
   no_fault place f (n, r) =
@@ -155,11 +174,11 @@ module _ {S : Type 0} (key : S → PublicKey) (algorithm : S → Algorithm) (sig
       let here = h.each place within in
       let role = role_at (length h.asked) place in
       stands_at orders (map key signers) place here.order (h.accepted.front.each place here.order here.order_is)
-      (subject_valid role here.order here.above (algorithm here.signer) here.short.part) f r.refused
+      (subject_valid role here.order here.above (algorithm here.signer) here.holds.1.1) f r.refused
 
-  -- no certificate is stopped but by want of memory
-  no_stop : (place : ℕ) (stop : Stop) → StopsAt key algorithm signs may_refuse orders signers place stop → stop ≡ stops.OutOfMemory
-  no_stop place stop r =
+  -- no certificate is stopped by anything else
+  left_at : (place : ℕ) (stop : Stop) → StopsAt key algorithm signs may_refuse orders signers place stop → HoldsAt algorithm (λ s role p t. Left (signs s) (algorithm s) t stop) h.asked signers place
+  left_at place stop r =
       let keys = map key signers in
       let k = r.stopped in
       let many : length r.asked ≡ length h.asked = r.accepted.all ∙ sym h.accepted.all in
@@ -167,32 +186,69 @@ module _ {S : Type 0} (key : S → PublicKey) (algorithm : S → Algorithm) (sig
       let here = h.each place within in
       let role = role_at (length h.asked) place in
       let order : here.order ≡ k.order = one_at orders keys place here.order (h.accepted.front.each place here.order here.order_is)
-      (subject_valid role here.order here.above (algorithm here.signer) here.short.part) k.order (r.accepted.front.each place k.order k.order_is) in
+      (subject_valid role here.order here.above (algorithm here.signer) here.holds.1.1) k.order (r.accepted.front.each place k.order k.order_is) in
       let above : here.above ≡ k.above = one_at orders keys (place_above place) here.above (h.accepted.front.each (place_above place) here.above here.above_is)
-      (issuer_valid role here.order here.above (algorithm here.signer) here.short.part) k.above (r.accepted.front.each (place_above place) k.above k.above_is) in
+      (issuer_valid role here.order here.above (algorithm here.signer) here.holds.1.1) k.above (r.accepted.front.each (place_above place) k.above k.above_is) in
       let signer : k.signer ≡ here.signer = same_Some k.signer here.signer (sym k.signer_is ∙ here.signer_is) in
       let P : ℕ → PlainOrder → PlainOrder → S → Type 0 =
       λ n p b s. Stops (may_refuse s) (signs s) (algorithm s) (role_at n place) p.dns (ordered_part (role_at n place) p b (algorithm s)) stop in
-      let one = subst (λ n. P n k.order k.above k.signer) many k.stops in
+      let one = subst (λ n. P n k.order k.above k.signer) many k.holds in
       let two = subst (λ p. P (length h.asked) p k.above k.signer) (sym order) one in
       let three = subst (λ b. P (length h.asked) here.order b k.signer) (sym above) two in
       let four = subst (λ s. P (length h.asked) here.order here.above s) signer three in
-      not_stopped (may_refuse here.signer) (signs here.signer) (algorithm here.signer) role here.order.dns (ordered_part role here.order here.above (algorithm here.signer)) here.signable here.short stop four
+      record {
+        order = here.order;
+        above = here.above;
+        signer = here.signer;
+        order_is = here.order_is;
+        above_is = here.above_is;
+        signer_is = here.signer_is;
+        holds = not_stopped (may_refuse here.signer) (signs here.signer) (algorithm here.signer) role here.order.dns (ordered_part role here.order here.above (algorithm here.signer)) here.holds.0 here.holds.1 stop four;
+      }
 
-  pub only_memory : (e : IssueError) → Refuses key algorithm signs may_refuse orders signers e → e ≡ errors.OutOfMemory
-  only_memory errors.NoOrders r = absurd (omega (arith, h.accepted.some, ap length r))
-  only_memory errors.SignerCount r = absurd (r.1 (sym (length-map signers key) ∙ h.accepted.signers))
-  only_memory (errors.Name place) r = absurd (cc (no_fault place faults.Name r))
-  only_memory (errors.RootName place e) r = absurd (cc (no_fault place (faults.RootName e) r))
-  only_memory (errors.SubscriberName place) r = absurd (cc (no_fault place faults.SubscriberName r))
-  only_memory (errors.Serial place) r = absurd (cc (no_fault place faults.Serial r))
-  only_memory (errors.Dates place) r = absurd (cc (no_fault place faults.Dates r))
-  only_memory (errors.DnsName place) r = absurd (cc (no_fault place faults.DnsName r))
-  only_memory (errors.KeyMismatch place) r = absurd (cc (no_fault place faults.KeyMismatch r))
-  only_memory (errors.Signer place) r = absurd (cc (no_stop place stops.Refused r))
-  only_memory (errors.TooLong place) r = absurd (cc (no_stop place stops.TooLong r))
-  only_memory errors.OutOfMemory r = refl
+  pub only_long : (e : IssueError) → Refuses key algorithm signs may_refuse orders signers e → IsMemoryOrLong algorithm signs h.asked signers e
+  only_long errors.NoOrders r = absurd (omega (arith, h.accepted.some, ap length r))
+  only_long errors.SignerCount r = absurd (r.1 (sym (length-map signers key) ∙ h.accepted.signers))
+  only_long (errors.Name place) r = absurd (cc (no_fault place faults.Name r))
+  only_long (errors.RootName place e) r = absurd (cc (no_fault place (faults.RootName e) r))
+  only_long (errors.SubscriberName place) r = absurd (cc (no_fault place faults.SubscriberName r))
+  only_long (errors.Serial place) r = absurd (cc (no_fault place faults.Serial r))
+  only_long (errors.Dates place) r = absurd (cc (no_fault place faults.Dates r))
+  only_long (errors.DnsName place) r = absurd (cc (no_fault place faults.DnsName r))
+  only_long (errors.KeyMismatch place) r = absurd (cc (no_fault place faults.KeyMismatch r))
+  only_long (errors.Signer place) r = absurd (left_at place stops.Refused r).holds
+  only_long (errors.TooLong place) r = left_at place stops.TooLong r
+  only_long errors.OutOfMemory r = tt
+
+module _ {S : Type 0} (key : S → PublicKey) (algorithm : S → Algorithm) (signs : S → List ℕ → Bits → Type 0) (may_refuse : S → List ℕ → Type 0) (orders : List Order) (signers : List S) (h : AreIssuable key algorithm signs may_refuse orders signers) where
+  signable : AreSignable key algorithm may_refuse orders signers
+  signable = record {
+    asked = h.asked;
+    accepted = h.accepted;
+    each = λ place within.
+        let here = h.each place within in
+        record {
+          order = here.order;
+          above = here.above;
+          signer = here.signer;
+          order_is = here.order_is;
+          above_is = here.above_is;
+          signer_is = here.signer_is;
+          holds = (here.holds.0, here.holds.1.0);
+        };
+  }
+
+  -- where all bits that a signer may give are short enough
+  only_memory : (e : IssueError) → IsMemoryOrLong algorithm signs h.asked signers e → e ≡ errors.OutOfMemory
+  only_memory errors.OutOfMemory k = refl
+  only_memory (errors.TooLong place) k =
+      let here = h.each place (slice_get_within h.asked place k.order k.order_is) in
+      let long = same_place algorithm (λ s role p t. (may_refuse s (part_octets t) → ⊥) × IsShort (signs s) (algorithm s) role p.dns t) (λ s role p t. MayBeTooLong (signs s) (algorithm s) t) h.asked signers place here k in
+      absurd (long.3 (here.holds.1.1 long.0 long.1 long.2))
+  only_memory _ k = absurd k
 
 pub issuable_is_issued : {S : Type 0} (key : S → PublicKey) (algorithm : S → Algorithm) (signs : S → List ℕ → Bits → Type 0) (may_refuse : S → List ℕ → Type 0)
     (orders : List Order) (signers : List S) (e : IssueError) → AreIssuable key algorithm signs may_refuse orders signers → Refuses key algorithm signs may_refuse orders signers e → e ≡ errors.OutOfMemory
-issuable_is_issued key algorithm signs may_refuse orders signers e h r = only_memory key algorithm signs may_refuse orders signers h e r
+unfolding signable
+issuable_is_issued key algorithm signs may_refuse orders signers e h r =
+    only_memory key algorithm signs may_refuse orders signers h e (only_long key algorithm signs may_refuse orders signers (signable key algorithm signs may_refuse orders signers h) e r)

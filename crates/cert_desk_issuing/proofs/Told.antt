@@ -7,7 +7,7 @@ use Rattle.const_oid.specs.Bound.{Bound}
 use Rattle.const_oid.specs.Comparing.{owned_eq}
 use Rattle.const_oid.specs.Digits.{digits, digits_within, marked}
 use Rattle.const_oid.specs.IdentifierOctets.{identifier_octets, arc_octets}
-use Rattle.der_core_head.proofs.OneEncoding.{whole_again}
+use Rattle.cert_desk_bundle.specs.Decoding.{Decoding}
 use Rattle.der_core_head.proofs.HeadLaws.{fits_front, fits_rest, fits_contents}
 use Rattle.der_core_head.specs.Grammar.{plain_option}
 use Rattle.der_core_head.specs.Heads.{Fits, tlv}
@@ -22,7 +22,8 @@ use Rattle.x509_cert_names.specs.Names.{PlainName}
 use Rattle.x509_cert_general_names.specs.GeneralNames.{general_names, general_name}
 use Rattle.cert_desk_rules.specs.Judging.{are_distinct}
 use Rattle.cert_desk_rules.specs.Paths.{is_within}
-use Rattle.cert_desk_rules.specs.Weighing.{Meaning, uses, purposes, is_authority, is_malformed, is_unweighed, is_unweighed_critical, may_certify, path_length, serves, weigh, constraints, other_names, unweighed, basic_constraints, constraints_of, key_usage, extended_key_usage, meaning_by, meaning_of}
+use Rattle.cert_desk_rules.specs.Weighing.{Meaning, uses, purposes, is_authority, is_malformed, is_unweighed, is_unweighed_critical, may_certify, path_length, serves, weigh, constraints, other_names, unweighed, basic_constraints_in, constraints_of, key_usage, key_usage_in, extended_key_usage, extended_key_usage_in, subject_alt_name_in, meaning_of}
+use Rattle.cert_desk_rules.proofs.Meanings.{basic_constraints, meaning_once}
 use Rattle.cert_desk_rules.proofs.Folds.{and_yes}
 use Rattle.x509_cert_builders.proofs.Encodable.{constraints_valid, purposes_valid, use_valid}
 use Rattle.cert_desk_issuing.specs.Allowances.{allows_one, path_in}
@@ -35,14 +36,14 @@ use Rattle.cert_desk_issuing.specs.declared.role.Role.TheVariants as roles
 use Rattle.der_core_head.specs.declared.tag.Tag.TheVariants as tags
 
 -- an encoding is one value of its kind
-said : (s : Shape) (says : Value s → Meaning) (v : Value s) → is_apart s ≡ true → are_enough s levels_max ≡ true → IsValid s v → meaning_by s says (octets_of s v) ≡ says v
-said s says v apart enough valid = ap (meaning_of says) (whole_again s v (octets_of s v) apart enough (record { valid = valid; octets = refl }))
+said : (s : Shape) (says : Value s → Meaning) (v : Value s) → is_apart s ≡ true → are_enough s levels_max ≡ true → IsValid s v → (d : Decoding s (octets_of s v)) → meaning_of says d ≡ says v
+said s says v apart enough valid d = meaning_once s says (octets_of s v) apart enough v (record { valid = valid; octets = refl }) d
 
 -- KeyUsage
 
 usage_says : (n : ℕ) → n < 2 ^ 9 → weigh Bound (usage_extension n) ≡ uses n
 unfolding identifier_octets arc_octets digits digits_within marked
-usage_says n h = said key_usage uses n refl refl (use_valid n h)
+usage_says n h = said key_usage uses n refl refl (use_valid n h) (key_usage_in _)
 
 authority_says : (answers : Bool) → weigh Bound (usage_extension (authority_uses answers)) ≡ uses (authority_uses answers)
 authority_says true = usage_says (authority_uses true) (lit< tt)
@@ -64,14 +65,14 @@ subject_key_says k = refl
 
 constraints_say : (ca : Bool) (p : Option ℕ) → IfSome p (λ n. n < 2 ^ 8) → weigh Bound (constraints_extension ca (plain_option (λ n. pos n) p)) ≡ constraints ca p
 unfolding identifier_octets arc_octets digits digits_within marked
-constraints_say ca None h = said basic_constraints constraints_of (ca, (None, tt)) refl refl (constraints_valid ca None tt)
-constraints_say ca (Some n) h = said basic_constraints constraints_of (ca, (Some (pos n), tt)) refl refl (constraints_valid ca (Some n) h)
+constraints_say ca None h = said basic_constraints constraints_of (ca, (None, tt)) refl refl (constraints_valid ca None tt) (basic_constraints_in _)
+constraints_say ca (Some n) h = said basic_constraints constraints_of (ca, (Some (pos n), tt)) refl refl (constraints_valid ca (Some n) h) (basic_constraints_in _)
 
 -- ExtendedKeyUsage
 
 purposes_say : (clients : Bool) → weigh Bound (purposes_extension clients) ≡ purposes (profiles.purposes clients)
 unfolding identifier_octets arc_octets digits digits_within marked
-purposes_say clients = said (extended_key_usage Bound) purposes (profiles.purposes clients) refl refl (purposes_valid clients)
+purposes_say clients = said (extended_key_usage Bound) purposes (profiles.purposes clients) refl refl (purposes_valid clients) (extended_key_usage_in Bound _)
 
 -- SubjectAltName
 
@@ -101,7 +102,7 @@ names_valid dns fits ascii =
 names_say : (subject : PlainName) (dns : List (List ℕ)) → Fits (octets_of (general_names Bound) (dns_names dns)) → list_all (λ text. list_all (λ o. nat_lt o 128) text) dns ≡ true
     → weigh Bound (names_extension subject dns) ≡ other_names (dns_names dns)
 unfolding identifier_octets arc_octets digits digits_within marked
-names_say subject dns fits ascii = said (general_names Bound) other_names (dns_names dns) refl refl (names_valid dns fits ascii)
+names_say subject dns fits ascii = said (general_names Bound) other_names (dns_names dns) refl refl (names_valid dns fits ascii) (subject_alt_name_in Bound _)
 
 -- where the names have an encoding
 abbrev pub FitsFor : Role → PlainOrder → Type 0

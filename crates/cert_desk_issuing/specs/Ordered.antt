@@ -6,9 +6,10 @@ use Rattle.std.specs.Bool.{⊤}
 use Rattle.const_oid.specs.Bound.{Bound}
 use Rattle.der_core_head.specs.Grammar.{plain_list, plain_option}
 use Rattle.der_core_head.specs.Shapes.{IsValid, Value, octets_of}
-use Rattle.x509_cert_parts.specs.ExtensionTypes as types
+use Rattle.x509_cert_parts.specs.ExtensionTypes.{id_ce}
+use Rattle.x509_cert_extensions.specs.Making.{extension_of}
 use Rattle.x509_cert_builders.specs.Profiles.{digital_signature, root_extensions}
-use Rattle.x509_cert_builders.specs.Profiles.{standard_extension, subordinate_extensions}
+use Rattle.x509_cert_builders.specs.Profiles.{subordinate_extensions}
 use Rattle.x509_cert_builders.specs.Profiles.{subscriber_extensions}
 use Rattle.x509_cert_certificates.specs.Certificates.{Tbs, tbs_certificate}
 use Rattle.x509_cert_parts.specs.Grammar.{Algorithm, PlainExtension, PublicKey}
@@ -34,7 +35,7 @@ CanName roles.Subscriber dns = IsValid (general_names Bound) (dns_names dns)
 -- SubjectAltName, critical where the subject has no name (4.2.1.6)
 abbrev pub names_extension : PlainName → List (List ℕ) → PlainExtension
 names_extension subject dns =
-    standard_extension types.subject_alt_name (length subject == 0) (general_names Bound)
+    extension_of (id_ce 17) (length subject == 0) (general_names Bound)
     (dns_names dns)
 
 -- what the DNS names of a subscriber add

@@ -127,13 +127,15 @@ stop_of _ = stops.TooLong
 abbrev pub HasPart : Role → List (List ℕ) → Tbs → Type 0
 HasPart role dns t = CanName role dns × IsValid (tbs_certificate Bound None) t
 
+-- the signer may give bits with which the certificate of a signed part has no encoding
+abbrev pub MayBeTooLong : (List ℕ → Bits → Type 0) → Algorithm → Tbs → Type 0
+MayBeTooLong signs a t = (bits : Bits) × IsBits bits × signs (part_octets t) bits
+    × (IsValid (certificate Bound None) (t, (a, (bits, tt))) → ⊥)
+
 -- A length passes 2^32 - 1: a subscriber's names or the signed part have no encoding, or the
 -- certificate has none with bits that its signer may give.
 abbrev pub IsTooLong : (List ℕ → Bits → Type 0) → Algorithm → Role → List (List ℕ) → Tbs → Type 0
-IsTooLong signs a role dns t =
-    (HasPart role dns t → ⊥)
-    ⊎ ((bits : Bits) × IsBits bits × signs (part_octets t) bits
-    × (IsValid (certificate Bound None) (t, (a, (bits, tt))) → ⊥))
+IsTooLong signs a role dns t = (HasPart role dns t → ⊥) ⊎ MayBeTooLong signs a t
 
 -- why the certificate of a signed part isn't made
 abbrev pub Stops : (List ℕ → Type 0) → (List ℕ → Bits → Type 0) → Algorithm → Role → List (List ℕ)
@@ -142,19 +144,27 @@ Stops may_refuse signs a role dns t stops.Refused = may_refuse (part_octets t)
 Stops may_refuse signs a role dns t stops.TooLong = IsTooLong signs a role dns t
 Stops may_refuse signs a role dns t stops.OutOfMemory = ⊤
 
--- no certificate is made at a place
-pub record IsStoppedAt {S : Type 0} (algorithm : S → Algorithm) (signs : S → List ℕ → Bits → Type 0)
-    (may_refuse : S → List ℕ → Type 0) (asked : List PlainOrder) (signers : List S) (place : ℕ)
-    (stop : Stop) : Type 0 where
+-- Of the order at a place, of its role and its signer, and of the part that is ordered there below
+-- the order above, this holds.
+pub record HoldsAt {S : Type 0} (algorithm : S → Algorithm)
+    (P : S → Role → PlainOrder → Tbs → Type 0) (asked : List PlainOrder) (signers : List S)
+    (place : ℕ) : Type 0 where
   pub order : PlainOrder
   pub above : PlainOrder
   pub signer : S
   pub order_is : slice_get asked place ≡ Some order
   pub above_is : slice_get asked (place_above place) ≡ Some above
   pub signer_is : slice_get signers (place_above place) ≡ Some signer
-  pub stops : Stops (may_refuse signer) (signs signer) (algorithm signer)
-      (role_at (length asked) place) order.dns
-      (ordered_part (role_at (length asked) place) order above (algorithm signer)) stop
+  pub holds : P signer (role_at (length asked) place) order
+      (ordered_part (role_at (length asked) place) order above (algorithm signer))
+
+-- no certificate is made at a place
+abbrev pub IsStoppedAt : {S : Type 0} → (S → Algorithm) → (S → List ℕ → Bits → Type 0)
+    → (S → List ℕ → Type 0) → List PlainOrder → List S → ℕ → Stop → Type 0
+IsStoppedAt algorithm signs may_refuse asked signers place stop =
+    HoldsAt algorithm
+    (λ s role p t. Stops (may_refuse s) (signs s) (algorithm s) role p.dns t stop) asked signers
+    place
 
 -- how a fault of the order at a place is told, and a stop there
 abbrev pub fault_at : ℕ → Fault → IssueError

@@ -5,7 +5,7 @@ ghost use Rattle.der_core_head.specs.Grammar.{plain_option};
 ghost use Rattle.x509_cert_parts.specs.Views.{key_plain};
 ghost use Rattle.cert_desk_issuing.specs.Acceptance.{AcceptedOrders, AcceptsFront, IsAcceptedAt};
 ghost use Rattle.cert_desk_issuing.specs.Chains.{AreSigned, HoldsOrders, IssuedChain};
-ghost use Rattle.cert_desk_issuing.specs.Issuable.{AreIssuable};
+ghost use Rattle.cert_desk_issuing.specs.Issuable.{AreIssuable, AreSignable, IsMemoryOrLong};
 ghost use Rattle.cert_desk_issuing.specs.Making.{MakesAt};
 ghost use Rattle.cert_desk_issuing.specs.PlainOrders.{AreKeys, AreReady, accepted_plain};
 ghost use Rattle.cert_desk_issuing.specs.PlainOrders.{orders_plain};
@@ -49,6 +49,10 @@ pub fn issue<S: Signer>(
     ensures complete { AreIssuable S.public_key S.signs_by S.signs S.may_refuse orders.now
         signers.now
         → IfErr result (λ e. e ≡ IssueError.OutOfMemory) }
+    // Whatever bits the signers may give, such orders are refused besides only with `TooLong`, and
+    // only if the signer may give bits with which the certificate has no encoding.
+    ensures signable { (h : AreSignable S.public_key S.signs_by S.may_refuse orders.now signers.now)
+        → IfErr result (IsMemoryOrLong S.signs_by S.signs h.asked signers.now) }
 {
     if orders.is_empty() {
         return Err(IssueError::NoOrders);

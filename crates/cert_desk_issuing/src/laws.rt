@@ -1,5 +1,5 @@
 //! Laws of chains that hold orders. Each function does nothing: its contract is the law.
-ghost use Rattle.cert_desk_issuing.specs.Issuable.{IssuableIsIssued};
+ghost use Rattle.cert_desk_issuing.specs.Issuable.{IssuableIsIssued, ShorterBitsFit};
 ghost use Rattle.cert_desk_issuing.specs.Laws.{HeldIsTrusted, TrustedIsPermitted, HeldIsRefusedFor};
 ghost use Rattle.cert_desk_issuing.specs.Laws.{IssuedIsTrusted, SignedIsSliced, SaysAsOrdered};
 
@@ -7,9 +7,16 @@ use x509_cert_builders::Signer;
 
 /// Of orders that are accepted, of which no signer may refuse a part, and whose lengths fit, none
 /// of the reasons to refuse them holds: a call can only be out of memory.
-#[tactic(auto, using(crate::proofs::OnlyMemory::issuable_is_issued))]
 pub fn issuable_is_issued<S: Signer>()
     ensures { IssuableIsIssued S.public_key S.signs_by S.signs S.may_refuse }
+{}
+
+/// A certificate that has an encoding with some bits has one with any bits of no more octets. So if
+/// a signer may give any bits of at most a number of octets, and the lengths fit with one signature
+/// of that many octets, they fit with all of them.
+#[tactic(auto, using(crate::proofs::ShortBits::shorter_bits_fit))]
+pub fn shorter_bits_fit()
+    ensures { ShorterBitsFit }
 {}
 
 /// A chain that holds orders is trusted under its own root, at each validation time within all

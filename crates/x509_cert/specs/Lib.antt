@@ -1,4 +1,5 @@
 pub mod Equality
+pub mod Levels
 pub mod Parts
 pub use Rattle.der_core_head.specs.Octets
 pub use Rattle.x509_cert_certificates.specs.Certificates

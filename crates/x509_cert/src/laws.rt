@@ -12,6 +12,7 @@ ghost use Rattle.der_core_head.specs.Leaves.{integer, named};
 ghost use Rattle.der_core_head.specs.Shapes.{BodyValue, Value, Spells, leaf, sequence, sequence_of};
 ghost use Rattle.der_core_head.specs.Shapes.{tagged};
 ghost use Rattle.x509_cert.specs.Equality.{IsByValue, TellsValues};
+ghost use Rattle.x509_cert.specs.Levels.{IsApartWithinLevels};
 ghost use Rattle.x509_cert_anchors.specs.Anchors as grammar;
 ghost use Rattle.x509_cert_anchors.specs.Anchors.{trust_anchor_choice};
 ghost use Rattle.x509_cert_anchors.specs.AnchorViews as anchor_views;
@@ -24,6 +25,8 @@ ghost use Rattle.x509_cert_policies.specs.Policies as policies;
 ghost use Rattle.x509_cert_policies.specs.PolicyViews.{policy_information_plain, policy_mapping_plain};
 
 use crate::anchor::Version as AnchorVersion;
+use crate::request::Version as RequestVersion;
+use crate::timestamps::SignedCertificateTimestampList;
 use crate::*;
 use der_core::{Shaped, Tag};
 use std::cmp::PartialEq;
@@ -38,7 +41,8 @@ pub use x509_cert_extensions::laws::extensions_are_of_their_types;
 pub use x509_cert_list_builders::laws::signed_part_stands_in_place as list_parts_stand_in_place;
 pub use x509_cert_lists::laws::{attributes_are_of_their_types, equality_of_lists_is_of_values};
 pub use x509_cert_names::laws::{
-    equality_of_names_is_of_values, newly_read_name_texts_hold_a_large_arc,
+    equality_of_names_is_of_values, newly_read_name_texts_hold_a_large_arc, printed_names_are_read,
+    printed_values_are_strings, texts_are_read_as_one_name, texts_identify_names,
     wider_bounds_keep_names, wider_bounds_read_name_texts_alike,
 };
 pub use x509_cert_parts::laws::{
@@ -143,3 +147,73 @@ pub fn equality_of_anchors_is_of_values<P>()
     equality_of_certificates_is_of_values::<P>();
     equality_of_extensions_is_of_values();
 }
+
+/// First tags keep the parts of each type apart, and it nests no deeper than the 64 levels that a
+/// reader allows, under every profile.
+pub fn types_are_apart_within_levels<P: Profile>()
+    ensures parts { IsApartWithinLevels ⟦<AlgorithmIdentifier as Shaped>⟧.shape
+        × IsApartWithinLevels ⟦<AlgorithmIdentifierRef<'static> as Shaped>⟧.shape
+        × IsApartWithinLevels ⟦<Extension as Shaped>⟧.shape
+        × IsApartWithinLevels ⟦<Extensions as Shaped>⟧.shape
+        × IsApartWithinLevels ⟦<SerialNumber<P> as Shaped>⟧.shape
+        × IsApartWithinLevels ⟦<SubjectPublicKeyInfo as Shaped>⟧.shape
+        × IsApartWithinLevels ⟦<SubjectPublicKeyInfoRef<'static> as Shaped>⟧.shape
+        × IsApartWithinLevels ⟦<Time as Shaped>⟧.shape
+        × IsApartWithinLevels ⟦<Validity<P> as Shaped>⟧.shape
+        × IsApartWithinLevels ⟦<Version as Shaped>⟧.shape }
+    ensures names { IsApartWithinLevels ⟦<Attribute as Shaped>⟧.shape
+        × IsApartWithinLevels ⟦<Attributes as Shaped>⟧.shape
+        × IsApartWithinLevels ⟦<AttributeTypeAndValue as Shaped>⟧.shape
+        × IsApartWithinLevels ⟦<DirectoryString as Shaped>⟧.shape
+        × IsApartWithinLevels ⟦<Name as Shaped>⟧.shape
+        × IsApartWithinLevels ⟦<RelativeDistinguishedName as Shaped>⟧.shape }
+    ensures certificates { IsApartWithinLevels ⟦<CertificateInner<P> as Shaped>⟧.shape
+        × IsApartWithinLevels ⟦<TbsCertificateInner<P> as Shaped>⟧.shape
+        × IsApartWithinLevels ⟦<PkiPath as Shaped>⟧.shape }
+    ensures lists { IsApartWithinLevels ⟦<CertificateList<P> as Shaped>⟧.shape
+        × IsApartWithinLevels ⟦<TbsCertList<P> as Shaped>⟧.shape
+        × IsApartWithinLevels ⟦<RevokedCert<P> as Shaped>⟧.shape }
+    ensures requests { IsApartWithinLevels ⟦<CertReq as Shaped>⟧.shape
+        × IsApartWithinLevels ⟦<CertReqInfo as Shaped>⟧.shape
+        × IsApartWithinLevels ⟦<ChallengePassword as Shaped>⟧.shape
+        × IsApartWithinLevels ⟦<RequestVersion as Shaped>⟧.shape }
+    ensures anchors { IsApartWithinLevels ⟦<TrustAnchorChoice<P> as Shaped>⟧.shape
+        × IsApartWithinLevels ⟦<TrustAnchorInfo<P> as Shaped>⟧.shape
+        × IsApartWithinLevels ⟦<CertPathControls<P> as Shaped>⟧.shape
+        × IsApartWithinLevels ⟦<CertPolicyFlags as Shaped>⟧.shape
+        × IsApartWithinLevels ⟦<AnchorVersion as Shaped>⟧.shape }
+    ensures general_names { IsApartWithinLevels ⟦<GeneralName as Shaped>⟧.shape
+        × IsApartWithinLevels ⟦<GeneralNames as Shaped>⟧.shape
+        × IsApartWithinLevels ⟦<OtherName as Shaped>⟧.shape
+        × IsApartWithinLevels ⟦<EdiPartyName as Shaped>⟧.shape
+        × IsApartWithinLevels ⟦<HardwareModuleName as Shaped>⟧.shape
+        × IsApartWithinLevels ⟦<AccessDescription as Shaped>⟧.shape
+        × IsApartWithinLevels ⟦<AuthorityKeyIdentifier as Shaped>⟧.shape
+        × IsApartWithinLevels ⟦<GeneralSubtree as Shaped>⟧.shape
+        × IsApartWithinLevels ⟦<DistributionPoint as Shaped>⟧.shape
+        × IsApartWithinLevels ⟦<DistributionPointName as Shaped>⟧.shape
+        × IsApartWithinLevels ⟦<IssuingDistributionPoint as Shaped>⟧.shape
+        × IsApartWithinLevels ⟦<ReasonFlags as Shaped>⟧.shape }
+    ensures policies { IsApartWithinLevels ⟦<PolicyInformation as Shaped>⟧.shape
+        × IsApartWithinLevels ⟦<PolicyQualifierInfo as Shaped>⟧.shape
+        × IsApartWithinLevels ⟦<UserNotice as Shaped>⟧.shape
+        × IsApartWithinLevels ⟦<NoticeReference as Shaped>⟧.shape
+        × IsApartWithinLevels ⟦<DisplayText as Shaped>⟧.shape
+        × IsApartWithinLevels ⟦<PolicyMapping as Shaped>⟧.shape }
+    ensures constraints { IsApartWithinLevels ⟦<BasicConstraints as Shaped>⟧.shape
+        × IsApartWithinLevels ⟦<NameConstraints as Shaped>⟧.shape
+        × IsApartWithinLevels ⟦<PolicyConstraints as Shaped>⟧.shape
+        × IsApartWithinLevels ⟦<InhibitAnyPolicy as Shaped>⟧.shape
+        × IsApartWithinLevels ⟦<PrivateKeyUsagePeriod as Shaped>⟧.shape }
+    // The types of extensions that hold a list, a text of octets, bits or a number, by their shapes.
+    ensures extensions { IsApartWithinLevels (sequence_of (sequence (names.access_description_fields Bound)))
+        × IsApartWithinLevels (sequence_of (sequence (names.distribution_point_fields Bound)))
+        × IsApartWithinLevels (sequence_of (sequence (policies.policy_information_fields Bound)))
+        × IsApartWithinLevels (sequence_of (sequence (policies.policy_mapping_fields Bound)))
+        × IsApartWithinLevels (sequence_of (parts.object_identifier Bound))
+        × IsApartWithinLevels (sequence_of (parts.attribute Bound))
+        × IsApartWithinLevels parts.octet_string
+        × IsApartWithinLevels (tagged Tag.BitString (leaf (named 9)))
+        × IsApartWithinLevels (tagged Tag.Enumerated (leaf (integer (among reason_numbers))))
+        × IsApartWithinLevels (tagged Tag.Integer (leaf (integer natural))) }
+{}

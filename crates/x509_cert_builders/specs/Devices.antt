@@ -16,9 +16,10 @@ use Rattle.der_types_any.specs.Contents.{content_as}
 use Rattle.x509_cert_general_names.specs.GeneralNames.{general_name, hardware_module_name_fields}
 use Rattle.x509_cert_general_names.specs.Modules.{PlainModule, module_arcs, module_held}
 use Rattle.x509_cert_general_names.specs.GeneralNameViews.{general_name_plain}
-use Rattle.x509_cert_parts.specs.ExtensionTypes as types
+use Rattle.x509_cert_parts.specs.ExtensionTypes.{id_ce}
+use Rattle.x509_cert_extensions.specs.Making.{extension_of}
 use Rattle.x509_cert_builders.specs.Profiles.{authority_key_extension, digital_signature}
-use Rattle.x509_cert_builders.specs.Profiles.{standard_extension, usage_extension}
+use Rattle.x509_cert_builders.specs.Profiles.{usage_extension}
 use Rattle.x509_cert_builders.specs.Refusals.{FailsAs, IsUnwritten}
 use Rattle.x509_cert_builders.specs.declared.build_error.Error.{Error}
 use Rattle.x509_cert_builders.specs.declared.dev_id.DevId.{DevId}
@@ -68,7 +69,7 @@ version_arcs (versions.Other oid) = oid
 abbrev pub alternatives : PlainName → Option (List PlainGeneralName) → List PlainExtension
 alternatives subject None = []
 alternatives subject (Some names) =
-    standard_extension types.subject_alt_name (length subject == 0)
+    extension_of (id_ce 17) (length subject == 0)
     (sequence_of (general_name Bound)) names ∷ []
 
 -- a device (8.10)

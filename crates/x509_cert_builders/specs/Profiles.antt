@@ -5,9 +5,8 @@ use Rattle.const_oid.specs.Bound.{Bound}
 use Rattle.const_oid.specs.Comparing.{owned_eq}
 use Rattle.der_core_head.specs.declared.tag.Tag.TheVariants as tags
 use Rattle.der_core_head.specs.Leaves.{named}
-use Rattle.der_core_head.specs.Shapes.{Shape, Value, tagged, leaf, sequence, sequence_of}
-use Rattle.x509_cert_parts.specs.ExtensionTypes as types
-use Rattle.x509_cert_parts.specs.ExtensionTypes.{ExtensionType, identifier_of}
+use Rattle.der_core_head.specs.Shapes.{tagged, leaf, sequence, sequence_of}
+use Rattle.x509_cert_parts.specs.ExtensionTypes.{id_ce}
 use Rattle.x509_cert_general_names.specs.KeyIdentifiers.{key_identifier}
 use Rattle.x509_cert_extensions.specs.Making.{extension_of}
 use Rattle.x509_cert_extensions.specs.NamedBits as bits
@@ -17,39 +16,36 @@ use Rattle.x509_cert_parts.specs.Grammar.{object_identifier, octet_string}
 use Rattle.x509_cert_general_names.specs.GeneralNames.{authority_key_identifier_fields}
 use Rattle.x509_cert_policies.specs.Policies.{basic_constraints_fields}
 
--- an extension of a type, whose content is the encoding of a value
-abbrev pub standard_extension : ExtensionType → Bool → (s : Shape) → Value s → PlainExtension
-standard_extension t critical s v = extension_of (identifier_of t) critical s v
-
 -- AuthorityKeyIdentifier with the issuer's key alone (4.2.1.1)
 abbrev pub authority_key_extension : PublicKey → PlainExtension
 authority_key_extension k =
-    standard_extension types.authority_key_identifier false
+    extension_of (id_ce 35) false
     (sequence (authority_key_identifier_fields Bound))
     (Some (key_identifier k), (None, (None, tt)))
 
 -- SubjectKeyIdentifier (4.2.1.2)
 abbrev pub subject_key_extension : PublicKey → PlainExtension
 subject_key_extension k =
-    standard_extension types.subject_key_identifier false octet_string (key_identifier k)
+    extension_of (id_ce 14) false octet_string (key_identifier k)
 
 -- BasicConstraints (4.2.1.9)
 abbrev pub constraints_extension : Bool → Option ℤ → PlainExtension
 constraints_extension ca path =
-    standard_extension types.basic_constraints true (sequence basic_constraints_fields)
+    extension_of (id_ce 19) true (sequence basic_constraints_fields)
     (ca, (path, tt))
 
 -- KeyUsage, as the number whose bits are the uses (4.2.1.3)
 abbrev pub usage_extension : ℕ → PlainExtension
 usage_extension uses =
-    standard_extension types.key_usage true (tagged tags.BitString (leaf (named 9))) uses
+    extension_of (id_ce 15) true (tagged tags.BitString (leaf (named 9))) uses
 
--- digitalSignature, keyCertSign, cRLSign
+-- digitalSignature (0)
 abbrev pub digital_signature : ℕ
-digital_signature = 2 ^ bit_of bits.digital_signature
+digital_signature = 2 ^ 0
 
+-- keyCertSign (5), cRLSign (6)
 abbrev pub cert_and_crl_sign : ℕ
-cert_and_crl_sign = 2 ^ bit_of bits.key_cert_sign + 2 ^ bit_of bits.crl_sign
+cert_and_crl_sign = 2 ^ 5 + 2 ^ 6
 
 -- what an authority's key is for; one that answers about the state of certificates signs its
 -- answers (7.1.2.10.7)
@@ -74,7 +70,7 @@ purposes clients = if clients then id_kp 1 ∷ id_kp 2 ∷ [] else id_kp 1 ∷ [
 -- ExtendedKeyUsage (4.2.1.12)
 abbrev pub purposes_extension : Bool → PlainExtension
 purposes_extension clients =
-    standard_extension types.extended_key_usage false (sequence_of (object_identifier Bound))
+    extension_of (id_ce 37) false (sequence_of (object_identifier Bound))
     (purposes clients)
 
 -- a subordinate authority (7.1.2.6.1)

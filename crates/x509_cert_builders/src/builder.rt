@@ -9,7 +9,7 @@ use std::alloc::Global;
 /// What makes a signed thing: the octets that a signer is handed are those of the signed part of
 /// what comes out.
 pub trait Builder: Sized + Drop {
-    ghost use Rattle.std.specs.Prelude.{◌≡◌, ◌⊎◌, ℕ, List, Option, Some, None, IfOk, IfErr};
+    ghost use Rattle.std.specs.Prelude.{◌≡◌, ◌⊎◌, ℕ, List, Option, Some, None, IfOk, IfErr, OnOk};
     ghost use Rattle.der_core_head.specs.BitStrings.{Bits};
     ghost use Rattle.der_core_head.specs.Shapes.{Shape, Value, octets_of};
     ghost use Rattle.x509_cert_parts.specs.Grammar.{Algorithm, PublicKey};
@@ -34,6 +34,9 @@ pub trait Builder: Sized + Drop {
     /// The part that was made last, if one was.
     ghost finalized: { Self → Option (Value part_shape) };
 
+    /// What holds of two builders of which all but the part that was made last is the same.
+    ghost is_same_otherwise: { Self → Self → Type 0 } = { λ _ _. Unit {0} };
+
     /// The algorithm of the signature of what is made of that part, by that of the signer whose
     /// signature it is.
     ghost algorithm_for: { Self → Algorithm → Algorithm };
@@ -51,8 +54,9 @@ pub trait Builder: Sized + Drop {
     ghost bits: { Self.Output → Bits };
 
     /// The octets that are to be signed. The builder keeps what they are the octets of for
-    /// `assemble`, and stays as it is otherwise, so they are the same again for the same signer,
-    /// until the builder is changed.
+    /// `assemble`, and stays as it is otherwise. So a second call for the same signer gives the same
+    /// octets, and what is added between two calls stands in the octets of the second, beside what
+    /// was added before.
     ///
     /// # Errors
     /// `Asn1` with `Overflow` where a length passes 2^32 - 1, with `OutOfMemory`, and those of the
@@ -69,6 +73,7 @@ pub trait Builder: Sized + Drop {
             ≡ Some (to_sign self.old (S.public_key signer.now) (S.signs_by signer.now))) }
         ensures bears { IfOk result (λ _. algorithm_for self.new (S.signs_by signer.now)
             ≡ S.signs_by signer.now) }
+        ensures otherwise { OnOk result (is_same_otherwise self.old self.new) }
         ensures again { (key : PublicKey) (algorithm : Algorithm) → to_sign self.new key algorithm
             ≡ to_sign self.old key algorithm }
         ensures kept { IfErr result (λ _. self.new ≡ self.old) }

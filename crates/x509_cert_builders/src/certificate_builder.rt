@@ -233,6 +233,8 @@ impl<P: BuilderProfile + Drop> Builder for CertificateBuilder<P> {
 
     ghost finalized = { λ b. plain_option written_part b.finalized };
 
+    ghost is_same_otherwise = { λ b c. c ≡ record b { finalized = c.finalized } };
+
     // A certificate bears the algorithm of its signed part (RFC 5280 4.1.1.2).
     ghost algorithm_for = { λ b a. algorithm_of_last b.finalized a };
 

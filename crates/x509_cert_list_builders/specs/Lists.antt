@@ -13,11 +13,11 @@ use Rattle.sha1.specs.Sha1.{sha1}
 use Rattle.x509_cert_certificates.specs.Certificates.{Tbs, tbs_public_key, tbs_extensions}
 use Rattle.x509_cert_lists.specs.ListGrammar.{revoked_cert_fields, tbs_cert_list_fields}
 use Rattle.x509_cert_parts.specs.ExtensionTypes as types
-use Rattle.x509_cert_parts.specs.ExtensionTypes.{identifier_of}
+use Rattle.x509_cert_parts.specs.ExtensionTypes.{id_ce, identifier_of}
 use Rattle.x509_cert_parts.specs.Grammar.{PlainExtension, PublicKey, key_bits, extensions}
 use Rattle.x509_cert_parts.specs.ExtensionSearch.{only_value, extensions_in_field}
 use Rattle.x509_cert_general_names.specs.GeneralNames.{authority_key_identifier_fields}
-use Rattle.x509_cert_builders.specs.Profiles.{standard_extension}
+use Rattle.x509_cert_extensions.specs.Making.{extension_of}
 use Rattle.x509_cert_builders.specs.Refusals.{HasNoEncoding}
 
 -- a certificate that was revoked (5.1.2.6)
@@ -69,11 +69,11 @@ abbrev pub crl_number : Shape
 crl_number = tagged tags.Integer (leaf (integer natural))
 
 abbrev pub number_extension : ℕ → PlainExtension
-number_extension n = standard_extension types.crl_number false crl_number (pos n)
+number_extension n = extension_of (id_ce 20) false crl_number (pos n)
 
 -- the key under which the list is signed (5.2.1)
 abbrev pub key_extension : PlainAuthority → PlainExtension
-key_extension a = standard_extension types.authority_key_identifier false authority_key a
+key_extension a = extension_of (id_ce 35) false authority_key a
 
 -- Why a list has no such extensions: its issuer has no such key, or one of the two has no encoding,
 -- as where a length passes 2^32 - 1.

@@ -259,6 +259,8 @@ impl<P: Profile> Builder for CrlBuilder<P> {
 
     ghost finalized = { λ b. b.finalized };
 
+    ghost is_same_otherwise = { λ b c. c ≡ record b { finalized = c.finalized } };
+
     // A list bears the algorithm of its signed part (RFC 5280 5.1.1.2).
     ghost algorithm_for = { λ b a. list_algorithm_of_last b.finalized a };
 

@@ -186,6 +186,8 @@ impl Builder for RequestBuilder {
 
     ghost finalized = { λ b. b.finalized };
 
+    ghost is_same_otherwise = { λ b c. c ≡ record b { finalized = c.finalized } };
+
     // The signed part of a request holds no algorithm (RFC 2986 4.1): the signature's is that of
     // its signer.
     ghost algorithm_for = { λ _ signer. signer };

@@ -1,14 +1,17 @@
-use Rattle.std.proofs.Common.{◌≡◌, ℕ, suc, ◌+◌, length, refl, sym, ◌∙◌, subst, arith}
+use Rattle.std.proofs.Common.{◌≡◌, ℕ, suc, ◌+◌, ◌<◌, length, refl, sym, ap, ◌∙◌, subst, arith}
 use Rattle.const_oid.specs.Bound.{Bound}
 use Rattle.x509_cert_certificates.specs.Views.{certificate_plain}
 use Rattle.cert_desk_checking.specs.declared.issuer.Issuer.TheVariants as issuers
 use Rattle.cert_desk_checking.specs.Anchors.{terms_of}
 use Rattle.cert_desk_bundle.specs.Chains.{joined}
-use Rattle.cert_desk_checking.specs.Places.{IsIssuer}
-use Rattle.cert_desk_checking.proofs.EachPlace.{SaysBefore, all_said, says-more}
+use Rattle.cert_desk_rules.specs.Judging.{Answers}
+use Rattle.cert_desk_rules.specs.Verdicts.{raised}
+use Rattle.cert_desk_checking.specs.Places.{IsIssuer, asked_each, asked_of}
+use Rattle.cert_desk_checking.proofs.EachPlace.{SaysBefore, all_said, counted-more, says-more}
 use Rattle.cert_desk_checking.proofs.Encodings.{signed_part-is}
 use Rattle.cert_desk_checking.proofs.KeptLaws.{all_say}
-use Rattle.cert_desk_checking.proofs.PlaceLaws.{entry_at, stands, told_at}
+use Rattle.cert_desk_checking.proofs.PlaceLaws.{asked_at, entry_at, stands, told_at}
+use Rattle.cert_desk_io.proofs.Given.{OnErr-by}
 use Rattle.cert_desk_checking.proofs.each_place.judge_each.Goals as goal
 
 pub loop-place-preserved : goal.loop-place-preserved
@@ -25,12 +28,15 @@ loop-place-preserved g c =
     let octets = entry.signed ∙ sym (signed_part-is Bound cs place this entry.certificate) in
     let signed = told_at c.args.anchors.now c.args.moment c.args.purpose.now answers cs s this place c.loop-place.issuer _ _ _ _ inv.issuer entry.certificate octets inv.kept c.is_signed-signed.ensures.answered refl in
     let says = all_say _ t cs s place _ (c.in_ok-kept.ensures.judged cs c.args.anchors.now place answers s at) c.in_ok-kept.ensures.signed (sym signed) in
+    let here = ap (λ (a : Answers). asked_of Bound a c.unwrap-entry.result.signed.now this c.loop-place.issuer) inv.kept
+    ∙ asked_at c.args.anchors.now c.args.moment c.args.purpose.now answers cs s this place c.loop-place.issuer _ inv.issuer entry.certificate octets in
     let next : suc place ≡ place + 1 = omega arith in
     record {
       kept = c.is_signed-signed.ensures.kept ∙ inv.kept;
       issuer = subst (λ (n : ℕ). IsIssuer cs c.args.anchors.now n (issuers.Before c.unwrap-entry.result.certificate)) next entry.certificate;
       room = c.in_ok-kept.ensures.room cs c.args.anchors.now place at;
       said = subst (λ xs. SaysBefore t cs s xs (place + 1)) (sym c.in_ok-push.ensures.items) (says-more t cs s c.loop-place.judged.items place _ says inv.said);
+      counted = counted-more t cs s place _ _ _ _ _ _ _ here inv.counted c.is_signed-signed.ensures.counted;
     }
 
 pub returns-clause-judged : goal.returns-clause-judged
@@ -40,3 +46,45 @@ returns-clause-judged g c =
     let cs = c.args.bundle.now.certificates in
     let end : c.loop-place.place ≡ length cs = omega arith in
     all_said t cs (joined Bound cs) _ c.loop-place.place end c.loop-place.invariant.said
+
+pub returns-clause-counted : goal.returns-clause-counted
+returns-clause-counted g c =
+    let answers = g.J.SignatureJudge.answers c.args.judge.now in
+    let t = terms_of c.args.anchors.now c.args.moment c.args.purpose.now answers in
+    let cs = c.args.bundle.now.certificates in
+    let end : c.loop-place.place ≡ length cs = omega arith in
+    c.loop-place.invariant.counted.questions ∙ ap (λ n. raised (g.J.SignatureJudge.questions c.args.judge.now) (asked_each t cs (joined Bound cs) n)) end
+
+pub returns-in_err-kept-clause-stopped : goal.returns-in_err-kept-clause-stopped
+returns-in_err-kept-clause-stopped g c =
+    let answers = g.J.SignatureJudge.answers c.args.judge.now in
+    let t = terms_of c.args.anchors.now c.args.moment c.args.purpose.now answers in
+    let cs = c.args.bundle.now.certificates in
+    let s = joined Bound cs in
+    let inv = c.loop-place.invariant in
+    let place = c.loop-place.place in
+    let within : place < length cs = omega arith in
+    let entry = entry_at _ _ _ _ _ c.get.ensures.entry c.unwrap-entry.ensures in
+    let this = certificate_plain c.unwrap-entry.result.certificate.now in
+    let octets = entry.signed ∙ sym (signed_part-is Bound cs place this entry.certificate) in
+    let here = ap (λ (a : Answers). asked_of Bound a c.unwrap-entry.result.signed.now this c.loop-place.issuer) inv.kept
+    ∙ asked_at c.args.anchors.now c.args.moment c.args.purpose.now answers cs s this place c.loop-place.issuer _ inv.issuer entry.certificate octets in
+    let counted = counted-more t cs s place _ _ _ _ _ _ _ here inv.counted c.is_signed-signed.ensures.counted in
+    OnErr-by c.from_residual.result _ (place + 1, omega arith, counted.questions)
+
+pub returns-in_err-push-clause-stopped : goal.returns-in_err-push-clause-stopped
+returns-in_err-push-clause-stopped g c =
+    let answers = g.J.SignatureJudge.answers c.args.judge.now in
+    let t = terms_of c.args.anchors.now c.args.moment c.args.purpose.now answers in
+    let cs = c.args.bundle.now.certificates in
+    let s = joined Bound cs in
+    let inv = c.loop-place.invariant in
+    let place = c.loop-place.place in
+    let within : place < length cs = omega arith in
+    let entry = entry_at _ _ _ _ _ c.get.ensures.entry c.unwrap-entry.ensures in
+    let this = certificate_plain c.unwrap-entry.result.certificate.now in
+    let octets = entry.signed ∙ sym (signed_part-is Bound cs place this entry.certificate) in
+    let here = ap (λ (a : Answers). asked_of Bound a c.unwrap-entry.result.signed.now this c.loop-place.issuer) inv.kept
+    ∙ asked_at c.args.anchors.now c.args.moment c.args.purpose.now answers cs s this place c.loop-place.issuer _ inv.issuer entry.certificate octets in
+    let counted = counted-more t cs s place _ _ _ _ _ _ _ here inv.counted c.is_signed-signed.ensures.counted in
+    OnErr-by c.from_residual-in_err-push.result _ (place + 1, omega arith, counted.questions)

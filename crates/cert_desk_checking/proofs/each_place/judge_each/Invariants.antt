@@ -1,10 +1,10 @@
--- Of every place so far is said which rules it keeps, and the next one's issuer and room are known.
+-- Of every place so far is said which rules it keeps, the questions are those about these places, and the next one's issuer and room are known.
 use Rattle.std.proofs.Common.{◌≡◌}
 use Rattle.const_oid.specs.Bound.{Bound}
 use Rattle.cert_desk_checking.specs.Anchors.{terms_of}
 use Rattle.cert_desk_bundle.specs.Chains.{joined}
 use Rattle.cert_desk_rules.specs.Findings.{IsRoom}
-use Rattle.cert_desk_checking.specs.Places.{IsIssuer}
+use Rattle.cert_desk_checking.specs.Places.{IsIssuer, Rises, asked_each}
 use Rattle.cert_desk_checking.proofs.EachPlace.{SaysBefore}
 use Rattle.cert_desk_checking.proofs.each_place.judge_each.Given as goal
 
@@ -14,4 +14,6 @@ invariant-loop-place g l = record {
   issuer : IsIssuer l.bundle.certificates l.anchors l.place l.issuer;
   room : IsRoom Bound l.bundle.certificates l.place l.room;
   said : SaysBefore (terms_of l.anchors l.moment l.purpose (g.J.SignatureJudge.answers l.fn.judge)) l.bundle.certificates (joined Bound l.bundle.certificates) l.judged.items l.place;
+  counted : Rises (asked_each (terms_of l.anchors l.moment l.purpose (g.J.SignatureJudge.answers l.fn.judge)) l.bundle.certificates (joined Bound l.bundle.certificates) l.place)
+      (g.J.SignatureJudge.questions l.fn.judge) 0 (g.J.SignatureJudge.questions l.judge) l.calls;
 }

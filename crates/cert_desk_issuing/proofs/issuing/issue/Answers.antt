@@ -7,7 +7,8 @@ use Rattle.cert_desk_issuing.specs.Chains.{HoldsOrders}
 use Rattle.cert_desk_issuing.specs.PlainOrders.{AreKeys, AreReady, orders_plain}
 use Rattle.cert_desk_issuing.specs.Refusals.{Refuses}
 use Rattle.cert_desk_issuing.proofs.AcceptedFronts.{all_accepted, are_keys, are_ready}
-use Rattle.cert_desk_issuing.proofs.OnlyMemory.{issuable_is_issued}
+use Rattle.cert_desk_issuing.specs.Issuable.{IsMemoryOrLong}
+use Rattle.cert_desk_issuing.proofs.OnlyMemory.{issuable_is_issued, only_long}
 use Rattle.cert_desk_issuing.proofs.issuing.issue.Goals as goal
 
 pub issue_all-requires-clause-ready : goal.issue_all-requires-clause-ready
@@ -65,3 +66,15 @@ returns-in_err-issued-clause-complete g c = λ issuable.
     let s = g.S.Signer in
     let p = err_from_is_err_and c.from_residual-in_err-issued.result c.from_residual-in_err-issued.ensures.1 in
     rw p.1 (issuable_is_issued s.public_key s.signs_by s.signs s.may_refuse c.args.orders.now c.args.signers.now p.0 issuable (subst (λ r. IfErr r (Refuses s.public_key s.signs_by s.signs s.may_refuse c.args.orders.now c.args.signers.now)) p.1 (returns-in_err-issued-clause-refused g c)))
+
+pub returns-in_err-accepted-clause-signable : goal.returns-in_err-accepted-clause-signable
+returns-in_err-accepted-clause-signable g c = λ signable.
+    let s = g.S.Signer in
+    let p = err_from_is_err_and c.from_residual.result c.from_residual.ensures.1 in
+    rw (p.1, p.2) (only_long s.public_key s.signs_by s.signs s.may_refuse c.args.orders.now c.args.signers.now signable c.in_err-accepted.field-0.0 c.in_err-accepted.ensures.refused)
+
+pub returns-in_err-issued-clause-signable : goal.returns-in_err-issued-clause-signable
+returns-in_err-issued-clause-signable g c = λ signable.
+    let s = g.S.Signer in
+    let p = err_from_is_err_and c.from_residual-in_err-issued.result c.from_residual-in_err-issued.ensures.1 in
+    rw p.1 (only_long s.public_key s.signs_by s.signs s.may_refuse c.args.orders.now c.args.signers.now signable p.0 (subst (λ r. IfErr r (Refuses s.public_key s.signs_by s.signs s.may_refuse c.args.orders.now c.args.signers.now)) p.1 (returns-in_err-issued-clause-refused g c)))
