@@ -1,5 +1,5 @@
 //! Runs of commands, over inputs that have names.
-ghost use Rattle.std.specs.Prelude.{◌⊎◌, ◌≤◌, map, string_bytes};
+ghost use Rattle.std.specs.Prelude.{◌≤◌, map, string_bytes};
 ghost use Rattle.cert_desk_io.specs.Devices.{sink};
 ghost use Rattle.cert_desk_io.specs.NamedInputs.{inputs};
 ghost use Rattle.cert_desk_checking.specs.Runs.{judging};
@@ -24,7 +24,8 @@ fn check<I: Input + Drop, F: NamedInputs<I>, O: Output, E: Output, J: SignatureJ
     judge: &mut J,
 ) -> ExitStatus
     requires { 6 ≤ arguments.now.limit }
-    ensures told { IsChecked (inputs I.takes I.is_ended I.failures (F.is_opened files.now))
+    ensures told { IsChecked (inputs I.takes I.is_ended I.failures (F.is_opened files.now)
+        (F.is_unopened files.now))
         (judging J.answers J.questions judge.old judge.new)
         (sink O.gives O.failures out.old out.new) (sink E.gives E.failures err.old err.new)
         arguments.now result }
@@ -59,7 +60,8 @@ fn show<I: Input + Drop, F: NamedInputs<I>, O: Output, E: Output>(
     out: &mut O,
     err: &mut E,
 ) -> ExitStatus
-    ensures told { IsShown (inputs I.takes I.is_ended I.failures (F.is_opened files.now))
+    ensures told { IsShown (inputs I.takes I.is_ended I.failures (F.is_opened files.now)
+        (F.is_unopened files.now))
         (sink O.gives O.failures out.old out.new) (sink E.gives E.failures err.old err.new)
         kind file.now result }
 {
@@ -78,7 +80,8 @@ fn issue<I: Input + Drop, F: NamedInputs<I>, O: Output, E: Output>(
     out: &mut O,
     err: &mut E,
 ) -> ExitStatus
-    ensures told { IsIssued (inputs I.takes I.is_ended I.failures (F.is_opened files.now))
+    ensures told { IsIssued (inputs I.takes I.is_ended I.failures (F.is_opened files.now)
+        (F.is_unopened files.now))
         (sink O.gives O.failures out.old out.new) (sink E.gives E.failures err.old err.new)
         orders.now result }
 {
@@ -99,7 +102,8 @@ fn run<I: Input + Drop, F: NamedInputs<I>, O: Output, E: Output, J: SignatureJud
     judge: &mut J,
 ) -> ExitStatus
     requires { HasLimit command.now }
-    ensures told { IsRun (inputs I.takes I.is_ended I.failures (F.is_opened files.now))
+    ensures told { IsRun (inputs I.takes I.is_ended I.failures (F.is_opened files.now)
+        (F.is_unopened files.now))
         (judging J.answers J.questions judge.old judge.new)
         (sink O.gives O.failures out.old out.new) (sink E.gives E.failures err.old err.new)
         command.now result }
@@ -122,7 +126,8 @@ pub fn obey<I: Input + Drop, F: NamedInputs<I>, O: Output, E: Output, J: Signatu
     err: &mut E,
     judge: &mut J,
 ) -> ExitStatus
-    ensures obeyed { IsObeyed (inputs I.takes I.is_ended I.failures (F.is_opened files.now))
+    ensures obeyed { IsObeyed (inputs I.takes I.is_ended I.failures (F.is_opened files.now)
+        (F.is_unopened files.now))
         (judging J.answers J.questions judge.old judge.new)
         (sink O.gives O.failures out.old out.new) (sink E.gives E.failures err.old err.new)
         (map string_bytes words.now) result }

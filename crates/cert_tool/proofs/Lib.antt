@@ -1,4 +1,5 @@
 mod SplitLaws
 mod JsonSteps
+mod PassedLaws
 mod SentLaws
 mod ServingLaws

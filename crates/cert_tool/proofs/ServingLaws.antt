@@ -1,5 +1,5 @@
 -- Requests that are told apart, their words, and what was answered so far.
-use Rattle.std.proofs.Common.{◌≡◌, ℕ, ◌<◌, ◌^◌, ◌≤◌, ◌||◌, ◌⊎◌, inl, inr, Bool, true, false, List, [], ◌∷◌, ◌++◌, length, map, take, drop, take_at, refl, sym, ap, subst, ◌∙◌}
+use Rattle.std.proofs.Common.{◌≡◌, ℕ, ◌<◌, ◌^◌, ◌≤◌, ◌||◌, ◌⊎◌, inl, inr, Bool, true, false, List, [], ◌∷◌, ◌++◌, length, map, refl, sym, ap, subst, ◌∙◌}
 use Rattle.std.proofs.lemmas.Bool.{false≢true}
 use Rattle.std.specs.Prelude.{IsUtf8}
 use Rattle.std.specs.List.{list_any}
@@ -8,18 +8,10 @@ use Rattle.cert_desk_io.specs.Devices.{Device, sink, source}
 use Rattle.cert_desk_io.specs.NamedInputs.{Inputs}
 use Rattle.cert_desk_frames.specs.declared.frame_error.FrameError.{FrameError}
 use Rattle.cert_desk_frames.specs.declared.frame_error.FrameError.TheVariants as errors
-use Rattle.cert_desk_frames.specs.Frames.{frame, number_octets}
-use Rattle.cert_desk_frames.proofs.FrameLaws.{same_number}
-use Rattle.cert_tool.specs.TaskRuns.{IsObeyed, asks_of_program}
+use Rattle.cert_desk_frames.specs.Frames.{frame}
+use Rattle.cert_tool.proofs.SentLaws.{same_content}
+use Rattle.cert_tool.specs.TaskRuns.{Clock, IsObeyed, asks_of_program}
 use Rattle.cert_tool.specs.Serving.{AreReplies, ComesTo, HasNoReply, IsNextServed, IsRequest, more, words_in}
-
--- frames with which the same octets begin have the same content
-same_content : (a b x y : List ℕ) → length a < 2 ^ 32 → length b < 2 ^ 32 → frame a ++ x ≡ frame b ++ y → a ≡ b
-same_content a b x y small_a small_b whole =
-    let number : number_octets (length a) ≡ number_octets (length b) = ap (take 4) whole in
-    let len : length a ≡ length b = same_number (length a) (length b) small_a small_b number in
-    let left : a ++ x ≡ b ++ y = ap (drop 4) whole in
-    sym (take_at a x (length a) refl) ∙ ap (take (length a)) left ∙ take_at b y (length a) (sym len)
 
 -- octets whose text isn't UTF-8 are no request
 pub no_request : (octets text parts : List ℕ) → octets ≡ frame text ++ parts → length text < 2 ^ 32 → (IsUtf8 text → ⊥) → (other : List ℕ) → (behind : List ℕ) → IsRequest octets other behind → ⊥
@@ -31,25 +23,25 @@ any_map f p [] = refl
 any_map f p (word ∷ words) = ap (λ (b : Bool). p (f word) || b) (any_map f p words)
 
 -- what is done for words is done for the lines that they are
-pub obeyed : {A : Type 0} (f : A → List ℕ) (i : Inputs) (out err : Device) (words : List A) (text : List ℕ) (status : ExitStatus) → map f words ≡ words_in text → IsObeyed i out err (map f words) (list_any (λ word. asks_of_program (f word)) words) status → IsObeyed i out err (words_in text) (list_any asks_of_program (words_in text)) status
-obeyed f i out err words text status are is =
+pub obeyed : {A : Type 0} (f : A → List ℕ) (tells : Clock) (i : Inputs) (out err : Device) (words : List A) (text : List ℕ) (status : ExitStatus) → map f words ≡ words_in text → IsObeyed tells i out err (map f words) (list_any (λ word. asks_of_program (f word)) words) status → IsObeyed tells i out err (words_in text) (list_any asks_of_program (words_in text)) status
+obeyed f tells i out err words text status are is =
     let asks : list_any (λ word. asks_of_program (f word)) words ≡ list_any asks_of_program (words_in text) = any_map f asks_of_program words ∙ ap (list_any asks_of_program) are in
-    subst (λ (b : Bool). IsObeyed i out err (words_in text) b status) asks
-    (subst (λ (ws : List (List ℕ)). IsObeyed i out err ws (list_any (λ word. asks_of_program (f word)) words) status) are is)
+    subst (λ (b : Bool). IsObeyed tells i out err (words_in text) b status) asks
+    (subst (λ (ws : List (List ℕ)). IsObeyed tells i out err ws (list_any (λ word. asks_of_program (f word)) words) status) are is)
 
 -- octets that come to outputs which aren't framed have no reply
-pub no_reply : (octets : List ℕ) (status : ExitStatus) (output others : List ℕ) → ComesTo octets status output others → (error : FrameError) → ((error ≡ errors.TooLong) × ((2 ^ 32 ≤ length output) ⊎ (2 ^ 32 ≤ length others))) ⊎ (error ≡ errors.OutOfMemory) → HasNoReply octets error
-no_reply octets status output others comes error (inl is) = subst (HasNoReply octets) (sym is.0) (status, output, others, comes, is.1)
-no_reply octets status output others comes error (inr is) = subst (HasNoReply octets) (sym is) tt
+pub no_reply : (tells : Clock) (octets : List ℕ) (status : ExitStatus) (output others : List ℕ) → ComesTo tells octets status output others → (error : FrameError) → ((error ≡ errors.TooLong) × ((2 ^ 32 ≤ length output) ⊎ (2 ^ 32 ≤ length others))) ⊎ (error ≡ errors.OutOfMemory) → HasNoReply tells octets error
+no_reply tells octets status output others comes error (inl is) = subst (HasNoReply tells octets) (sym is.0) (status, output, others, comes, is.1)
+no_reply tells octets status output others comes error (inr is) = subst (HasNoReply tells octets) (sym is) tt
 
-module _ {S T : Type 0} (takes : S → List ℕ → S → Type 0) (is_ended : S → Type 0) (failures : S → ℕ) (gives : T → List ℕ → T → Type 0) (lost : T → ℕ) where
+module _ {S T : Type 0} (tells : Clock) (takes : S → List ℕ → S → Type 0) (is_ended : S → Type 0) (failures : S → ℕ) (gives : T → List ℕ → T → Type 0) (lost : T → ℕ) where
   -- replies to the frames that were read went out, in turn
   abbrev pub SoFar : S → S → T → T → Type 0
-  SoFar a b x y = (asked : List ℕ) × (answered : List ℕ) × AreReplies asked answered × takes a asked b × (failures b ≡ failures a) × gives x answered y × (lost y ≡ lost x)
+  SoFar a b x y = (asked : List ℕ) × (answered : List ℕ) × AreReplies tells asked answered × takes a asked b × (failures b ≡ failures a) × gives x answered y × (lost y ≡ lost x)
 
   -- the reply to a next frame behind those so far
   pub one_more : ((a b c : S) (first second : List ℕ) → takes a first b → takes b second c → takes a (first ++ second) c) → ((a b c : T) (first second : List ℕ) → gives a first b → gives b second c → gives a (first ++ second) c)
-      → (a b c : S) (x y z : T) (goes_on : Bool) → SoFar a b x y → IsNextServed (source takes is_ended failures b c) (sink gives lost y z) goes_on → goes_on ≡ true → SoFar a c x z
+      → (a b c : S) (x y z : T) (goes_on : Bool) → SoFar a b x y → IsNextServed tells (source takes is_ended failures b c) (sink gives lost y z) goes_on → goes_on ≡ true → SoFar a c x z
   one_more in_turn out_in_turn a b c x y z true so_far next is = (
     so_far.0 ++ frame next.0,
     so_far.1 ++ next.1,
@@ -62,6 +54,6 @@ module _ {S T : Type 0} (takes : S → List ℕ → S → Type 0) (is_ended : S 
   one_more in_turn out_in_turn a b c x y z false so_far next is = absurd (false≢true is)
 
   -- the input ended before a next one
-  pub ended : (b c : S) (y z : T) (goes_on : Bool) → IsNextServed (source takes is_ended failures b c) (sink gives lost y z) goes_on → goes_on ≡ false → IsNextServed (source takes is_ended failures b c) (sink gives lost y z) false
+  pub ended : (b c : S) (y z : T) (goes_on : Bool) → IsNextServed tells (source takes is_ended failures b c) (sink gives lost y z) goes_on → goes_on ≡ false → IsNextServed tells (source takes is_ended failures b c) (sink gives lost y z) false
   ended b c y z false next is = next
   ended b c y z true next is = absurd (false≢true (sym is))

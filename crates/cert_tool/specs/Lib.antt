@@ -3,6 +3,7 @@ pub mod Tasks
 pub mod Stops
 pub mod Asking
 pub mod Verifying
+pub mod Explaining
 pub mod JsonTexts
 pub mod Splitting
 pub mod TaskRuns

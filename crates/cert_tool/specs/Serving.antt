@@ -15,8 +15,8 @@ use Rattle.cert_desk_io.specs.Writers.{write_failures, writer_of}
 use Rattle.cert_desk_frames.specs.declared.frame_error.FrameError.{FrameError}
 use Rattle.cert_desk_frames.specs.declared.frame_error.FrameError.TheVariants as errors
 use Rattle.cert_desk_frames.specs.Frames.{IsNext, IsUnread, frame}
-use Rattle.cert_tool.specs.TaskRuns.{IsObeyed, asks_of_program}
-use Rattle.cert_tool.specs.Sending.{IsSent}
+use Rattle.cert_tool.specs.TaskRuns.{Clock, IsObeyed, asks_of_program}
+use Rattle.cert_tool.specs.Sending.{IsNotSent, IsSent}
 
 -- the most octets of a request, 64 MiB
 abbrev pub request_limit : ℕ
@@ -26,7 +26,7 @@ request_limit = 64 * 2 ^ 20
 abbrev pub sent_inputs : List ℕ → Inputs
 sent_inputs parts =
     inputs (λ a octets b. octets_left a ≡ octets ++ octets_left b) HasEnded read_failures
-    (λ name input. IsSent name (octets_left input) parts)
+    (λ name input. IsSent name (octets_left input) parts) (λ name error. IsNotSent name parts error)
 
 -- the words of a text, one a line
 abbrev pub words_in : List ℕ → List (List ℕ)
@@ -39,10 +39,10 @@ IsRequest octets text parts =
 
 -- What becomes of octets: the words of this request are obeyed, on its inputs; or they are no
 -- request, and nothing is done.
-abbrev pub IsRequestObeyed : Device → Device → List ℕ → ExitStatus → Type 0
-IsRequestObeyed out err octets status =
+abbrev pub IsRequestObeyed : Clock → Device → Device → List ℕ → ExitStatus → Type 0
+IsRequestObeyed tells out err octets status =
     ((text : List ℕ) × (parts : List ℕ) × IsRequest octets text parts
-    × IsObeyed (sent_inputs parts) out err (words_in text)
+    × IsObeyed tells (sent_inputs parts) out err (words_in text)
     (list_any asks_of_program (words_in text)) status)
     ⊎ (((text : List ℕ) → (parts : List ℕ) → IsRequest octets text parts → ⊥)
     × Untouched out × Untouched err × (status ≡ statuses.Arguments))
@@ -60,13 +60,14 @@ vec_sink old new =
 
 -- What octets come to, with outputs that are empty before: a status, what goes to the output, and
 -- what goes to the error output.
-pub record ComesTo (octets : List ℕ) (status : ExitStatus) (output errors : List ℕ) : Type 0 where
+pub record ComesTo (tells : Clock) (octets : List ℕ) (status : ExitStatus)
+    (output errors : List ℕ) : Type 0 where
   pub old_output : VecOutput
   pub new_output : VecOutput
   pub old_errors : VecOutput
   pub new_errors : VecOutput
   pub empty : (vec_octets old_output ≡ []) × (vec_octets old_errors ≡ [])
-  pub is_obeyed : IsRequestObeyed (vec_sink old_output new_output)
+  pub is_obeyed : IsRequestObeyed tells (vec_sink old_output new_output)
       (vec_sink old_errors new_errors) octets status
   pub written : (vec_octets new_output ≡ output) × (vec_octets new_errors ≡ errors)
 
@@ -75,36 +76,36 @@ abbrev pub reply_frames : ExitStatus → List ℕ → List ℕ → List ℕ
 reply_frames status output errors = frame (code_of status ∷ []) ++ (frame output ++ frame errors)
 
 -- the reply to octets
-abbrev pub IsReply : List ℕ → List ℕ → Type 0
-IsReply octets reply =
+abbrev pub IsReply : Clock → List ℕ → List ℕ → Type 0
+IsReply tells octets reply =
     (status : ExitStatus) × (output : List ℕ) × (errors : List ℕ)
-    × ComesTo octets status output errors × (reply ≡ reply_frames status output errors)
+    × ComesTo tells octets status output errors × (reply ≡ reply_frames status output errors)
 
 -- Why there is none: 2^32 octets or more went to an output, or there was no memory.
-abbrev pub HasNoReply : List ℕ → FrameError → Type 0
-HasNoReply octets errors.TooLong =
+abbrev pub HasNoReply : Clock → List ℕ → FrameError → Type 0
+HasNoReply tells octets errors.TooLong =
     (status : ExitStatus) × (output : List ℕ) × (errors : List ℕ)
-    × ComesTo octets status output errors
+    × ComesTo tells octets status output errors
     × ((2 ^ 32 ≤ length output) ⊎ (2 ^ 32 ≤ length errors))
-HasNoReply octets errors.OutOfMemory = Unit {0}
-HasNoReply octets errors.Cut = ⊥
-HasNoReply octets errors.Device = ⊥
+HasNoReply tells octets errors.OutOfMemory = Unit {0}
+HasNoReply tells octets errors.Cut = ⊥
+HasNoReply tells octets errors.Device = ⊥
 
 -- The reply to the next frame's content went out; or the input ended before one.
-abbrev pub IsNextServed : Device → Device → Bool → Type 0
-IsNextServed input output true =
+abbrev pub IsNextServed : Clock → Device → Device → Bool → Type 0
+IsNextServed tells input output true =
     (octets : List ℕ) × (reply : List ℕ) × IsNext input request_limit (Some octets)
-    × IsReply octets reply × IsWritten output reply
-IsNextServed input output false = IsNext input request_limit None × Untouched output
+    × IsReply tells octets reply × IsWritten output reply
+IsNextServed tells input output false = IsNext input request_limit None × Untouched output
 
 -- Why none did: the frame wasn't read, there is no reply, or a write failed.
-abbrev pub IsNextUnserved : Device → Device → FrameError → Type 0
-IsNextUnserved input output error =
+abbrev pub IsNextUnserved : Clock → Device → Device → FrameError → Type 0
+IsNextUnserved tells input output error =
     (IsUnread input request_limit error × Untouched output)
-    ⊎ ((octets : List ℕ) × IsNext input request_limit (Some octets) × HasNoReply octets error
+    ⊎ ((octets : List ℕ) × IsNext input request_limit (Some octets) × HasNoReply tells octets error
     × Untouched output)
     ⊎ ((octets : List ℕ) × (reply : List ℕ) × IsNext input request_limit (Some octets)
-    × IsReply octets reply × IsCut output reply × (error ≡ errors.Device))
+    × IsReply tells octets reply × IsCut output reply × (error ≡ errors.Device))
 
 -- how that is told
 abbrev pub IsUnservedTold : Device → FrameError → ExitStatus → Type 0
@@ -115,21 +116,21 @@ IsUnservedTold err errors.Device status = IsDeviceTold err status
 IsUnservedTold err errors.OutOfMemory status = IsMemoryTold err status
 
 -- The first octets are frames, and the second the replies to what they hold, in turn.
-pub data AreReplies : List ℕ → List ℕ → Type 0 where
-  none : AreReplies [] []
-  more : (asked replied octets reply : List ℕ) → AreReplies asked replied
-      → IsReply octets reply → AreReplies (asked ++ frame octets) (replied ++ reply)
+pub data AreReplies (tells : Clock) : List ℕ → List ℕ → Type 0 where
+  none : AreReplies tells [] []
+  more : (asked replied octets reply : List ℕ) → AreReplies tells asked replied
+      → IsReply tells octets reply → AreReplies tells (asked ++ frame octets) (replied ++ reply)
 
 -- Replies to frames went out, in turn, until the input ended behind one; or until there was none
 -- for a next one, and why is told.
-abbrev pub IsServed : Device → Device → Device → ExitStatus → Type 0
-IsServed input output err status =
-    (asked : List ℕ) × (replied : List ℕ) × AreReplies asked replied
+abbrev pub IsServed : Clock → Device → Device → Device → ExitStatus → Type 0
+IsServed tells input output err status =
+    (asked : List ℕ) × (replied : List ℕ) × AreReplies tells asked replied
     × (read : input.State) × (written : output.State)
     × Moved (record input { new = read }) asked × Sound (record input { new = read })
     × IsWritten (record output { new = written }) replied
-    × ((IsNextServed (record input { old = read }) (record output { old = written }) false
+    × ((IsNextServed tells (record input { old = read }) (record output { old = written }) false
     × Untouched err × (status ≡ statuses.Done))
     ⊎ ((error : FrameError)
-    × IsNextUnserved (record input { old = read }) (record output { old = written }) error
+    × IsNextUnserved tells (record input { old = read }) (record output { old = written }) error
     × IsUnservedTold err error status))

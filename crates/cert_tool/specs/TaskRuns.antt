@@ -1,10 +1,12 @@
 -- What becomes of a task.
-use Rattle.std.specs.Prelude.{◌≡◌, ℕ, ◌⊎◌, List, Option, Some, None, Result, Ok, Err, IsTrue, Bool}
-use Rattle.std.specs.Prelude.{bytes_eq, codes, ◌||◌}
+use Rattle.std.specs.Prelude.{◌≡◌, ℕ, ◌⊎◌, List, [], ◌∷◌, Option, Some, None, Result, Ok, Err}
+use Rattle.std.specs.Prelude.{IsTrue, Bool, false, bytes_eq, codes, ◌||◌}
 use Rattle.cert_desk_io.specs.declared.exit_status.ExitStatus.{ExitStatus}
 use Rattle.cert_desk_io.specs.declared.exit_status.ExitStatus.TheVariants as statuses
 use Rattle.cert_desk_io.specs.Devices.{Device, Untouched}
-use Rattle.cert_desk_io.specs.NamedInputs.{Inputs, OfOpened}
+use Rattle.cert_desk_io.specs.declared.named_inputs.OpenError.{OpenError}
+use Rattle.cert_desk_io.specs.NamedInputs.{AreUnopened, Inputs, OfOpened, unopened_status}
+use Rattle.cert_desk_io.specs.Whole.{IsWhole, most_octets}
 use Rattle.cert_desk_rules.specs.declared.answers_judge.AnswersJudge.{AnswersJudge}
 use Rattle.cert_desk_checking.specs.declared.outcome.Outcome.{Outcome}
 use Rattle.cert_desk_checking.specs.Anchors.{purpose_plain}
@@ -13,6 +15,8 @@ use Rattle.cert_desk_rules.specs.Judges.{judge_answers, judge_questions}
 use Rattle.cert_desk_rules.specs.Questions.{Question}
 use Rattle.cert_desk_checking.specs.Runs.{IsOutcome, judging}
 use Rattle.cert_desk_bundle.specs.Streams.{Kept}
+use Rattle.cert_tool_explain.specs.declared.kind.Kind.{Kind}
+use Rattle.cert_tool_explain.specs.Describing.{IsDescribed}
 use Rattle.cert_tool.specs.declared.arguments.Moment.{Moment}
 use Rattle.cert_tool.specs.declared.arguments.Moment.TheVariants as moments
 use Rattle.cert_desk_answers.specs.declared.no_answers.NoAnswers.{NoAnswers}
@@ -21,19 +25,59 @@ use Rattle.cert_tool.specs.declared.tasks.Command.{Command}
 use Rattle.cert_tool.specs.declared.tasks.Misuse.{Misuse}
 use Rattle.cert_tool.specs.declared.tasks.Task.{Task}
 use Rattle.cert_tool.specs.Asking.{IsAsked, IsAskedTold}
-use Rattle.cert_tool.specs.Splitting.{IsListed, IsReversed, IsTaken}
+use Rattle.cert_tool.specs.Explaining.{IsExplained, IsNotRead, IsPassed, IsSaid}
+use Rattle.cert_tool.specs.Splitting.{IsEndTold, IsListed, IsReversed, IsTaken}
 use Rattle.cert_tool.specs.Stops.{FedWithin}
 use Rattle.cert_tool.specs.Tasks.{AsksFor, IsMisuse}
 use Rattle.cert_tool.specs.Verifying.{AreAnswers, IsNoneTold, IsToldAs}
 
--- the seconds that are meant; of the present any
-abbrev pub IsMeant : Moment → ℕ → Type 0
-IsMeant moments.Now seconds = Unit {0}
-IsMeant (moments.Seconds n) seconds = seconds ≡ n
+-- what a clock tells: seconds since 1970, or none
+abbrev pub Clock : Type 1
+Clock = Option ℕ → Type 0
+
+-- the seconds that are meant; of the present those that the clock tells
+abbrev pub IsMeant : Clock → Moment → ℕ → Type 0
+IsMeant tells moments.Now seconds = tells (Some seconds)
+IsMeant tells (moments.Seconds n) seconds = seconds ≡ n
+
+-- the present is meant, and the clock doesn't tell it
+abbrev pub IsUntimed : Clock → Moment → Type 0
+IsUntimed tells moments.Now = tells None
+IsUntimed tells (moments.Seconds n) = ⊥
 
 -- an output until a state, behind which more may be told
 abbrev pub ToldFirst : Device → (Device → Type 0) → Type 0
 ToldFirst d Holds = (between : d.State) × Holds (record d { new = between })
+
+-- an output from a state on, before which more may be told
+abbrev pub ToldLast : Device → (Device → Type 0) → Type 0
+ToldLast d Holds = (between : d.State) × Holds (record d { old = between })
+
+-- Of the inputs of these names, which are opened in turn, one isn't, and why gives the status.
+abbrev pub IsUnopened : Inputs → List (List ℕ) → ExitStatus → Type 0
+IsUnopened i names answer =
+    (error : OpenError) × AreUnopened i names error × (answer ≡ unopened_status error)
+
+-- The input of a task's file is opened, and of it this holds; or it isn't.
+abbrev pub OfFile : Inputs → Device → Task → ExitStatus → (Device → Type 0) → Type 0
+OfFile i out task answer Holds =
+    OfOpened i task.file.now Holds
+    ⊎ (Untouched out × IsUnopened i (task.file.now ∷ []) answer)
+
+-- the names of the inputs of a chain that is judged, as they are opened
+abbrev pub judged_names : Task → List (List ℕ)
+judged_names task = task.answers.now ∷ task.anchors.now ∷ task.file.now ∷ []
+
+-- The seconds are had that are meant, and then the inputs of a chain that is judged are opened, and
+-- of them this holds; or what isn't had ends the run.
+abbrev pub OfJudged : Clock → Inputs → Device → Task → ExitStatus
+    → (Device → Device → Device → ℕ → Type 0) → Type 0
+OfJudged tells i out task answer Holds =
+    ((seconds : ℕ) × IsMeant tells task.moment seconds
+    × (OfOpened i task.answers.now (λ answers. OfOpened i task.anchors.now (λ anchors.
+    OfOpened i task.file.now (λ stream. Holds answers anchors stream seconds)))
+    ⊎ (Untouched out × IsUnopened i (judged_names task) answer)))
+    ⊎ (IsUntimed tells task.moment × Untouched out × (answer ≡ statuses.Device))
 
 -- A chain is judged by answers, at these seconds: the answers are read, and the run is as `check`
 -- says under a judge that says yes to these alone; or there are none, which is told.
@@ -48,12 +92,18 @@ IsJudged answers anchors stream out err seconds task answer =
     ⊎ ((none : NoAnswers) × AreAnswers answers (Err none) × Untouched anchors × Untouched stream
     × Untouched out × IsNoneTold err none answer)
 
--- `verify`: the inputs are those of the task's names
-abbrev pub IsVerified : Inputs → Device → Device → Task → ExitStatus → Type 0
-IsVerified i out err task answer =
-    OfOpened i task.answers.now (λ answers. OfOpened i task.anchors.now (λ anchors.
-    OfOpened i task.file.now (λ stream. (seconds : ℕ) × IsMeant task.moment seconds
-    × ToldFirst err (λ told. IsJudged answers anchors stream out told seconds task answer))))
+-- `verify`
+abbrev pub IsVerified : Clock → Inputs → Device → Device → Task → ExitStatus → Type 0
+IsVerified tells i out err task answer =
+    OfJudged tells i out task answer (λ answers anchors stream seconds.
+    ToldFirst err (λ told. IsJudged answers anchors stream out told seconds task answer))
+
+-- `explain chain`
+abbrev pub IsChainExplained : Clock → Inputs → Device → Device → Task → ExitStatus
+    → Type 0
+IsChainExplained tells i out err task answer =
+    OfJudged tells i out task answer (λ answers anchors stream seconds.
+    ToldFirst err (λ told. IsExplained answers anchors stream out told task.limit answer))
 
 -- `questions`
 abbrev pub IsListedFor : Inputs → Device → Device → Task → ExitStatus → Type 0
@@ -61,6 +111,7 @@ IsListedFor i out err task answer =
     OfOpened i task.anchors.now (λ anchors. OfOpened i task.file.now (λ stream.
     (found : Result (List ℕ) Outcome) × IsAsked anchors stream task.limit found
     × ToldFirst err (λ told. IsAskedTold out told found answer)))
+    ⊎ (Untouched out × IsUnopened i (task.anchors.now ∷ task.file.now ∷ []) answer)
 
 -- `split`
 abbrev pub IsSplitAt : Bool → Option ℕ → Device → Device → Kept → ExitStatus → Type 0
@@ -69,29 +120,62 @@ IsSplitAt json (Some place) out err kept answer = IsTaken out err kept place ans
 
 abbrev pub IsSplit : Inputs → Device → Device → Task → ExitStatus → Type 0
 IsSplit i out err task answer =
-    OfOpened i task.file.now (λ stream. (kept : Kept) × FedWithin stream task.limit kept
+    OfFile i out task answer (λ stream. (kept : Kept) × FedWithin stream task.limit kept
     × ToldFirst err (λ told. IsSplitAt task.json task.place out told kept answer))
 
 -- `reverse`
 abbrev pub IsTurned : Inputs → Device → Device → Task → ExitStatus → Type 0
 IsTurned i out err task answer =
-    OfOpened i task.file.now (λ stream. (kept : Kept) × FedWithin stream task.limit kept
+    OfFile i out task answer (λ stream. (kept : Kept) × FedWithin stream task.limit kept
     × ToldFirst err (λ told. IsReversed out told kept answer))
 
--- a file isn't opened, or the clock not read
-abbrev pub IsStopped : Device → ExitStatus → Type 0
-IsStopped out answer = Untouched out × ((answer ≡ statuses.Device) ⊎ (answer ≡ statuses.Memory))
+-- `describe stream`
+abbrev pub IsEachDescribed : Inputs → Device → Device → Task → ExitStatus → Type 0
+IsEachDescribed i out err task answer =
+    OfFile i out task answer (λ stream. (ended : Option Outcome) × IsPassed stream out ended
+    × ToldFirst err (λ told. ToldLast told (λ last. IsEndTold last ended answer)))
 
--- What becomes of a task; of what is described and explained nothing is said here.
-abbrev pub IsDoneBy : Command → Inputs → Device → Device → Task → ExitStatus → Type 0
-IsDoneBy commands.Verify i out err task answer = IsVerified i out err task answer
-IsDoneBy commands.Questions i out err task answer = IsListedFor i out err task answer
-IsDoneBy commands.Split i out err task answer = IsSplit i out err task answer
-IsDoneBy commands.Reverse i out err task answer = IsTurned i out err task answer
-IsDoneBy _ i out err task answer = Unit {0}
+-- The input of this name isn't read whole, which is told, or it isn't opened.
+abbrev pub IsNotHad : Inputs → List ℕ → Device → ExitStatus → Type 0
+IsNotHad i name err answer =
+    OfOpened i name (λ input. ToldFirst err (λ told. IsNotRead input told answer))
+    ⊎ IsUnopened i (name ∷ []) answer
 
-abbrev pub IsDone : Inputs → Device → Device → Task → ExitStatus → Type 0
-IsDone i out err task answer = IsDoneBy task.command i out err task answer ⊎ IsStopped out answer
+-- A task's file is read whole, and then this holds of its octets and of the error output; or it
+-- isn't had.
+abbrev pub OfWhole : Inputs → Device → Device → Task → ExitStatus → (List ℕ → Device → Type 0)
+    → Type 0
+OfWhole i out err task answer Holds =
+    ((octets : List ℕ) × OfOpened i task.file.now (λ input. IsWhole input most_octets octets)
+    × ToldLast err (Holds octets))
+    ⊎ (Untouched out × IsNotHad i task.file.now err answer)
+
+-- `describe KIND`
+abbrev pub IsFileDescribed : Kind → Inputs → Device → Device → Task → ExitStatus → Type 0
+IsFileDescribed kind i out err task answer =
+    OfWhole i out err task answer (λ octets told. IsDescribed kind octets out told answer)
+
+-- `explain KIND`, `explain anchors`, `explain stream`
+abbrev pub IsFileExplained : Inputs → Device → Device → Task → ExitStatus → Type 0
+IsFileExplained i out err task answer =
+    OfWhole i out err task answer (λ octets told. IsSaid out told answer)
+
+-- What becomes of a task.
+abbrev pub IsDoneBy : Command → Clock → Inputs → Device → Device → Task → ExitStatus
+    → Type 0
+IsDoneBy commands.Verify tells i out err task answer = IsVerified tells i out err task answer
+IsDoneBy commands.Questions tells i out err task answer = IsListedFor i out err task answer
+IsDoneBy commands.Split tells i out err task answer = IsSplit i out err task answer
+IsDoneBy commands.Reverse tells i out err task answer = IsTurned i out err task answer
+IsDoneBy (commands.Describe kind) tells i out err task answer =
+    IsFileDescribed kind i out err task answer
+IsDoneBy commands.DescribeStream tells i out err task answer = IsEachDescribed i out err task answer
+IsDoneBy commands.ExplainChain tells i out err task answer =
+    IsChainExplained tells i out err task answer
+IsDoneBy _ tells i out err task answer = IsFileExplained i out err task answer
+
+abbrev pub IsDone : Clock → Inputs → Device → Device → Task → ExitStatus → Type 0
+IsDone tells i out err task answer = IsDoneBy task.command tells i out err task answer
 
 -- whether words ask for help, or which program it is
 abbrev pub asks_of_program : List ℕ → Bool
@@ -99,10 +183,13 @@ asks_of_program word =
     bytes_eq word (codes "--help") || (bytes_eq word (codes "-h")
     || bytes_eq word (codes "--version"))
 
--- What becomes of words: the program tells of itself, the task is done that they ask for, or what
--- is wrong with them is told.
-abbrev pub IsObeyed : Inputs → Device → Device → List (List ℕ) → Bool → ExitStatus → Type 0
-IsObeyed i out err words of_program answer =
+-- What becomes of words: the program tells of itself where they ask for that; else the task is done
+-- that they ask for, or what is wrong with them is told. The texts of the first and the last aren't
+-- given here.
+abbrev pub IsObeyed : Clock → Inputs → Device → Device → List (List ℕ) → Bool
+    → ExitStatus → Type 0
+IsObeyed tells i out err words of_program answer =
     (IsTrue of_program × ((answer ≡ statuses.Done) ⊎ (answer ≡ statuses.Device)))
-    ⊎ ((task : Task) × AsksFor words task × IsDone i out err task answer)
-    ⊎ ((misuse : Misuse) × IsMisuse words misuse × Untouched out × (answer ≡ statuses.Arguments))
+    ⊎ ((of_program ≡ false)
+    × (((task : Task) × AsksFor words task × IsDone tells i out err task answer)
+    ⊎ ((misuse : Misuse) × IsMisuse words misuse × Untouched out × (answer ≡ statuses.Arguments))))

@@ -1,13 +1,14 @@
 //! What is done with a chain under anchors.
 
-ghost use Rattle.std.specs.Prelude.{◌≡◌, ◌⊎◌, ◌≤◌, IfOk, IfErr, IfSome, OnOk};
+ghost use Rattle.std.specs.Prelude.{◌≡◌, ◌≤◌, IfOk, IfErr, IfSome, IfNone, OnOk};
 ghost use Rattle.cert_desk_io.specs.Devices.{sink, source};
 ghost use Rattle.cert_desk_io.specs.NamedInputs.{inputs};
-ghost use Rattle.cert_tool.specs.TaskRuns.{IsMeant, IsJudged, IsVerified, IsListedFor};
-ghost use Rattle.cert_tool.specs.TaskRuns.{IsStopped};
+ghost use Rattle.cert_tool.specs.TaskRuns.{IsMeant, IsUntimed, IsUnopened, judged_names};
+ghost use Rattle.cert_tool.specs.TaskRuns.{IsJudged, IsVerified, IsChainExplained, IsListedFor};
 
 use crate::arguments::{Moment, Terms};
 use crate::asking::run_questions;
+use crate::clock::UnixClock;
 use crate::explaining::explain_chain;
 use crate::files::{open, tell_failure};
 use crate::tasks::Task;
@@ -15,8 +16,6 @@ use crate::telling::tell_more;
 use crate::verifying::{run_verify, tell_none};
 use cert_desk_io::{ExitStatus, Input, NamedInputs, Output, write_all};
 use std::alloc::Global;
-use std::rt::Clock;
-use std::time::{SystemTime, UNIX_EPOCH};
 
 // The inputs of a chain that is judged.
 #[derive(Drop)]
@@ -27,23 +26,18 @@ struct Opened<I> {
 }
 
 // The seconds that are meant, if the clock tells the present.
-fn seconds_of<C: Clock>(clock: &C, moment: Moment) -> Option<u64>
-    ensures { IfSome result (IsMeant moment) }
+fn seconds_of<C: UnixClock>(clock: &C, moment: Moment) -> Option<u64>
+    ensures meant { IfSome result (IsMeant (C.tells clock.now) moment) }
+    ensures untimed { IfNone result (IsUntimed (C.tells clock.now) moment) }
 {
-    if let Moment::Seconds(seconds) = moment {
-        return Some(seconds);
-    }
-    let Ok(now) = SystemTime::now(clock) else {
-        return None;
-    };
-    match now.duration_since(UNIX_EPOCH) {
-        Ok(passed) => Some(passed.as_secs()),
-        Err(_) => None,
+    match moment {
+        Moment::Seconds(seconds) => Some(seconds),
+        Moment::Now => clock.seconds(),
     }
 }
 
 // Opens the inputs of a chain that is judged.
-fn open_all<I: Drop, F: NamedInputs<I>, E: Output>(
+fn open_all<I: Input + Drop, F: NamedInputs<I>, E: Output>(
     alloc: Global,
     files: &F,
     task: &Task<'_>,
@@ -56,8 +50,9 @@ fn open_all<I: Drop, F: NamedInputs<I>, E: Output>(
     ensures stream { IfOk result (λ opened.
         F.is_opened files.now task.now.file.now opened.stream) }
     ensures untold { OnOk result (err.new ≡ err.old) }
-    ensures stopped { IfErr result (λ status.
-        (status ≡ ExitStatus.Device) ⊎ (status ≡ ExitStatus.Memory)) }
+    ensures stopped { IfErr result (IsUnopened
+        (inputs I.takes I.is_ended I.failures (F.is_opened files.now) (F.is_unopened files.now))
+        (judged_names task.now)) }
 {
     let answers = open(alloc, files, task.answers, err)?;
     let anchors = open(alloc, files, task.anchors, err)?;
@@ -110,7 +105,7 @@ fn judged<I: Input, O: Output, E: Output>(
 }
 
 // `verify`.
-pub(crate) fn verify<C: Clock, I: Input + Drop, F: NamedInputs<I>, O: Output, E: Output>(
+pub(crate) fn verify<C: UnixClock, I: Input + Drop, F: NamedInputs<I>, O: Output, E: Output>(
     alloc: Global,
     clock: &C,
     files: &F,
@@ -119,10 +114,10 @@ pub(crate) fn verify<C: Clock, I: Input + Drop, F: NamedInputs<I>, O: Output, E:
     err: &mut E,
 ) -> ExitStatus
     requires { 6 ≤ task.now.limit }
-    ensures told { IsVerified (inputs I.takes I.is_ended I.failures (F.is_opened files.now))
+    ensures told { IsVerified (C.tells clock.now)
+        (inputs I.takes I.is_ended I.failures (F.is_opened files.now) (F.is_unopened files.now))
         (sink O.gives O.failures out.old out.new) (sink E.gives E.failures err.old err.new)
-        task.now result
-        ⊎ IsStopped (sink O.gives O.failures out.old out.new) result }
+        task.now result }
 {
     let Some(seconds) = seconds_of(clock, task.moment) else {
         let _ = write_all(err, b"cannot read the clock\n");
@@ -156,7 +151,7 @@ pub(crate) fn verify<C: Clock, I: Input + Drop, F: NamedInputs<I>, O: Output, E:
 }
 
 // `explain chain`.
-pub(crate) fn explain<C: Clock, I: Input + Drop, F: NamedInputs<I>, O: Output, E: Output>(
+pub(crate) fn explain<C: UnixClock, I: Input + Drop, F: NamedInputs<I>, O: Output, E: Output>(
     alloc: Global,
     clock: &C,
     files: &F,
@@ -165,6 +160,10 @@ pub(crate) fn explain<C: Clock, I: Input + Drop, F: NamedInputs<I>, O: Output, E
     err: &mut E,
 ) -> ExitStatus
     requires { 6 ≤ task.now.limit }
+    ensures told { IsChainExplained (C.tells clock.now)
+        (inputs I.takes I.is_ended I.failures (F.is_opened files.now) (F.is_unopened files.now))
+        (sink O.gives O.failures out.old out.new) (sink E.gives E.failures err.old err.new)
+        task.now result }
 {
     let Some(moment) = seconds_of(clock, task.moment) else {
         let _ = write_all(err, b"cannot read the clock\n");
@@ -208,10 +207,10 @@ pub(crate) fn ask<I: Input + Drop, F: NamedInputs<I>, O: Output, E: Output>(
     err: &mut E,
 ) -> ExitStatus
     requires { 6 ≤ task.now.limit }
-    ensures told { IsListedFor (inputs I.takes I.is_ended I.failures (F.is_opened files.now))
+    ensures told { IsListedFor
+        (inputs I.takes I.is_ended I.failures (F.is_opened files.now) (F.is_unopened files.now))
         (sink O.gives O.failures out.old out.new) (sink E.gives E.failures err.old err.new)
-        task.now result
-        ⊎ IsStopped (sink O.gives O.failures out.old out.new) result }
+        task.now result }
 {
     let mut anchors = match open(alloc, files, task.anchors, err) {
         Ok(anchors) => anchors,

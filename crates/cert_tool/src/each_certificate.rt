@@ -1,10 +1,17 @@
 //! Descriptions of the certificates of a stream, one by one.
 
-ghost use Rattle.std.specs.Prelude.{◌≤◌};
+ghost use Rattle.std.specs.Prelude.{◌≡◌, ◌≤◌, length, false, Some, Option};
+ghost use Rattle.std.specs.Prelude.{IfSome, IfNone, IfOk, IfErr, OnOk};
+ghost use Rattle.cert_desk_io.specs.Devices.{MetEnd, sink, source};
+ghost use Rattle.cert_desk_checking.specs.declared.outcome.Outcome.{Outcome};
+ghost use Rattle.cert_tool.specs.Explaining.{HasFailed, HasMoved, IsPassed, IsSoundStop};
+ghost use Rattle.cert_tool.specs.Explaining.{IsUnwritten};
+ghost use Rattle.cert_tool.specs.Splitting.{IsEndTold};
+ghost use Rattle.cert_tool.specs.TaskRuns.{ToldLast};
 
 use crate::stopping::tell_stop;
 use crate::telling::tell;
-use cert_desk_bundle::{Bundle, BundleError, FaultKind, ReadError};
+use cert_desk_bundle::{Bundle, BundleError, FaultKind};
 use cert_desk_checking::Outcome;
 use cert_desk_io::{ExitStatus, Input, Output, write_all};
 use cert_desk_rules::{Checked, Verdict};
@@ -32,15 +39,29 @@ impl Passed {
     }
 
     // What ended early a stream that ends behind them: that there is none.
-    fn end(self) -> Option<Outcome> {
+    fn end(self) -> Option<Outcome>
+        ensures { IfSome result IsSoundStop }
+    {
         if self.count > 0 {
             return None;
         }
         Some(told(Verdict::Empty))
     }
 
+    // What a stream comes to that a bundle refuses behind them.
+    fn stop(self, error: BundleError) -> Outcome
+        ensures { IsSoundStop result }
+    {
+        match error {
+            BundleError::Fault { kind, .. } => self.fault(kind),
+            _ => Outcome::OutOfMemory,
+        }
+    }
+
     // Behind them the stream has this fault.
-    fn fault(self, kind: FaultKind) -> Outcome {
+    fn fault(self, kind: FaultKind) -> Outcome
+        ensures { IsSoundStop result }
+    {
         told(Verdict::StreamFault {
             place: self.count,
             offset: self.octets,
@@ -50,7 +71,9 @@ impl Passed {
 }
 
 // What is told of a stream of which nothing was asked.
-fn told(verdict: Verdict) -> Outcome {
+fn told(verdict: Verdict) -> Outcome
+    ensures { result ≡ Outcome.Checked (record { verdict = verdict; calls = 0 }) }
+{
     Outcome::Checked(Checked { verdict, calls: 0 })
 }
 
@@ -145,25 +168,40 @@ impl Ahead {
         }
     }
 
-    // Takes the next piece of a stream. Says whether there is one.
-    fn feed<S: Input>(&mut self, stream: &mut S) -> Result<bool, ReadError> {
+    // Takes the next piece of a stream, of which an empty one is its end. Says whether more may
+    // follow.
+    fn take(&mut self, piece: &[u8]) -> Result<bool, BundleError>
+        ensures end { IfOk result (λ goes_on. goes_on ≡ false → length piece.now ≡ 0) }
+    {
+        if piece.is_empty() {
+            return match self.bundle.finish() {
+                Ok(_) => Ok(false),
+                Err(error) => Err(error),
+            };
+        }
+        if self.octets.extend_from_slice(piece).is_err() {
+            return Err(BundleError::OutOfMemory);
+        }
+        match self.bundle.feed(piece) {
+            Ok(()) => Ok(true),
+            Err(error) => Err(error),
+        }
+    }
+
+    // Reads the next piece of a stream and takes it, or answers that the read failed.
+    fn feed<S: Input>(&mut self, stream: &mut S) -> Option<Result<bool, BundleError>>
+        ensures moved { IfSome result
+            (λ fed. HasMoved (source S.takes S.is_ended S.failures stream.old stream.new)) }
+        ensures end { IfSome result (λ fed. IfOk fed (λ goes_on. goes_on ≡ false
+            → MetEnd (source S.takes S.is_ended S.failures stream.old stream.new))) }
+        ensures failed { IfNone result
+            (HasFailed (source S.takes S.is_ended S.failures stream.old stream.new)) }
+    {
         let mut buffer = [0; 4096];
         let Ok(count) = stream.read(&mut buffer) else {
-            return Err(ReadError::Device);
+            return None;
         };
-        if count == 0 {
-            if let Err(error) = self.bundle.finish() {
-                return Err(ReadError::Bundle(error));
-            }
-            return Ok(false);
-        }
-        if self.octets.extend_from_slice(&buffer[..count]).is_err() {
-            return Err(ReadError::Bundle(BundleError::OutOfMemory));
-        }
-        if let Err(error) = self.bundle.feed(&buffer[..count]) {
-            return Err(ReadError::Bundle(error));
-        }
-        Ok(true)
+        Some(self.take(&buffer[..count]))
     }
 
     // Forgets the certificates that the bundle has.
@@ -183,15 +221,6 @@ impl Ahead {
     }
 }
 
-// What a stream comes to that a bundle refuses behind these certificates.
-fn outcome_of(error: ReadError, passed: Passed) -> Outcome {
-    match error {
-        ReadError::Device => Outcome::Device,
-        ReadError::Bundle(BundleError::Fault { kind, .. }) => passed.fault(kind),
-        ReadError::Bundle(_) => Outcome::OutOfMemory,
-    }
-}
-
 // Writes what is written of the certificates of a bundle, in front of which these stand, and
 // answers which stand in front of the next.
 fn write_blocks<O: Output>(
@@ -199,7 +228,10 @@ fn write_blocks<O: Output>(
     bundle: &Bundle,
     passed: Passed,
     out: &mut O,
-) -> Result<Passed, Outcome> {
+) -> Result<Passed, Outcome>
+    ensures written { OnOk result (HasMoved (sink O.gives O.failures out.old out.new)) }
+    ensures unwritten { IfErr result (IsUnwritten (sink O.gives O.failures out.old out.new)) }
+{
     // More than can be counted have no room.
     let Some(next) = passed.with(bundle) else {
         return Err(Outcome::OutOfMemory);
@@ -214,6 +246,37 @@ fn write_blocks<O: Output>(
     Ok(next)
 }
 
+// Reads the next piece of a stream, and writes what the certificates say that end in it, behind
+// these. Answers which stand in front of the next, and whether more may follow.
+fn write_next<S: Input, O: Output>(
+    form: &Form,
+    ahead: &mut Ahead,
+    passed: Passed,
+    stream: &mut S,
+    out: &mut O,
+) -> Result<(Passed, bool), Outcome>
+    ensures moved { OnOk result
+        (HasMoved (source S.takes S.is_ended S.failures stream.old stream.new)) }
+    ensures written { OnOk result (HasMoved (sink O.gives O.failures out.old out.new)) }
+    ensures end { IfOk result (λ reached. reached.1 ≡ false
+        → MetEnd (source S.takes S.is_ended S.failures stream.old stream.new)) }
+    ensures stopped { IfErr result (λ outcome.
+        IsPassed (source S.takes S.is_ended S.failures stream.old stream.new)
+        (sink O.gives O.failures out.old out.new) (Some outcome)) }
+{
+    let Some(fed) = ahead.feed(stream) else {
+        return Err(Outcome::Device);
+    };
+    let next = match write_blocks(form, &ahead.bundle, passed, out) {
+        Ok(next) => next,
+        Err(outcome) => return Err(outcome),
+    };
+    match fed {
+        Ok(goes_on) => Ok((next, goes_on)),
+        Err(error) => Err(next.stop(error)),
+    }
+}
+
 // Writes what each certificate of a stream says, in turn, and forgets it, behind what was read of
 // it. Answers what ended the stream early, if something did.
 fn write_each<S: Input, O: Output, E: Output>(
@@ -225,6 +288,8 @@ fn write_each<S: Input, O: Output, E: Output>(
     limit: u32,
 ) -> Option<Outcome>
     requires { 6 ≤ limit }
+    ensures { IsPassed (source S.takes S.is_ended S.failures stream.old stream.new)
+        (sink O.gives O.failures out.old out.new) result }
 {
     let mut passed = Passed {
         count: 0,
@@ -232,17 +297,15 @@ fn write_each<S: Input, O: Output, E: Output>(
     };
     let mut counted = 0;
     // Each piece has an octet or more, and of so many no more can be counted.
-    for _ in 0..u64::MAX {
-        let fed = ahead.feed(stream);
-        match write_blocks(form, &ahead.bundle, passed, out) {
-            Ok(next) => passed = next,
+    'pieces: for _ in 0..u64::MAX {
+        let (next, goes_on) = match write_next(form, ahead, passed, stream, out) {
+            Ok(reached) => reached,
             Err(outcome) => return Some(outcome),
-        }
+        };
+        passed = next;
         counted = form.tell_count(counted, passed.count, err);
-        match fed {
-            Ok(true) => {}
-            Ok(false) => return passed.end(),
-            Err(error) => return Some(outcome_of(error, passed)),
+        if !goes_on {
+            return passed.end();
         }
         if ahead.forget(form.alloc, limit).is_err() {
             return Some(Outcome::OutOfMemory);
@@ -264,6 +327,11 @@ pub(crate) fn run_describe<S: Input, O: Output, E: Output>(
     is_watched: bool,
 ) -> ExitStatus
     requires { 6 ≤ limit }
+    ensures told { (ended : Option Outcome)
+        × IsPassed (source S.takes S.is_ended S.failures stream.old stream.new)
+        (sink O.gives O.failures out.old out.new) ended
+        × ToldLast (sink E.gives E.failures err.old err.new)
+        (λ last. IsEndTold last ended result) }
 {
     let form = Form {
         alloc,

@@ -1,14 +1,21 @@
 //! Why chains are refused.
 
-ghost use Rattle.std.specs.Prelude.{◌≤◌};
+ghost use Rattle.std.specs.Prelude.{◌≤◌, length, IfErr};
+ghost use Rattle.cert_desk_io.specs.Devices.{sink, source};
+ghost use Rattle.cert_desk_io.specs.Whole.{most_octets};
+ghost use Rattle.cert_tool.specs.Explaining.{AreNoAnchors, IsExplained, IsSaidOf};
+ghost use Rattle.cert_tool.specs.Explaining.{IsSaidUnder, IsStopSaid, IsStreamSaid};
 
 use crate::arguments::Terms;
 use crate::reading::{read_input, tell_text};
+use crate::stream_fault::stop_of;
 use crate::verifying::{read_answers, tell_none};
-use cert_desk_bundle::{Bundle, Standing};
-use cert_desk_checking::{Anchor, AnchorsError, judge_each, read_anchors, read_stream};
+use cert_desk_bundle::Bundle;
+use cert_desk_checking::{
+    Anchor, AnchorsError, Outcome, judge_each, read_anchors, read_stream, status_of,
+};
 use cert_desk_io::{ExitStatus, FromRead, Input, Output, complain, tell_device, tell_memory};
-use cert_desk_rules::{Answer, AnswersJudge, KeptRules};
+use cert_desk_rules::{Answer, AnswersJudge, KeptRules, Verdict};
 use cert_tool_chains::{Heard, Judged, add_chain};
 use cert_tool_lines::Lines;
 use std::alloc::{AllocError, Global};
@@ -68,53 +75,40 @@ fn explained(
     told(alloc, bundle, &judged, terms.is_json)
 }
 
-// The anchors that octets give. Where there are none, that is told, and the status is the error.
-fn anchors_in<E: Output>(
-    alloc: Global,
-    octets: &[u8],
-    err: &mut E,
-) -> Result<Vec<Anchor>, ExitStatus> {
+// The anchors that octets give, or why they give none.
+fn anchors_in(alloc: Global, octets: &[u8]) -> Result<Vec<Anchor>, Outcome>
+    requires { length octets.now ≤ most_octets }
+    ensures { IfErr result (AreNoAnchors octets.now) }
+{
     match read_anchors(alloc, &mut FromRead::new(octets)) {
         Ok(anchors) => Ok(anchors),
-        Err(AnchorsError::Device) => Err(tell_device(err)),
-        Err(AnchorsError::OutOfMemory) => Err(tell_memory(err)),
-        Err(AnchorsError::BadAnchors { .. }) => Err(complain(
+        Err(AnchorsError::BadAnchors { offset, fault }) => {
+            Err(Outcome::BadAnchors { offset, fault })
+        }
+        // No read of octets in memory fails.
+        Err(AnchorsError::Device | AnchorsError::OutOfMemory) => Err(Outcome::OutOfMemory),
+    }
+}
+
+// Tells why there is no chain to explain, and answers the status.
+fn tell_no_chain<E: Output>(err: &mut E, outcome: Outcome) -> ExitStatus
+    ensures { IsStopSaid (sink E.gives E.failures err.old err.new) outcome result }
+{
+    match outcome {
+        Outcome::Checked(checked) => {
+            let line = match checked.verdict {
+                Verdict::Empty => "the stream is empty\n",
+                _ => "the stream can't be read: `cert_tool explain stream` says why\n",
+            };
+            complain(err, line.as_bytes(), status_of(checked.verdict))
+        }
+        Outcome::BadAnchors { .. } => complain(
             err,
             b"the anchors can't be read: `cert_tool explain anchors` says why\n",
             ExitStatus::Arguments,
-        )),
-    }
-}
-
-// Tells why a stream of this standing can't be had, and answers the status.
-fn tell_unread<E: Output>(err: &mut E, standing: Standing) -> ExitStatus {
-    match standing {
-        Standing::NoDevice => tell_device(err),
-        Standing::NoMemory => tell_memory(err),
-        _ => complain(
-            err,
-            b"the stream can't be read: `cert_tool explain stream` says why\n",
-            ExitStatus::Faulty,
         ),
-    }
-}
-
-// The stream that an input gives; where it can't be read, that is told.
-fn stream_of<I: Input, E: Output>(
-    alloc: Global,
-    input: &mut I,
-    err: &mut E,
-    limit: u32,
-) -> Result<Bundle, ExitStatus>
-    requires { 6 ≤ limit }
-{
-    let bundle = read_stream(alloc, limit, input);
-    match bundle.standing() {
-        Standing::Ended if bundle.is_empty() => {
-            Err(complain(err, b"the stream is empty\n", ExitStatus::Empty))
-        }
-        Standing::Ended => Ok(bundle),
-        standing => Err(tell_unread(err, standing)),
+        Outcome::Device => tell_device(err),
+        Outcome::OutOfMemory => tell_memory(err),
     }
 }
 
@@ -130,13 +124,17 @@ fn explain_stream_of<I: Input, O: Output, E: Output>(
     terms: Terms,
 ) -> ExitStatus
     requires { 6 ≤ terms.limit }
+    ensures { IsStreamSaid (source I.takes I.is_ended I.failures stream.old stream.new)
+        (sink O.gives O.failures out.old out.new) (sink E.gives E.failures err.old err.new)
+        terms.limit result }
 {
-    match stream_of(alloc, stream, err, terms.limit) {
-        Ok(bundle) => {
+    let bundle = read_stream(alloc, terms.limit, stream);
+    match stop_of(&bundle) {
+        None => {
             let text = explained(alloc, &bundle, anchors, anchor_octets, &terms, answers);
             tell_text(text, out, err)
         }
-        Err(status) => status,
+        Some(outcome) => tell_no_chain(err, outcome),
     }
 }
 
@@ -150,9 +148,13 @@ fn explain_under<I: Input, O: Output, E: Output>(
     err: &mut E,
     terms: Terms,
 ) -> ExitStatus
-    requires { 6 ≤ terms.limit }
+    requires few { length octets.now ≤ most_octets }
+    requires limit { 6 ≤ terms.limit }
+    ensures { IsSaidOf octets.now (source I.takes I.is_ended I.failures stream.old stream.new)
+        (sink O.gives O.failures out.old out.new) (sink E.gives E.failures err.old err.new)
+        terms.limit result }
 {
-    match anchors_in(alloc, octets, err) {
+    match anchors_in(alloc, octets) {
         Ok(anchors) => explain_stream_of(
             alloc,
             answers,
@@ -163,7 +165,7 @@ fn explain_under<I: Input, O: Output, E: Output>(
             err,
             terms,
         ),
-        Err(status) => status,
+        Err(outcome) => tell_no_chain(err, outcome),
     }
 }
 
@@ -178,6 +180,10 @@ fn explain_by<I: Input, O: Output, E: Output>(
     terms: Terms,
 ) -> ExitStatus
     requires { 6 ≤ terms.limit }
+    ensures { IsSaidUnder (source I.takes I.is_ended I.failures anchors.old anchors.new)
+        (source I.takes I.is_ended I.failures stream.old stream.new)
+        (sink O.gives O.failures out.old out.new) (sink E.gives E.failures err.old err.new)
+        terms.limit result }
 {
     match read_input(alloc, anchors, err) {
         Ok(octets) => explain_under(alloc, answers, octets.as_slice(), stream, out, err, terms),
@@ -203,6 +209,12 @@ pub(crate) fn explain_chain<I: Input, O: Output, E: Output>(
     terms: Terms,
 ) -> ExitStatus
     requires { 6 ≤ terms.limit }
+    ensures explained { IsExplained
+        (source I.takes I.is_ended I.failures answers.old answers.new)
+        (source I.takes I.is_ended I.failures anchors.old anchors.new)
+        (source I.takes I.is_ended I.failures stream.old stream.new)
+        (sink O.gives O.failures out.old out.new) (sink E.gives E.failures err.old err.new)
+        terms.limit result }
 {
     match read_answers(alloc, answers) {
         Ok(answers) => explain_by(alloc, answers, anchors, stream, out, err, terms),

@@ -1,6 +1,7 @@
 //! The files that words name.
 
-ghost use Rattle.std.specs.Prelude.{⊤, ◌≡◌, ◌⊎◌, IfOk, IfErr, OnOk};
+ghost use Rattle.std.specs.Prelude.{⊤, ◌≡◌, IfOk, IfErr, OnOk};
+ghost use Rattle.cert_desk_io.specs.NamedInputs.{unopened_status};
 
 use crate::telling::{line_with, tell};
 use cert_desk_io::{ExitStatus, FromRead, NamedInputs, OpenError, Output, tell_memory};
@@ -70,8 +71,8 @@ pub(crate) fn open<I, F: NamedInputs<I>, E: Output>(
 ) -> Result<I, ExitStatus>
     ensures opened { IfOk result (λ input. F.is_opened files.now name.now input) }
     ensures untold { OnOk result (err.new ≡ err.old) }
-    ensures stopped { IfErr result (λ status.
-        (status ≡ ExitStatus.Device) ⊎ (status ≡ ExitStatus.Memory)) }
+    ensures stopped { IfErr result (λ status. (error : OpenError)
+        × F.is_unopened files.now name.now error × (status ≡ unopened_status error)) }
 {
     match files.open(name) {
         Ok(input) => Ok(input),

@@ -6,6 +6,7 @@
 mod arguments;
 mod asking;
 mod chains;
+mod clock;
 mod each_certificate;
 mod explaining;
 mod files;
@@ -16,6 +17,7 @@ mod no_command;
 mod reading;
 mod sent;
 mod serving;
+mod shell_words;
 mod splitting;
 mod stopping;
 mod stream_fault;
@@ -25,6 +27,7 @@ mod telling;
 mod verifying;
 mod words;
 
+use crate::clock::HostClock;
 use crate::files::HostFiles;
 use crate::serving::serve;
 use crate::words::obey;
@@ -76,11 +79,17 @@ fn run(rt: &HostRuntime) -> ExitStatus {
     let mut out = ToWrite::new(io::writer(rt));
     if let ["serve"] = texts.as_slice() {
         let mut input = FromRead::new(rt.stdin());
-        return serve(rt.alloc(), rt, &mut input, &mut out, &mut err);
+        return serve(
+            rt.alloc(),
+            &HostClock::new(rt),
+            &mut input,
+            &mut out,
+            &mut err,
+        );
     }
     obey(
         rt.alloc(),
-        rt,
+        &HostClock::new(rt),
         &HostFiles::new(rt),
         texts.as_slice(),
         &mut out,

@@ -1,6 +1,11 @@
 //! What is done with a file that is read whole.
 
-ghost use Rattle.std.specs.Prelude.{◌≤◌};
+ghost use Rattle.std.specs.Prelude.{◌≡◌, ◌≤◌, IfOk, IfErr, OnOk};
+ghost use Rattle.cert_desk_io.specs.Devices.{sink, source};
+ghost use Rattle.cert_desk_io.specs.NamedInputs.{OfOpened, inputs};
+ghost use Rattle.cert_desk_io.specs.Whole.{IsWhole, most_octets};
+ghost use Rattle.cert_tool.specs.Explaining.{IsNotRead, IsSaid};
+ghost use Rattle.cert_tool.specs.TaskRuns.{IsFileDescribed, IsFileExplained, IsNotHad};
 
 use crate::files::{open, tell_failure};
 use crate::tasks::{Command, Task};
@@ -9,7 +14,7 @@ use cert_desk_io::{
     tell_memory,
 };
 use cert_tool_chains::{explain_anchors, explain_stream};
-use cert_tool_explain::{describe, explain_octets};
+use cert_tool_explain::{Kind, describe, explain_octets};
 use std::alloc::{AllocError, Global};
 
 // What an input holds, to its end. Where it can't be had, that is told, and the status is the
@@ -18,7 +23,15 @@ pub(crate) fn read_input<I: Input, E: Output>(
     alloc: Global,
     input: &mut I,
     err: &mut E,
-) -> Result<Vec<u8>, ExitStatus> {
+) -> Result<Vec<u8>, ExitStatus>
+    ensures whole { IfOk result (λ octets.
+        IsWhole (source I.takes I.is_ended I.failures input.old input.new) most_octets
+        octets.items) }
+    ensures untold { OnOk result (err.new ≡ err.old) }
+    ensures unread { IfErr result
+        (IsNotRead (source I.takes I.is_ended I.failures input.old input.new)
+        (sink E.gives E.failures err.old err.new)) }
+{
     match read_all(alloc, input, u32::MAX) {
         Ok(octets) => Ok(octets),
         Err(ReadAllError::TooMuch) => {
@@ -35,7 +48,14 @@ fn read_file<I: Input + Drop, F: NamedInputs<I>, E: Output>(
     files: &F,
     name: &str,
     err: &mut E,
-) -> Result<Vec<u8>, ExitStatus> {
+) -> Result<Vec<u8>, ExitStatus>
+    ensures whole { IfOk result (λ octets. OfOpened
+        (inputs I.takes I.is_ended I.failures (F.is_opened files.now) (F.is_unopened files.now))
+        name.now (λ input. IsWhole input most_octets octets.items)) }
+    ensures unread { IfErr result (IsNotHad
+        (inputs I.takes I.is_ended I.failures (F.is_opened files.now) (F.is_unopened files.now))
+        name.now (sink E.gives E.failures err.old err.new)) }
+{
     let mut input = open(alloc, files, name, err)?;
     let octets = read_input(alloc, &mut input, err);
     tell_failure(alloc, files, &input, name, err);
@@ -48,15 +68,57 @@ pub(crate) fn tell_text<O: Output, E: Output>(
     text: Result<Vec<u8>, AllocError>,
     out: &mut O,
     err: &mut E,
-) -> ExitStatus {
+) -> ExitStatus
+    ensures { IsSaid (sink O.gives O.failures out.old out.new)
+        (sink E.gives E.failures err.old err.new) result }
+{
     match text {
         Ok(text) => answer(out, err, text.as_slice(), ExitStatus::Done),
         Err(_) => tell_memory(err),
     }
 }
 
-// `describe KIND`, `explain KIND`, `explain stream`.
-pub(crate) fn read<I: Input + Drop, F: NamedInputs<I>, O: Output, E: Output>(
+// `describe KIND`.
+pub(crate) fn describe_file<I: Input + Drop, F: NamedInputs<I>, O: Output, E: Output>(
+    alloc: Global,
+    files: &F,
+    task: &Task<'_>,
+    kind: Kind,
+    out: &mut O,
+    err: &mut E,
+) -> ExitStatus
+    ensures told { IsFileDescribed kind
+        (inputs I.takes I.is_ended I.failures (F.is_opened files.now) (F.is_unopened files.now))
+        (sink O.gives O.failures out.old out.new) (sink E.gives E.failures err.old err.new)
+        task.now result }
+{
+    match read_file(alloc, files, task.file, err) {
+        Ok(octets) => describe(
+            alloc,
+            kind,
+            octets.as_slice(),
+            task.json,
+            task.digests,
+            out,
+            err,
+        ),
+        Err(status) => status,
+    }
+}
+
+// What explains octets, as a task asks for.
+fn explanation(alloc: Global, octets: &[u8], task: &Task<'_>) -> Result<Vec<u8>, AllocError>
+    requires { 6 ≤ task.now.limit }
+{
+    match task.command {
+        Command::Explain(kind) => explain_octets(alloc, octets, kind, task.json),
+        Command::ExplainAnchors => explain_anchors(alloc, octets, task.json),
+        _ => explain_stream(alloc, octets, task.limit, task.json),
+    }
+}
+
+// `explain KIND`, `explain anchors`, `explain stream`.
+pub(crate) fn explain_file<I: Input + Drop, F: NamedInputs<I>, O: Output, E: Output>(
     alloc: Global,
     files: &F,
     task: &Task<'_>,
@@ -64,18 +126,13 @@ pub(crate) fn read<I: Input + Drop, F: NamedInputs<I>, O: Output, E: Output>(
     err: &mut E,
 ) -> ExitStatus
     requires { 6 ≤ task.now.limit }
+    ensures told { IsFileExplained
+        (inputs I.takes I.is_ended I.failures (F.is_opened files.now) (F.is_unopened files.now))
+        (sink O.gives O.failures out.old out.new) (sink E.gives E.failures err.old err.new)
+        task.now result }
 {
-    let octets = match read_file(alloc, files, task.file, err) {
-        Ok(octets) => octets,
-        Err(status) => return status,
-    };
-    let (octets, is_json) = (octets.as_slice(), task.json);
-    match task.command {
-        Command::Describe(kind) => {
-            describe(alloc, kind, octets, is_json, task.digests, out, err)
-        }
-        Command::Explain(kind) => tell_text(explain_octets(alloc, octets, kind, is_json), out, err),
-        Command::ExplainAnchors => tell_text(explain_anchors(alloc, octets, is_json), out, err),
-        _ => tell_text(explain_stream(alloc, octets, task.limit, is_json), out, err),
+    match read_file(alloc, files, task.file, err) {
+        Ok(octets) => tell_text(explanation(alloc, octets.as_slice(), task), out, err),
+        Err(status) => status,
     }
 }

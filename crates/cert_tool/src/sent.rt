@@ -1,5 +1,5 @@
 //! Inputs that were sent with a request.
-ghost use Rattle.std.specs.Prelude.{List, ℕ, IfSome};
+ghost use Rattle.std.specs.Prelude.{List, ℕ, IfSome, IsNone};
 ghost use Rattle.cert_tool.specs.Sending.{IsSent};
 
 use cert_desk_frames::split_frame;
@@ -14,9 +14,11 @@ pub struct Sent<'a> {
 
 impl<'a> NamedInputs<MemoryInput<'a>> for Sent<'a> {
     ghost use Rattle.cert_desk_io.specs.Memory.{octets_left};
-    ghost use Rattle.cert_tool.specs.Sending.{IsSent};
+    ghost use Rattle.cert_tool.specs.Sending.{IsNotSent, IsSent};
 
     ghost is_opened = { λ sent name input. IsSent name (octets_left input) sent.parts.now };
+
+    ghost is_unopened = { λ sent name error. IsNotSent name sent.parts.now error };
 
     fn open(&self, name: &str) -> Result<MemoryInput<'a>, OpenError> {
         match find(name.as_bytes(), self.parts) {
@@ -32,7 +34,8 @@ impl<'a> NamedInputs<MemoryInput<'a>> for Sent<'a> {
 
 // The octets of the first input of a name, if there is one.
 fn find<'a>(name: &[u8], parts: &'a [u8]) -> Option<&'a [u8]>
-    ensures { IfSome result (λ octets. IsSent name.now octets.now parts.now) }
+    ensures found { IfSome result (λ octets. IsSent name.now octets.now parts.now) }
+    ensures missing { IsNone result → (octets : List ℕ) → IsSent name.now octets parts.now → ⊥ }
 {
     let mut left = parts;
     'inputs: while let Some((this, behind)) = split_frame(left) {

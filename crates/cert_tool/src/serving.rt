@@ -6,6 +6,7 @@ ghost use Rattle.cert_tool.specs.Serving.{HasNoReply, IsNextServed, IsNextUnserv
 ghost use Rattle.cert_tool.specs.Serving.{IsRequestObeyed, IsServed, IsUnservedTold};
 ghost use Rattle.cert_tool.specs.Serving.{reply_frames, words_in};
 
+use crate::clock::UnixClock;
 use crate::sent::Sent;
 use crate::words::obey;
 use cert_desk_frames::{FrameError, append_frame, read_frame, split_frame};
@@ -13,7 +14,6 @@ use cert_desk_io::{
     ExitStatus, Input, Output, ToWrite, complain, tell_device, tell_memory, write_all,
 };
 use std::alloc::{AllocError, Global};
-use std::rt::Clock;
 use std::str;
 
 // The most octets that a request may have.
@@ -28,14 +28,15 @@ fn words_of(alloc: Global, text: &str) -> Result<Vec<&str>, AllocError>
 
 // Does what a request asks for: a frame of words, one a line, and the inputs that they name. The
 // status is `Arguments` where it has no words.
-fn done<C: Clock, O: Output, E: Output>(
+fn done<C: UnixClock, O: Output, E: Output>(
     alloc: Global,
     clock: &C,
     request: &[u8],
     out: &mut O,
     err: &mut E,
 ) -> Result<ExitStatus, AllocError>
-    ensures { IfOk result (IsRequestObeyed (sink O.gives O.failures out.old out.new)
+    ensures { IfOk result (IsRequestObeyed (C.tells clock.now)
+        (sink O.gives O.failures out.old out.new)
         (sink E.gives E.failures err.old err.new) request.now) }
 {
     let Some((front, parts)) = split_frame(request) else {
@@ -79,9 +80,9 @@ fn framed(
 
 // The answer to a request: frames of the status, of what goes to the output and of what goes to the
 // error output.
-fn answer<C: Clock>(alloc: Global, clock: &C, request: &[u8]) -> Result<Vec<u8>, FrameError>
-    ensures answer { IfOk result (λ answer. IsReply request.now answer.items) }
-    ensures none { IfErr result (HasNoReply request.now) }
+fn answer<C: UnixClock>(alloc: Global, clock: &C, request: &[u8]) -> Result<Vec<u8>, FrameError>
+    ensures answer { IfOk result (λ answer. IsReply (C.tells clock.now) request.now answer.items) }
+    ensures none { IfErr result (HasNoReply (C.tells clock.now) request.now) }
 {
     let mut out = ToWrite::new(Vec::new(alloc));
     let mut err = ToWrite::new(Vec::new(alloc));
@@ -94,17 +95,19 @@ fn answer<C: Clock>(alloc: Global, clock: &C, request: &[u8]) -> Result<Vec<u8>,
 }
 
 // Answers the next request, or says that there is none.
-fn answer_next<C: Clock, I: Input, O: Output>(
+fn answer_next<C: UnixClock, I: Input, O: Output>(
     alloc: Global,
     clock: &C,
     input: &mut I,
     output: &mut O,
 ) -> Result<bool, FrameError>
     ensures answered { IfOk result
-        (IsNextServed (source I.takes I.is_ended I.failures input.old input.new)
+        (IsNextServed (C.tells clock.now)
+        (source I.takes I.is_ended I.failures input.old input.new)
         (sink O.gives O.failures output.old output.new)) }
     ensures unanswered { IfErr result
-        (IsNextUnserved (source I.takes I.is_ended I.failures input.old input.new)
+        (IsNextUnserved (C.tells clock.now)
+        (source I.takes I.is_ended I.failures input.old input.new)
         (sink O.gives O.failures output.old output.new)) }
 {
     let Some(request) = read_frame(alloc, input, MOST)? else {
@@ -130,14 +133,15 @@ fn tell_unserved<E: Output>(err: &mut E, error: FrameError) -> ExitStatus
 }
 
 /// Answers each request of the input, up to its end or the first that isn't read or answered.
-pub fn serve<C: Clock, I: Input, O: Output, E: Output>(
+pub fn serve<C: UnixClock, I: Input, O: Output, E: Output>(
     alloc: Global,
     clock: &C,
     input: &mut I,
     output: &mut O,
     err: &mut E,
 ) -> ExitStatus
-    ensures served { IsServed (source I.takes I.is_ended I.failures input.old input.new)
+    ensures served { IsServed (C.tells clock.now)
+        (source I.takes I.is_ended I.failures input.old input.new)
         (sink O.gives O.failures output.old output.new)
         (sink E.gives E.failures err.old err.new) result }
 {

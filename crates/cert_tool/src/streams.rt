@@ -1,11 +1,11 @@
 //! What is done with a stream.
 
-ghost use Rattle.std.specs.Prelude.{◌⊎◌, ◌≤◌};
+ghost use Rattle.std.specs.Prelude.{◌≤◌};
 ghost use Rattle.cert_desk_io.specs.Devices.{sink, source};
 ghost use Rattle.cert_desk_io.specs.NamedInputs.{inputs};
 ghost use Rattle.cert_desk_bundle.specs.Streams.{Kept};
 ghost use Rattle.cert_tool.specs.Stops.{FedWithin};
-ghost use Rattle.cert_tool.specs.TaskRuns.{IsSplitAt, IsSplit, IsTurned, IsStopped};
+ghost use Rattle.cert_tool.specs.TaskRuns.{IsEachDescribed, IsSplitAt, IsSplit, IsTurned};
 
 use crate::each_certificate::run_describe;
 use crate::files::{open, tell_failure};
@@ -61,10 +61,10 @@ pub(crate) fn split<I: Input + Drop, F: NamedInputs<I>, O: Output, E: Output>(
     err: &mut E,
 ) -> ExitStatus
     requires { 6 ≤ task.now.limit }
-    ensures told { IsSplit (inputs I.takes I.is_ended I.failures (F.is_opened files.now))
+    ensures told { IsSplit
+        (inputs I.takes I.is_ended I.failures (F.is_opened files.now) (F.is_unopened files.now))
         (sink O.gives O.failures out.old out.new) (sink E.gives E.failures err.old err.new)
-        task.now result
-        ⊎ IsStopped (sink O.gives O.failures out.old out.new) result }
+        task.now result }
 {
     let mut stream = match open(alloc, files, task.file, err) {
         Ok(stream) => stream,
@@ -84,10 +84,10 @@ pub(crate) fn reverse<I: Input + Drop, F: NamedInputs<I>, O: Output, E: Output>(
     err: &mut E,
 ) -> ExitStatus
     requires { 6 ≤ task.now.limit }
-    ensures told { IsTurned (inputs I.takes I.is_ended I.failures (F.is_opened files.now))
+    ensures told { IsTurned
+        (inputs I.takes I.is_ended I.failures (F.is_opened files.now) (F.is_unopened files.now))
         (sink O.gives O.failures out.old out.new) (sink E.gives E.failures err.old err.new)
-        task.now result
-        ⊎ IsStopped (sink O.gives O.failures out.old out.new) result }
+        task.now result }
 {
     let mut stream = match open(alloc, files, task.file, err) {
         Ok(stream) => stream,
@@ -108,6 +108,10 @@ pub(crate) fn describe_each<I: Input + Drop, F: NamedInputs<I>, O: Output, E: Ou
     is_watched: bool,
 ) -> ExitStatus
     requires { 6 ≤ task.now.limit }
+    ensures told { IsEachDescribed
+        (inputs I.takes I.is_ended I.failures (F.is_opened files.now) (F.is_unopened files.now))
+        (sink O.gives O.failures out.old out.new) (sink E.gives E.failures err.old err.new)
+        task.now result }
 {
     let mut stream = match open(alloc, files, task.file, err) {
         Ok(stream) => stream,

@@ -7,14 +7,14 @@ ghost use Rattle.cert_desk_io.specs.NamedInputs.{inputs};
 ghost use Rattle.cert_tool.specs.TaskRuns.{asks_of_program, IsDone, IsObeyed};
 
 use crate::chains::{ask, explain, verify};
+use crate::clock::UnixClock;
 use crate::help::{ARGUMENTS, VERSION, help_of};
-use crate::reading::read;
+use crate::reading::{describe_file, explain_file};
 use crate::streams::{describe_each, reverse, split};
 use crate::tasks::{Command, Task};
 use crate::telling::tell_misuse;
 use cert_desk_io::{ExitStatus, Input, NamedInputs, Output, tell_device, write_all};
 use std::alloc::Global;
-use std::rt::Clock;
 
 // Whether a word asks for help, or which program it is.
 fn asks_of_program(word: &str) -> bool
@@ -56,7 +56,7 @@ fn tell_of_program<O: Output, E: Output>(words: &[&str], out: &mut O, err: &mut 
 }
 
 // Does a task.
-fn done<C: Clock, I: Input + Drop, F: NamedInputs<I>, O: Output, E: Output>(
+fn done<C: UnixClock, I: Input + Drop, F: NamedInputs<I>, O: Output, E: Output>(
     alloc: Global,
     clock: &C,
     files: &F,
@@ -66,7 +66,8 @@ fn done<C: Clock, I: Input + Drop, F: NamedInputs<I>, O: Output, E: Output>(
     is_watched: bool,
 ) -> ExitStatus
     requires { 6 ≤ task.now.limit }
-    ensures { IsDone (inputs I.takes I.is_ended I.failures (F.is_opened files.now))
+    ensures { IsDone (C.tells clock.now)
+        (inputs I.takes I.is_ended I.failures (F.is_opened files.now) (F.is_unopened files.now))
         (sink O.gives O.failures out.old out.new) (sink E.gives E.failures err.old err.new)
         task.now result }
 {
@@ -76,11 +77,11 @@ fn done<C: Clock, I: Input + Drop, F: NamedInputs<I>, O: Output, E: Output>(
         Command::Split => split(alloc, files, task, out, err),
         Command::Reverse => reverse(alloc, files, task, out, err),
         Command::ExplainChain => explain(alloc, clock, files, task, out, err),
-        Command::Describe(_) => read(alloc, files, task, out, err),
+        Command::Describe(kind) => describe_file(alloc, files, task, kind, out, err),
         Command::DescribeStream => describe_each(alloc, files, task, out, err, is_watched),
-        Command::Explain(_) => read(alloc, files, task, out, err),
-        Command::ExplainAnchors => read(alloc, files, task, out, err),
-        Command::ExplainStream => read(alloc, files, task, out, err),
+        Command::Explain(_) => explain_file(alloc, files, task, out, err),
+        Command::ExplainAnchors => explain_file(alloc, files, task, out, err),
+        Command::ExplainStream => explain_file(alloc, files, task, out, err),
     }
 }
 
@@ -90,7 +91,7 @@ fn done<C: Clock, I: Input + Drop, F: NamedInputs<I>, O: Output, E: Output>(
 /// Verdicts, questions, certificates and what else was asked for go to `out`; what is wrong with
 /// words, inputs and their contents goes to `err`, and after that hints how more is told. Where
 /// `is_watched`, as on a terminal, `err` also counts what is done of a long stream.
-pub fn obey<C: Clock, I: Input + Drop, F: NamedInputs<I>, O: Output, E: Output>(
+pub fn obey<C: UnixClock, I: Input + Drop, F: NamedInputs<I>, O: Output, E: Output>(
     alloc: Global,
     clock: &C,
     files: &F,
@@ -99,7 +100,8 @@ pub fn obey<C: Clock, I: Input + Drop, F: NamedInputs<I>, O: Output, E: Output>(
     err: &mut E,
     is_watched: bool,
 ) -> ExitStatus
-    ensures obeyed { IsObeyed (inputs I.takes I.is_ended I.failures (F.is_opened files.now))
+    ensures obeyed { IsObeyed (C.tells clock.now)
+        (inputs I.takes I.is_ended I.failures (F.is_opened files.now) (F.is_unopened files.now))
         (sink O.gives O.failures out.old out.new) (sink E.gives E.failures err.old err.new)
         (map (λ word. word.now) words.now)
         (list_any (λ word. asks_of_program word.now) words.now) result }

@@ -32,7 +32,8 @@ fn are_near(this: &[u8], other: &[u8]) -> bool {
     left.is_empty() && right.is_empty()
 }
 
-// Whether names have the same attributes, but for the types of strings, case and blanks.
+// Whether names have the same attributes, but for the types of strings, case and blanks. The answer
+// is a hint: no clause says when it is true.
 pub(crate) fn are_alike(this: &Name, other: &Name) -> bool {
     let mut others = other.iter();
     for attribute in this.iter() {

@@ -64,7 +64,7 @@ fn add_stream_fault(lines: &mut Lines, octets: &[u8], error: BundleError) {
 }
 
 // Whether each certificate's issuer is the subject of the next, and none's the subject of the one
-// before, as TLS sends them.
+// before, as TLS sends them. The answer is a hint: no clause says when it is true.
 pub(crate) fn is_leaf_first(bundle: &Bundle) -> bool {
     for place in 1..bundle.len() {
         let this = bundle.get(place).unwrap().certificate.tbs_certificate();

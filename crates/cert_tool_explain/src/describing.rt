@@ -1,5 +1,10 @@
 //! Descriptions of files.
 
+ghost use Rattle.std.specs.Prelude.{◌≢◌, IfNone, IfOk, IfSome};
+ghost use Rattle.der_core_head.specs.declared.error.ErrorKind.TheVariants.{OutOfMemory};
+ghost use Rattle.cert_desk_io.specs.Devices.{sink};
+ghost use Rattle.cert_tool_explain.specs.Describing.{IsDescribed, IsOfKind, IsRefusalTold};
+
 use crate::kind::Kind;
 use crate::refusal::explain_octets;
 use cert_desk_io::{ExitStatus, Output, answer, complain, tell_memory};
@@ -10,7 +15,11 @@ use std::alloc::{AllocError, Global};
 
 // Adds the lines of what these octets spell; answers why they spell no value of the kind, if they
 // don't.
-fn add_described(lines: &mut Lines, kind: Kind, octets: &[u8]) -> Option<ErrorKind> {
+fn add_described(lines: &mut Lines, kind: Kind, octets: &[u8]) -> Option<ErrorKind>
+    ensures of_kind { IfNone result (IsOfKind kind octets.now) }
+    ensures refused { IfSome result
+        (λ error. error ≢ OutOfMemory → IsOfKind kind octets.now → ⊥) }
+{
     match kind {
         Kind::Certificate => add_certificate(lines, octets),
         Kind::List => add_list(lines, octets),
@@ -25,7 +34,10 @@ fn described(
     octets: &[u8],
     is_json: bool,
     has_digests: bool,
-) -> Result<Option<Vec<u8>>, AllocError> {
+) -> Result<Option<Vec<u8>>, AllocError>
+    ensures of_kind { IfOk result (λ text. IfSome text (λ _. IsOfKind kind octets.now)) }
+    ensures refused { IfOk result (λ text. IfNone text (IsOfKind kind octets.now → ⊥)) }
+{
     let mut lines = Lines::new(alloc, is_json);
     lines.has_digests = has_digests;
     match add_described(&mut lines, kind, octets) {
@@ -39,7 +51,9 @@ fn described(
 }
 
 // Tells why octets aren't of a kind.
-fn refuse<E: Output>(alloc: Global, kind: Kind, octets: &[u8], err: &mut E) -> ExitStatus {
+fn refuse<E: Output>(alloc: Global, kind: Kind, octets: &[u8], err: &mut E) -> ExitStatus
+    ensures { IsRefusalTold (sink E.gives E.failures err.old err.new) result }
+{
     match explain_octets(alloc, octets, kind, false) {
         Ok(text) => complain(err, text.as_slice(), ExitStatus::Faulty),
         Err(_) => tell_memory(err),
@@ -56,7 +70,10 @@ pub fn describe<O: Output, E: Output>(
     has_digests: bool,
     out: &mut O,
     err: &mut E,
-) -> ExitStatus {
+) -> ExitStatus
+    ensures described { IsDescribed kind octets.now (sink O.gives O.failures out.old out.new)
+        (sink E.gives E.failures err.old err.new) result }
+{
     match described(alloc, kind, octets, is_json, has_digests) {
         Ok(Some(text)) => answer(out, err, text.as_slice(), ExitStatus::Done),
         Ok(None) => refuse(alloc, kind, octets, err),

@@ -31,8 +31,9 @@ fn without_mark(octets: &[u8]) -> &[u8] {
     }
 }
 
-/// Whether octets are PEM (RFC 7468), of which nothing is read here: a line of theirs begins it,
-/// and what stands before is text too.
+/// Returns whether octets are PEM (RFC 7468), of which nothing is read here: a line of theirs
+/// begins it, and what stands before is text too. The answer is a hint: no clause says when it is
+/// true.
 pub fn is_pem(octets: &[u8]) -> bool {
     let mut rest = without_mark(octets);
     let mut begins_line = true;

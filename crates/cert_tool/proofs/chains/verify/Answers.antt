@@ -9,31 +9,18 @@ returns g c =
     let anchors = source g.I.Input.takes g.I.Input.is_ended g.I.Input.failures c.in-Ok.opened.anchors c.judged-status.new.anchors in
     let stream = source g.I.Input.takes g.I.Input.is_ended g.I.Input.failures c.in-Ok.opened.stream c.judged-status.new.stream in
     let out = sink g.O.Output.gives g.O.Output.failures c.args.out.now c.judged-status.new.out in
+    let opened = c.in-Ok.ensures in
+    let told =
+    subst (λ before. IsJudged answers anchors stream out (sink g.E.Output.gives g.E.Output.failures before c.judged-status.new.err) c.in-Some.seconds c.args.task.now c.judged-status.result) opened.untold c.judged-status.ensures in
     record {
       told = inl (
-        c.in-Ok.opened.answers,
-        c.judged-status.new.answers,
-        c.in-Ok.ensures.answers,
-        (
-          c.in-Ok.opened.anchors,
-          c.judged-status.new.anchors,
-          c.in-Ok.ensures.anchors,
-          (
-            c.in-Ok.opened.stream,
-            c.judged-status.new.stream,
-            c.in-Ok.ensures.stream,
-            (
-              c.in-Some.seconds,
-              c.in-Some.ensures,
-              (
-                c.judged-status.new.err,
-                subst
-                    (λ before. IsJudged answers anchors stream out (sink g.E.Output.gives g.E.Output.failures before c.judged-status.new.err) c.in-Some.seconds
-                    c.args.task.now c.judged-status.result)
-                    c.in-Ok.ensures.untold c.judged-status.ensures,
-              ),
-            ),
-          ),
+        c.in-Some.seconds,
+        c.in-Some.ensures.meant,
+        inl (
+          c.in-Ok.opened.answers,
+          c.judged-status.new.answers,
+          opened.answers,
+          (c.in-Ok.opened.anchors, c.judged-status.new.anchors, opened.anchors, (c.in-Ok.opened.stream, c.judged-status.new.stream, opened.stream, (c.judged-status.new.err, told))),
         ),
       );
     }

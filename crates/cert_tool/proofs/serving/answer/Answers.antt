@@ -9,10 +9,11 @@ use Rattle.cert_tool.proofs.serving.answer.Goals as goal
 pub returns : goal.returns
 returns g c =
     let items : Vec ℕ → List ℕ = λ v. v.items in
+    let tells = g.C.UnixClock.tells c.args.clock.now in
     let octets = c.args.request.now in
     let output = c.as_slice.result.now in
     let errors = c.as_slice-2.result.now in
-    let comes : ComesTo octets c.in-Ok.status output errors = record {
+    let comes : ComesTo tells octets c.in-Ok.status output errors = record {
       old_output = c.new-out.result;
       new_output = c.done.new.out;
       old_errors = c.new-err.result;
@@ -22,6 +23,6 @@ returns g c =
       written = (sym (c.as_slice.ensures.value ∙ ap items c.into_inner-output.ensures), sym (c.as_slice-2.ensures.value ∙ ap items c.into_inner-errors.ensures));
     } in
     record {
-      answer = IfOk-weaker c.framed.result (λ v. v.items ≡ reply_frames c.in-Ok.status output errors) (λ v. IsReply octets v.items) (λ v is. (c.in-Ok.status, output, errors, comes, is)) c.framed.ensures.framed;
-      none = IfErr-weaker c.framed.result _ (HasNoReply octets) (no_reply octets c.in-Ok.status output errors comes) c.framed.ensures.refused;
+      answer = IfOk-weaker c.framed.result (λ v. v.items ≡ reply_frames c.in-Ok.status output errors) (λ v. IsReply tells octets v.items) (λ v is. (c.in-Ok.status, output, errors, comes, is)) c.framed.ensures.framed;
+      none = IfErr-weaker c.framed.result _ (HasNoReply tells octets) (no_reply tells octets c.in-Ok.status output errors comes) c.framed.ensures.refused;
     }

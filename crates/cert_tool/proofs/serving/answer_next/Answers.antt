@@ -14,7 +14,7 @@ returns-clause-unanswered g c =
       c.in_ok-answer.answer.items,
       subst (λ got. IsNext (source g.I.Input.takes g.I.Input.is_ended g.I.Input.failures c.args.input.now c.read_frame.new.input) request_limit (option_map (λ (content : Vec ℕ). content.items) got)) c.in-Some.is
           c.in_ok-request.ensures.next,
-      subst (λ octets. IsReply octets c.in_ok-answer.answer.items) c.as_slice.ensures.value c.in_ok-answer.ensures.answer,
+      subst (λ octets. IsReply (g.C.UnixClock.tells c.args.clock.now) octets c.in_ok-answer.answer.items) c.as_slice.ensures.value c.in_ok-answer.ensures.answer,
       subst (λ text. IsCut (sink g.O.Output.gives g.O.Output.failures c.args.output.now c.write_all.new.output) text) c.as_slice-2.ensures.value c.in-Err.ensures.cut,
       refl,
     ))

@@ -15,7 +15,7 @@ returns g c =
       c.in-Some.front.now,
       c.in-Some.parts.now,
       (c.in-Some.ensures.some, c.in-Some.ensures.short, c.in-Ok.ensures.cases.1),
-      obeyed (λ (word : Bor (List ℕ)). word.now) (sent_inputs c.in-Some.parts.now) (sink g.O.Output.gives g.O.Output.failures c.args.out.now c.obey-status.new.out)
+      obeyed (λ (word : Bor (List ℕ)). word.now) (g.C.UnixClock.tells c.args.clock.now) (sent_inputs c.in-Some.parts.now) (sink g.O.Output.gives g.O.Output.failures c.args.out.now c.obey-status.new.out)
           (sink g.E.Output.gives g.E.Output.failures c.args.err.now c.obey-status.new.err) c.as_slice.result.now c.in-Some.front.now c.obey-status.result
           (ap (map (λ (word : Bor (List ℕ)). word.now)) c.as_slice.ensures.value ∙ c.in_ok-words.ensures ∙ ap words_in c.in-Ok.ensures.cases.0) c.obey-status.ensures.obeyed,
     )

@@ -15,7 +15,7 @@ requests-init g c = record {
 pub requests-preserved : goal.requests-preserved
 requests-preserved g c = record {
   served =
-      one_more g.I.Input.takes g.I.Input.is_ended g.I.Input.failures g.O.Output.gives g.O.Output.failures g.met.I.Input.takes_in_turn g.met.O.Output.gives_in_turn
+      one_more (g.C.UnixClock.tells c.args.clock.now) g.I.Input.takes g.I.Input.is_ended g.I.Input.failures g.O.Output.gives g.O.Output.failures g.met.I.Input.takes_in_turn g.met.O.Output.gives_in_turn
       c.args.input.now c.requests.input c.answer_next.new.input c.args.output.now c.requests.output c.answer_next.new.output c.in-Ok-true.field-0 c.requests.invariant.served
       c.in-Ok-true.ensures.answered c.in-Ok-true.field-0-test;
   untold = c.requests.invariant.untold;
@@ -35,7 +35,7 @@ returns-in-Ok-false g c =
         so_far.4,
         (so_far.5, so_far.6),
         inl (
-          ended g.I.Input.takes g.I.Input.is_ended g.I.Input.failures g.O.Output.gives g.O.Output.failures c.requests.input c.answer_next.new.input c.requests.output c.answer_next.new.output
+          ended (g.C.UnixClock.tells c.args.clock.now) g.I.Input.takes g.I.Input.is_ended g.I.Input.failures g.O.Output.gives g.O.Output.failures c.requests.input c.answer_next.new.input c.requests.output c.answer_next.new.output
               c.in-Ok-false.field-0 c.in-Ok-false.ensures.answered c.in-Ok-false.field-0-test,
           c.requests.invariant.untold,
           refl,

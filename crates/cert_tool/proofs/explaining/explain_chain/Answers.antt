@@ -1,0 +1,8 @@
+-- The answers are read, and the chain is explained by them.
+use Rattle.std.proofs.Common.{inl, map}
+use Rattle.cert_desk_rules.specs.Answers.{answer_plain}
+use Rattle.cert_tool.proofs.explaining.explain_chain.Goals as goal
+
+pub returns-in-Ok : goal.returns-in-Ok
+returns-in-Ok g c =
+    record { explained = inl (map answer_plain c.in-Ok.answers.items, c.in-Ok.ensures.read, c.explain_by.ensures) }

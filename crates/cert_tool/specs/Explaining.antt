@@ -1,0 +1,125 @@
+-- What is read to describe or to explain, and how that ends. The texts that are told aren't given
+-- here.
+use Rattle.std.specs.Prelude.{◌≡◌, ℕ, ◌⊎◌, List, Option, Some, None, Ok, Err, codes}
+use Rattle.cert_desk_io.specs.declared.exit_status.ExitStatus.{ExitStatus}
+use Rattle.cert_desk_io.specs.declared.exit_status.ExitStatus.TheVariants as statuses
+use Rattle.cert_desk_io.specs.declared.read_all_error.ReadAllError.{ReadAllError}
+use Rattle.cert_desk_io.specs.declared.read_all_error.ReadAllError.TheVariants as errors
+use Rattle.cert_desk_io.specs.Devices.{Device, Fails, MetEnd, Moved, Sound, Untouched}
+use Rattle.cert_desk_io.specs.Telling.{IsAnswer, IsComplaint, IsDeviceTold, IsMemoryTold}
+use Rattle.cert_desk_io.specs.Whole.{IsUnread, IsWhole, most_octets}
+use Rattle.cert_desk_rules.specs.declared.checked.Verdict.{Verdict}
+use Rattle.cert_desk_rules.specs.declared.checked.Verdict.TheVariants as verdicts
+use Rattle.cert_desk_rules.specs.Questions.{Question}
+use Rattle.cert_desk_checking.specs.declared.outcome.Outcome.{Outcome}
+use Rattle.cert_desk_checking.specs.declared.outcome.Outcome.TheVariants as outcomes
+use Rattle.cert_desk_checking.specs.AnchorFiles.{HasFirstFault}
+use Rattle.cert_desk_checking.specs.Runs.{status_of}
+use Rattle.cert_desk_bundle.specs.Streams.{Kept}
+use Rattle.cert_desk_answers.specs.declared.no_answers.NoAnswers.{NoAnswers}
+use Rattle.cert_tool.specs.Stops.{FedWithin, stop_of}
+use Rattle.cert_tool.specs.Verifying.{AreAnswers, IsNoneTold}
+
+-- how an input is told that has more than the most octets
+abbrev pub too_long_line : List ℕ
+too_long_line = codes "more than 4294967295 octets\n"
+
+-- why an input wasn't read whole is told
+abbrev pub IsUnreadTold : Device → ReadAllError → ExitStatus → Type 0
+IsUnreadTold err errors.TooMuch answer = IsComplaint err too_long_line statuses.Faulty answer
+IsUnreadTold err errors.Device answer = IsDeviceTold err answer
+IsUnreadTold err errors.OutOfMemory answer = IsMemoryTold err answer
+
+-- An input isn't read whole, and why is told.
+abbrev pub IsNotRead : Device → Device → ExitStatus → Type 0
+IsNotRead input err answer =
+    (error : ReadAllError) × IsUnread input most_octets error × IsUnreadTold err error answer
+
+-- Some text goes out; or there is no memory for one, which is told.
+abbrev pub IsSaid : Device → Device → ExitStatus → Type 0
+IsSaid out err answer =
+    ((text : List ℕ) × IsAnswer out err text statuses.Done answer)
+    ⊎ (Untouched out × IsMemoryTold err answer)
+
+-- Some text tells what ends a run, and the status is that of its end.
+abbrev pub IsStopSaid : Device → Outcome → ExitStatus → Type 0
+IsStopSaid err (outcomes.Checked checked) answer =
+    (text : List ℕ) × IsComplaint err text (status_of checked.verdict) answer
+IsStopSaid err (outcomes.BadAnchors offset fault) answer =
+    (text : List ℕ) × IsComplaint err text statuses.Arguments answer
+IsStopSaid err outcomes.Device answer = IsDeviceTold err answer
+IsStopSaid err outcomes.OutOfMemory answer = IsMemoryTold err answer
+
+-- what is said of a chain, or of what ends the run
+abbrev pub IsChainSaid : Option Outcome → Device → Device → ExitStatus → Type 0
+IsChainSaid None out err answer = IsSaid out err answer
+IsChainSaid (Some outcome) out err answer = Untouched out × IsStopSaid err outcome answer
+
+-- The stream is read, and what is said is of its chain, or of why it is none.
+abbrev pub IsStreamSaid : Device → Device → Device → ℕ → ExitStatus → Type 0
+IsStreamSaid stream out err limit answer =
+    (kept : Kept) × FedWithin stream limit kept × IsChainSaid (stop_of kept) out err answer
+
+-- Why octets give no anchors: one of them is faulty, or there is no memory.
+abbrev pub AreNoAnchors : List ℕ → Outcome → Type 0
+AreNoAnchors octets (outcomes.BadAnchors offset fault) = HasFirstFault octets offset fault
+AreNoAnchors octets outcomes.OutOfMemory = Unit {0}
+AreNoAnchors octets _ = ⊥
+
+-- What is said under the anchors that octets give, or of octets that give none.
+abbrev pub IsSaidOf : List ℕ → Device → Device → Device → ℕ → ExitStatus → Type 0
+IsSaidOf octets stream out err limit answer =
+    IsStreamSaid stream out err limit answer
+    ⊎ ((outcome : Outcome) × AreNoAnchors octets outcome × Untouched stream × Untouched out
+    × IsStopSaid err outcome answer)
+
+-- The anchors are read whole, and then the stream; or what is told ends the run before.
+abbrev pub IsSaidUnder : Device → Device → Device → Device → ℕ → ExitStatus → Type 0
+IsSaidUnder anchors stream out err limit answer =
+    ((octets : List ℕ) × IsWhole anchors most_octets octets
+    × IsSaidOf octets stream out err limit answer)
+    ⊎ (Untouched stream × Untouched out × IsNotRead anchors err answer)
+
+-- `explain chain`: the answers are read, and then the anchors and the stream; or there are no
+-- answers, which is told.
+abbrev pub IsExplained : Device → Device → Device → Device → Device → ℕ → ExitStatus → Type 0
+IsExplained answers anchors stream out err limit answer =
+    ((listing : List Question) × AreAnswers answers (Ok listing)
+    × IsSaidUnder anchors stream out err limit answer)
+    ⊎ ((none : NoAnswers) × AreAnswers answers (Err none) × Untouched anchors × Untouched stream
+    × Untouched out × IsNoneTold err none answer)
+
+-- calls moved some octets, and none failed
+abbrev pub HasMoved : Device → Type 0
+HasMoved d = (octets : List ℕ) × Moved d octets × Sound d
+
+-- the last call failed, and no other
+abbrev pub HasFailed : Device → Type 0
+HasFailed d = (octets : List ℕ) × Fails d octets
+
+-- no chain of one certificate or more
+abbrev pub IsNoChain : Verdict → Type 0
+IsNoChain (verdicts.StreamFault place offset kind) = Unit {0}
+IsNoChain verdicts.Empty = Unit {0}
+IsNoChain _ = ⊥
+
+-- what ends a stream early of which no read failed
+abbrev pub IsSoundStop : Outcome → Type 0
+IsSoundStop (outcomes.Checked checked) = IsNoChain checked.verdict
+IsSoundStop outcomes.OutOfMemory = Unit {0}
+IsSoundStop _ = ⊥
+
+-- why a text wasn't written: a write failed, or there was no memory for it
+abbrev pub IsUnwritten : Device → Outcome → Type 0
+IsUnwritten out outcomes.Device = HasFailed out
+IsUnwritten out outcomes.OutOfMemory = HasMoved out
+IsUnwritten out _ = ⊥
+
+-- How far a stream was read, and what is said of it written: to its end; to what ends it early; or
+-- to a read or a write that failed.
+abbrev pub IsPassed : Device → Device → Option Outcome → Type 0
+IsPassed stream out None = HasMoved stream × MetEnd stream × HasMoved out
+IsPassed stream out (Some outcome) =
+    (HasMoved stream × HasMoved out × IsSoundStop outcome)
+    ⊎ ((outcome ≡ outcomes.Device)
+    × ((HasFailed stream × HasMoved out) ⊎ (HasMoved stream × HasFailed out)))

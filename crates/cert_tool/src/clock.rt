@@ -1,0 +1,43 @@
+//! The clock, by which a chain may be judged at the present.
+
+ghost use Rattle.std.specs.Prelude.{⊤, ℕ, Option};
+
+use std::time::{SystemTime, UNIX_EPOCH};
+
+/// A clock that tells the present in seconds.
+pub trait UnixClock {
+    /// The clock told these seconds since 1970-01-01T00:00:00Z, or none.
+    ghost tells: { Self → Option ℕ → Type 0 };
+
+    /// The seconds since 1970-01-01T00:00:00Z, or `None` where the clock can't be read or shows a
+    /// time before that.
+    fn seconds(&self) -> Option<u64>
+        ensures told { tells self.now result };
+}
+
+/// The clock of a system.
+#[derive(Drop)]
+pub struct HostClock<'a> {
+    rt: &'a HostRuntime,
+}
+
+impl<'a> HostClock<'a> {
+    /// The clock of this system.
+    pub fn new(rt: &'a HostRuntime) -> HostClock<'a> {
+        HostClock { rt }
+    }
+}
+
+impl UnixClock for HostClock<'_> {
+    ghost tells = { λ _ _. ⊤ };
+
+    fn seconds(&self) -> Option<u64> {
+        let Ok(now) = SystemTime::now(self.rt) else {
+            return None;
+        };
+        match now.duration_since(UNIX_EPOCH) {
+            Ok(passed) => Some(passed.as_secs()),
+            Err(_) => None,
+        }
+    }
+}
