@@ -71,7 +71,7 @@ build() {
         --links "$crate=" --jobs 2 --toolchain "$toolchain" -o "out/lib$crate.a")
 }
 
-version=$(sed -n 's/^## \([0-9.]*\).*/\1/p' "$top/CHANGELOG.md" | head -n 1)
+version=$(sed -n 's/^## \([0-9][0-9.]*\).*/\1/p' "$top/CHANGELOG.md" | head -n 1)
 
 # Makes what is linked of the archive of a crate, under a name; for pkg-config with a description.
 library() {

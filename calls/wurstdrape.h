@@ -19,7 +19,11 @@
    A call that writes octets writes them to the front of `out`, and their number to `*size`.
    Where the buffer is too small it returns WD_NO_ROOM, writes nothing to `out`, and says in
    `*size` how much it wants. With every other status `out` stays as it was. Text is in UTF-8,
-   without a terminating 0. */
+   without a terminating 0.
+
+   A call returns no other status than those that its comment lists, and each of them exactly where
+   its meaning holds; WD_MEMORY, in place of any other, where an allocation failed. Where the
+   arguments are faulty it returns WD_ARGUMENTS, whatever else holds. */
 #ifndef WURSTDRAPE_H
 #define WURSTDRAPE_H
 
@@ -111,7 +115,7 @@ enum {
     WD_FAULT_VALUE = 23
 };
 
-/* The first fault of octets, from the left. */
+/* The first error that reading the octets meets. */
 typedef struct {
     uint32_t kind;  /* WD_FAULT_.. */
     uint64_t octet; /* where it was found, counted from 0, or UINT64_MAX where that isn't known */
@@ -206,8 +210,9 @@ uint32_t wd_name_text(const uint8_t *octets, size_t octets_len, uint8_t *out, si
 uint32_t wd_name_of_text(const uint8_t *text, size_t text_len, uint8_t *out, size_t out_len,
                          size_t *size);
 
-/* The dotted text of an identifier's content octets, and the octets of a dotted text, with the same
-   statuses. */
+/* The dotted text of an identifier's content octets, and the octets of a dotted text: WD_DONE,
+   WD_FAULTY where there is none of up to 39 octets, WD_NO_ROOM; WD_MEMORY, which the second never
+   returns. */
 uint32_t wd_identifier_text(const uint8_t *octets, size_t octets_len, uint8_t *out, size_t out_len,
                             size_t *size);
 uint32_t wd_identifier_of_text(const uint8_t *text, size_t text_len, uint8_t *out, size_t out_len,
@@ -216,8 +221,8 @@ uint32_t wd_identifier_of_text(const uint8_t *text, size_t text_len, uint8_t *ou
 /* What the signatures of a chain may ask, a line each: `PLACE ANCHOR KEY ALGORITHM SIGNED BITS`
    (docs/CLI.md). The chain is certificates of at most `limit` octets, the one below an anchor
    first, with nothing between them; the anchors are trust anchors (RFC 5914), as certificates are.
-   WD_DONE; WD_FAULTY where the chain isn't one; WD_EMPTY; WD_ARGUMENTS where the anchors are faulty
-   or the limit is below 6; WD_NO_ROOM; WD_MEMORY. */
+   WD_DONE; WD_FAULTY where the chain isn't one; WD_EMPTY; WD_ARGUMENTS where the anchors are
+   faulty, or 2^32 octets or more, or the limit is below 6; WD_NO_ROOM; WD_MEMORY. */
 uint32_t wd_questions(const uint8_t *anchors, size_t anchors_len, const uint8_t *chain,
                       size_t chain_len, uint32_t limit, uint8_t *out, size_t out_len,
                       size_t *size);
@@ -225,9 +230,9 @@ uint32_t wd_questions(const uint8_t *anchors, size_t anchors_len, const uint8_t 
 /* The verdict on a chain at a validation time (`moment`, seconds since 1970-01-01T00:00:00Z), for a
    key purpose (the content octets of its identifier), where a signature is right exactly where
    `answers` list it: lines of wd_questions, those whose signature a verifier of yours has
-   verified. WD_DONE says that the chain is trusted, WD_REFUSED and WD_FAULTY that it isn't, and
-   then `told` says why; WD_EMPTY; WD_ARGUMENTS where anchors, answers, purpose or limit are
-   faulty; WD_MEMORY. */
+   verified. WD_DONE says that the chain is trusted, WD_REFUSED that it breaks a rule, WD_FAULTY
+   that its octets have a fault, and with both `told` says where and which; WD_EMPTY; WD_ARGUMENTS
+   where anchors, answers, purpose or limit are faulty; WD_MEMORY. */
 uint32_t wd_verify(const uint8_t *answers, size_t answers_len, const uint8_t *anchors,
                    size_t anchors_len, const uint8_t *chain, size_t chain_len, uint64_t moment,
                    const uint8_t *purpose, size_t purpose_len, uint32_t limit, wd_place *told);

@@ -29,7 +29,7 @@ pub enum Kind {
     Request,
 }
 
-/// The first fault of octets, from the left.
+/// The first error that reading the octets meets.
 #[derive(Clone, Copy, Debug, PartialEq, Eq)]
 pub struct Fault {
     /// Which it is.

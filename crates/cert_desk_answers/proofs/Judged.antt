@@ -1,5 +1,7 @@
 -- What is given is what was read, and no other.
 use Rattle.std.proofs.Common.{◌≡◌, ℕ, ◌<◌, ◌^◌, List, [], ◌++◌, ◌⊎◌, inl, inr, length, Result, Ok, Err, sym, ap, subst, ◌∙◌, append-nil, length-append, arith}
+use Rattle.cert_desk_io.specs.declared.exit_status.ExitStatus.{ExitStatus}
+use Rattle.cert_desk_io.specs.declared.exit_status.ExitStatus.TheVariants as statuses
 use Rattle.cert_desk_io.specs.declared.memory_inputs.MemoryInput.{MemoryInput}
 use Rattle.cert_desk_io.specs.Devices.{Device, source}
 use Rattle.cert_desk_io.specs.Memory.{HasEnded, octets_left, read_failures}
@@ -10,6 +12,7 @@ use Rattle.cert_desk_rules.specs.Judging.{Answers, PlainAnchor}
 use Rattle.cert_desk_checking.specs.Laws.{HasOneAnchorFile}
 use Rattle.cert_desk_checking.specs.Runs.{HasNoAnchors, run_terms}
 use Rattle.cert_desk_rules.specs.Verdicts.{Trusted}
+use Rattle.cert_desk_answers.specs.Judged.{IsUnanswered}
 
 -- an input in memory, over calls
 abbrev pub memory : MemoryInput → MemoryInput → Device
@@ -28,9 +31,14 @@ no_anchors a b octets offset fault one e short (inl h) given is =
 no_anchors a b octets offset fault one e short (inr h) given is =
     omega (arith, short, ap length e, ap length h.0.1, length-append h.0.0 (octets_left b), h.0.2)
 
-pub first_of : (A B : Type 0) → A ⊎ B → (B → ⊥) → A
-first_of A B (inl a) never = a
-first_of A B (inr b) never = absurd (never b)
+-- why nothing is answered
+pub unanswered_by : {A B : Type 0} (status : ExitStatus) → (A → B) → IsUnanswered A status → IsUnanswered B status
+unanswered_by status f (inl why) = inl (why.0, f why.1)
+unanswered_by status f (inr memory) = inr memory
+
+pub only_memory : {A : Type 0} (status : ExitStatus) → (A → ⊥) → IsUnanswered A status → status ≡ statuses.Memory
+only_memory status never (inl why) = absurd (never why.1)
+only_memory status never (inr memory) = memory
 
 abbrev got : {A E : Type 0} → A → Result A E → A
 got d (Ok x) = x
@@ -46,8 +54,3 @@ trusted_by given other moment purpose says answers limit most chain p q r h =
     subst (λ (xs : List PlainAnchor). Trusted (run_terms xs moment purpose answers) most chain) p
     (subst (λ (f : Answers). Trusted (run_terms given moment purpose f) most chain) q
     (subst (λ (n : ℕ). Trusted (run_terms given moment purpose says) n chain) r h))
-
--- trust for an equal purpose
-pub trusted_for : (given : List PlainAnchor) (moment : ℕ) (purpose other : List ℕ) (answers : Answers) (limit : ℕ) (chain : List ℕ)
-    → purpose ≡ other → Trusted (run_terms given moment purpose answers) limit chain → Trusted (run_terms given moment other answers) limit chain
-trusted_for given moment purpose other answers limit chain e h = subst (λ (x : List ℕ). Trusted (run_terms given moment x answers) limit chain) e h

@@ -1,5 +1,5 @@
 -- What a chain is judged to be by a file of anchors and a file of answers.
-use Rattle.std.specs.Prelude.{◌≡◌, ℕ, List, Result, Ok, Err}
+use Rattle.std.specs.Prelude.{◌≡◌, ◌⊎◌, ℕ, List, Result, Ok, Err}
 use Rattle.cert_desk_io.specs.declared.exit_status.ExitStatus.{ExitStatus}
 use Rattle.cert_desk_io.specs.declared.exit_status.ExitStatus.TheVariants as statuses
 use Rattle.cert_desk_rules.specs.declared.checked.Verdict.{Verdict}
@@ -18,6 +18,17 @@ UnderGiven anchors answers moment arcs Says =
     (given : List PlainAnchor) × (listing : List Question)
     × IsAnchorFile anchors given × (file_says answers ≡ Ok listing)
     × Says (run_terms given moment arcs (only_yes_to listing))
+
+-- The octets are anchors, and answers.
+abbrev pub AreGiven : List ℕ → List ℕ → Type 0
+AreGiven anchors answers =
+    (given : List PlainAnchor) × (listing : List Question)
+    × IsAnchorFile anchors given × (file_says answers ≡ Ok listing)
+
+-- Why nothing is answered: what was given is faulty, or there was no memory.
+abbrev pub IsUnanswered : Type 0 → ExitStatus → Type 0
+IsUnanswered Faulty status =
+    ((status ≡ statuses.Arguments) × Faulty) ⊎ (status ≡ statuses.Memory)
 
 -- trusted, or there was no memory
 abbrev pub SaysTrusted : Result Verdict ExitStatus → Type 0

@@ -14,7 +14,7 @@ ghost use Rattle.cert_desk_checking.specs.Anchors.{anchor_plain};
 ghost use Rattle.cert_desk_checking.specs.AnchorFiles.{IsAnchorFile};
 ghost use Rattle.cert_desk_checking.specs.Runs.{run_terms};
 ghost use Rattle.cert_desk_answers.specs.AnswerLines.{file_says};
-ghost use Rattle.cert_desk_answers.specs.Judged.{SaysTrusted, UnderGiven};
+ghost use Rattle.cert_desk_answers.specs.Judged.{AreGiven, IsUnanswered, SaysTrusted, UnderGiven};
 
 use crate::answer_lines::answers_in;
 use crate::no_answers::NoAnswers;
@@ -32,8 +32,8 @@ pub fn anchors_of(alloc: Global, octets: &[u8]) -> Result<Vec<Anchor>, ExitStatu
     ensures read { IfOk result
         (λ anchors. IsAnchorFile octets.now (map anchor_plain anchors.items)) }
     ensures other { IfErr result (λ status. (status ≡ Arguments) ⊎ (status ≡ Memory)) }
-    ensures none { IfErr result (λ status. (status ≡ Memory)
-        ⊎ ((given : List PlainAnchor) → IsAnchorFile octets.now given → ⊥)) }
+    ensures none { IfErr result
+        (IsUnanswered ((given : List PlainAnchor) → IsAnchorFile octets.now given → ⊥)) }
 {
     one_anchor_file();
     let mut input = MemoryInput::new(octets, &[], None);
@@ -81,6 +81,7 @@ pub fn verdict_of(
     ensures judged { IfOk result (λ verdict. UnderGiven anchors.now answers.now moment purpose.now
         (λ t. IsVerdict t limit chain.now verdict)) }
     ensures other { IfErr result (λ status. (status ≡ Arguments) ⊎ (status ≡ Memory)) }
+    ensures none { IfErr result (IsUnanswered (AreGiven anchors.now answers.now → ⊥)) }
     ensures only { (given : List PlainAnchor) (listing : List Question)
         → IsAnchorFile anchors.now given → file_says answers.now ≡ Ok listing
         → Trusted (run_terms given moment purpose.now (only_yes_to listing)) limit chain.now

@@ -1,1 +1,3 @@
+pub mod Identifiers
 pub mod Rooms
+pub mod Returned

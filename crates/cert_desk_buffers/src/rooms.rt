@@ -1,7 +1,8 @@
 //! Texts in the caller's buffers.
-ghost use Rattle.std.specs.Prelude.{◌≡◌, ◌<◌, ◌⊎◌, length, take};
+ghost use Rattle.std.specs.Prelude.{◌≡◌, ◌≤◌, ◌<◌, ◌⊎◌, length, take};
 ghost use Rattle.cert_desk_io.specs.declared.exit_status.ExitStatus.TheVariants.{Done, Device};
 ghost use Rattle.cert_desk_io.specs.Statuses.{code_of};
+ghost use Rattle.cert_desk_buffers.specs.Rooms.{ChangesFront};
 
 use cert_desk_io::ExitStatus;
 
@@ -18,6 +19,8 @@ pub fn give(octets: &[u8], out: &mut [u8], size: &mut usize) -> u32
     ensures number { size.new ≡ length octets.now }
     ensures status { (result ≡ code_of Done) ⊎ (result ≡ code_of Device) }
     ensures done { result ≡ code_of Done → take size.new out.new ≡ octets.now }
+    ensures fits { result ≡ code_of Done → length octets.now ≤ length out.old }
+    ensures front { result ≡ code_of Done → ChangesFront size.new out.old out.new }
     ensures no_room { result ≡ code_of Device → length out.old < length octets.now }
     ensures untouched { result ≡ code_of Device → out.new ≡ out.old }
 {

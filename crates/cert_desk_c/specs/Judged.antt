@@ -1,13 +1,18 @@
 -- What a judged chain's octets are, by the octets of anchors and of answers.
-use Rattle.std.specs.Prelude.{◌≡◌, ℕ, ◌<◌, List, length}
+use Rattle.std.specs.Prelude.{◌≡◌, ℕ, ◌≤◌, ◌<◌, ◌^◌, List, [], length, ⊤}
 use Rattle.const_oid.specs.Bound.{Bound}
-use Rattle.const_oid.specs.IdentifierOctets.{identifier_octets}
 use Rattle.x509_cert_certificates.specs.Certificates.{PlainCertificate}
+use Rattle.cert_desk_io.specs.declared.exit_status.ExitStatus.{ExitStatus}
+use Rattle.cert_desk_io.specs.declared.exit_status.ExitStatus.TheVariants as statuses
+use Rattle.cert_desk_buffers.specs.Identifiers.{SpellsIdentifier}
+use Rattle.cert_desk_bundle.specs.declared.fault_kind.FaultKind.{FaultKind}
 use Rattle.cert_desk_bundle.specs.Chains.{Chain, joined}
 use Rattle.cert_desk_bundle.specs.Faults.{rank}
 use Rattle.cert_desk_rules.specs.declared.checked.Verdict.{Verdict}
 use Rattle.cert_desk_rules.specs.declared.checked.Verdict.TheVariants as verdicts
+use Rattle.cert_desk_rules.specs.declared.rule.Rule.{Rule}
 use Rattle.cert_desk_rules.specs.Judging.{PlainAnchor, Terms, number}
+use Rattle.cert_desk_rules.specs.Verdicts.{Faulty, Refused, Trusted}
 use Rattle.cert_desk_checking.specs.AnchorFiles.{IsAnchorFile}
 use Rattle.cert_desk_checking.specs.QuestionLines.{chain_lines, lines_octets}
 use Rattle.cert_desk_answers.specs.Judged.{UnderGiven}
@@ -15,8 +20,28 @@ use Rattle.cert_desk_answers.specs.Judged.{UnderGiven}
 -- The purpose is the octets of an identifier (X.690 8.19), too.
 abbrev pub UnderTerms : List ℕ → List ℕ → ℕ → List ℕ → (Terms → Type 0) → Type 0
 UnderTerms anchors answers moment purpose Says =
-    (arcs : List ℕ) × (purpose ≡ identifier_octets arcs)
-    × UnderGiven anchors answers moment arcs Says
+    (arcs : List ℕ) × SpellsIdentifier purpose arcs × UnderGiven anchors answers moment arcs Says
+
+-- how many octets a certificate may have, and the anchors
+abbrev pub AreWithin : ℕ → List ℕ → Type 0
+AreWithin limit anchors = (6 ≤ limit) × (length anchors < 2 ^ 32)
+
+module _ (answers anchors chain : List ℕ) (moment : ℕ) (purpose : List ℕ) (limit : ℕ) where
+  -- The arguments are right, and it is so under their terms.
+  abbrev pub UnderArguments : (Terms → Type 0) → Type 0
+  UnderArguments Says = AreWithin limit anchors × UnderTerms anchors answers moment purpose Says
+
+  -- Of a call that judges: the chain is trusted, refused, faulty, empty; the arguments are faulty.
+  abbrev pub IsVerdictStatus : ExitStatus → Type 0
+  IsVerdictStatus statuses.Done = UnderArguments (λ t. Trusted t limit chain)
+  IsVerdictStatus statuses.Refused =
+      UnderArguments (λ t. (place : ℕ) × (rule : Rule) × Refused t limit chain place rule)
+  IsVerdictStatus statuses.Faulty =
+      UnderArguments (λ t. (place : ℕ) × (offset : ℕ) × (kind : FaultKind)
+      × Faulty t limit chain place offset kind)
+  IsVerdictStatus statuses.Empty = UnderArguments (λ t. chain ≡ [])
+  IsVerdictStatus statuses.Arguments = UnderArguments (λ t. ⊤) → ⊥
+  IsVerdictStatus _ = ⊥
 
 -- what is told of a verdict: a place, an offset, and the number of a rule or of a kind of fault
 abbrev pub Tells : Verdict → ℕ → ℕ → ℕ → Type 0
@@ -30,6 +55,25 @@ Tells verdicts.Empty place offset told = Unit {0}
 -- chain's signatures may ask, in turn.
 abbrev pub AreQuestions : List ℕ → List ℕ → ℕ → List ℕ → Type 0
 AreQuestions anchors chain limit text =
-    (given : List PlainAnchor) × (cs : List PlainCertificate)
+    AreWithin limit anchors
+    × ((given : List PlainAnchor) × (cs : List PlainCertificate)
     × IsAnchorFile anchors given × Chain Bound limit cs chain × (0 < length cs)
-    × (text ≡ lines_octets (chain_lines given cs (joined Bound cs)))
+    × (text ≡ lines_octets (chain_lines given cs (joined Bound cs))))
+
+-- The octets join no certificates; or there are none.
+abbrev pub IsNoChain : ℕ → List ℕ → ExitStatus → Type 0
+IsNoChain limit octets statuses.Faulty =
+    (cs : List PlainCertificate) → Chain Bound limit cs octets → ⊥
+IsNoChain limit octets statuses.Empty = octets ≡ []
+IsNoChain limit octets _ = ⊥
+
+-- the octets are anchors
+abbrev pub AreAnchors : ℕ → List ℕ → Type 0
+AreAnchors limit anchors =
+    AreWithin limit anchors × ((given : List PlainAnchor) × IsAnchorFile anchors given)
+
+-- Why a chain has no questions.
+abbrev pub HasNoQuestions : List ℕ → List ℕ → ℕ → ExitStatus → Type 0
+HasNoQuestions anchors chain limit statuses.Arguments = AreAnchors limit anchors → ⊥
+HasNoQuestions anchors chain limit status =
+    AreAnchors limit anchors × IsNoChain limit chain status

@@ -1,22 +1,25 @@
 -- What octets spell, and what is said of it.
-use Rattle.std.specs.Prelude.{◌≡◌, ℕ, ◌⊎◌, List, [], ◌∷◌, if◌then◌else◌, Option, Some, None, Ok, Err}
-use Rattle.std.specs.Prelude.{IsUtf8}
+use Rattle.std.specs.Prelude.{◌≡◌, ℕ, ◌⊎◌, List, [], ◌∷◌, if◌then◌else◌, Option, Some, None, Ok}
+use Rattle.std.specs.Prelude.{Err, IsNone, IsSome, IsUtf8, false}
 use Rattle.const_oid.specs.Bound.{Bound}
 use Rattle.const_oid.specs.Comparing.{owned_eq}
 use Rattle.const_oid.specs.DottedText.{dotted}
-use Rattle.const_oid.specs.IdentifierOctets.{IsIdentifier, identifier_octets}
 use Rattle.const_oid.specs.TextFaults.{IsDottedText}
 use Rattle.der_core_head.specs.declared.error.ErrorKind.{ErrorKind}
 use Rattle.der_core_head.specs.Grammar.{plain_list}
 use Rattle.der_core_head.specs.Shapes.{Spells}
+use Rattle.der_core_head.specs.Writing.{Out, write}
 use Rattle.x509_cert_names.specs.Names.{PlainName, name}
 use Rattle.x509_cert_names.specs.NameTexts.{ReadsEncoding, ReadsName}
 use Rattle.x509_cert_names.specs.Pairs.{relative_plain}
-use Rattle.x509_cert_names.specs.PlainTexts.{name_text}
+use Rattle.x509_cert_names.specs.PlainTexts.{SpellsName, name_text}
 use Rattle.x509_cert_parts.specs.Grammar.{PlainExtension, extension_arcs}
 use Rattle.x509_cert_certificates.specs.Certificates.{PlainCertificate, raw_certificate}
-use Rattle.x509_cert_certificates.specs.Certificates.{issuer, subject}
+use Rattle.x509_cert_certificates.specs.Certificates.{extensions_of, issuer, subject}
 use Rattle.x509_cert_lists.specs.ListGrammar.{cert_req}
+use Rattle.cert_desk_io.specs.declared.exit_status.ExitStatus.{ExitStatus}
+use Rattle.cert_desk_io.specs.declared.exit_status.ExitStatus.TheVariants as statuses
+use Rattle.cert_desk_buffers.specs.Identifiers.{IsNoIdentifier, SpellsIdentifier}
 use Rattle.cert_desk_listing.specs.Parts.{PlainList, PlainRequest, raw_certificate_list}
 
 -- the octets spell no certificate, no revocation list, no request, no name
@@ -54,10 +57,15 @@ first_extension arcs (e ∷ left) = if owned_eq (extension_arcs e) arcs then Som
 abbrev pub IsNameText : List ℕ → List ℕ → Type 0
 IsNameText octets text = (n : PlainName) × Spells (name Bound) n octets × (text ≡ name_text n)
 
--- The text spells a name (RFC 4514 3) with this encoding.
+-- what a writer has that wrote these octets into a room without bound
+abbrev pub written_octets : List ℕ → Out
+written_octets octets = record { written = octets; room = None; failed = false }
+
+-- The text is UTF-8, and spells a name (RFC 4514 3) of which these octets are written.
 abbrev pub IsEncodedName : List ℕ → List ℕ → Type 0
 IsEncodedName text octets =
-    ReadsEncoding (name Bound) (plain_list relative_plain) (ReadsName Bound text) (Ok octets)
+    IsUtf8 text × ((n : PlainName) × SpellsName Bound text n
+    × (write (name Bound) n (written_octets []) ≡ Ok (written_octets octets)))
 
 -- The text isn't UTF-8, or spells no name that has an encoding.
 abbrev pub IsNoNameText : List ℕ → Type 0
@@ -65,14 +73,32 @@ IsNoNameText text = (IsUtf8 text → ⊥)
     ⊎ ((kind : ErrorKind)
     × ReadsEncoding (name Bound) (plain_list relative_plain) (ReadsName Bound text) (Err kind))
 
--- The octets spell an identifier (X.690 8.19) whose dotted text this is.
+-- The octets spell an identifier whose dotted text this is.
 abbrev pub IsDottedTextOf : List ℕ → List ℕ → Type 0
 IsDottedTextOf octets text =
-    (arcs : List ℕ) × IsIdentifier Bound arcs × (octets ≡ identifier_octets arcs)
-    × (text ≡ dotted arcs)
+    (arcs : List ℕ) × SpellsIdentifier octets arcs × (text ≡ dotted arcs)
 
--- The dotted text spells an identifier whose octets these are.
+-- The text is UTF-8, and the dotted text of an identifier that these octets spell.
 abbrev pub IsIdentifierOf : List ℕ → List ℕ → Type 0
 IsIdentifierOf text octets =
-    (arcs : List ℕ) × IsDottedText arcs text × IsIdentifier Bound arcs
-    × (octets ≡ identifier_octets arcs)
+    IsUtf8 text × ((arcs : List ℕ) × IsDottedText arcs text × SpellsIdentifier octets arcs)
+
+abbrev pub IsNoDottedText : List ℕ → Type 0
+IsNoDottedText text = (octets : List ℕ) → IsIdentifierOf text octets → ⊥
+
+-- The octets spell a certificate and an identifier, and it is so of the first extension that the
+-- certificate has of the identifier, if it has one.
+abbrev pub IsOfExtension : List ℕ → List ℕ → (Option PlainExtension → Type 0) → Type 0
+IsOfExtension octets identifier Is =
+    (arcs : List ℕ) × SpellsIdentifier identifier arcs
+    × IsOfCertificate octets (λ c. Is (first_extension arcs (extensions_of c)))
+
+-- Of a call that looks for the extension: there is one; no certificate; no such extension; no
+-- identifier.
+abbrev pub IsExtensionStatus : List ℕ → List ℕ → ExitStatus → Type 0
+IsExtensionStatus octets identifier statuses.Done = IsOfExtension octets identifier IsSome
+IsExtensionStatus octets identifier statuses.Faulty =
+    ((arcs : List ℕ) × SpellsIdentifier identifier arcs) × IsNoCertificate octets
+IsExtensionStatus octets identifier statuses.Empty = IsOfExtension octets identifier IsNone
+IsExtensionStatus octets identifier statuses.Arguments = IsNoIdentifier identifier
+IsExtensionStatus octets identifier _ = ⊥

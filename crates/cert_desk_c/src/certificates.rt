@@ -6,7 +6,10 @@ ghost use Rattle.x509_cert_certificates.specs.Views.{certificate_plain};
 ghost use Rattle.cert_desk_io.specs.declared.exit_status.ExitStatus.TheVariants.{Device, Done};
 ghost use Rattle.cert_desk_io.specs.declared.exit_status.ExitStatus.TheVariants.{Faulty};
 ghost use Rattle.cert_desk_io.specs.Statuses.{code_of};
-ghost use Rattle.cert_desk_buffers.specs.Rooms.{Wants};
+ghost use Rattle.cert_desk_buffers.specs.Returned.{IsExactWithMemory, IsFaultyStatus};
+ghost use Rattle.cert_desk_buffers.specs.Returned.{IsTextStatus, IsValueStatus};
+ghost use Rattle.cert_desk_buffers.specs.Rooms.{ChangesFront, Wants};
+ghost use Rattle.cert_tool_describe.specs.Files.{IsCertificate};
 ghost use Rattle.cert_desk_c.specs.Places.{ArePlaced};
 ghost use Rattle.cert_desk_c.specs.Values.{IsIssuerText, IsNoCertificate, IsOfCertificate};
 ghost use Rattle.cert_desk_c.specs.Values.{IsSubjectText};
@@ -33,10 +36,13 @@ pub struct WdValidity {
 /// certificate, 5 where the buffer is too small, 6 out of memory.
 #[unsafe(no_mangle)]
 pub extern "C" fn wd_subject(alloc: Global, octets: &[u8], out: &mut [u8], size: &mut usize) -> u32
+    ensures statuses { IsExactWithMemory (IsTextStatus (IsSubjectText octets.now)
+        (IsFaultyStatus (IsNoCertificate octets.now)) out.old) result }
     ensures done { result ≡ code_of Done → IsSubjectText octets.now (take size.new out.new) }
     ensures no_room { result ≡ code_of Device
         → Wants (IsSubjectText octets.now) out.old size.new }
     ensures not_spelled { result ≡ code_of Faulty → IsNoCertificate octets.now }
+    ensures front { result ≡ code_of Done → ChangesFront size.new out.old out.new }
     ensures untouched { result ≢ code_of Done → out.new ≡ out.old }
 {
     *size = 0;
@@ -54,10 +60,13 @@ pub extern "C" fn wd_subject(alloc: Global, octets: &[u8], out: &mut [u8], size:
 /// certificate, 5 where the buffer is too small, 6 out of memory.
 #[unsafe(no_mangle)]
 pub extern "C" fn wd_issuer(alloc: Global, octets: &[u8], out: &mut [u8], size: &mut usize) -> u32
+    ensures statuses { IsExactWithMemory (IsTextStatus (IsIssuerText octets.now)
+        (IsFaultyStatus (IsNoCertificate octets.now)) out.old) result }
     ensures done { result ≡ code_of Done → IsIssuerText octets.now (take size.new out.new) }
     ensures no_room { result ≡ code_of Device
         → Wants (IsIssuerText octets.now) out.old size.new }
     ensures not_spelled { result ≡ code_of Faulty → IsNoCertificate octets.now }
+    ensures front { result ≡ code_of Done → ChangesFront size.new out.old out.new }
     ensures untouched { result ≢ code_of Done → out.new ≡ out.old }
 {
     *size = 0;
@@ -87,10 +96,13 @@ fn tell_validity(certificate: &CertificateInner<Raw>, dates: &mut WdValidity)
 /// of memory.
 #[unsafe(no_mangle)]
 pub extern "C" fn wd_dates(alloc: Global, octets: &[u8], dates: &mut WdValidity) -> u32
+    ensures statuses { IsExactWithMemory (IsValueStatus (IsCertificate octets.now)
+        (IsNoCertificate octets.now)) result }
     ensures done { result ≡ code_of Done → IsOfCertificate octets.now
         (λ c. (dates.new.not_before ≡ unix_seconds (not_before c))
         × (dates.new.not_after ≡ unix_seconds (not_after c))) }
     ensures not_spelled { result ≡ code_of Faulty → IsNoCertificate octets.now }
+    ensures untouched { result ≢ code_of Done → dates.new ≡ dates.old }
 {
     let certificate = match certificate_of(alloc, octets) {
         Ok(certificate) => certificate,
@@ -104,9 +116,12 @@ pub extern "C" fn wd_dates(alloc: Global, octets: &[u8], dates: &mut WdValidity)
 /// no certificate, 6 out of memory.
 #[unsafe(no_mangle)]
 pub extern "C" fn wd_parts(alloc: Global, octets: &[u8], spans: &mut WdSpans) -> u32
+    ensures statuses { IsExactWithMemory (IsValueStatus (IsCertificate octets.now)
+        (IsNoCertificate octets.now)) result }
     ensures done { result ≡ code_of Done
         → IsOfCertificate octets.now (λ c. ArePlaced octets.now c spans.new) }
     ensures not_spelled { result ≡ code_of Faulty → IsNoCertificate octets.now }
+    ensures untouched { result ≢ code_of Done → spans.new ≡ spans.old }
 {
     let _certificate = match certificate_of(alloc, octets) {
         Ok(certificate) => certificate,

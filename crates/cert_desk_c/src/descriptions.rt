@@ -1,7 +1,14 @@
 //! Descriptions.
-ghost use Rattle.std.specs.Prelude.{◌≡◌, ◌≢◌, ◌<◌, length};
+ghost use Rattle.std.specs.Prelude.{◌≡◌, ◌≢◌, ◌<◌, ◌⊎◌, length, IfSome, None};
+ghost use Rattle.der_core_head.specs.declared.error.ErrorKind.TheVariants.{OutOfMemory};
 ghost use Rattle.cert_desk_io.specs.declared.exit_status.ExitStatus.TheVariants.{Device, Done};
+ghost use Rattle.cert_desk_io.specs.declared.exit_status.ExitStatus.TheVariants.{Faulty, Memory};
 ghost use Rattle.cert_desk_io.specs.Statuses.{code_of};
+ghost use Rattle.cert_desk_buffers.specs.Returned.{IsExactWithMemory, IsFaultyStatus};
+ghost use Rattle.cert_desk_buffers.specs.Returned.{IsTextStatus};
+ghost use Rattle.cert_desk_buffers.specs.Rooms.{ChangesFront};
+ghost use Rattle.cert_tool_describe.specs.Files.{IsCertificate, IsList, IsRequest};
+ghost use Rattle.cert_desk_c.specs.Values.{IsNoCertificate, IsNoList, IsNoRequest};
 
 use cert_desk_buffers::{code, give};
 use cert_desk_io::ExitStatus;
@@ -12,7 +19,12 @@ use std::alloc::Global;
 
 // Writes a description, unless octets have a fault.
 fn give_lines(lines: Lines, fault: Option<ErrorKind>, out: &mut [u8], size: &mut usize) -> u32
+    ensures given { fault ≡ None → IsExactWithMemory (IsTextStatus
+        (λ text. size.new ≡ length text) (λ _. ⊥) out.old) result }
+    ensures refused { IfSome fault (λ kind. ((kind ≢ OutOfMemory) × (result ≡ code_of Faulty))
+        ⊎ (result ≡ code_of Memory)) }
     ensures no_room { result ≡ code_of Device → length out.old < size.new }
+    ensures front { result ≡ code_of Done → ChangesFront size.new out.old out.new }
     ensures untouched { result ≢ code_of Done → out.new ≡ out.old }
 {
     *size = 0;
@@ -38,7 +50,11 @@ pub extern "C" fn wd_describe_certificate(
     out: &mut [u8],
     size: &mut usize,
 ) -> u32
+    ensures statuses { IsExactWithMemory (IsTextStatus
+        (λ text. IsCertificate octets.now × (size.new ≡ length text))
+        (IsFaultyStatus (IsNoCertificate octets.now)) out.old) result }
     ensures no_room { result ≡ code_of Device → length out.old < size.new }
+    ensures front { result ≡ code_of Done → ChangesFront size.new out.old out.new }
     ensures untouched { result ≢ code_of Done → out.new ≡ out.old }
 {
     let mut lines = Lines::new(alloc, json);
@@ -56,7 +72,11 @@ pub extern "C" fn wd_describe_list(
     out: &mut [u8],
     size: &mut usize,
 ) -> u32
+    ensures statuses { IsExactWithMemory (IsTextStatus
+        (λ text. IsList octets.now × (size.new ≡ length text))
+        (IsFaultyStatus (IsNoList octets.now)) out.old) result }
     ensures no_room { result ≡ code_of Device → length out.old < size.new }
+    ensures front { result ≡ code_of Done → ChangesFront size.new out.old out.new }
     ensures untouched { result ≢ code_of Done → out.new ≡ out.old }
 {
     let mut lines = Lines::new(alloc, json);
@@ -74,7 +94,11 @@ pub extern "C" fn wd_describe_request(
     out: &mut [u8],
     size: &mut usize,
 ) -> u32
+    ensures statuses { IsExactWithMemory (IsTextStatus
+        (λ text. IsRequest octets.now × (size.new ≡ length text))
+        (IsFaultyStatus (IsNoRequest octets.now)) out.old) result }
     ensures no_room { result ≡ code_of Device → length out.old < size.new }
+    ensures front { result ≡ code_of Done → ChangesFront size.new out.old out.new }
     ensures untouched { result ≢ code_of Done → out.new ≡ out.old }
 {
     let mut lines = Lines::new(alloc, json);

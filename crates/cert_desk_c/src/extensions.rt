@@ -1,7 +1,6 @@
 //! Extensions of certificates.
-ghost use Rattle.std.specs.Prelude.{◌≡◌, ◌++◌, ℕ, List, Some, None};
+ghost use Rattle.std.specs.Prelude.{◌≡◌, ◌≢◌, ◌++◌, ℕ, List, Some, None};
 ghost use Rattle.const_oid.specs.Bound.{Bound};
-ghost use Rattle.const_oid.specs.IdentifierOctets.{identifier_octets};
 ghost use Rattle.der_core_head.specs.Shapes.{Spells, many, octets_of, body_octets, IsValid, IsBody};
 ghost use Rattle.x509_cert_parts.specs.Grammar.{PlainExtension, extension, extension_octets};
 ghost use Rattle.x509_cert_parts.specs.Grammar.{is_critical};
@@ -11,8 +10,11 @@ ghost use Rattle.x509_cert_certificates.specs.Views.{certificate_plain};
 ghost use Rattle.cert_desk_io.specs.declared.exit_status.ExitStatus.TheVariants.{Done, Empty};
 ghost use Rattle.cert_desk_io.specs.declared.exit_status.ExitStatus.TheVariants.{Faulty};
 ghost use Rattle.cert_desk_io.specs.Statuses.{code_of};
+ghost use Rattle.cert_desk_buffers.specs.Identifiers.{SpellsIdentifier};
+ghost use Rattle.cert_desk_buffers.specs.Returned.{IsExactWithMemory};
 ghost use Rattle.cert_desk_c.specs.Places.{IsFound, IsRest, StandsAt};
-ghost use Rattle.cert_desk_c.specs.Values.{IsNoCertificate, IsOfCertificate, first_extension};
+ghost use Rattle.cert_desk_c.specs.Values.{IsExtensionStatus, IsNoCertificate, IsOfCertificate};
+ghost use Rattle.cert_desk_c.specs.Values.{first_extension};
 
 use crate::places::{WdSpan, behind, behind_where, inside, part, parts_in};
 use crate::reading::certificate_of;
@@ -97,16 +99,17 @@ pub extern "C" fn wd_extension(
     span: &mut WdSpan,
     critical: &mut bool,
 ) -> u32
-    ensures done { result ≡ code_of Done → (arcs : List ℕ)
-        × (identifier.now ≡ identifier_octets arcs)
+    ensures statuses { IsExactWithMemory (IsExtensionStatus octets.now identifier.now) result }
+    ensures done { result ≡ code_of Done → (arcs : List ℕ) × SpellsIdentifier identifier.now arcs
         × IsOfCertificate octets.now (λ c. (e : PlainExtension)
         × (first_extension arcs (extensions_of c) ≡ Some e)
         × StandsAt octets.now span.new (extension_octets e)
         × (critical.new ≡ is_critical e)) }
-    ensures absent { result ≡ code_of Empty → (arcs : List ℕ)
-        × (identifier.now ≡ identifier_octets arcs)
+    ensures absent { result ≡ code_of Empty → (arcs : List ℕ) × SpellsIdentifier identifier.now arcs
         × IsOfCertificate octets.now (λ c. first_extension arcs (extensions_of c) ≡ None) }
     ensures not_spelled { result ≡ code_of Faulty → IsNoCertificate octets.now }
+    ensures untouched { result ≢ code_of Done
+        → (span.new ≡ span.old) × (critical.new ≡ critical.old) }
 {
     let Ok(identifier) = ObjectIdentifier::<39>::from_bytes(identifier) else {
         return code(ExitStatus::Arguments);

@@ -23,7 +23,7 @@ use x509_cert_certificates::CertificateInner;
 use x509_cert_lists::CertReq;
 use x509_cert_parts::Raw;
 
-/// The first fault of octets, from the left.
+/// The first error met in reading octets.
 #[repr(C)]
 pub struct WdFault {
     /// The number of its kind.

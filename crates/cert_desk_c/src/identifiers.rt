@@ -1,6 +1,6 @@
 //! Object identifiers.
-ghost use Rattle.std.specs.Prelude.{◌≡◌, ◌≢◌, ◌≤◌, ℕ, List, take, length, IfOk, IfErr};
-ghost use Rattle.std.specs.Prelude.{OnErr, IsUtf8, string_bytes};
+ghost use Rattle.std.specs.Prelude.{◌≡◌, ◌≢◌, ◌≤◌, ℕ, List, Ok, take, length, IfOk, IfErr};
+ghost use Rattle.std.specs.Prelude.{IsUtf8, string_bytes};
 ghost use Rattle.const_oid.specs.Bound.{Bound};
 ghost use Rattle.const_oid.specs.DottedText.{dotted};
 ghost use Rattle.const_oid.specs.IdentifierOctets.{IsIdentifier, identifier_octets};
@@ -8,8 +8,11 @@ ghost use Rattle.const_oid.specs.TextFaults.{IsDottedText};
 ghost use Rattle.cert_desk_io.specs.declared.exit_status.ExitStatus.TheVariants.{Device, Done};
 ghost use Rattle.cert_desk_io.specs.declared.exit_status.ExitStatus.TheVariants.{Faulty};
 ghost use Rattle.cert_desk_io.specs.Statuses.{code_of};
-ghost use Rattle.cert_desk_buffers.specs.Rooms.{Wants};
-ghost use Rattle.cert_desk_c.specs.Values.{IsDottedTextOf, IsIdentifierOf};
+ghost use Rattle.cert_desk_buffers.specs.Identifiers.{IsNoIdentifier};
+ghost use Rattle.cert_desk_buffers.specs.Returned.{IsExact, IsExactWithMemory, IsFaultyStatus};
+ghost use Rattle.cert_desk_buffers.specs.Returned.{IsTextStatus};
+ghost use Rattle.cert_desk_buffers.specs.Rooms.{ChangesFront, Wants};
+ghost use Rattle.cert_desk_c.specs.Values.{IsDottedTextOf, IsIdentifierOf, IsNoDottedText};
 
 use cert_desk_buffers::{code, give};
 use cert_desk_io::ExitStatus;
@@ -33,11 +36,13 @@ pub extern "C" fn wd_identifier_text(
     out: &mut [u8],
     size: &mut usize,
 ) -> u32
+    ensures statuses { IsExactWithMemory (IsTextStatus (IsDottedTextOf octets.now)
+        (IsFaultyStatus (IsNoIdentifier octets.now)) out.old) result }
     ensures done { result ≡ code_of Done → IsDottedTextOf octets.now (take size.new out.new) }
     ensures no_room { result ≡ code_of Device
         → Wants (IsDottedTextOf octets.now) out.old size.new }
-    ensures not_spelled { result ≡ code_of Faulty → (arcs : List ℕ) → IsIdentifier Bound arcs
-        → octets.now ≡ identifier_octets arcs → length octets.now ≤ 39 → ⊥ }
+    ensures not_spelled { result ≡ code_of Faulty → IsNoIdentifier octets.now }
+    ensures front { result ≡ code_of Done → ChangesFront size.new out.old out.new }
     ensures untouched { result ≢ code_of Done → out.new ≡ out.old }
 {
     *size = 0;
@@ -52,10 +57,10 @@ pub extern "C" fn wd_identifier_text(
 
 // The identifier that a dotted text spells, if it spells one.
 fn identifier_of(text: &[u8]) -> Result<ObjectIdentifier<39>, ExitStatus>
-    ensures read { IfOk result (λ arcs. IsDottedText arcs text.now × IsIdentifier Bound arcs) }
+    ensures read { IfOk result (λ arcs. IsIdentifierOf text.now (identifier_octets arcs)) }
     ensures status { IfErr result (λ status. status ≡ Faulty) }
-    ensures refused { OnErr result (IsUtf8 text.now → (arcs : List ℕ) → IsDottedText arcs text.now
-        → IsIdentifier Bound arcs → length (identifier_octets arcs) ≤ 39 → ⊥) }
+    ensures spelled { IsUtf8 text.now → (arcs : List ℕ) → IsDottedText arcs text.now
+        → IsIdentifier Bound arcs → length (identifier_octets arcs) ≤ 39 → result ≡ Ok arcs }
 {
     let Ok(text) = std::str::from_utf8(text) else {
         return Err(ExitStatus::Faulty);
@@ -70,12 +75,13 @@ fn identifier_of(text: &[u8]) -> Result<ObjectIdentifier<39>, ExitStatus>
 /// where the text is none of up to 39 octets, 5 where the buffer is too small.
 #[unsafe(no_mangle)]
 pub extern "C" fn wd_identifier_of_text(text: &[u8], out: &mut [u8], size: &mut usize) -> u32
+    ensures statuses { IsExact (IsTextStatus (IsIdentifierOf text.now)
+        (IsFaultyStatus (IsNoDottedText text.now)) out.old) result }
     ensures done { result ≡ code_of Done → IsIdentifierOf text.now (take size.new out.new) }
     ensures no_room { result ≡ code_of Device
         → Wants (IsIdentifierOf text.now) out.old size.new }
-    ensures not_spelled { result ≡ code_of Faulty → IsUtf8 text.now → (arcs : List ℕ)
-        → IsDottedText arcs text.now → IsIdentifier Bound arcs
-        → length (identifier_octets arcs) ≤ 39 → ⊥ }
+    ensures not_spelled { result ≡ code_of Faulty → IsNoDottedText text.now }
+    ensures front { result ≡ code_of Done → ChangesFront size.new out.old out.new }
     ensures untouched { result ≢ code_of Done → out.new ≡ out.old }
 {
     *size = 0;

@@ -6,6 +6,7 @@ ghost use Rattle.cert_desk_io.specs.declared.exit_status.ExitStatus.TheVariants.
 ghost use Rattle.cert_desk_io.specs.declared.exit_status.ExitStatus.TheVariants.{Faulty, Memory};
 ghost use Rattle.cert_desk_io.specs.declared.exit_status.ExitStatus.TheVariants.{Refused as Breach};
 ghost use Rattle.cert_desk_io.specs.Statuses.{code_of};
+ghost use Rattle.cert_desk_buffers.specs.Returned.{IsExactWithMemory};
 ghost use Rattle.cert_desk_bundle.specs.declared.fault_kind.FaultKind.{FaultKind};
 ghost use Rattle.cert_desk_bundle.specs.Faults.{rank};
 ghost use Rattle.cert_desk_rules.specs.declared.rule.Rule.{Rule};
@@ -16,7 +17,7 @@ ghost use Rattle.cert_desk_rules.specs.Verdicts.{Trusted, Refused, Faulty as IsF
 ghost use Rattle.cert_desk_checking.specs.AnchorFiles.{IsAnchorFile};
 ghost use Rattle.cert_desk_checking.specs.Runs.{run_terms};
 ghost use Rattle.cert_desk_answers.specs.AnswerLines.{file_says};
-ghost use Rattle.cert_desk_c.specs.Judged.{UnderTerms};
+ghost use Rattle.cert_desk_c.specs.Judged.{IsVerdictStatus, UnderTerms};
 
 use crate::numbers::{WdPlace, tell};
 use cert_desk_answers::verdict_of;
@@ -43,6 +44,8 @@ pub extern "C" fn wd_verify(
     limit: u32,
     told: &mut WdPlace,
 ) -> u32
+    ensures statuses { IsExactWithMemory (IsVerdictStatus answers.now anchors.now chain.now moment
+        purpose.now limit) result }
     ensures trusted { result ≡ code_of Done
         → UnderTerms anchors.now answers.now moment purpose.now (λ t. Trusted t limit chain.now) }
     ensures refused { result ≡ code_of Breach

@@ -3,7 +3,9 @@ ghost use Rattle.std.specs.Prelude.{◌≡◌, ◌≢◌, take, IfOk};
 ghost use Rattle.cert_desk_io.specs.declared.exit_status.ExitStatus.TheVariants.{Done, Faulty};
 ghost use Rattle.cert_desk_io.specs.declared.exit_status.ExitStatus.TheVariants.{Device};
 ghost use Rattle.cert_desk_io.specs.Statuses.{code_of};
-ghost use Rattle.cert_desk_buffers.specs.Rooms.{Wants};
+ghost use Rattle.cert_desk_buffers.specs.Returned.{IsExactWithMemory, IsFaultyStatus};
+ghost use Rattle.cert_desk_buffers.specs.Returned.{IsTextStatus};
+ghost use Rattle.cert_desk_buffers.specs.Rooms.{ChangesFront, Wants};
 ghost use Rattle.cert_desk_listing.specs.declared.file_kind.FileKind.TheVariants as kinds;
 ghost use Rattle.cert_desk_listing.specs.Listing.{certificate_lines, list_lines, request_lines};
 ghost use Rattle.cert_desk_listing.specs.Shown.{IsListing};
@@ -69,11 +71,14 @@ pub extern "C" fn wd_show_certificate(
     out: &mut [u8],
     size: &mut usize,
 ) -> u32
+    ensures statuses { IsExactWithMemory (IsTextStatus (IsListing kinds.Certificate octets.now)
+        (IsFaultyStatus (IsNoCertificate octets.now)) out.old) result }
     ensures done { result ≡ code_of Done
         → IsListing kinds.Certificate octets.now (take size.new out.new) }
     ensures no_room { result ≡ code_of Device
         → Wants (IsListing kinds.Certificate octets.now) out.old size.new }
     ensures not_spelled { result ≡ code_of Faulty → IsNoCertificate octets.now }
+    ensures front { result ≡ code_of Done → ChangesFront size.new out.old out.new }
     ensures untouched { result ≢ code_of Done → out.new ≡ out.old }
 {
     *size = 0;
@@ -96,11 +101,14 @@ pub extern "C" fn wd_show_list(
     out: &mut [u8],
     size: &mut usize,
 ) -> u32
+    ensures statuses { IsExactWithMemory (IsTextStatus (IsListing kinds.List octets.now)
+        (IsFaultyStatus (IsNoList octets.now)) out.old) result }
     ensures done { result ≡ code_of Done
         → IsListing kinds.List octets.now (take size.new out.new) }
     ensures no_room { result ≡ code_of Device
         → Wants (IsListing kinds.List octets.now) out.old size.new }
     ensures not_spelled { result ≡ code_of Faulty → IsNoList octets.now }
+    ensures front { result ≡ code_of Done → ChangesFront size.new out.old out.new }
     ensures untouched { result ≢ code_of Done → out.new ≡ out.old }
 {
     *size = 0;
@@ -123,11 +131,14 @@ pub extern "C" fn wd_show_request(
     out: &mut [u8],
     size: &mut usize,
 ) -> u32
+    ensures statuses { IsExactWithMemory (IsTextStatus (IsListing kinds.Request octets.now)
+        (IsFaultyStatus (IsNoRequest octets.now)) out.old) result }
     ensures done { result ≡ code_of Done
         → IsListing kinds.Request octets.now (take size.new out.new) }
     ensures no_room { result ≡ code_of Device
         → Wants (IsListing kinds.Request octets.now) out.old size.new }
     ensures not_spelled { result ≡ code_of Faulty → IsNoRequest octets.now }
+    ensures front { result ≡ code_of Done → ChangesFront size.new out.old out.new }
     ensures untouched { result ≢ code_of Done → out.new ≡ out.old }
 {
     *size = 0;

@@ -1,17 +1,21 @@
 //! Names.
 ghost use Rattle.std.specs.Prelude.{◌≡◌, ◌≢◌, take, IfOk, IfErr, string_bytes};
+ghost use Rattle.der_core_head.specs.declared.error.ErrorKind.TheVariants.{OutOfMemory};
 ghost use Rattle.x509_cert_names.specs.PlainTexts.{name_text};
 ghost use Rattle.x509_cert_names.specs.Views.{name_plain};
 ghost use Rattle.cert_desk_io.specs.declared.exit_status.ExitStatus.TheVariants.{Device, Done};
 ghost use Rattle.cert_desk_io.specs.declared.exit_status.ExitStatus.TheVariants.{Faulty};
 ghost use Rattle.cert_desk_io.specs.Statuses.{code_of};
-ghost use Rattle.cert_desk_buffers.specs.Rooms.{IsLack, Wants};
+ghost use Rattle.cert_desk_buffers.specs.Returned.{IsExactWithMemory, IsFaultyStatus};
+ghost use Rattle.cert_desk_buffers.specs.Returned.{IsTextStatus};
+ghost use Rattle.cert_desk_buffers.specs.Rooms.{ChangesFront, IsLack, Wants};
 ghost use Rattle.cert_desk_c.specs.Values.{IsEncodedName, IsNameText, IsNoName, IsNoNameText};
 
 use crate::reading::name_of;
 use cert_desk_buffers::{code, give};
 use cert_desk_io::ExitStatus;
 use der_core::making::is_want_of_memory;
+use der_core::{Error, ToDer};
 use std::alloc::{AllocError, Global};
 use x509_cert_names::{Name, RdnSequence};
 
@@ -31,10 +35,13 @@ pub extern "C" fn wd_name_text(
     out: &mut [u8],
     size: &mut usize,
 ) -> u32
+    ensures statuses { IsExactWithMemory (IsTextStatus (IsNameText octets.now)
+        (IsFaultyStatus (IsNoName octets.now)) out.old) result }
     ensures done { result ≡ code_of Done → IsNameText octets.now (take size.new out.new) }
     ensures no_room { result ≡ code_of Device
         → Wants (IsNameText octets.now) out.old size.new }
     ensures not_spelled { result ≡ code_of Faulty → IsNoName octets.now }
+    ensures front { result ≡ code_of Done → ChangesFront size.new out.old out.new }
     ensures untouched { result ≢ code_of Done → out.new ≡ out.old }
 {
     *size = 0;
@@ -48,6 +55,16 @@ pub extern "C" fn wd_name_text(
     give(text.as_bytes(), out, size)
 }
 
+// The status of an error.
+fn lack(error: &Error) -> ExitStatus
+    ensures { IsLack (error.now.kind ≢ OutOfMemory) result }
+{
+    if is_want_of_memory(error) {
+        return ExitStatus::Memory;
+    }
+    ExitStatus::Faulty
+}
+
 // The encoding of the name that a text spells, or the status.
 fn encoding_of(alloc: Global, text: &[u8]) -> Result<Vec<u8>, ExitStatus>
     ensures read { IfOk result (λ octets. IsEncodedName text.now octets.items) }
@@ -56,14 +73,13 @@ fn encoding_of(alloc: Global, text: &[u8]) -> Result<Vec<u8>, ExitStatus>
     let Ok(text) = std::str::from_utf8(text) else {
         return Err(ExitStatus::Faulty);
     };
-    match RdnSequence::encode_from_string(alloc, text) {
+    let name = match RdnSequence::from_str(alloc, text) {
+        Ok(name) => name,
+        Err(error) => return Err(lack(&error)),
+    };
+    match name.to_der(alloc) {
         Ok(octets) => Ok(octets),
-        Err(error) => {
-            if is_want_of_memory(&error) {
-                return Err(ExitStatus::Memory);
-            }
-            Err(ExitStatus::Faulty)
-        }
+        Err(error) => Err(lack(&error)),
     }
 }
 
@@ -76,10 +92,13 @@ pub extern "C" fn wd_name_of_text(
     out: &mut [u8],
     size: &mut usize,
 ) -> u32
+    ensures statuses { IsExactWithMemory (IsTextStatus (IsEncodedName text.now)
+        (IsFaultyStatus (IsNoNameText text.now)) out.old) result }
     ensures done { result ≡ code_of Done → IsEncodedName text.now (take size.new out.new) }
     ensures no_room { result ≡ code_of Device
         → Wants (IsEncodedName text.now) out.old size.new }
     ensures not_spelled { result ≡ code_of Faulty → IsNoNameText text.now }
+    ensures front { result ≡ code_of Done → ChangesFront size.new out.old out.new }
     ensures untouched { result ≢ code_of Done → out.new ≡ out.old }
 {
     *size = 0;

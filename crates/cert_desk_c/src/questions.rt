@@ -1,12 +1,13 @@
 //! What the signatures of a chain may ask.
-ghost use Rattle.std.specs.Prelude.{◌≡◌, ◌≢◌, ◌≤◌, ◌<◌, ◌^◌, ◌⊎◌, [], length, take, IfOk, IfErr};
+ghost use Rattle.std.specs.Prelude.{◌≡◌, ◌≢◌, ◌≤◌, ◌<◌, ◌^◌, ◌⊎◌, length, take, IfOk, IfErr};
 ghost use Rattle.std.specs.Prelude.{string_bytes};
 ghost use Rattle.const_oid.specs.Bound.{Bound};
 ghost use Rattle.cert_desk_io.specs.declared.exit_status.ExitStatus.TheVariants as statuses;
 ghost use Rattle.cert_desk_io.specs.Statuses.{code_of};
-ghost use Rattle.cert_desk_buffers.specs.Rooms.{Wants};
+ghost use Rattle.cert_desk_buffers.specs.Returned.{IsExactWithMemory, IsTextStatus};
+ghost use Rattle.cert_desk_buffers.specs.Rooms.{ChangesFront, Wants};
 ghost use Rattle.cert_desk_bundle.specs.Chains.{Chain};
-ghost use Rattle.cert_desk_c.specs.Judged.{AreQuestions};
+ghost use Rattle.cert_desk_c.specs.Judged.{AreQuestions, HasNoQuestions, IsNoChain};
 
 use cert_desk_answers::{anchors_of, bundle_of};
 use cert_desk_buffers::{code, give};
@@ -20,8 +21,8 @@ fn chain_of(alloc: Global, limit: u32, octets: &[u8]) -> Result<Bundle, ExitStat
     requires { 6 ≤ limit }
     ensures chain { IfOk result (λ b. Chain Bound limit b.certificates octets.now) }
     ensures some { IfOk result (λ b. 0 < length b.certificates) }
-    ensures other { IfErr result (λ status. (status ≡ statuses.Faulty)
-        ⊎ ((status ≡ statuses.Empty) ⊎ (status ≡ statuses.Memory))) }
+    ensures none { IfErr result (λ status. IsNoChain limit octets.now status
+        ⊎ (status ≡ statuses.Memory)) }
 {
     let bundle = bundle_of(alloc, limit, octets)?;
     match bundle.standing() {
@@ -45,8 +46,8 @@ fn questions_of(
     requires short { length anchors.now < 2 ^ 32 }
     ensures asked { IfOk result
         (λ text. AreQuestions anchors.now chain.now limit (string_bytes text)) }
-    ensures other { IfErr result (λ status. status ≢ statuses.Done) }
-    ensures no_room { IfErr result (λ status. status ≢ statuses.Device) }
+    ensures none { IfErr result (λ status. HasNoQuestions anchors.now chain.now limit status
+        ⊎ (status ≡ statuses.Memory)) }
 {
     let anchors: Vec<Anchor> = anchors_of(alloc, anchors)?;
     let bundle = chain_of(alloc, limit, chain)?;
@@ -69,10 +70,13 @@ pub extern "C" fn wd_questions(
     out: &mut [u8],
     size: &mut usize,
 ) -> u32
+    ensures statuses { IsExactWithMemory (IsTextStatus (AreQuestions anchors.now chain.now limit)
+        (HasNoQuestions anchors.now chain.now limit) out.old) result }
     ensures done { result ≡ code_of statuses.Done
         → AreQuestions anchors.now chain.now limit (take size.new out.new) }
     ensures no_room { result ≡ code_of statuses.Device
         → Wants (AreQuestions anchors.now chain.now limit) out.old size.new }
+    ensures front { result ≡ code_of statuses.Done → ChangesFront size.new out.old out.new }
     ensures untouched { result ≢ code_of statuses.Done → out.new ≡ out.old }
 {
     *size = 0;

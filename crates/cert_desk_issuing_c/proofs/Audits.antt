@@ -1,13 +1,13 @@
 -- Chains that orders ask for, judged where each signature is right.
 use Rattle.std.proofs.Common.{◌≡◌, ◌⊎◌, inl, inr, ℕ, List, [], ◌∷◌, length, sym, ap, ◌∙◌, subst, arith}
 use Rattle.const_oid.specs.Bound.{Bound}
-use Rattle.const_oid.specs.IdentifierOctets.{identifier_octets}
 use Rattle.der_core_head.specs.BitStrings.{Bits}
 use Rattle.der_core_head.specs.Limits.{length_max}
 use Rattle.der_core_head.specs.Shapes.{Spells}
 use Rattle.x509_cert_parts.specs.Grammar.{Algorithm, algorithm_identifier}
 use Rattle.x509_cert_certificates.specs.Certificates.{PlainCertificate}
 use Rattle.cert_desk_io.specs.declared.exit_status.ExitStatus.{ExitStatus}
+use Rattle.cert_desk_buffers.specs.Identifiers.{SpellsIdentifier}
 use Rattle.cert_desk_bundle.specs.Chains.{Chain}
 use Rattle.cert_desk_bundle.proofs.OneChain.{fault_no_chain}
 use Rattle.cert_desk_rules.specs.declared.checked.Verdict.{Verdict}
@@ -66,7 +66,7 @@ module _ (orders algorithm : List ℕ) (moment : ℕ) (purpose : List ℕ) (plac
   faulty_argument status f (inr memory) = subst (λ s. IsSo s) (sym memory) tt
 
   module _ (said others : List Order) (a : Algorithm) (says : SaysOrders orders said) (spelled : Spells (algorithm_identifier Bound) a algorithm) (same : others ≡ said) where
-    by_verdict : (arcs : List ℕ) → purpose ≡ identifier_octets arcs → (v : Verdict) (status : ExitStatus) → TellsVerdict v place told status → IsJudged said moment arcs v → IsSo status
+    by_verdict : (arcs : List ℕ) → SpellsIdentifier purpose arcs → (v : Verdict) (status : ExitStatus) → TellsVerdict v place told status → IsJudged said moment arcs v → IsSo status
     by_verdict arcs e verdicts.Trusted status tells j = subst (λ s. IsSo s) (sym tells) (arcs, e, (said, a, says, spelled, j))
     by_verdict arcs e (verdicts.Refused at rule) status tells j =
         let broken = subst (λ n. IsBroken moment arcs j.0 j.1 n rule) (sym tells.0) j.3 in
@@ -74,13 +74,13 @@ module _ (orders algorithm : List ℕ) (moment : ℕ) (purpose : List ℕ) (plac
     by_verdict arcs e (verdicts.StreamFault at from kind) status tells j = absurd j.3
     by_verdict arcs e verdicts.Empty status tells j = absurd j.3
 
-    pub audited : (arcs : List ℕ) → purpose ≡ identifier_octets arcs → (v : Verdict) (status : ExitStatus) → TellsVerdict v place told status → IsJudged others moment arcs v → IsAudit orders algorithm moment purpose place told status
+    pub audited : (arcs : List ℕ) → SpellsIdentifier purpose arcs → (v : Verdict) (status : ExitStatus) → TellsVerdict v place told status → IsJudged others moment arcs v → IsAudit orders algorithm moment purpose place told status
     audited arcs e v status tells j = by_verdict arcs e v status tells (subst (λ (os : List Order). IsJudged os moment arcs v) same j)
 
-    pub unaudited : (bits : Bits) (error : IssueError) (status : ExitStatus) → bits ≡ all_bits [] → (error ≡ errors.OutOfMemory) ⊎ RefusesEach others a bits error → place ≡ place_of error → told ≡ reason_number error → status ≡ status_of error
+    pub unaudited : (arcs : List ℕ) → SpellsIdentifier purpose arcs → (bits : Bits) (error : IssueError) (status : ExitStatus) → bits ≡ all_bits [] → (error ≡ errors.OutOfMemory) ⊎ RefusesEach others a bits error → place ≡ place_of error → told ≡ reason_number error → status ≡ status_of error
         → IsAudit orders algorithm moment purpose place told status
-    unaudited bits error status f why at number is =
-        elim (refused_for orders algorithm [] said others a bits error says spelled same f why) [
+    unaudited arcs p bits error status f why at number is =
+        elim (refused_for orders algorithm [] said others a bits error says spelled same f (omega arith) why) [
           | inl memory ↦ subst (λ s. IsSo s) (sym (is ∙ ap status_of memory)) tt
-          | inr refused ↦ subst (λ s. IsSo s) (sym (is ∙ refused.1)) (inl (error, at, number, refused.0))
+          | inr refused ↦ subst (λ s. IsSo s) (sym (is ∙ refused.1)) (inl (arcs, error, p, at, number, refused.0))
         ]

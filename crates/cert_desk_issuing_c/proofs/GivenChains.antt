@@ -71,8 +71,8 @@ module _ {C : Type 0} (plain : C → PlainCertificate) (xs : List C) (own : List
   pub at_place : (x : C) → place < length xs → x ≡ get_or xs place x → slice_get own place ≡ Some (plain x)
   at_place x within is = subst (λ (cs : List PlainCertificate). slice_get cs place ≡ Some (plain x)) e (plain_at plain xs place x (slice_get_read xs (length xs) place x refl within is))
 
-  pub beyond : (orders algorithm signature : List ℕ) → AreOrdered orders algorithm signature own → length xs ≤ place → IsBeyond orders place
-  beyond orders algorithm signature are past = (are.0, are.2, omega (arith, past, are.4.count, ap length e, length_plain_list plain xs))
+  pub beyond : (orders algorithm signature : List ℕ) → AreOrdered orders algorithm signature own → length xs ≤ place → IsBeyond orders place algorithm signature
+  beyond orders algorithm signature are past = (own, are, omega (arith, past, ap length e, length_plain_list plain xs))
 
 -- Why there is none
 pub fault_by : {A B : Type 0} (status : ExitStatus) → (A → B) → IsFault A status → IsFault B status
@@ -89,7 +89,7 @@ the_reason (inl a) other = absurd (other a)
 the_reason (inr b) other = b
 
 module _ (orders algorithm signature : List ℕ) (said others : List Order) (a : Algorithm) (bits : Bits) (error : IssueError) (says : SaysOrders orders said) (spelled : Spells (algorithm_identifier Bound) a algorithm)
-    (e : others ≡ said) (f : bits ≡ all_bits signature) (why : (error ≡ errors.OutOfMemory) ⊎ RefusesEach others a bits error) where
+    (e : others ≡ said) (f : bits ≡ all_bits signature) (short : length signature ≤ length_max) (why : (error ≡ errors.OutOfMemory) ⊎ RefusesEach others a bits error) where
   pub refused_for : (error ≡ errors.OutOfMemory) ⊎ (AreRefusedFor orders algorithm signature error × (status_of error ≡ statuses.Refused))
   refused_for = by_kind (memory_or_not error)
     where
@@ -98,7 +98,7 @@ module _ (orders algorithm signature : List ℕ) (said others : List Order) (a :
       by_kind (inr other) =
           let reason = the_reason why other.0 in
           let here = subst (λ (b : Bits). RefusesEach said a b error) f (subst (λ (os : List Order). RefusesEach os a bits error) e reason) in
-          inr (((said, a, says, spelled, here), other.0), other.1)
+          inr (((said, a, says, spelled, here), other.0, short), other.1)
 
   pub refused_by : (status : ExitStatus) → status ≡ status_of error → IsRefusal orders algorithm signature status
   refused_by status is = by_reason refused_for

@@ -65,7 +65,7 @@ module _ (lines : List PlainLine) (o q : Order) (say : SayOrder lines o) (again 
 
     one_asked : p ≡ r
     one_asked =
-        let subject = one_spelled (string_bytes o.name) p.subject r.subject a.name (subst (λ w. SpellsName Bound w r.subject) (sym name_same) b.name) valid in
+        let subject = one_spelled Bound (string_bytes o.name) p.subject r.subject a.name (subst (λ w. SpellsName Bound w r.subject) (sym name_same) b.name) in
         let number = ap new_serial serial_same in
         let serial : p.serial ≡ r.serial = cc (a.serial, b.serial, number) in
         let validity = one_validity in

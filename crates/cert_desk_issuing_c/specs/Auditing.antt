@@ -1,11 +1,10 @@
 -- What the chain that orders ask for comes to, whoever signs it.
 use Rattle.std.specs.Prelude.{◌≡◌, ◌≢◌, ◌≤◌, ◌⊎◌, ℕ, List, [], ◌∷◌, length, true}
-use Rattle.const_oid.specs.Bound.{Bound, max_size}
-use Rattle.const_oid.specs.IdentifierOctets.{IsIdentifier, identifier_octets}
 use Rattle.der_core_head.specs.Limits.{length_max}
 use Rattle.x509_cert_certificates.specs.Certificates.{PlainCertificate}
 use Rattle.cert_desk_io.specs.declared.exit_status.ExitStatus.{ExitStatus}
 use Rattle.cert_desk_io.specs.declared.exit_status.ExitStatus.TheVariants as statuses
+use Rattle.cert_desk_buffers.specs.Identifiers.{IsNoIdentifier, SpellsIdentifier}
 use Rattle.cert_desk_rules.specs.declared.checked.Verdict.{Verdict}
 use Rattle.cert_desk_rules.specs.declared.checked.Verdict.TheVariants as verdicts
 use Rattle.cert_desk_rules.specs.declared.rule.Rule.{Rule}
@@ -62,12 +61,8 @@ IsJudged said moment purpose verdict =
 abbrev pub UnderAsked : List ℕ → List ℕ → List ℕ → (List ℕ → PlainOrder → List PlainOrder → Type 0)
     → Type 0
 UnderAsked orders algorithm purpose Says =
-    (arcs : List ℕ) × (purpose ≡ identifier_octets arcs)
+    (arcs : List ℕ) × SpellsIdentifier purpose arcs
     × UnderOrders orders algorithm (λ said a. UnderAccepted said (Says arcs))
-
-abbrev pub IsNoPurpose : List ℕ → Type 0
-IsNoPurpose purpose = (arcs : List ℕ) → IsIdentifier Bound arcs → length purpose ≤ max_size
-    → purpose ≢ identifier_octets arcs
 
 -- What is so with a status: each such chain is trusted; the orders are refused, or a chain of them,
 -- at the place and for the reason told; an argument is faulty; there was no memory.
@@ -75,12 +70,13 @@ abbrev pub IsAudit : List ℕ → List ℕ → ℕ → List ℕ → ℕ → ℕ 
 IsAudit orders algorithm moment purpose place told statuses.Done =
     UnderAsked orders algorithm purpose (λ arcs root below. AreTrusted moment arcs root below)
 IsAudit orders algorithm moment purpose place told statuses.Refused =
-    ((error : IssueError) × (place ≡ place_of error) × (told ≡ reason_number error)
+    ((arcs : List ℕ) × (error : IssueError) × SpellsIdentifier purpose arcs
+    × (place ≡ place_of error) × (told ≡ reason_number error)
     × AreRefusedFor orders algorithm [] error)
     ⊎ UnderAsked orders algorithm purpose
     (λ arcs root below. (rule : Rule) × (told ≡ number rule)
     × IsBroken moment arcs root below place rule)
 IsAudit orders algorithm moment purpose place told statuses.Arguments =
-    AreFaulty orders algorithm [] ⊎ IsNoPurpose purpose
+    AreFaulty orders algorithm [] ⊎ IsNoIdentifier purpose
 IsAudit orders algorithm moment purpose place told statuses.Memory = Unit {0}
 IsAudit orders algorithm moment purpose place told _ = ⊥

@@ -109,14 +109,15 @@ IsSignedPart orders place algorithm octets =
 abbrev pub AreRefusedFor : List ℕ → List ℕ → List ℕ → IssueError → Type 0
 AreRefusedFor orders algorithm signature error =
     UnderOrders orders algorithm (λ said a. RefusesEach said a (all_bits signature) error)
-    × (error ≢ errors.OutOfMemory)
+    × (error ≢ errors.OutOfMemory) × (length signature ≤ length_max)
 
 abbrev pub AreRefused : List ℕ → List ℕ → List ℕ → Type 0
 AreRefused orders algorithm signature =
     (error : IssueError) × AreRefusedFor orders algorithm signature error
 
-abbrev pub IsBeyond : List ℕ → ℕ → Type 0
-IsBeyond orders place = (said : List Order) × SaysOrders orders said × (length said ≤ place)
+abbrev pub IsBeyond : List ℕ → ℕ → List ℕ → List ℕ → Type 0
+IsBeyond orders place algorithm signature =
+    (cs : List PlainCertificate) × AreOrdered orders algorithm signature cs × (length cs ≤ place)
 
 abbrev pub IsNoAlgorithm : List ℕ → Type 0
 IsNoAlgorithm octets = (a : Algorithm) → Spells (algorithm_identifier Bound) a octets → ⊥
@@ -136,5 +137,5 @@ IsRefusal orders algorithm signature status =
 
 abbrev pub IsRefusalAt : List ℕ → ℕ → List ℕ → List ℕ → ExitStatus → Type 0
 IsRefusalAt orders place algorithm signature status =
-    ((status ≡ statuses.Empty) × IsBeyond orders place)
+    ((status ≡ statuses.Empty) × IsBeyond orders place algorithm signature)
     ⊎ IsRefusal orders algorithm signature status

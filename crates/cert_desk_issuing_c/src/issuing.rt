@@ -1,5 +1,6 @@
 //! Certificates that orders ask for, with signatures that are made elsewhere.
-ghost use Rattle.std.specs.Prelude.{◌≡◌, ◌≢◌, ◌<◌, ◌⊎◌, [], length, map, take, None, IfErr, IfOk};
+ghost use Rattle.std.specs.Prelude.{◌≡◌, ◌≢◌, ◌≤◌, ◌<◌, ◌⊎◌, [], length, map, take, None, IfErr};
+ghost use Rattle.std.specs.Prelude.{IfOk, OnOk};
 ghost use Rattle.const_oid.specs.Bound.{Bound};
 ghost use Rattle.der_core_head.specs.Limits.{length_max};
 ghost use Rattle.der_core_head.specs.Shapes.{Spells};
@@ -7,7 +8,7 @@ ghost use Rattle.x509_cert_parts.specs.Grammar.{algorithm_identifier};
 ghost use Rattle.x509_cert_parts.specs.Views.{algorithm_plain};
 ghost use Rattle.cert_desk_io.specs.declared.exit_status.ExitStatus.TheVariants as statuses;
 ghost use Rattle.cert_desk_io.specs.Statuses.{code_of};
-ghost use Rattle.cert_desk_buffers.specs.Rooms.{Wants};
+ghost use Rattle.cert_desk_buffers.specs.Rooms.{ChangesFront, Wants};
 ghost use Rattle.cert_desk_issuing.specs.Roles.{signers_for};
 ghost use Rattle.cert_desk_orders.specs.OrdersFile.{SaysOrders, faulty_line};
 ghost use Rattle.cert_desk_issuing_c.specs.Signing.{AreFaulty, AreOrdered, AreRefused, AreSigners};
@@ -60,6 +61,7 @@ pub(crate) fn algorithm_of(alloc: Global, octets: &[u8]) -> Result<AlgorithmIden
 /// All bits of octets, or the status.
 pub(crate) fn bits_of(alloc: Global, octets: &[u8]) -> Result<BitString, ExitStatus>
     ensures bits { IfOk result (λ bits. bits ≡ all_bits octets.now) }
+    ensures short { OnOk result (length octets.now ≤ length_max) }
     ensures refused { IfErr result (IsFault (length_max < length octets.now)) }
 {
     let Ok(octets) = octets.to_vec(alloc) else {
@@ -215,10 +217,11 @@ pub extern "C" fn wd_signed_part(
         → Wants (IsSignedPart orders.now place algorithm.now) out.old size.new }
     ensures refused { result ≡ code_of statuses.Refused
         → AreRefused orders.now algorithm.now [] }
-    ensures absent { result ≡ code_of statuses.Empty → IsBeyond orders.now place }
+    ensures absent { result ≡ code_of statuses.Empty → IsBeyond orders.now place algorithm.now [] }
     ensures faulty { result ≡ code_of statuses.Arguments
         → AreFaulty orders.now algorithm.now [] }
     ensures known { (status : ExitStatus) × (result ≡ code_of status) × (status ≢ statuses.Faulty) }
+    ensures front { result ≡ code_of statuses.Done → ChangesFront size.new out.old out.new }
     ensures untouched { result ≢ code_of statuses.Done → out.new ≡ out.old }
 {
     *size = 0;
@@ -246,10 +249,12 @@ pub extern "C" fn wd_issue(
         → Wants (IsIssued orders.now place algorithm.now signature.now) out.old size.new }
     ensures refused { result ≡ code_of statuses.Refused
         → AreRefused orders.now algorithm.now signature.now }
-    ensures absent { result ≡ code_of statuses.Empty → IsBeyond orders.now place }
+    ensures absent { result ≡ code_of statuses.Empty
+        → IsBeyond orders.now place algorithm.now signature.now }
     ensures faulty { result ≡ code_of statuses.Arguments
         → AreFaulty orders.now algorithm.now signature.now }
     ensures known { (status : ExitStatus) × (result ≡ code_of status) × (status ≢ statuses.Faulty) }
+    ensures front { result ≡ code_of statuses.Done → ChangesFront size.new out.old out.new }
     ensures untouched { result ≢ code_of statuses.Done → out.new ≡ out.old }
 {
     *size = 0;

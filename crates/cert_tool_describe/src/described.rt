@@ -1,4 +1,6 @@
 //! Values that descriptions have lines of.
+ghost use Rattle.std.specs.Prelude.{◌≢◌, List, ℕ, IfErr, IfNone, IfSome, OnOk};
+ghost use Rattle.der_core_head.specs.declared.error.ErrorKind.TheVariants.{OutOfMemory};
 
 use cert_tool_lines::Lines;
 use der_core::{Error, ErrorKind};
@@ -12,8 +14,13 @@ pub trait Describe {
 
 /// What fills a file: a certificate, a CRL or a CSR.
 pub trait DescribeFile: Sized {
+    /// Whether octets spell one.
+    ghost is_spelled: { List ℕ → Type 0 };
+
     /// The value that octets spell.
-    fn read_file(alloc: Global, octets: &[u8]) -> Result<Self, Error>;
+    fn read_file(alloc: Global, octets: &[u8]) -> Result<Self, Error>
+        ensures spelled { OnOk result (is_spelled octets.now) }
+        ensures refused { IfErr result (λ e. e.kind ≢ OutOfMemory → is_spelled octets.now → ⊥) };
 
     // Adds its lines, and those of the digests of its octets and of its key.
     fn describe_file(&self, lines: &mut Lines, octets: &[u8]);
@@ -21,7 +28,10 @@ pub trait DescribeFile: Sized {
 
 // Adds what octets say, and their digests; answers why they are no value of the type, if they
 // aren't. Any value is held here, since a check takes long of what holds a certificate.
-pub fn add_file<T: DescribeFile + Drop>(lines: &mut Lines, octets: &[u8]) -> Option<ErrorKind> {
+pub fn add_file<T: DescribeFile + Drop>(lines: &mut Lines, octets: &[u8]) -> Option<ErrorKind>
+    ensures spelled { IfNone result (T.is_spelled octets.now) }
+    ensures refused { IfSome result (λ kind. kind ≢ OutOfMemory → T.is_spelled octets.now → ⊥) }
+{
     match T::read_file(lines.alloc, octets) {
         Ok(value) => {
             value.describe_file(lines, octets);

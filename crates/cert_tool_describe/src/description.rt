@@ -1,4 +1,7 @@
 //! Descriptions of certificates.
+ghost use Rattle.std.specs.Prelude.{◌≢◌, IfNone, IfSome};
+ghost use Rattle.der_core_head.specs.declared.error.ErrorKind.TheVariants.{OutOfMemory};
+ghost use Rattle.cert_tool_describe.specs.Files.{IsCertificate};
 
 use crate::algorithms::{add_algorithm, add_signature};
 use crate::contents::add_extensions;
@@ -58,6 +61,8 @@ fn add_signed(lines: &mut Lines, signed: &TbsCertificateInner<Raw>) {
 }
 
 impl DescribeFile for CertificateInner<Raw> {
+    ghost is_spelled = { IsCertificate };
+
     fn read_file(alloc: Global, octets: &[u8]) -> Result<CertificateInner<Raw>, Error> {
         CertificateInner::<Raw>::from_der(alloc, octets)
     }
@@ -73,6 +78,9 @@ impl DescribeFile for CertificateInner<Raw> {
 
 /// Adds what a certificate says, and digests of its octets and of its key; answers why the octets
 /// are none, if they aren't.
-pub fn add_certificate(lines: &mut Lines, octets: &[u8]) -> Option<ErrorKind> {
+pub fn add_certificate(lines: &mut Lines, octets: &[u8]) -> Option<ErrorKind>
+    ensures spelled { IfNone result (IsCertificate octets.now) }
+    ensures refused { IfSome result (λ kind. kind ≢ OutOfMemory → IsCertificate octets.now → ⊥) }
+{
     add_file::<CertificateInner<Raw>>(lines, octets)
 }

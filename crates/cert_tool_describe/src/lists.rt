@@ -1,13 +1,19 @@
 //! CRLs (RFC 5280 5): their descriptions.
+ghost use Rattle.std.specs.Prelude.{◌≢◌, IfErr, IfNone, IfOk, IfSome};
+ghost use Rattle.const_oid.specs.Bound.{Bound};
+ghost use Rattle.der_core_head.specs.declared.error.ErrorKind.TheVariants.{OutOfMemory};
+ghost use Rattle.der_core_head.specs.Shapes.{Spells};
+ghost use Rattle.x509_cert_lists.specs.ListViews.{certificate_list_plain};
+ghost use Rattle.cert_tool_describe.specs.Files.{IsList, PlainList, certificate_list};
 
 use crate::algorithms::{add_algorithm, add_signature};
 use crate::contents::add_extensions;
 use crate::described::{Describe, DescribeFile, add_file};
 use crate::description::add_kind;
 use crate::keys::add_digests;
-use crate::values::{add_name, read};
+use crate::values::add_name;
 use cert_tool_lines::Lines;
-use der_core::{Error, ErrorKind};
+use der_core::{Error, ErrorKind, FromDer};
 use std::alloc::Global;
 use x509_cert_extensions::{CrlNumber, CrlReason};
 use x509_cert_lists::{CertificateList, RevokedCert, TbsCertList};
@@ -81,9 +87,21 @@ fn add_signed(lines: &mut Lines, signed: &TbsCertList<Raw>) {
     }
 }
 
+// Reads a CRL, all of the octets.
+fn read_list(alloc: Global, octets: &[u8]) -> Result<CertificateList<Raw>, Error>
+    ensures spelled { IfOk result
+        (λ l. Spells (certificate_list Bound) (certificate_list_plain l) octets.now) }
+    ensures refused { IfErr result (λ e. e.kind ≢ OutOfMemory → (l : PlainList)
+        → Spells (certificate_list Bound) l octets.now → ⊥) }
+{
+    CertificateList::<Raw>::from_der(alloc, octets)
+}
+
 impl DescribeFile for CertificateList<Raw> {
+    ghost is_spelled = { IsList };
+
     fn read_file(alloc: Global, octets: &[u8]) -> Result<CertificateList<Raw>, Error> {
-        read(alloc, octets)
+        read_list(alloc, octets)
     }
 
     fn describe_file(&self, lines: &mut Lines, octets: &[u8]) {
@@ -95,6 +113,9 @@ impl DescribeFile for CertificateList<Raw> {
 
 /// Adds what a list says, and digests of its octets; answers why the octets are none, if they
 /// aren't.
-pub fn add_list(lines: &mut Lines, octets: &[u8]) -> Option<ErrorKind> {
+pub fn add_list(lines: &mut Lines, octets: &[u8]) -> Option<ErrorKind>
+    ensures spelled { IfNone result (IsList octets.now) }
+    ensures refused { IfSome result (λ kind. kind ≢ OutOfMemory → IsList octets.now → ⊥) }
+{
     add_file::<CertificateList<Raw>>(lines, octets)
 }

@@ -1,4 +1,7 @@
 //! Descriptions of CSRs (RFC 2986).
+ghost use Rattle.std.specs.Prelude.{◌≢◌, IfNone, IfSome};
+ghost use Rattle.der_core_head.specs.declared.error.ErrorKind.TheVariants.{OutOfMemory};
+ghost use Rattle.cert_tool_describe.specs.Files.{IsRequest};
 
 use crate::algorithms::add_signature;
 use crate::contents::add_extensions;
@@ -72,6 +75,8 @@ fn add_info(lines: &mut Lines, info: &CertReqInfo) {
 }
 
 impl DescribeFile for CertReq {
+    ghost is_spelled = { IsRequest };
+
     fn read_file(alloc: Global, octets: &[u8]) -> Result<CertReq, Error> {
         CertReq::try_from_bytes(alloc, octets)
     }
@@ -86,6 +91,9 @@ impl DescribeFile for CertReq {
 
 /// Adds what a request says, and digests of its octets and of its key; answers why the octets are
 /// none, if they aren't.
-pub fn add_request(lines: &mut Lines, octets: &[u8]) -> Option<ErrorKind> {
+pub fn add_request(lines: &mut Lines, octets: &[u8]) -> Option<ErrorKind>
+    ensures spelled { IfNone result (IsRequest octets.now) }
+    ensures refused { IfSome result (λ kind. kind ≢ OutOfMemory → IsRequest octets.now → ⊥) }
+{
     add_file::<CertReq>(lines, octets)
 }

@@ -160,7 +160,7 @@ class FaultKind(enum.IntEnum):
 
 @dataclasses.dataclass(frozen=True)
 class Fault:
-    """The first fault of octets, from the left."""
+    """The first error that reading the octets meets."""
 
     kind: FaultKind
     # Where it was found, counted from 0, where that is known.

@@ -7,13 +7,18 @@ use Rattle.cert_desk_rules.specs.Judges.{judge_answers}
 use Rattle.cert_desk_rules.specs.Judging.{PlainAnchor}
 use Rattle.cert_desk_rules.specs.Questions.{Question}
 use Rattle.cert_desk_answers.specs.declared.line_fault.LineFault.{LineFault}
-use Rattle.cert_desk_answers.proofs.Judged.{first_of, ok_is, trusted_by}
+use Rattle.cert_desk_answers.proofs.Judged.{ok_is, only_memory, trusted_by, unanswered_by}
 use Rattle.cert_desk_answers.proofs.judging.verdict_of.Goals as goal
 
 pub returns-in_err-anchors-clause-only : goal.returns-in_err-anchors-clause-only
 returns-in_err-anchors-clause-only c = λ given listing a f t.
     let p = err_from_is_err_and c.from_residual.result c.from_residual.ensures.1 in
-    rw (p.1, p.2) (first_of _ _ c.in_err-anchors.ensures.none (λ none. none given a))
+    rw (p.1, p.2) (only_memory c.in_err-anchors.field-0.0 (λ none. none given a) c.in_err-anchors.ensures.none)
+
+pub returns-in_err-anchors-clause-none : goal.returns-in_err-anchors-clause-none
+returns-in_err-anchors-clause-none c =
+    let p = err_from_is_err_and c.from_residual.result c.from_residual.ensures.1 in
+    rw (p.1, p.2) (unanswered_by c.in_err-anchors.field-0.0 (λ none given. none given.0 given.2) c.in_err-anchors.ensures.none)
 
 pub returns-in-Ok-check-clause-only : goal.returns-in-Ok-check-clause-only
 returns-in-Ok-check-clause-only c = λ given listing a f t.

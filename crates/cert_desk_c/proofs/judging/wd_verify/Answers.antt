@@ -1,18 +1,33 @@
-use Rattle.std.proofs.Common.{◌≡◌, ℕ, List, inl, inr, sym, ap, ◌∙◌}
-use Rattle.const_oid.specs.declared.error.Error.{Error}
-use Rattle.cert_desk_io.specs.Statuses.{code_of}
-use Rattle.cert_desk_rules.specs.Answers.{only_yes_to}
-use Rattle.cert_desk_checking.specs.Runs.{status_of}
-use Rattle.cert_desk_answers.proofs.Judged.{ok_is, trusted_for}
+use Rattle.std.proofs.Common.{inl, sym, ◌∙◌, arith}
+use Rattle.cert_desk_c.proofs.Verdicts.{judged, misasked, trusted_is_told, unanswered}
 use Rattle.cert_desk_c.proofs.judging.wd_verify.Goals as goal
+use Rattle.cert_desk_c.proofs.judging.wd_verify.Goals.{then-limit-lt6-via-then-limit-lt6, then-limit-lt6-via-else-limit-lt6+then-anchors}
+
+pub returns-then-limit-lt6-clause-statuses : goal.returns-then-limit-lt6-clause-statuses
+returns-then-limit-lt6-clause-statuses c =
+    inl (misasked c.args.answers.now c.args.anchors.now c.args.chain.now c.args.moment c.args.purpose.now c.args.limit c.code.result c.code.ensures (λ h. elim c.then-limit-lt6.branch as (λ _. ⊥) [
+      | then-limit-lt6-via-then-limit-lt6 w ↦ omega (arith, h.0.0, w.if-limit-lt6)
+      | then-limit-lt6-via-else-limit-lt6+then-anchors w ↦ omega (arith, h.0.1, w.if-anchors)
+    ]))
+
+pub returns-in_default-clause-statuses : goal.returns-in_default-clause-statuses
+returns-in_default-clause-statuses c =
+    inl (misasked c.args.answers.now c.args.anchors.now c.args.chain.now c.args.moment c.args.purpose.now c.args.limit c.code-in_default.result c.code-in_default.ensures
+    (λ h. (let clash = sym (c.from_bytes.ensures.spelled h.1.0 h.1.1.2 h.1.1.0 h.1.1.1) ∙ c.in_default.is in absurd cc)))
+
+pub returns-in-Err-clause-statuses : goal.returns-in-Err-clause-statuses
+returns-in-Err-clause-statuses c =
+    unanswered c.args.answers.now c.args.anchors.now c.args.chain.now c.args.moment c.args.purpose.now c.args.limit c.code-in-Err.result c.in-Err.status c.code-in-Err.ensures c.in-Err.ensures.none
+
+pub returns-clause-statuses : goal.returns-clause-statuses
+returns-clause-statuses c =
+    inl (judged c.args.answers.now c.args.anchors.now c.args.chain.now c.args.moment c.args.purpose.now c.args.limit c.in-Ok-verdict_of.verdict c.tell.result c.tell.ensures.status
+    ((omega arith, omega arith), (c.in-Ok.purpose, c.in-Ok.ensures.ok, c.in-Ok-verdict_of.ensures.judged)))
 
 pub returns-in-Err-clause-only : goal.returns-in-Err-clause-only
 returns-in-Err-clause-only c = λ given listing arcs l s a f p i n t.
-    let same : arcs ≡ c.in-Ok.purpose = ok_is (List ℕ) Error arcs c.in-Ok.purpose (sym (c.from_bytes.ensures.spelled arcs p i n) ∙ c.in-Ok.is) in
-    inr (c.code-in-Err.ensures ∙ ap code_of (c.in-Err.ensures.only given listing a f (trusted_for given c.args.moment arcs c.in-Ok.purpose (only_yes_to listing) c.args.limit c.args.chain.now same t)))
+    trusted_is_told c.args.answers.now c.args.anchors.now c.args.chain.now c.args.moment c.args.purpose.now c.args.limit c.code-in-Err.result (returns-in-Err-clause-statuses c) ((l, s), (arcs, (i, n, p), (given, listing, a, f, t)))
 
 pub returns-clause-only : goal.returns-clause-only
 returns-clause-only c = λ given listing arcs l s a f p i n t.
-    let same : arcs ≡ c.in-Ok.purpose = ok_is (List ℕ) Error arcs c.in-Ok.purpose (sym (c.from_bytes.ensures.spelled arcs p i n) ∙ c.in-Ok.is) in
-    inl (c.tell.ensures.status ∙ ap (λ v. code_of (status_of v)) (c.in-Ok-verdict_of.ensures.only given listing a f
-    (trusted_for given c.args.moment arcs c.in-Ok.purpose (only_yes_to listing) c.args.limit c.args.chain.now same t)))
+    trusted_is_told c.args.answers.now c.args.anchors.now c.args.chain.now c.args.moment c.args.purpose.now c.args.limit c.tell.result (returns-clause-statuses c) ((l, s), (arcs, (i, n, p), (given, listing, a, f, t)))

@@ -1,19 +1,25 @@
-use Rattle.std.proofs.Common.{ℕ, List, Err, inl, inr, refl, subst}
-use Rattle.std.proofs.lemmas.Bool.{both_ways}
+use Rattle.std.proofs.Common.{ℕ, List, Ok, Err, inr, refl, subst}
 use Rattle.const_oid.specs.Bound.{Bound}
 use Rattle.der_core_head.specs.Grammar.{plain_list}
-use Rattle.x509_cert_names.specs.Names.{name}
 use Rattle.x509_cert_names.specs.NameTexts.{ReadsEncoding, ReadsName}
 use Rattle.x509_cert_names.specs.Pairs.{relative_plain}
-use Rattle.cert_desk_c.specs.Values.{IsEncodedName}
+use Rattle.cert_desk_c.proofs.Named.{lacks}
 use Rattle.cert_desk_c.proofs.names.encoding_of.Goals as goal
 
-pub returns-in-Ok-encode_from_string-clause-read : goal.returns-in-Ok-encode_from_string-clause-read
-returns-in-Ok-encode_from_string-clause-read c =
-    subst (λ (w : List ℕ). IsEncodedName w c.in-Ok-encode_from_string.octets.items) c.in-Ok.ensures.cases.0 c.in-Ok-encode_from_string.ensures
+pub returns-in-Err-clause-refused : goal.returns-in-Err-clause-refused
+returns-in-Err-clause-refused c =
+    let kind = c.in-Err.error.kind in
+    lacks c.args.text.now c.lack.result kind (λ other. inr (kind, ReadsEncoding.refused kind (subst (λ (w : List ℕ). ReadsName Bound w (Err kind)) c.in-Ok.ensures.cases.0 (c.in-Err.ensures other)))) c.lack.ensures
 
-pub returns-else-is_want_of_memory : goal.returns-else-is_want_of_memory
-returns-else-is_want_of_memory c =
-    let why = subst (λ (w : List ℕ). ReadsEncoding (name Bound) (plain_list relative_plain) (ReadsName Bound w) (Err c.in-Err.error.kind)) c.in-Ok.ensures.cases.0
-    (c.in-Err.ensures (λ memory. both_ways _ c.if-is_want_of_memory.false (c.is_want_of_memory.ensures.1 memory))) in
-    record { read = tt; refused = inl (refl, inr (c.in-Err.error.kind, why)) }
+pub returns-in-Ok-to_der-clause-read : goal.returns-in-Ok-to_der-clause-read
+returns-in-Ok-to_der-clause-read c =
+    let names = c.in-Ok-from_str.name.relative_names.items in
+    let reads = subst (λ (w : List ℕ). ReadsName Bound w (Ok names)) c.in-Ok.ensures.cases.0 c.in-Ok-from_str.ensures in
+    (c.in-Ok.ensures.cases.1, (plain_list relative_plain names, (names, reads, refl), c.in-Ok-to_der.ensures.exact))
+
+pub returns-clause-refused : goal.returns-clause-refused
+returns-clause-refused c =
+    let kind = c.in-Err-to_der.error.kind in
+    let names = c.in-Ok-from_str.name.relative_names.items in
+    let reads = subst (λ (w : List ℕ). ReadsName Bound w (Ok names)) c.in-Ok.ensures.cases.0 c.in-Ok-from_str.ensures in
+    lacks c.args.text.now c.lack-in-Err-to_der.result kind (λ other. inr (kind, ReadsEncoding.unwritten names kind reads (c.in-Err-to_der.ensures.exact other))) c.lack-in-Err-to_der.ensures

@@ -4,7 +4,7 @@ use Rattle.cert_desk_issuing_c.proofs.Audits.{audited, faulty_argument, unaudite
 use Rattle.cert_desk_issuing_c.proofs.auditing.audit_of.Goals as goal
 
 pub returns-in_default : goal.returns-in_default
-returns-in_default c = inr (λ arcs i n e. (let clash = sym (c.from_bytes.ensures.spelled arcs e i n) ∙ c.in_default.is in absurd cc))
+returns-in_default c = inr (λ arcs h. (let clash = sym (c.from_bytes.ensures.spelled arcs h.2 h.0 h.1) ∙ c.in_default.is in absurd cc))
 
 pub returns-in-Err : goal.returns-in-Err
 returns-in-Err c = faulty_argument c.args.orders.now c.args.algorithm.now c.args.moment c.args.purpose.now c.args.told.now.place c.args.told.now.number c.in-Err.status inl c.in-Err.ensures.refused
@@ -20,10 +20,10 @@ returns-in-Err-bits_of c =
 pub returns-in-Ok-verdict_of : goal.returns-in-Ok-verdict_of
 returns-in-Ok-verdict_of c =
     audited c.args.orders.now c.args.algorithm.now c.args.moment c.args.purpose.now c.tell_verdict.new.told.place c.tell_verdict.new.told.number c.in-Ok-orders_of.said.items c.as_slice.result.now (algorithm_plain c.in-Ok-algorithm_of.by)
-    c.in-Ok-orders_of.ensures.said c.in-Ok-algorithm_of.ensures.spelled c.as_slice.ensures.value c.in-Ok.purpose c.in-Ok.ensures.ok.2 c.in-Ok-verdict_of.verdict c.tell_verdict.result c.tell_verdict.ensures c.in-Ok-verdict_of.ensures.judged
+    c.in-Ok-orders_of.ensures.said c.in-Ok-algorithm_of.ensures.spelled c.as_slice.ensures.value c.in-Ok.purpose c.in-Ok.ensures.ok c.in-Ok-verdict_of.verdict c.tell_verdict.result c.tell_verdict.ensures c.in-Ok-verdict_of.ensures.judged
 
 pub returns : goal.returns
 returns c =
     unaudited c.args.orders.now c.args.algorithm.now c.args.moment c.args.purpose.now c.tell_error.new.told.place c.tell_error.new.told.number c.in-Ok-orders_of.said.items c.as_slice.result.now (algorithm_plain c.in-Ok-algorithm_of.by)
-    c.in-Ok-orders_of.ensures.said c.in-Ok-algorithm_of.ensures.spelled c.as_slice.ensures.value c.in-Ok-bits_of.bits c.in-Err-verdict_of.error c.tell_error.result c.in-Ok-bits_of.ensures.bits c.in-Err-verdict_of.ensures.refused
+    c.in-Ok-orders_of.ensures.said c.in-Ok-algorithm_of.ensures.spelled c.as_slice.ensures.value c.in-Ok.purpose c.in-Ok.ensures.ok c.in-Ok-bits_of.bits c.in-Err-verdict_of.error c.tell_error.result c.in-Ok-bits_of.ensures.bits c.in-Err-verdict_of.ensures.refused
     c.tell_error.ensures.place c.tell_error.ensures.number c.tell_error.ensures.status

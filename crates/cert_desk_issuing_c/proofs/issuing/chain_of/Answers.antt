@@ -36,4 +36,4 @@ returns-in-Ok-clause-issued c =
 pub returns-clause-refused : goal.returns-clause-refused
 returns-clause-refused c =
     refused_by c.args.orders.now c.args.algorithm.now c.args.signature.now c.in_ok-said.said.items c.as_slice.result.now (algorithm_plain c.in_ok-by.by) c.in_ok-bits.bits c.in-Err.error
-    c.in_ok-said.ensures.said c.in_ok-by.ensures.spelled c.as_slice.ensures.value c.in_ok-bits.ensures.bits c.in-Err.ensures.refused c.status_of.result c.status_of.ensures
+    c.in_ok-said.ensures.said c.in_ok-by.ensures.spelled c.as_slice.ensures.value c.in_ok-bits.ensures.bits c.in_ok-bits.ensures.short c.in-Err.ensures.refused c.status_of.result c.status_of.ensures
