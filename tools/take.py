@@ -27,9 +27,10 @@ PARTS = ["src", "specs", "proofs"]
 
 
 def version(top=sources.TOP):
-    """The number at the head of a repository's CHANGELOG.md, and the commit that stands there."""
+    """The number of the last version in a repository's CHANGELOG.md, and the commit that stands
+    there."""
     text = (top / "CHANGELOG.md").read_text()
-    number = re.search(r"^## (\S+)", text, re.M)[1]
+    number = re.search(r"^## (\d\S*)", text, re.M)[1]
     asked = ["git", "-C", str(top), "rev-parse", "--short=12", "HEAD"]
     commit = subprocess.run(asked, capture_output=True, text=True).stdout.strip()
     return number, commit or "unknown"
