@@ -22,7 +22,7 @@ import sys
 TOP = pathlib.Path(__file__).resolve().parents[1]
 TOOL = TOP / "crates" / "cert_tool"
 DATA = TOOL / "data"
-# Names of files, and the word of a shell that a hint has for each, if it has one.
+# Names of files, and the shell word that a hint prints for each, or `None` if it prints none.
 HINTED = [
     ("$(id)`id`.der", "'$(id)`id`.der'"),
     ("it's;id", "'it'\\''s;id'"),
