@@ -127,9 +127,10 @@ Takes takes from to bound old new = (octets : List ℕ) × takes from octets to
 abbrev pub most_read : ℕ
 most_read = 4096
 
--- How the last read stops an open bundle: it failed, and moved nothing; or it didn't, and the bundle
--- refuses its piece, or the end that it met.
-abbrev pub LastStops : (input : Device) → ℕ → input.State → Kept → Kept → List ℕ → ReadError → Type 0
+-- How the last read stops an open bundle: the read failed and moved nothing; or it succeeded, and
+-- the bundle refuses its piece, or the end that it met.
+abbrev pub LastStops : (input : Device) → ℕ → input.State → Kept → Kept → List ℕ → ReadError
+    → Type 0
 LastStops input bound before now new piece reads.Device =
     (piece ≡ []) × (input.is_ended input.new → ⊥)
     × (input.failures input.new ≡ one_more (input.failures before))

@@ -29,7 +29,7 @@ pub trait NamedInputs<I> {
         ensures opened { IfOk result (λ input. is_opened self.now name.now input) }
         ensures unopened { IfErr result (λ error. is_unopened self.now name.now error) };
 
-    /// Returns whether a read of this input has failed. The answer is a hint: no clause says when it
-    /// is true.
+    /// Returns whether a read of this input has failed. The answer is a hint: no clause says when
+    /// it is true.
     fn has_failed(&self, input: &I) -> bool;
 }

@@ -78,7 +78,8 @@ fn encode_short_header<W: Writer>(writer: &mut W, tag: Tag, len: Length) -> Resu
     ensures exact { Writes W.takes_memory (W.out writer.old) (W.out writer.new) result
         (put (tag_octets tag ++ length_octets len.value)) }
     ensures kept { Continues (W.out writer.old) (W.out writer.new) }
-    ensures front { AddsFront (tag_octets tag ++ length_octets len.value) (W.out writer.old) (W.out writer.new) }
+    ensures front { AddsFront (tag_octets tag ++ length_octets len.value)
+        (W.out writer.old) (W.out writer.new) }
 {
     let first = leading_octet_of(tag);
     let n = len.value;

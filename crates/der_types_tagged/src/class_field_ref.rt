@@ -102,10 +102,12 @@ impl<'a, T: EncodeValue + FixedTag, const CLASS: u8> ClassFieldRef<'a, T, CLASS>
             (write_content T.content (T.value_written self.now.value.now)) }
         ensures kept { Continues (W.out writer.old) (W.out writer.new) }
         ensures front_explicit { self.now.tag_mode ≡ TagMode.Explicit → AddsFront
-            (contents (nested (only (tagged T.fixed_tag T.content))) (T.value_written self.now.value.now))
+            (contents (nested (only (tagged T.fixed_tag T.content)))
+            (T.value_written self.now.value.now))
             (W.out writer.old) (W.out writer.new) }
         ensures front_implicit { self.now.tag_mode ≡ TagMode.Implicit → AddsFront
-            (contents T.content (T.value_written self.now.value.now)) (W.out writer.old) (W.out writer.new) }
+            (contents T.content (T.value_written self.now.value.now))
+            (W.out writer.old) (W.out writer.new) }
     {
         encode_value_of_field(writer, self.tag_mode, self.value)
     }
@@ -142,8 +144,9 @@ impl<'a, T: EncodeValue + FixedTag, const CLASS: u8> ClassFieldRef<'a, T, CLASS>
             (T.value_written self.now.value.now)) }
         ensures kept { Continues (W.out writer.old) (W.out writer.new) }
         ensures front_explicit { self.now.tag_mode ≡ TagMode.Explicit → AddsFront
-            (octets_of (explicit_field CLASS self.now.tag_number.value (tagged T.fixed_tag T.content))
-            (T.value_written self.now.value.now)) (W.out writer.old) (W.out writer.new) }
+            (octets_of (explicit_field CLASS self.now.tag_number.value
+            (tagged T.fixed_tag T.content)) (T.value_written self.now.value.now))
+            (W.out writer.old) (W.out writer.new) }
         ensures front_implicit { self.now.tag_mode ≡ TagMode.Implicit → AddsFront
             (octets_of (implicit_field CLASS self.now.tag_number.value T.fixed_tag T.content)
             (T.value_written self.now.value.now)) (W.out writer.old) (W.out writer.new) }

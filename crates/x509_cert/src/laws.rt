@@ -205,8 +205,9 @@ pub fn types_are_apart_within_levels<P: Profile>()
         × IsApartWithinLevels ⟦<PolicyConstraints as Shaped>⟧.shape
         × IsApartWithinLevels ⟦<InhibitAnyPolicy as Shaped>⟧.shape
         × IsApartWithinLevels ⟦<PrivateKeyUsagePeriod as Shaped>⟧.shape }
-    // The types of extensions that hold a list, a text of octets, bits or a number, by their shapes.
-    ensures extensions { IsApartWithinLevels (sequence_of (sequence (names.access_description_fields Bound)))
+    // The types of extensions that hold a list, bytes, bits or a number, by their shapes.
+    ensures extensions { IsApartWithinLevels
+        (sequence_of (sequence (names.access_description_fields Bound)))
         × IsApartWithinLevels (sequence_of (sequence (names.distribution_point_fields Bound)))
         × IsApartWithinLevels (sequence_of (sequence (policies.policy_information_fields Bound)))
         × IsApartWithinLevels (sequence_of (sequence (policies.policy_mapping_fields Bound)))

@@ -53,10 +53,9 @@ pub trait Builder: Sized + Drop {
     /// The signature of what was made.
     ghost bits: { Self.Output → Bits };
 
-    /// The octets that are to be signed. The builder keeps what they are the octets of for
-    /// `assemble`, and stays as it is otherwise. So a second call for the same signer gives the same
-    /// octets, and what is added between two calls stands in the octets of the second, beside what
-    /// was added before.
+    /// Returns the bytes to be signed. The builder keeps what they encode for `assemble` and stays
+    /// as it is otherwise. So a second call for the same signer returns the same bytes, and what is
+    /// added between two calls is in the bytes of the second, beside what was added before.
     ///
     /// # Errors
     /// `Asn1` with `Overflow` where a length passes 2^32 - 1, with `OutOfMemory`, and those of the

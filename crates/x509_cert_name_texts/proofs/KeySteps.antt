@@ -156,7 +156,7 @@ unfolding dotted
 dotted_key [] = refl
 dotted_key (a ∷ arcs) = key-append (decimal a) (flat_map dot_decimal arcs) (decimal_key a) (more_key arcs)
 
--- it is no name of a type: each of these begins with a letter
+-- A dotted identifier is no name of a type: each such name begins with a letter.
 abbrev is_high : List ℕ → Bool
 is_high [] = false
 is_high (c ∷ w) = nat_lt 57 (to_ascii_lowercase c)

@@ -190,7 +190,7 @@ first_char s sign (c ∷ cs) w = by (has_backslash true (is_end cs) c) (is_contr
 pub no_hash : (cs w : List ℕ) → escaped_from true cs ≢ 35 ∷ w
 no_hash cs w = first_char 35 refl cs w
 
--- and it doesn't end with a space, but in a pair: each space in the open stands before another octet
+-- A text that ends with no bare space: each space outside a pair stands before another byte.
 data Tidy : List ℕ → Type 0 where
   end : Tidy []
   plain : (c : ℕ) (w : List ℕ) → c ≢ 92 → (w ≡ [] → c ≢ 32) → Tidy w → Tidy (c ∷ w)

@@ -250,7 +250,7 @@ module _ (bound : ℕ) (root : 40 ≤ bound) where
       by (Some key) None e f h = by_hex a h
       by None t e f h = by_hex a h
 
-  -- it holds no separator that counts
+  -- A printed attribute holds no separator outside a pair.
   attribute_calm : (s : ℕ) → is_paired s ≡ true → (a : TypeAndValue) → IsValid (type_and_value bound) (as_read a) → Calm s (attribute_printed (attribute_of a))
   unfolding attribute_printed as_read
   attribute_calm s sign a v = by (key_of (type_of a)) (text_of (value_of a)) refl v
