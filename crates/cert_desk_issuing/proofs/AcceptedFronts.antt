@@ -1,5 +1,6 @@
 -- Orders are accepted in turn, up to the first that is refused.
 use Rattle.std.proofs.Common.{◌≡◌, ℕ, ℤ, zero, suc, ◌+◌, ◌-◌, ◌<◌, ◌≤◌, List, [], ◌∷◌, ◌++◌, length, map, Bool, true, false, Option, Some, Ok, Err, Result, refl, sym, ap, ◌∙◌, subst, arith, inl, inr, slice_get, length-append}
+use Rattle.std.specs.Prelude.{IfSome}
 use Rattle.std.proofs.Math.Dec.{eqb-suc-zero}
 use Rattle.std.proofs.lemmas.Bool.{cases_lt, le-ltb, lt-ltb, ltb-false, and_parts}
 use Rattle.std.proofs.lemmas.List.{length-map}
@@ -22,7 +23,7 @@ use Rattle.x509_cert_parts.specs.SerialNumbers.{new_serial}
 use Rattle.cert_desk_orders.specs.declared.order.Order.{Order}
 use Rattle.x509_cert_names.proofs.OneName.{HasSome, read_some}
 use Rattle.der_types_sets.proofs.AscendingSteps.{length_plain_list}
-use Rattle.cert_desk_issuing.specs.Acceptance.{AcceptedOrders, AcceptsFront, IsAccepted, IsAcceptedAt, IsKeyOf, IsNamedFor, names_subscriber}
+use Rattle.cert_desk_issuing.specs.Acceptance.{AcceptedOrders, AcceptsFront, IsAccepted, IsAcceptedAt, IsNamedFor, names_subscriber}
 use Rattle.cert_desk_issuing.specs.PlainOrders.{AreKeys, AreReady, IsReady, PlainOrder, accepted_plain, orders_plain, CanBear}
 use Rattle.cert_desk_issuing.specs.Refusals.{IsRefusedAt, Refuses, RefusesAt, RefusesOrder, fault_at}
 use Rattle.cert_desk_issuing.specs.Roles.{place_above, role_at, signers_for}
@@ -154,7 +155,7 @@ are_ready orders keys ps a place p e =
 
 -- the keys of signers are those of accepted orders
 pub are_keys : (orders : List Order) (keys : List PublicKey) (ps : List PlainOrder) → AcceptedOrders orders keys ps → AreKeys keys ps
-are_keys orders keys ps a place key p k e = subst (λ (o : Option PublicKey). IsKeyOf o p.key) k (a.front.each place p e).accepted.key
+are_keys orders keys ps a place key p k e = subst (λ (o : Option PublicKey). IfSome o (λ s. s ≡ p.key)) k (a.front.each place p e).accepted.key
 
 -- a refusal of an order is told as the fault at its place
 pub told : {S : Type 0} (key : S → PublicKey) (algorithm : S → Algorithm) (signs : S → List ℕ → Bits → Type 0) (may_refuse : S → List ℕ → Type 0) (orders : List Order) (signers : List S) (place : ℕ) (f : Fault)

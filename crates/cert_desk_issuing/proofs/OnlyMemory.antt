@@ -1,6 +1,7 @@
--- Orders that are accepted ask for one thing, and where nothing stands in the way they are refused for want of memory alone.
+-- Accepted orders ask for exactly one chain, and if nothing else prevents it, they are refused only when an allocation fails.
 use Rattle.std.proofs.Common.{◌≡◌, ℕ, ◌<◌, List, length, true, false, Option, Some, None, refl, sym, ap, ◌∙◌, subst, arith, inl, inr, slice_get, string_bytes, map, Ok, Err}
 use Rattle.std.specs.Bool.{⊤}
+use Rattle.std.specs.Prelude.{◌≢◌, IfSome, IsSomeAnd}
 use Rattle.std.proofs.lemmas.List.{length-map}
 use Rattle.std.proofs.lemmas.Option.{same_Some, slice_get_within}
 use Rattle.const_oid.specs.Bound.{Bound}
@@ -21,11 +22,11 @@ use Rattle.cert_desk_orders.specs.declared.order.Order.{Order}
 use Rattle.x509_cert_builders.specs.declared.build_error.Error.{Error}
 use Rattle.x509_cert_names.proofs.OneName.{one_spelled, spelled_stands}
 use Rattle.der_types_time.proofs.SecondsOrders.{one_by_text}
-use Rattle.cert_desk_issuing.specs.Acceptance.{IsAccepted, IsAcceptedAt, IsKeyOf, IsNamedFor, IsTextOf, SpellDates, names_subscriber}
+use Rattle.cert_desk_issuing.specs.Acceptance.{IsAccepted, IsAcceptedAt, IsNamedFor, IsTextOf, SpellDates, names_subscriber}
 use Rattle.cert_desk_issuing.specs.Issuable.{AreIssuable, AreSignable, IsMemoryOrLong, IsShort}
 use Rattle.cert_desk_issuing.specs.Ordered.{ordered_part, part_octets}
 use Rattle.cert_desk_issuing.specs.PlainOrders.{HasNamesFor, PlainOrder}
-use Rattle.cert_desk_issuing.specs.Refusals.{HasFaultyDates, HasPart, HoldsAt, IsOtherKey, IsRefusedAt, MayBeTooLong, RefusesName, RefusesOrder, Faults, Refuses, Stops, StopsAt}
+use Rattle.cert_desk_issuing.specs.Refusals.{HasFaultyDates, HasPart, HoldsAt, IsRefusedAt, MayBeTooLong, RefusesName, RefusesOrder, Faults, Refuses, Stops, StopsAt}
 use Rattle.cert_desk_issuing.specs.Roles.{role_at, place_above}
 use Rattle.cert_desk_issuing.specs.declared.fault.Fault.{Fault}
 use Rattle.cert_desk_issuing.specs.declared.issue_error.IssueError.{IssueError}
@@ -35,7 +36,7 @@ use Rattle.cert_desk_issuing.specs.declared.fault.Fault.TheVariants as faults
 use Rattle.cert_desk_issuing.specs.declared.issue_error.IssueError.TheVariants as errors
 use Rattle.cert_desk_issuing.specs.declared.stop.Stop.TheVariants as stops
 
--- a name that was found right is refused for want of memory alone
+-- a name that was accepted is refused only when an allocation fails
 named_again : (n : PlainName) (e : Error) → NamesAuthority {X = Unit {0}} n (Ok tt) → NamesAuthority {X = Unit {0}} n (Err e) → IsWantOfMemory e
 named_again n e right (inl first) =
     let good = right.0 first.0 first.1 in
@@ -49,7 +50,7 @@ named_again n e right (inr (inl (named, inr lacking))) =
     absurd (cc clash)
 named_again n e right (inr (inr want)) = want
 
--- what has an encoding where a signed part has one
+-- the names in a TBSCertificate that has an encoding have encodings
 subject_valid : (role : Role) (p above : PlainOrder) (a : Algorithm) → IsValid (tbs_certificate Bound None) (ordered_part role p above a) → IsValid (name Bound) p.subject
 unfolding IsValid IsContent IsBody
 subject_valid role p above a v = v.0.1.1.1.1.1.0
@@ -58,7 +59,7 @@ issuer_valid : (role : Role) (p above : PlainOrder) (a : Algorithm) → IsValid 
 unfolding IsValid IsContent IsBody
 issuer_valid role p above a v = v.0.1.1.1.0
 
--- a text is that of one date
+-- a text denotes at most one date
 one_date : (text : List ℕ) (c d : Civil) → IsTextOf text c → IsTextOf text d → c ≡ d
 one_date text c d h k = one_by_text c d h.0 k.0 (sym h.1 ∙ k.1)
 
@@ -81,11 +82,11 @@ dates_stand o v h (inr (inr late)) =
     let le = h.in_order in
     omega (arith, first, last, lt, le)
 
-key_stands : (key : Option PublicKey) (k : PublicKey) → IsKeyOf key k → IsOtherKey key k → ⊥
+key_stands : (key : Option PublicKey) (k : PublicKey) → IfSome key (λ s. s ≡ k) → IsSomeAnd key (λ s. s ≢ k) → ⊥
 key_stands (Some s) k h other = other h
 key_stands None k h other = other
 
--- a name that may stand there isn't refused
+-- a name that is allowed for the role isn't refused
 name_stands : (role : Role) (n : PlainName) (f : Fault) → IsNamedFor role n → RefusesName role n f → f ≡ faults.OutOfMemory
 name_stands role n (faults.RootName e) h r = absurd (r.2 (named_again n e (subst (λ x. IsNamedFor x n) r.0 h) r.1))
 name_stands role n faults.SubscriberName h (subscriber, fault) =
@@ -96,7 +97,7 @@ name_stands role n faults.OutOfMemory h r = refl
 name_stands role n _ h r = absurd r
 
 module _ (role : Role) (key : Option PublicKey) (o : Order) (p : PlainOrder) (a : IsAccepted role key o p) (valid : IsValid (name Bound) p.subject) where
-  -- what an order asks for
+  -- an accepted order asks for exactly one certificate
   one_order : (q : PlainOrder) → IsAccepted role key o q → p ≡ q
   one_order q b =
       let subject = one_spelled Bound (string_bytes o.name) p.subject q.subject a.name b.name in
@@ -112,7 +113,7 @@ module _ (role : Role) (key : Option PublicKey) (o : Order) (p : PlainOrder) (a 
   named : (n : PlainName) → SpellsName Bound (string_bytes o.name) n → IsNamedFor role n
   named n s = subst (λ x. IsNamedFor role x) (one_spelled Bound (string_bytes o.name) p.subject n a.name s) a.naming
 
-  -- an order that is accepted is refused for want of memory alone
+  -- an accepted order is refused only when an allocation fails
   order_stands : (f : Fault) → RefusesOrder role key o f → f ≡ faults.OutOfMemory
   order_stands faults.Name r = absurd (spelled_stands Bound (string_bytes o.name) p.subject r.0 a.name r.1)
   order_stands (faults.RootName e) r =
@@ -121,10 +122,10 @@ module _ (role : Role) (key : Option PublicKey) (o : Order) (p : PlainOrder) (a 
   order_stands faults.Serial r = absurd (cc (a.serial, r.1.1))
   order_stands faults.Dates r = absurd (dates_stand o p.validity a.dates r.2)
   order_stands faults.DnsName r = absurd (r.3 (subst (λ names. HasNamesFor role names) a.dns_is a.right.names))
-  order_stands faults.KeyMismatch r = absurd (key_stands key (key_plain o.key) (subst (λ k. IsKeyOf key k) a.key_is a.key) r.4)
+  order_stands faults.KeyMismatch r = absurd (key_stands key (key_plain o.key) (subst (λ k. IfSome key (λ s. s ≡ k)) a.key_is a.key) r.4)
   order_stands faults.OutOfMemory r = refl
 
--- orders that are accepted at one place are one
+-- the order accepted at an index asks for exactly one certificate
 module _ (orders : List Order) (keys : List PublicKey) (place : ℕ) (p : PlainOrder) (a : IsAcceptedAt orders keys place p) (valid : IsValid (name Bound) p.subject) where
   one_at : (q : PlainOrder) → IsAcceptedAt orders keys place q → p ≡ q
   one_at q b =
@@ -140,7 +141,7 @@ module _ (orders : List Order) (keys : List PublicKey) (place : ℕ) (p : PlainO
       let same : r.order ≡ a.order = same_Some r.order a.order (sym r.stands ∙ a.stands) in
       order_stands role key a.order p a.accepted valid f (subst (λ (o : Order). RefusesOrder role key o f) same r.refused)
 
--- what holds at a place holds of the same order and signer
+-- two facts about an index are facts about the same order and signer
 module _ {S : Type 0} (algorithm : S → Algorithm) (P Q : S → Role → PlainOrder → Tbs → Type 0) (asked : List PlainOrder) (signers : List S) (place : ℕ) (h : HoldsAt algorithm P asked signers place) (k : HoldsAt algorithm Q asked signers place) where
   same_place : Q h.signer (role_at (length asked) place) h.order (ordered_part (role_at (length asked) place) h.order h.above (algorithm h.signer))
   same_place =
@@ -153,7 +154,7 @@ module _ {S : Type 0} (algorithm : S → Algorithm) (P Q : S → Role → PlainO
       let two = subst (λ b. R h.order b k.signer) above one in
       subst (λ s. R h.order h.above s) signer two
 
--- what may be signed is stopped by want of memory alone, or by bits that are too long
+-- signing what may be signed fails only when an allocation fails, or the bits are too long
 abbrev Left : (List ℕ → Bits → Type 0) → Algorithm → Tbs → Stop → Type 0
 Left signs a t stops.Refused = ⊥
 Left signs a t stops.TooLong = MayBeTooLong signs a t
@@ -176,7 +177,7 @@ module _ {S : Type 0} (key : S → PublicKey) (algorithm : S → Algorithm) (sig
       stands_at orders (map key signers) place here.order (h.accepted.front.each place here.order here.order_is)
       (subject_valid role here.order here.above (algorithm here.signer) here.holds.1.1) f r.refused
 
-  -- no certificate is stopped by anything else
+  -- nothing else prevents a certificate
   left_at : (place : ℕ) (stop : Stop) → StopsAt key algorithm signs may_refuse orders signers place stop → HoldsAt algorithm (λ s role p t. Left (signs s) (algorithm s) t stop) h.asked signers place
   left_at place stop r =
       let keys = map key signers in
@@ -238,7 +239,7 @@ module _ {S : Type 0} (key : S → PublicKey) (algorithm : S → Algorithm) (sig
         };
   }
 
-  -- where all bits that a signer may give are short enough
+  -- all bits that a signer may return are short enough
   only_memory : (e : IssueError) → IsMemoryOrLong algorithm signs h.asked signers e → e ≡ errors.OutOfMemory
   only_memory errors.OutOfMemory k = refl
   only_memory (errors.TooLong place) k =

@@ -1,5 +1,5 @@
 -- Which orders are accepted.
-use Rattle.std.specs.Prelude.{◌≡◌, ℕ, ◌≤◌, ◌<◌, List, length, Bool, true, Option, Some, None, Ok}
+use Rattle.std.specs.Prelude.{◌≡◌, ℕ, ◌≤◌, ◌<◌, List, length, Bool, true, IfSome, Option, Some, Ok}
 use Rattle.std.specs.Prelude.{slice_get, string_bytes}
 use Rattle.std.specs.Bool.{⊤}
 use Rattle.std.specs.List.{list_all}
@@ -45,12 +45,8 @@ pub record SpellDates (before after : List ℕ) (v : PlainValidity) : Type 0 whe
   pub spelled : v ≡ (time_of (civil_of (not_before v)), (time_of (civil_of (not_after v)), tt))
   pub in_order : unix_seconds (civil_of (not_before v)) ≤ unix_seconds (civil_of (not_after v))
 
--- the key of the signer at the order's place, if it needs one, is the order's
-abbrev pub IsKeyOf : Option PublicKey → PublicKey → Type 0
-IsKeyOf (Some signer_key) k = signer_key ≡ k
-IsKeyOf None k = ⊤
-
--- The order is accepted in this role, and asks for this.
+-- The order is accepted in this role, beside a signer of this key, if it needs one, and asks for
+-- this.
 pub record IsAccepted (role : Role) (signer_key : Option PublicKey) (o : Order)
     (p : PlainOrder) : Type 0 where
   pub name : SpellsName Bound (string_bytes o.name) p.subject
@@ -58,7 +54,7 @@ pub record IsAccepted (role : Role) (signer_key : Option PublicKey) (o : Order)
   pub serial : new_serial o.serial.items ≡ Ok p.serial
   pub dates : SpellDates (string_bytes o.not_before) (string_bytes o.not_after) p.validity
   pub right : IsRight role p
-  pub key : IsKeyOf signer_key p.key
+  pub key : IfSome signer_key (λ k. k ≡ p.key)
   -- what else it says itself
   pub key_is : p.key ≡ key_plain o.key
   pub path_is : p.path ≡ o.path_len

@@ -28,15 +28,13 @@ dns_names texts = plain_list dns_name texts
 
 -- the DNS names of a subscriber have an encoding; those of other roles aren't asked for
 abbrev pub CanName : Role → List (List ℕ) → Type 0
-CanName roles.Root dns = ⊤
-CanName roles.Subordinate dns = ⊤
 CanName roles.Subscriber dns = IsValid (general_names Bound) (dns_names dns)
+CanName _ dns = ⊤
 
 -- SubjectAltName, critical where the subject has no name (4.2.1.6)
 abbrev pub names_extension : PlainName → List (List ℕ) → PlainExtension
 names_extension subject dns =
-    extension_of (id_ce 17) (length subject == 0) (general_names Bound)
-    (dns_names dns)
+    extension_of (id_ce 17) (length subject == 0) (general_names Bound) (dns_names dns)
 
 -- what the DNS names of a subscriber add
 abbrev pub names_for : Role → PlainOrder → List PlainExtension

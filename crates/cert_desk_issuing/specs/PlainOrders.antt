@@ -39,10 +39,9 @@ ends p = civil_of (not_after p.validity)
 
 -- a subscriber has a DNS name or more, each in ASCII
 abbrev pub HasNamesFor : Role → List (List ℕ) → Type 0
-HasNamesFor roles.Root names = ⊤
-HasNamesFor roles.Subordinate names = ⊤
 HasNamesFor roles.Subscriber names = (0 < length names)
     × (list_all (λ text. list_all (λ o. nat_lt o 128) text) names ≡ true)
+HasNamesFor _ names = ⊤
 
 -- What an extension can say is asked for: a path length of one octet, and these names.
 pub record IsRight (role : Role) (p : PlainOrder) : Type 0 where

@@ -1,7 +1,7 @@
 -- Why no chain is issued. The reasons stand in their order: for one at a place, the orders before
 -- and what is asked before of this one are right.
 use Rattle.std.specs.Prelude.{◌≡◌, ◌≢◌, ◌⊎◌, ℕ, ℤ, ◌<◌, List, [], length, map, true, false, Option}
-use Rattle.std.specs.Prelude.{Some, None, Ok, Err, slice_get, string_bytes}
+use Rattle.std.specs.Prelude.{Some, None, Ok, Err, slice_get, string_bytes, IsSomeAnd}
 use Rattle.std.specs.Bool.{⊤}
 use Rattle.const_oid.specs.Bound.{Bound}
 use Rattle.der_core_head.specs.BitStrings.{Bits, IsBits}
@@ -69,10 +69,6 @@ HasFaultyDates o =
     × IsTextOf (string_bytes o.not_after) after
     × (unix_seconds after < unix_seconds before))
 
-abbrev pub IsOtherKey : Option PublicKey → PublicKey → Type 0
-IsOtherKey (Some signer_key) k = signer_key ≢ k
-IsOtherKey None k = ⊥
-
 -- why a name isn't one that the certificate of a role may have
 abbrev pub RefusesName : Role → PlainName → Fault → Type 0
 RefusesName role n (faults.RootName e) = (role ≡ roles.Root)
@@ -94,7 +90,7 @@ module _ (role : Role) (key : Option PublicKey) (o : Order) where
   RefusesOrder faults.Dates = HasName role o × HasSerial o × HasFaultyDates o
   RefusesOrder faults.DnsName = HasName role o × HasSerial o × HasDates o × (HasNames role o → ⊥)
   RefusesOrder faults.KeyMismatch = HasName role o × HasSerial o × HasDates o × HasNames role o
-      × IsOtherKey key (key_plain o.key)
+      × IsSomeAnd key (λ k. k ≢ key_plain o.key)
   RefusesOrder faults.OutOfMemory = ⊤
 
 -- the order at a place is refused
@@ -132,16 +128,12 @@ abbrev pub MayBeTooLong : (List ℕ → Bits → Type 0) → Algorithm → Tbs �
 MayBeTooLong signs a t = (bits : Bits) × IsBits bits × signs (part_octets t) bits
     × (IsValid (certificate Bound None) (t, (a, (bits, tt))) → ⊥)
 
--- A length passes 2^32 - 1: a subscriber's names or the signed part have no encoding, or the
--- certificate has none with bits that its signer may give.
-abbrev pub IsTooLong : (List ℕ → Bits → Type 0) → Algorithm → Role → List (List ℕ) → Tbs → Type 0
-IsTooLong signs a role dns t = (HasPart role dns t → ⊥) ⊎ MayBeTooLong signs a t
-
--- why the certificate of a signed part isn't made
+-- Why the certificate of a signed part isn't made. It is too long where a length passes 2^32 - 1.
 abbrev pub Stops : (List ℕ → Type 0) → (List ℕ → Bits → Type 0) → Algorithm → Role → List (List ℕ)
     → Tbs → Stop → Type 0
 Stops may_refuse signs a role dns t stops.Refused = may_refuse (part_octets t)
-Stops may_refuse signs a role dns t stops.TooLong = IsTooLong signs a role dns t
+Stops may_refuse signs a role dns t stops.TooLong = (HasPart role dns t → ⊥)
+    ⊎ MayBeTooLong signs a t
 Stops may_refuse signs a role dns t stops.OutOfMemory = ⊤
 
 -- Of the order at a place, of its role and its signer, and of the part that is ordered there below

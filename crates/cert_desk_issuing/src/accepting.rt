@@ -1,7 +1,7 @@
 //! Which orders are accepted.
 
-ghost use Rattle.std.specs.Prelude.{◌≡◌, ◌↔◌, ◌<◌, ◌^◌, true, false, string_bytes, nat_lt};
-ghost use Rattle.std.specs.Prelude.{Option, None, Ok, IsTrue, IfOk, IfErr, IfSome, OnOk};
+ghost use Rattle.std.specs.Prelude.{◌≡◌, ◌≢◌, ◌↔◌, ◌<◌, ◌^◌, true, false, string_bytes, nat_lt};
+ghost use Rattle.std.specs.Prelude.{Option, None, Ok, IsTrue, IfOk, IfErr, IfSome, IsSomeAnd, OnOk};
 ghost use Rattle.std.specs.List.{list_all};
 ghost use Rattle.const_oid.specs.Bound.{Bound};
 ghost use Rattle.der_core_head.specs.Grammar.{plain_list, plain_option};
@@ -13,10 +13,10 @@ ghost use Rattle.x509_cert_parts.specs.Views.{key_plain, time_date, time_value, 
 ghost use Rattle.x509_cert_names.specs.Views.{name_plain};
 ghost use Rattle.x509_cert_parts.specs.SerialNumbers.{new_serial};
 ghost use Rattle.x509_cert_names.specs.PlainTexts.{SpellsName};
-ghost use Rattle.cert_desk_issuing.specs.Acceptance.{IsAccepted, IsKeyOf, IsNamedFor, IsTextOf};
+ghost use Rattle.cert_desk_issuing.specs.Acceptance.{IsAccepted, IsNamedFor, IsTextOf};
 ghost use Rattle.cert_desk_issuing.specs.Acceptance.{SpellDates, names_subscriber};
 ghost use Rattle.cert_desk_issuing.specs.PlainOrders.{HasNamesFor, accepted_plain};
-ghost use Rattle.cert_desk_issuing.specs.Refusals.{HasFaultyDates, HasName, IsNoDate, IsOtherKey};
+ghost use Rattle.cert_desk_issuing.specs.Refusals.{HasFaultyDates, HasName, IsNoDate};
 ghost use Rattle.cert_desk_issuing.specs.Refusals.{RefusesName, RefusesOrder};
 
 use crate::accepted::Accepted;
@@ -218,11 +218,11 @@ fn is_same_key(one: &SubjectPublicKeyInfo, other: &SubjectPublicKeyInfo) -> bool
 
 /// Whether the key of an order is its signer's, if it needs one.
 fn is_key_of(signer_key: Option<&SubjectPublicKeyInfo>, key: &SubjectPublicKeyInfo) -> bool
-    ensures same { IsTrue result → IsKeyOf (plain_option (λ k. key_plain k.now) signer_key.entry)
-        (key_plain key.now) }
+    ensures same { IsTrue result → IfSome (plain_option (λ k. key_plain k.now) signer_key.entry)
+        (λ k. k ≡ key_plain key.now) }
     ensures other { result ≡ false
-        → IsOtherKey (plain_option (λ k. key_plain k.now) signer_key.entry)
-        (key_plain key.now) }
+        → IsSomeAnd (plain_option (λ k. key_plain k.now) signer_key.entry)
+        (λ k. k ≢ key_plain key.now) }
 {
     match signer_key {
         Some(signer_key) => is_same_key(signer_key, key),

@@ -1,5 +1,5 @@
 -- Subjects of subscribers, relative name by relative name.
-use Rattle.std.proofs.Common.{◌≡◌, List, [], ◌∷◌, ◌++◌, refl, ap, ◌⊎◌, length, Bool, true, false, sym, ◌∙◌, subst, append_assoc, arith, inl, inr, if◌then◌else◌, ◌==◌, not, IsPermutation, append-nil, ℕ, ◌<◌, Ok, Err, None, length-append, get_or, IsOk, is_ok, ◌||◌, cond}
+use Rattle.std.proofs.Common.{◌≡◌, List, map, [], ◌∷◌, ◌++◌, refl, ap, ◌⊎◌, length, Bool, true, false, sym, ◌∙◌, subst, append_assoc, arith, inl, inr, if◌then◌else◌, ◌==◌, not, IsPermutation, append-nil, ℕ, ◌<◌, Ok, Err, None, length-append, get_or, IsOk, is_ok, ◌||◌, cond}
 use Rattle.std.specs.List.{AllByRecursion, IsDistinct, list_all}
 use Rattle.der_core_head.specs.Grammar.{plain_list}
 use Rattle.der_core_head.proofs.Results.{plain-append}
@@ -13,8 +13,8 @@ use Rattle.const_oid.specs.Bound.{Bound}
 use Rattle.der_core_head.specs.declared.error.Error.{Error as DerError}
 use Rattle.der_core_head.specs.declared.error.ErrorKind.TheVariants as kinds
 use Rattle.der_core_head.specs.Shapes.{IsValid}
-use Rattle.x509_cert_names.specs.Names.{PlainName, type_and_value}
-use Rattle.x509_cert_builders.specs.Naming.{TypeAndValue, types_of, name_types, type_behind, type_at, foreign_type, has_required, IsNamed, IsFirstFault, NamesAuthority, is_among}
+use Rattle.x509_cert_names.specs.Names.{PlainName, TypeAndValue, type_and_value, type_of}
+use Rattle.x509_cert_builders.specs.Naming.{name_types, type_behind, type_at, foreign_type, has_required, IsNamed, IsFirstFault, NamesAuthority, is_among}
 use Rattle.x509_cert_builders.specs.Refusals.{IsWantOfMemory}
 use Rattle.x509_cert_builders.specs.Subscribers.{AreShort, HasLongAttribute, KeepsDistinct, SameAttributes, all_stays, attributes_left, relative_in_front, domain_subject, left_of, may_stay, stays}
 use Rattle.x509_cert_builders.specs.declared.build_error.Error.{Error}
@@ -168,7 +168,7 @@ left_all n kept h = (subst (SameAttributes (domain_subject n)) (append-nil kept)
 chosen : (b c : Bool) (x t : List ℕ) (d e : Error) → (if b then Err d else if c then Ok x else Err e) ≡ Ok t → x ≡ t
 chosen b c x t d e h = grind (arith, nat_tests)
 
-one_type : (repeats : Bool) (before : List (List ℕ)) (r : List TypeAndValue) (t : List ℕ) → type_behind repeats before r ≡ Ok t → types_of r ≡ t ∷ []
+one_type : (repeats : Bool) (before : List (List ℕ)) (r : List TypeAndValue) (t : List ℕ) → type_behind repeats before r ≡ Ok t → map type_of r ≡ t ∷ []
 one_type repeats before [] t e = absurd cc
 one_type repeats before (a ∷ []) t e = ap (λ u. u ∷ []) (chosen _ _ _ t _ _ e)
 one_type repeats before (a ∷ b ∷ more) t e = absurd cc
@@ -200,7 +200,7 @@ checked_more repeats n types r left t c e =
     record {
       seen = c.seen ++ r ∷ [];
       whole = c.whole ∙ sym (append_assoc c.seen (r ∷ []) left);
-      types = ap (λ w. w ++ t ∷ []) c.types ∙ sym (flat_map-append types_of c.seen (r ∷ []) ∙ ap (λ w. name_types c.seen ++ w) (ap (λ w. w ++ []) (one_type repeats types r t e)));
+      types = ap (λ w. w ++ t ∷ []) c.types ∙ sym (flat_map-append (map type_of) c.seen (r ∷ []) ∙ ap (λ w. name_types c.seen ++ w) (ap (λ w. w ++ []) (one_type repeats types r t e)));
       right = λ j h. elim (cases_lt j (length c.seen)) [ inl low ↦ c.right j low | inr high ↦ (let same : length c.seen ≡ j = omega (arith, h, high, length-append c.seen (r ∷ [])) in subst (λ k. IsOk (type_at repeats n k)) same (ap is_ok here)) ];
     }
 

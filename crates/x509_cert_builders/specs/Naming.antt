@@ -4,24 +4,15 @@ use Rattle.std.specs.Prelude.{true, false, ◌&&◌, ◌||◌, nat_lt, not, Opti
 use Rattle.std.specs.Prelude.{Err, IsOk, if◌then◌else◌}
 use Rattle.std.specs.List.{find, flat_map, list_any, list_all, position_or_len}
 use Rattle.const_oid.specs.Comparing.{owned_eq}
-use Rattle.der_core_head.specs.Shapes.{AnyValue}
 use Rattle.x509_cert_name_texts.specs.Keys.{pilot, x520}
-use Rattle.x509_cert_names.specs.Names.{PlainName}
+use Rattle.x509_cert_names.specs.Names.{PlainName, TypeAndValue}
 use Rattle.x509_cert_builders.specs.declared.build_error.Error.{Error}
 use Rattle.x509_cert_builders.specs.declared.build_error.Error.TheVariants as errors
 use Rattle.x509_cert_builders.specs.Refusals.{IsWantOfMemory}
 
--- an attribute: the arcs of its type, and its value
-abbrev pub TypeAndValue : Type 0
-TypeAndValue = List ℕ × (AnyValue × Unit {0})
-
--- the types of attributes
-abbrev pub types_of : List TypeAndValue → List (List ℕ)
-types_of r = map (λ (a : TypeAndValue). a.0) r
-
--- the types of a name, RDN by RDN
+-- the types of a name's attributes, RDN by RDN
 abbrev pub name_types : PlainName → List (List ℕ)
-name_types n = flat_map types_of n
+name_types n = flat_map (map (λ (a : TypeAndValue). a.0)) n
 
 abbrev pub domain_component : List ℕ
 domain_component = pilot 25

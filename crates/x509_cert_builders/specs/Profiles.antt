@@ -19,20 +19,17 @@ use Rattle.x509_cert_policies.specs.Policies.{basic_constraints_fields}
 -- AuthorityKeyIdentifier with the issuer's key alone (4.2.1.1)
 abbrev pub authority_key_extension : PublicKey → PlainExtension
 authority_key_extension k =
-    extension_of (id_ce 35) false
-    (sequence (authority_key_identifier_fields Bound))
+    extension_of (id_ce 35) false (sequence (authority_key_identifier_fields Bound))
     (Some (key_identifier k), (None, (None, tt)))
 
 -- SubjectKeyIdentifier (4.2.1.2)
 abbrev pub subject_key_extension : PublicKey → PlainExtension
-subject_key_extension k =
-    extension_of (id_ce 14) false octet_string (key_identifier k)
+subject_key_extension k = extension_of (id_ce 14) false octet_string (key_identifier k)
 
 -- BasicConstraints (4.2.1.9)
 abbrev pub constraints_extension : Bool → Option ℤ → PlainExtension
 constraints_extension ca path =
-    extension_of (id_ce 19) true (sequence basic_constraints_fields)
-    (ca, (path, tt))
+    extension_of (id_ce 19) true (sequence basic_constraints_fields) (ca, (path, tt))
 
 -- KeyUsage, as the number whose bits are the uses (4.2.1.3)
 abbrev pub usage_extension : ℕ → PlainExtension
@@ -70,8 +67,7 @@ purposes clients = if clients then id_kp 1 ∷ id_kp 2 ∷ [] else id_kp 1 ∷ [
 -- ExtendedKeyUsage (4.2.1.12)
 abbrev pub purposes_extension : Bool → PlainExtension
 purposes_extension clients =
-    extension_of (id_ce 37) false (sequence_of (object_identifier Bound))
-    (purposes clients)
+    extension_of (id_ce 37) false (sequence_of (object_identifier Bound)) (purposes clients)
 
 -- a subordinate authority (7.1.2.6.1)
 abbrev pub subordinate_extensions : Bool → Bool → Option ℤ → PublicKey → PublicKey

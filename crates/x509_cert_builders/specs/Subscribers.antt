@@ -9,10 +9,10 @@ use Rattle.der_core_head.specs.Grammar.{plain_list}
 use Rattle.der_core_head.specs.Shapes.{IsValid, Value}
 use Rattle.x509_cert_general_names.specs.GeneralNames.{general_name}
 use Rattle.x509_cert_general_names.specs.GeneralNameViews.{general_name_plain}
-use Rattle.x509_cert_names.specs.Names.{PlainName, type_and_value}
+use Rattle.x509_cert_names.specs.Names.{PlainName, TypeAndValue, type_and_value}
 use Rattle.x509_cert_names.specs.Views.{name_plain}
 use Rattle.x509_cert_builders.specs.Refusals.{IsOfKind}
-use Rattle.x509_cert_builders.specs.Naming.{TypeAndValue, common_name, country, is_among}
+use Rattle.x509_cert_builders.specs.Naming.{common_name, country, is_among}
 use Rattle.x509_cert_builders.specs.declared.certificate_type.CertificateType.{CertificateType}
 use Rattle.x509_cert_builders.specs.declared.domain_validated.DomainValidated.{DomainValidated}
 use Rattle.x509_cert_builders.specs.declared.build_error.Error.{Error}

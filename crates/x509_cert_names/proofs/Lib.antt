@@ -3,6 +3,7 @@ pub mod Printed
 pub mod Rows
 pub mod NameBounds
 pub mod OneName
+pub mod EncodedValues
 mod TextBounds
 mod PlainSpelled
 pub mod SameOctets

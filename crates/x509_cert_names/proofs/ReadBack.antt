@@ -41,6 +41,7 @@ use Rattle.x509_cert_names.specs.Pairs.{pair_plain, relative_plain}
 use Rattle.x509_cert_names.specs.PlainTexts.{SpellsName, attribute_of, name_text, read_by, as_read, IsAsRead, IsReadBack}
 use Rattle.x509_cert_names.specs.ValueTexts.{ReadsValue, tag_for, of_content, encoded_value, encoding_of, text_by, text_of, printed_by, attribute_printed}
 use Rattle.x509_cert_names.specs.declared.attribute_type_and_value.AttributeTypeAndValue.{AttributeTypeAndValue}
+use Rattle.x509_cert_names.proofs.EncodedValues.{encoded_is}
 use Rattle.x509_cert_names.proofs.Lists.{all_turned}
 use Rattle.x509_cert_names.proofs.OneName.{one_spelled}
 use Rattle.x509_cert_names.proofs.SameOctets.{rising_distinct}
@@ -157,9 +158,9 @@ unfolding encoding_of octets_of
 encoding_octets a v = octets_below any a v
 
 encoding_read : (a : AnyValue) → IsValid any a → encoded_value (in_hex (encoding_of a)) ≡ Ok a
-unfolding encoded_value
 encoding_read a v =
-    ap (λ (r : Result (List ℕ) ErrorKind). r >>= read_whole any >>= λ x. Ok x.0) (hex_read (encoding_of a) (encoding_octets a v))
+    encoded_is (in_hex (encoding_of a))
+    ∙ ap (λ (r : Result (List ℕ) ErrorKind). r >>= read_whole any >>= λ x. Ok x.0) (hex_read (encoding_of a) (encoding_octets a v))
     ∙ ap (λ (r : Result (AnyValue × List ℕ) ErrorKind). r >>= λ x. Ok x.0) (whole_again any a (encoding_of a) refl refl (encoding_spelled a v))
 
 -- the attributes of an RDN, and the RDNs of a name

@@ -31,8 +31,7 @@ type_and_value bound = sequence (type_and_value_fields bound)
 abbrev pub relative_name : ℕ → Shape
 relative_name bound = strict_set_of (type_and_value bound)
 
--- Name ::= CHOICE { rdnSequence RDNSequence }, RDNSequence ::= SEQUENCE OF
---     RelativeDistinguishedName
+-- Name ::= CHOICE { rdnSequence SEQUENCE OF RelativeDistinguishedName }
 abbrev pub name : ℕ → Shape
 name bound = sequence_of (relative_name bound)
 

@@ -17,7 +17,7 @@ abbrev pub pair : List ℕ → AnyValue → TypeAndValue
 pair arcs value = (arcs, (value, tt))
 
 abbrev pub pair_plain : AttributeTypeAndValue → TypeAndValue
-pair_plain a = pair a.oid a.value
+pair_plain a = (a.oid, (a.value, tt))
 
 -- whether type and value are equal
 abbrev pub same_pair : AttributeTypeAndValue → AttributeTypeAndValue → Bool

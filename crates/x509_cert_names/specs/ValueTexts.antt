@@ -9,11 +9,10 @@ use Rattle.der_core_head.specs.declared.error.ErrorKind.{ErrorKind}
 use Rattle.der_core_head.specs.declared.error.ErrorKind.TheVariants as kinds
 use Rattle.der_core_head.specs.declared.tag.Tag.{Tag}
 use Rattle.der_core_head.specs.declared.tag.Tag.TheVariants as tags
-use Rattle.der_core_head.specs.Grammar.{read_whole}
-use Rattle.der_core_head.specs.Heads.{tlv}
+use Rattle.der_core_head.specs.Heads.{Head, head_at, tlv}
 use Rattle.der_core_head.specs.Leaves.{text, utf8}
 use Rattle.der_core_head.specs.Octets.{◌>>=◌}
-use Rattle.der_core_head.specs.Shapes.{AnyValue, any}
+use Rattle.der_core_head.specs.Shapes.{AnyValue}
 use Rattle.der_core_head.specs.Texts.{printable, ascii}
 use Rattle.der_types_any.specs.Contents.{leaf_as}
 use Rattle.x509_cert_name_texts.specs.Escapes.{ReadsOctets, hex_octets, escaped, in_hex}
@@ -29,9 +28,17 @@ tag_for arcs =
     else if owned_eq arcs (pilot 25) || owned_eq arcs email_address then tags.Ia5String
     else tags.Utf8String
 
--- the value whose encoding these hex digits are
+-- the value that a header and the octets after it encode, where the header counts all of them
+abbrev pub behind_head : Head → List ℕ → Result AnyValue ErrorKind
+behind_head h w =
+    if nat_lt (length w) h.len then Err kinds.Incomplete
+    else if nat_lt h.len (length w) then Err kinds.TrailingData
+    else Ok (record { tag = h.tag; contents = w })
+
+-- the value whose encoding these hex digits are (RFC 4514 2.4; X.690 8.1)
 unfoldable pub encoded_value : List ℕ → Result AnyValue ErrorKind
-encoded_value digits = hex_octets digits >>= read_whole any >>= λ v. Ok v.0
+encoded_value digits = hex_octets digits >>= λ w. if nat_lt length_max (length w)
+    then Err kinds.Overflow else (head_at w >>= λ h. behind_head h.0 h.1)
 
 -- a value, if a length can count its octets
 abbrev pub of_content : Tag → List ℕ → Result AnyValue ErrorKind

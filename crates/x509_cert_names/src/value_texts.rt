@@ -34,7 +34,7 @@ fn tag_for(oid: &AttributeType) -> Tag
 }
 
 /// The value whose encoding these hex digits are.
-#[tactic(auto, unfolding(crate::specs::ValueTexts::encoded_value))]
+#[tactic(auto, using(crate::proofs::EncodedValues::encoded_is))]
 fn encoded_value(alloc: Global, digits: &[u8]) -> Result<AttributeValue, Error>
     ensures { Gives (λ a. a) result (encoded_value digits.now) }
 {

@@ -1,7 +1,8 @@
 -- The parts of certificates (RFC 5280 4.1, 4.1.1.2, 4.1.2). A shape that holds an identifier takes
 -- the bound of arcs. A serial number takes the greatest number of content octets that its profile
 -- reads, if there is such a number.
-use Rattle.std.specs.Prelude.{ℕ, List, [], ◌∷◌, Bool, false, Option, Some, None}
+use Rattle.std.specs.Prelude.{ℕ, List, [], ◌∷◌, Bool, false, Option, None}
+use Rattle.std.specs.Option.{option_map_or}
 use Rattle.std.proofs.Common.{inl, inr}
 use Rattle.const_oid.specs.Bound.{max_size}
 use Rattle.der_core_head.specs.declared.tag.Tag.TheVariants as tags
@@ -42,24 +43,16 @@ abbrev pub public_key_info : ℕ → Shape
 public_key_info bound = sequence (public_key_fields bound)
 
 -- Version ::= INTEGER { v1(0), v2(1), v3(2) } (4.1.2.1)
-abbrev pub version_numbers : List ℕ
-version_numbers = 0 ∷ 1 ∷ 2 ∷ []
-
 abbrev pub version : Shape
-version = tagged tags.Integer (leaf (integer (among version_numbers)))
+version = tagged tags.Integer (leaf (integer (among (0 ∷ 1 ∷ 2 ∷ []))))
 
--- the octets of [0] EXPLICIT Version for v1, which never stand
-abbrev pub first_version_octets : List ℕ
-first_version_octets = 160 ∷ 3 ∷ 2 ∷ 1 ∷ 0 ∷ []
-
--- [0] EXPLICIT Version DEFAULT v1
+-- [0] EXPLICIT Version DEFAULT v1, whose octets never stand
 abbrev pub version_field : Shape
-version_field = defaulted (explicit 0 version) first_version_octets
+version_field = defaulted (explicit 0 version) (160 ∷ 3 ∷ 2 ∷ 1 ∷ 0 ∷ [])
 
 -- the numbers of at most so many content octets, or all
 abbrev pub numbers_within : Option ℕ → Numbers
-numbers_within None = every
-numbers_within (Some n) = within n
+numbers_within limit = option_map_or within limit every
 
 -- CertificateSerialNumber ::= INTEGER (4.1.2.2)
 abbrev pub serial_number : Option ℕ → Shape

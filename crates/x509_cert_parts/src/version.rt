@@ -1,7 +1,6 @@
 //! Version.
 
 ghost use Rattle.std.specs.Prelude.{◌≡◌, [], ◌∷◌, refl};
-ghost use Rattle.x509_cert_parts.specs.Grammar.{version_numbers};
 ghost use Rattle.x509_cert_parts.specs.Views.{version_number};
 
 use der_core::DefaultContent;
@@ -30,7 +29,7 @@ impl Described for Version {
 
 /// Any other number is refused as `Value`.
 impl Numbered for Version {
-    ghost known_numbers = { version_numbers };
+    ghost known_numbers = { 0 ∷ 1 ∷ 2 ∷ [] };
 
     ghost known_number = { version_number };
 
