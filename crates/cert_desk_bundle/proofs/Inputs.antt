@@ -1,6 +1,6 @@
 -- What is taken of an input in several reads is read in turn.
 use Rattle.std.proofs.Common.{◌≡◌, ◌⊎◌, inl, inr, ℕ, ◌≤◌, List, [], ◌++◌, length, take, refl, arith, subst, append_assoc, append-nil, length-take}
-use Rattle.cert_desk_io.specs.Devices.{Device, one_more, source}
+use Rattle.cert_desk_io.specs.Devices.{one_more}
 use Rattle.cert_desk_bundle.specs.declared.bundle_error.BundleError.{BundleError}
 use Rattle.cert_desk_bundle.specs.declared.bundle_error.BundleError.TheVariants as errors
 use Rattle.cert_desk_bundle.specs.declared.bundle_error.ReadError.{ReadError}
@@ -8,7 +8,7 @@ use Rattle.cert_desk_bundle.specs.declared.bundle_error.ReadError.TheVariants as
 use Rattle.cert_desk_bundle.specs.declared.standing.Standing.{Standing}
 use Rattle.cert_desk_bundle.specs.declared.standing.Standing.TheVariants as standings
 use Rattle.cert_desk_bundle.specs.Streams.{Kept, Reads}
-use Rattle.cert_desk_bundle.specs.Steps.{ReadsExtended, ReadsUnchanged, HasFailed, stopped, Takes, LastStops, StopsAtLast, most_read, RefusesPiece, RefusesEnd, RefusesInput}
+use Rattle.cert_desk_bundle.specs.Steps.{ReadsExtended, ReadsUnchanged, stopped, Takes, LastStops, StopsAtLast, RefusesPiece, RefusesEnd, RefusesInput}
 
 module _ {State : Type 0} (takes : State → List ℕ → State → Type 0)
     (in_turn : (a b c : State) (first second : List ℕ) → takes a first b → takes b second c → takes a (first ++ second) c)
@@ -31,11 +31,9 @@ module _ {State : Type 0} (takes : State → List ℕ → State → Type 0)
 
   module _ (is_ended : State → Type 0) (failures : State → ℕ) (was_open : old.standing ≡ standings.Open) (is_open : now.standing ≡ standings.Open) (limit : now.limit ≡ old.limit)
       (sound : failures mid ≡ failures from) where
-    abbrev input : Device
-    input = source takes is_ended failures from to
-
     -- what was taken before the last read was read
-    at_last : (e : ReadError) (piece : List ℕ) → length piece ≤ most_read → takes mid piece to → LastStops input bound mid now new piece e → StopsAtLast input bound old new e
+    at_last : (e : ReadError) (piece : List ℕ) → length piece ≤ 4096 → takes mid piece to → LastStops takes is_ended failures from to bound mid now new piece e
+        → StopsAtLast takes is_ended failures from to bound old new e
     at_last e piece short taken stops = record {
       was_open = was_open;
       before = mid;
@@ -53,20 +51,19 @@ module _ {State : Type 0} (takes : State → List ℕ → State → Type 0)
       stops = stops;
     }
 
-    pub device_fails : takes mid [] to → new ≡ stopped now standings.NoDevice → (is_ended to → ⊥) → failures to ≡ one_more (failures mid) → RefusesInput input bound old new reads.Device
+    pub device_fails : takes mid [] to → new ≡ stopped now standings.NoDevice → (is_ended to → ⊥) → failures to ≡ one_more (failures mid) → RefusesInput takes is_ended failures from to bound old new reads.Device
     device_fails taken same not_ended once = at_last reads.Device [] (omega arith) taken (refl, not_ended, once, same)
 
-    pub end-refused : (e : BundleError) → failures to ≡ failures mid → takes mid [] to → is_ended to → RefusesEnd bound now new e → RefusesInput input bound old new (reads.Bundle e)
+    pub end-refused : (e : BundleError) → failures to ≡ failures mid → takes mid [] to → is_ended to → RefusesEnd bound now new e → RefusesInput takes is_ended failures from to bound old new (reads.Bundle e)
     end-refused (errors.Fault place offset kind) still taken ended r = at_last (reads.Bundle (errors.Fault place offset kind)) [] (omega arith) taken (still, inr (refl, ended, r))
     end-refused errors.OutOfMemory still taken ended r = absurd r
-    end-refused errors.Failed still taken ended r =
-        let failed : ⊥ = subst (λ (s : Standing). HasFailed s) is_open r.0 in absurd failed
+    end-refused errors.Failed still taken ended r = absurd (r.0.0 is_open)
 
-    pub piece-refused : (e : BundleError) (piece : List ℕ) → failures to ≡ failures mid → length piece ≤ most_read → takes mid piece to → RefusesPiece bound now new piece e → RefusesInput input bound old new (reads.Bundle e)
+    pub piece-refused : (e : BundleError) (piece : List ℕ) → failures to ≡ failures mid → length piece ≤ 4096 → takes mid piece to → RefusesPiece bound now new piece e → RefusesInput takes is_ended failures from to bound old new (reads.Bundle e)
     piece-refused (errors.Fault place offset kind) piece still short taken r = at_last (reads.Bundle (errors.Fault place offset kind)) piece short taken (still, inl r)
     piece-refused errors.OutOfMemory piece still short taken r = at_last (reads.Bundle errors.OutOfMemory) piece short taken (still, inl r)
-    piece-refused errors.Failed piece still short taken r = absurd (r.was_shut is_open)
+    piece-refused errors.Failed piece still short taken r = absurd (r.0 is_open)
 
 -- what a read put into the buffer is no more than a read takes
-pub short_piece : (count : ℕ) (buffer : List ℕ) → length buffer ≡ most_read → length (take count buffer) ≤ most_read
+pub short_piece : (count : ℕ) (buffer : List ℕ) → length buffer ≡ 4096 → length (take count buffer) ≤ 4096
 short_piece count buffer e = omega (arith, e, length-take count buffer)

@@ -126,19 +126,20 @@ module _ (bound : ℕ) (old mid new : Kept) (piece : List ℕ) (opened : old.sta
   refuses-by standings.Open why = absurd why
   refuses-by standings.Ended why = absurd why
   refuses-by (standings.Faulted kind) why = (
-    record { was_open = opened; standing = refl; place_is = refl; offset_is = refl },
+    opened,
+    record { standing = refl; place_is = refl; offset_is = refl },
     why.0,
     λ stream reads.
         let split = open_split bound old stream opened reads in
         reads_fault (raw_certificate_fields bound) old.limit old.certificates (old.rest ++ piece) (stream ++ piece) split.front (whole-more bound old stream piece split) kind why.0 why.1,
   )
-  refuses-by standings.NoMemory why = record {
-    was_open = opened;
-    standing = refl;
-    begins = λ stream reads.
+  refuses-by standings.NoMemory why = (
+    opened,
+    refl,
+    λ stream reads.
         let split = open_split bound old stream opened reads in
-        record { front = split.front; more = old.rest ++ piece; whole = whole-more bound old stream piece split };
-  }
+        record { front = split.front; more = old.rest ++ piece; whole = whole-more bound old stream piece split },
+  )
   refuses-by standings.NoDevice why = absurd why
 
   pub stops-refused : (standing : Standing) (e : BundleError) → Stops bound old mid (old.rest ++ piece) standing → new ≡ stopped mid standing → e ≡ error_of bound mid standing → RefusesPiece bound old new piece e
@@ -164,16 +165,17 @@ error_stopped bound b standings.NoDevice = refl
 -- behind octets that were taken
 pub advances-refused : (bound : ℕ) (old now new : Kept) (front left : List ℕ) (e : BundleError) → old.standing ≡ standings.Open → Advances bound old now front → RefusesPiece bound now new left e → RefusesPiece bound old new (front ++ left) e
 advances-refused bound old now new front left (errors.Fault place offset kind) opened a r = (
-  record { was_open = opened; standing = r.0.standing; place_is = r.0.place_is; offset_is = r.0.offset_is },
+  opened,
+  record { standing = r.1.standing; place_is = r.1.place_is; offset_is = r.1.offset_is },
+  r.2,
+  λ stream reads. rw append_assoc at (r.3 (stream ++ front) (a.reads stream reads)),
+)
+advances-refused bound old now new front left errors.OutOfMemory opened a r = (
+  opened,
   r.1,
   λ stream reads. rw append_assoc at (r.2 (stream ++ front) (a.reads stream reads)),
 )
-advances-refused bound old now new front left errors.OutOfMemory opened a r = record {
-  was_open = opened;
-  standing = r.standing;
-  begins = λ stream reads. rw append_assoc at (r.begins (stream ++ front) (a.reads stream reads));
-}
-advances-refused bound old now new front left errors.Failed opened a r = absurd (r.was_shut a.is_open)
+advances-refused bound old now new front left errors.Failed opened a r = absurd (r.0 a.is_open)
 
 -- The loop that takes a piece
 

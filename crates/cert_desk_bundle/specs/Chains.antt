@@ -15,7 +15,6 @@ joined bound cs = encodings (raw_certificate bound) cs
 abbrev pub offset_at : ℕ → List PlainCertificate → ℕ → ℕ
 offset_at bound cs place = length (joined bound (take place cs))
 
--- The stream joins the encodings of these certificates, each within the limit, and has at most 2^64
--- - 1 octets.
+-- the stream is the series of these certificates
 abbrev pub Chain : ℕ → ℕ → List PlainCertificate → List ℕ → Type 0
 Chain bound limit cs stream = Series (raw_certificate bound) limit cs stream

@@ -23,8 +23,7 @@ pub record MayStand (s : Shape) (limit : ℕ) (v : Value s) : Type 0 where
   pub valid : IsValid s v
   pub within : length (octets_of s v) ≤ limit
 
--- The stream joins the encodings of these values, each within the limit, and has at most 2^64 - 1
--- octets.
+-- the stream joins these values' encodings, each within the limit, and has fewer than 2^64 octets
 pub record Series (s : Shape) (limit : ℕ) (vs : List (Value s)) (stream : List ℕ) : Type 0 where
   pub each : AllByRecursion (MayStand s limit) vs
   pub joins : stream ≡ encodings s vs

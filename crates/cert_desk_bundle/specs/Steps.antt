@@ -1,6 +1,6 @@
 -- How a bundle changes.
 use Rattle.std.specs.Prelude.{◌≡◌, ◌≢◌, ℕ, ◌+◌, ◌≤◌, ◌<◌, ◌^◌, ◌⊎◌, List, [], ◌++◌, length, take}
-use Rattle.cert_desk_io.specs.Devices.{Device, one_more}
+use Rattle.cert_desk_io.specs.Devices.{one_more}
 use Rattle.x509_cert_certificates.specs.Certificates.{PlainCertificate, raw_certificate}
 use Rattle.cert_desk_bundle.specs.declared.bundle_error.BundleError.{BundleError}
 use Rattle.cert_desk_bundle.specs.declared.bundle_error.BundleError.TheVariants as errors
@@ -61,13 +61,11 @@ pub record Stops (bound : ℕ) (old new : Kept) (octets : List ℕ) (standing : 
 abbrev pub stopped : Kept → Standing → Kept
 stopped b standing = record b { rest = []; standing = standing }
 
--- An open bundle stopped at a fault: so many certificates and octets are before it.
-pub record IsFoundAt (bound : ℕ) (old new : Kept) (place offset : ℕ) (kind : FaultKind) : Type 0
-  where
-    pub was_open : old.standing ≡ standings.Open
-    pub standing : new.standing ≡ standings.Faulted kind
-    pub place_is : place ≡ length new.certificates
-    pub offset_is : offset ≡ length (joined bound new.certificates)
+-- A bundle stopped at a fault: so many certificates and octets are before it.
+pub record IsFoundAt (bound : ℕ) (new : Kept) (place offset : ℕ) (kind : FaultKind) : Type 0 where
+  pub standing : new.standing ≡ standings.Faulted kind
+  pub place_is : place ≡ length new.certificates
+  pub offset_is : offset ≡ length (joined bound new.certificates)
 
 -- how it is told that a bundle stands so
 abbrev pub error_of : ℕ → Kept → Standing → BundleError
@@ -78,42 +76,30 @@ error_of bound b (standings.Faulted kind) =
 error_of bound b standings.NoMemory = errors.OutOfMemory
 error_of bound b standings.NoDevice = errors.OutOfMemory
 
--- There was no memory for a piece.
-pub record FeedsNone (bound : ℕ) (old new : Kept) (piece : List ℕ) : Type 0 where
-  pub was_open : old.standing ≡ standings.Open
-  pub standing : new.standing ≡ standings.NoMemory
-  pub begins : (stream : List ℕ) → Reads bound old stream
-      → BeginsSeries (raw_certificate bound) new.limit new.certificates (stream ++ piece)
-
--- a bundle wasn't open, and nothing changed
-pub record IsShut (old new : Kept) : Type 0 where
-  pub was_shut : old.standing ≢ standings.Open
-  pub same : new ≡ old
-
--- why a piece is refused: it has a fault, or what comes before it in the stream and it
+-- why a piece is refused: there is a fault in it, or in what came before it and it; there was no
+-- memory for it; or the bundle wasn't open
 abbrev pub RefusesPiece : ℕ → Kept → Kept → List ℕ → BundleError → Type 0
 RefusesPiece bound old new piece (errors.Fault place offset kind) =
-    IsFoundAt bound old new place offset kind × (kind ≢ kinds.Truncated)
-    × ReadsExtended bound old new piece
-RefusesPiece bound old new piece errors.OutOfMemory = FeedsNone bound old new piece
-RefusesPiece bound old new piece errors.Failed = IsShut old new
+    (old.standing ≡ standings.Open) × IsFoundAt bound new place offset kind
+    × (kind ≢ kinds.Truncated) × ReadsExtended bound old new piece
+RefusesPiece bound old new piece errors.OutOfMemory =
+    (old.standing ≡ standings.Open) × (new.standing ≡ standings.NoMemory)
+    × ((stream : List ℕ) → Reads bound old stream
+    → BeginsSeries (raw_certificate bound) new.limit new.certificates (stream ++ piece))
+RefusesPiece bound old new piece errors.Failed = (old.standing ≢ standings.Open) × (new ≡ old)
 
 -- every stream that the old bundle reads the new one reads
 abbrev pub ReadsUnchanged : ℕ → Kept → Kept → Type 0
 ReadsUnchanged bound old new = (stream : List ℕ) → Reads bound old stream → Reads bound new stream
 
 abbrev pub HasFailed : Standing → Type 0
-HasFailed standings.Open = ⊥
-HasFailed standings.Ended = ⊥
-HasFailed (standings.Faulted kind) = Unit {0}
-HasFailed standings.NoMemory = Unit {0}
-HasFailed standings.NoDevice = Unit {0}
+HasFailed standing = (standing ≢ standings.Open) × (standing ≢ standings.Ended)
 
 -- why a bundle doesn't end: the stream ends inside a certificate, or the bundle had failed
 abbrev pub RefusesEnd : ℕ → Kept → Kept → BundleError → Type 0
 RefusesEnd bound old new (errors.Fault place offset kind) =
-    IsFoundAt bound old new place offset kind × (kind ≡ kinds.Truncated)
-    × ReadsUnchanged bound old new
+    (old.standing ≡ standings.Open) × IsFoundAt bound new place offset kind
+    × (kind ≡ kinds.Truncated) × ReadsUnchanged bound old new
 RefusesEnd bound old new errors.OutOfMemory = ⊥
 RefusesEnd bound old new errors.Failed = HasFailed old.standing × (new ≡ old)
 
@@ -123,43 +109,40 @@ abbrev pub Takes : {State : Type 0} → (State → List ℕ → State → Type 0
 Takes takes from to bound old new = (octets : List ℕ) × takes from octets to
     × ReadsExtended bound old new octets
 
--- the most octets that one read takes
-abbrev pub most_read : ℕ
-most_read = 4096
+-- An input: the octets that it takes from a state to a later one, in turn, the states in which the
+-- last read met the end, how many calls have failed, and the states before and behind.
+module _ {State : Type 0} (takes : State → List ℕ → State → Type 0) (is_ended : State → Type 0)
+    (failures : State → ℕ) (from to : State) (bound : ℕ) where
+  -- How the last read stops an open bundle: the read failed and moved nothing; or it succeeded, and
+  -- the bundle refuses its piece, or the end that it met.
+  abbrev pub LastStops : State → Kept → Kept → List ℕ → ReadError → Type 0
+  LastStops before now new piece reads.Device =
+      (piece ≡ []) × (is_ended to → ⊥) × (failures to ≡ one_more (failures before))
+      × (new ≡ record now { rest = []; standing = standings.NoDevice })
+  LastStops before now new piece (reads.Bundle e) = (failures to ≡ failures before)
+      × (RefusesPiece bound now new piece e
+      ⊎ ((piece ≡ []) × is_ended to × RefusesEnd bound now new e))
 
--- How the last read stops an open bundle: the read failed and moved nothing; or it succeeded, and
--- the bundle refuses its piece, or the end that it met.
-abbrev pub LastStops : (input : Device) → ℕ → input.State → Kept → Kept → List ℕ → ReadError
-    → Type 0
-LastStops input bound before now new piece reads.Device =
-    (piece ≡ []) × (input.is_ended input.new → ⊥)
-    × (input.failures input.new ≡ one_more (input.failures before))
-    × (new ≡ stopped now standings.NoDevice)
-LastStops input bound before now new piece (reads.Bundle e) =
-    (input.failures input.new ≡ input.failures before)
-    × (RefusesPiece bound now new piece e
-    ⊎ ((piece ≡ []) × input.is_ended input.new × RefusesEnd bound now new e))
+  -- All that was taken before the last read is read by a bundle that still takes pieces: no octet
+  -- was asked for behind what stops it.
+  pub record StopsAtLast (old new : Kept) (e : ReadError) : Type 0 where
+    pub was_open : old.standing ≡ standings.Open
+    pub before : State
+    pub octets : List ℕ
+    pub moved : takes from octets before
+    pub sound : failures before ≡ failures from
+    pub now : Kept
+    pub is_open : now.standing ≡ standings.Open
+    pub limit : now.limit ≡ old.limit
+    pub reads : ReadsExtended bound old now octets
+    pub piece : List ℕ
+    pub short : length piece ≤ 4096  -- the most that one read takes
+    pub last : takes before piece to
+    pub whole : takes from (octets ++ piece) to
+    pub stops : LastStops before now new piece e
 
--- All that was taken before the last read is read by a bundle that still takes pieces: no octet was
--- asked for behind what stops it.
-pub record StopsAtLast (input : Device) (bound : ℕ) (old new : Kept) (e : ReadError) : Type 0 where
-  pub was_open : old.standing ≡ standings.Open
-  pub before : input.State
-  pub octets : List ℕ
-  pub moved : input.moves input.old octets before
-  pub sound : input.failures before ≡ input.failures input.old
-  pub now : Kept
-  pub is_open : now.standing ≡ standings.Open
-  pub limit : now.limit ≡ old.limit
-  pub reads : ReadsExtended bound old now octets
-  pub piece : List ℕ
-  pub short : length piece ≤ most_read
-  pub last : input.moves before piece input.new
-  pub whole : input.moves input.old (octets ++ piece) input.new
-  pub stops : LastStops input bound before now new piece e
-
--- why an input isn't read to its end
-abbrev pub RefusesInput : Device → ℕ → Kept → Kept → ReadError → Type 0
-RefusesInput input bound old new (reads.Bundle errors.Failed) = IsShut old new
-    × (input.new ≡ input.old)
-RefusesInput input bound old new e = StopsAtLast input bound old new e
+  -- why an input isn't read to its end
+  abbrev pub RefusesInput : Kept → Kept → ReadError → Type 0
+  RefusesInput old new (reads.Bundle errors.Failed) =
+      (old.standing ≢ standings.Open) × (new ≡ old) × (to ≡ from)
+  RefusesInput old new e = StopsAtLast old new e

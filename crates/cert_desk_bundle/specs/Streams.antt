@@ -14,15 +14,13 @@ abbrev pub ReadsSeries : (s : Shape) → ℕ → Standing → List (Value s) →
 ReadsSeries s limit standings.Open vs rest stream = SeriesSplit s limit stream vs rest
     × NoneBefore s limit (length (encodings s vs)) kinds.Truncated rest
 ReadsSeries s limit standings.Ended vs rest stream = Series s limit vs stream
-ReadsSeries s limit standings.NoMemory vs rest stream = ⊥
-ReadsSeries s limit standings.NoDevice vs rest stream = ⊥
 ReadsSeries s limit (standings.Faulted kind) vs rest stream = SeriesFault s limit stream vs kind
+ReadsSeries s limit _ vs rest stream = ⊥
 
 pub record Kept : Type 0 where
   pub limit : ℕ
   pub certificates : List PlainCertificate
-  -- the octets of a certificate that isn't whole yet
-  pub rest : List ℕ
+  pub rest : List ℕ  -- the octets of a certificate that isn't whole yet
   pub standing : Standing
 
 -- what a bundle keeps is what this stream gives

@@ -2,7 +2,6 @@
 ghost use Rattle.std.specs.Prelude.{◌≡◌, ◌≢◌, ℕ, ◌+◌, ◌<◌, ◌≤◌, ◌^◌, ◌==◌, ◌↔◌, List, [], ◌++◌};
 ghost use Rattle.std.specs.Prelude.{length, IsTrue, IsSome, IfSome, IfOk, IfErr, OnOk, OnErr};
 ghost use Rattle.const_oid.specs.Bound.{Bound};
-ghost use Rattle.cert_desk_io.specs.Devices.{source};
 ghost use Rattle.cert_desk_bundle.specs.Chains.{joined};
 ghost use Rattle.cert_desk_bundle.specs.Streams.{Reads};
 ghost use Rattle.cert_desk_bundle.specs.Entries.{IsEntry};
@@ -224,8 +223,8 @@ impl Bundle {
         ensures reads { OnOk result (Takes I.takes input.old input.new Bound self.old self.new) }
         // An input that isn't.
         ensures refused { IfErr result
-            (RefusesInput (source I.takes I.is_ended I.failures input.old input.new) Bound
-            self.old self.new) }
+            (RefusesInput I.takes I.is_ended I.failures input.old input.new Bound self.old
+            self.new) }
     {
         if self.is_ended() {
             return Err(ReadError::Bundle(BundleError::Failed));

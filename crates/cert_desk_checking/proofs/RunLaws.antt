@@ -57,7 +57,7 @@ module _ (input : Device) (old new : Kept) (opened : old.standing ≡ standings.
       no_fault Bound now.limit now.certificates cs now.rest octets kind ne reads.0 reads.1
       (subst (λ (n : ℕ). StreamFault Bound n octets cs kind) (limit ∙ sym same) f)
 
-  module _ (e : ReadError) (r : StopsAtLast input Bound old new e) where
+  module _ (e : ReadError) (r : StopsAtLast input.moves input.is_ended input.failures input.old input.new Bound old new e) where
     open_reads : ReadsUnder Bound standings.Open r.now r.octets
     open_reads = subst (λ (x : Standing). ReadsUnder Bound x r.now r.octets) r.is_open (r.reads [] empty)
 
@@ -67,7 +67,7 @@ module _ (input : Device) (old new : Kept) (opened : old.standing ≡ standings.
     asks_no_more : AsksNoMore input new.limit
     asks_no_more = record { before = r.before; octets = r.octets; taken = r.moved; sound = goes_on; piece = r.piece; last = r.last; short = r.short }
 
-  device_fed : (r : StopsAtLast input Bound old new read_errors.Device) → FedUnder input new standings.NoDevice
+  device_fed : (r : StopsAtLast input.moves input.is_ended input.failures input.old input.new Bound old new read_errors.Device) → FedUnder input new standings.NoDevice
   device_fed r = (
     r.octets,
     record {
@@ -82,29 +82,29 @@ module _ (input : Device) (old new : Kept) (opened : old.standing ≡ standings.
     subst (λ (k : Kept). (rest : List ℕ) × Split Bound k.limit r.octets k.certificates rest) (sym r.stops.3) (r.now.rest, (open_reads read_errors.Device r).0),
   )
 
-  fault_fed : (place offset : ℕ) (kind : FaultKind) → StopsAtLast input Bound old new (read_errors.Bundle (errors.Fault place offset kind)) → IsFed input new
+  fault_fed : (place offset : ℕ) (kind : FaultKind) → StopsAtLast input.moves input.is_ended input.failures input.old input.new Bound old new (read_errors.Bundle (errors.Fault place offset kind)) → IsFed input new
   fault_fed place offset kind r =
       elim r.stops.1 [
-        | inl h ↦ fed_under (standings.Faulted kind) h.0.standing
-            (r.octets ++ r.piece, r.whole, h.2 r.octets (r.reads [] empty), λ e. absurd (h.1 e), asks_no_more (read_errors.Bundle (errors.Fault place offset kind)) r, r.stops.0 ∙ r.sound)
-        | inr h ↦ fed_under (standings.Faulted kind) h.2.0.standing
-            (r.octets ++ r.piece, r.whole, subst (λ (w : List ℕ). Reads Bound new w) (sym (ap (λ (p : List ℕ). r.octets ++ p) h.0 ∙ append-nil r.octets)) (h.2.2 r.octets (r.reads [] empty)), λ e. h.1, asks_no_more (read_errors.Bundle (errors.Fault place offset kind)) r, r.stops.0 ∙ r.sound)
+        | inl h ↦ fed_under (standings.Faulted kind) h.1.standing
+            (r.octets ++ r.piece, r.whole, h.3 r.octets (r.reads [] empty), λ e. absurd (h.2 e), asks_no_more (read_errors.Bundle (errors.Fault place offset kind)) r, r.stops.0 ∙ r.sound)
+        | inr h ↦ fed_under (standings.Faulted kind) h.2.1.standing
+            (r.octets ++ r.piece, r.whole, subst (λ (w : List ℕ). Reads Bound new w) (sym (ap (λ (p : List ℕ). r.octets ++ p) h.0 ∙ append-nil r.octets)) (h.2.3 r.octets (r.reads [] empty)), λ e. h.1, asks_no_more (read_errors.Bundle (errors.Fault place offset kind)) r, r.stops.0 ∙ r.sound)
       ]
 
-  fed_refused : (e : ReadError) → RefusesInput input Bound old new e → IsFed input new
+  fed_refused : (e : ReadError) → RefusesInput input.moves input.is_ended input.failures input.old input.new Bound old new e → IsFed input new
   fed_refused read_errors.Device r = fed_under standings.NoDevice (ap (λ (k : Kept). k.standing) r.stops.3) (device_fed r)
   fed_refused (read_errors.Bundle (errors.Fault place offset kind)) r = fault_fed place offset kind r
   fed_refused (read_errors.Bundle errors.OutOfMemory) r =
       elim r.stops.1 [
-        | inl h ↦ fed_under standings.NoMemory h.standing
-            (r.octets ++ r.piece, r.whole, h.begins r.octets (r.reads [] empty), asks_no_more (read_errors.Bundle errors.OutOfMemory) r, r.stops.0 ∙ r.sound)
+        | inl h ↦ fed_under standings.NoMemory h.1
+            (r.octets ++ r.piece, r.whole, h.2 r.octets (r.reads [] empty), asks_no_more (read_errors.Bundle errors.OutOfMemory) r, r.stops.0 ∙ r.sound)
         | inr h ↦ absurd h.2
       ]
-  fed_refused (read_errors.Bundle errors.Failed) r = absurd (r.0.was_shut opened)
+  fed_refused (read_errors.Bundle errors.Failed) r = absurd (r.0 opened)
 
   pub fed_by : {T : Type 0} (r : Result T ReadError) → OnOk r (new.standing ≡ standings.Ended) → OnOk r (MetEnd input) → OnOk r (Sound input)
       → OnOk r (Takes input.moves input.old input.new Bound old new)
-      → IfErr r (RefusesInput input Bound old new) → IsFed input new
+      → IfErr r (RefusesInput input.moves input.is_ended input.failures input.old input.new Bound old new) → IsFed input new
   fed_by (Ok x) standing ended sound reads refused = fed_under standings.Ended standing (reads.0, reads.1, reads.2 [] empty, ended, sound)
   fed_by (Err e) standing ended sound reads refused = fed_refused e refused
 

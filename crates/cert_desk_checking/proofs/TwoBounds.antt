@@ -22,7 +22,7 @@ use Rattle.x509_cert_parts.specs.Grammar.{object_identifier, false_by_default}
 use Rattle.der_core_head.proofs.Results.{bind_ok, unless_ok, whole_ok}
 use Rattle.cert_desk_checking.specs.Bounded.{BecomesReadable, OneBecomesReadable, OneHoldsLarge, identifiers_in, identifiers_said}
 use Rattle.cert_desk_bundle.specs.Chains.{Chain, Stands, joined}
-use Rattle.cert_desk_rules.specs.Weighing.{Meaning, basic_constraints_in, constraints_of, extended_key_usage, extended_key_usage_in, has_number, is_malformed, key_usage_in, malformed, meaning_of, other_names, purposes, subject_alt_name, subject_alt_name_in, unweighed, uses, weigh}
+use Rattle.cert_desk_rules.specs.Weighing.{Meaning, basic_constraints_in, constraints_of, extended_key_usage, extended_key_usage_in, is_ce, is_malformed, key_usage_in, malformed, meaning_of, other_names, purposes, subject_alt_name, subject_alt_name_in, unweighed, uses, weigh}
 use Rattle.cert_desk_rules.proofs.Meanings.{meaning_read, read_meaning}
 use Rattle.cert_desk_bundle.proofs.SeriesLaws.{each-so}
 
@@ -227,7 +227,7 @@ module _ (small large : ℕ) (le : small ≤ large) where
 
   extension_weighed : (e : PlainExtension) → IsOctets (extension_octets e) → (weigh small e ≡ weigh large e) ⊎ BecomesReadable small large e
   extension_weighed e o =
-      elim (kind_weighed (has_number 15 e) (has_number 17 e) (has_number 19 e) (has_number 37 e) (extension_octets e) o) [
+      elim (kind_weighed (is_ce 15 e) (is_ce 17 e) (is_ce 19 e) (is_ce 37 e) (extension_octets e) o) [
         | inl same ↦ inl same
         | inr new ↦ inr (record { unread = new.0; readable = new.1; holds = new.2 })
       ]

@@ -54,11 +54,10 @@ purpose_plain p = p
 
 -- the terms of these anchors, a moment, a purpose, and a judge's answers
 abbrev pub terms_of : List Anchor → ℕ → List ℕ → Answers → Terms
-terms_of anchors moment purpose answers =
-    record {
-      bound = Bound;
-      anchors = map anchor_plain anchors;
-      moment = moment;
-      purpose = purpose;
-      answers = answers;
-    }
+terms_of anchors moment purpose answers = record {
+  bound = Bound;
+  anchors = map anchor_plain anchors;
+  moment = moment;
+  purpose = purpose;
+  answers = answers;
+}

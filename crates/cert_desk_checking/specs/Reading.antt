@@ -8,7 +8,6 @@ use Rattle.cert_desk_bundle.specs.declared.fault_kind.FaultKind.TheVariants as k
 use Rattle.cert_desk_bundle.specs.declared.standing.Standing.{Standing}
 use Rattle.cert_desk_bundle.specs.declared.standing.Standing.TheVariants as standings
 use Rattle.cert_desk_bundle.specs.Faults.{Split, StreamFault}
-use Rattle.cert_desk_bundle.specs.Steps.{most_read}
 use Rattle.cert_desk_bundle.specs.Series.{BeginsSeries}
 use Rattle.cert_desk_bundle.specs.Streams.{Kept, Reads}
 
@@ -18,7 +17,7 @@ MayGoOn limit octets = (cs : List PlainCertificate) (kind : FaultKind) → kind 
     → StreamFault Bound limit octets cs kind → ⊥
 
 -- No octet was asked for behind the read that stopped the reading: those before it may go on, and
--- it took no more than a read takes.
+-- it took no more than a read takes, 4096 octets.
 pub record AsksNoMore (input : Device) (limit : ℕ) : Type 0 where
   pub before : input.State
   pub octets : List ℕ
@@ -26,7 +25,7 @@ pub record AsksNoMore (input : Device) (limit : ℕ) : Type 0 where
   pub sound : MayGoOn limit octets
   pub piece : List ℕ
   pub last : input.moves before piece input.new
-  pub short : length piece ≤ most_read
+  pub short : length piece ≤ 4096
 
 -- the last read failed, and no other; the octets before it may go on
 abbrev pub ReadFailed : Device → ℕ → Type 0

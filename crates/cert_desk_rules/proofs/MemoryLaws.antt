@@ -8,8 +8,12 @@ use Rattle.x509_cert_certificates.specs.Certificates.{PlainCertificate, extensio
 use Rattle.x509_cert_parts.specs.Grammar.{PlainExtension}
 use Rattle.cert_desk_rules.specs.Paths.{extensions_at}
 use Rattle.cert_desk_rules.specs.Reasons.{SomeMayTakeMemory}
-use Rattle.cert_desk_rules.specs.Weighing.{has_list, may_take_memory}
+use Rattle.cert_desk_rules.specs.Weighing.{is_ce, may_take_memory}
 use Rattle.cert_desk_rules.proofs.ExtensionLaws.{any_of_list}
+
+-- the value of the extension is a list
+abbrev has_list : PlainExtension → Bool
+has_list e = is_ce 17 e || is_ce 37 e
 
 first_of : (b : Bool) → ((b || false) || false) ≡ true → b ≡ true
 first_of true h = refl

@@ -66,16 +66,12 @@ is_linked t cs (suc before) c =
     option_map_or (λ b. same_name t.bound (fields c).issuer (fields b).subject)
     (slice_get cs before) false
 
--- the judge says yes under the issuer's key; of the first certificate, under the key of an anchor
--- of the issuer's name
+-- the judge says yes under the key of an anchor of the issuer's name, or of the certificate before
 abbrev pub is_signed : Terms → List PlainCertificate → List ℕ → ℕ → PlainCertificate → Bool
-is_signed t cs stream zero c =
-    list_any
-    (λ a. is_named t.bound c a
-    && accepted t.answers (signed_part t.bound cs stream zero c) c a.key)
+is_signed t cs stream zero c = list_any
+    (λ a. is_named t.bound c a && accepted t.answers (signed_part t.bound cs stream 0 c) c a.key)
     t.anchors
-is_signed t cs stream (suc before) c =
-    option_map_or
+is_signed t cs stream (suc before) c = option_map_or
     (λ b. accepted t.answers (signed_part t.bound cs stream (suc before) c) c (fields b).public_key)
     (slice_get cs before) false
 
@@ -138,11 +134,9 @@ number rules.WrongSignature = 11
 
 -- the rules before the signature, which alone asks the judge, in the order in which they are judged
 abbrev pub before_signature : List Rule
-before_signature =
-    rules.AlgorithmsDiffer ∷ rules.DuplicateExtension ∷ rules.MalformedExtension
-    ∷ rules.UnweighedCritical ∷ rules.WrongIssuer
-    ∷ rules.NotYetValid ∷ rules.Expired ∷ rules.AgainstPurpose ∷ rules.NotAuthority
-    ∷ rules.PathTooLong ∷ []
+before_signature = rules.AlgorithmsDiffer ∷ rules.DuplicateExtension ∷ rules.MalformedExtension
+    ∷ rules.UnweighedCritical ∷ rules.WrongIssuer ∷ rules.NotYetValid ∷ rules.Expired
+    ∷ rules.AgainstPurpose ∷ rules.NotAuthority ∷ rules.PathTooLong ∷ []
 
 -- the judge may be asked where all of them are kept
 abbrev pub may_ask : Terms → List PlainCertificate → List ℕ → ℕ → Bool

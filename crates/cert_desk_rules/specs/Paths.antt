@@ -40,8 +40,7 @@ extensions_at cs place = option_map_or (λ c. (fields c).extensions) (slice_get 
 
 -- at a place: no more places count behind it, up to another one, than its path length allows
 abbrev pub keeps_length : ℕ → List PlainCertificate → ℕ → ℕ → Bool
-keeps_length bound cs place other =
-    list_all
+keeps_length bound cs place other = list_all
     (λ e. is_within (used_up bound cs (place + 1) (other - place)) (path_length (weigh bound e)))
     (extensions_at cs place)
 

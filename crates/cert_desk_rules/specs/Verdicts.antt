@@ -2,7 +2,7 @@
 use Rattle.std.specs.Prelude.{◌≡◌, ℕ, zero, suc, ◌+◌, ◌-◌, ◌<◌, ◌^◌, ◌⊎◌, List, [], ◌∷◌, length}
 use Rattle.std.specs.Prelude.{Bool, true, false, min, max, ◌&&◌, if◌then◌else◌, slice_get}
 use Rattle.std.specs.Option.{option_map_or}
-use Rattle.x509_cert_certificates.specs.Certificates.{PlainCertificate}
+use Rattle.x509_cert_certificates.specs.Certificates.{PlainCertificate, raw_certificate}
 use Rattle.cert_desk_rules.specs.declared.checked.Checked.{Checked}
 use Rattle.cert_desk_rules.specs.declared.checked.Verdict.{Verdict}
 use Rattle.cert_desk_rules.specs.declared.checked.Verdict.TheVariants as verdicts
@@ -10,7 +10,7 @@ use Rattle.cert_desk_bundle.specs.declared.fault_kind.FaultKind.{FaultKind}
 use Rattle.cert_desk_rules.specs.declared.rule.Rule.{Rule}
 use Rattle.cert_desk_rules.specs.declared.rule.Rule.TheVariants as rules
 use Rattle.cert_desk_bundle.specs.Chains.{Chain, joined}
-use Rattle.cert_desk_bundle.specs.Faults.{StreamFault}
+use Rattle.cert_desk_bundle.specs.Faults.{SeriesFault}
 use Rattle.cert_desk_rules.specs.Judging.{Answers, Terms, PlainAnchor, keeps_at, number, may_ask}
 use Rattle.cert_desk_rules.specs.Judging.{accepted, is_named, signed_part}
 use Rattle.cert_desk_rules.specs.Paths.{extensions_at}
@@ -44,7 +44,7 @@ pub record Refused (t : Terms) (limit : ℕ) (stream : List ℕ) (place : ℕ) (
 pub record Faulty (t : Terms) (limit : ℕ) (stream : List ℕ) (place offset : ℕ)
     (kind : FaultKind) : Type 0 where
   pub certificates : List PlainCertificate
-  pub found : StreamFault t.bound limit stream certificates kind
+  pub found : SeriesFault (raw_certificate t.bound) limit stream certificates kind
   pub place_is : place ≡ length certificates
   pub offset_is : offset ≡ length (joined t.bound certificates)
 
@@ -66,8 +66,7 @@ asked_until bound answers signed c (a ∷ more) =
 
 -- how many questions the signature at a place takes
 abbrev pub asked_signature : Terms → List PlainCertificate → List ℕ → ℕ → ℕ
-asked_signature t cs stream zero =
-    option_map_or
+asked_signature t cs stream zero = option_map_or
     (λ c. asked_until t.bound t.answers (signed_part t.bound cs stream 0 c) c t.anchors)
     (slice_get cs 0) 0
 asked_signature t cs stream (suc before) = 1
@@ -81,8 +80,7 @@ all_kept_below t cs stream (suc place) = all_kept_below t cs stream place
 -- are kept there, and all rules at the places before.
 abbrev pub asked_below : Terms → List PlainCertificate → List ℕ → ℕ → ℕ
 asked_below t cs stream zero = 0
-asked_below t cs stream (suc place) =
-    asked_below t cs stream place
+asked_below t cs stream (suc place) = asked_below t cs stream place
     + (if all_kept_below t cs stream place && may_ask t cs stream place
     then asked_signature t cs stream place else 0)
 
@@ -108,13 +106,12 @@ pub record IsCounted (t : Terms) (limit : ℕ) (stream : List ℕ) (checked : Ch
   pub questions : new_questions ≡ raised old_questions number_asked
 
 -- Memory ran out at a place of the stream's certificates, whose extensions may take it: those
--- before keep every rule, and the judge was asked about these alone.
-pub record StopsAsking (t : Terms) (limit : ℕ) (stream : List ℕ)
-    (old_questions new_questions : ℕ) : Type 0 where
+-- before keep every rule, and of all questions the judge was asked those about them.
+pub record StopsAsking (t : Terms) (limit : ℕ) (stream : List ℕ) (old new : ℕ) : Type 0 where
   pub certificates : List PlainCertificate
   pub chain : Chain t.bound limit certificates stream
   pub place : ℕ
   pub within : place < length certificates
   pub takes : may_take_memory (extensions_at certificates place) ≡ true
   pub kept : all_kept_below t certificates stream place ≡ true
-  pub questions : new_questions ≡ raised old_questions (asked_below t certificates stream place)
+  pub questions : new ≡ raised old (asked_below t certificates stream place)

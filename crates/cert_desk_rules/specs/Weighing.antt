@@ -19,8 +19,7 @@ use Rattle.x509_cert_general_names.specs.GeneralNames.{general_name, general_nam
 use Rattle.cert_desk_bundle.specs.Decoding.{Decoding, decodes_to, decodes_to_none}
 use Rattle.cert_desk_bundle.proofs.Decodings.{decoding}
 
--- KeyUsage ::= BIT STRING { digitalSignature (0), .. keyCertSign (5), .. decipherOnly (8) },
---     id-ce 15 (4.2.1.3)
+-- KeyUsage ::= BIT STRING { digitalSignature (0), .. keyCertSign (5), .. }, id-ce 15 (4.2.1.3)
 abbrev pub key_usage : Shape
 key_usage = tagged tags.BitString (leaf (named 9))
 
@@ -41,8 +40,7 @@ extended_key_usage bound = sequence_of (object_identifier bound)
 pub data Meaning : Type 0 where
   uses : ℕ → Meaning  -- of a key: a set of named bits
   other_names : List (Value (general_name 0)) → Meaning  -- of the subject
-  -- whether the subject is an authority, and how long a path below it may be
-  constraints : Bool → Option ℕ → Meaning
+  constraints : Bool → Option ℕ → Meaning  -- an authority or not, and how long a path below it is
   purposes : List (List ℕ) → Meaning  -- of a key: identifiers
   malformed : Meaning  -- of a kind that is weighed, and not one value of it
   unweighed : Meaning  -- of another kind
@@ -66,35 +64,26 @@ pub extended_key_usage_in : (bound : ℕ) (octets : List ℕ) → Decoding (exte
 extended_key_usage_in bound octets = decoding (extended_key_usage bound) octets refl refl
 
 -- what such a value says
-abbrev pub meaning_of : {s : Shape} {octets : List ℕ} → (Value s → Meaning) → Decoding s octets
-    → Meaning
+abbrev pub meaning_of : {s : Shape} {w : List ℕ} → (Value s → Meaning) → Decoding s w → Meaning
 meaning_of says (decodes_to v encoding) = says v
 meaning_of says (decodes_to_none none) = malformed
 
 -- the identifier of the extension is id-ce n
-abbrev pub has_number : ℕ → PlainExtension → Bool
-has_number n e = owned_eq (extension_arcs e) (id_ce n)
+abbrev pub is_ce : ℕ → PlainExtension → Bool
+is_ce n e = owned_eq (extension_arcs e) (id_ce n)
 
 -- the kind is known by the identifier, wherever the extension stands, critical or not
 abbrev pub weigh : ℕ → PlainExtension → Meaning
 weigh bound e =
-    if has_number 15 e then meaning_of uses (key_usage_in (extension_octets e))
-    else if has_number 17 e
-    then meaning_of other_names (subject_alt_name_in bound (extension_octets e))
-    else if has_number 19 e
-    then meaning_of constraints_of (basic_constraints_in (extension_octets e))
-    else if has_number 37 e
-    then meaning_of purposes (extended_key_usage_in bound (extension_octets e))
+    if is_ce 15 e then meaning_of uses (key_usage_in (extension_octets e))
+    else if is_ce 17 e then meaning_of other_names (subject_alt_name_in bound (extension_octets e))
+    else if is_ce 19 e then meaning_of constraints_of (basic_constraints_in (extension_octets e))
+    else if is_ce 37 e then meaning_of purposes (extended_key_usage_in bound (extension_octets e))
     else unweighed
 
--- the value of the extension is a list: other names of the subject, or purposes
-abbrev pub has_list : PlainExtension → Bool
-has_list e = has_number 17 e || has_number 37 e
-
--- Judging these extensions may take memory: for a list, or to compare more than 16 by a set of
--- their identifiers.
+-- judging these may take memory: for other names, for purposes, or to compare more than 16 of them
 abbrev pub may_take_memory : List PlainExtension → Bool
-may_take_memory es = list_any has_list es || nat_lt 16 (length es)
+may_take_memory es = list_any (λ e. is_ce 17 e || is_ce 37 e) es || nat_lt 16 (length es)
 
 -- an extension of a weighed kind that isn't one value of it
 abbrev pub is_malformed : Meaning → Bool

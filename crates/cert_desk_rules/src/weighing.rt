@@ -1,5 +1,5 @@
 //! The extensions by which a chain is judged, read (RFC 5280 4.2.1.3, 4.2.1.6, 4.2.1.9, 4.2.1.12).
-ghost use Rattle.std.specs.Prelude.{◌≡◌, ◌≢◌, ℕ, List, [], true, IfOk, OnErr};
+ghost use Rattle.std.specs.Prelude.{◌≡◌, ◌≢◌, ◌||◌, ℕ, List, [], true, IfOk, OnErr};
 ghost use Rattle.const_oid.specs.Bound.{Bound};
 ghost use Rattle.const_oid.specs.Comparing.{owned_eq};
 ghost use Rattle.der_core_head.specs.declared.error.ErrorKind.{ErrorKind};
@@ -8,7 +8,7 @@ ghost use Rattle.der_core_head.specs.Reading.{Gives};
 ghost use Rattle.der_core_head.specs.Shapes.{sequence_of};
 ghost use Rattle.x509_cert_parts.specs.Views.{extension_plain, extensions_plain};
 ghost use Rattle.cert_desk_rules.specs.Findings.{found, weight_of};
-ghost use Rattle.cert_desk_rules.specs.Weighing.{any_purpose, extended_key_usage_in, has_list};
+ghost use Rattle.cert_desk_rules.specs.Weighing.{any_purpose, extended_key_usage_in, is_ce};
 ghost use Rattle.cert_desk_rules.specs.Weighing.{key_usage_in, may_take_memory, meaning_of};
 ghost use Rattle.cert_desk_rules.specs.Weighing.{other_names, purposes, serves};
 ghost use Rattle.cert_desk_rules.specs.Weighing.{subject_alt_name_in, uses, weigh};
@@ -69,7 +69,8 @@ fn weigh(
 ) -> Result<Weight, AllocError>
     ensures weight { IfOk result
         (λ weight. weight ≡ weight_of purpose.now (weigh Bound (extension_plain extension.now))) }
-    ensures memory { OnErr result (has_list (extension_plain extension.now) ≡ true) }
+    ensures memory { OnErr result ((is_ce 17 (extension_plain extension.now)
+        || is_ce 37 (extension_plain extension.now)) ≡ true) }
 {
     let octets = extension.extn_value.as_bytes();
     let Some(number) = number_of(&extension.extn_id) else {

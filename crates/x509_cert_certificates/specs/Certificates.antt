@@ -1,45 +1,35 @@
 -- Certificates (RFC 5280 4.1). Each shape takes the bound of arcs and the greatest number of
 -- content octets of a serial number, if there is such a number.
-use Rattle.std.specs.Prelude.{ℕ, ℤ, List, [], length, Bool, false, Option, None}
+use Rattle.std.specs.Prelude.{ℕ, ℤ, List, [], length, Bool, Option, None}
 use Rattle.std.specs.Option.{option_map_or}
 use Rattle.der_core_head.specs.declared.tag.Tag.TheVariants as tags
 use Rattle.der_core_head.specs.BitStrings.{Bits}
 use Rattle.der_core_head.specs.Dates.{Civil}
 use Rattle.der_core_head.specs.Heads.{head_octets}
 use Rattle.der_core_head.specs.Leaves.{bits}
-use Rattle.der_core_head.specs.Shapes.{Shape, Body, Value, BodyValue, tagged, leaf, optional}
+use Rattle.der_core_head.specs.Shapes.{Shape, Body, Value, BodyValue, optional}
 use Rattle.der_core_head.specs.Shapes.{field, done, sequence, explicit, octets_of, body_octets}
-use Rattle.der_core_head.specs.Tags.{context}
 use Rattle.x509_cert_names.specs.Names.{PlainName, name}
 use Rattle.x509_cert_parts.specs.Grammar.{Algorithm, PublicKey, validity, extensions, civil_of}
 use Rattle.x509_cert_parts.specs.Grammar.{PlainValidity, bit_string, version_field, serial_number}
+use Rattle.x509_cert_parts.specs.Grammar.{implicit_leaf}
 use Rattle.x509_cert_parts.specs.Grammar.{PlainExtension, algorithm_identifier, public_key_info}
 use Rattle.x509_cert_parts.specs.Grammar as parts
 use Rattle.x509_cert_parts.specs.Respelling.{validity_by}
 
--- UniqueIdentifier ::= BIT STRING, behind an implicit tag (4.1.2.8)
-abbrev pub unique_identifier : ℕ → Shape
-unique_identifier n = tagged (context false n) (leaf bits)
-
 -- TBSCertificate ::= SEQUENCE { version [0] EXPLICIT Version DEFAULT v1, serialNumber, signature,
---     issuer, validity, subject,
---     subjectPublicKeyInfo, issuerUniqueID [1] IMPLICIT OPTIONAL, subjectUniqueID [2] IMPLICIT
---     OPTIONAL,
---     extensions [3] EXPLICIT Extensions OPTIONAL }
+--     issuer, validity, subject, subjectPublicKeyInfo, issuerUniqueID [1] IMPLICIT BIT STRING
+--     OPTIONAL, subjectUniqueID [2] likewise, extensions [3] EXPLICIT Extensions OPTIONAL }
 abbrev pub optional_fields : ℕ → Body
-optional_fields bound =
-    field (optional (unique_identifier 1))
-    (field (optional (unique_identifier 2))
-    (field (optional (explicit 3 (extensions bound))) done))
+optional_fields bound = field (optional (implicit_leaf 1 bits))
+    (field (optional (implicit_leaf 2 bits)) (field (optional (explicit 3 (extensions bound))) done))
 
 abbrev pub from_validity : ℕ → Body
 from_validity bound =
     field validity (field (name bound) (field (public_key_info bound) (optional_fields bound)))
 
 abbrev pub tbs_fields : ℕ → Option ℕ → Body
-tbs_fields bound limit =
-    field version_field
-    (field (serial_number limit)
+tbs_fields bound limit = field version_field (field (serial_number limit)
     (field (algorithm_identifier bound) (field (name bound) (from_validity bound))))
 
 abbrev pub tbs_certificate : ℕ → Option ℕ → Shape
@@ -65,14 +55,14 @@ abbrev pub raw_certificate_fields : ℕ → Body
 raw_certificate_fields bound = certificate_fields bound None
 
 abbrev pub raw_certificate : ℕ → Shape
-raw_certificate bound = certificate bound None
+raw_certificate bound = sequence (certificate_fields bound None)
 
 -- Plain values. Neither the bound nor the profile changes what they are.
 abbrev pub Tbs : Type 0
 Tbs = Value (tbs_certificate 0 None)
 
 abbrev pub PlainCertificate : Type 0
-PlainCertificate = Value (certificate 0 None)
+PlainCertificate = Value (raw_certificate 0)
 
 -- parts of a signed part
 abbrev pub tbs_version : Tbs → ℤ
@@ -154,10 +144,10 @@ certificate_octets bound c = octets_of (raw_certificate bound) c
 -- The place of the signed part in them (4.1.1.3): it stands behind the outer header.
 unfoldable pub signed_start : ℕ → PlainCertificate → ℕ
 signed_start bound c =
-    length (head_octets tags.Sequence (length (body_octets (raw_certificate_fields bound) c)))
+    length (head_octets tags.Sequence (length (body_octets (certificate_fields bound None) c)))
 
 unfoldable pub signed_length : ℕ → PlainCertificate → ℕ
-signed_length bound c = length (octets_of (raw_tbs_certificate bound) (tbs c))
+signed_length bound c = length (octets_of (tbs_certificate bound None) c.0)
 
 -- where the dates of the validity are re-encoded, or not
 abbrev pub tbs_by : Bool → Tbs → Tbs

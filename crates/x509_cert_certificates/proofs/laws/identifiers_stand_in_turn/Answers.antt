@@ -1,13 +1,14 @@
 use Rattle.std.proofs.Common.{◌≡◌, ℕ, List, [], ◌∷◌, ◌++◌, Option, Some, None, refl, ap, ◌∙◌, append_assoc, append-nil, inl, inr, flat_map, map}
 use Rattle.std.specs.Option.{option_map_or}
 use Rattle.der_core_head.specs.BitStrings.{Bits}
+use Rattle.der_core_head.specs.Leaves.{bits}
 use Rattle.der_core_head.specs.Shapes.{AnyValue, any, optional, explicit}
 use Rattle.der_core_head.specs.Bounds.{identifiers_of}
 use Rattle.x509_cert_names.specs.Names.{name}
-use Rattle.x509_cert_parts.specs.Grammar.{Algorithm, PublicKey, PlainTime, PlainValidity, PlainExtension, algorithm_identifier, algorithm_arcs, public_key_info, key_algorithm, extension, extension_arcs, extensions, time, validity}
+use Rattle.x509_cert_parts.specs.Grammar.{Algorithm, PublicKey, PlainTime, PlainValidity, PlainExtension, algorithm_identifier, algorithm_arcs, public_key_info, key_algorithm, extension, extension_arcs, extensions, implicit_leaf, time, validity}
 use Rattle.x509_cert_certificates.specs.Bounds.{certificate_identifiers}
 use Rattle.x509_cert_names.proofs.NameBounds.{of_name}
-use Rattle.x509_cert_certificates.specs.Certificates.{PlainCertificate, unique_identifier, inner_algorithm, issuer, subject, public_key, outer_algorithm, tbs, tbs_extensions, tbs_validity, tbs_issuer_unique_id, tbs_subject_unique_id}
+use Rattle.x509_cert_certificates.specs.Certificates.{PlainCertificate, inner_algorithm, issuer, subject, public_key, outer_algorithm, tbs, tbs_extensions, tbs_validity, tbs_issuer_unique_id, tbs_subject_unique_id}
 use Rattle.x509_cert_certificates.proofs.laws.identifiers_stand_in_turn.Goals as goal
 
 -- Which identifiers stand in a certificate.
@@ -29,7 +30,7 @@ of_validity : (v : PlainValidity) → identifiers_of validity v ≡ []
 unfolding identifiers_of
 of_validity v = rw (of_time v.0, of_time v.1.0) refl
 
-of_unique : (n : ℕ) (v : Option Bits) → identifiers_of (optional (unique_identifier n)) v ≡ []
+of_unique : (n : ℕ) (v : Option Bits) → identifiers_of (optional (implicit_leaf n bits)) v ≡ []
 unfolding identifiers_of
 of_unique n None = refl
 of_unique n (Some v) = refl
@@ -58,8 +59,8 @@ parts : (c : PlainCertificate) → certificate_identifiers c
 unfolding certificate_identifiers identifiers_of
 parts c =
     join (identifiers_of (algorithm_identifier 0) (inner_algorithm c)) (identifiers_of (name 0) (issuer c)) (identifiers_of validity (tbs_validity (tbs c)))
-    (identifiers_of (name 0) (subject c)) (identifiers_of (public_key_info 0) (public_key c)) (identifiers_of (optional (unique_identifier 1)) (tbs_issuer_unique_id (tbs c)))
-    (identifiers_of (optional (unique_identifier 2)) (tbs_subject_unique_id (tbs c))) (identifiers_of (optional (explicit 3 (extensions 0))) (tbs_extensions (tbs c)))
+    (identifiers_of (name 0) (subject c)) (identifiers_of (public_key_info 0) (public_key c)) (identifiers_of (optional (implicit_leaf 1 bits)) (tbs_issuer_unique_id (tbs c)))
+    (identifiers_of (optional (implicit_leaf 2 bits)) (tbs_subject_unique_id (tbs c))) (identifiers_of (optional (explicit 3 (extensions 0))) (tbs_extensions (tbs c)))
     (identifiers_of (algorithm_identifier 0) (outer_algorithm c))
     (of_validity (tbs_validity (tbs c))) (of_unique 1 (tbs_issuer_unique_id (tbs c))) (of_unique 2 (tbs_subject_unique_id (tbs c)))
 

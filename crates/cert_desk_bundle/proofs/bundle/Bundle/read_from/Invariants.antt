@@ -1,7 +1,7 @@
 -- The octets so far were taken and read. Each piece adds to them, and there is an end to them.
 use Rattle.std.proofs.Common.{◌≡◌, ◌+◌, ◌-◌, ◌^◌, length}
 use Rattle.cert_desk_bundle.specs.declared.standing.Standing.TheVariants as standings
-use Rattle.cert_desk_bundle.specs.Steps.{kept_octets, most_read, Grows, Takes}
+use Rattle.cert_desk_bundle.specs.Steps.{kept_octets, Grows, Takes}
 use Rattle.cert_desk_bundle.proofs.bundle.Bundle.read_from.Given as goal
 use Rattle.const_oid.specs.Bound.{Bound}
 
@@ -11,7 +11,7 @@ invariant-loop-count g l = record {
   is_open : l.self.standing ≡ standings.Open;
   limit : l.self.limit ≡ l.fn.self.limit;
   grows : Grows l.fn.self l.self;
-  room : length l.buffer ≡ most_read;
+  room : length l.buffer ≡ 4096;
   sound : g.I.Input.failures l.input ≡ g.I.Input.failures l.fn.input;
   reads : Takes g.I.Input.takes l.fn.input l.input Bound l.fn.self l.self;
 }
