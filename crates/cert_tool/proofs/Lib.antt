@@ -1,5 +1,6 @@
 mod SplitLaws
 mod JsonSteps
 mod PassedLaws
+mod ToldLaws
 mod SentLaws
 mod ServingLaws

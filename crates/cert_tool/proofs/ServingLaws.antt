@@ -1,5 +1,5 @@
 -- Requests that are told apart, their words, and what was answered so far.
-use Rattle.std.proofs.Common.{◌≡◌, ℕ, ◌<◌, ◌^◌, ◌≤◌, ◌||◌, ◌⊎◌, inl, inr, Bool, true, false, List, [], ◌∷◌, ◌++◌, length, map, refl, sym, ap, subst, ◌∙◌}
+use Rattle.std.proofs.Common.{◌≡◌, ℕ, ◌<◌, ◌^◌, ◌≤◌, ◌⊎◌, inl, inr, Bool, true, false, List, ◌++◌, length, map, sym, ap, subst, ◌∙◌}
 use Rattle.std.proofs.lemmas.Bool.{false≢true}
 use Rattle.std.specs.Prelude.{IsUtf8}
 use Rattle.std.specs.List.{list_any}
@@ -10,6 +10,7 @@ use Rattle.cert_desk_frames.specs.declared.frame_error.FrameError.{FrameError}
 use Rattle.cert_desk_frames.specs.declared.frame_error.FrameError.TheVariants as errors
 use Rattle.cert_desk_frames.specs.Frames.{frame}
 use Rattle.cert_tool.proofs.SentLaws.{same_content}
+use Rattle.cert_tool.proofs.ToldLaws.{any_map}
 use Rattle.cert_tool.specs.TaskRuns.{Clock, IsObeyed, asks_of_program}
 use Rattle.cert_tool.specs.Serving.{AreReplies, ComesTo, HasNoReply, IsNextServed, IsRequest, more, words_in}
 
@@ -17,10 +18,6 @@ use Rattle.cert_tool.specs.Serving.{AreReplies, ComesTo, HasNoReply, IsNextServe
 pub no_request : (octets text parts : List ℕ) → octets ≡ frame text ++ parts → length text < 2 ^ 32 → (IsUtf8 text → ⊥) → (other : List ℕ) → (behind : List ℕ) → IsRequest octets other behind → ⊥
 no_request octets text parts begins short faulty other behind is =
     faulty (subst IsUtf8 (same_content other text behind parts is.1 short (sym is.0 ∙ begins)) is.2)
-
-any_map : {A : Type 0} (f : A → List ℕ) (p : List ℕ → Bool) (words : List A) → list_any (λ word. p (f word)) words ≡ list_any p (map f words)
-any_map f p [] = refl
-any_map f p (word ∷ words) = ap (λ (b : Bool). p (f word) || b) (any_map f p words)
 
 -- what is done for words is done for the lines that they are
 pub obeyed : {A : Type 0} (f : A → List ℕ) (tells : Clock) (i : Inputs) (out err : Device) (words : List A) (text : List ℕ) (status : ExitStatus) → map f words ≡ words_in text → IsObeyed tells i out err (map f words) (list_any (λ word. asks_of_program (f word)) words) status → IsObeyed tells i out err (words_in text) (list_any asks_of_program (words_in text)) status

@@ -1,15 +1,13 @@
 -- What is read to describe or to explain, and how that ends. The texts that are told aren't given
 -- here.
-use Rattle.std.specs.Prelude.{◌≡◌, ℕ, ◌⊎◌, List, Option, Some, None, Ok, Err, codes}
+use Rattle.std.specs.Prelude.{ℕ, ◌⊎◌, List, Option, Some, None, Ok, Err, codes}
 use Rattle.cert_desk_io.specs.declared.exit_status.ExitStatus.{ExitStatus}
 use Rattle.cert_desk_io.specs.declared.exit_status.ExitStatus.TheVariants as statuses
 use Rattle.cert_desk_io.specs.declared.read_all_error.ReadAllError.{ReadAllError}
 use Rattle.cert_desk_io.specs.declared.read_all_error.ReadAllError.TheVariants as errors
-use Rattle.cert_desk_io.specs.Devices.{Device, Fails, MetEnd, Moved, Sound, Untouched}
+use Rattle.cert_desk_io.specs.Devices.{Device, Untouched}
 use Rattle.cert_desk_io.specs.Telling.{IsAnswer, IsComplaint, IsDeviceTold, IsMemoryTold}
 use Rattle.cert_desk_io.specs.Whole.{IsUnread, IsWhole, most_octets}
-use Rattle.cert_desk_rules.specs.declared.checked.Verdict.{Verdict}
-use Rattle.cert_desk_rules.specs.declared.checked.Verdict.TheVariants as verdicts
 use Rattle.cert_desk_rules.specs.Questions.{Question}
 use Rattle.cert_desk_checking.specs.declared.outcome.Outcome.{Outcome}
 use Rattle.cert_desk_checking.specs.declared.outcome.Outcome.TheVariants as outcomes
@@ -88,38 +86,3 @@ IsExplained answers anchors stream out err limit answer =
     × IsSaidUnder anchors stream out err limit answer)
     ⊎ ((none : NoAnswers) × AreAnswers answers (Err none) × Untouched anchors × Untouched stream
     × Untouched out × IsNoneTold err none answer)
-
--- calls moved some octets, and none failed
-abbrev pub HasMoved : Device → Type 0
-HasMoved d = (octets : List ℕ) × Moved d octets × Sound d
-
--- the last call failed, and no other
-abbrev pub HasFailed : Device → Type 0
-HasFailed d = (octets : List ℕ) × Fails d octets
-
--- no chain of one certificate or more
-abbrev pub IsNoChain : Verdict → Type 0
-IsNoChain (verdicts.StreamFault place offset kind) = Unit {0}
-IsNoChain verdicts.Empty = Unit {0}
-IsNoChain _ = ⊥
-
--- what ends a stream early of which no read failed
-abbrev pub IsSoundStop : Outcome → Type 0
-IsSoundStop (outcomes.Checked checked) = IsNoChain checked.verdict
-IsSoundStop outcomes.OutOfMemory = Unit {0}
-IsSoundStop _ = ⊥
-
--- why a text wasn't written: a write failed, or there was no memory for it
-abbrev pub IsUnwritten : Device → Outcome → Type 0
-IsUnwritten out outcomes.Device = HasFailed out
-IsUnwritten out outcomes.OutOfMemory = HasMoved out
-IsUnwritten out _ = ⊥
-
--- How far a stream was read, and what is said of it written: to its end; to what ends it early; or
--- to a read or a write that failed.
-abbrev pub IsPassed : Device → Device → Option Outcome → Type 0
-IsPassed stream out None = HasMoved stream × MetEnd stream × HasMoved out
-IsPassed stream out (Some outcome) =
-    (HasMoved stream × HasMoved out × IsSoundStop outcome)
-    ⊎ ((outcome ≡ outcomes.Device)
-    × ((HasFailed stream × HasMoved out) ⊎ (HasMoved stream × HasFailed out)))

@@ -4,8 +4,10 @@ pub mod Stops
 pub mod Asking
 pub mod Verifying
 pub mod Explaining
+pub mod Passing
 pub mod JsonTexts
 pub mod Splitting
+pub mod Help
 pub mod TaskRuns
 pub mod Sending
 pub mod Serving

@@ -1,8 +1,8 @@
 -- What ends a run before what was asked for went out, and how it is told.
-use Rattle.std.specs.Prelude.{◌≡◌, ℕ, ◌⊎◌, List, [], ◌∷◌, length, Option, Some, None}
+use Rattle.std.specs.Prelude.{◌≡◌, ℕ, ◌<◌, ◌⊎◌, List, [], ◌∷◌, length, Option, Some, None}
 use Rattle.cert_desk_io.specs.declared.exit_status.ExitStatus.{ExitStatus}
 use Rattle.cert_desk_io.specs.declared.exit_status.ExitStatus.TheVariants as statuses
-use Rattle.cert_desk_io.specs.Devices.{Device}
+use Rattle.cert_desk_io.specs.Devices.{Device, IsCut, IsWritten}
 use Rattle.cert_desk_io.specs.Telling.{IsComplaint, IsDeviceTold, IsMemoryTold}
 use Rattle.cert_desk_rules.specs.declared.checked.Verdict.{Verdict}
 use Rattle.cert_desk_rules.specs.declared.checked.Verdict.TheVariants as verdicts
@@ -49,3 +49,12 @@ IsStopTold err (outcomes.BadAnchors offset fault) answer =
     IsComplaint err (anchors_line offset fault) statuses.Arguments answer ⊎ IsMemoryTold err answer
 IsStopTold err outcomes.Device answer = IsDeviceTold err answer
 IsStopTold err outcomes.OutOfMemory answer = IsMemoryTold err answer
+
+-- a text is tried on the error output: it goes out, or a write fails
+abbrev pub IsTried : Device → List ℕ → Type 0
+IsTried err text = IsWritten err text ⊎ IsCut err text
+
+-- Some text that isn't empty is tried on the error output, before what else is told.
+abbrev pub IsReasonTold : Device → Type 0
+IsReasonTold err = (between : err.State) × (text : List ℕ) × (0 < length text)
+    × IsTried (record err { new = between }) text

@@ -6,6 +6,7 @@ use Rattle.cert_desk_io.specs.declared.exit_status.ExitStatus.TheVariants as sta
 use Rattle.cert_desk_io.specs.Devices.{Device, Untouched}
 use Rattle.cert_desk_io.specs.declared.named_inputs.OpenError.{OpenError}
 use Rattle.cert_desk_io.specs.NamedInputs.{AreUnopened, Inputs, OfOpened, unopened_status}
+use Rattle.cert_desk_io.specs.Telling.{IsAnswer}
 use Rattle.cert_desk_io.specs.Whole.{IsWhole, most_octets}
 use Rattle.cert_desk_rules.specs.declared.answers_judge.AnswersJudge.{AnswersJudge}
 use Rattle.cert_desk_checking.specs.declared.outcome.Outcome.{Outcome}
@@ -25,9 +26,11 @@ use Rattle.cert_tool.specs.declared.tasks.Command.{Command}
 use Rattle.cert_tool.specs.declared.tasks.Misuse.{Misuse}
 use Rattle.cert_tool.specs.declared.tasks.Task.{Task}
 use Rattle.cert_tool.specs.Asking.{IsAsked, IsAskedTold}
-use Rattle.cert_tool.specs.Explaining.{IsExplained, IsNotRead, IsPassed, IsSaid}
+use Rattle.cert_tool.specs.Explaining.{IsExplained, IsNotRead, IsSaid}
+use Rattle.cert_tool.specs.Help.{program_text}
+use Rattle.cert_tool.specs.Passing.{IsPassed}
 use Rattle.cert_tool.specs.Splitting.{IsEndTold, IsListed, IsReversed, IsTaken}
-use Rattle.cert_tool.specs.Stops.{FedWithin}
+use Rattle.cert_tool.specs.Stops.{FedWithin, IsReasonTold, IsTried}
 use Rattle.cert_tool.specs.Tasks.{AsksFor, IsMisuse}
 use Rattle.cert_tool.specs.Verifying.{AreAnswers, IsNoneTold, IsToldAs}
 
@@ -53,31 +56,38 @@ ToldFirst d Holds = (between : d.State) × Holds (record d { new = between })
 abbrev pub ToldLast : Device → (Device → Type 0) → Type 0
 ToldLast d Holds = (between : d.State) × Holds (record d { old = between })
 
--- Of the inputs of these names, which are opened in turn, one isn't, and why gives the status.
-abbrev pub IsUnopened : Inputs → List (List ℕ) → ExitStatus → Type 0
-IsUnopened i names answer =
-    (error : OpenError) × AreUnopened i names error × (answer ≡ unopened_status error)
+-- Of the inputs of these names, which are opened in turn, one isn't. That is told, and why gives
+-- the status.
+abbrev pub IsUnopened : Inputs → List (List ℕ) → Device → ExitStatus → Type 0
+IsUnopened i names err answer =
+    (error : OpenError) × AreUnopened i names error × IsReasonTold err
+    × (answer ≡ unopened_status error)
 
 -- The input of a task's file is opened, and of it this holds; or it isn't.
-abbrev pub OfFile : Inputs → Device → Task → ExitStatus → (Device → Type 0) → Type 0
-OfFile i out task answer Holds =
+abbrev pub OfFile : Inputs → Device → Device → Task → ExitStatus → (Device → Type 0) → Type 0
+OfFile i out err task answer Holds =
     OfOpened i task.file.now Holds
-    ⊎ (Untouched out × IsUnopened i (task.file.now ∷ []) answer)
+    ⊎ (Untouched out × IsUnopened i (task.file.now ∷ []) err answer)
 
 -- the names of the inputs of a chain that is judged, as they are opened
 abbrev pub judged_names : Task → List (List ℕ)
 judged_names task = task.answers.now ∷ task.anchors.now ∷ task.file.now ∷ []
 
+-- how it is told that the present isn't had
+abbrev pub clock_line : List ℕ
+clock_line = codes "cannot read the clock\n"
+
 -- The seconds are had that are meant, and then the inputs of a chain that is judged are opened, and
--- of them this holds; or what isn't had ends the run.
-abbrev pub OfJudged : Clock → Inputs → Device → Task → ExitStatus
+-- of them this holds; or what isn't had is told, and ends the run.
+abbrev pub OfJudged : Clock → Inputs → Device → Device → Task → ExitStatus
     → (Device → Device → Device → ℕ → Type 0) → Type 0
-OfJudged tells i out task answer Holds =
+OfJudged tells i out err task answer Holds =
     ((seconds : ℕ) × IsMeant tells task.moment seconds
     × (OfOpened i task.answers.now (λ answers. OfOpened i task.anchors.now (λ anchors.
     OfOpened i task.file.now (λ stream. Holds answers anchors stream seconds)))
-    ⊎ (Untouched out × IsUnopened i (judged_names task) answer)))
-    ⊎ (IsUntimed tells task.moment × Untouched out × (answer ≡ statuses.Device))
+    ⊎ (Untouched out × IsUnopened i (judged_names task) err answer)))
+    ⊎ (IsUntimed tells task.moment × Untouched out × IsTried err clock_line
+    × (answer ≡ statuses.Device))
 
 -- A chain is judged by answers, at these seconds: the answers are read, and the run is as `check`
 -- says under a judge that says yes to these alone; or there are none, which is told.
@@ -95,14 +105,14 @@ IsJudged answers anchors stream out err seconds task answer =
 -- `verify`
 abbrev pub IsVerified : Clock → Inputs → Device → Device → Task → ExitStatus → Type 0
 IsVerified tells i out err task answer =
-    OfJudged tells i out task answer (λ answers anchors stream seconds.
+    OfJudged tells i out err task answer (λ answers anchors stream seconds.
     ToldFirst err (λ told. IsJudged answers anchors stream out told seconds task answer))
 
 -- `explain chain`
 abbrev pub IsChainExplained : Clock → Inputs → Device → Device → Task → ExitStatus
     → Type 0
 IsChainExplained tells i out err task answer =
-    OfJudged tells i out task answer (λ answers anchors stream seconds.
+    OfJudged tells i out err task answer (λ answers anchors stream seconds.
     ToldFirst err (λ told. IsExplained answers anchors stream out told task.limit answer))
 
 -- `questions`
@@ -111,7 +121,7 @@ IsListedFor i out err task answer =
     OfOpened i task.anchors.now (λ anchors. OfOpened i task.file.now (λ stream.
     (found : Result (List ℕ) Outcome) × IsAsked anchors stream task.limit found
     × ToldFirst err (λ told. IsAskedTold out told found answer)))
-    ⊎ (Untouched out × IsUnopened i (task.anchors.now ∷ task.file.now ∷ []) answer)
+    ⊎ (Untouched out × IsUnopened i (task.anchors.now ∷ task.file.now ∷ []) err answer)
 
 -- `split`
 abbrev pub IsSplitAt : Bool → Option ℕ → Device → Device → Kept → ExitStatus → Type 0
@@ -120,26 +130,27 @@ IsSplitAt json (Some place) out err kept answer = IsTaken out err kept place ans
 
 abbrev pub IsSplit : Inputs → Device → Device → Task → ExitStatus → Type 0
 IsSplit i out err task answer =
-    OfFile i out task answer (λ stream. (kept : Kept) × FedWithin stream task.limit kept
+    OfFile i out err task answer (λ stream. (kept : Kept) × FedWithin stream task.limit kept
     × ToldFirst err (λ told. IsSplitAt task.json task.place out told kept answer))
 
 -- `reverse`
 abbrev pub IsTurned : Inputs → Device → Device → Task → ExitStatus → Type 0
 IsTurned i out err task answer =
-    OfFile i out task answer (λ stream. (kept : Kept) × FedWithin stream task.limit kept
+    OfFile i out err task answer (λ stream. (kept : Kept) × FedWithin stream task.limit kept
     × ToldFirst err (λ told. IsReversed out told kept answer))
 
 -- `describe stream`
 abbrev pub IsEachDescribed : Inputs → Device → Device → Task → ExitStatus → Type 0
 IsEachDescribed i out err task answer =
-    OfFile i out task answer (λ stream. (ended : Option Outcome) × IsPassed stream out ended
+    OfFile i out err task answer (λ stream. (ended : Option Outcome)
+    × IsPassed stream out task.limit ended
     × ToldFirst err (λ told. ToldLast told (λ last. IsEndTold last ended answer)))
 
 -- The input of this name isn't read whole, which is told, or it isn't opened.
 abbrev pub IsNotHad : Inputs → List ℕ → Device → ExitStatus → Type 0
 IsNotHad i name err answer =
     OfOpened i name (λ input. ToldFirst err (λ told. IsNotRead input told answer))
-    ⊎ IsUnopened i (name ∷ []) answer
+    ⊎ IsUnopened i (name ∷ []) err answer
 
 -- A task's file is read whole, and then this holds of its octets and of the error output; or it
 -- isn't had.
@@ -184,12 +195,12 @@ asks_of_program word =
     || bytes_eq word (codes "--version"))
 
 -- What becomes of words: the program tells of itself where they ask for that; else the task is done
--- that they ask for, or what is wrong with them is told. The texts of the first and the last aren't
--- given here.
+-- that they ask for, or it is told that something is wrong with them.
 abbrev pub IsObeyed : Clock → Inputs → Device → Device → List (List ℕ) → Bool
     → ExitStatus → Type 0
 IsObeyed tells i out err words of_program answer =
-    (IsTrue of_program × ((answer ≡ statuses.Done) ⊎ (answer ≡ statuses.Device)))
+    (IsTrue of_program × IsAnswer out err (program_text words) statuses.Done answer)
     ⊎ ((of_program ≡ false)
     × (((task : Task) × AsksFor words task × IsDone tells i out err task answer)
-    ⊎ ((misuse : Misuse) × IsMisuse words misuse × Untouched out × (answer ≡ statuses.Arguments))))
+    ⊎ ((misuse : Misuse) × IsMisuse words misuse × Untouched out × IsReasonTold err
+    × (answer ≡ statuses.Arguments))))

@@ -3,8 +3,10 @@
 ghost use Rattle.std.specs.Prelude.{◌≡◌, ◌≤◌, IfOk, IfErr, IfSome, IfNone, OnOk};
 ghost use Rattle.cert_desk_io.specs.Devices.{sink, source};
 ghost use Rattle.cert_desk_io.specs.NamedInputs.{inputs};
+ghost use Rattle.cert_tool.specs.Stops.{IsTried};
 ghost use Rattle.cert_tool.specs.TaskRuns.{IsMeant, IsUntimed, IsUnopened, judged_names};
 ghost use Rattle.cert_tool.specs.TaskRuns.{IsJudged, IsVerified, IsChainExplained, IsListedFor};
+ghost use Rattle.cert_tool.specs.TaskRuns.{clock_line};
 
 use crate::arguments::{Moment, Terms};
 use crate::asking::run_questions;
@@ -36,6 +38,15 @@ fn seconds_of<C: UnixClock>(clock: &C, moment: Moment) -> Option<u64>
     }
 }
 
+// Tells that the clock doesn't tell the present.
+fn tell_untimed<E: Output>(err: &mut E) -> ExitStatus
+    ensures told { IsTried (sink E.gives E.failures err.old err.new) clock_line }
+    ensures status { result ≡ ExitStatus.Device }
+{
+    let _ = write_all(err, b"cannot read the clock\n");
+    ExitStatus::Device
+}
+
 // Opens the inputs of a chain that is judged.
 fn open_all<I: Input + Drop, F: NamedInputs<I>, E: Output>(
     alloc: Global,
@@ -52,7 +63,7 @@ fn open_all<I: Input + Drop, F: NamedInputs<I>, E: Output>(
     ensures untold { OnOk result (err.new ≡ err.old) }
     ensures stopped { IfErr result (IsUnopened
         (inputs I.takes I.is_ended I.failures (F.is_opened files.now) (F.is_unopened files.now))
-        (judged_names task.now)) }
+        (judged_names task.now) (sink E.gives E.failures err.old err.new)) }
 {
     let answers = open(alloc, files, task.answers, err)?;
     let anchors = open(alloc, files, task.anchors, err)?;
@@ -120,8 +131,7 @@ pub(crate) fn verify<C: UnixClock, I: Input + Drop, F: NamedInputs<I>, O: Output
         task.now result }
 {
     let Some(seconds) = seconds_of(clock, task.moment) else {
-        let _ = write_all(err, b"cannot read the clock\n");
-        return ExitStatus::Device;
+        return tell_untimed(err);
     };
     let Opened {
         mut answers,
@@ -166,8 +176,7 @@ pub(crate) fn explain<C: UnixClock, I: Input + Drop, F: NamedInputs<I>, O: Outpu
         task.now result }
 {
     let Some(moment) = seconds_of(clock, task.moment) else {
-        let _ = write_all(err, b"cannot read the clock\n");
-        return ExitStatus::Device;
+        return tell_untimed(err);
     };
     let Opened {
         mut answers,

@@ -1,17 +1,17 @@
 //! Descriptions of the certificates of a stream, one by one.
 
-ghost use Rattle.std.specs.Prelude.{◌≡◌, ◌≤◌, length, false, Some, Option};
-ghost use Rattle.std.specs.Prelude.{IfSome, IfNone, IfOk, IfErr, OnOk};
-ghost use Rattle.cert_desk_io.specs.Devices.{MetEnd, sink, source};
+ghost use Rattle.std.specs.Prelude.{◌≡◌, ℕ, ◌<◌, ◌≤◌, List, [], ◌++◌, Some, Option};
+ghost use Rattle.std.specs.Prelude.{IfSome, IfNone, IfErr, IfOk, OnOk};
+ghost use Rattle.cert_desk_io.specs.Devices.{Fails, sink, source};
 ghost use Rattle.cert_desk_checking.specs.declared.outcome.Outcome.{Outcome};
-ghost use Rattle.cert_tool.specs.Explaining.{HasFailed, HasMoved, IsPassed, IsSoundStop};
-ghost use Rattle.cert_tool.specs.Explaining.{IsUnwritten};
+ghost use Rattle.cert_tool.specs.Passing.{HasMoved, HasTaken, IsBehind, IsHeld, IsPassed, IsRead};
+ghost use Rattle.cert_tool.specs.Passing.{IsUnwritten, stop_behind};
 ghost use Rattle.cert_tool.specs.Splitting.{IsEndTold};
+ghost use Rattle.cert_tool.specs.Stops.{unasked};
 ghost use Rattle.cert_tool.specs.TaskRuns.{ToldLast};
 
 use crate::stopping::tell_stop;
-use crate::telling::tell;
-use cert_desk_bundle::{Bundle, BundleError, FaultKind};
+use cert_desk_bundle::{Bundle, BundleError, Standing};
 use cert_desk_checking::Outcome;
 use cert_desk_io::{ExitStatus, Input, Output, write_all};
 use cert_desk_rules::{Checked, Verdict};
@@ -27,20 +27,26 @@ struct Passed {
 }
 
 impl Passed {
-    // With those of a bundle behind them, if so many can be counted.
-    fn with(self, bundle: &Bundle) -> Option<Passed> {
+    // With those of a bundle behind them, if so many can be counted, and one more.
+    fn with(self, bundle: &Bundle) -> Option<Passed>
+        ensures { IfSome result (λ next. IsBehind self bundle.now next) }
+    {
         let Some(count) = self.count.checked_add(bundle.len()) else {
             return None;
         };
         let Some(octets) = self.octets.checked_add(bundle.end_offset()) else {
             return None;
         };
+        if octets.checked_add(u64::from(bundle.limit())).is_none() {
+            return None;
+        }
         Some(Passed { count, octets })
     }
 
     // What ended early a stream that ends behind them: that there is none.
     fn end(self) -> Option<Outcome>
-        ensures { IfSome result IsSoundStop }
+        ensures none { self.count ≡ 0 → result ≡ Some (unasked Verdict.Empty) }
+        ensures some { 0 < self.count → result ≡ None }
     {
         if self.count > 0 {
             return None;
@@ -50,29 +56,22 @@ impl Passed {
 
     // What a stream comes to that a bundle refuses behind them.
     fn stop(self, error: BundleError) -> Outcome
-        ensures { IsSoundStop result }
+        ensures { result ≡ stop_behind self error }
     {
         match error {
-            BundleError::Fault { kind, .. } => self.fault(kind),
-            _ => Outcome::OutOfMemory,
+            BundleError::Fault { kind, .. } => told(Verdict::StreamFault {
+                place: self.count,
+                offset: self.octets,
+                kind,
+            }),
+            BundleError::OutOfMemory | BundleError::Failed => Outcome::OutOfMemory,
         }
-    }
-
-    // Behind them the stream has this fault.
-    fn fault(self, kind: FaultKind) -> Outcome
-        ensures { IsSoundStop result }
-    {
-        told(Verdict::StreamFault {
-            place: self.count,
-            offset: self.octets,
-            kind,
-        })
     }
 }
 
 // What is told of a stream of which nothing was asked.
 fn told(verdict: Verdict) -> Outcome
-    ensures { result ≡ Outcome.Checked (record { verdict = verdict; calls = 0 }) }
+    ensures { result ≡ unasked verdict }
 {
     Outcome::Checked(Checked { verdict, calls: 0 })
 }
@@ -137,7 +136,9 @@ impl Form {
         if !self.is_watched || count.saturating_sub(last) < STEP {
             return last;
         }
-        tell(err, format!(in self.alloc; "{count} certificates\r"));
+        if let Ok(text) = format!(in self.alloc; "{count} certificates\r") {
+            let _ = write_all(err, text.as_bytes());
+        }
         count
     }
 
@@ -161,6 +162,8 @@ impl Ahead {
     // Nothing was read.
     fn new(alloc: Global, limit: u32) -> Ahead
         requires { 6 ≤ limit }
+        ensures nothing { result.octets.items ≡ [] }
+        ensures held { IsHeld limit result.bundle Standing.Open [] }
     {
         Ahead {
             bundle: Bundle::new(alloc, limit),
@@ -171,7 +174,11 @@ impl Ahead {
     // Takes the next piece of a stream, of which an empty one is its end. Says whether more may
     // follow.
     fn take(&mut self, piece: &[u8]) -> Result<bool, BundleError>
-        ensures end { IfOk result (λ goes_on. goes_on ≡ false → length piece.now ≡ 0) }
+        requires { IsHeld self.old.bundle.limit self.old.bundle Standing.Open
+            self.old.octets.items }
+        ensures octets { OnOk result (self.new.octets.items ≡ self.old.octets.items ++ piece.now) }
+        ensures taken { HasTaken self.old.bundle.limit self.new.bundle self.old.octets.items
+            piece.now result }
     {
         if piece.is_empty() {
             return match self.bundle.finish() {
@@ -190,12 +197,14 @@ impl Ahead {
 
     // Reads the next piece of a stream and takes it, or answers that the read failed.
     fn feed<S: Input>(&mut self, stream: &mut S) -> Option<Result<bool, BundleError>>
-        ensures moved { IfSome result
-            (λ fed. HasMoved (source S.takes S.is_ended S.failures stream.old stream.new)) }
-        ensures end { IfSome result (λ fed. IfOk fed (λ goes_on. goes_on ≡ false
-            → MetEnd (source S.takes S.is_ended S.failures stream.old stream.new))) }
+        requires { IsHeld self.old.bundle.limit self.old.bundle Standing.Open
+            self.old.octets.items }
+        ensures fed { IfSome result (λ fed. (piece : List ℕ)
+            × IsRead (source S.takes S.is_ended S.failures stream.old stream.new) piece
+            × HasTaken self.old.bundle.limit self.new.bundle self.old.octets.items piece fed
+            × OnOk fed (self.new.octets.items ≡ self.old.octets.items ++ piece)) }
         ensures failed { IfNone result
-            (HasFailed (source S.takes S.is_ended S.failures stream.old stream.new)) }
+            (Fails (source S.takes S.is_ended S.failures stream.old stream.new) []) }
     {
         let mut buffer = [0; 4096];
         let Ok(count) = stream.read(&mut buffer) else {
@@ -206,7 +215,11 @@ impl Ahead {
 
     // Forgets the certificates that the bundle has.
     fn forget(&mut self, alloc: Global, limit: u32) -> Result<(), AllocError>
-        requires { 6 ≤ limit }
+        requires limit { 6 ≤ limit }
+        requires held { IsHeld limit self.old.bundle Standing.Open self.old.octets.items }
+        ensures rest { OnOk result (self.new.octets.items ≡ self.old.bundle.rest) }
+        ensures held { OnOk result
+            (IsHeld limit self.new.bundle Standing.Open self.old.bundle.rest) }
     {
         if self.bundle.is_empty() {
             return Ok(());
@@ -229,6 +242,7 @@ fn write_blocks<O: Output>(
     passed: Passed,
     out: &mut O,
 ) -> Result<Passed, Outcome>
+    ensures behind { IfOk result (IsBehind passed bundle.now) }
     ensures written { OnOk result (HasMoved (sink O.gives O.failures out.old out.new)) }
     ensures unwritten { IfErr result (IsUnwritten (sink O.gives O.failures out.old out.new)) }
 {
@@ -246,37 +260,6 @@ fn write_blocks<O: Output>(
     Ok(next)
 }
 
-// Reads the next piece of a stream, and writes what the certificates say that end in it, behind
-// these. Answers which stand in front of the next, and whether more may follow.
-fn write_next<S: Input, O: Output>(
-    form: &Form,
-    ahead: &mut Ahead,
-    passed: Passed,
-    stream: &mut S,
-    out: &mut O,
-) -> Result<(Passed, bool), Outcome>
-    ensures moved { OnOk result
-        (HasMoved (source S.takes S.is_ended S.failures stream.old stream.new)) }
-    ensures written { OnOk result (HasMoved (sink O.gives O.failures out.old out.new)) }
-    ensures end { IfOk result (λ reached. reached.1 ≡ false
-        → MetEnd (source S.takes S.is_ended S.failures stream.old stream.new)) }
-    ensures stopped { IfErr result (λ outcome.
-        IsPassed (source S.takes S.is_ended S.failures stream.old stream.new)
-        (sink O.gives O.failures out.old out.new) (Some outcome)) }
-{
-    let Some(fed) = ahead.feed(stream) else {
-        return Err(Outcome::Device);
-    };
-    let next = match write_blocks(form, &ahead.bundle, passed, out) {
-        Ok(next) => next,
-        Err(outcome) => return Err(outcome),
-    };
-    match fed {
-        Ok(goes_on) => Ok((next, goes_on)),
-        Err(error) => Err(next.stop(error)),
-    }
-}
-
 // Writes what each certificate of a stream says, in turn, and forgets it, behind what was read of
 // it. Answers what ended the stream early, if something did.
 fn write_each<S: Input, O: Output, E: Output>(
@@ -287,9 +270,11 @@ fn write_each<S: Input, O: Output, E: Output>(
     err: &mut E,
     limit: u32,
 ) -> Option<Outcome>
-    requires { 6 ≤ limit }
+    requires limit { 6 ≤ limit }
+    requires nothing { ahead.old.octets.items ≡ [] }
+    requires held { IsHeld limit ahead.old.bundle Standing.Open [] }
     ensures { IsPassed (source S.takes S.is_ended S.failures stream.old stream.new)
-        (sink O.gives O.failures out.old out.new) result }
+        (sink O.gives O.failures out.old out.new) limit result }
 {
     let mut passed = Passed {
         count: 0,
@@ -298,17 +283,22 @@ fn write_each<S: Input, O: Output, E: Output>(
     let mut counted = 0;
     // Each piece has an octet or more, and of so many no more can be counted.
     'pieces: for _ in 0..u64::MAX {
-        let (next, goes_on) = match write_next(form, ahead, passed, stream, out) {
-            Ok(reached) => reached,
+        let Some(fed) = ahead.feed(stream) else {
+            return Some(Outcome::Device);
+        };
+        passed = match write_blocks(form, &ahead.bundle, passed, out) {
+            Ok(next) => next,
             Err(outcome) => return Some(outcome),
         };
-        passed = next;
-        counted = form.tell_count(counted, passed.count, err);
-        if !goes_on {
-            return passed.end();
+        match fed {
+            Ok(true) => {}
+            Ok(false) => return passed.end(),
+            Err(error) => return Some(passed.stop(error)),
         }
-        if ahead.forget(form.alloc, limit).is_err() {
-            return Some(Outcome::OutOfMemory);
+        counted = form.tell_count(counted, passed.count, err);
+        match ahead.forget(form.alloc, limit) {
+            Ok(()) => {}
+            Err(_) => return Some(Outcome::OutOfMemory),
         }
     }
     Some(Outcome::OutOfMemory)
@@ -329,7 +319,7 @@ pub(crate) fn run_describe<S: Input, O: Output, E: Output>(
     requires { 6 ≤ limit }
     ensures told { (ended : Option Outcome)
         × IsPassed (source S.takes S.is_ended S.failures stream.old stream.new)
-        (sink O.gives O.failures out.old out.new) ended
+        (sink O.gives O.failures out.old out.new) limit ended
         × ToldLast (sink E.gives E.failures err.old err.new)
         (λ last. IsEndTold last ended result) }
 {

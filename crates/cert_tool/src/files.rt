@@ -1,7 +1,9 @@
 //! The files that words name.
 
 ghost use Rattle.std.specs.Prelude.{⊤, ◌≡◌, IfOk, IfErr, OnOk};
+ghost use Rattle.cert_desk_io.specs.Devices.{sink};
 ghost use Rattle.cert_desk_io.specs.NamedInputs.{unopened_status};
+ghost use Rattle.cert_tool.specs.Stops.{IsReasonTold};
 
 use crate::telling::{line_with, tell};
 use cert_desk_io::{ExitStatus, FromRead, NamedInputs, OpenError, Output, tell_memory};
@@ -72,7 +74,9 @@ pub(crate) fn open<I, F: NamedInputs<I>, E: Output>(
     ensures opened { IfOk result (λ input. F.is_opened files.now name.now input) }
     ensures untold { OnOk result (err.new ≡ err.old) }
     ensures stopped { IfErr result (λ status. (error : OpenError)
-        × F.is_unopened files.now name.now error × (status ≡ unopened_status error)) }
+        × F.is_unopened files.now name.now error
+        × IsReasonTold (sink E.gives E.failures err.old err.new)
+        × (status ≡ unopened_status error)) }
 {
     match files.open(name) {
         Ok(input) => Ok(input),

@@ -1,5 +1,8 @@
 //! What the program says of itself.
 
+ghost use Rattle.std.specs.Prelude.{◌≡◌, map, option_map};
+ghost use Rattle.cert_tool.specs.Help.{help_for, help_of};
+
 // Which program it is.
 pub(crate) const VERSION: &str = "cert_tool 1.0.0\n";
 
@@ -87,18 +90,30 @@ refused, 2 where octets are faulty, 3 where there are none, 4 where words, ancho
 5 on an I/O error, 6 where it is out of memory.
 ";
 
-// What is said of the command that these words name, or of all.
-pub(crate) fn help_of(words: &[&str]) -> &'static str {
-    for word in words {
-        match *word {
-            "questions" => return QUESTIONS,
-            "verify" => return VERIFY,
-            "split" => return SPLIT,
-            "reverse" => return REVERSE,
-            "describe" => return DESCRIBE,
-            "explain" => return EXPLAIN,
-            _ => {}
-        }
+// What is said of a command whose first word this is.
+fn help_for(word: &str) -> Option<&'static str>
+    ensures { option_map (λ text. text.now) result ≡ help_for word.now }
+{
+    match word {
+        "questions" => Some(QUESTIONS),
+        "verify" => Some(VERIFY),
+        "split" => Some(SPLIT),
+        "reverse" => Some(REVERSE),
+        "describe" => Some(DESCRIBE),
+        "explain" => Some(EXPLAIN),
+        _ => None,
     }
-    USAGE
+}
+
+// What is said of the first of these words that names a command, or of all.
+pub(crate) fn help_of(words: &[&str]) -> &'static str
+    ensures { result.now ≡ help_of (map (λ word. word.now) words.now) }
+{
+    let [word, rest @ ..] = words else {
+        return USAGE;
+    };
+    match help_for(word) {
+        Some(text) => text,
+        None => help_of(rest),
+    }
 }

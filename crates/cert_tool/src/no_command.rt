@@ -24,7 +24,7 @@ fn line_behind(alloc: Global, given: &Given<'_>) -> Result<String, AllocError> {
 
 // That a word is none of these kinds.
 fn kinds_line(alloc: Global, kind: &str, kinds: &str) -> Result<String, AllocError> {
-    format!(in alloc; "{kind:?} isn't {kinds}\n")
+    format!(in alloc; "{kind:?} isn't {kinds}")
 }
 
 // Why these are none, where the first word is of these kinds.

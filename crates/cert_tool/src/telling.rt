@@ -1,5 +1,9 @@
 //! Texts that the program itself tells.
 
+ghost use Rattle.std.specs.Prelude.{◌<◌, length, IfOk, string_bytes};
+ghost use Rattle.cert_desk_io.specs.Devices.{sink};
+ghost use Rattle.cert_tool.specs.Stops.{IsReasonTold};
+
 use crate::given::{Key, WordFault};
 use crate::help::help_of;
 use crate::no_command::no_command_line;
@@ -8,10 +12,21 @@ use crate::tasks::{Misuse, Task};
 use cert_desk_io::{ExitStatus, Output, tell_memory, write_all};
 use std::alloc::{AllocError, Global};
 
-// Writes a text to the error output. What can't be written is passed over: nothing is left on which
-// to tell it.
-pub(crate) fn tell<E: Output>(err: &mut E, text: Result<String, AllocError>) {
-    match text {
+// A line with its end.
+fn ended(line: Result<String, AllocError>) -> Result<String, AllocError>
+    ensures { IfOk result (λ text. 0 < length (string_bytes text)) }
+{
+    let mut text = line?;
+    text.push_str("\n")?;
+    Ok(text)
+}
+
+// Writes a line to the error output, or that there is no memory for it. What can't be written is
+// passed over: nothing is left on which to tell it.
+pub(crate) fn tell<E: Output>(err: &mut E, line: Result<String, AllocError>)
+    ensures { IsReasonTold (sink E.gives E.failures err.old err.new) }
+{
+    match ended(line) {
         Ok(text) => {
             let _ = write_all(err, text.as_bytes());
         }
@@ -21,24 +36,24 @@ pub(crate) fn tell<E: Output>(err: &mut E, text: Result<String, AllocError>) {
     }
 }
 
-// A line of these parts.
+// These parts in turn.
 pub(crate) fn line_of(
     alloc: Global,
     before: &str,
     word: &str,
     behind: &str,
 ) -> Result<String, AllocError> {
-    format!(in alloc; "{before}{word}{behind}\n")
+    format!(in alloc; "{before}{word}{behind}")
 }
 
-// A line with this word in quotes.
+// These parts in turn, the word in quotes.
 pub(crate) fn line_with(
     alloc: Global,
     before: &str,
     word: &str,
     behind: &str,
 ) -> Result<String, AllocError> {
-    format!(in alloc; "{before}{word:?}{behind}\n")
+    format!(in alloc; "{before}{word:?}{behind}")
 }
 
 // How an option is written.
@@ -85,7 +100,7 @@ fn fault_line(alloc: Global, fault: WordFault<'_>) -> Result<String, AllocError>
 // What is wrong with the value of an option, in one line.
 fn wrong_line(alloc: Global, key: Key, text: &str) -> Result<String, AllocError> {
     let (word, values) = (word_of(key), values_of(key));
-    format!(in alloc; "{word}: {text:?} isn't {values}\n")
+    format!(in alloc; "{word}: {text:?} isn't {values}")
 }
 
 // What is wrong with words, in one line.
@@ -109,12 +124,9 @@ fn misuse_line(alloc: Global, words: &[&str], misuse: Misuse<'_>) -> Result<Stri
 }
 
 // Says what is wrong with words, and how the command is called or where that is told.
-pub(crate) fn tell_misuse<E: Output>(
-    alloc: Global,
-    words: &[&str],
-    misuse: Misuse<'_>,
-    err: &mut E,
-) {
+pub(crate) fn tell_misuse<E: Output>(alloc: Global, words: &[&str], misuse: Misuse<'_>, err: &mut E)
+    ensures { IsReasonTold (sink E.gives E.failures err.old err.new) }
+{
     tell(err, misuse_line(alloc, words, misuse));
     let help = match misuse {
         Misuse::NoCommand => help_of(words),
@@ -127,10 +139,10 @@ pub(crate) fn tell_misuse<E: Output>(
 fn stream_hint(alloc: Global, limit: u32, file: &str) -> Result<String, AllocError> {
     match shell_word(alloc, file)? {
         Some(file) => {
-            format!(in alloc; "(why: cert_tool explain stream --limit {limit} {file})\n")
+            format!(in alloc; "(why: cert_tool explain stream --limit {limit} {file})")
         }
         None => {
-            format!(in alloc; "(why: cert_tool explain stream --limit {limit}, with this file)\n")
+            format!(in alloc; "(why: cert_tool explain stream --limit {limit}, with this file)")
         }
     }
 }
@@ -139,8 +151,8 @@ fn stream_hint(alloc: Global, limit: u32, file: &str) -> Result<String, AllocErr
 fn anchors_hint(alloc: Global, file: &str) -> Result<String, AllocError> {
     let pem = "tools/pem_to_der.sh converts PEM to DER";
     match shell_word(alloc, file)? {
-        Some(file) => format!(in alloc; "(why: cert_tool explain anchors {file}; {pem})\n"),
-        None => format!(in alloc; "(why: cert_tool explain anchors, with this file; {pem})\n"),
+        Some(file) => format!(in alloc; "(why: cert_tool explain anchors {file}; {pem})"),
+        None => format!(in alloc; "(why: cert_tool explain anchors, with this file; {pem})"),
     }
 }
 

@@ -1,9 +1,11 @@
 //! What is done for words.
 
-ghost use Rattle.std.specs.Prelude.{◌≡◌, ◌⊎◌, ◌≤◌, map};
+ghost use Rattle.std.specs.Prelude.{◌≡◌, ◌≤◌, ◌++◌, map, OnErr, OnOk};
 ghost use Rattle.std.specs.List.{list_any};
-ghost use Rattle.cert_desk_io.specs.Devices.{sink};
+ghost use Rattle.cert_desk_io.specs.Devices.{IsCut, IsWritten, sink};
 ghost use Rattle.cert_desk_io.specs.NamedInputs.{inputs};
+ghost use Rattle.cert_desk_io.specs.Telling.{IsAnswer};
+ghost use Rattle.cert_tool.specs.Help.{is_version, program_text};
 ghost use Rattle.cert_tool.specs.TaskRuns.{asks_of_program, IsDone, IsObeyed};
 
 use crate::chains::{ask, explain, verify};
@@ -13,7 +15,7 @@ use crate::reading::{describe_file, explain_file};
 use crate::streams::{describe_each, reverse, split};
 use crate::tasks::{Command, Task};
 use crate::telling::tell_misuse;
-use cert_desk_io::{ExitStatus, Input, NamedInputs, Output, tell_device, write_all};
+use cert_desk_io::{DeviceError, ExitStatus, Input, NamedInputs, Output, tell_device, write_all};
 use std::alloc::Global;
 
 // Whether a word asks for help, or which program it is.
@@ -31,28 +33,51 @@ fn ask_of_program(words: &[&str]) -> bool
 }
 
 // Whether a word asks which program it is.
-fn is_version(word: &str) -> bool {
+fn is_version(word: &str) -> bool
+    ensures { result ≡ is_version word.now }
+{
     word == "--version"
+}
+
+// Whether one of these words does.
+fn ask_version(words: &[&str]) -> bool
+    ensures { result ≡ list_any (λ word. is_version word.now) words.now }
+{
+    words.iter().any(|word| is_version(word))
+}
+
+// What is said of the program, in two parts, to those who ask by these words.
+fn program_texts(words: &[&str]) -> (&'static str, &'static str)
+    ensures { result.0.now ++ result.1.now ≡ program_text (map (λ word. word.now) words.now) }
+{
+    if ask_version(words) {
+        return (VERSION, "");
+    }
+    (help_of(words), ARGUMENTS)
+}
+
+// Writes two texts, in turn.
+fn write_both<O: Output>(out: &mut O, first: &[u8], second: &[u8]) -> Result<(), DeviceError>
+    ensures written { OnOk result
+        (IsWritten (sink O.gives O.failures out.old out.new) (first.now ++ second.now)) }
+    ensures cut { OnErr result
+        (IsCut (sink O.gives O.failures out.old out.new) (first.now ++ second.now)) }
+{
+    write_all(out, first)?;
+    write_all(out, second)
 }
 
 // Says how the program is called, or which one it is.
 fn tell_of_program<O: Output, E: Output>(words: &[&str], out: &mut O, err: &mut E) -> ExitStatus
-    ensures { (result ≡ ExitStatus.Done) ⊎ (result ≡ ExitStatus.Device) }
+    ensures { IsAnswer (sink O.gives O.failures out.old out.new)
+        (sink E.gives E.failures err.old err.new)
+        (program_text (map (λ word. word.now) words.now)) ExitStatus.Done result }
 {
-    let (first, second) = if words.iter().any(|word| is_version(word)) {
-        (VERSION, "")
-    } else {
-        (help_of(words), ARGUMENTS)
-    };
-    if write_all(out, first.as_bytes()).is_err() {
-        let _ = tell_device(err);
-        return ExitStatus::Device;
+    let (first, second) = program_texts(words);
+    match write_both(out, first.as_bytes(), second.as_bytes()) {
+        Ok(()) => ExitStatus::Done,
+        Err(_) => tell_device(err),
     }
-    if write_all(out, second.as_bytes()).is_err() {
-        let _ = tell_device(err);
-        return ExitStatus::Device;
-    }
-    ExitStatus::Done
 }
 
 // Does a task.

@@ -1,7 +1,11 @@
-use Rattle.std.proofs.Common.{inl, subst}
+use Rattle.std.proofs.Common.{inl, inr, refl, subst}
 use Rattle.cert_desk_io.specs.Devices.{sink, source}
 use Rattle.cert_tool.specs.Explaining.{IsExplained}
 use Rattle.cert_tool.proofs.chains.explain.Goals as goal
+
+pub returns-in_default : goal.returns-in_default
+returns-in_default g c =
+    record { told = inr (c.in_default.ensures.untimed, refl, c.tell_untimed.ensures.told, c.tell_untimed.ensures.status) }
 
 pub returns : goal.returns
 returns g c =

@@ -1,6 +1,11 @@
--- The stream was read, and what is said of it written, and no call failed.
+-- The stream was read, and what is said of its certificates written, and no call failed.
+use Rattle.cert_desk_io.specs.Devices.{sink, source}
+use Rattle.cert_tool.specs.Passing.{HasMoved}
 use Rattle.cert_tool.proofs.PassedLaws.{SoFar}
 use Rattle.cert_tool.proofs.each_certificate.write_each.Given as goal
 
 abbrev pub invariant-pieces : goal.invariant-pieces
-invariant-pieces g l = SoFar g.S.Input.takes g.S.Input.is_ended g.S.Input.failures g.O.Output.gives g.O.Output.failures l.fn.stream l.stream l.fn.out l.out
+invariant-pieces g l = record {
+  read : SoFar (source g.S.Input.takes g.S.Input.is_ended g.S.Input.failures l.fn.stream l.stream) l.limit l.passed l.ahead.bundle l.ahead.octets.items;
+  written : HasMoved (sink g.O.Output.gives g.O.Output.failures l.fn.out l.out);
+}

@@ -8,4 +8,4 @@ returns-in-Ok g c =
 
 pub returns-in-Err : goal.returns-in-Err
 returns-in-Err g c =
-    record { obeyed = inr (sym c.ask_of_program.ensures ∙ c.if-ask_of_program.false, inr (c.in-Err.misuse, c.in-Err.ensures.refused, refl, refl)) }
+    record { obeyed = inr (sym c.ask_of_program.ensures ∙ c.if-ask_of_program.false, inr (c.in-Err.misuse, c.in-Err.ensures.refused, refl, c.tell_misuse.ensures, refl)) }

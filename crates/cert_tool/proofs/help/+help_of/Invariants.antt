@@ -1,0 +1,5 @@
+use Rattle.std.proofs.Common.{length}
+use Rattle.cert_tool.proofs.help.+help_of.Given as goal
+
+abbrev pub decreases-help_of : goal.decreases-help_of
+decreases-help_of l = length l.words.now
