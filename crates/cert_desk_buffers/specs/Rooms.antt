@@ -1,24 +1,31 @@
--- Texts in lent room, and why there are none.
-use Rattle.std.specs.Prelude.{◌≡◌, ℕ, ◌≤◌, ◌<◌, ◌⊎◌, List, drop, length}
+-- Texts in the caller's buffers, and why a call has no text to write.
+use Rattle.std.specs.Prelude.{◌≡◌, ◌≢◌, ℕ, ◌≤◌, ◌<◌, ◌⊎◌, List, drop, length}
 use Rattle.cert_desk_io.specs.declared.exit_status.ExitStatus.{ExitStatus}
 use Rattle.cert_desk_io.specs.declared.exit_status.ExitStatus.TheVariants as statuses
+use Rattle.cert_desk_io.specs.Statuses.{code_of}
 
--- There is such a text, and the room is enough for it, or too small.
+-- A text of this kind exists, and the buffer is large enough for it.
 abbrev pub Fits : (List ℕ → Type 0) → List ℕ → Type 0
 Fits Says room = (text : List ℕ) × Says text × (length text ≤ length room)
 
+-- A text of this kind exists, and the buffer is too small for it.
 abbrev pub Exceeds : (List ℕ → Type 0) → List ℕ → Type 0
 Exceeds Says room = (text : List ℕ) × Says text × (length room < length text)
 
--- There is such a text, the room is too small for it, and this is its length.
+-- A text of this kind exists, the buffer is too small for it, and `wanted` is its length.
 abbrev pub Wants : (List ℕ → Type 0) → List ℕ → ℕ → Type 0
 Wants Says room wanted =
     (text : List ℕ) × Says text × (wanted ≡ length text) × (length room < length text)
 
--- So many octets at the front of the room are written, and no others.
+-- Only the first `count` bytes of the buffer change.
 abbrev pub ChangesFront : ℕ → List ℕ → List ℕ → Type 0
 ChangesFront count old new = (count ≤ length old) × (drop count new ≡ drop count old)
 
--- Why there is nothing of the kind: the octets spell none, or there was no memory.
+-- A call that neither wrote a text nor found the buffer too small reports the length 0.
+abbrev pub IsUnsized : ℕ → ℕ → Type 0
+IsUnsized returned size =
+    returned ≢ code_of statuses.Done → returned ≢ code_of statuses.Device → size ≡ 0
+
+-- Why there is no value: the bytes are the encoding of none, or an allocation failed.
 abbrev pub IsLack : Type 0 → ExitStatus → Type 0
 IsLack None status = ((status ≡ statuses.Faulty) × None) ⊎ (status ≡ statuses.Memory)

@@ -1,4 +1,4 @@
-//! What the calls for C share: the numbers of statuses and of rules, and texts in the caller's
+//! Helpers that the calls for C share: the numbers of statuses and rules, and texts in the caller's
 //! buffers.
 #![tactic(auto)]
 

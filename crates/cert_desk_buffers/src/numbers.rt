@@ -1,10 +1,10 @@
-//! Numbers that are told.
+//! The numbers of rules.
 ghost use Rattle.std.specs.Prelude.{◌≡◌};
 ghost use Rattle.cert_desk_rules.specs.Judging.{number};
 
 use cert_desk_rules::Rule;
 
-/// The number of a rule.
+/// Returns the number of a rule.
 pub fn rule_number(rule: Rule) -> u64
     ensures { result ≡ number rule }
 {

@@ -6,15 +6,15 @@ ghost use Rattle.cert_desk_buffers.specs.Rooms.{ChangesFront};
 
 use cert_desk_io::ExitStatus;
 
-/// The number of a status.
+/// Returns the number of a status.
 pub fn code(status: ExitStatus) -> u32
     ensures { result ≡ code_of status }
 {
     u32::from(status.code())
 }
 
-/// Writes octets to the front of a buffer, and their number; or only the number, where they are
-/// more than its capacity.
+/// Copies bytes to the front of a buffer and reports their number, or only reports it if the buffer
+/// is too small.
 pub fn give(octets: &[u8], out: &mut [u8], size: &mut usize) -> u32
     ensures number { size.new ≡ length octets.now }
     ensures status { (result ≡ code_of Done) ⊎ (result ≡ code_of Device) }

@@ -1,14 +1,14 @@
--- What is told of octets that are described.
-use Rattle.std.proofs.Common.{◌≡◌, ◌≢◌, ◌⊎◌, inl, inr, ℕ, List, length, Option, Some, None, IfNone, IfSome, refl, sym, ◌∙◌}
+-- The statuses of a call that describes a value.
+use Rattle.std.proofs.Common.{◌≡◌, ◌≢◌, ◌⊎◌, inl, inr, ℕ, List, length, Option, Some, None, IfNone, IfSome, refl}
 use Rattle.der_core_head.specs.declared.error.ErrorKind.{ErrorKind}
 use Rattle.der_core_head.specs.declared.error.ErrorKind.TheVariants.{OutOfMemory}
 use Rattle.cert_desk_io.specs.declared.exit_status.ExitStatus.{ExitStatus}
 use Rattle.cert_desk_io.specs.declared.exit_status.ExitStatus.TheVariants as statuses
 use Rattle.cert_desk_io.specs.Statuses.{code_of}
 use Rattle.cert_desk_buffers.specs.Returned.{IsExact, IsExactWithMemory, IsFaultyStatus, IsTextStatus}
-use Rattle.cert_desk_buffers.proofs.Returning.{is_exact, unspelled}
+use Rattle.cert_desk_buffers.proofs.Returning.{unspelled}
 
--- a text of so many octets
+-- the text has `size` bytes
 abbrev Counted : ℕ → List ℕ → Type 0
 Counted size text = size ≡ length text
 

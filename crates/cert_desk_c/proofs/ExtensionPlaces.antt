@@ -11,9 +11,9 @@ use Rattle.der_core_head.specs.Leaves as leaves
 use Rattle.der_core_head.specs.Shapes.{Shape, Content, Body, Value, BodyValue, ContentValue, Spells, tagged, field, optional, done, leaf, nested, many, only, explicit, octets_of, contents, body_octets, unless, IsValid, IsBody}
 use Rattle.der_core_head.specs.Tags.{context, tag_octets}
 use Rattle.x509_cert_parts.specs.declared.extension.Extension.{Extension}
-use Rattle.x509_cert_parts.specs.Grammar.{PlainExtension, extension, extension_fields, extension_octets, extensions, false_by_default, is_critical, object_identifier, octet_string}
+use Rattle.x509_cert_parts.specs.Grammar.{PlainExtension, extension, extension_fields, extension_octets, extensions, false_by_default, implicit_leaf, is_critical, object_identifier, octet_string}
 use Rattle.x509_cert_parts.specs.Views.{extension_plain, extensions_plain}
-use Rattle.x509_cert_certificates.specs.Certificates.{PlainCertificate, extensions_of, optional_fields, raw_certificate, tbs, tbs_extensions, tbs_issuer_unique_id, tbs_subject_unique_id, unique_identifier}
+use Rattle.x509_cert_certificates.specs.Certificates.{PlainCertificate, extensions_of, optional_fields, raw_certificate, tbs, tbs_extensions, tbs_issuer_unique_id, tbs_subject_unique_id}
 use Rattle.cert_desk_c.specs.declared.places.WdSpan.{WdSpan}
 use Rattle.cert_desk_c.specs.Places.{Enters, IsBehindKey, IsFound, IsRest, Passes, StandsAt, behind_key}
 use Rattle.cert_desk_c.specs.Values.{first_extension}
@@ -175,7 +175,7 @@ abbrev last_fields : Body
 last_fields = field (optional (explicit 3 (extensions Bound))) done
 
 abbrev second_fields : Body
-second_fields = field (optional (unique_identifier 2)) last_fields
+second_fields = field (optional (implicit_leaf 2 leaves.bits)) last_fields
 
 last_is : (o : Option (List PlainExtension)) (u : Unit {0}) (es : List PlainExtension) (w from : List ℕ) → o ≡ Some es → from ≡ body_octets last_fields (o, u) ++ w → from ≡ octets_of (explicit 3 (extensions Bound)) es ++ w
 unfolding body_octets octets_of
@@ -228,13 +228,13 @@ module _ (whole ids : List ℕ) (c : PlainCertificate) (s : Spells (raw_certific
   at_second = optional_passed (context false 1) (leaf leaves.bits) second_fields (behind_key (tbs c)) more ids p.second p.first_there p.first_is v_ids behind.1.1 p.second_behind p.second_alone
 
   v_second : IsBody second_fields (behind_key (tbs c)).1
-  v_second = valid_behind (optional (unique_identifier 1)) second_fields (behind_key (tbs c)) v_ids
+  v_second = valid_behind (optional (implicit_leaf 1 leaves.bits)) second_fields (behind_key (tbs c)) v_ids
 
   at_last : p.last ≡ body_octets last_fields (behind_key (tbs c)).1.1 ++ more
   at_last = optional_passed (context false 2) (leaf leaves.bits) last_fields (behind_key (tbs c)).1 more p.second p.last p.second_there p.second_is v_second at_second p.last_behind p.last_alone
 
   v_last : IsValid (explicit 3 (extensions Bound)) es
-  v_last = last_valid (tbs_extensions (tbs c)) tt es some (valid_behind (optional (unique_identifier 2)) last_fields (behind_key (tbs c)).1 v_second)
+  v_last = last_valid (tbs_extensions (tbs c)) tt es some (valid_behind (optional (implicit_leaf 2 leaves.bits)) last_fields (behind_key (tbs c)).1 v_second)
 
   at_list : p.list ≡ octets_of (extensions Bound) es ++ more
   at_list = only_is es more p.list (p.list_in.1 (context true 3) (nested (only (extensions Bound))) es more v_last (last_is (tbs_extensions (tbs c)) tt es more p.last some at_last))

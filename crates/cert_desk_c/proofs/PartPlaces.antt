@@ -17,7 +17,7 @@ use Rattle.der_core_head.proofs.Results.{ok_is}
 use Rattle.der_core_octets.specs.declared.header.Header.{Header}
 use Rattle.der_core_octets.specs.Headers.{head_of}
 use Rattle.x509_cert_names.specs.Names.{name, relative_name}
-use Rattle.x509_cert_parts.specs.Grammar.{algorithm_identifier, algorithm_fields, bit_string, public_key_info, public_key_fields, version, version_field, first_version_octets, serial_number, numbers_within, validity, validity_fields}
+use Rattle.x509_cert_parts.specs.Grammar.{algorithm_identifier, algorithm_fields, bit_string, public_key_info, public_key_fields, version, version_field, serial_number, numbers_within, validity, validity_fields}
 use Rattle.x509_cert_certificates.specs.Certificates.{PlainCertificate, Tbs, raw_certificate, raw_certificate_fields, raw_tbs_certificate, raw_tbs_fields, from_validity, optional_fields, tbs, tbs_serial, issuer, subject, public_key}
 use Rattle.cert_desk_c.specs.Places.{IsRest, Enters, Passes, PassesVersion, numbered_fields, behind_key, IsBehindKey}
 
@@ -149,7 +149,7 @@ pub versioned : (t : Tbs) (w octets : List ℕ) → octets ≡ body_octets (raw_
     → (get_or octets 0 0 ≡ 160 → octets ≡ body_octets (field (explicit 0 version) numbered_fields) t ++ w) × (get_or octets 0 0 ≢ 160 → octets ≡ body_octets numbered_fields t.1 ++ w)
 unfolding body_octets octets_of
 versioned t w octets e =
-    versions (bytes_eq (octets_of (explicit 0 version) t.0) first_version_octets) (octets_of (explicit 0 version) t.0) (body_octets numbered_fields t.1) w octets e (first_of_versioned t w) (first_of_numbered t w)
+    versions (bytes_eq (octets_of (explicit 0 version) t.0) (160 ∷ 3 ∷ 2 ∷ 1 ∷ 0 ∷ [])) (octets_of (explicit 0 version) t.0) (body_octets numbered_fields t.1) w octets e (first_of_versioned t w) (first_of_numbered t w)
 
 pub valid_versioned : (t : Tbs) → IsBody (raw_tbs_fields Bound) t → IsBody (field (explicit 0 version) numbered_fields) t
 unfolding IsBody IsValid

@@ -4,6 +4,7 @@ use Rattle.der_core_head.specs.declared.error.ErrorKind.{ErrorKind}
 use Rattle.der_core_head.specs.declared.error.ErrorKind.TheVariants as kinds
 use Rattle.cert_desk_io.specs.declared.exit_status.ExitStatus.TheVariants as statuses
 use Rattle.cert_desk_io.specs.Statuses.{code_of}
+use Rattle.cert_desk_c.specs.declared.faults.WdFault.{WdFault}
 
 abbrev pub fault_number : ErrorKind → ℕ
 fault_number kinds.DateTime = 1
@@ -30,8 +31,9 @@ fault_number kinds.TrailingData = 21
 fault_number kinds.Utf8 = 22
 fault_number (kinds.Value tag) = 23
 
--- A fault of this kind is told by its number and a status; want of memory by a status alone.
-abbrev pub IsTold : ErrorKind → ℕ → ℕ → Type 0
-IsTold kind told status = ((kind ≡ kinds.OutOfMemory) × (status ≡ code_of statuses.Memory))
+-- An error of this kind is reported by its number and a status, out of memory by a status alone.
+abbrev pub IsTold : ErrorKind → WdFault → WdFault → ℕ → Type 0
+IsTold kind old new status =
+    ((kind ≡ kinds.OutOfMemory) × (status ≡ code_of statuses.Memory) × (new ≡ old))
     ⊎ ((kind ≢ kinds.OutOfMemory) × (status ≡ code_of statuses.Faulty)
-    × (told ≡ fault_number kind))
+    × (new.kind ≡ fault_number kind))

@@ -1,4 +1,4 @@
--- What a judged chain's octets are, by the octets of anchors and of answers.
+-- What the calls that judge a chain report, and when.
 use Rattle.std.specs.Prelude.{◌≡◌, ℕ, ◌≤◌, ◌<◌, ◌^◌, List, [], length, ⊤}
 use Rattle.const_oid.specs.Bound.{Bound}
 use Rattle.x509_cert_certificates.specs.Certificates.{PlainCertificate}
@@ -16,22 +16,26 @@ use Rattle.cert_desk_rules.specs.Verdicts.{Faulty, Refused, Trusted}
 use Rattle.cert_desk_checking.specs.AnchorFiles.{IsAnchorFile}
 use Rattle.cert_desk_checking.specs.QuestionLines.{chain_lines, lines_octets}
 use Rattle.cert_desk_answers.specs.Judged.{UnderGiven}
+use Rattle.cert_desk_c.specs.declared.numbers.WdPlace.{WdPlace}
 
--- The purpose is the octets of an identifier (X.690 8.19), too.
+-- The purpose is the encoding of an identifier (X.690 8.19), the other bytes are anchors and
+-- answers, and `Says` holds under the terms that these give.
 abbrev pub UnderTerms : List ℕ → List ℕ → ℕ → List ℕ → (Terms → Type 0) → Type 0
 UnderTerms anchors answers moment purpose Says =
     (arcs : List ℕ) × SpellsIdentifier purpose arcs × UnderGiven anchors answers moment arcs Says
 
--- how many octets a certificate may have, and the anchors
+-- The limit on the length of a certificate is 6 or more, and the anchors are shorter than 2^32
+-- bytes.
 abbrev pub AreWithin : ℕ → List ℕ → Type 0
 AreWithin limit anchors = (6 ≤ limit) × (length anchors < 2 ^ 32)
 
 module _ (answers anchors chain : List ℕ) (moment : ℕ) (purpose : List ℕ) (limit : ℕ) where
-  -- The arguments are right, and it is so under their terms.
+  -- The arguments are right, and `Says` holds under their terms.
   abbrev pub UnderArguments : (Terms → Type 0) → Type 0
   UnderArguments Says = AreWithin limit anchors × UnderTerms anchors answers moment purpose Says
 
-  -- Of a call that judges: the chain is trusted, refused, faulty, empty; the arguments are faulty.
+  -- The status of a call that judges: the chain is trusted, refused, faulty, empty; the arguments
+  -- are faulty.
   abbrev pub IsVerdictStatus : ExitStatus → Type 0
   IsVerdictStatus statuses.Done = UnderArguments (λ t. Trusted t limit chain)
   IsVerdictStatus statuses.Refused =
@@ -43,16 +47,18 @@ module _ (answers anchors chain : List ℕ) (moment : ℕ) (purpose : List ℕ) 
   IsVerdictStatus statuses.Arguments = UnderArguments (λ t. ⊤) → ⊥
   IsVerdictStatus _ = ⊥
 
--- what is told of a verdict: a place, an offset, and the number of a rule or of a kind of fault
-abbrev pub Tells : Verdict → ℕ → ℕ → ℕ → Type 0
-Tells verdicts.Trusted place offset told = Unit {0}
-Tells (verdicts.Refused at rule) place offset told = (place ≡ at) × (told ≡ number rule)
-Tells (verdicts.StreamFault at from kind) place offset told =
-    (place ≡ at) × (offset ≡ from) × (told ≡ rank kind)
-Tells verdicts.Empty place offset told = Unit {0}
+-- What a verdict writes: the index of the certificate, the number of the rule or of the kind of
+-- fault, and where a faulty certificate begins.
+abbrev pub Tells : Verdict → WdPlace → WdPlace → Type 0
+Tells verdicts.Trusted old new = new ≡ old
+Tells (verdicts.Refused at rule) old new =
+    (new.place ≡ at) × (new.offset ≡ old.offset) × (new.number ≡ number rule)
+Tells (verdicts.StreamFault at from kind) old new =
+    (new.place ≡ at) × (new.offset ≡ from) × (new.number ≡ rank kind)
+Tells verdicts.Empty old new = new ≡ old
 
--- The octets of anchors and of a chain are such, and the text has a line for each question that the
--- chain's signatures may ask, in turn.
+-- The bytes are anchors and a chain, and the text has a line for each question that the chain's
+-- signatures may ask, in order.
 abbrev pub AreQuestions : List ℕ → List ℕ → ℕ → List ℕ → Type 0
 AreQuestions anchors chain limit text =
     AreWithin limit anchors
@@ -60,14 +66,14 @@ AreQuestions anchors chain limit text =
     × IsAnchorFile anchors given × Chain Bound limit cs chain × (0 < length cs)
     × (text ≡ lines_octets (chain_lines given cs (joined Bound cs))))
 
--- The octets join no certificates; or there are none.
+-- Why there is no chain: the bytes are no series of certificates, or there are none.
 abbrev pub IsNoChain : ℕ → List ℕ → ExitStatus → Type 0
 IsNoChain limit octets statuses.Faulty =
     (cs : List PlainCertificate) → Chain Bound limit cs octets → ⊥
 IsNoChain limit octets statuses.Empty = octets ≡ []
 IsNoChain limit octets _ = ⊥
 
--- the octets are anchors
+-- The bytes are anchors.
 abbrev pub AreAnchors : ℕ → List ℕ → Type 0
 AreAnchors limit anchors =
     AreWithin limit anchors × ((given : List PlainAnchor) × IsAnchorFile anchors given)

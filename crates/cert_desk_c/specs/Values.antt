@@ -1,4 +1,4 @@
--- What octets spell, and what is said of it.
+-- What bytes are the encoding of, and what the calls report about it.
 use Rattle.std.specs.Prelude.{◌≡◌, ℕ, ◌⊎◌, List, [], ◌∷◌, if◌then◌else◌, Option, Some, None, Ok}
 use Rattle.std.specs.Prelude.{Err, IsNone, IsSome, IsUtf8, false}
 use Rattle.const_oid.specs.Bound.{Bound}
@@ -19,10 +19,11 @@ use Rattle.x509_cert_certificates.specs.Certificates.{extensions_of, issuer, sub
 use Rattle.x509_cert_lists.specs.ListGrammar.{cert_req}
 use Rattle.cert_desk_io.specs.declared.exit_status.ExitStatus.{ExitStatus}
 use Rattle.cert_desk_io.specs.declared.exit_status.ExitStatus.TheVariants as statuses
-use Rattle.cert_desk_buffers.specs.Identifiers.{IsNoIdentifier, SpellsIdentifier}
+use Rattle.cert_desk_buffers.specs.Identifiers.{IsNoIdentifier, IsSomeIdentifier}
+use Rattle.cert_desk_buffers.specs.Identifiers.{SpellsIdentifier}
 use Rattle.cert_desk_listing.specs.Parts.{PlainList, PlainRequest, raw_certificate_list}
 
--- the octets spell no certificate, no revocation list, no request, no name
+-- The bytes are the encoding of no certificate, no CRL, no CSR, no name.
 abbrev pub IsNoCertificate : List ℕ → Type 0
 IsNoCertificate octets = (c : PlainCertificate) → Spells (raw_certificate Bound) c octets → ⊥
 
@@ -35,50 +36,51 @@ IsNoRequest octets = (r : PlainRequest) → Spells (cert_req Bound) r octets →
 abbrev pub IsNoName : List ℕ → Type 0
 IsNoName octets = (n : PlainName) → Spells (name Bound) n octets → ⊥
 
--- The octets spell a certificate of which this is so.
+-- The bytes are the encoding of a certificate for which `Is` holds.
 abbrev pub IsOfCertificate : List ℕ → (PlainCertificate → Type 0) → Type 0
 IsOfCertificate octets Is =
     (c : PlainCertificate) × Spells (raw_certificate Bound) c octets × Is c
 
--- The octets spell a certificate, and this is the text of its subject's name, of its issuer's.
+-- The bytes are the encoding of a certificate, and the text is that of its subject's name, or of
+-- its issuer's.
 abbrev pub IsSubjectText : List ℕ → List ℕ → Type 0
 IsSubjectText octets text = IsOfCertificate octets (λ c. text ≡ name_text (subject c))
 
 abbrev pub IsIssuerText : List ℕ → List ℕ → Type 0
 IsIssuerText octets text = IsOfCertificate octets (λ c. text ≡ name_text (issuer c))
 
--- the first extension of an identifier
+-- The first extension with this identifier.
 abbrev pub first_extension : List ℕ → List PlainExtension → Option PlainExtension
 first_extension arcs [] = None
 first_extension arcs (e ∷ left) = if owned_eq (extension_arcs e) arcs then Some e
     else first_extension arcs left
 
--- The octets spell a name whose text this is (RFC 4514 2).
+-- The bytes are the encoding of a name, and this is its text (RFC 4514 2).
 abbrev pub IsNameText : List ℕ → List ℕ → Type 0
 IsNameText octets text = (n : PlainName) × Spells (name Bound) n octets × (text ≡ name_text n)
 
--- what a writer has that wrote these octets into a room without bound
+-- The state of a writer without a bound that has written these bytes.
 abbrev pub written_octets : List ℕ → Out
 written_octets octets = record { written = octets; room = None; failed = false }
 
--- The text is UTF-8, and spells a name (RFC 4514 3) of which these octets are written.
+-- The text is UTF-8 and reads as a name (RFC 4514 3), whose encoding is these bytes.
 abbrev pub IsEncodedName : List ℕ → List ℕ → Type 0
 IsEncodedName text octets =
     IsUtf8 text × ((n : PlainName) × SpellsName Bound text n
     × (write (name Bound) n (written_octets []) ≡ Ok (written_octets octets)))
 
--- The text isn't UTF-8, or spells no name that has an encoding.
+-- The text isn't UTF-8, or doesn't read as a name that has an encoding.
 abbrev pub IsNoNameText : List ℕ → Type 0
 IsNoNameText text = (IsUtf8 text → ⊥)
     ⊎ ((kind : ErrorKind)
     × ReadsEncoding (name Bound) (plain_list relative_plain) (ReadsName Bound text) (Err kind))
 
--- The octets spell an identifier whose dotted text this is.
+-- The bytes are the encoding of an identifier, and this is its dotted text.
 abbrev pub IsDottedTextOf : List ℕ → List ℕ → Type 0
 IsDottedTextOf octets text =
     (arcs : List ℕ) × SpellsIdentifier octets arcs × (text ≡ dotted arcs)
 
--- The text is UTF-8, and the dotted text of an identifier that these octets spell.
+-- The text is UTF-8 and the dotted text of an identifier, whose encoding is these bytes.
 abbrev pub IsIdentifierOf : List ℕ → List ℕ → Type 0
 IsIdentifierOf text octets =
     IsUtf8 text × ((arcs : List ℕ) × IsDottedText arcs text × SpellsIdentifier octets arcs)
@@ -86,19 +88,19 @@ IsIdentifierOf text octets =
 abbrev pub IsNoDottedText : List ℕ → Type 0
 IsNoDottedText text = (octets : List ℕ) → IsIdentifierOf text octets → ⊥
 
--- The octets spell a certificate and an identifier, and it is so of the first extension that the
--- certificate has of the identifier, if it has one.
+-- The bytes are the encodings of a certificate and of an identifier, and `Is` holds for the
+-- certificate's first extension with that identifier, or for `None` where it has none.
 abbrev pub IsOfExtension : List ℕ → List ℕ → (Option PlainExtension → Type 0) → Type 0
 IsOfExtension octets identifier Is =
     (arcs : List ℕ) × SpellsIdentifier identifier arcs
     × IsOfCertificate octets (λ c. Is (first_extension arcs (extensions_of c)))
 
--- Of a call that looks for the extension: there is one; no certificate; no such extension; no
--- identifier.
+-- The status of a call that looks for the extension: there is one; the bytes are no certificate;
+-- the certificate has no such extension; the identifier is none.
 abbrev pub IsExtensionStatus : List ℕ → List ℕ → ExitStatus → Type 0
 IsExtensionStatus octets identifier statuses.Done = IsOfExtension octets identifier IsSome
 IsExtensionStatus octets identifier statuses.Faulty =
-    ((arcs : List ℕ) × SpellsIdentifier identifier arcs) × IsNoCertificate octets
+    IsSomeIdentifier identifier × IsNoCertificate octets
 IsExtensionStatus octets identifier statuses.Empty = IsOfExtension octets identifier IsNone
 IsExtensionStatus octets identifier statuses.Arguments = IsNoIdentifier identifier
 IsExtensionStatus octets identifier _ = ⊥

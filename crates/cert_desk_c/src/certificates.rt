@@ -8,7 +8,7 @@ ghost use Rattle.cert_desk_io.specs.declared.exit_status.ExitStatus.TheVariants.
 ghost use Rattle.cert_desk_io.specs.Statuses.{code_of};
 ghost use Rattle.cert_desk_buffers.specs.Returned.{IsExactWithMemory, IsFaultyStatus};
 ghost use Rattle.cert_desk_buffers.specs.Returned.{IsTextStatus, IsValueStatus};
-ghost use Rattle.cert_desk_buffers.specs.Rooms.{ChangesFront, Wants};
+ghost use Rattle.cert_desk_buffers.specs.Rooms.{ChangesFront, IsUnsized, Wants};
 ghost use Rattle.cert_tool_describe.specs.Files.{IsCertificate};
 ghost use Rattle.cert_desk_c.specs.Places.{ArePlaced};
 ghost use Rattle.cert_desk_c.specs.Values.{IsIssuerText, IsNoCertificate, IsOfCertificate};
@@ -32,8 +32,8 @@ pub struct WdValidity {
     pub not_after: u64,
 }
 
-/// The text of the subject's name (RFC 4514): 0 where it stands in `out`, 2 where the octets are no
-/// certificate, 5 where the buffer is too small, 6 out of memory.
+/// Writes the text of the subject's name (RFC 4514) to `out`. Returns 0, 2 if the bytes are no
+/// certificate, 5 if the buffer is too small, or 6 if an allocation fails.
 #[unsafe(no_mangle)]
 pub extern "C" fn wd_subject(alloc: Global, octets: &[u8], out: &mut [u8], size: &mut usize) -> u32
     ensures statuses { IsExactWithMemory (IsTextStatus (IsSubjectText octets.now)
@@ -44,6 +44,7 @@ pub extern "C" fn wd_subject(alloc: Global, octets: &[u8], out: &mut [u8], size:
     ensures not_spelled { result ≡ code_of Faulty → IsNoCertificate octets.now }
     ensures front { result ≡ code_of Done → ChangesFront size.new out.old out.new }
     ensures untouched { result ≢ code_of Done → out.new ≡ out.old }
+    ensures no_size { IsUnsized result size.new }
 {
     *size = 0;
     let certificate = match certificate_of(alloc, octets) {
@@ -56,8 +57,8 @@ pub extern "C" fn wd_subject(alloc: Global, octets: &[u8], out: &mut [u8], size:
     give(text.as_bytes(), out, size)
 }
 
-/// The text of the issuer's name (RFC 4514): 0 where it stands in `out`, 2 where the octets are no
-/// certificate, 5 where the buffer is too small, 6 out of memory.
+/// Writes the text of the issuer's name (RFC 4514) to `out`. Returns 0, 2 if the bytes are no
+/// certificate, 5 if the buffer is too small, or 6 if an allocation fails.
 #[unsafe(no_mangle)]
 pub extern "C" fn wd_issuer(alloc: Global, octets: &[u8], out: &mut [u8], size: &mut usize) -> u32
     ensures statuses { IsExactWithMemory (IsTextStatus (IsIssuerText octets.now)
@@ -68,6 +69,7 @@ pub extern "C" fn wd_issuer(alloc: Global, octets: &[u8], out: &mut [u8], size: 
     ensures not_spelled { result ≡ code_of Faulty → IsNoCertificate octets.now }
     ensures front { result ≡ code_of Done → ChangesFront size.new out.old out.new }
     ensures untouched { result ≢ code_of Done → out.new ≡ out.old }
+    ensures no_size { IsUnsized result size.new }
 {
     *size = 0;
     let certificate = match certificate_of(alloc, octets) {
@@ -80,7 +82,7 @@ pub extern "C" fn wd_issuer(alloc: Global, octets: &[u8], out: &mut [u8], size: 
     give(text.as_bytes(), out, size)
 }
 
-// Tells the dates of a certificate.
+// Writes the dates of a certificate.
 fn tell_validity(certificate: &CertificateInner<Raw>, dates: &mut WdValidity)
     ensures not_before { dates.new.not_before
         ≡ unix_seconds (not_before (certificate_plain certificate.now)) }
@@ -92,8 +94,8 @@ fn tell_validity(certificate: &CertificateInner<Raw>, dates: &mut WdValidity)
     dates.not_after = validity.not_after.to_date_time().unix_seconds();
 }
 
-/// The dates of the validity: 0 where they are told, 2 where the octets are no certificate, 6 out
-/// of memory.
+/// Writes the dates of the validity. Returns 0, 2 if the bytes are no certificate, or 6 if an
+/// allocation fails.
 #[unsafe(no_mangle)]
 pub extern "C" fn wd_dates(alloc: Global, octets: &[u8], dates: &mut WdValidity) -> u32
     ensures statuses { IsExactWithMemory (IsValueStatus (IsCertificate octets.now)
@@ -112,8 +114,8 @@ pub extern "C" fn wd_dates(alloc: Global, octets: &[u8], dates: &mut WdValidity)
     code(ExitStatus::Done)
 }
 
-/// Where parts of a certificate stand in its octets: 0 where they are told, 2 where the octets are
-/// no certificate, 6 out of memory.
+/// Writes where parts of a certificate are in its bytes. Returns 0, 2 if the bytes are no
+/// certificate, or 6 if an allocation fails.
 #[unsafe(no_mangle)]
 pub extern "C" fn wd_parts(alloc: Global, octets: &[u8], spans: &mut WdSpans) -> u32
     ensures statuses { IsExactWithMemory (IsValueStatus (IsCertificate octets.now)

@@ -6,7 +6,7 @@ ghost use Rattle.cert_desk_io.specs.declared.exit_status.ExitStatus.TheVariants.
 ghost use Rattle.cert_desk_io.specs.Statuses.{code_of};
 ghost use Rattle.cert_desk_buffers.specs.Returned.{IsExactWithMemory, IsFaultyStatus};
 ghost use Rattle.cert_desk_buffers.specs.Returned.{IsTextStatus};
-ghost use Rattle.cert_desk_buffers.specs.Rooms.{ChangesFront};
+ghost use Rattle.cert_desk_buffers.specs.Rooms.{ChangesFront, IsUnsized};
 ghost use Rattle.cert_tool_describe.specs.Files.{IsCertificate, IsList, IsRequest};
 ghost use Rattle.cert_desk_c.specs.Values.{IsNoCertificate, IsNoList, IsNoRequest};
 
@@ -17,7 +17,7 @@ use cert_tool_lines::Lines;
 use der_core::ErrorKind;
 use std::alloc::Global;
 
-// Writes a description, unless octets have a fault.
+// Writes a description, unless the bytes couldn't be decoded.
 fn give_lines(lines: Lines, fault: Option<ErrorKind>, out: &mut [u8], size: &mut usize) -> u32
     ensures given { fault ≡ None → IsExactWithMemory (IsTextStatus
         (λ text. size.new ≡ length text) (λ _. ⊥) out.old) result }
@@ -26,6 +26,7 @@ fn give_lines(lines: Lines, fault: Option<ErrorKind>, out: &mut [u8], size: &mut
     ensures no_room { result ≡ code_of Device → length out.old < size.new }
     ensures front { result ≡ code_of Done → ChangesFront size.new out.old out.new }
     ensures untouched { result ≢ code_of Done → out.new ≡ out.old }
+    ensures no_size { IsUnsized result size.new }
 {
     *size = 0;
     match fault {
@@ -39,9 +40,9 @@ fn give_lines(lines: Lines, fault: Option<ErrorKind>, out: &mut [u8], size: &mut
     give(text.as_slice(), out, size)
 }
 
-/// The description of a certificate, as `cert_tool describe certificate` writes it, as lines or as
-/// JSON: 0 where it stands in `out`, 2 where the octets are no certificate, 5 where the buffer is
-/// too small, 6 out of memory.
+/// Writes the description of a certificate to `out`, as `cert_tool describe certificate` prints it,
+/// as lines or as JSON. Returns 0, 2 if the bytes are no certificate, 5 if the buffer is too small,
+/// or 6 if an allocation fails.
 #[unsafe(no_mangle)]
 pub extern "C" fn wd_describe_certificate(
     alloc: Global,
@@ -56,14 +57,15 @@ pub extern "C" fn wd_describe_certificate(
     ensures no_room { result ≡ code_of Device → length out.old < size.new }
     ensures front { result ≡ code_of Done → ChangesFront size.new out.old out.new }
     ensures untouched { result ≢ code_of Done → out.new ≡ out.old }
+    ensures no_size { IsUnsized result size.new }
 {
     let mut lines = Lines::new(alloc, json);
     let fault = add_certificate(&mut lines, octets);
     give_lines(lines, fault, out, size)
 }
 
-/// The description of a CRL, as lines or as JSON: 0 where it stands in `out`, 2 where the octets
-/// are no CRL, 5 where the buffer is too small, 6 out of memory.
+/// Writes the description of a CRL to `out`, as lines or as JSON. Returns 0, 2 if the bytes are no
+/// CRL, 5 if the buffer is too small, or 6 if an allocation fails.
 #[unsafe(no_mangle)]
 pub extern "C" fn wd_describe_list(
     alloc: Global,
@@ -78,14 +80,15 @@ pub extern "C" fn wd_describe_list(
     ensures no_room { result ≡ code_of Device → length out.old < size.new }
     ensures front { result ≡ code_of Done → ChangesFront size.new out.old out.new }
     ensures untouched { result ≢ code_of Done → out.new ≡ out.old }
+    ensures no_size { IsUnsized result size.new }
 {
     let mut lines = Lines::new(alloc, json);
     let fault = add_list(&mut lines, octets);
     give_lines(lines, fault, out, size)
 }
 
-/// The description of a CSR, as lines or as JSON: 0 where it stands in `out`, 2 where the octets
-/// are no CSR, 5 where the buffer is too small, 6 out of memory.
+/// Writes the description of a CSR to `out`, as lines or as JSON. Returns 0, 2 if the bytes are no
+/// CSR, 5 if the buffer is too small, or 6 if an allocation fails.
 #[unsafe(no_mangle)]
 pub extern "C" fn wd_describe_request(
     alloc: Global,
@@ -100,6 +103,7 @@ pub extern "C" fn wd_describe_request(
     ensures no_room { result ≡ code_of Device → length out.old < size.new }
     ensures front { result ≡ code_of Done → ChangesFront size.new out.old out.new }
     ensures untouched { result ≢ code_of Done → out.new ≡ out.old }
+    ensures no_size { IsUnsized result size.new }
 {
     let mut lines = Lines::new(alloc, json);
     let fault = add_request(&mut lines, octets);

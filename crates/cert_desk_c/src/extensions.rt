@@ -8,9 +8,9 @@ ghost use Rattle.x509_cert_parts.specs.Views.{extensions_plain};
 ghost use Rattle.x509_cert_certificates.specs.Certificates.{extensions_of, raw_certificate};
 ghost use Rattle.x509_cert_certificates.specs.Views.{certificate_plain};
 ghost use Rattle.cert_desk_io.specs.declared.exit_status.ExitStatus.TheVariants.{Done, Empty};
-ghost use Rattle.cert_desk_io.specs.declared.exit_status.ExitStatus.TheVariants.{Faulty};
+ghost use Rattle.cert_desk_io.specs.declared.exit_status.ExitStatus.TheVariants.{Faulty, Memory};
 ghost use Rattle.cert_desk_io.specs.Statuses.{code_of};
-ghost use Rattle.cert_desk_buffers.specs.Identifiers.{SpellsIdentifier};
+ghost use Rattle.cert_desk_buffers.specs.Identifiers.{IsSomeIdentifier, SpellsIdentifier};
 ghost use Rattle.cert_desk_buffers.specs.Returned.{IsExactWithMemory};
 ghost use Rattle.cert_desk_c.specs.Places.{IsFound, IsRest, StandsAt};
 ghost use Rattle.cert_desk_c.specs.Values.{IsExtensionStatus, IsNoCertificate, IsOfCertificate};
@@ -87,10 +87,10 @@ fn extension_of(
     extension_in(octets, identifier, extensions.as_slice(), rest)
 }
 
-/// Where the content stands, in a certificate's octets, of its first extension of an identifier,
-/// whose content octets are given, and whether it is critical: 0 where that is told, 2 where the
-/// octets are no certificate, 3 where it has no such extension, 4 where the identifier is none of
-/// up to 39 octets, 6 out of memory.
+/// Writes where the content of a certificate's first extension with an identifier is in the
+/// certificate's bytes, and whether it is critical. The identifier is given as its content bytes.
+/// Returns 0, 2 if the bytes are no certificate, 3 if it has no such extension, 4 if the identifier
+/// is none of up to 39 bytes, or 6 if an allocation fails.
 #[unsafe(no_mangle)]
 pub extern "C" fn wd_extension(
     alloc: Global,
@@ -108,6 +108,7 @@ pub extern "C" fn wd_extension(
     ensures absent { result ≡ code_of Empty → (arcs : List ℕ) × SpellsIdentifier identifier.now arcs
         × IsOfCertificate octets.now (λ c. first_extension arcs (extensions_of c) ≡ None) }
     ensures not_spelled { result ≡ code_of Faulty → IsNoCertificate octets.now }
+    ensures no_memory { result ≡ code_of Memory → IsSomeIdentifier identifier.now }
     ensures untouched { result ≢ code_of Done
         → (span.new ≡ span.old) × (critical.new ≡ critical.old) }
 {

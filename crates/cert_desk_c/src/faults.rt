@@ -1,5 +1,5 @@
-//! Whether octets are the encoding of a value, and the first fault where they aren't.
-ghost use Rattle.std.specs.Prelude.{◌≡◌, ◌⊎◌, Err};
+//! Whether bytes are the encoding of a value, and the first error if they aren't.
+ghost use Rattle.std.specs.Prelude.{◌≡◌, ◌≢◌, ◌⊎◌, Err};
 ghost use Rattle.const_oid.specs.Bound.{Bound};
 ghost use Rattle.der_core_head.specs.declared.error.ErrorKind.{ErrorKind};
 ghost use Rattle.der_core_head.specs.Grammar.{read_whole};
@@ -23,16 +23,16 @@ use x509_cert_certificates::CertificateInner;
 use x509_cert_lists::CertReq;
 use x509_cert_parts::Raw;
 
-/// The first error met in reading octets.
+/// The first error that decoding meets.
 #[repr(C)]
 pub struct WdFault {
     /// The number of its kind.
     pub kind: u32,
-    /// The octet at which it was found, or 2^64 - 1 where that isn't known.
+    /// The index of the byte at which it was found, or 2^64 - 1 if that isn't known.
     pub octet: u64,
 }
 
-// The number of a kind of fault.
+// Returns the number of a kind of error.
 fn fault_number(kind: ErrorKind) -> u32
     ensures { result ≡ fault_number kind }
 {
@@ -63,9 +63,9 @@ fn fault_number(kind: ErrorKind) -> u32
     }
 }
 
-// Tells a fault, and the status.
+// Writes an error, unless it is out of memory, and returns the status.
 fn tell(error: Error, fault: &mut WdFault) -> u32
-    ensures { IsTold error.kind fault.new.kind result }
+    ensures { IsTold error.kind fault.old fault.new result }
 {
     if is_want_of_memory(&error) {
         return code(ExitStatus::Memory);
@@ -78,8 +78,8 @@ fn tell(error: Error, fault: &mut WdFault) -> u32
     code(ExitStatus::Faulty)
 }
 
-/// Whether octets, all of them, are a certificate (RFC 5280 4.1): 0 where they are, 2 where they
-/// aren't, whose first fault is told then, 6 out of memory.
+/// Checks whether all the bytes are the encoding of a certificate (RFC 5280 4.1). Returns 0 if they
+/// are, 2 with the first error if they aren't, or 6 if an allocation fails.
 #[unsafe(no_mangle)]
 pub extern "C" fn wd_is_certificate(alloc: Global, octets: &[u8], fault: &mut WdFault) -> u32
     ensures spelled { result ≡ code_of Done
@@ -90,6 +90,7 @@ pub extern "C" fn wd_is_certificate(alloc: Global, octets: &[u8], fault: &mut Wd
         × (read_whole (raw_certificate Bound) octets.now ≡ Err kind) }
     ensures statuses { (result ≡ code_of Done) ⊎ ((result ≡ code_of Faulty)
         ⊎ (result ≡ code_of Memory)) }
+    ensures untouched { result ≢ code_of Faulty → fault.new ≡ fault.old }
 {
     let _certificate = match CertificateInner::<Raw>::from_der(alloc, octets) {
         Ok(certificate) => certificate,
@@ -98,8 +99,8 @@ pub extern "C" fn wd_is_certificate(alloc: Global, octets: &[u8], fault: &mut Wd
     code(ExitStatus::Done)
 }
 
-/// Whether octets, all of them, are a CRL (RFC 5280 5.1): 0 where they are, 2 where they aren't,
-/// whose first fault is told then, 6 out of memory.
+/// Checks whether all the bytes are the encoding of a CRL (RFC 5280 5.1). Returns 0 if they are, 2
+/// with the first error if they aren't, or 6 if an allocation fails.
 #[unsafe(no_mangle)]
 pub extern "C" fn wd_is_list(alloc: Global, octets: &[u8], fault: &mut WdFault) -> u32
     ensures spelled { result ≡ code_of Done
@@ -110,6 +111,7 @@ pub extern "C" fn wd_is_list(alloc: Global, octets: &[u8], fault: &mut WdFault) 
         × (read_whole (raw_certificate_list Bound) octets.now ≡ Err kind) }
     ensures statuses { (result ≡ code_of Done) ⊎ ((result ≡ code_of Faulty)
         ⊎ (result ≡ code_of Memory)) }
+    ensures untouched { result ≢ code_of Faulty → fault.new ≡ fault.old }
 {
     let _list = match read_list(alloc, octets) {
         Ok(list) => list,
@@ -118,8 +120,8 @@ pub extern "C" fn wd_is_list(alloc: Global, octets: &[u8], fault: &mut WdFault) 
     code(ExitStatus::Done)
 }
 
-/// Whether octets, all of them, are a CSR (RFC 2986 4.2): 0 where they are, 2 where they aren't,
-/// whose first fault is told then, 6 out of memory.
+/// Checks whether all the bytes are the encoding of a CSR (RFC 2986 4.2). Returns 0 if they are, 2
+/// with the first error if they aren't, or 6 if an allocation fails.
 #[unsafe(no_mangle)]
 pub extern "C" fn wd_is_request(alloc: Global, octets: &[u8], fault: &mut WdFault) -> u32
     ensures spelled { result ≡ code_of Done
@@ -130,6 +132,7 @@ pub extern "C" fn wd_is_request(alloc: Global, octets: &[u8], fault: &mut WdFaul
         × (read_whole (cert_req Bound) octets.now ≡ Err kind) }
     ensures statuses { (result ≡ code_of Done) ⊎ ((result ≡ code_of Faulty)
         ⊎ (result ≡ code_of Memory)) }
+    ensures untouched { result ≢ code_of Faulty → fault.new ≡ fault.old }
 {
     let _request = match CertReq::try_from_bytes(alloc, octets) {
         Ok(request) => request,

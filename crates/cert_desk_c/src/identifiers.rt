@@ -6,12 +6,12 @@ ghost use Rattle.const_oid.specs.DottedText.{dotted};
 ghost use Rattle.const_oid.specs.IdentifierOctets.{IsIdentifier, identifier_octets};
 ghost use Rattle.const_oid.specs.TextFaults.{IsDottedText};
 ghost use Rattle.cert_desk_io.specs.declared.exit_status.ExitStatus.TheVariants.{Device, Done};
-ghost use Rattle.cert_desk_io.specs.declared.exit_status.ExitStatus.TheVariants.{Faulty};
+ghost use Rattle.cert_desk_io.specs.declared.exit_status.ExitStatus.TheVariants.{Faulty, Memory};
 ghost use Rattle.cert_desk_io.specs.Statuses.{code_of};
-ghost use Rattle.cert_desk_buffers.specs.Identifiers.{IsNoIdentifier};
+ghost use Rattle.cert_desk_buffers.specs.Identifiers.{IsNoIdentifier, IsSomeIdentifier};
 ghost use Rattle.cert_desk_buffers.specs.Returned.{IsExact, IsExactWithMemory, IsFaultyStatus};
 ghost use Rattle.cert_desk_buffers.specs.Returned.{IsTextStatus};
-ghost use Rattle.cert_desk_buffers.specs.Rooms.{ChangesFront, Wants};
+ghost use Rattle.cert_desk_buffers.specs.Rooms.{ChangesFront, IsUnsized, Wants};
 ghost use Rattle.cert_desk_c.specs.Values.{IsDottedTextOf, IsIdentifierOf, IsNoDottedText};
 
 use cert_desk_buffers::{code, give};
@@ -19,16 +19,16 @@ use cert_desk_io::ExitStatus;
 use const_oid::ObjectIdentifier;
 use std::alloc::{AllocError, Global};
 
-// The dotted text of an identifier.
+// Returns the dotted text of an identifier.
 fn text_of(alloc: Global, identifier: &ObjectIdentifier<39>) -> Result<String, AllocError>
     ensures { IfOk result (λ text. string_bytes text ≡ dotted identifier.now) }
 {
     format!(in alloc; "{identifier}")
 }
 
-/// The dotted text of an identifier, as `1.2.840.113549`, whose content octets (X.690 8.19) these
-/// are: 0 where it stands in `out`, 2 where they are none of up to 39 octets, 5 where the buffer is
-/// too small, 6 out of memory.
+/// Writes the dotted text of an identifier, such as `1.2.840.113549`, to `out`. The identifier is
+/// given as its content bytes (X.690 8.19). Returns 0, 2 if they are no identifier of up to 39
+/// bytes, 5 if the buffer is too small, or 6 if an allocation fails.
 #[unsafe(no_mangle)]
 pub extern "C" fn wd_identifier_text(
     alloc: Global,
@@ -42,8 +42,10 @@ pub extern "C" fn wd_identifier_text(
     ensures no_room { result ≡ code_of Device
         → Wants (IsDottedTextOf octets.now) out.old size.new }
     ensures not_spelled { result ≡ code_of Faulty → IsNoIdentifier octets.now }
+    ensures no_memory { result ≡ code_of Memory → IsSomeIdentifier octets.now }
     ensures front { result ≡ code_of Done → ChangesFront size.new out.old out.new }
     ensures untouched { result ≢ code_of Done → out.new ≡ out.old }
+    ensures no_size { IsUnsized result size.new }
 {
     *size = 0;
     let Ok(identifier) = ObjectIdentifier::<39>::from_bytes(octets) else {
@@ -55,7 +57,7 @@ pub extern "C" fn wd_identifier_text(
     give(text.as_bytes(), out, size)
 }
 
-// The identifier that a dotted text spells, if it spells one.
+// Parses the dotted text of an identifier.
 fn identifier_of(text: &[u8]) -> Result<ObjectIdentifier<39>, ExitStatus>
     ensures read { IfOk result (λ arcs. IsIdentifierOf text.now (identifier_octets arcs)) }
     ensures status { IfErr result (λ status. status ≡ Faulty) }
@@ -71,8 +73,8 @@ fn identifier_of(text: &[u8]) -> Result<ObjectIdentifier<39>, ExitStatus>
     }
 }
 
-/// The content octets of the identifier that a dotted text names: 0 where they stand in `out`, 2
-/// where the text is none of up to 39 octets, 5 where the buffer is too small.
+/// Writes the content bytes of the identifier with a dotted text to `out`. Returns 0, 2 if the text
+/// is that of no identifier of up to 39 bytes, or 5 if the buffer is too small.
 #[unsafe(no_mangle)]
 pub extern "C" fn wd_identifier_of_text(text: &[u8], out: &mut [u8], size: &mut usize) -> u32
     ensures statuses { IsExact (IsTextStatus (IsIdentifierOf text.now)
@@ -83,6 +85,7 @@ pub extern "C" fn wd_identifier_of_text(text: &[u8], out: &mut [u8], size: &mut 
     ensures not_spelled { result ≡ code_of Faulty → IsNoDottedText text.now }
     ensures front { result ≡ code_of Done → ChangesFront size.new out.old out.new }
     ensures untouched { result ≢ code_of Done → out.new ≡ out.old }
+    ensures no_size { IsUnsized result size.new }
 {
     *size = 0;
     let identifier = match identifier_of(text) {

@@ -1,11 +1,12 @@
-//! Chains, judged.
-ghost use Rattle.std.specs.Prelude.{◌≡◌, ◌≤◌, ◌<◌, ◌^◌, ◌⊎◌, ℕ, List, [], length, Ok};
+//! Verdicts on certificate chains.
+ghost use Rattle.std.specs.Prelude.{◌≡◌, ◌≢◌, ◌≤◌, ◌<◌, ◌^◌, ◌⊎◌, ℕ, List, [], length, Ok};
 ghost use Rattle.const_oid.specs.Bound.{Bound};
 ghost use Rattle.const_oid.specs.IdentifierOctets.{IsIdentifier, identifier_octets};
 ghost use Rattle.cert_desk_io.specs.declared.exit_status.ExitStatus.TheVariants.{Done, Empty};
 ghost use Rattle.cert_desk_io.specs.declared.exit_status.ExitStatus.TheVariants.{Faulty, Memory};
 ghost use Rattle.cert_desk_io.specs.declared.exit_status.ExitStatus.TheVariants.{Refused as Breach};
 ghost use Rattle.cert_desk_io.specs.Statuses.{code_of};
+ghost use Rattle.cert_desk_buffers.specs.Identifiers.{IsSomeIdentifier};
 ghost use Rattle.cert_desk_buffers.specs.Returned.{IsExactWithMemory};
 ghost use Rattle.cert_desk_bundle.specs.declared.fault_kind.FaultKind.{FaultKind};
 ghost use Rattle.cert_desk_bundle.specs.Faults.{rank};
@@ -17,7 +18,7 @@ ghost use Rattle.cert_desk_rules.specs.Verdicts.{Trusted, Refused, Faulty as IsF
 ghost use Rattle.cert_desk_checking.specs.AnchorFiles.{IsAnchorFile};
 ghost use Rattle.cert_desk_checking.specs.Runs.{run_terms};
 ghost use Rattle.cert_desk_answers.specs.AnswerLines.{file_says};
-ghost use Rattle.cert_desk_c.specs.Judged.{IsVerdictStatus, UnderTerms};
+ghost use Rattle.cert_desk_c.specs.Judged.{AreWithin, IsVerdictStatus, UnderTerms};
 
 use crate::numbers::{WdPlace, tell};
 use cert_desk_answers::verdict_of;
@@ -27,12 +28,12 @@ use cert_desk_rules::Verdict;
 use const_oid::ObjectIdentifier;
 use std::alloc::Global;
 
-/// The verdict on a chain of certificates under the anchors of a file, at a validation time in
-/// seconds since 1970-01-01T00:00:00Z, for a key purpose (the content octets of its identifier),
-/// where each certificate has `limit` octets at most, and a signature is right exactly where the
-/// answers list it: 0 trusted, 1 refused, 2 faulty, 3 empty, 4 where the anchors, the answers, the
-/// purpose or the limit are faulty, 6 out of memory. With 1 and 2 `told` says where, and which rule
-/// or fault.
+/// Validates a certificate chain under trust anchors, at a validation time in seconds since
+/// 1970-01-01T00:00:00Z, for a key purpose (the content bytes of its identifier). Each certificate
+/// has at most `limit` bytes, and a signature is right exactly if the answers list it. Returns 0 if
+/// the chain is trusted, 1 if it is refused, 2 if it is faulty, 3 if it is empty, 4 if the anchors,
+/// the answers, the purpose or the limit are faulty, or 6 if an allocation fails. With 1 and 2
+/// `told` says where, and which rule or fault.
 #[unsafe(no_mangle)]
 pub extern "C" fn wd_verify(
     alloc: Global,
@@ -64,6 +65,10 @@ pub extern "C" fn wd_verify(
         → purpose.now ≡ identifier_octets arcs → IsIdentifier Bound arcs → length purpose.now ≤ 39
         → Trusted (run_terms given moment arcs (only_yes_to listing)) limit chain.now
         → (result ≡ code_of Done) ⊎ (result ≡ code_of Memory) }
+    ensures no_memory { result ≡ code_of Memory
+        → AreWithin limit anchors.now × IsSomeIdentifier purpose.now }
+    ensures untouched { result ≢ code_of Breach → result ≢ code_of Faulty → told.new ≡ told.old }
+    ensures offset { result ≢ code_of Faulty → told.new.offset ≡ told.old.offset }
 {
     if limit < 6 || anchors.len() >= 1 << 32 {
         return code(ExitStatus::Arguments);

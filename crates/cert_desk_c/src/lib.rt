@@ -5,7 +5,7 @@
 //! what they should be, 3 there is none, 4 another argument is faulty, 5 the buffer is too small,
 //! 6 out of memory. A call that writes a text or octets writes them to the front of `out`, and
 //! their number to `size`; where the buffer is too small it says how much it wants in `size`, and
-//! leaves `out` as it was.
+//! leaves `out` as it was. With every other status it also leaves `out` as it was, and `size` is 0.
 #![tactic(auto)]
 
 mod certificates;

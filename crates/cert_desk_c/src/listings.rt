@@ -5,7 +5,7 @@ ghost use Rattle.cert_desk_io.specs.declared.exit_status.ExitStatus.TheVariants.
 ghost use Rattle.cert_desk_io.specs.Statuses.{code_of};
 ghost use Rattle.cert_desk_buffers.specs.Returned.{IsExactWithMemory, IsFaultyStatus};
 ghost use Rattle.cert_desk_buffers.specs.Returned.{IsTextStatus};
-ghost use Rattle.cert_desk_buffers.specs.Rooms.{ChangesFront, Wants};
+ghost use Rattle.cert_desk_buffers.specs.Rooms.{ChangesFront, IsUnsized, Wants};
 ghost use Rattle.cert_desk_listing.specs.declared.file_kind.FileKind.TheVariants as kinds;
 ghost use Rattle.cert_desk_listing.specs.Listing.{certificate_lines, list_lines, request_lines};
 ghost use Rattle.cert_desk_listing.specs.Shown.{IsListing};
@@ -22,7 +22,7 @@ use x509_cert_certificates::CertificateInner;
 use x509_cert_lists::{CertReq, CertificateList};
 use x509_cert_parts::Raw;
 
-// The listing of a certificate.
+// Returns the listing of a certificate.
 fn certificate_listing(
     alloc: Global,
     certificate: &CertificateInner<Raw>,
@@ -37,7 +37,7 @@ fn certificate_listing(
     Ok(output.into_inner())
 }
 
-// The listing of a revocation list.
+// Returns the listing of a CRL.
 fn list_listing(alloc: Global, list: &CertificateList<Raw>) -> Result<Vec<u8>, AllocError>
     ensures { IfOk result
         (λ text. text.items ≡ list_lines (certificate_list_plain list.now)) }
@@ -49,7 +49,7 @@ fn list_listing(alloc: Global, list: &CertificateList<Raw>) -> Result<Vec<u8>, A
     Ok(output.into_inner())
 }
 
-// The listing of a request.
+// Returns the listing of a CSR.
 fn request_listing(alloc: Global, request: &CertReq) -> Result<Vec<u8>, AllocError>
     ensures { IfOk result
         (λ text. text.items ≡ request_lines (cert_req_plain request.now)) }
@@ -61,9 +61,8 @@ fn request_listing(alloc: Global, request: &CertReq) -> Result<Vec<u8>, AllocErr
     Ok(output.into_inner())
 }
 
-/// The listing of a certificate, as `cert_desk show certificate` writes it: 0 where it stands in
-/// `out`, 2 where the octets are no certificate, 5 where the buffer is too small, 6 out of
-/// memory.
+/// Writes the listing of a certificate to `out`, as `cert_desk show certificate` prints it. Returns
+/// 0, 2 if the bytes are no certificate, 5 if the buffer is too small, or 6 if an allocation fails.
 #[unsafe(no_mangle)]
 pub extern "C" fn wd_show_certificate(
     alloc: Global,
@@ -80,6 +79,7 @@ pub extern "C" fn wd_show_certificate(
     ensures not_spelled { result ≡ code_of Faulty → IsNoCertificate octets.now }
     ensures front { result ≡ code_of Done → ChangesFront size.new out.old out.new }
     ensures untouched { result ≢ code_of Done → out.new ≡ out.old }
+    ensures no_size { IsUnsized result size.new }
 {
     *size = 0;
     let certificate = match certificate_of(alloc, octets) {
@@ -92,8 +92,8 @@ pub extern "C" fn wd_show_certificate(
     give(text.as_slice(), out, size)
 }
 
-/// The listing of a CRL, as `cert_desk show list` writes it, with the statuses of
-/// `wd_show_certificate`.
+/// Writes the listing of a CRL to `out`, as `cert_desk show list` prints it. The statuses are those
+/// of `wd_show_certificate`.
 #[unsafe(no_mangle)]
 pub extern "C" fn wd_show_list(
     alloc: Global,
@@ -110,6 +110,7 @@ pub extern "C" fn wd_show_list(
     ensures not_spelled { result ≡ code_of Faulty → IsNoList octets.now }
     ensures front { result ≡ code_of Done → ChangesFront size.new out.old out.new }
     ensures untouched { result ≢ code_of Done → out.new ≡ out.old }
+    ensures no_size { IsUnsized result size.new }
 {
     *size = 0;
     let list = match list_of(alloc, octets) {
@@ -122,8 +123,8 @@ pub extern "C" fn wd_show_list(
     give(text.as_slice(), out, size)
 }
 
-/// The listing of a CSR, as `cert_desk show request` writes it, with the statuses of
-/// `wd_show_certificate`.
+/// Writes the listing of a CSR to `out`, as `cert_desk show request` prints it. The statuses are
+/// those of `wd_show_certificate`.
 #[unsafe(no_mangle)]
 pub extern "C" fn wd_show_request(
     alloc: Global,
@@ -140,6 +141,7 @@ pub extern "C" fn wd_show_request(
     ensures not_spelled { result ≡ code_of Faulty → IsNoRequest octets.now }
     ensures front { result ≡ code_of Done → ChangesFront size.new out.old out.new }
     ensures untouched { result ≢ code_of Done → out.new ≡ out.old }
+    ensures no_size { IsUnsized result size.new }
 {
     *size = 0;
     let request = match request_of(alloc, octets) {

@@ -1,33 +1,31 @@
 //! Names.
-ghost use Rattle.std.specs.Prelude.{◌≡◌, ◌≢◌, take, IfOk, IfErr, string_bytes};
-ghost use Rattle.der_core_head.specs.declared.error.ErrorKind.TheVariants.{OutOfMemory};
+ghost use Rattle.std.specs.Prelude.{◌≡◌, ◌≢◌, take, IfOk, IfErr, IsUtf8, string_bytes};
 ghost use Rattle.x509_cert_names.specs.PlainTexts.{name_text};
 ghost use Rattle.x509_cert_names.specs.Views.{name_plain};
 ghost use Rattle.cert_desk_io.specs.declared.exit_status.ExitStatus.TheVariants.{Device, Done};
-ghost use Rattle.cert_desk_io.specs.declared.exit_status.ExitStatus.TheVariants.{Faulty};
+ghost use Rattle.cert_desk_io.specs.declared.exit_status.ExitStatus.TheVariants.{Faulty, Memory};
 ghost use Rattle.cert_desk_io.specs.Statuses.{code_of};
 ghost use Rattle.cert_desk_buffers.specs.Returned.{IsExactWithMemory, IsFaultyStatus};
 ghost use Rattle.cert_desk_buffers.specs.Returned.{IsTextStatus};
-ghost use Rattle.cert_desk_buffers.specs.Rooms.{ChangesFront, IsLack, Wants};
+ghost use Rattle.cert_desk_buffers.specs.Rooms.{ChangesFront, IsLack, IsUnsized, Wants};
 ghost use Rattle.cert_desk_c.specs.Values.{IsEncodedName, IsNameText, IsNoName, IsNoNameText};
 
-use crate::reading::name_of;
+use crate::reading::{lack, name_of};
 use cert_desk_buffers::{code, give};
 use cert_desk_io::ExitStatus;
-use der_core::making::is_want_of_memory;
-use der_core::{Error, ToDer};
+use der_core::ToDer;
 use std::alloc::{AllocError, Global};
 use x509_cert_names::{Name, RdnSequence};
 
-/// The text of a name (RFC 4514).
+/// Returns the text of a name (RFC 4514).
 pub(crate) fn text_of(alloc: Global, name: &Name) -> Result<String, AllocError>
     ensures { IfOk result (λ text. string_bytes text ≡ name_text (name_plain name.now)) }
 {
     format!(in alloc; "{name}")
 }
 
-/// The text of a name (RFC 4514): 0 where it stands in `out`, 2 where the octets are no name, 5
-/// where the buffer is too small, 6 out of memory.
+/// Writes the text of a name (RFC 4514) to `out`. Returns 0, 2 if the bytes are no name, 5 if the
+/// buffer is too small, or 6 if an allocation fails.
 #[unsafe(no_mangle)]
 pub extern "C" fn wd_name_text(
     alloc: Global,
@@ -43,6 +41,7 @@ pub extern "C" fn wd_name_text(
     ensures not_spelled { result ≡ code_of Faulty → IsNoName octets.now }
     ensures front { result ≡ code_of Done → ChangesFront size.new out.old out.new }
     ensures untouched { result ≢ code_of Done → out.new ≡ out.old }
+    ensures no_size { IsUnsized result size.new }
 {
     *size = 0;
     let name = match name_of(alloc, octets) {
@@ -55,20 +54,11 @@ pub extern "C" fn wd_name_text(
     give(text.as_bytes(), out, size)
 }
 
-// The status of an error.
-fn lack(error: &Error) -> ExitStatus
-    ensures { IsLack (error.now.kind ≢ OutOfMemory) result }
-{
-    if is_want_of_memory(error) {
-        return ExitStatus::Memory;
-    }
-    ExitStatus::Faulty
-}
-
-// The encoding of the name that a text spells, or the status.
+// Parses the text of a name and returns its encoding, or the status.
 fn encoding_of(alloc: Global, text: &[u8]) -> Result<Vec<u8>, ExitStatus>
     ensures read { IfOk result (λ octets. IsEncodedName text.now octets.items) }
     ensures refused { IfErr result (IsLack (IsNoNameText text.now)) }
+    ensures no_memory { IfErr result (λ status. status ≡ Memory → IsUtf8 text.now) }
 {
     let Ok(text) = std::str::from_utf8(text) else {
         return Err(ExitStatus::Faulty);
@@ -83,8 +73,8 @@ fn encoding_of(alloc: Global, text: &[u8]) -> Result<Vec<u8>, ExitStatus>
     }
 }
 
-/// The encoding of the name that a text says (RFC 4514), in UTF-8: 0 where it stands in `out`, 2
-/// where the text says none, 5 where the buffer is too small, 6 out of memory.
+/// Writes the encoding of the name with a text (RFC 4514), in UTF-8, to `out`. Returns 0, 2 if the
+/// text is that of no name, 5 if the buffer is too small, or 6 if an allocation fails.
 #[unsafe(no_mangle)]
 pub extern "C" fn wd_name_of_text(
     alloc: Global,
@@ -98,8 +88,10 @@ pub extern "C" fn wd_name_of_text(
     ensures no_room { result ≡ code_of Device
         → Wants (IsEncodedName text.now) out.old size.new }
     ensures not_spelled { result ≡ code_of Faulty → IsNoNameText text.now }
+    ensures no_memory { result ≡ code_of Memory → IsUtf8 text.now }
     ensures front { result ≡ code_of Done → ChangesFront size.new out.old out.new }
     ensures untouched { result ≢ code_of Done → out.new ≡ out.old }
+    ensures no_size { IsUnsized result size.new }
 {
     *size = 0;
     let octets = match encoding_of(alloc, text) {

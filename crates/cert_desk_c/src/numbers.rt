@@ -1,4 +1,4 @@
-//! Numbers of verdicts.
+//! What the calls report of a verdict, as numbers.
 ghost use Rattle.std.specs.Prelude.{◌≡◌};
 ghost use Rattle.cert_desk_io.specs.Statuses.{code_of};
 ghost use Rattle.cert_desk_bundle.specs.Faults.{rank};
@@ -10,19 +10,18 @@ use cert_desk_bundle::FaultKind;
 use cert_desk_checking::status_of;
 use cert_desk_rules::Verdict;
 
-/// Where a chain is refused, and by which rule; or where its octets have a fault, and of which
-/// kind.
+/// Where a chain is refused, and by which rule, or where it is faulty, and the kind of fault.
 #[repr(C)]
 pub struct WdPlace {
-    /// The place of the certificate, from 0.
+    /// The index of the certificate, from 0.
     pub place: u64,
-    /// Where it begins, of a fault.
+    /// Where it begins, if it is faulty.
     pub offset: u64,
     /// The number of the rule, or of the kind of fault.
     pub number: u64,
 }
 
-// The number of a kind of fault.
+// Returns the number of a kind of fault.
 fn kind_number(kind: FaultKind) -> u64
     ensures { result ≡ rank kind }
 {
@@ -37,10 +36,10 @@ fn kind_number(kind: FaultKind) -> u64
     }
 }
 
-/// The status of a verdict, and what is told of it.
+/// Writes where a chain is refused or faulty, and why, and returns the status.
 pub(crate) fn tell(verdict: Verdict, told: &mut WdPlace) -> u32
     ensures status { result ≡ code_of (status_of verdict) }
-    ensures tells { Tells verdict told.new.place told.new.offset told.new.number }
+    ensures tells { Tells verdict told.old told.new }
 {
     match verdict {
         Verdict::Trusted | Verdict::Empty => {}

@@ -1,13 +1,13 @@
-//! What the signatures of a chain may ask.
+//! The questions that the signatures of a chain may ask.
 ghost use Rattle.std.specs.Prelude.{◌≡◌, ◌≢◌, ◌≤◌, ◌<◌, ◌^◌, ◌⊎◌, length, take, IfOk, IfErr};
 ghost use Rattle.std.specs.Prelude.{string_bytes};
 ghost use Rattle.const_oid.specs.Bound.{Bound};
 ghost use Rattle.cert_desk_io.specs.declared.exit_status.ExitStatus.TheVariants as statuses;
 ghost use Rattle.cert_desk_io.specs.Statuses.{code_of};
 ghost use Rattle.cert_desk_buffers.specs.Returned.{IsExactWithMemory, IsTextStatus};
-ghost use Rattle.cert_desk_buffers.specs.Rooms.{ChangesFront, Wants};
+ghost use Rattle.cert_desk_buffers.specs.Rooms.{ChangesFront, IsUnsized, Wants};
 ghost use Rattle.cert_desk_bundle.specs.Chains.{Chain};
-ghost use Rattle.cert_desk_c.specs.Judged.{AreQuestions, HasNoQuestions, IsNoChain};
+ghost use Rattle.cert_desk_c.specs.Judged.{AreQuestions, AreWithin, HasNoQuestions, IsNoChain};
 
 use cert_desk_answers::{anchors_of, bundle_of};
 use cert_desk_buffers::{code, give};
@@ -16,7 +16,7 @@ use cert_desk_checking::{Anchor, chain_lines};
 use cert_desk_io::ExitStatus;
 use std::alloc::Global;
 
-// A bundle of the certificates that octets join, of which there is one, or the status.
+// Parses a chain of at least one certificate, or returns the status.
 fn chain_of(alloc: Global, limit: u32, octets: &[u8]) -> Result<Bundle, ExitStatus>
     requires { 6 ≤ limit }
     ensures chain { IfOk result (λ b. Chain Bound limit b.certificates octets.now) }
@@ -35,7 +35,7 @@ fn chain_of(alloc: Global, limit: u32, octets: &[u8]) -> Result<Bundle, ExitStat
     Ok(bundle)
 }
 
-// The questions of a chain under the anchors of a file, or the status.
+// Returns the questions of a chain under trust anchors, or the status.
 fn questions_of(
     alloc: Global,
     anchors: &[u8],
@@ -57,10 +57,10 @@ fn questions_of(
     }
 }
 
-/// What the signatures of a chain may ask under the anchors of a file, a line each, as `cert_tool
-/// questions` writes them: 0 where the lines stand in `out`, 2 where the chain's octets aren't
-/// certificates of at most `limit` octets each, 3 where there are none, 4 where the anchors or the
-/// limit are faulty, 5 where the buffer is too small, 6 out of memory.
+/// Writes the questions that the signatures of a chain may ask under trust anchors to `out`, one
+/// line each, as `cert_tool questions` prints them. Returns 0, 2 if the chain isn't a series of
+/// certificates of at most `limit` bytes each, 3 if it is empty, 4 if the anchors or the limit are
+/// faulty, 5 if the buffer is too small, or 6 if an allocation fails.
 #[unsafe(no_mangle)]
 pub extern "C" fn wd_questions(
     alloc: Global,
@@ -76,8 +76,10 @@ pub extern "C" fn wd_questions(
         → AreQuestions anchors.now chain.now limit (take size.new out.new) }
     ensures no_room { result ≡ code_of statuses.Device
         → Wants (AreQuestions anchors.now chain.now limit) out.old size.new }
+    ensures no_memory { result ≡ code_of statuses.Memory → AreWithin limit anchors.now }
     ensures front { result ≡ code_of statuses.Done → ChangesFront size.new out.old out.new }
     ensures untouched { result ≢ code_of statuses.Done → out.new ≡ out.old }
+    ensures no_size { IsUnsized result size.new }
 {
     *size = 0;
     if limit < 6 || anchors.len() >= 1 << 32 {

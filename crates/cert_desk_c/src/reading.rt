@@ -1,4 +1,4 @@
-//! What octets are the encoding of.
+//! Decoding of values.
 ghost use Rattle.std.specs.Prelude.{◌≢◌, [], IfOk, IfErr};
 ghost use Rattle.const_oid.specs.Bound.{Bound};
 ghost use Rattle.der_core_head.specs.declared.error.ErrorKind.TheVariants.{OutOfMemory};
@@ -24,7 +24,17 @@ use x509_cert_lists::{CertReq, CertificateList};
 use x509_cert_names::Name;
 use x509_cert_parts::Raw;
 
-/// The certificate that octets encode, or the status.
+/// Returns the status of an error.
+pub(crate) fn lack(error: &Error) -> ExitStatus
+    ensures { IsLack (error.now.kind ≢ OutOfMemory) result }
+{
+    if is_want_of_memory(error) {
+        return ExitStatus::Memory;
+    }
+    ExitStatus::Faulty
+}
+
+/// Decodes a certificate, or returns the status.
 pub(crate) fn certificate_of(
     alloc: Global,
     octets: &[u8],
@@ -35,16 +45,11 @@ pub(crate) fn certificate_of(
 {
     match CertificateInner::<Raw>::from_der(alloc, octets) {
         Ok(certificate) => Ok(certificate),
-        Err(error) => {
-            if is_want_of_memory(&error) {
-                return Err(ExitStatus::Memory);
-            }
-            Err(ExitStatus::Faulty)
-        }
+        Err(error) => Err(lack(&error)),
     }
 }
 
-/// Reads a CRL, all of the octets.
+/// Decodes a CRL.
 pub(crate) fn read_list(alloc: Global, octets: &[u8]) -> Result<CertificateList<Raw>, Error>
     ensures spelled { IfOk result
         (λ l. Spells (raw_certificate_list Bound) (certificate_list_plain l) octets.now) }
@@ -55,7 +60,7 @@ pub(crate) fn read_list(alloc: Global, octets: &[u8]) -> Result<CertificateList<
     CertificateList::<Raw>::from_der(alloc, octets)
 }
 
-/// The CRL that octets encode, or the status.
+/// Decodes a CRL, or returns the status.
 pub(crate) fn list_of(alloc: Global, octets: &[u8]) -> Result<CertificateList<Raw>, ExitStatus>
     ensures spelled { IfOk result
         (λ l. Spells (raw_certificate_list Bound) (certificate_list_plain l) octets.now) }
@@ -63,43 +68,28 @@ pub(crate) fn list_of(alloc: Global, octets: &[u8]) -> Result<CertificateList<Ra
 {
     match read_list(alloc, octets) {
         Ok(list) => Ok(list),
-        Err(error) => {
-            if is_want_of_memory(&error) {
-                return Err(ExitStatus::Memory);
-            }
-            Err(ExitStatus::Faulty)
-        }
+        Err(error) => Err(lack(&error)),
     }
 }
 
-/// The CSR that octets encode, or the status.
+/// Decodes a CSR, or returns the status.
 pub(crate) fn request_of(alloc: Global, octets: &[u8]) -> Result<CertReq, ExitStatus>
     ensures spelled { IfOk result (λ r. Spells (cert_req Bound) (cert_req_plain r) octets.now) }
     ensures refused { IfErr result (IsLack (IsNoRequest octets.now)) }
 {
     match CertReq::try_from_bytes(alloc, octets) {
         Ok(request) => Ok(request),
-        Err(error) => {
-            if is_want_of_memory(&error) {
-                return Err(ExitStatus::Memory);
-            }
-            Err(ExitStatus::Faulty)
-        }
+        Err(error) => Err(lack(&error)),
     }
 }
 
-/// The name that octets encode, or the status.
+/// Decodes a name, or returns the status.
 pub(crate) fn name_of(alloc: Global, octets: &[u8]) -> Result<Name, ExitStatus>
     ensures spelled { IfOk result (λ n. Spells (name Bound) (name_plain n) octets.now) }
     ensures refused { IfErr result (IsLack (IsNoName octets.now)) }
 {
     match Name::from_der(alloc, octets) {
         Ok(name) => Ok(name),
-        Err(error) => {
-            if is_want_of_memory(&error) {
-                return Err(ExitStatus::Memory);
-            }
-            Err(ExitStatus::Faulty)
-        }
+        Err(error) => Err(lack(&error)),
     }
 }

@@ -1,5 +1,5 @@
 -- Chains that orders ask for, judged where each signature is right.
-use Rattle.std.proofs.Common.{◌≡◌, ◌⊎◌, inl, inr, ℕ, List, [], ◌∷◌, length, sym, ap, ◌∙◌, subst, arith}
+use Rattle.std.proofs.Common.{◌≡◌, ◌≢◌, ◌⊎◌, inl, inr, ℕ, List, [], ◌∷◌, length, sym, ap, ◌∙◌, subst, arith}
 use Rattle.const_oid.specs.Bound.{Bound}
 use Rattle.der_core_head.specs.BitStrings.{Bits}
 use Rattle.der_core_head.specs.Limits.{length_max}
@@ -7,7 +7,7 @@ use Rattle.der_core_head.specs.Shapes.{Spells}
 use Rattle.x509_cert_parts.specs.Grammar.{Algorithm, algorithm_identifier}
 use Rattle.x509_cert_certificates.specs.Certificates.{PlainCertificate}
 use Rattle.cert_desk_io.specs.declared.exit_status.ExitStatus.{ExitStatus}
-use Rattle.cert_desk_buffers.specs.Identifiers.{SpellsIdentifier}
+use Rattle.cert_desk_buffers.specs.Identifiers.{IsSomeIdentifier, SpellsIdentifier}
 use Rattle.cert_desk_bundle.specs.Chains.{Chain}
 use Rattle.cert_desk_bundle.proofs.OneChain.{fault_no_chain}
 use Rattle.cert_desk_rules.specs.declared.checked.Verdict.{Verdict}
@@ -61,9 +61,9 @@ module _ (orders algorithm : List ℕ) (moment : ℕ) (purpose : List ℕ) (plac
   abbrev IsSo : ExitStatus → Type 0
   IsSo status = IsAudit orders algorithm moment purpose place told status
 
-  pub faulty_argument : {A : Type 0} (status : ExitStatus) → (A → AreFaulty orders algorithm []) → IsFault A status → IsAudit orders algorithm moment purpose place told status
-  faulty_argument status f (inl why) = subst (λ s. IsSo s) (sym why.0) (inl (f why.1))
-  faulty_argument status f (inr memory) = subst (λ s. IsSo s) (sym memory) tt
+  pub faulty_argument : {A : Type 0} (status : ExitStatus) → IsSomeIdentifier purpose → (A → AreFaulty orders algorithm []) → IsFault A status → IsAudit orders algorithm moment purpose place told status
+  faulty_argument status some f (inl why) = subst (λ s. IsSo s) (sym why.0) (inl (f why.1))
+  faulty_argument status some f (inr memory) = subst (λ s. IsSo s) (sym memory) some
 
   module _ (said others : List Order) (a : Algorithm) (says : SaysOrders orders said) (spelled : Spells (algorithm_identifier Bound) a algorithm) (same : others ≡ said) where
     by_verdict : (arcs : List ℕ) → SpellsIdentifier purpose arcs → (v : Verdict) (status : ExitStatus) → TellsVerdict v place told status → IsJudged said moment arcs v → IsSo status
@@ -77,10 +77,11 @@ module _ (orders algorithm : List ℕ) (moment : ℕ) (purpose : List ℕ) (plac
     pub audited : (arcs : List ℕ) → SpellsIdentifier purpose arcs → (v : Verdict) (status : ExitStatus) → TellsVerdict v place told status → IsJudged others moment arcs v → IsAudit orders algorithm moment purpose place told status
     audited arcs e v status tells j = by_verdict arcs e v status tells (subst (λ (os : List Order). IsJudged os moment arcs v) same j)
 
-    pub unaudited : (arcs : List ℕ) → SpellsIdentifier purpose arcs → (bits : Bits) (error : IssueError) (status : ExitStatus) → bits ≡ all_bits [] → (error ≡ errors.OutOfMemory) ⊎ RefusesEach others a bits error → place ≡ place_of error → told ≡ reason_number error → status ≡ status_of error
+    pub unaudited : (arcs : List ℕ) → SpellsIdentifier purpose arcs → (bits : Bits) (error : IssueError) (status : ExitStatus) → bits ≡ all_bits [] → (error ≡ errors.OutOfMemory) ⊎ RefusesEach others a bits error
+        → (error ≢ errors.OutOfMemory → (place ≡ place_of error) × (told ≡ reason_number error)) → status ≡ status_of error
         → IsAudit orders algorithm moment purpose place told status
-    unaudited arcs p bits error status f why at number is =
+    unaudited arcs p bits error status f why tells is =
         elim (refused_for orders algorithm [] said others a bits error says spelled same f (omega arith) why) [
-          | inl memory ↦ subst (λ s. IsSo s) (sym (is ∙ ap status_of memory)) tt
-          | inr refused ↦ subst (λ s. IsSo s) (sym (is ∙ refused.1)) (inl (arcs, error, p, at, number, refused.0))
+          | inl memory ↦ subst (λ s. IsSo s) (sym (is ∙ ap status_of memory)) (arcs, p)
+          | inr refused ↦ (let its = tells refused.0.1 in subst (λ s. IsSo s) (sym (is ∙ refused.1)) (inl (arcs, error, p, its.0, its.1, refused.0)))
         ]

@@ -1,10 +1,10 @@
 -- What the chain that orders ask for comes to, whoever signs it.
-use Rattle.std.specs.Prelude.{◌≡◌, ◌≢◌, ◌≤◌, ◌⊎◌, ℕ, List, [], ◌∷◌, length, true}
+use Rattle.std.specs.Prelude.{◌≡◌, ◌⊎◌, ℕ, List, [], ◌∷◌, true}
 use Rattle.der_core_head.specs.Limits.{length_max}
 use Rattle.x509_cert_certificates.specs.Certificates.{PlainCertificate}
 use Rattle.cert_desk_io.specs.declared.exit_status.ExitStatus.{ExitStatus}
 use Rattle.cert_desk_io.specs.declared.exit_status.ExitStatus.TheVariants as statuses
-use Rattle.cert_desk_buffers.specs.Identifiers.{IsNoIdentifier, SpellsIdentifier}
+use Rattle.cert_desk_buffers.specs.Identifiers.{IsNoIdentifier, IsSomeIdentifier, SpellsIdentifier}
 use Rattle.cert_desk_rules.specs.declared.checked.Verdict.{Verdict}
 use Rattle.cert_desk_rules.specs.declared.checked.Verdict.TheVariants as verdicts
 use Rattle.cert_desk_rules.specs.declared.rule.Rule.{Rule}
@@ -64,8 +64,9 @@ UnderAsked orders algorithm purpose Says =
     (arcs : List ℕ) × SpellsIdentifier purpose arcs
     × UnderOrders orders algorithm (λ said a. UnderAccepted said (Says arcs))
 
--- What is so with a status: each such chain is trusted; the orders are refused, or a chain of them,
--- at the place and for the reason told; an argument is faulty; there was no memory.
+-- What a status says: each such chain is trusted; the orders are refused, or a chain of them, at
+-- the index and for the reason reported; an argument is faulty; an allocation failed, and the
+-- purpose is an identifier.
 abbrev pub IsAudit : List ℕ → List ℕ → ℕ → List ℕ → ℕ → ℕ → ExitStatus → Type 0
 IsAudit orders algorithm moment purpose place told statuses.Done =
     UnderAsked orders algorithm purpose (λ arcs root below. AreTrusted moment arcs root below)
@@ -78,5 +79,5 @@ IsAudit orders algorithm moment purpose place told statuses.Refused =
     × IsBroken moment arcs root below place rule)
 IsAudit orders algorithm moment purpose place told statuses.Arguments =
     AreFaulty orders algorithm [] ⊎ IsNoIdentifier purpose
-IsAudit orders algorithm moment purpose place told statuses.Memory = Unit {0}
+IsAudit orders algorithm moment purpose place told statuses.Memory = IsSomeIdentifier purpose
 IsAudit orders algorithm moment purpose place told _ = ⊥

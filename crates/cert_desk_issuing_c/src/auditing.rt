@@ -1,6 +1,7 @@
 //! What the chain that orders ask for comes to, whoever signs it.
-ghost use Rattle.std.specs.Prelude.{◌≡◌, ◌⊎◌, IfOk, IfErr};
+ghost use Rattle.std.specs.Prelude.{◌≡◌, ◌≢◌, ◌⊎◌, IfOk, IfErr};
 ghost use Rattle.x509_cert_parts.specs.Views.{algorithm_plain};
+ghost use Rattle.cert_desk_io.specs.declared.exit_status.ExitStatus.TheVariants.{Refused};
 ghost use Rattle.cert_desk_io.specs.Statuses.{code_of};
 ghost use Rattle.cert_desk_issuing_c.specs.Auditing.{IsAudit, IsJudged};
 ghost use Rattle.cert_desk_issuing_c.specs.Signing.{RefusesEach};
@@ -41,7 +42,7 @@ fn verdict_of(
     }
 }
 
-// What `wd_audit` says, as a status.
+// Does what `wd_audit` does, and returns the status.
 fn audit_of(
     alloc: Global,
     orders: &[u8],
@@ -50,8 +51,9 @@ fn audit_of(
     purpose: &[u8],
     told: &mut WdReason,
 ) -> ExitStatus
-    ensures { IsAudit orders.now algorithm.now moment purpose.now told.new.place told.new.number
-        result }
+    ensures audit { IsAudit orders.now algorithm.now moment purpose.now told.new.place
+        told.new.number result }
+    ensures untouched { result ≢ Refused → told.new ≡ told.old }
 {
     let Ok(purpose) = ObjectIdentifier::<39>::from_bytes(purpose) else {
         return ExitStatus::Arguments;
@@ -74,11 +76,12 @@ fn audit_of(
     }
 }
 
-/// Whether each chain that an orders file asks for, signed by this algorithm, is trusted under its
-/// own root at a validation time (seconds since 1970-01-01T00:00:00Z) and for a key purpose (the
-/// content octets of its identifier), where its signatures are right: 0 where it is, 1 where the
-/// orders are refused, or a rule is broken, and then `told` says where, and for which reason or
-/// which rule, 4 where the orders file, the algorithm or the purpose is faulty, 6 out of memory.
+/// Checks whether each chain that an orders file asks for, signed by this algorithm, is trusted
+/// under its own root if its signatures are right, at a validation time (seconds since
+/// 1970-01-01T00:00:00Z) and for a key purpose (the content bytes of its identifier). Returns 0 if
+/// it is, 1 if the orders are refused or a rule is broken, 4 if the orders file, the algorithm or
+/// the purpose is faulty, or 6 if an allocation fails. With 1 `told` says where, and which reason
+/// or rule.
 #[unsafe(no_mangle)]
 pub extern "C" fn wd_audit(
     alloc: Global,
@@ -90,7 +93,7 @@ pub extern "C" fn wd_audit(
 ) -> u32
     ensures { (status : ExitStatus) × (result ≡ code_of status)
         × IsAudit orders.now algorithm.now moment purpose.now told.new.place told.new.number
-        status }
+        status × (status ≢ Refused → told.new ≡ told.old) }
 {
     code(audit_of(alloc, orders, algorithm, moment, purpose, told))
 }

@@ -1,5 +1,5 @@
 //! Certificates that orders ask for, with signatures that are made elsewhere.
-ghost use Rattle.std.specs.Prelude.{◌≡◌, ◌≢◌, ◌≤◌, ◌<◌, ◌⊎◌, [], length, map, take, None, IfErr};
+ghost use Rattle.std.specs.Prelude.{◌≡◌, ◌≢◌, ◌≤◌, ◌<◌, ◌⊎◌, [], length, take, None, IfErr};
 ghost use Rattle.std.specs.Prelude.{IfOk, OnOk};
 ghost use Rattle.const_oid.specs.Bound.{Bound};
 ghost use Rattle.der_core_head.specs.Limits.{length_max};
@@ -8,7 +8,7 @@ ghost use Rattle.x509_cert_parts.specs.Grammar.{algorithm_identifier};
 ghost use Rattle.x509_cert_parts.specs.Views.{algorithm_plain};
 ghost use Rattle.cert_desk_io.specs.declared.exit_status.ExitStatus.TheVariants as statuses;
 ghost use Rattle.cert_desk_io.specs.Statuses.{code_of};
-ghost use Rattle.cert_desk_buffers.specs.Rooms.{ChangesFront, Wants};
+ghost use Rattle.cert_desk_buffers.specs.Rooms.{ChangesFront, IsUnsized, Wants};
 ghost use Rattle.cert_desk_issuing.specs.Roles.{signers_for};
 ghost use Rattle.cert_desk_orders.specs.OrdersFile.{SaysOrders, faulty_line};
 ghost use Rattle.cert_desk_issuing_c.specs.Signing.{AreFaulty, AreOrdered, AreRefused, AreSigners};
@@ -197,11 +197,11 @@ fn signed_part_at(
     }
 }
 
-/// What is signed of the certificate at a place of the chain that an orders file asks for, 0 for
-/// its root: the octets that the key of the certificate above signs, or the root's own key, by this
-/// algorithm (an AlgorithmIdentifier). 0 where they stand in `out`, 1 where the orders are refused,
-/// 3 where the chain has no such place, 4 where the orders file or the algorithm is faulty, 5 where
-/// the buffer is too small, 6 out of memory.
+/// Writes the TBSCertificate at an index of the chain that an orders file asks for to `out`. The
+/// root has index 0. The key of the certificate above signs it by this algorithm (an
+/// AlgorithmIdentifier), and the root's own key signs the root. Returns 0, 1 if the orders are
+/// refused, 3 if the chain has no such index, 4 if the orders file or the algorithm is faulty, 5 if
+/// the buffer is too small, or 6 if an allocation fails.
 #[unsafe(no_mangle)]
 pub extern "C" fn wd_signed_part(
     alloc: Global,
@@ -223,6 +223,7 @@ pub extern "C" fn wd_signed_part(
     ensures known { (status : ExitStatus) × (result ≡ code_of status) × (status ≢ statuses.Faulty) }
     ensures front { result ≡ code_of statuses.Done → ChangesFront size.new out.old out.new }
     ensures untouched { result ≢ code_of statuses.Done → out.new ≡ out.old }
+    ensures no_size { IsUnsized result size.new }
 {
     *size = 0;
     match signed_part_at(alloc, orders, place as usize, algorithm) {
@@ -231,8 +232,8 @@ pub extern "C" fn wd_signed_part(
     }
 }
 
-/// The certificate at a place of that chain, with this signature of its signed part, which isn't
-/// judged. The statuses are those of `wd_signed_part`; 4 is also that of too long a signature.
+/// Writes the certificate at an index of that chain to `out`, with this signature, which isn't
+/// verified. The statuses are those of `wd_signed_part`, and 4 also if the signature is too long.
 #[unsafe(no_mangle)]
 pub extern "C" fn wd_issue(
     alloc: Global,
@@ -256,6 +257,7 @@ pub extern "C" fn wd_issue(
     ensures known { (status : ExitStatus) × (result ≡ code_of status) × (status ≢ statuses.Faulty) }
     ensures front { result ≡ code_of statuses.Done → ChangesFront size.new out.old out.new }
     ensures untouched { result ≢ code_of statuses.Done → out.new ≡ out.old }
+    ensures no_size { IsUnsized result size.new }
 {
     *size = 0;
     match certificate_at(alloc, orders, place as usize, algorithm, signature) {

@@ -1,5 +1,6 @@
 //! Why orders are refused, and which rule their chain breaks, in numbers.
-ghost use Rattle.std.specs.Prelude.{◌≡◌};
+ghost use Rattle.std.specs.Prelude.{◌≡◌, ◌≢◌};
+ghost use Rattle.cert_desk_io.specs.declared.exit_status.ExitStatus.TheVariants.{Refused};
 ghost use Rattle.cert_desk_issuing_c.specs.Reasons.{TellsVerdict, place_of, reason_number};
 ghost use Rattle.cert_desk_issuing_c.specs.Reasons.{status_of};
 
@@ -8,16 +9,16 @@ use cert_desk_io::ExitStatus;
 use cert_desk_issuing::IssueError;
 use cert_desk_rules::Verdict;
 
-/// Where orders are refused, or the chain that they ask for, and why.
+/// Where orders are refused, or where their chain breaks a rule, and why.
 #[repr(C)]
 pub struct WdReason {
-    /// The place of the order, from 0.
+    /// The index of the order, from 0.
     pub place: u64,
     /// The number of the reason, or of the rule.
     pub number: u64,
 }
 
-/// The status of orders of which no chain is issued.
+/// Returns the status of orders for which no chain is issued.
 pub(crate) fn status_of(error: &IssueError) -> ExitStatus
     ensures { result ≡ status_of error.now }
 {
@@ -27,7 +28,7 @@ pub(crate) fn status_of(error: &IssueError) -> ExitStatus
     }
 }
 
-// The place of the order that is refused, 0 where all are.
+// Returns the index of the refused order, or 0 if all are refused.
 fn place_of(error: &IssueError) -> usize
     ensures { result ≡ place_of error.now }
 {
@@ -43,7 +44,7 @@ fn place_of(error: &IssueError) -> usize
     }
 }
 
-// The number of the reason, 0 of one that orders can't give whose own keys sign.
+// Returns the number of the reason, or 0 for one that can't occur if the orders' own keys sign.
 fn reason_number(error: &IssueError) -> u64
     ensures { result ≡ reason_number error.now }
 {
@@ -60,20 +61,25 @@ fn reason_number(error: &IssueError) -> u64
     }
 }
 
-/// The status of orders of which no chain is issued, and what is told of them.
+/// Writes why no chain is issued, unless an allocation failed, and returns the status.
 pub(crate) fn tell_error(error: &IssueError, told: &mut WdReason) -> ExitStatus
-    ensures place { told.new.place ≡ place_of error.now }
-    ensures number { told.new.number ≡ reason_number error.now }
+    ensures tells { error.now ≢ IssueError.OutOfMemory → (told.new.place ≡ place_of error.now)
+        × (told.new.number ≡ reason_number error.now) }
     ensures status { result ≡ status_of error.now }
+    ensures untouched { result ≢ Refused → told.new ≡ told.old }
 {
+    if let IssueError::OutOfMemory = error {
+        return ExitStatus::Memory;
+    }
     told.place = place_of(error) as u64;
     told.number = reason_number(error);
-    status_of(error)
+    ExitStatus::Refused
 }
 
-/// The status of a chain of orders, and what is told of it.
+/// Writes where a chain of orders breaks a rule, and which rule, and returns the status.
 pub(crate) fn tell_verdict(verdict: Verdict, told: &mut WdReason) -> ExitStatus
-    ensures { TellsVerdict verdict told.new.place told.new.number result }
+    ensures tells { TellsVerdict verdict told.new.place told.new.number result }
+    ensures untouched { result ≢ Refused → told.new ≡ told.old }
 {
     if let Verdict::Refused { place, rule } = verdict {
         told.place = place as u64;
