@@ -2,9 +2,9 @@
 # Makes what programs in C and other languages link, in a folder of their own: the header, and of
 # each crate of calls an archive, a shared library and a file for pkg-config.
 #
-#     calls/build.sh FOLDER                proves these crates, and builds them
-#     calls/build.sh FOLDER --gate         over the libraries that `rt ci` left in crates/*/out
-#     calls/build.sh FOLDER --from OTHER   takes the archives of the crates that stand in OTHER
+#     bindings/build.sh FOLDER                proves these crates, and builds them
+#     bindings/build.sh FOLDER --gate         over the libraries that `rt ci` left in crates/*/out
+#     bindings/build.sh FOLDER --from OTHER   takes the archives of the crates that stand in OTHER
 #
 # Nothing but the calls of wurstdrape.h is defined for others, and nothing but the C library's is
 # left undefined; both are compared, and the status is 1 where one differs.
@@ -92,11 +92,20 @@ library() {
     "${CC:-cc}" -shared -o "$folder/lib$name.so" "$object" -fuse-ld=lld -B"$kit/toolchain/bin" \
         -Wl,--icf=all -Wl,--ignore-data-address-equality -Wl,--gc-sections -Wl,-z,defs \
         -Wl,-soname,"lib$name.so" \
-        -Wl,--version-script="$here/exports.map"
+        -Wl,--version-script=<(echo '{ global: wd_*; local: *; };')
     rm "$object"
     strip --strip-unneeded "$folder/lib$name.so"
-    sed "s|@PREFIX@|$folder|; s|@NAME@|$name|; s|@WHAT@|$what|; s|@VERSION@|$version|" \
-        "$here/wurstdrape.pc.in" >"$folder/$name.pc"
+    cat >"$folder/$name.pc" <<END
+prefix=$folder
+libdir=\${prefix}
+includedir=\${prefix}
+
+Name: $name
+Description: $what
+Version: $version
+Cflags: -I\${includedir}
+Libs: -L\${libdir} -l$name
+END
 }
 library wurstdrape cert_desk_c \
     "Certificates, revocation lists and requests, read and judged by proved code"

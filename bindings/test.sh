@@ -1,7 +1,7 @@
 #!/usr/bin/env bash
-# Runs the tests of the calls, in C, Rust and Python, over what calls/build.sh made.
+# Runs the tests of the calls, in C, Rust and Python, over what bindings/build.sh made.
 #
-#     calls/test.sh FOLDER [COUNT]
+#     bindings/test.sh FOLDER [COUNT]
 #
 # COUNT is how many changed files are answered through each language (100,000). A suite that needs
 # what this machine lacks (a sanitizer, valgrind, cargo, a Python of 3.9) is left out, and that is
@@ -133,7 +133,7 @@ fi
 if [ $has_cargo = 1 ]; then
     suite "Rust" rust_tests
 else
-    left_out "Rust" "there is no cargo that reads calls/rust"
+    left_out "Rust" "there is no cargo that reads bindings/rust"
 fi
 suite "$count changed files, through each language at hand" changed_files
 printf '\n%s passed, %s failed\n' "$passed" "$failed"

@@ -1,6 +1,6 @@
 """Tests of the Python module, with the module to import (PYTHONPATH, or an installed wheel):
 
-    python3 -m unittest calls/python/test_wurstdrape.py
+    python3 -m unittest bindings/python/test_wurstdrape.py
 
 What is wanted was told by OpenSSL, or stands in a standard.
 """

@@ -1,5 +1,5 @@
 //! Has the calls answer changed files, and prints a sum of all answers: changes and sum are those
-//! of calls/c/mutated.c.
+//! of bindings/c/mutated.c.
 //!
 //!     cargo run --release --example mutated COUNT
 

@@ -2,7 +2,7 @@
 """Has the Python module answer the rows of `cert_tool` and `cert_rows` that one of its calls
 answers, and compares each answer with the one that stands there.
 
-    calls/python/rows.py     with the module to import (PYTHONPATH, or an installed wheel); the
+    bindings/python/rows.py     with the module to import (PYTHONPATH, or an installed wheel); the
                              status is 1 where an answer differs
 """
 
@@ -14,7 +14,10 @@ from wurstdrape import Error, Kind, Malformed, Status
 
 TOP = pathlib.Path(__file__).resolve().parents[2]
 ROWS = TOP / "crates"
-DATA = ROWS / "cert_tool" / "data"
+sys.path.insert(0, str(TOP / "tests" / "rows"))
+
+import served
+
 KINDS = [kind.value for kind in Kind]
 OPTIONS = {
     "verify": ("anchors", "answers", "at", "purpose", "limit"),
@@ -34,14 +37,8 @@ PURPOSES = {
 
 def tool_rows():
     """Each question of `cert_tool`, the lines that answer it, and the status."""
-    lines = iter((ROWS / "cert_tool" / "rows.txt").read_text().splitlines())
-    for question in lines:
-        if not question or question.startswith("#"):
-            continue
-        answer = []
-        while not (line := next(lines)).startswith("= "):
-            answer.append(line.removeprefix("! "))
-        yield question, answer, int(line[2:])
+    for question, output, errors, status in served.rows():
+        yield question, output + errors, status
 
 
 def options(command, words):
@@ -63,7 +60,7 @@ def options(command, words):
 
 
 def octets(name):
-    return (DATA / name).read_bytes()
+    return b"" if name == "/dev/null" else served.files()[name]
 
 
 def is_moment(word):

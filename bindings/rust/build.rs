@@ -3,7 +3,7 @@
 fn main() {
     println!("cargo:rerun-if-env-changed=WURSTDRAPE");
     let folder =
-        std::env::var("WURSTDRAPE").expect("WURSTDRAPE names the folder that calls/build.sh made");
+        std::env::var("WURSTDRAPE").expect("WURSTDRAPE names the folder that bindings/build.sh made");
     println!("cargo:rustc-link-search=native={folder}");
     for name in ["wurstdrape", "wurstdrape_issue"] {
         println!("cargo:rerun-if-changed={folder}/lib{name}.a");

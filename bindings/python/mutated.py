@@ -1,8 +1,8 @@
 #!/usr/bin/env python3
 """Has the shared library answer changed files through ctypes, and prints a sum of all answers:
-changes and sum are those of calls/c/mutated.c.
+changes and sum are those of bindings/c/mutated.c.
 
-    calls/python/mutated.py COUNT     with the module to import (PYTHONPATH, or an installed wheel)
+    bindings/python/mutated.py COUNT    with the module to import (PYTHONPATH, an installed wheel)
 """
 
 import ctypes

@@ -18,8 +18,11 @@
 
    A call that writes octets writes them to the front of `out`, and their number to `*size`.
    Where the buffer is too small it returns WD_NO_ROOM, writes nothing to `out`, and says in
-   `*size` how much it wants. With every other status `out` stays as it was. Text is in UTF-8,
-   without a terminating 0.
+   `*size` how much it wants. With every other status `out` stays as it was, and `*size` is 0. Text
+   is in UTF-8, without a terminating 0.
+
+   A call always writes `*size`. It writes `fault` or `told` only with a status for which its
+   comment says so, and all other single values only with WD_DONE.
 
    A call returns no other status than those that its comment lists, and each of them exactly where
    its meaning holds; WD_MEMORY, in place of any other, where an allocation failed. Where the
@@ -146,7 +149,7 @@ typedef struct {
    kind. */
 typedef struct {
     uint64_t place;  /* of the certificate, counted from 0 */
-    uint64_t offset; /* of its first octet in the chain; of a fault alone */
+    uint64_t offset; /* of its first octet in the chain; written with WD_FAULTY alone */
     uint64_t number; /* of the rule, or of the kind of fault */
 } wd_place;
 
