@@ -1,0 +1,445 @@
+#!/usr/bin/env python3
+"""Tries mutants: changes that make a crate wrong, each of which the prover has to reject.
+
+    tools/mutants.py try [NAME..]     tries the mutants of these crates, or of these names, or all
+    tools/mutants.py check            reports mutants that no longer apply, and a page out of date
+    tools/mutants.py page             writes the tables of tests/MUTANTS.md from the files
+
+    try --marked     tries those with a line `rejected:`, and writes these lines and the page anew
+    try --untried    does so for those of them that say `rejected: not tried yet`
+    try --built DIR  takes the libraries that the checkout DIR has built; else builds them here
+
+The mutants of a crate are in crates/NAME/mutants.txt; tests/MUTANTS.md describes the format. They
+are tried in a copy of the crate. Mutants that change different functions share one check, of these
+functions alone. What isn't rejected there is tried by itself, in the functions that it changes, in
+their modules, and at last with the whole crate. Four crates are tried at once, or as many as the
+variable SIDE_BY_SIDE says. A mutant with a line `vectors:` is one that the prover can't reject: the
+program that this line names answers its test vectors. The status is 0 if all were rejected.
+"""
+
+import argparse
+import concurrent.futures
+import datetime
+import os
+import pathlib
+import re
+import shutil
+import subprocess
+import sys
+import tempfile
+
+import sources
+from sources import TOP
+
+PAGE = TOP / "tests" / "MUTANTS.md"
+TABLES = "\n## What was rejected, and when\n"
+UNTRIED = "not tried yet"
+KEY = re.compile(r"(## |file: |vectors: |rejected: |[-+])?(.*)")
+LINE = re.compile(r"(?:note: )?(?:\./)?(?P<path>(?:src|proofs)/\S+?):(?P<line>\d+):\d+: ")
+HEADER = re.compile(r"(?:unsafe )?(?:impl\b|(?:pub(?:\(\w+\))? )?trait\b)")
+FUNCTION = re.compile(
+    r'( *)(?:pub(?:\(\w+\))? )?(?:final )?(?:const )?(?:unsafe )?(?:extern "C" )?fn (\w+)'
+)
+# What a proof file reports if a name is gone, which says nothing about a contract.
+NAMES = re.compile(r".*(has no field|is not in scope|has no `|was not admitted|\(nearest: )")
+FAULT = re.compile(r"(?:\./)?(?:src|specs|proofs)/\S+?:\d+:\d+: error: ")
+# What isn't proved for a reason of its own, not because of something that it calls.
+UNPROVED = re.compile(
+    r"(?:fn|impl|struct|enum|trait) \w+::(?P<path>\S+): (?:not proved|no proof)(?!.* it calls )"
+)
+
+
+class Mutant:
+    """A mutant: its crate, its name, what it does, and a file, an old and a new text per change."""
+
+    def __init__(self, path, name, text):
+        self.path, self.crate, self.name, self.text = path, path.parent.name, name, text
+        self.title = f"{self.crate}/{name}"
+        self.changes, self.vectors, self.rejected, self.line = [], None, None, None
+
+    def changed(self, crate):
+        """Returns the new text of each file, and the file and the line of each change."""
+        texts, places = {}, []
+        for file, old, new in self.changes:
+            text = texts.get(file) or (crate / file).read_text()
+            if text.count(old) != 1:
+                raise ValueError(f"{file} has this {text.count(old)} times, not once: {old}")
+            places.append((file, text[: text.index(old)].count("\n")))
+            texts[file] = text.replace(old, new)
+        return texts, places
+
+    def apply(self, crate):
+        """Changes a copy of the crate, and returns the file and the line of each change."""
+        texts, places = self.changed(crate)
+        for file, text in texts.items():
+            (crate / file).write_text(text)
+        return places
+
+
+def parse(path):
+    """Returns the mutants of a file `mutants.txt`."""
+    found, file, is_old = [], None, False
+    for number, line in enumerate(path.read_text().splitlines()):
+        key, value = KEY.match(line).groups()
+        if key == "## ":
+            name, _, text = value.partition(": ")
+            found.append(Mutant(path, name, text))
+            file = None
+        elif not found or not line:
+            pass
+        elif key == "-" and file:
+            if not is_old:
+                found[-1].changes.append((file, [], []))
+            found[-1].changes[-1][1].append(value)
+        elif key == "+" and found[-1].changes:
+            found[-1].changes[-1][2].append(value)
+        elif key == "file: ":
+            file = value
+        elif key == "vectors: ":
+            found[-1].vectors = value
+        elif key == "rejected: ":
+            found[-1].rejected, found[-1].line = value, number
+        elif file is None:
+            found[-1].text += f" {line}"
+        else:
+            sys.exit(f"{path.relative_to(TOP)}:{number + 1}: this line belongs to no mutant")
+        is_old = key == "-"
+    for mutant in found:
+        mutant.changes = [(file, *map("\n".join, texts)) for file, *texts in mutant.changes]
+    return found
+
+
+def read_all():
+    """Returns the mutants of all crates."""
+    return [it for path in sorted(TOP.glob("crates/*/mutants.txt")) for it in parse(path)]
+
+
+def named(kind, parameters):
+    """Returns the checker's name of a type: `Option`, `RefSliceU8`, `Any`."""
+    kind = re.sub(r"'\w+,? ?|\w+::", "", kind)
+    if kind.startswith("("):
+        return f"Tuple{kind.count(',') + 1}" if kind != "()" else "Unit"
+    kind = re.sub(r"\[[^;\]]*;[^\]]*\]", "Array", kind).replace("[", "Slice ")
+    words = re.findall(r"\w+", kind.replace("&mut ", "RefMut ").replace("&", "Ref "))
+    name = ""
+    for before, word in zip(["Ref", *words], words):
+        if word not in parameters:
+            name += word[:1].upper() + word[1:]
+        elif before in ("Ref", "RefMut", "Slice"):
+            name += "Any"
+    return name
+
+
+def owner(header):
+    """Returns the checker's name of an `impl` or a trait."""
+    header = re.sub(r"\bwhere\b.*", "", header).rstrip("{} ")
+    trait = re.match(r"(?:pub(?:\(\w+\))? )?trait (\w+)", header)
+    if trait:
+        return trait[1]
+    nested = r"(?:[^<>]|->|<(?:[^<>]|<[^<>]*>)*>)*"
+    _, given, body = re.match(rf"(?:unsafe )?(impl)(?:<({nested})>)? ?(.*)", header).groups("")
+    parameters = re.findall(r"(?:^|, )(?:const )?(\w+)\b(?!>)", given)
+    stated, _, target = body.partition(" for ")
+    if target:
+        return named(target, parameters) + named(stated, parameters)
+    plain, whole = named(stated.partition("<")[0], parameters), named(stated, parameters)
+    return plain if plain == whole else f"{plain}+{whole.removeprefix(plain)}"
+
+
+def module_of(file):
+    """Returns the module path of a file of src/."""
+    module = pathlib.PurePath(file).relative_to("src").with_suffix("").parts
+    return [it for it in module if it not in ("lib", "main")]
+
+
+def function_at(crate, file, number):
+    """Returns the checker's name of the function that a line belongs to, or None."""
+    lines = (crate / file).read_text().splitlines()
+    begins = lines[number].strip().startswith(("#[", "//"))
+    for at in range(number, len(lines)) if begins else range(number, -1, -1):
+        found = FUNCTION.match(lines[at])
+        if found and (begins or f"{found[1]}}}" not in lines[at:number]):
+            break
+    else:
+        return None
+    if not found[1]:
+        return "::".join((*module_of(file), found[2]))
+    first = next((n for n in range(at, -1, -1) if HEADER.match(lines[n])), None)
+    if first is None:
+        return None
+    last = next(n for n in range(first, len(lines)) if lines[n].rstrip().endswith(("{", "}")))
+    header = " ".join(line.strip() for line in lines[first : last + 1])
+    stated, module = owner(header), module_of(file)
+    if not re.search(r"\btrait\b|\bfor\b", header):
+        # The checker counts an inherent `impl` to the module that declares the type.
+        kind = re.escape(stated.partition("+")[0])
+        declared = re.compile(rf"^(?:pub(?:\(\w+\))? )?(?:struct|enum) {kind}\b", re.MULTILINE)
+        for path in sorted((crate / "src").rglob("*.rt")):
+            if declared.search(path.read_text()):
+                module = module_of(path.relative_to(crate))
+                break
+    return "::".join((*module, stated, found[2]))
+
+
+def goals_left(copy, told):
+    """Returns the goals that aren't proved, by function."""
+    goals = {}
+    for line in told:
+        place = LINE.match(line)
+        if not place or NAMES.match(line):
+            continue
+        path = pathlib.PurePath(place["path"])
+        if path.parts[0] == "proofs":
+            function, goal = "::".join(path.parts[1:-1]), re.search(r"error: `([\w-]+)`", line)
+        else:
+            function = function_at(copy, path, int(place["line"]) - 1)
+            goal = re.search(r"\(`([\w-]+)`\)", line)
+        if goal and function:
+            goals.setdefault(function, []).append(goal[1])
+    if not goals and any(FAULT.match(line) and not NAMES.match(line) for line in told):
+        # An `impl` that states a law, or a law whose proof cites a lemma that is false.
+        goals = {it["path"]: [] for it in map(UNPROVED.match, told) if it}
+    return goals
+
+
+def clause_of(path, left):
+    """Returns the clause that rejects a mutant, given the goals that a function leaves open."""
+    *around, name = path.split("::")
+    function = "::".join([*(it for it in around if it[0].isupper()), name])
+    clause = next(filter(None, (re.search(r"-clause-(\w+)$", goal) for goal in left)), None)
+    required = next(filter(None, (re.match(r"(\w+)-requires", goal) for goal in left)), None)
+    if clause:
+        return f"`{function}`: `{clause[1]}`"
+    # The goal of a function's only clause is called `returns`.
+    if required and not any(goal.startswith("returns") for goal in left):
+        return f"`{function}`: what `{required[1]}` requires"
+    return f"`{function}`"
+
+
+class Trial:
+    """A copy of a crate in which mutants are tried. What one check proves is kept for the next."""
+
+    def __init__(self, crate, room, built):
+        self.source, self.copy = TOP / "crates" / crate, room / "crate"
+        kit = pathlib.Path(shutil.which("rt")).resolve().parents[1]
+        libraries = sources.dependencies()
+        root = "src/lib.rt" if (self.source / "src/lib.rt").exists() else "src/main.rt"
+        words = [f"{kit}/bin/rattle", "check", "--crate-name", crate, root, "--jobs", "1"]
+        words += ["--antt-project", f"{kit}/rattle/logic/antt-project.json"]
+        words += ["--logic-built", f"{kit}/logic_built", "-L", f"dependency={kit}/rlibs"]
+        for name in ("std", *libraries[crate]):
+            folder = built / "crates" / name / "out/rlib" if name in libraries else kit / "rlibs"
+            words += ["--extern", f"{name}={folder}/{name}.rlib"]
+        for name in sources.closure(libraries[crate]):
+            words += ["-L", f"dependency={built}/crates/{name}/out/rlib"]
+        words += ["--links", f"{crate}="] if root.endswith("main.rt") else []
+        self.words = [*words, "--incremental", str(room / "kept")]
+
+    def apply(self, mutants):
+        """Makes the copy anew with these mutants. Returns the places that each changes."""
+        shutil.rmtree(self.copy, ignore_errors=True)
+        left = shutil.ignore_patterns("out", "must-fail", "data")
+        shutil.copytree(self.source, self.copy, ignore=left)
+        return [mutant.apply(self.copy) for mutant in mutants]
+
+    def functions(self, places):
+        """Returns the functions at these places, or None if one is outside of any."""
+        found = {file[:4] == "src/" and function_at(self.copy, file, at) for file, at in places}
+        return found if all(found) else None
+
+    def goals(self, functions):
+        """Checks these functions, or all if there are none. Returns open goals, and an error."""
+        only = [word for name in functions for word in ("--only", name)]
+        ran = subprocess.run([*self.words, *only], cwd=self.copy, text=True, capture_output=True)
+        told = (ran.stdout + ran.stderr).splitlines()
+        if any(line.startswith("fn ") for line in told):
+            return goals_left(self.copy, told), None
+        return {}, next((line for line in told if "error" in line), "the checker printed nothing")
+
+    def together(self, changed):
+        """Returns what rejects each of some mutants, given the functions that each changes."""
+        try:
+            self.apply(changed)
+            goals, error = self.goals(sorted(set().union(*changed.values())))
+        except ValueError as hidden:
+            goals, error = {}, hidden
+        if error and len(changed) > 1:
+            pairs, half = list(changed.items()), len(changed) // 2
+            return self.together(dict(pairs[:half])) | self.together(dict(pairs[half:]))
+        found = {}
+        for mutant, functions in changed.items():
+            left = next((it for it in functions if it in goals), None)
+            if left:
+                found[mutant] = clause_of(left, goals[left])
+        return found
+
+    def alone(self, mutant):
+        """Returns what rejects a mutant, or None and why it wasn't rejected."""
+        try:
+            places = [it for it in self.apply([mutant])[0] if it[0].startswith("src/")]
+        except (OSError, ValueError) as error:
+            return None, f"DOES NOT APPLY: {error}"
+        names = {function_at(self.copy, *place) for place in places} - {None}
+        modules = {"::".join(module_of(file)) for file, _ in places} - {""}
+        for functions in [it for it in (sorted(names), sorted(modules)) if it] + [[]]:
+            goals, error = self.goals(functions)
+            if error and "has no function" not in error:
+                return None, f"CANNOT BE READ: {error[:200]}"
+            if goals:
+                return clause_of(*next(iter(goals.items()))), None
+        return None, "NOT REJECTED"
+
+    def groups(self, mutants):
+        """Returns the mutants that share a check, with the functions that each of them changes."""
+        found = []
+        for mutant in mutants:
+            try:
+                functions = self.functions(self.apply([mutant])[0])
+            except (OSError, ValueError):
+                functions = None
+            if functions:
+                free = (it for it in found if not functions & set().union(*it.values()))
+                group = next(free, None)
+                if group is None:
+                    found.append(group := {})
+                group[mutant] = functions
+        return [group for group in found if len(group) > 1]
+
+
+def try_crate(crate, mutants, built):
+    """Returns what rejects each mutant of a crate, or None."""
+    with tempfile.TemporaryDirectory() as folder:
+        trial, found = Trial(crate, pathlib.Path(folder), built), {}
+        for group in trial.groups(mutants):
+            found.update(trial.together(group))
+        for it in mutants:
+            found[it], why = (found[it], None) if it in found else trial.alone(it)
+            print(f"{it.title}: {why or f'rejected: {found[it]}'}", flush=True)
+    return found
+
+
+def try_vectors(mutant):
+    """Returns the test vectors that a program answers otherwise with a mutant, or None.
+
+    The line `vectors:` names the program, and the first word of the questions.
+    """
+    program, word = mutant.vectors.split()
+    with tempfile.TemporaryDirectory() as folder:
+        crates = pathlib.Path(folder) / "crates"
+        left = shutil.ignore_patterns("out", "must-fail")
+        shutil.copytree(TOP / "crates", crates, ignore=left)
+        for name in ("HANDLES", "crates.txt"):
+            shutil.copy(TOP / name, folder)
+        mutant.apply(crates / mutant.crate)
+        texts = [(crates / program / it).read_text() for it in ("stdin", "stdout")]
+        rows = [row for row in zip(*map(str.splitlines, texts)) if row[0].startswith(f"{word} ")]
+        asked, wanted = zip(*rows[:20])
+        given = {"input": "\n".join([*asked, ""]), "text": True, "capture_output": True}
+        ran = subprocess.run(["rt", "try"], cwd=crates / program, **given)
+    others = sum(one != other for one, other in zip(wanted, ran.stdout.splitlines()))
+    print(f"{mutant.title}: {others} of {len(asked)} test vectors of {program} differ", flush=True)
+    return f"test vectors `{word}` of `{program}`" if others else None
+
+
+def try_all(mutants, built):
+    """Returns what rejects each mutant, or None. Several crates are tried at once."""
+    by_crate, by_vectors = {}, [it for it in mutants if it.vectors]
+    for mutant in (it for it in mutants if not it.vectors):
+        by_crate.setdefault(mutant.crate, []).append(mutant)
+    if built is None:
+        libraries = sources.dependencies()
+        for name in sources.closure([it for crate in by_crate for it in libraries[crate]]):
+            folder = TOP / "crates" / name
+            subprocess.run(["rt", "lib"], cwd=folder, check=True, capture_output=True)
+    longest = sorted(by_crate.items(), key=lambda pair: -len(pair[1]))
+    with concurrent.futures.ThreadPoolExecutor(int(os.environ.get("SIDE_BY_SIDE", "4"))) as pool:
+        tries = [pool.submit(try_crate, *pair, built or TOP) for pair in longest]
+        found = dict(zip(by_vectors, pool.map(try_vectors, by_vectors)))
+        return found | {it: clause for done in tries for it, clause in done.result().items()}
+
+
+def mark(found):
+    """Writes what rejected each mutant, the day and the commit into the files."""
+
+    def git(*words):
+        command = ["git", "-C", TOP, *words]
+        return subprocess.run(command, text=True, capture_output=True).stdout.strip()
+
+    day, commit = datetime.date.today(), git("rev-parse", "--short=8", "HEAD")
+    if git("status", "--porcelain", "crates", ":!crates/*/mutants.txt"):
+        commit += "+changes"
+    for path in {mutant.path for mutant in found}:
+        lines = path.read_text().splitlines()
+        for it, clause in found.items():
+            if it.path == path:
+                lines[it.line] = f"rejected: {day} {commit} {clause or 'NOT REJECTED'}"
+        path.write_text("\n".join(lines) + "\n")
+
+
+def page():
+    """Returns the page: its text as it is, and its tables from the marks."""
+    lines = [PAGE.read_text().partition(TABLES)[0] + TABLES]
+    lines += ["| Mutant | What it does | What rejects it | Date | Commit |"]
+    lines += ["|---|---|---|---|---|"]
+    marked = [it for it in read_all() if it.rejected]
+    for it in (it for it in marked if it.rejected != UNTRIED):
+        day, commit, clause = it.rejected.split(" ", 2)
+        link = f"[`{it.title}`](../crates/{it.crate}/mutants.txt)"
+        lines.append(f"| {link} | {it.text} | {clause} | {day} | {commit} |")
+    waiting = [f"- `{it.title}`" for it in marked if it.rejected == UNTRIED]
+    if waiting:
+        lines += ["", "These have not been tried in their present form:", "", *waiting]
+    return "\n".join(lines) + "\n"
+
+
+def check(mutants):
+    """Prints mutants that don't apply, names that are used twice, and a page out of date."""
+    errors, titles = [], [it.title for it in mutants]
+    for it in mutants:
+        try:
+            it.changed(TOP / "crates" / it.crate)
+        except (OSError, ValueError) as error:
+            errors.append(f"{it.title}: {error}")
+        if not it.changes or titles.count(it.title) > 1:
+            errors.append(f"{it.title}: it has no change, or another mutant has its name")
+    if PAGE.read_text() != page():
+        errors.append(f"{PAGE.relative_to(TOP)} is out of date: tools/mutants.py page writes it")
+    print(*errors, f"{len(mutants)} mutants, {len(errors)} errors", sep="\n")
+    return bool(errors)
+
+
+def main():
+    summary, _, details = __doc__.partition("\n\n")
+    kind = argparse.RawDescriptionHelpFormatter
+    words = argparse.ArgumentParser(description=summary, epilog=details, formatter_class=kind)
+    words.add_argument("verb", choices=["try", "check", "page"])
+    words.add_argument("--marked", action="store_true")
+    words.add_argument("--untried", action="store_true")
+    words.add_argument("--built", type=pathlib.Path)
+    words.add_argument("names", nargs="*")
+    words = words.parse_args()
+    mutants, names = read_all(), set(words.names)
+    if words.verb == "check":
+        return check(mutants)
+    if words.verb == "page":
+        PAGE.write_text(page())
+        return 0
+    unknown = names - {name for it in mutants for name in (it.crate, it.name)}
+    if unknown:
+        sys.exit(f"no crate and no mutant is called {', '.join(sorted(unknown))}")
+    if words.marked or words.untried:
+        mutants = [it for it in mutants if it.rejected]
+    if words.untried:
+        mutants = [it for it in mutants if it.rejected == UNTRIED]
+    mutants = [it for it in mutants if not names or {it.crate, it.name} & names]
+    found = try_all(mutants, words.built and words.built.resolve())
+    if words.marked or words.untried:
+        mark(found)
+        PAGE.write_text(page())
+    rejected = sum(1 for it in mutants if found[it])
+    print(f"{rejected} rejected, {len(mutants) - rejected} not rejected")
+    return rejected != len(mutants)
+
+
+if __name__ == "__main__":
+    sys.exit(main())
