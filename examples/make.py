@@ -8,38 +8,14 @@ SHA-256 of the key's octets followed by the signed octets. It protects nothing; 
 
 import hashlib
 import pathlib
+import sys
 
-HERE = pathlib.Path(__file__).parent
+HERE = pathlib.Path(__file__).resolve().parent
+sys.path.insert(0, str(HERE.parent / "tests"))
 
+from der import bits, identifier, tlv
 
-def tlv(tag: int, content: bytes) -> bytes:
-    """A header with the shortest length, and the content (X.690 8.1, 10.1)."""
-    size = len(content)
-    if size < 128:
-        length = bytes([size])
-    else:
-        digits = size.to_bytes((size.bit_length() + 7) // 8, "big")
-        length = bytes([128 + len(digits)]) + digits
-    return bytes([tag]) + length + content
-
-
-def identifier(*arcs: int) -> bytes:
-    """OBJECT IDENTIFIER (X.690 8.19)."""
-    octets = [40 * arcs[0] + arcs[1]]
-    for arc in arcs[2:]:
-        digits = [arc % 128]
-        while arc >= 128:
-            arc //= 128
-            digits.append(128 + arc % 128)
-        octets += reversed(digits)
-    return tlv(0x06, bytes(octets))
-
-
-def bit_string(octets: bytes) -> bytes:
-    return tlv(0x03, b"\x00" + octets)
-
-
-ALGORITHM = tlv(0x30, identifier(1, 3, 6, 1, 4, 1, 32473, 2))
+ALGORITHM = tlv(0x30, identifier("1.3.6.1.4.1.32473.2"))
 EMPTY_NAME = tlv(0x30, b"")
 
 
@@ -49,13 +25,13 @@ def validity(not_before: str, not_after: str) -> bytes:
 
 
 def certificate(serial: int, key: bytes, signing_key: bytes, dates: bytes) -> bytes:
-    key_info = tlv(0x30, ALGORITHM + bit_string(key))
+    key_info = tlv(0x30, ALGORITHM + bits(key))
     signed = tlv(
         0x30,
         tlv(0x02, bytes([serial])) + ALGORITHM + EMPTY_NAME + dates + EMPTY_NAME + key_info,
     )
     signature = hashlib.sha256(signing_key + signed).digest()
-    return tlv(0x30, signed + ALGORITHM + bit_string(signature))
+    return tlv(0x30, signed + ALGORITHM + bits(signature))
 
 
 DATES = validity("020101120100Z", "301231083000Z")
@@ -63,11 +39,10 @@ ANCHOR = certificate(1, b"anchor key", b"anchor key", DATES)
 TRUSTED = certificate(2, b"server key", b"anchor key", DATES)
 
 
-
 def named_key(key: bytes, name: bytes | None, *limits: bytes) -> bytes:
     """A trust anchor that is told by its key: taInfo [2] EXPLICIT TrustAnchorInfo (RFC 5914 2)."""
     path = b"" if name is None else tlv(0x30, name + b"".join(limits))
-    key_info = tlv(0x30, ALGORITHM + bit_string(key))
+    key_info = tlv(0x30, ALGORITHM + bits(key))
     return tlv(0xA2, tlv(0x30, key_info + tlv(0x04, b"") + path))
 
 
