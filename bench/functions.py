@@ -1,5 +1,5 @@
 #!/usr/bin/env python3
-"""Tells what the check of a crate spends on each function.
+"""Prints what the check of a crate spends on each function.
 
     bench/functions.py CRATE [MOST]
 

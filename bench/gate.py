@@ -1,11 +1,16 @@
 #!/usr/bin/env python3
-"""Runs `rt ci`, as `.ci/run` does, and tells what it spent: see gate.sh.
+"""Runs `rt ci`, and prints the processor minutes that it took, by crate and kind.
+
+    bench/gate.py [LOG]     at the top of a clean clone; what CI prints goes to LOG (none: to a file
+                            that is named), the table to standard output
 
 The total is what the system counts for the gate and all that it started. The table is from samples
 of the running checks, two seconds apart, each told by its words: a proof, the proof of a crate's
 tests, the check of an edit, a program (its proof, and what two compilers make of it). What is left
 of the total is start: `rt` itself, the programs and tests as they run, and what ended between two
-samples."""
+samples.
+"""
+
 import collections
 import os
 import resource
@@ -88,6 +93,9 @@ def run(log):
 
 
 def main():
+    if sys.argv[1:2] == ["--help"]:
+        print(__doc__, file=sys.stderr)
+        return 2
     path = sys.argv[1] if len(sys.argv) > 1 else tempfile.mkstemp(prefix="gate-", suffix=".log")[1]
     with open(path, "w") as log:
         status, minutes, seen = run(log)

@@ -1,54 +1,303 @@
 #!/usr/bin/env python3
-"""Measures what reading, judging, writing and showing cost, and writes SPEED.md.
+"""Measures what reading, judging, writing and showing cost, and writes bench/SPEED.md.
 
-    bench/speed.py [--programs FOLDER] [--printed FOLDER]
+    bench/speed.py [--programs FOLDER] [--built CLONE] [PART..]
 
-runs roots.sh, chains.sh, show.sh, tool.sh and pieces.sh one after the other, and takes the page's
-figures from what they print. Their programs are proved first (program.sh says how libraries are
-taken that are built). FOLDER of --programs has cert_tool and cert_desk_program, proved and built;
-without it they are those of `out/`. FOLDER of --printed has what the scripts printed, each in a
-file of its name: those that are there aren't run, and what the others print is kept there.
+Each PART prints what it counts, and only a run of all of them writes the page:
+
+  roots    reads the roots of ca-certificates with x509_cert and with mbedTLS, writes them again,
+           reads their extensions, reads them into a bundle and judges each below itself, and walks
+           their headers with a plain C loop (walk.c)
+  chains   judges a chain of four that OpenSSL makes (three authorities and a server below an RSA
+           root, the anchor), with `check` under a judge who says yes and with mbedTLS without its
+           digest and signature
+  show     shows the roots with cert_desk_listing and with OpenSSL, which prints the same parts
+  tool     runs `cert_tool` and `cert_desk`: describe and show each root, verify and check a chain
+  pieces   reads a stream of 10,000 certificates in one piece, in pieces of 1,000 bytes and byte by
+           byte, beside a program that keeps the same certificates with a copy of their bytes
+
+Instructions are valgrind's, and calls for memory too: means by the difference of many rounds and
+one. A program of bench/PART is proved and built in a copy of the crates, which takes the libraries
+that CLONE has built (`out/rlib`); `cert_tool` and `cert_desk_program` are those of `out/`. FOLDER
+may have any of these programs instead, by their names.
 """
 
 import datetime
+import os
 import pathlib
 import re
+import shutil
 import subprocess
 import sys
 import tempfile
+import time
 
 HERE = pathlib.Path(__file__).resolve().parent
 TOP = HERE.parent
+sys.path.insert(0, str(TOP / "tools"))
+
+import needs
+
 PAGE = HERE / "SPEED.md"
-SCRIPTS = ("roots.sh", "chains.sh", "show.sh", "tool.sh", "pieces.sh")
+ROOTS = pathlib.Path("/usr/share/ca-certificates/mozilla")
 
 # What 0.10.0 took: a root written, shown and described, by the same differences.
 WRITTEN, SHOWN, DESCRIBED = 11942, 52217, 325328
 
 
-def said_by(words):
-    """The first line that a command prints, or none."""
-    ran = subprocess.run(words, capture_output=True, text=True, cwd=TOP)
-    return ran.stdout.partition("\n")[0] if ran.returncode == 0 else ""
+def said(*words, check=True, **how):
+    """What a command prints."""
+    words = [str(it) for it in words]
+    how = {"stdout": subprocess.PIPE, "stderr": subprocess.DEVNULL, **how}
+    ran = subprocess.run(words, check=check, **how)
+    return ran.stdout
 
 
-def printed_by(script, programs, printed):
-    """What the script prints, or printed before."""
-    kept = printed / script
-    if not kept.exists():
-        words = [HERE / script] + ([programs] if programs and script == "tool.sh" else [])
-        ran = subprocess.run(words, stdout=subprocess.PIPE, text=True, check=True)
-        kept.write_text(ran.stdout)
-    return kept.read_text()
+def first_line(*words):
+    return said(*words, check=False, cwd=TOP).decode().partition("\n")[0]
 
 
-def numbers(text, pattern):
-    """The numbers in the groups of the pattern, whose only match is a line's."""
-    found = re.findall(rf"(?m)^{pattern}", text)
-    if len(found) != 1:
-        raise SystemExit(f"{pattern}: {len(found)} lines")
-    groups = found[0] if isinstance(found[0], tuple) else (found[0],)
-    return [float(it) if "." in it else int(it) for it in groups]
+def told_by(pattern, *words):
+    """The number that valgrind, or time, tells on the error output."""
+    ran = subprocess.run([str(it) for it in words], stdout=subprocess.DEVNULL,
+                         stderr=subprocess.PIPE, text=True)
+    found = re.search(pattern, ran.stderr)
+    return int(found[1].replace(",", "")) if found else sys.exit(ran.stderr)
+
+
+def instructions(*command):
+    callgrind = "valgrind", "--tool=callgrind", "--callgrind-out-file=/dev/null"
+    return told_by(r"Collected : (\d+)", *callgrind, *command)
+
+
+def wants(*command):
+    return told_by(r"total heap usage: ([\d,]+) allocs", "valgrind", *command)
+
+
+def peak(*command):
+    """The most kilobytes that the system lent a run."""
+    return told_by(r"(\d+)\s*$", "/usr/bin/time", "-f", "%M", *command)
+
+
+class Bench:
+    """The programs, a folder for work, and what was counted by its name."""
+
+    def __init__(self, work, programs, built):
+        self.work, self.programs, self.built = pathlib.Path(work), programs, built
+        self.counts, self.lines = {}, []
+
+    def say(self, line):
+        print(line, flush=True)
+        self.lines.append(line)
+
+    def program(self, name, folder=None, libraries=""):
+        """A program by its name; one of bench/FOLDER stands on these libraries."""
+        if self.programs and (self.programs / name).is_file():
+            return self.programs / name
+        if folder is None:
+            return TOP / "crates" / name / "out" / name
+        crates = self.work / "crates"
+        if not crates.is_dir():
+            left = shutil.ignore_patterns("out", "must-fail")
+            shutil.copytree(TOP / "crates", crates, ignore=left)
+            shutil.copy(TOP / "crates.txt", self.work)
+            said("git", "init", "-q", self.work)
+            for made in self.built.glob("crates/*/out/rlib") if self.built else ():
+                place = crates / made.parts[-3] / "out/rlib"
+                shutil.copytree(made, place, copy_function=os.link)
+        crate = crates / name
+        (crate / "src").mkdir(parents=True)
+        (crate / "specs").mkdir()
+        (crate / "specs/Lib.antt").touch()
+        shutil.copy(HERE / folder / "main.rt.txt", crate / "src/main.rt")
+        with open(self.work / "crates.txt", "a") as listed:
+            print(f"{name}: {libraries}", file=listed)
+        ran = subprocess.run(["rt", "run"], cwd=crate, capture_output=True, text=True)
+        if ran.returncode:
+            sys.exit("".join((ran.stdout + ran.stderr).splitlines(True)[-20:]))
+        return crate / "out" / name
+
+    def compiled(self, source, *flags):
+        program = self.work / source.replace("/", "_").removesuffix(".c")
+        said("gcc", "-O2", "-o", program, HERE / source, *flags)
+        return program
+
+    def roots(self):
+        """A file of all roots, and how many there are."""
+        files = sorted(ROOTS.glob("*.crt"))
+        der = [said("openssl", "x509", "-in", it, "-outform", "DER") for it in files]
+        (self.work / "roots.der").write_bytes(b"".join(der))
+        return self.work / "roots.der", len(files)
+
+    def count(self, name, count, command, many=10):
+        """Counts what one of so many costs, by the difference of rounds: their number stands where
+        the command has None."""
+        def rounds(number):
+            return [number if word is None else word for word in command]
+
+        spent = instructions(*rounds(many + 1)) - instructions(*rounds(1))
+        asked = wants(*rounds(many + 1)) - wants(*rounds(1))
+        found = self.counts[name] = spent // (many * count), asked / (many * count)
+        self.say(f"{name}: {found[0]} instructions, {found[1]:.2f} calls for memory")
+
+
+def roots(bench):
+    reads = bench.program("root_reads", "roots", "x509_cert der_core")
+    uses = bench.program("root_uses", "roots_used", "x509_cert der_core")
+    checks = bench.program("root_checks", "roots_checked", "cert_desk x509_cert der_core const_oid")
+    mbedtls = bench.compiled("roots/mbedtls.c", "-lmbedx509", "-lmbedcrypto")
+    walk = bench.compiled("walk.c")
+    file, count = bench.roots()
+    bench.say(f"{count} roots")
+    for name, *command in (
+        ("x509_cert, read", reads),
+        ("x509_cert, read by a program that lends it", uses, "read"),
+        ("x509_cert, read and written", uses, "write"),
+        ("x509_cert, read and weighed", uses, "weigh"),
+        ("cert_desk_checking, read into a bundle", checks, "read"),
+        ("cert_desk_checking, read into a bundle and checked", checks, "check"),
+        ("mbedTLS, read", mbedtls),
+        ("headers in C", walk),
+    ):
+        bench.count(name, count, [*command, file, None])
+    bench.say(f"read and differ: {said(uses, 'write', file, 1).decode().strip()}")
+    refused = said(uses, "weigh", file, 1).decode().strip()
+    bench.say(f"read and hold an extension that is refused: {refused}")
+
+
+def chains(bench):
+    program = bench.program("chain_judged", "chains", "cert_desk x509_cert const_oid")
+    mbedtls, work = bench.compiled("chains/mbedtls.c", "-lmbedx509", "-lmbedcrypto"), bench.work
+
+    def certify(name, issuer, key, *extensions):
+        words = ["openssl", "req", "-x509", "-newkey", *key, "-nodes", "-config", "/dev/null"]
+        words += ["-keyout", f"{name}.key", "-out", f"{name}.pem", "-days", "3650"]
+        words += ["-subj", f"/C=US/O=Desk Example/CN={name}"]
+        words += ["-CA", f"{issuer}.pem", "-CAkey", f"{issuer}.key"] if issuer else []
+        said(*words, *(word for it in extensions for word in ("-addext", it)), cwd=work)
+        return said("openssl", "x509", "-in", f"{name}.pem", "-outform", "DER", cwd=work)
+
+    authority = "basicConstraints=critical,CA:true", "keyUsage=critical,keyCertSign,cRLSign"
+    curve = "ec", "-pkeyopt", "ec_paramgen_curve:prime256v1"
+    (work / "root.der").write_bytes(certify("root", None, ["rsa:2048"], *authority))
+    names = ["root", "first", "second", "third"]
+    chain = [certify(it, above, curve, *authority) for above, it in zip(names, names[1:])]
+    chain.append(certify(
+        "server", "third", curve, "basicConstraints=critical,CA:false",
+        "keyUsage=critical,digitalSignature", "extendedKeyUsage=serverAuth",
+        "subjectAltName=DNS:desk.example,DNS:www.desk.example"))
+    (work / "chain.der").write_bytes(b"".join(chain))
+    given = int(time.time()), work / "root.der", work / "chain.der"
+    bench.say(said(program, 1, *given).decode().strip())
+    bench.count("cert_desk_checking", 1, [program, None, *given], 100)
+    pem = [work / f"{it}.pem" for it in ("root", "server", "third", "second", "first")]
+    bench.count("mbedTLS", 1, [mbedtls, None, *pem], 100)
+
+
+def show(bench):
+    program = bench.program("root_listings", "show", "cert_desk der_core")
+    openssl = bench.compiled("show/openssl.c", "-lcrypto")
+    file, count = bench.roots()
+    ours, theirs = said(program, file, 1), said(openssl, file, 1)
+    bench.say(f"{count} roots, {len(ours)} octets of listings")
+    bench.count("cert_desk_listing, read and shown", count, [program, file, None])
+    bench.count("OpenSSL, read and shown", count, [openssl, file, None])
+    # the same names, in the same order, as OpenSSL prints them
+    ours = re.findall(rb"(?m)^(issuer|subject) (.*)", ours)
+    theirs = re.findall(rb"(?m)^(issuer|subject)=(.*)", theirs)
+    differ = sum(one != other for one, other in zip(ours, theirs, strict=True))
+    bench.say(f"names that are printed otherwise: {differ}")
+
+
+def tool(bench):
+    desk, tool = bench.program("cert_desk_program"), bench.program("cert_tool")
+
+    def less_a_start(program, *words):
+        """The instructions of a run, and its calls for memory less those of a run that finds a
+        wrong word."""
+        return instructions(program, *words), wants(program, *words) - wants(program, "nothing")
+
+    starts = [instructions(it, "nothing") for it in (tool, desk)]
+
+    def told(what, other, one, two, per):
+        """Says what two runs cost, and keeps it less their starts."""
+        bench.say(f"{what}: {one[0]} instructions{per}, {other}: {two[0]}: {one[0] / two[0]:.2f}")
+        less = [run[0] - start for run, start in zip((one, two), starts)]
+        bench.say(f"less a run that finds a wrong word ({starts[0]}, {starts[1]}): "
+                  f"{less[0]}, {less[1]}: {less[0] / less[1]:.2f}")
+        bench.say(f"calls for memory less that: {one[1]:g}, {two[1]:g}")
+        bench.counts[what], bench.counts[other] = (less[0], one[1]), (less[1], two[1])
+
+    described, shown = [], []
+    for path in sorted(ROOTS.glob("*.crt")):
+        root = bench.work / "root.der"
+        root.write_bytes(said("openssl", "x509", "-in", path, "-outform", "DER"))
+        described.append(less_a_start(tool, "describe", "certificate", root))
+        shown.append(less_a_start(desk, "show", "certificate", root))
+    one, two = ([sum(it) / len(runs) for it in zip(*runs)] for runs in (described, shown))
+    told("describe", "show", (int(one[0]), round(one[1], 2)), (int(two[0]), round(two[1], 2)),
+         f" a root of {len(shown)}")
+    # the second order once more, without its path length
+    orders = (TOP / "examples/orders.txt").read_text().rstrip().split("\n\n")
+    more = orders[1].replace("\npath 0", "").replace("Intermediate", "Authority")
+    orders.insert(1, more.replace("serial 02", "serial 03"))
+    files = [bench.work / name for name in ("orders", "stream", "anchor", "answers")]
+    files[0].write_text("\n\n".join(orders) + "\n\n")
+    files[1].write_bytes(said(desk, "issue", files[0]))
+    first = "openssl", "x509", "-inform", "DER", "-in", files[1], "-outform", "DER"
+    files[2].write_bytes(said(*first))
+    files[3].write_bytes(said(tool, "questions", "--anchors", files[2], files[1]))
+    words = "verify", "--anchors", files[2], "--answers", files[3], "--at", 1790000000, files[1]
+    checks = "check", files[2], files[1], 1790000000, "1.3.6.1.5.5.7.3.1", 4096
+    for line in said(tool, *words), said(desk, *checks):
+        bench.say(line.decode().strip())
+    told("verify", "check", less_a_start(tool, *words), less_a_start(desk, *checks), "")
+
+
+def pieces(bench):
+    program = bench.program("piece_reads", "pieces", "cert_desk x509_cert der_core")
+    half, whole = bench.work / "half.der", bench.work / "all.der"
+    half.write_bytes((TOP / "examples/trusted.der").read_bytes() * 5000)
+    whole.write_bytes(half.read_bytes() * 2)
+    none, all_at_once, one_piece = instructions(program, "none", half), None, 10**9
+    for size, name in (one_piece, "in one piece"), (1000, "in pieces of 1000"), (1, "one by one"):
+        first, both = (instructions(program, size, file) for file in (half, whole))
+        all_at_once = all_at_once or both - none
+        bench.say(f"{name}: {(first - none) // 5000} instructions a certificate of the first 5000, "
+                  f"{(both - first) // 5000} of the next 5000, {(both - none) / all_at_once:.2f} "
+                  "times those in one piece")
+    start = peak(program, "none", whole)
+    kept, *fed = (peak(program, it, whole) - start for it in ("keep", one_piece, 1000, 1))
+    bench.say(f"memory: {kept} kB for certificates and octets alone, {fed[0]} for a bundle fed in "
+              f"one piece, {fed[1]} in pieces of 1000 octets, {fed[2]} octet by octet")
+    bench.counts["kept"], bench.counts["fed"] = (kept, None), (max(fed), None)
+
+
+PARTS = {it.__name__: it for it in (roots, chains, show, tool, pieces)}
+
+
+def rows(counts):
+    """What is counted, how much and how many calls for memory it takes, beside what, how much that
+    is and takes, and the most that is wanted."""
+    read, both = counts["x509_cert, read"], counts["x509_cert, read and written"]
+    mbedtls = counts["mbedTLS, read"]
+    yield "a root, read and dropped", read, "by mbedTLS", mbedtls, "0.65, and 10 calls"
+    checked = counts["cert_desk_checking, read into a bundle and checked"]
+    yield "a root, read into a `Bundle` and judged", checked, "read", read, "1.34, and 13,000"
+    lent = counts["x509_cert, read by a program that lends it"]
+    written = both[0] - lent[0], both[1] - read[1]
+    yield "a root, written again", written, "by 0.10.0", (WRITTEN, None), "0.75"
+    for what, name, beside, other, most in (
+        ("a chain of four, judged by `check`", "cert_desk_checking", "by mbedTLS", "mbedTLS",
+         "0.50"),
+        ("a root, read and shown", "cert_desk_listing, read and shown", "by OpenSSL",
+         "OpenSSL, read and shown", ""),
+        ("a root, by `cert_desk show`", "show", "by 0.10.0", SHOWN, "0.5"),
+        ("a root, by `cert_tool describe`", "describe", "by 0.10.0", DESCRIBED, "0.5"),
+        ("a chain of four, by `cert_tool verify`", "verify", "by `check`", "check", "1.3"),
+        ("kB of a stream of 10,000, at most", "fed", "certificates, octets", "kept", "1.06"),
+    ):
+        yield what, counts[name], beside, counts.get(other) or (other, None), most
 
 
 def told(count):
@@ -59,54 +308,11 @@ def told(count):
     return f"{much:,}, and {asked:,}" if isinstance(asked, int) else f"{much:,}, and {asked:,.2f}"
 
 
-def counted(text, name):
-    """The instructions and the calls for memory that a script prints of what has this name."""
-    name = re.escape(name)
-    [count] = numbers(text, rf"{name}: (\d+) instructions$")
-    [asked] = numbers(text, rf"{name}: ([\d.]+) calls for memory$")
-    return count, asked
-
-
-def rows(texts):
-    """What is counted, how much and how many calls for memory it takes, beside what, how much that
-    is and takes, and the most that is wanted."""
-    roots, chains, listed, tool, pieces = (texts[it] for it in SCRIPTS)
-    read, mbedtls = counted(roots, "x509_cert, read"), counted(roots, "mbedTLS, read")
-    yield "a root, read and dropped", read, "by mbedTLS", mbedtls, "0.65, and 10 calls"
-    checked = counted(roots, "cert_desk_checking, read into a bundle and checked")
-    yield "a root, read into a `Bundle` and judged", checked, "read", read, "1.34, and 13,000"
-    both = counted(roots, "x509_cert, read and written")
-    [lent] = numbers(roots, r"x509_cert, read by a program that lends it: (\d+) instructions$")
-    written = both[0] - lent, both[1] - read[1]
-    yield "a root, written again", written, "by 0.10.0", (WRITTEN, None), "0.75"
-    chain, theirs = counted(chains, "cert_desk_checking"), counted(chains, "mbedTLS")
-    yield "a chain of four, judged by `check`", chain, "by mbedTLS", theirs, "0.50"
-    ours = counted(listed, "cert_desk_listing, read and shown")
-    theirs = counted(listed, "OpenSSL, read and shown")
-    yield "a root, read and shown", ours, "by OpenSSL", theirs, ""
-    words = r"less a run that finds a wrong word \(\d+, \d+\): (\d+), (\d+): [\d.]+$"
-    described, shown = numbers(tool, words)
-    describing, showing = numbers(tool, r"calls for memory less that: ([\d.]+), ([\d.]+)$")
-    yield "a root, by `cert_desk show`", (shown, showing), "by 0.10.0", (SHOWN, None), "0.5"
-    described = described, describing
-    yield "a root, by `cert_tool describe`", described, "by 0.10.0", (DESCRIBED, None), "0.5"
-    verified, checked = numbers(tool, r"less that: (\d+), (\d+): [\d.]+$")
-    verifying, checking = numbers(tool, r"calls for memory of both less that: (\d+), (\d+)$")
-    verified, checked = (verified, verifying), (checked, checking)
-    yield "a chain of four, by `cert_tool verify`", verified, "by `check`", checked, "1.3"
-    words = (
-        r"memory: (\d+) kB for certificates and octets alone, (\d+) for a bundle fed in one piece,"
-        r" (\d+) in pieces of 1000 octets, (\d+) octet by octet$"
-    )
-    kept, *fed = ((it, None) for it in numbers(pieces, words))
-    yield "kB of a stream of 10,000, at most", max(fed), "certificates, octets", kept, "1.06"
-
-
-def page(texts):
-    mbedtls = said_by(["dpkg-query", "-W", "-f", "${Version}\n", "libmbedtls-dev"])
-    commit = said_by(["git", "log", "-1", "--format=%h", "--", "crates"])
-    kit = said_by(["rt", "version"]).partition(" ")[0]
-    openssl = said_by(["openssl", "version"]).split(" ")[1]
+def page(bench):
+    mbedtls = first_line("dpkg-query", "-W", "-f", "${Version}\n", "libmbedtls-dev")
+    commit = first_line("git", "log", "-1", "--format=%h", "--", "crates")
+    kit = first_line("rt", "version").partition(" ")[0]
+    openssl = first_line("openssl", "version").split(" ")[1]
     of = f"{datetime.date.today()}, crates of {commit}, {kit}, LLVM"
     out = [
         "# What reading, judging and writing cost",
@@ -116,33 +322,34 @@ def page(texts):
         "",
         "Instructions are valgrind's: the mean of a root of `ca-certificates`, or of a chain of",
         "four, by differences that leave out the start of a program. Of `cert_tool` and",
-        "`cert_desk` they are those of a run less a run that finds a wrong word. Behind them stand",
+        "`cert_desk` they are those of a run less a run that finds a wrong word. After them stand",
         "the calls for memory, likewise.",
         "",
         "| What | Counted | Beside | Counted | Ratio | Wanted, at most |",
         "|---|---|---|---|---|---|",
     ]
-    for what, count, beside, other, most in rows(texts):
+    for what, count, beside, other, most in rows(bench.counts):
         ratio = f"{count[0] / other[0]:.3f}"
         out.append(f"| {what} | {told(count)} | {beside} | {told(other)} | {ratio} | {most} |")
-    out += ["", "What the scripts print:", "", "```text"]
-    for script in SCRIPTS:
-        out += [script, *(f"  {line}" for line in texts[script].rstrip().split("\n"))]
-    return "\n".join([*out, "```", ""])
+    return "\n".join([*out, "", "What the script prints:", "", "```text", *bench.lines, "```", ""])
 
 
 def main(words):
     given = {}
-    while len(words) > 1 and words[0] in ("--programs", "--printed"):
+    while len(words) > 1 and words[0] in ("--programs", "--built"):
         given[words[0]] = pathlib.Path(words[1]).resolve()
         words = words[2:]
-    if words:
-        print(__doc__)
+    if set(words) - set(PARTS):
+        print(__doc__, file=sys.stderr)
         return 2
-    with tempfile.TemporaryDirectory() as room:
-        printed = given.get("--printed", pathlib.Path(room))
-        texts = {it: printed_by(it, given.get("--programs"), printed) for it in SCRIPTS}
-    PAGE.write_text(page(texts))
+    needs.check(__file__)
+    with tempfile.TemporaryDirectory() as work:
+        bench = Bench(work, given.get("--programs"), given.get("--built"))
+        for name in words or PARTS:
+            bench.say(name)
+            PARTS[name](bench)
+        if not words:
+            PAGE.write_text(page(bench))
     return 0
 
 

@@ -14,9 +14,9 @@ too short but for the kit's `std/specs`, which isn't counted.
 
 import re
 import sys
+import textwrap
 
 import sources
-import wrap
 
 PAGE = sources.TOP / "docs" / "tables" / "DEFINITIONS.md"
 
@@ -117,6 +117,12 @@ def members_of(code, calls):
     return found
 
 
+def filled(line, indent=""):
+    """A paragraph, or an item of a list, in lines of at most 100 columns."""
+    how = {"break_long_words": False, "break_on_hyphens": False, "subsequent_indent": indent}
+    return textwrap.fill(line, sources.WIDTH, **how)
+
+
 def told_many(items, one, many):
     return f"{len(items)} {one if len(items) == 1 else many}"
 
@@ -134,7 +140,7 @@ def page():
     order = [crate for crate in sources.closure(sources.dependencies()) if crate in by_crate]
     links = [f"[`{crate}`](#{crate})" for crate in order]
     contents = ["- [What to read for which claim](#what-to-read-for-which-claim)"]
-    contents += [f"- By crate: {', '.join(links)}"]
+    contents += [filled(f"- By crate: {', '.join(links)}", "  ")]
     heading = "Proofs that stand among the definitions"
     contents += [f"- [{heading}](#{heading.lower().replace(' ', '-')})"]
     lines = [HEAD.replace("CONTENTS", "\n".join(contents)), "## What to read for which claim", ""]
@@ -164,7 +170,8 @@ def page():
         stated = [c for c in calls_of(code) if c.crate == crate and c.name.startswith("ghost ")]
         size = sum(len(call.text.splitlines()) for call in stated)
         members = f"{told_many(stated, 'ghost member', 'ghost members')} of impls, {size} lines"
-        lines += ["; ".join([total] * bool(here) + [members] * bool(stated)) + ".", ""]
+        told = "; ".join([total] * bool(here) + [members] * bool(stated))
+        lines += [filled(f"{told}."), ""]
         if here:
             lines += ["| File | Lines | Definitions | What it says |", "|---|---|---|---|"]
         for file in here:
@@ -174,7 +181,7 @@ def page():
             lines.append(f"| {link} | {len(file.lines)} | {len(kept)} | {says} |")
         if passing:
             names = ", ".join(f"`{f.name}`" for f in passing)
-            lines += ["", f"Passed on from the crates below: {names}."]
+            lines += ["", filled(f"Passed on from the crates below: {names}.")]
         lines.append("")
     proofs = [d for f in files.values() for d in f.definitions.values() if d.sort == "proof"]
     lines += [f"## {heading}", ""]
@@ -189,9 +196,9 @@ def page():
         f"`proofs/` of its own crate; {serving} serve these"
     )
     left = [proof for proof in proofs if proof.key not in behind_them]
-    lines += [told + ("; others belong into `proofs/`:" if left else "."), ""]
+    lines += [filled(told + ("; others belong into `proofs/`:" if left else ".")), ""]
     lines += [f"- `{it.crate}/specs/{it.file}`: `{it.name}` ({it.line})." for it in left]
-    return wrap.wrapped("\n".join(lines).rstrip() + "\n")
+    return "\n".join(lines).rstrip() + "\n"
 
 
 def claim(names):

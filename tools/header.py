@@ -1,5 +1,5 @@
 #!/usr/bin/env python3
-"""Compares calls/wurstdrape.h with the sources: each call of crates/cert_desk_c and
+"""Compares bindings/wurstdrape.h with the sources: each call of crates/cert_desk_c and
 cert_desk_issuing_c with each argument, each struct with each field, and each number of a status, a
 rule, a kind of fault or a reason with the definition that the contracts cite. Then the Rust crate
 and the Python module with the header: each call that Rust declares, and the numbers of both.
@@ -17,9 +17,9 @@ CALLS = [
     for name in ("cert_desk_c", "cert_desk_issuing_c")
     for file in sorted((TOP / "crates" / name / "src").glob("*.rt"))
 ]
-HEADER = TOP / "calls" / "wurstdrape.h"
-RUST = TOP / "calls" / "rust" / "src"
-PYTHON = TOP / "calls" / "python" / "src" / "wurstdrape" / "__init__.py"
+HEADER = TOP / "bindings" / "wurstdrape.h"
+RUST = TOP / "bindings" / "rust" / "src"
+PYTHON = TOP / "bindings" / "python" / "src" / "wurstdrape" / "__init__.py"
 
 # Each enumeration by the prefix of its names, and the definition of its numbers.
 NUMBERS = {

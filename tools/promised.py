@@ -17,9 +17,7 @@ import subprocess
 import sys
 import tempfile
 
-import items
 import sources
-import take
 
 TOP = sources.TOP
 # What types are declared by isn't promised.
@@ -77,7 +75,7 @@ def of_item(path, item):
 def promised(top):
     """Each part of what a repository promises, and what is said of it."""
     sources.TOP, sources.CRATES = top, top / "crates"
-    house, found = items.House(sources.sources()), {}
+    house, found = sources.House(sources.sources()), {}
     for item in (item for own in house.own.values() for item in own.values()):
         for path in item.imports:
             found |= {} if path.startswith(OTHERS) else of_item(path, item)
@@ -88,8 +86,9 @@ def promised(top):
         ("rust/src/lib.rs", r"(?m)^ *pub (?:const )?(?:fn|struct|enum|type|const) (\w+)([^;{]*)"),
         ("python/src/wurstdrape/__init__.py", r"(?m)^(?:def|class) ([a-zA-Z]\w*)(.*)"),
     ):
-        file = top / "calls" / path
-        for name, said in re.findall(told, file.read_text() if file.exists() else ""):
+        # The folder of the bindings of 1.0.0 was calls/.
+        file = next(it for it in (top / "bindings" / path, top / "calls" / path) if it.exists())
+        for name, said in re.findall(told, file.read_text()):
             found[f"{path} {name}"] = " ".join(said.split())
     return found
 
@@ -104,7 +103,7 @@ def main(words):
         if packed.returncode:
             return 2
         subprocess.run(["tar", "-x", "-C", room], input=packed.stdout, check=True)
-        was, version = promised(old), take.version(old)[0]
+        was, version = promised(old), sources.version(old)
     now = promised(TOP)
     gone, new = sorted(was.keys() - now.keys()), sorted(now.keys() - was.keys())
     others = sorted(part for part in was.keys() & now.keys() if was[part] != now[part])

@@ -13,7 +13,6 @@ import re
 import sys
 
 import sources
-import wrap
 
 CALLS = sources.TOP / "tools" / "reference" / "calls.md"
 PAGES = [sources.TOP / "docs" / "TRUST.md", CALLS]
@@ -58,7 +57,7 @@ def rows(page=CALLS):
     for number, line in enumerate(page.read_text().splitlines(), 1):
         if line.startswith("**`"):
             crates = re.findall(r"\*\*`([a-z0-9_]+)`\*\*", line)
-        cells = wrap.cells(line)
+        cells = sources.cells(line)
         if line.startswith("|") and len(cells) == (2 if page == CALLS else 4):
             if cells[0] not in ("Call", "---"):
                 yield Row(number, crates, cells)

@@ -6,8 +6,8 @@
     tools/take.py --again CRATE.. FOLDER    exchanges those that are there, too
     tools/take.py --list CRATE..            prints the lines of crates.txt alone
 
-With --release RELEASE before all else it lays the libraries of a release there, as tools/unpack
-does, so that `rt` proves none of them again.
+With --release RELEASE before all else it lays the libraries of a release there, as
+tools/release.py does, so that `rt` proves none of them again.
 
 Of a crate it takes src/, specs/ and proofs/; with --edits must-fail/ too, which `rt ci` tries
 there. It writes into FOLDER/TAKEN.md of which version each crate is. It needs nothing but Python;
@@ -15,25 +15,14 @@ with --release the kit and zstd.
 """
 
 import pathlib
-import re
 import shutil
 import subprocess
 import sys
 
-import released
+import release
 import sources
 
 PARTS = ["src", "specs", "proofs"]
-
-
-def version(top=sources.TOP):
-    """The number of the last version in a repository's CHANGELOG.md, and the commit that stands
-    there."""
-    text = (top / "CHANGELOG.md").read_text()
-    number = re.search(r"^## (\d\S*)", text, re.M)[1]
-    asked = ["git", "-C", str(top), "rev-parse", "--short=12", "HEAD"]
-    commit = subprocess.run(asked, capture_output=True, text=True).stdout.strip()
-    return number, commit or "unknown"
 
 
 def named(line):
@@ -52,7 +41,9 @@ def lines_of(names):
 
 def note(path, taken):
     """Writes of which version each crate is: those that were taken now of this one."""
-    number, commit = version()
+    asked = ["git", "-C", str(sources.TOP), "rev-parse", "--short=12", "HEAD"]
+    ran = subprocess.run(asked, capture_output=True, text=True)
+    number, commit = sources.version(), ran.stdout.strip() or "unknown"
     head, versions = "", {}
     for line in path.read_text().splitlines() if path.exists() else []:
         if line.startswith("- "):
@@ -99,9 +90,9 @@ def take(names, folder, again, edits):
 
 
 def main(words):
-    release = None
+    given = None
     if words[:1] == ["--release"]:
-        release, words = "".join(words[1:2]), words[2:]
+        given, words = "".join(words[1:2]), words[2:]
     flags = {word for word in words if word.startswith("--")}
     names = [word for word in words if word not in flags]
     crates = sources.dependencies()
@@ -114,11 +105,11 @@ def main(words):
     if "--list" in flags:
         print("\n".join(lines_of(names).values()))
         return 0
-    if release:
-        released.same_kit(released.read(release))
+    if given:
+        release.same_kit(release.read(given))
     take(names, folder, "--again" in flags, "--edits" in flags)
-    if release:
-        print("{} of {} libraries laid".format(*released.lay(release, folder)))
+    if given:
+        print("{} of {} libraries laid".format(*release.lay(given, folder)))
     return 0
 
 

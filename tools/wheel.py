@@ -2,7 +2,7 @@
 """Makes the wheel of the Python module (PEP 427), which holds the shared libraries and no other
 code that was compiled.
 
-    tools/wheel.py CALLS FOLDER     CALLS is what calls/build.sh made; the wheel is written to
+    tools/wheel.py CALLS FOLDER     CALLS is what bindings/build.sh made; the wheel is written to
                                     FOLDER, and its name printed
 
 Of the same files it is the same wheel, octet for octet.
@@ -12,12 +12,13 @@ import base64
 import hashlib
 import pathlib
 import platform
-import re
 import sys
 import zipfile
 
-TOP = pathlib.Path(__file__).resolve().parent.parent
-PACKAGE = TOP / "calls" / "python" / "src" / "wurstdrape"
+import sources
+
+TOP = sources.TOP
+PACKAGE = TOP / "bindings" / "python" / "src" / "wurstdrape"
 
 METADATA = """Metadata-Version: 2.1
 Name: wurstdrape
@@ -33,10 +34,6 @@ Generator: tools/wheel.py
 Root-Is-Purelib: false
 Tag: {tag}
 """
-
-
-def version():
-    return re.search(r"^## (\d[\d.]*)", (TOP / "CHANGELOG.md").read_text(), re.M)[1]
 
 
 def files(calls):
@@ -60,13 +57,13 @@ def main():
         sys.exit(__doc__)
     calls, folder = sys.argv[1:]
     tag = f"py3-none-linux_{platform.machine()}"
-    info = f"wurstdrape-{version()}.dist-info"
+    info = f"wurstdrape-{sources.version()}.dist-info"
     held = dict(files(calls))
-    held[f"{info}/METADATA"] = METADATA.format(version=version()).encode()
+    held[f"{info}/METADATA"] = METADATA.format(version=sources.version()).encode()
     held[f"{info}/WHEEL"] = WHEEL.format(tag=tag).encode()
     rows = [f"{name},{sum_of(octets)},{len(octets)}" for name, octets in held.items()]
     held[f"{info}/RECORD"] = "\n".join([*rows, f"{info}/RECORD,,", ""]).encode()
-    wheel = pathlib.Path(folder) / f"wurstdrape-{version()}-{tag}.whl"
+    wheel = pathlib.Path(folder) / f"wurstdrape-{sources.version()}-{tag}.whl"
     wheel.parent.mkdir(parents=True, exist_ok=True)
     with zipfile.ZipFile(wheel, "w", zipfile.ZIP_DEFLATED) as archive:
         for name, octets in held.items():

@@ -1,0 +1,741 @@
+#!/usr/bin/env python3
+"""Makes a release of what is proved, lays its libraries, confirms it, and proves crates.
+
+    release.py make [--built CLONE] FOLDER          runs CI in a new clone of what is committed,
+                                                    and writes FOLDER of what it built; or takes
+                                                    what CI left in CLONE, a clean clone
+    release.py unpack [--laid] RELEASE [FOLDER]     lays the libraries where `rt` looks for them in
+                                                    the repository FOLDER (this one), so that it
+                                                    proves none of them again; --laid lays nothing,
+                                                    and says of each that lies there whether it is
+                                                    that of the release
+    release.py confirm [--kept] RELEASE [CRATE..]   proves it from nothing, and compares what comes
+                                                    of it, byte by byte
+    release.py prove CRATE..                        proves crates, with all that they stand on, as
+                                                    many at once as there are processors
+    release.py test RELEASE                         changes a byte in each file of a release, and in
+                                                    each kind of file of a library, and sees that
+                                                    each is refused by name
+
+A release is a folder:
+
+  PROVED              the kit (`rt version`), the version and the commit; of each library, program
+                      and archive the stamp of its sources, and the sum of what was built of it
+  SUMS                the SHA-256 sum of each other file, as `sha256sum -c SUMS` reads it
+  libraries.tar.zst   NAME/NAME.rlib of each library, the lowest first
+  programs/NAME       as LLVM built them
+  archives/libNAME.a  likewise
+  bindings/           what programs in C and other languages link, of the archives: what
+                      bindings/build.sh makes, the wheel of tools/wheel.py, the crate bindings/rust
+  LICENSE-*           the licence texts
+
+A stamp is the kit's own sum of a crate's texts, of those below it, and of the kit. The sum of a
+library is that of the lines which `sha256sum` prints of its files, in the order of their paths:
+
+  cd crates/const_oid/out/rlib/const_oid.rlib
+  find * -type f | LC_ALL=C sort | xargs sha256sum | sha256sum
+
+make: two clones of one commit give the same bytes, file by file. What CI passed on this
+machine it proves no second time, but for the archives. The last line has the sum of SUMS: whoever
+is told that number knows all others.
+
+unpack compares the sum of each file with SUMS, the kit at hand with the one that proved, the
+commit, and the stamp of each crate's texts; what differs is told, and is proved anew by `rt` where
+it is a text. What was built over an exchanged library goes. The status is 0 where all are laid.
+
+confirm: RELEASE is the folder, or one that has PROVED and SUMS of it alone. It clones the commit,
+runs `rt ci --anew` there without mutants over these crates and all below them (none named: all),
+builds the archives, and compares each; then what others link, which gcc, binutils and Python of
+this machine make (others may make other bytes), and the licences. With --kept what CI passed on
+this machine before isn't proved again, so that it may be broken off and begun again: it then
+confirms only what this machine proved. The clone is in TMPDIR, of some 10 GB. The status is 0 where
+all are the same.
+
+prove: `rt ci` proves the crates in a copy, and libraries come from there to where `rt` looks for
+them. It may be broken off and begun again: the kit keeps beside itself what was proved.
+"""
+
+import contextlib
+import functools
+import hashlib
+import importlib.machinery
+import importlib.util
+import os
+import pathlib
+import re
+import shutil
+import subprocess
+import sys
+import tarfile
+import tempfile
+import time
+import typing
+
+import sources
+
+LIBRARIES = "libraries.tar.zst"
+PROGRAMS = ["cert_desk_program", "cert_tool"]
+ARCHIVES = ["cert_desk_c", "cert_desk_issuing_c"]
+KINDS = {"library": "libraries", "program": "programs", "archive": "archives"}
+# What is alike in one library stands in those above it again: so far back zstd looks for it.
+WINDOW = "--long=30"
+
+
+class Crate(typing.NamedTuple):
+    """What stands in PROVED of a crate: one of KINDS, its stamp, its sum."""
+
+    kind: str
+    stamp: str
+    sum: str
+
+
+class Proved(typing.NamedTuple):
+    kit: str
+    version: str
+    commit: str
+    crates: dict
+
+
+def stop(why):
+    sys.exit(f"release: {why}")
+
+
+def asked(*words, folder=sources.TOP):
+    """What a command prints; nothing where it fails."""
+    shutil.which(words[0]) or stop(f"there is no `{words[0]}`")
+    ran = subprocess.run(words, cwd=folder, capture_output=True, text=True)
+    return ran.stdout.strip() if ran.returncode == 0 else ""
+
+
+def run(*words, folder, why):
+    """Runs a command; where it fails, prints what it said last, and stops."""
+    how = {"stdin": subprocess.DEVNULL, "stdout": subprocess.PIPE, "stderr": subprocess.STDOUT}
+    ran = subprocess.run([str(it) for it in words], cwd=folder, text=True, errors="replace", **how)
+    if ran.returncode:
+        print("".join(ran.stdout.splitlines(True)[-20:]), end="", file=sys.stderr)
+        stop(why)
+
+
+def kit():
+    """The folder of `rt`."""
+    rt = shutil.which("rt") or stop("there is no `rt`: the kit's bin/ has to stand in PATH")
+    return pathlib.Path(rt).resolve().parent
+
+
+def stamps(folder):
+    """The stamp of each crate in the repository of a folder, as the kit makes it."""
+    sys.dont_write_bytecode = True
+    path = kit() / "rtlib.py"
+    loader = importlib.machinery.SourceFileLoader("rtlib", str(path))
+    rtlib = importlib.util.module_from_spec(importlib.util.spec_from_loader("rtlib", loader))
+    sys.modules["rtlib"] = rtlib
+    loader.exec_module(rtlib)
+    for name in ("below", "stamp"):
+        setattr(rtlib.Crate, name, functools.cache(getattr(rtlib.Crate, name)))
+    return {crate.name: crate.stamp() for crate in rtlib.crates_below(os.path.realpath(folder))}
+
+
+def copied(source, target=None):
+    """The sum of what an opened file has, which is written to another one, if there is one."""
+    digest = hashlib.sha256()
+    while piece := source.read(1 << 20):
+        digest.update(piece)
+        if target:
+            target.write(piece)
+    return digest.hexdigest()
+
+
+def sum_of(path):
+    with open(path, "rb") as file:
+        return copied(file)
+
+
+def listing(folder):
+    """The sum of each file of a folder, by its path there."""
+    files = (path for path in pathlib.Path(folder).rglob("*") if path.is_file())
+    return {str(path.relative_to(folder)): sum_of(path) for path in files}
+
+
+def lines(sums):
+    """What `sha256sum` prints of files, in the order of their paths."""
+    return "".join(f"{digest}  {path}\n" for path, digest in sorted(sums.items()))
+
+
+def sum_of_all(sums):
+    return hashlib.sha256(lines(sums).encode()).hexdigest()
+
+
+def written(proved):
+    rows = [f"kit {proved.kit}", f"version {proved.version}", f"commit {proved.commit}"]
+    rows += [f"{it.kind} {name} {it.stamp} {it.sum}" for name, it in proved.crates.items()]
+    return "\n".join(rows) + "\n"
+
+
+def sums_of(release):
+    """What SUMS of a release says: the sum of each other file, by its path."""
+    path = pathlib.Path(release) / "SUMS"
+    if not path.is_file():
+        stop(f"{release} is no release: it has no file SUMS")
+    rows = path.read_text(errors="replace").removesuffix("\n").split("\n")
+    return {path: digest for digest, _, path in (row.partition("  ") for row in rows)}
+
+
+def read(release, whole=True):
+    """PROVED of a release; it stops at the first file that hasn't the sum of SUMS, or of PROVED.
+
+    Unless it has to be whole, others than PROVED may not be there."""
+    release, wanted = pathlib.Path(release), sums_of(release)
+    there = listing(release)
+    there.pop("SUMS")
+    for path in sorted(wanted.keys() | there.keys()):
+        if path not in there and not whole and path != "PROVED":
+            continue
+        if path not in there:
+            stop(f"{path}: SUMS names it, and it is not there")
+        if path not in wanted:
+            stop(f"{path}: SUMS has no line for it")
+        if there[path] != wanted[path]:
+            stop(f"{path}: its sum is {there[path]}, in SUMS it is {wanted[path] or 'none'}")
+    heads, crates = {}, {}
+    for row in (release / "PROVED").read_text().splitlines():
+        word, _, rest = row.partition(" ")
+        if word in KINDS:
+            name, stamp, built = rest.split()
+            crates[name] = Crate(word, stamp, built)
+        else:
+            heads[word] = rest
+    proved = {file_of(name, it): it.sum for name, it in crates.items() if it.kind != "library"}
+    for path in sorted(wanted.keys() | proved.keys()):
+        if not re.fullmatch(rf"PROVED|{LIBRARIES}|LICENSE-\w+|(?:bindings|calls)/.+", path):
+            if wanted.get(path) != proved.get(path):
+                told = wanted.get(path, "none"), proved.get(path, "none")
+                stop("{}: SUMS has {}, PROVED {}".format(path, *told))
+    return Proved(heads["kit"], heads["version"], heads["commit"], crates)
+
+
+def file_of(name, crate):
+    """Where a program or an archive lies in a release."""
+    return f"programs/{name}" if crate.kind == "program" else f"archives/lib{name}.a"
+
+
+def same_kit(proved):
+    """Stops where the kit at hand isn't the one that proved a release."""
+    kit()
+    here = asked("rt", "version")
+    if here != proved.kit:
+        stop(f"'{proved.kit}' proved this, the kit at hand is '{here}': prove anew")
+
+
+def told_commit(proved):
+    """Says of which commit a release is, where another one stands here."""
+    here = asked("git", "rev-parse", "HEAD")
+    if here != proved.commit:
+        known = asked("git", "merge-base", proved.commit, "HEAD") == proved.commit
+        told = "" if known else ", which is not in the history here"
+        print(f"the release is of commit {proved.commit[:12]}{told}; this is {here[:12] or 'none'}")
+
+
+def zstd():
+    return shutil.which("zstd") or stop("there is no zstd, which packs and unpacks libraries")
+
+
+def packed(path, libraries):
+    """Packs libraries, by their names, so that the same files give the same octets."""
+    words = [zstd(), "-q", "-f", "-3", WINDOW, "-T1", "-o", str(path)]
+    how = {"mode": "w|", "format": tarfile.GNU_FORMAT, "bufsize": 1 << 20}
+    with (
+        contextlib.suppress(BrokenPipeError),
+        subprocess.Popen(words, stdin=subprocess.PIPE) as ran,
+        tarfile.open(fileobj=ran.stdin, **how) as tar,
+    ):
+        for name, folder in libraries.items():
+            for file in sorted(it for it in folder.rglob("*") if it.is_file()):
+                member = tarfile.TarInfo(f"{name}/{name}.rlib/{file.relative_to(folder)}")
+                member.size = file.stat().st_size
+                with open(file, "rb") as opened:
+                    tar.addfile(member, opened)
+    if ran.returncode:
+        stop("zstd ended before all was packed")
+
+
+def unpacked(release, names, place):
+    """Unpacks these libraries of a release, each into the folder that `place` has for its name.
+
+    Without places it only reads. Gives the name of each that is whole, and the sums of its files.
+    """
+    words = [zstd(), "-q", "-d", "-c", WINDOW, str(pathlib.Path(release) / LIBRARIES)]
+    now, sums = None, {}
+    try:
+        with (
+            subprocess.Popen(words, stdout=subprocess.PIPE) as ran,
+            tarfile.open(fileobj=ran.stdout, mode="r|", bufsize=1 << 20) as tar,
+        ):
+            for name, path, file in members(tar):
+                if name != now and now in names:
+                    yield now, sums
+                now, sums = name, sums if name == now else {}
+                if name in names and not place:
+                    sums[path] = copied(file)
+                elif name in names:
+                    target = place(name) / f"{name}.rlib" / path
+                    target.parent.mkdir(parents=True, exist_ok=True)
+                    with open(target, "wb") as opened:
+                        sums[path] = copied(file, opened)
+            if now in names:
+                yield now, sums
+    except tarfile.ReadError:
+        stop(f"{LIBRARIES} cannot be read")
+
+
+def as_proved(release, proved, names, place=None):
+    """Unpacks libraries likewise, and stops at the first that hasn't the sum of PROVED.
+
+    Gives the name of each that has."""
+    left = set(names)
+    for name, sums in unpacked(release, names, place):
+        if sum_of_all(sums) != proved.crates[name].sum:
+            stop(f"{name}: what {LIBRARIES} has of it has not the sum of PROVED")
+        left.discard(name)
+        yield name
+    if left:
+        stop(f"{min(left)}: {LIBRARIES} does not have it")
+
+
+def difference(release, name, crate, there, room):
+    """The first file of a library that isn't that of the release, by the sums of its files."""
+    if sum_of_all(there) == crate.sum:
+        return None
+    if not (pathlib.Path(release) / LIBRARIES).is_file():
+        return f"its sum; {LIBRARIES}, by which the file is named, is not there"
+    for _, sums in unpacked(release, {name}, lambda name: room / name):
+        return first(sums, there)
+    return f"{LIBRARIES} does not have it"
+
+
+def first(these, those):
+    """The first path whose sums differ."""
+    paths = sorted(these.keys() | those.keys())
+    return next((path for path in paths if these.get(path) != those.get(path)), None)
+
+
+def members(tar):
+    """Each file of packed libraries: the name of its library, its path there, what it has."""
+    for member in tar:
+        name, _, path = member.name.partition("/")
+        inside = path.removeprefix(f"{name}.rlib/")
+        if not member.isfile() or inside == path or ".." in path.split("/"):
+            stop(f"{LIBRARIES} has {member.name}, which is no file of a library")
+        yield name, inside, tar.extractfile(member)
+
+
+def lay(release, folder):
+    """Lays the libraries of a release where `rt` looks for them in a folder's repository.
+
+    Says what differs. Gives how many were laid, and how many of the release the folder has."""
+    proved = read(release)
+    same_kit(proved)
+    told_commit(proved)
+    crates, here = pathlib.Path(folder) / "crates", stamps(folder)
+    below = sources.dependencies(pathlib.Path(folder) / "crates.txt")
+    there = [name for name, it in proved.crates.items() if it.kind == "library" and name in here]
+    left = {name for name in there if here[name] == proved.crates[name].stamp}
+    others = set(there) - left
+    for name in there:
+        if name in others and not others.intersection(below[name]):
+            above = sum(name in sources.closure([it], below) for it in others) - 1
+            told = f"rt proves it anew, and {above} above it"
+            print(f"{name}: its texts are not those of the release: {told}")
+    clear(crates, below, left)
+    for name in as_proved(release, proved, left, functools.partial(place, crates)):
+        (place(crates, name) / "stamp").write_text(proved.crates[name].stamp)
+    return len(left), len(there)
+
+
+def clear(crates, below, libraries):
+    """Removes these libraries, and what was built over them: over others it is of no use."""
+    for name in below:
+        if libraries & set(sources.closure([name], below)):
+            shutil.rmtree(place(crates, name), ignore_errors=True)
+
+
+def rows_of(listed, names):
+    """The rows of a crates.txt that are of these crates."""
+    rows = listed.read_text().splitlines(True)
+    return "".join(row for row in rows if re.match(r"\w*", row)[0] in names)
+
+
+def place(crates, name):
+    """Where `rt` looks for a built library."""
+    return crates / name / "out/rlib"
+
+
+def calls(clone, folder):
+    """Builds the archives over the libraries that the gate left, and of them what others link."""
+    said = "bindings/build.sh and tools/wheel.py did not make what others link"
+    run(clone / "bindings/build.sh", folder, "--gate", folder=clone, why=said)
+    run(clone / "tools/wheel.py", folder, folder, folder=clone, why=said)
+    # The folder may be moved: pkg-config knows where its files lie.
+    for found in folder.glob("*.pc"):
+        found.write_text(found.read_text().replace(str(folder), "${pcfiledir}"))
+    # What reads files of the repository is of no use outside it.
+    left = shutil.ignore_patterns("target", "tests", "mutated.rs")
+    shutil.copytree(clone / "bindings/rust", folder / "rust", ignore=left)
+
+
+def archive(clone, name):
+    """Where an archive lies that was built in a clone."""
+    return clone / f"crates/{name}/out/lib{name}.a"
+
+
+def gate(folder, crates, *words):
+    """Runs `rt ci` in a clone, with a line for each crate that it has proved."""
+    kit()
+    log = tempfile.mkstemp(prefix="gate-", suffix=".log")[1]
+    print(f"the log of the gate is {log}")
+    left, last, began = set(crates), "", time.time()
+    command = [sys.executable, "-B", "-u", str(sources.TOP / ".ci/gate.py"), *words]
+    how = {"stdin": subprocess.DEVNULL, "stdout": subprocess.PIPE, "stderr": subprocess.STDOUT}
+    how |= {"cwd": folder, "text": True}
+    with open(log, "w") as opened, subprocess.Popen(command, **how) as ran:
+        for line in ran.stdout:
+            print(line, end="", file=opened, flush=True)
+            last = line.strip() or last
+            done = re.match(r"rt: (\w+) (proved$|is kept|NOT PROVED)", line)
+            if done and done[1] in left:
+                left.remove(done[1])
+                number, minutes = len(crates) - len(left), (time.time() - began) / 60
+                told = f"{number} of {len(crates)}  {done[1]} {done[2]}"
+                print(f"{told}, {minutes:.0f} min", flush=True)
+                if not left:
+                    print("what is tried and run of the crates is left", flush=True)
+    print(last)
+    if ran.returncode or not re.fullmatch(r"\d+ passed, 0 failed", last):
+        stop("the gate did not pass")
+
+
+# make
+
+
+def libraries_of(clone, crates, stamps):
+    """The folder of each library that another crate names, once all fit together."""
+    named = {below for libraries in crates.values() for below in libraries}
+    found = {}
+    for name in sources.closure(crates, crates):
+        if name not in named:
+            continue
+        out = clone / "crates" / name / "out/rlib"
+        built, stamp = out / f"{name}.rlib/format", out / "stamp"
+        if not built.is_file():
+            stop(f"{name} is not built in {clone}: run the gate there")
+        if stamp.is_file() and stamp.read_text() != stamps[name]:
+            stop(f"{name} was built of other texts than those of {clone}")
+        for below, over in re.findall(r"^over (\w+) (\S+)$", built.read_text(), re.M):
+            if below in found and over != sum_of(found[below] / "format"):
+                stop(f"{name} was built over another {below} than the one that is there")
+        found[name] = built.parent
+    return found
+
+
+def write(folder, clone):
+    """Writes the release of what the gate built in a clone."""
+    crates, made = sources.dependencies(clone / "crates.txt"), stamps(clone)
+    libraries = libraries_of(clone, crates, made)
+    version = sources.version(clone)
+    commit = asked("git", "rev-parse", "HEAD", folder=clone)
+    found = {}
+    for name, built in libraries.items():
+        total = sum_of_all(listing(built))
+        found[name] = Crate("library", made[name], total)
+    (folder / "programs").mkdir(parents=True)
+    for name in filter(crates.__contains__, PROGRAMS):
+        program = clone / "crates" / name / "out" / name
+        if not program.is_file():
+            stop(f"{name} is not built in {clone}: run the gate there")
+        shutil.copy(program, folder / "programs" / name)
+        found[name] = Crate("program", made[name], sum_of(program))
+    (folder / "archives").mkdir()
+    archives = [name for name in ARCHIVES if name in crates]
+    if archives:
+        calls(clone, folder / "bindings")
+    for name in archives:
+        built = archive(clone, name)
+        shutil.copy(built, folder / "archives")
+        found[name] = Crate("archive", made[name], sum_of(built))
+    for licence in sorted(clone.glob("LICENSE-*")):
+        shutil.copy(licence, folder)
+    proved = Proved(asked("rt", "version"), version, commit, found)
+    (folder / "PROVED").write_text(written(proved))
+    packed(folder / LIBRARIES, libraries)
+    (folder / "SUMS").write_text(lines(listing(folder)))
+    size = sum(path.stat().st_size for path in folder.rglob("*") if path.is_file()) / 1e6
+    kinds = [crate.kind for crate in found.values()]
+    told = [f"{kinds.count(kind)} {kind if kinds.count(kind) == 1 else many}"
+            for kind, many in KINDS.items()]
+    print(", ".join([*told, f"{size:.0f} MB"]))
+    print(f"SUMS of {version}, commit {commit[:12]}: {sum_of(folder / 'SUMS')}")
+
+
+def make(words):
+    built = None
+    if words[:1] == ["--built"] and len(words) == 3:
+        built, words = pathlib.Path(words[1]).resolve(), words[2:]
+    if len(words) != 1 or words[0].startswith("-"):
+        return 2
+    folder = pathlib.Path(words[0]).resolve()
+    if folder.exists():
+        stop(f"{folder} is there")
+    if not folder.parent.is_dir():
+        stop(f"there is no folder {folder.parent}")
+    source = built or sources.TOP
+    if asked("git", "status", "--porcelain", folder=source):
+        stop(f"{source} has changes that are not committed")
+    with tempfile.TemporaryDirectory(dir=folder.parent) as room:
+        clone, new = built or pathlib.Path(room) / "clone", pathlib.Path(room) / "release"
+        if not built:
+            asked("git", "clone", "-q", str(sources.TOP), str(clone))
+            gate(clone, sources.closure(sources.dependencies()))
+        write(new, clone)
+        new.rename(folder)
+    return 0
+
+
+# unpack
+
+
+def compared(release, folder):
+    """Says of each library that lies in a folder's repository whether it is the release's."""
+    crates, same, there = folder / "crates", 0, 0
+    with tempfile.TemporaryDirectory() as room:
+        for name, crate in read(release, whole=False).crates.items():
+            library = place(crates, name) / f"{name}.rlib"
+            if crate.kind == "library" and library.is_dir():
+                files = listing(library)
+                differs = difference(release, name, crate, files, pathlib.Path(room))
+                print(f"{name}: {f'differs: {differs}' if differs else 'the same'}")
+                same, there = same + (not differs), there + 1
+    print(f"{same} of {there} libraries the same")
+    return same == there
+
+
+def unpack(words):
+    laid = words[:1] == ["--laid"]
+    words = words[laid:]
+    if len(words) not in (1, 2) or words[0].startswith("-"):
+        return 2
+    began, folder = time.time(), pathlib.Path(words[1] if len(words) > 1 else sources.TOP)
+    if not (folder / "crates.txt").is_file():
+        stop(f"{folder} is no repository: it has no crates.txt")
+    if laid:
+        return int(not compared(words[0], folder.resolve()))
+    laid, there = lay(words[0], folder.resolve())
+    print(f"{laid} of {there} libraries laid in {time.time() - began:.0f} seconds")
+    return int(laid != there)
+
+
+# confirm
+
+
+def cloned(clone, proved, names):
+    """Clones the commit, with these crates and those below them alone; gives their names."""
+    asked("git", "clone", "-q", str(sources.TOP), str(clone))
+    asked("git", "checkout", "-q", proved.commit, folder=clone)
+    if asked("git", "rev-parse", "HEAD", folder=clone) != proved.commit:
+        stop(f"the commit {proved.commit} of the release is not in this repository")
+    number = sources.version(clone)
+    if number != proved.version:
+        stop(f"the release is of {proved.version}, and its commit of {number}")
+    listed = clone / "crates.txt"
+    # The archives are built together.
+    if not set(names).isdisjoint(ARCHIVES):
+        names = [*names, *ARCHIVES]
+    wanted = sources.closure(names or proved.crates, sources.dependencies(listed))
+    for folder in (clone / "crates").iterdir():
+        shutil.rmtree(folder / "must-fail" if folder.name in wanted else folder, ignore_errors=True)
+    listed.write_text(rows_of(listed, wanted))
+    return wanted
+
+
+def other(release, name, crate, clone, room):
+    """Names the first file of a crate that was built anew in a clone and isn't the release's."""
+    out = clone / "crates" / name / "out"
+    if crate.kind == "library":
+        there = listing(out / f"rlib/{name}.rlib")
+        return difference(release, name, crate, there, room)
+    program = crate.kind == "program"
+    built = out / name if program else archive(clone, name)
+    return None if crate.sum == sum_of(built) else built.name
+
+
+def confirm(words):
+    kept = words[:1] == ["--kept"]
+    if not words[kept:]:
+        return 2
+    release, *names = words[kept:]
+    release, proved = pathlib.Path(release), read(release, whole=False)
+    same_kit(proved)
+    unknown = [name for name in names if name not in proved.crates]
+    if unknown:
+        stop(f"the release has no crate {unknown[0]}")
+    others = {}
+    with tempfile.TemporaryDirectory() as room:
+        room = pathlib.Path(room)
+        wanted, clone = cloned(room / "clone", proved, names), room / "clone"
+        if (release / LIBRARIES).is_file():
+            named = {name for name in wanted if proved.crates[name].kind == "library"}
+            list(as_proved(release, proved, named))
+        gate(clone, wanted, *[] if kept else ["--anew"])
+        found = stamps(clone)
+        if not set(wanted).isdisjoint(ARCHIVES):
+            calls(clone, room / "bindings")
+        for name in wanted:
+            crate = proved.crates[name]
+            others[name] = other(release, name, crate, clone, room)
+            if found[name] != crate.stamp:
+                others[name] = "its texts are not those that the release was built of"
+            told(name, others[name])
+        if (room / "bindings").is_dir():
+            made = listing(room / "bindings")
+            these = {f"bindings/{path}": digest for path, digest in made.items()}
+            these |= {it.name: sum_of(it) for it in clone.glob("LICENSE-*")}
+            those = sums_of(release)
+            those = {it: those[it] for it in those if it.startswith(("bindings/", "LICENSE-"))}
+            others["bindings"] = first(those, these)
+            told("bindings, licences", others["bindings"])
+    same = list(others.values()).count(None)
+    print(f"{same} of {len(others)} the same")
+    return int(same < len(others))
+
+
+def told(name, differs):
+    print(f"{name}: {f'differs: {differs}' if differs else 'the same, octet by octet'}", flush=True)
+
+
+# prove
+
+
+def copy(folder, names):
+    """Copies crates into a folder, as a repository that has no others."""
+    for name in names:
+        left = shutil.ignore_patterns("out", "must-fail")
+        shutil.copytree(sources.CRATES / name, folder / "crates" / name, ignore=left)
+    (folder / "crates.txt").write_text(rows_of(sources.TOP / "crates.txt", names))
+    shutil.copy(sources.TOP / "HANDLES", folder)
+    (folder / ".git").mkdir()
+
+
+def is_there(name, made, library):
+    """Whether a library that was made is the one that stands where `rt` looks for it."""
+    both = [(made / part, library / part) for part in ("stamp", f"{name}.rlib/format")]
+    return all(old.is_file() and new.read_text() == old.read_text() for new, old in both)
+
+
+def lay_made(room, names):
+    """Lays libraries that were made in a folder where `rt` looks for them; gives how many."""
+    crates, found, laid = sources.dependencies(), stamps(room), {}
+    for name in names:
+        made, library = (place(it, name) for it in (room / "crates", sources.CRATES))
+        if made.is_dir():
+            (made / "stamp").write_text(found[name])
+            if laid.keys() & crates[name] or not is_there(name, made, library):
+                laid[name] = made, library
+    clear(sources.CRATES, crates, laid.keys())
+    for made, library in laid.values():
+        library.parent.mkdir(exist_ok=True)
+        shutil.move(made, library)
+    return len(laid)
+
+
+def prove(words):
+    crates = sources.dependencies()
+    unknown = [word for word in words if word not in crates]
+    if not words or unknown:
+        print(f"no crate {unknown[0]}\n" if unknown else "", end="", file=sys.stderr)
+        return 2
+    wanted = sources.closure(words)
+    with tempfile.TemporaryDirectory() as room:
+        room = pathlib.Path(room)
+        copy(room, wanted)
+        gate(room, wanted)
+        print(f"{lay_made(room, wanted)} libraries laid")
+    return 0
+
+
+# test
+
+
+def change(path):
+    """Changes the byte in the middle of a file."""
+    found = bytearray(path.read_bytes())
+    found[len(found) // 2] ^= 1
+    path.unlink()
+    path.write_bytes(found)
+
+
+def is_refused(wanted, *words, folder=sources.TOP):
+    """Whether a command ends with another status than 0, and says what is wanted."""
+    ran = subprocess.run([str(it) for it in words], cwd=folder, capture_output=True, text=True)
+    said = [line for line in (ran.stdout + ran.stderr).splitlines() if wanted in line]
+    refused = ran.returncode != 0 and bool(said)
+    print(f"refused: {said[0][:90]}" if refused else f"not refused for {wanted}", flush=True)
+    return refused
+
+
+def test(words):
+    if len(words) != 1:
+        return 2
+    release, right = pathlib.Path(words[0]).resolve(), True
+    script = sources.TOP / "tools/release.py"
+    with tempfile.TemporaryDirectory() as room:
+        room = pathlib.Path(room)
+        (room / "empty").mkdir()
+        (room / "empty/crates.txt").touch()
+        changed = room / "changed"
+        for path in [*listing(release)]:
+            shutil.rmtree(changed, ignore_errors=True)
+            shutil.copytree(release, changed, copy_function=os.link)
+            change(changed / path)
+            unpacking = script, "unpack", changed, room / "empty"
+            right &= is_refused("SUMS" if path == "SUMS" else f"{path}: ", *unpacking)
+            if path.startswith(("programs/", "archives/")):
+                total, sums = sum_of(changed / path), sums_of(changed) | {}
+                (changed / "SUMS").unlink()
+                (changed / "SUMS").write_text(lines(sums | {path: total}))
+                right &= is_refused(f"{path}: SUMS has {total}", *unpacking)
+        new = room / "new"
+        new.mkdir()
+        asked("git", "init", "-q", folder=new)
+        run(sources.TOP / "tools/take.py", "--release", release, "const_oid", new, folder=new,
+            why="take.py did not take const_oid")
+        shutil.copytree(new / "crates/const_oid/src", new / "crates/first/src")
+        with open(new / "crates.txt", "a") as listed:
+            print("first: const_oid", file=listed)
+        laid, kinds = place(new / "crates", "const_oid") / "const_oid.rlib", {}
+        for path in listing(laid):
+            parts = path.split("/")
+            below = parts[0] if parts[0] == "below" else "/".join(parts[:2])
+            kinds.setdefault(f"{below}.{path.rpartition('.')[2]}" if parts[2:] else path, path)
+        for path in kinds.values():
+            kept = (laid / path).read_bytes()
+            change(laid / path)
+            wanted = f"const_oid: differs: {path}"
+            right &= is_refused(wanted, script, "unpack", "--laid", release, new)
+            (laid / path).write_bytes(kept)
+    print("each is refused" if right else "not each is refused")
+    return not right
+
+
+VERBS = {"make": make, "unpack": unpack, "confirm": confirm, "prove": prove, "test": test}
+
+
+def main(words):
+    verb = VERBS.get(words[0] if words else "")
+    flags = [word for word in words if word.startswith("-")]
+    known = not set(flags) - {"--built", "--laid", "--kept"}
+    status = int(verb(words[1:])) if verb and known else 2
+    if status == 2:
+        print(__doc__, file=sys.stderr)
+    return status
+
+
+if __name__ == "__main__":
+    sys.exit(main(sys.argv[1:]))
