@@ -37,6 +37,7 @@ TOP = HERE.parent
 sys.path.insert(0, str(TOP / "tools"))
 
 import needs
+import release
 
 PAGE = HERE / "SPEED.md"
 ROOTS = pathlib.Path("/usr/share/ca-certificates/mozilla")
@@ -102,9 +103,13 @@ class Bench:
             shutil.copytree(TOP / "crates", crates, ignore=left)
             shutil.copy(TOP / "crates.txt", self.work)
             said("git", "init", "-q", self.work)
+            stamps = release.stamps(self.built) if self.built else {}
             for made in self.built.glob("crates/*/out/rlib") if self.built else ():
                 place = crates / made.parts[-3] / "out/rlib"
                 shutil.copytree(made, place, copy_function=os.link)
+                # `rt ci` leaves none, and `rt run` takes no library without one.
+                if not (place / "stamp").exists():
+                    (place / "stamp").write_text(stamps[made.parts[-3]])
         crate = crates / name
         (crate / "src").mkdir(parents=True)
         (crate / "specs").mkdir()
