@@ -1,24 +1,20 @@
 #!/usr/bin/env python3
-"""Lists which public calls that may run out of memory the rows reach.
+"""Lists the public calls that may run out of memory and that no test vector reaches.
 
     reached.py [-v] PROFILE..
 
+A PROFILE is what callgrind wrote about a run of a program of test vectors, which was built without
+optimisation, so that each function has a symbol:
 
-    for name in der_rows x509_rows builder_rows cert_rows; do
-        valgrind --tool=callgrind --callgrind-out-file=/tmp/$name crates/$name/out/$name \
-            <crates/$name/stdin >/dev/null
-    done
-    tests/rows/reached.py /tmp/*_rows
+    cd crates/der_rows
+    valgrind --tool=callgrind --callgrind-out-file=out/profile out/der_rows <stdin >/dev/null
 
-cert_tool is run likewise, with the argument `serve`.
-
-The calls are read from the sources of the libraries: public functions, inherent or of a trait, that
-answer a `Result` and take an allocator, or say that there may be no memory. A PROFILE is what
-callgrind wrote of a run of a program of rows, built without optimisation, so that each function has
-a symbol. It prints the calls that none of the runs reaches, and with -v which runs reach each of
-the others; the status is 0 where all are reached. Behind a call that a file of a crate of tests may
-call, since it names both the type and the call, stands `named`, and that proves nothing: such a
-file may call the same of another type. Not of the gate."""
+`x509_rows`, `builder_rows` and `cert_rows` run in the same way, and `cert_tool` with the argument
+`serve`. The calls are read from the sources of the libraries: public functions that return a
+`Result` and take an allocator, or that say in their comment that they may run out of memory. With
+-v it also prints which runs reach each call. The status is 0 if all are reached. A call that a test
+of `proved_tests` may make, since it names the type and the call, is marked `named`; that proves
+nothing, since the test may make the call of another type. CI doesn't run this script."""
 
 import collections
 import pathlib
