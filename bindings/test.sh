@@ -126,7 +126,7 @@ else
 fi
 if [ $has_python = 1 ]; then
     suite "Python" python_tests
-    suite "Python, rows of cert_tool and cert_rows" python3 "$here/python/rows.py"
+    suite "Python, rows of cert_tool and test_cert_rows" python3 "$here/python/rows.py"
 else
     left_out "Python" "there is no python3 of 3.9 or later"
 fi

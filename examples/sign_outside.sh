@@ -1,7 +1,7 @@
 #!/usr/bin/env bash
-# Has OpenSSL 3 sign what crates/build_certificates finalizes, with keys of RSA, ECDSA on P-256 and
+# Has OpenSSL 3 sign what crates/example_build_certificates finalizes, with keys of RSA, ECDSA on P-256 and
 # Ed25519, and verify the chains that are assembled of it. Not of the gate.
-# usage: sign_outside.sh PROGRAM, where PROGRAM is build_certificates, built.
+# usage: sign_outside.sh PROGRAM, where PROGRAM is example_build_certificates, built.
 set -euo pipefail
 program=$(realpath "${1:?usage: sign_outside.sh PROGRAM}")
 work=$(mktemp -d)

@@ -40,8 +40,8 @@ CLAIMS = [
     ("a run of `check` is told", "cert_desk_checking::run_check"),
     ("a chain is judged by answers from outside", "cert_tool::run_verify"),
     ("what a verifier has to answer is written", "cert_tool::run_questions"),
-    ("a chain is issued", "cert_desk_issuing::issue"),
-    ("an issued chain is trusted", "cert_desk_issuing::Issued::audit"),
+    ("a chain is issued", "cert_desk::issue"),
+    ("an issued chain is trusted", "cert_desk::Issued::audit"),
 ]
 
 HEAD = """\

@@ -22,6 +22,9 @@ import sources
 TOP = sources.TOP
 # What types are declared by isn't promised.
 OTHERS = ("der_core::making", "der_core::describing")
+# What is passed on to crates above isn't, and from where a crate imports a name isn't, either.
+OTHERS += ("der_core::oid", "der_types::der", "der_types::oid", "der_types::making")
+PATH = re.compile(r"\b(?:const_oid|(?:der|x509_cert|cert)_\w+|x509_cert)::(?:\w+::)*(?=\w)")
 CLAUSE = re.compile(r"\s+(requires|ensures)\b\*? ?(\w*)")
 
 
@@ -68,6 +71,7 @@ def of_item(path, item):
     for impl in item.impls:
         trait, of = sources.stated_of(impl.header)
         if of:
+            trait = PATH.sub("", trait)
             found[f"{path}: {trait}" + (" of a reference" if of.startswith("&") else "")] = ""
     return found | {f"{path}: {trait}": "" for trait in derived(item)}
 
@@ -90,7 +94,7 @@ def promised(top):
         file = next(it for it in (top / "bindings" / path, top / "calls" / path) if it.exists())
         for name, said in re.findall(told, file.read_text()):
             found[f"{path} {name}"] = " ".join(said.split())
-    return found
+    return {part: PATH.sub("", said) for part, said in found.items()}
 
 
 def main(words):

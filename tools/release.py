@@ -393,7 +393,7 @@ def gate(folder, crates, *words):
     log = tempfile.mkstemp(prefix="gate-", suffix=".log")[1]
     print(f"the log of the gate is {log}")
     left, last, began = set(crates), "", time.time()
-    command = [sys.executable, "-B", "-u", str(sources.TOP / ".ci/gate.py"), *words]
+    command = ["rt", "ci", *words]
     how = {"stdin": subprocess.DEVNULL, "stdout": subprocess.PIPE, "stderr": subprocess.STDOUT}
     how |= {"cwd": folder, "text": True}
     with open(log, "w") as opened, subprocess.Popen(command, **how) as ran:

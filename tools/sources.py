@@ -415,8 +415,8 @@ def stands_at(files, path):
     crate, *rest = path
     here = files.get((crate, "Lib"))
     for at, name in enumerate(rest, 1):
-        if here is None:
-            return None
+        if here is None or name in ("declared", "contracts"):  # what the kit makes
+            return here
         found = here.find(name)
         if found:
             return found
@@ -623,10 +623,32 @@ def uses_of(lines):
         at += 1
 
 
+class Inline:
+    """A module that stands in its parent's file, as a file of its own: only `use` lines."""
+
+    def __init__(self, source, name, lines):
+        self.crate, self.path, self.name, self.lines = source.crate, source.path, name, lines
+        self.calls = []
+
+
+def inline_of(source):
+    """The modules in braces at the margin of a file."""
+    above = source.name.removesuffix("lib.rt").removesuffix("main.rt").removesuffix(".rt")
+    at = 0
+    while at < len(source.lines):
+        match = re.match(r"(?:pub )?mod (\w+) \{$", source.lines[at])
+        at += 1
+        if match:
+            end = source.lines.index("}", at)
+            inner = [line.removeprefix("    ") for line in source.lines[at:end]]
+            yield Inline(source, "/".join(filter(None, [above, f"{match[1]}.rt"])), inner)
+            at = end
+
+
 def modules_of(lines):
     """The modules that a file names, and whether each is public."""
     for line in lines:
-        match = re.match(r"(pub )?mod (\w+);", line)
+        match = re.match(r"(pub )?mod (\w+)(?:;| \{)$", line)
         if match:
             yield bool(match[1]), match[2]
 
@@ -636,6 +658,8 @@ class House:
 
     def __init__(self, code):
         self.code = {(source.crate, source.name): source for source in code}
+        for source in code:
+            self.code |= {(part.crate, part.name): part for part in inline_of(source)}
         self.libraries = [
             crate for crate in closure(dependencies())
             if (crate, "lib.rt") in self.code or crate in PROGRAMS

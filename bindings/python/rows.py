@@ -1,5 +1,5 @@
 #!/usr/bin/env python3
-"""Has the Python module answer the rows of `cert_tool` and `cert_rows` that one of its calls
+"""Has the Python module answer the rows of `cert_tool` and `test_cert_rows` that one of its calls
 answers, and compares each answer with the one that stands there.
 
     bindings/python/rows.py     with the module to import (PYTHONPATH, or an installed wheel); the
@@ -137,15 +137,15 @@ def answered(question, answer, status):
 
 
 def octets_of(word):
-    """The octets that a word of `cert_rows` writes: in base 16, perhaps so often, or none."""
+    """The octets that a word of `test_cert_rows` writes: in base 16, perhaps so often, or none."""
     digits, _, often = word.partition("*")
     return b"" if digits == "-" else bytes.fromhex(digits) * int(often or 1)
 
 
 def listings():
-    """Each question of `cert_rows` about a listing, and whether the row's answer is given."""
-    asked = (ROWS / "cert_rows" / "stdin").read_text().split("\n")
-    told = (ROWS / "cert_rows" / "stdout").read_text().split("\n")
+    """Each question of `test_cert_rows` about a listing, and whether the row's answer is given."""
+    asked = (ROWS / "test_cert_rows" / "stdin").read_text().split("\n")
+    told = (ROWS / "test_cert_rows" / "stdout").read_text().split("\n")
     for question, answer in zip(asked, told):
         words = question.split(" ")
         if words[:2] != ["listing", "show"] or answer == "?":

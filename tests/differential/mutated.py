@@ -5,7 +5,7 @@
     tests/differential/mutated.py spellings PROGRAM [CERTIFICATE..]  headers, each spelled anew
     tests/differential/mutated.py bounds PROGRAM [RUNS [SEED]]       identifiers with wider arcs
 
-PROGRAM is the program of rows cert_rows, built (crates/cert_rows/out/cert_rows). The reader
+PROGRAM is the program of rows test_cert_rows, built (crates/test_cert_rows/out/test_cert_rows). The reader
 (tests/reader.py) knows nothing of the crates. Each answer that differs is printed, and counts; the
 status is 0 where none differs. None of it is part of CI.
 
@@ -60,7 +60,7 @@ ANCHOR = (
 def bases():
     """What is changed, by its kind."""
     found = collections.defaultdict(set)
-    table = (TOP / "crates/cert_rows/stdin").read_text().split("\n")
+    table = (TOP / "crates/test_cert_rows/stdin").read_text().split("\n")
     for line in table:
         words = line.split(" ")
         if words[0] == "certificate" and len(words) == 2:

@@ -6,7 +6,7 @@ should.
 
     hostile.py FOLDER [NAME..]
 
-FOLDER has the programs cert_desk_program, der_rows and cert_rows, built; names choose inputs. Time
+FOLDER has the programs cert_desk_program, test_der_rows and test_cert_rows, built; names choose inputs. Time
 is the least of three runs, user and system, reading the file included. After each input stand how
 many bytes it has, the times of half of it and of it, their quotient, and how many bytes of memory
 were resident at most for each of its bytes, those counted that the program has without any. It is
@@ -141,7 +141,7 @@ def chain_of(attribute, count, last=False):
 
 def falling(count):
     numbers = (b"\x02\x02" + it.to_bytes(2, "big") for it in range(32767, 32767 - count, -1))
-    return rows("der_rows", f"set-from u16 {sequence(*numbers).hex()}")
+    return rows("test_der_rows", f"set-from u16 {sequence(*numbers).hex()}")
 
 
 def rows(program, question):
@@ -152,7 +152,7 @@ def octet_by_octet(count):
     stream = certificate(bits=tlv(3, bytes(count)))
     ones = ",".join(["1"] * len(stream))
     asked = f"{certificate().hex()} {stream.hex()} {MOMENT} {PURPOSE} 4294967295"
-    return rows("cert_rows", f"pieces -/{ones}/-/- yes check {asked}")
+    return rows("test_cert_rows", f"pieces -/{ones}/-/- yes check {asked}")
 
 
 # By name an input's greater count, how a count makes it, and with which statuses its run may end.

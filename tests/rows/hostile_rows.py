@@ -1,5 +1,5 @@
 #!/usr/bin/env python3
-"""hostile_rows.py: writes the rows of cert_rows about hostile use anew, which stand behind the
+"""hostile_rows.py: writes the rows of test_cert_rows about hostile use anew, which stand behind the
 heading HOSTILE USE in its stdin and stdout.
 
 Certificates are put together here from RFC 5280 and X.690. The verdicts on the streams of the rows
@@ -16,7 +16,7 @@ sys.path.insert(0, str(TOP / "tests"))
 
 from der import sequence, tlv
 
-FOLDER = TOP / "crates" / "cert_rows"
+FOLDER = TOP / "crates" / "test_cert_rows"
 HEADING = "# HOSTILE USE"
 questions, answers = [], []
 

@@ -1,7 +1,7 @@
 #!/usr/bin/env python3
-"""issue_rows.py FOLDER: writes the rows of cert_rows about orders and what is issued.
+"""issue_rows.py FOLDER: writes the rows of test_cert_rows about orders and what is issued.
 
-They go to FOLDER/stdin and FOLDER/stdout, and stand in those of cert_rows before HOSTILE USE.
+They go to FOLDER/stdin and FOLDER/stdout, and stand in those of test_cert_rows before HOSTILE USE.
 
 The certificates in the answers are put together here, with nothing but Python's own library, from
 RFC 5280 and X.690; the lines and statuses are written out by hand. Nothing comes from the

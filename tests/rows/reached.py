@@ -6,14 +6,14 @@
 A PROFILE is what callgrind wrote about a run of a program of test vectors, which was built without
 optimisation, so that each function has a symbol:
 
-    cd crates/der_rows
-    valgrind --tool=callgrind --callgrind-out-file=out/profile out/der_rows <stdin >/dev/null
+    cd crates/test_der_rows
+    valgrind --tool=callgrind --callgrind-out-file=out/profile out/test_der_rows <stdin >/dev/null
 
-`x509_rows`, `builder_rows` and `cert_rows` run in the same way, and `cert_tool` with the argument
+`test_x509_rows`, `test_builder_rows` and `test_cert_rows` run in the same way, and `cert_tool` with the argument
 `serve`. The calls are read from the sources of the libraries: public functions that return a
 `Result` and take an allocator, or that say in their comment that they may run out of memory. With
 -v it also prints which runs reach each call. The status is 0 if all are reached. A call that a test
-of `proved_tests` may make, since it names the type and the call, is marked `named`; that proves
+of `test_proved` may make, since it names the type and the call, is marked `named`; that proves
 nothing, since the test may make the call of another type. CI doesn't run this script."""
 
 import collections

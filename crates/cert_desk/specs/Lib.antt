@@ -1,2 +1,15 @@
 pub mod Commands
 pub mod Running
+pub mod Acceptance
+pub mod Allowances
+pub mod Chains
+pub mod DigestSigners
+pub mod Issuable
+pub mod Laws
+pub mod Making
+pub mod Lines
+pub mod Ordered
+pub mod PlainOrders
+pub mod Refusals
+pub mod Roles
+pub mod Runs

@@ -1,17 +1,18 @@
 -- What becomes of the program's words.
 use Rattle.std.specs.Prelude.{ℕ, ◌⊎◌, List, [], ◌∷◌, codes}
-use Rattle.cert_desk_io.specs.declared.exit_status.ExitStatus.{ExitStatus}
-use Rattle.cert_desk_io.specs.declared.exit_status.ExitStatus.TheVariants as statuses
-use Rattle.cert_desk_io.specs.declared.named_inputs.OpenError.{OpenError}
-use Rattle.cert_desk_io.specs.Devices.{Device, Untouched}
-use Rattle.cert_desk_io.specs.NamedInputs.{AreUnopened, Inputs, IsUnopenedTold, OfOpened}
-use Rattle.cert_desk_io.specs.Telling.{IsComplaint}
+use Rattle.cert_desk_listing.specs.DeskIo.declared.exit_status.ExitStatus.{ExitStatus}
+use Rattle.cert_desk_listing.specs.DeskIo.declared.exit_status.ExitStatus.TheVariants as statuses
+use Rattle.cert_desk_listing.specs.DeskIo.declared.named_inputs.OpenError.{OpenError}
+use Rattle.cert_desk_listing.specs.DeskIo.Devices.{Device, Untouched}
+use Rattle.cert_desk_listing.specs.DeskIo.NamedInputs.{AreUnopened, Inputs, IsUnopenedTold}
+use Rattle.cert_desk_listing.specs.DeskIo.NamedInputs.{OfOpened}
+use Rattle.cert_desk_listing.specs.DeskIo.Telling.{IsComplaint}
 use Rattle.cert_desk_checking.specs.declared.arguments.Arguments.{Arguments}
 use Rattle.cert_desk_checking.specs.declared.outcome.Outcome.{Outcome}
 use Rattle.cert_desk_checking.specs.Anchors.{purpose_plain}
 use Rattle.cert_desk_checking.specs.Arguments.{AskNoCheck}
 use Rattle.cert_desk_checking.specs.Runs.{IsOutcome, IsTold, IsUnasked, Judge}
-use Rattle.cert_desk_issuing.specs.Runs as issued
+use Rattle.cert_desk.specs.Runs as issued
 use Rattle.cert_desk_listing.specs.declared.file_kind.FileKind.{FileKind}
 use Rattle.cert_desk_listing.specs.Shown as shown
 use Rattle.cert_desk.specs.declared.command.Command.{Command}

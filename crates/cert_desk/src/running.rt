@@ -1,17 +1,17 @@
 //! Runs of commands, over inputs that have names.
 ghost use Rattle.std.specs.Prelude.{◌≤◌, map, string_bytes};
-ghost use Rattle.cert_desk_io.specs.Devices.{sink};
-ghost use Rattle.cert_desk_io.specs.NamedInputs.{inputs};
+ghost use Rattle.cert_desk_listing.specs.DeskIo.Devices.{sink};
+ghost use Rattle.cert_desk_listing.specs.DeskIo.NamedInputs.{inputs};
 ghost use Rattle.cert_desk_checking.specs.Runs.{judging};
 ghost use Rattle.cert_desk.specs.Commands.{HasLimit};
 ghost use Rattle.cert_desk.specs.Running.{IsChecked, IsShown, IsIssued, IsRun, IsObeyed};
 
 use crate::command::Command;
+use crate::order_runs::run_orders;
+use cert_desk_checking::desk_rules::SignatureJudge;
 use cert_desk_checking::{Arguments, USAGE, run_check};
-use cert_desk_io::{ExitStatus, Input, NamedInputs, Output, complain, tell_unopened};
-use cert_desk_issuing::run_orders;
+use cert_desk_listing::desk_io::{ExitStatus, Input, NamedInputs, Output, complain, tell_unopened};
 use cert_desk_listing::{FileKind, run_show};
-use cert_desk_rules::SignatureJudge;
 use std::alloc::Global;
 
 // Opens the inputs of a check, and runs it on them.

@@ -1,7 +1,7 @@
 -- A file of answers, read line by line.
 use Rattle.std.proofs.Common.{◌≡◌, ℕ, suc, ◌+◌, ◌<◌, arith, Bor, length, map, drop, get_or, List, [], ◌∷◌, ◌++◌, Option, None, Some, unwrap_or, Result, Ok, Err, refl, ap, sym, ◌∙◌, append_assoc}
 use Rattle.std.proofs.Math.Seq.{drop-cons}
-use Rattle.cert_desk_rules.specs.Questions.{Question}
+use Rattle.cert_desk_checking.specs.DeskRules.Questions.{Question}
 use Rattle.cert_desk_answers.specs.declared.line_fault.LineFault.{LineFault}
 use Rattle.cert_desk_answers.specs.AnswerLines.{with_line, line_says, answers_from, file_says}
 use Rattle.cert_desk_answers.specs.declared.no_answers.NoAnswers.{NoAnswers}

@@ -1,17 +1,17 @@
 -- What is given is what was read, and no other.
 use Rattle.std.proofs.Common.{◌≡◌, ℕ, ◌<◌, ◌^◌, List, [], ◌++◌, ◌⊎◌, inl, inr, length, Result, Ok, Err, sym, ap, subst, ◌∙◌, append-nil, length-append, arith}
-use Rattle.cert_desk_io.specs.declared.exit_status.ExitStatus.{ExitStatus}
-use Rattle.cert_desk_io.specs.declared.exit_status.ExitStatus.TheVariants as statuses
-use Rattle.cert_desk_io.specs.declared.memory_inputs.MemoryInput.{MemoryInput}
-use Rattle.cert_desk_io.specs.Devices.{Device, source}
-use Rattle.cert_desk_io.specs.Memory.{HasEnded, octets_left, read_failures}
+use Rattle.cert_desk_checking.specs.DeskIo.declared.exit_status.ExitStatus.{ExitStatus}
+use Rattle.cert_desk_checking.specs.DeskIo.declared.exit_status.ExitStatus.TheVariants as statuses
+use Rattle.cert_desk_checking.specs.DeskIo.declared.memory_inputs.MemoryInput.{MemoryInput}
+use Rattle.cert_desk_checking.specs.DeskIo.Devices.{Device, source}
+use Rattle.cert_desk_checking.specs.DeskIo.Memory.{HasEnded, octets_left, read_failures}
 use Rattle.cert_desk_checking.specs.declared.anchor_fault.AnchorFault.{AnchorFault}
 use Rattle.cert_desk_checking.specs.declared.anchors_error.AnchorsError.TheVariants as errors
 use Rattle.cert_desk_checking.specs.AnchorFiles.{IsAnchorFile, HasFirstFault}
-use Rattle.cert_desk_rules.specs.Judging.{Answers, PlainAnchor}
+use Rattle.cert_desk_checking.specs.DeskRules.Judging.{Answers, PlainAnchor}
 use Rattle.cert_desk_checking.specs.Laws.{HasOneAnchorFile}
 use Rattle.cert_desk_checking.specs.Runs.{HasNoAnchors, run_terms}
-use Rattle.cert_desk_rules.specs.Verdicts.{Trusted}
+use Rattle.cert_desk_checking.specs.DeskRules.Verdicts.{Trusted}
 use Rattle.cert_desk_answers.specs.Judged.{IsUnanswered}
 
 -- an input in memory, over calls

@@ -5,27 +5,27 @@ use Rattle.std.specs.List.{AllByRecursion}
 use Rattle.std.proofs.lemmas.Bool.{ne_eqb}
 use Rattle.std.proofs.lemmas.List.Elements.{All-contains, All-from_recursion}
 use Rattle.std.proofs.lemmas.List.Splits.{slice_split_at, slice_split_none}
-use Rattle.der_core_head.specs.Octets.{IsOctets}
-use Rattle.der_core_head.specs.Shapes.{Shape, Value, IsValid, octets_of}
-use Rattle.der_core_head.specs.Spelling.{are_enough, is_apart}
-use Rattle.der_core_head.proofs.OneEncoding.{whole_again, bytes_are, octets_below}
-use Rattle.der_core_head.proofs.BoundLaws.{both_all}
+use Rattle.cert_desk_checking.specs.Der.Octets.{IsOctets}
+use Rattle.cert_desk_checking.specs.Der.Shapes.{Shape, Value, IsValid, octets_of}
+use Rattle.cert_desk_checking.specs.Der.Spelling.{are_enough, is_apart}
+use Rattle.cert_desk_checking.proofs.Der.OneEncoding.{whole_again, bytes_are, octets_below}
+use Rattle.cert_desk_checking.proofs.Der.BoundLaws.{both_all}
 use Rattle.hex.specs.Hex.{encode_lower}
 use Rattle.hex.proofs.HexLemmas.{decode_of-encode_lower}
-use Rattle.const_oid.specs.Bound.{Bound}
-use Rattle.cert_desk_rules.specs.declared.checked.Verdict.{Verdict}
+use Rattle.cert_desk_checking.specs.Oid.Bound.{Bound}
+use Rattle.cert_desk_checking.specs.DeskRules.declared.checked.Verdict.{Verdict}
 use Rattle.cert_desk_checking.specs.AnchorFiles.{IsAnchorFile}
-use Rattle.cert_desk_rules.specs.Answers.{only_yes_to}
-use Rattle.x509_cert_certificates.specs.Certificates.{PlainCertificate}
-use Rattle.cert_desk_bundle.specs.Chains.{Chain}
-use Rattle.cert_desk_rules.specs.Judging.{Answers, PlainAnchor, Terms}
-use Rattle.x509_cert_parts.specs.Grammar.{algorithm_identifier, bit_string, public_key_info}
+use Rattle.cert_desk_checking.specs.DeskRules.Answers.{only_yes_to}
+use Rattle.cert_desk_checking.specs.CertCertificates.Certificates.{PlainCertificate}
+use Rattle.cert_desk_checking.specs.DeskBundle.Chains.{Chain}
+use Rattle.cert_desk_checking.specs.DeskRules.Judging.{Answers, PlainAnchor, Terms}
+use Rattle.cert_desk_checking.specs.CertParts.Grammar.{algorithm_identifier, bit_string, public_key_info}
 use Rattle.cert_desk_checking.specs.QuestionLines.{QuestionLine, anchor_word, chain_lines, line_octets, lines_octets, questions_of_lines, spaced, hex_encoding}
-use Rattle.cert_desk_rules.specs.Questions.{Question, answer_on, under}
-use Rattle.cert_desk_rules.specs.Verdicts.{Asks, IsVerdict}
+use Rattle.cert_desk_checking.specs.DeskRules.Questions.{Question, answer_on, under}
+use Rattle.cert_desk_checking.specs.DeskRules.Verdicts.{Asks, IsVerdict}
 use Rattle.cert_desk_checking.proofs.AskedValues.{IsWritable, file_keys, lines_writable}
 use Rattle.cert_desk_checking.proofs.ListedQuestions.{judged_by_lines}
-use Rattle.cert_desk_bundle.proofs.OneChain.{one_chain}
+use Rattle.cert_desk_checking.proofs.DeskBundle.OneChain.{one_chain}
 use Rattle.cert_desk_checking.proofs.SameQuestions.{listed_alike}
 use Rattle.cert_desk_answers.specs.declared.line_fault.LineFault.{LineFault}
 use Rattle.cert_desk_answers.specs.declared.line_fault.LineFault.TheVariants as faults

@@ -6,7 +6,7 @@ use Rattle.std.specs.Fmt.{digits, digits_onto, digit_glyph}
 use Rattle.std.proofs.lemmas.Bool.{and_parts, and_from, ltb-true, leb-true, ne_eqb}
 use Rattle.std.proofs.lemmas.Bool.Decides.{nat_tests}
 use Rattle.std.proofs.lemmas.List.Elements.{All-from_recursion}
-use Rattle.der_core_head.specs.Octets.{IsOctets}
+use Rattle.cert_desk_checking.specs.Der.Octets.{IsOctets}
 use Rattle.hex.specs.Hex.{encode_lower, encode_with, lower_digits}
 use Rattle.cert_desk_checking.specs.QuestionLines.{anchor_word}
 use Rattle.cert_desk_answers.specs.AnswerLines.{is_anchor, is_digit, is_number}

@@ -1,6 +1,6 @@
 -- The six words of a line.
 use Rattle.std.proofs.Common.{ℕ, ◌<◌, ◌≤◌, List, [], ◌∷◌, length, map, get_or, Bor, arith, Result}
-use Rattle.cert_desk_rules.specs.Questions.{Question}
+use Rattle.cert_desk_checking.specs.DeskRules.Questions.{Question}
 use Rattle.cert_desk_answers.specs.declared.line_fault.LineFault.{LineFault}
 use Rattle.cert_desk_answers.specs.AnswerLines.{six_say, words_say}
 

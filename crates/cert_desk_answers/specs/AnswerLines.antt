@@ -2,16 +2,17 @@
 use Rattle.std.specs.Prelude.{ℕ, ◌+◌, List, [], ◌∷◌, Bool, true, false, ◌&&◌, ◌||◌, ◌==◌, nat_le}
 use Rattle.std.specs.Prelude.{bytes_eq, codes, if◌then◌else◌, Option, Some, None, Result, Ok, Err}
 use Rattle.std.specs.List.{list_all, slice_split}
-use Rattle.der_core_head.specs.declared.error.ErrorKind.{ErrorKind}
-use Rattle.der_core_head.specs.BitStrings.{Bits}
-use Rattle.der_core_head.specs.Grammar.{read_whole}
-use Rattle.der_core_head.specs.Shapes.{Shape, Value}
+use Rattle.cert_desk_checking.specs.Der.ErrorTypes.ErrorKind.{ErrorKind}
+use Rattle.cert_desk_checking.specs.Der.BitStrings.{Bits}
+use Rattle.cert_desk_checking.specs.Der.Grammar.{read_whole}
+use Rattle.cert_desk_checking.specs.Der.Shapes.{Shape, Value}
 use Rattle.hex.specs.Hex.{decode_of}
 use Rattle.hex.specs.declared.error.FromHexError.{FromHexError}
-use Rattle.const_oid.specs.Bound.{Bound}
-use Rattle.x509_cert_parts.specs.Grammar.{Algorithm, PublicKey, algorithm_identifier, bit_string}
-use Rattle.x509_cert_parts.specs.Grammar.{public_key_info}
-use Rattle.cert_desk_rules.specs.Questions.{Question}
+use Rattle.cert_desk_checking.specs.Oid.Bound.{Bound}
+use Rattle.cert_desk_checking.specs.CertParts.Grammar.{Algorithm, PublicKey, algorithm_identifier}
+use Rattle.cert_desk_checking.specs.CertParts.Grammar.{bit_string}
+use Rattle.cert_desk_checking.specs.CertParts.Grammar.{public_key_info}
+use Rattle.cert_desk_checking.specs.DeskRules.Questions.{Question}
 use Rattle.cert_desk_answers.specs.declared.line_fault.LineFault.{LineFault}
 use Rattle.cert_desk_answers.specs.declared.line_fault.LineFault.TheVariants as faults
 

@@ -1,6 +1,6 @@
 -- How a file of answers is read, line by line.
 use Rattle.std.specs.Prelude.{◌≡◌, ℕ, List, [], ◌∷◌, ◌++◌, Option, Some, None, Result, Ok, Err}
-use Rattle.cert_desk_rules.specs.Questions.{Question}
+use Rattle.cert_desk_checking.specs.DeskRules.Questions.{Question}
 use Rattle.cert_desk_answers.specs.declared.answer_lines.LineError.{LineError}
 use Rattle.cert_desk_answers.specs.declared.answer_lines.LineError.TheVariants as errors
 use Rattle.cert_desk_answers.specs.declared.line_fault.LineFault.{LineFault}

@@ -1,12 +1,12 @@
 -- What a chain is judged to be by a file of anchors and a file of answers.
 use Rattle.std.specs.Prelude.{◌≡◌, ◌⊎◌, ℕ, List, Result, Ok, Err}
-use Rattle.cert_desk_io.specs.declared.exit_status.ExitStatus.{ExitStatus}
-use Rattle.cert_desk_io.specs.declared.exit_status.ExitStatus.TheVariants as statuses
-use Rattle.cert_desk_rules.specs.declared.checked.Verdict.{Verdict}
-use Rattle.cert_desk_rules.specs.declared.checked.Verdict.TheVariants as verdicts
-use Rattle.cert_desk_rules.specs.Answers.{only_yes_to}
-use Rattle.cert_desk_rules.specs.Judging.{PlainAnchor, Terms}
-use Rattle.cert_desk_rules.specs.Questions.{Question}
+use Rattle.cert_desk_checking.specs.DeskIo.declared.exit_status.ExitStatus.{ExitStatus}
+use Rattle.cert_desk_checking.specs.DeskIo.declared.exit_status.ExitStatus.TheVariants as statuses
+use Rattle.cert_desk_checking.specs.DeskRules.declared.checked.Verdict.{Verdict}
+use Rattle.cert_desk_checking.specs.DeskRules.declared.checked.Verdict.TheVariants as verdicts
+use Rattle.cert_desk_checking.specs.DeskRules.Answers.{only_yes_to}
+use Rattle.cert_desk_checking.specs.DeskRules.Judging.{PlainAnchor, Terms}
+use Rattle.cert_desk_checking.specs.DeskRules.Questions.{Question}
 use Rattle.cert_desk_checking.specs.AnchorFiles.{IsAnchorFile}
 use Rattle.cert_desk_checking.specs.Runs.{run_terms}
 use Rattle.cert_desk_answers.specs.AnswerLines.{file_says}

@@ -1,17 +1,17 @@
 -- What holds of every file of answers.
 use Rattle.std.specs.Prelude.{◌≡◌, ℕ, List, Contains, Ok, filter}
 use Rattle.std.specs.List.{AllByRecursion}
-use Rattle.const_oid.specs.Bound.{Bound}
-use Rattle.cert_desk_rules.specs.declared.checked.Verdict.{Verdict}
+use Rattle.cert_desk_checking.specs.Oid.Bound.{Bound}
+use Rattle.cert_desk_checking.specs.DeskRules.declared.checked.Verdict.{Verdict}
 use Rattle.cert_desk_checking.specs.AnchorFiles.{IsAnchorFile}
-use Rattle.cert_desk_rules.specs.Answers.{only_yes_to}
-use Rattle.x509_cert_certificates.specs.Certificates.{PlainCertificate}
-use Rattle.cert_desk_bundle.specs.Chains.{Chain}
-use Rattle.cert_desk_rules.specs.Judging.{Answers, PlainAnchor, Terms}
+use Rattle.cert_desk_checking.specs.DeskRules.Answers.{only_yes_to}
+use Rattle.cert_desk_checking.specs.CertCertificates.Certificates.{PlainCertificate}
+use Rattle.cert_desk_checking.specs.DeskBundle.Chains.{Chain}
+use Rattle.cert_desk_checking.specs.DeskRules.Judging.{Answers, PlainAnchor, Terms}
 use Rattle.cert_desk_checking.specs.QuestionLines.{QuestionLine, chain_lines, lines_octets}
 use Rattle.cert_desk_checking.specs.QuestionLines.{questions_of_lines}
-use Rattle.cert_desk_rules.specs.Questions.{Question, answer_on, under}
-use Rattle.cert_desk_rules.specs.Verdicts.{Asks, IsVerdict}
+use Rattle.cert_desk_checking.specs.DeskRules.Questions.{Question, answer_on, under}
+use Rattle.cert_desk_checking.specs.DeskRules.Verdicts.{Asks, IsVerdict}
 use Rattle.cert_desk_answers.specs.AnswerLines.{file_says}
 
 -- Whichever lines of a chain's questions are kept, and in whatever order: a file of them is read as

@@ -1,9 +1,9 @@
 //! Files of answers.
 ghost use Rattle.std.specs.Prelude.{◌≡◌, map, IfOk, IfErr, OnOk, Some, Ok};
 ghost use Rattle.std.specs.List.{list_all};
-ghost use Rattle.der_core_head.specs.Grammar.{read_whole};
-ghost use Rattle.x509_cert_parts.specs.Views.{algorithm_plain, key_plain};
-ghost use Rattle.cert_desk_rules.specs.Answers.{answer_plain};
+ghost use Rattle.cert_desk_checking.specs.Der.Grammar.{read_whole};
+ghost use Rattle.cert_desk_checking.specs.CertParts.Views.{algorithm_plain, key_plain};
+ghost use Rattle.cert_desk_checking.specs.DeskRules.Answers.{answer_plain};
 ghost use Rattle.cert_desk_answers.specs.AnswerLines.{algorithm_in, bits_in, file_says, is_anchor};
 ghost use Rattle.cert_desk_answers.specs.AnswerLines.{is_digit, is_number, is_skipped, key_in};
 ghost use Rattle.cert_desk_answers.specs.AnswerLines.{line_says, octets_in, parts, question_in};
@@ -12,13 +12,13 @@ ghost use Rattle.cert_desk_answers.specs.AnswerReading.{FailsBy, IsNoFile, IsNoL
 
 use crate::line_fault::LineFault;
 use crate::no_answers::NoAnswers;
-use cert_desk_rules::Answer;
-use der_core::making::read_whole;
-use der_core::{Decode, ErrorKind, SliceReader};
-use der_types_values::BitString;
+use cert_desk_checking::cert_parts::{AlgorithmIdentifier, SubjectPublicKeyInfo};
+use cert_desk_checking::der::making::read_whole;
+use cert_desk_checking::der::{Decode, ErrorKind, SliceReader};
+use cert_desk_checking::desk_rules::Answer;
+use cert_desk_checking::types::BitString;
 use hex::FromHexError;
 use std::alloc::{AllocError, Global};
-use x509_cert_parts::{AlgorithmIdentifier, SubjectPublicKeyInfo};
 
 // Why what a line says isn't read.
 #[derive(Clone, Copy)]

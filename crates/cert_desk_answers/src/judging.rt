@@ -2,14 +2,15 @@
 //! memory.
 ghost use Rattle.std.specs.Prelude.{◌≡◌, ◌≢◌, ◌≤◌, ◌<◌, ◌^◌, ◌⊎◌, List, length, map, IfOk, IfErr};
 ghost use Rattle.std.specs.Prelude.{Ok};
-ghost use Rattle.const_oid.specs.Bound.{Bound};
-ghost use Rattle.cert_desk_io.specs.declared.exit_status.ExitStatus.TheVariants.{Arguments, Memory};
-ghost use Rattle.cert_desk_bundle.specs.declared.standing.Standing.{Standing};
-ghost use Rattle.cert_desk_bundle.specs.Streams.{Reads};
-ghost use Rattle.cert_desk_rules.specs.Answers.{only_yes_to};
-ghost use Rattle.cert_desk_rules.specs.Judging.{PlainAnchor};
-ghost use Rattle.cert_desk_rules.specs.Questions.{Question};
-ghost use Rattle.cert_desk_rules.specs.Verdicts.{IsVerdict, Trusted};
+ghost use Rattle.cert_desk_checking.specs.Oid.Bound.{Bound};
+ghost use Rattle.cert_desk_checking.specs.DeskIo.declared.exit_status.ExitStatus.TheVariants.{Arguments};
+ghost use Rattle.cert_desk_checking.specs.DeskIo.declared.exit_status.ExitStatus.TheVariants.{Memory};
+ghost use Rattle.cert_desk_checking.specs.DeskBundle.declared.standing.Standing.{Standing};
+ghost use Rattle.cert_desk_checking.specs.DeskBundle.Streams.{Reads};
+ghost use Rattle.cert_desk_checking.specs.DeskRules.Answers.{only_yes_to};
+ghost use Rattle.cert_desk_checking.specs.DeskRules.Judging.{PlainAnchor};
+ghost use Rattle.cert_desk_checking.specs.DeskRules.Questions.{Question};
+ghost use Rattle.cert_desk_checking.specs.DeskRules.Verdicts.{IsVerdict, Trusted};
 ghost use Rattle.cert_desk_checking.specs.Anchors.{anchor_plain};
 ghost use Rattle.cert_desk_checking.specs.AnchorFiles.{IsAnchorFile};
 ghost use Rattle.cert_desk_checking.specs.Runs.{run_terms};
@@ -18,12 +19,12 @@ ghost use Rattle.cert_desk_answers.specs.Judged.{AreGiven, IsUnanswered, SaysTru
 
 use crate::answer_lines::answers_in;
 use crate::no_answers::NoAnswers;
-use cert_desk_bundle::{Bundle, BundleError};
+use cert_desk_checking::desk_bundle::{Bundle, BundleError};
+use cert_desk_checking::desk_io::{ExitStatus, MemoryInput};
+use cert_desk_checking::desk_rules::{AnswersJudge, Verdict};
 use cert_desk_checking::laws::one_anchor_file;
+use cert_desk_checking::oid::ObjectIdentifier;
 use cert_desk_checking::{Anchor, AnchorsError, check, read_anchors};
-use cert_desk_io::{ExitStatus, MemoryInput};
-use cert_desk_rules::{AnswersJudge, Verdict};
-use const_oid::ObjectIdentifier;
 use std::alloc::Global;
 
 /// The anchors that octets give (RFC 5914 2), or the status.

@@ -1,15 +1,15 @@
 -- Octets are the encoding of one value, or of none.
 use Rattle.std.proofs.Common.{◌≡◌, ℕ, List, [], ◌∷◌, Bool, true, false, Result, Ok, Err, refl, sym, ap, subst, ◌∙◌, ltb, length}
 use Rattle.std.proofs.lemmas.Bool.{and_parts, ltb-true, lt-ltb}
-use Rattle.der_core_head.specs.declared.error.ErrorKind.{ErrorKind}
-use Rattle.der_core_head.specs.declared.error.ErrorKind.TheVariants as kinds
-use Rattle.der_core_head.specs.Octets.{IsOctets, are_octets, ◌>>=◌}
-use Rattle.der_core_head.specs.Limits.{length_max, levels_max}
-use Rattle.der_core_head.specs.Grammar.{read, read_whole, whole}
-use Rattle.der_core_head.specs.Shapes.{Shape, Value, Spells, octets_of}
-use Rattle.der_core_head.specs.Spelling.{is_apart, are_enough}
-use Rattle.der_core_head.proofs.Results.{IsBytes, ok_is, bind_ok, unless_ok, whole_ok}
-use Rattle.der_core_head.proofs.OneEncoding.{is_spelled, whole_again, octets_below, bytes_are}
+use Rattle.x509_cert_certificates.specs.Der.ErrorTypes.ErrorKind.{ErrorKind}
+use Rattle.x509_cert_certificates.specs.Der.ErrorTypes.ErrorKind.TheVariants as kinds
+use Rattle.x509_cert_certificates.specs.Der.Octets.{IsOctets, are_octets, ◌>>=◌}
+use Rattle.x509_cert_certificates.specs.Der.Limits.{length_max, levels_max}
+use Rattle.x509_cert_certificates.specs.Der.Grammar.{read, read_whole, whole}
+use Rattle.x509_cert_certificates.specs.Der.Shapes.{Shape, Value, Spells, octets_of}
+use Rattle.x509_cert_certificates.specs.Der.Spelling.{is_apart, are_enough}
+use Rattle.der_core.proofs.DecodingLaws.{IsBytes, ok_is, bind_ok, unless_ok, whole_ok}
+use Rattle.der_core.proofs.DecodingLaws.{is_spelled, whole_again, octets_below, bytes_are}
 use Rattle.cert_desk_bundle.specs.Decoding.{Decoding, decodes_to, decodes_to_none}
 
 -- what is read of all octets has this encoding

@@ -1,12 +1,12 @@
 -- A fault of a stream is that of every longer one.
 use Rattle.std.proofs.Common.{◌≡◌, ◌≢◌, ℕ, ◌+◌, ◌^◌, ◌<◌, ◌≤◌, List, [], ◌∷◌, ◌++◌, length, take, Err, refl, sym, ap, subst, ◌∙◌, arith, inl, inr, append_assoc}
 use Rattle.std.proofs.lemmas.Bool.{cases_lt}
-use Rattle.der_core_head.specs.declared.error.ErrorKind.{ErrorKind}
-use Rattle.der_core_head.specs.declared.error.ErrorKind.TheVariants as errors
-use Rattle.der_core_head.specs.declared.tag.Tag.TheVariants as tags
-use Rattle.der_core_head.specs.Heads.{head_octets, head_at}
-use Rattle.der_core_head.specs.Shapes.{Shape, Body, Value, sequence}
-use Rattle.der_core_head.proofs.LeafLaws.{fault_stays as head_fault_stays}
+use Rattle.x509_cert_certificates.specs.Der.ErrorTypes.ErrorKind.{ErrorKind}
+use Rattle.x509_cert_certificates.specs.Der.ErrorTypes.ErrorKind.TheVariants as errors
+use Rattle.x509_cert_certificates.specs.Der.TagTypes.Tag.TheVariants as tags
+use Rattle.x509_cert_certificates.specs.Der.Heads.{head_octets, head_at}
+use Rattle.x509_cert_certificates.specs.Der.Shapes.{Shape, Body, Value, sequence}
+use Rattle.x509_cert_certificates.proofs.Der.LeafLaws.{fault_stays as head_fault_stays}
 use Rattle.x509_cert_certificates.specs.Certificates.{PlainCertificate, raw_certificate_fields}
 use Rattle.cert_desk_bundle.specs.declared.fault_kind.FaultKind.{FaultKind}
 use Rattle.cert_desk_bundle.specs.declared.fault_kind.FaultKind.TheVariants as kinds

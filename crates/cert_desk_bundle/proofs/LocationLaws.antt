@@ -2,16 +2,16 @@
 use Rattle.std.proofs.Common.{◌≡◌, ℕ, zero, suc, ◌+◌, ◌-◌, ◌^◌, ◌<◌, ◌≤◌, ◌≢◌, List, [], ◌∷◌, ◌++◌, length, take, drop, Some, Result, Ok, Err, is_ok, true, false, cond, refl, sym, ap, subst, ◌∙◌, arith, ◌⊎◌, inl, inr, length-append, length-drop, slice_get}
 use Rattle.std.proofs.lemmas.List.{take_at, drop_at, take-append-le, map_push, length-map}
 use Rattle.std.specs.List.{AllByRecursion}
-use Rattle.der_core_head.specs.declared.tag.Tag.TheVariants as tags
-use Rattle.der_core_head.specs.Heads.{head_octets, head_at, tlv, Fits}
-use Rattle.der_core_head.specs.Shapes.{IsValid, IsContent, IsBody, Spells, octets_of, body_octets, contents}
+use Rattle.x509_cert_certificates.specs.Der.TagTypes.Tag.TheVariants as tags
+use Rattle.x509_cert_certificates.specs.Der.Heads.{head_octets, head_at, tlv, Fits}
+use Rattle.x509_cert_certificates.specs.Der.Shapes.{IsValid, IsContent, IsBody, Spells, octets_of, body_octets, contents}
 use Rattle.x509_cert_certificates.specs.Certificates.{PlainCertificate, raw_certificate}
 use Rattle.x509_cert_certificates.specs.Certificates.{raw_tbs_certificate, certificate_octets, tbs}
 use Rattle.x509_cert_certificates.specs.Certificates.{signed_start, signed_length}
-use Rattle.x509_cert_parts.specs.Grammar.{algorithm_identifier, bit_string}
-use Rattle.const_oid.specs.Bound.{Bound}
-use Rattle.der_core_head.specs.declared.error.ErrorKind.{ErrorKind}
-use Rattle.der_core_head.specs.declared.error.ErrorKind.TheVariants as errors
+use Rattle.x509_cert_certificates.specs.CertParts.Grammar.{algorithm_identifier, bit_string}
+use Rattle.x509_cert_certificates.specs.Oid.Bound.{Bound}
+use Rattle.x509_cert_certificates.specs.Der.ErrorTypes.ErrorKind.{ErrorKind}
+use Rattle.x509_cert_certificates.specs.Der.ErrorTypes.ErrorKind.TheVariants as errors
 use Rattle.cert_desk_bundle.specs.declared.fault_kind.FaultKind.TheVariants as kinds
 use Rattle.cert_desk_bundle.specs.declared.standing.Standing.{Standing}
 use Rattle.cert_desk_bundle.specs.declared.standing.Standing.TheVariants as standings

@@ -1,6 +1,6 @@
 -- A stream joins one list of certificates at most, and has one fault at most.
 use Rattle.std.proofs.Common.{◌≡◌, ℕ, List, refl}
-use Rattle.der_core_head.specs.Limits.{levels_max}
+use Rattle.x509_cert_certificates.specs.Der.Limits.{levels_max}
 use Rattle.x509_cert_certificates.specs.Certificates.{PlainCertificate, raw_certificate}
 use Rattle.cert_desk_bundle.specs.declared.fault_kind.FaultKind.{FaultKind}
 use Rattle.cert_desk_bundle.specs.Chains.{Chain}

@@ -3,21 +3,21 @@ use Rattle.std.proofs.Common.{◌≡◌, ◌≢◌, ℕ, ◌+◌, ◌-◌, ◌^�
 use Rattle.std.proofs.lemmas.Bool.{cases_lt, le-ltb, ne_eqb}
 use Rattle.std.proofs.lemmas.List.{take_at, take-append-le, take-append-drop, length-take-le}
 use Rattle.std.specs.Int.Digits.{number_from_digits}
-use Rattle.const_oid.proofs.DigitLaws.{number_from_digits-digits, split-same_length}
-use Rattle.const_oid.specs.Digits.{digits}
-use Rattle.der_core_head.specs.declared.error.Error.{Error}
-use Rattle.der_core_head.specs.declared.error.ErrorKind.{ErrorKind}
-use Rattle.der_core_head.specs.declared.error.ErrorKind.TheVariants as errors
-use Rattle.der_core_head.specs.declared.tag.Tag.TheVariants as tags
-use Rattle.der_core_head.specs.Octets.{◌>>=◌}
-use Rattle.der_core_head.specs.Tags.{universal_tag, tag_octets, tag_at}
-use Rattle.der_core_head.specs.Heads.{Head, length_octets, head_octets, tlv, Fits, length_at, head_at}
-use Rattle.der_core_head.specs.Shapes.{Shape, Body, Value, sequence, IsValid, Spells, octets_of, body_octets, contents}
-use Rattle.der_core_head.proofs.Results.{IsBytes, ok_is, bind_ok}
-use Rattle.der_core_head.proofs.HeadLaws.{head_again, head_sound, length-short, length-long, length_at-short, length_at-indefinite, length_at-large, length_at-cut, length_at-digits, shortest-ok, shortest-err}
-use Rattle.der_core_head.proofs.LeafLaws.{read_stays}
-use Rattle.der_core_octets.specs.declared.header.Header.{Header}
-use Rattle.der_core_octets.specs.Headers.{Scans, head_of}
+use Rattle.x509_cert_certificates.proofs.Oid.DigitLaws.{number_from_digits-digits, split-same_length}
+use Rattle.x509_cert_certificates.specs.Oid.Digits.{digits}
+use Rattle.x509_cert_certificates.specs.Der.ErrorTypes.Error.{Error}
+use Rattle.x509_cert_certificates.specs.Der.ErrorTypes.ErrorKind.{ErrorKind}
+use Rattle.x509_cert_certificates.specs.Der.ErrorTypes.ErrorKind.TheVariants as errors
+use Rattle.x509_cert_certificates.specs.Der.TagTypes.Tag.TheVariants as tags
+use Rattle.x509_cert_certificates.specs.Der.Octets.{◌>>=◌}
+use Rattle.x509_cert_certificates.specs.Der.Tags.{universal_tag, tag_octets, tag_at}
+use Rattle.x509_cert_certificates.specs.Der.Heads.{Head, length_octets, head_octets, tlv, Fits, length_at, head_at}
+use Rattle.x509_cert_certificates.specs.Der.Shapes.{Shape, Body, Value, sequence, IsValid, Spells, octets_of, body_octets, contents}
+use Rattle.x509_cert_certificates.proofs.Der.Results.{IsBytes, ok_is, bind_ok}
+use Rattle.x509_cert_certificates.proofs.Der.HeadLaws.{head_again, head_sound, length-short, length-long, length_at-short, length_at-indefinite, length_at-large, length_at-cut, length_at-digits, shortest-ok, shortest-err}
+use Rattle.x509_cert_certificates.proofs.Der.LeafLaws.{read_stays}
+use Rattle.x509_cert_certificates.specs.Der.HeaderTypes.Header.{Header}
+use Rattle.x509_cert_certificates.specs.Der.Headers.{Scans, head_of}
 use Rattle.cert_desk_bundle.specs.declared.fault_kind.FaultKind.{FaultKind}
 use Rattle.cert_desk_bundle.specs.declared.fault_kind.FaultKind.TheVariants as kinds
 use Rattle.cert_desk_bundle.specs.Series.{MayStand}

@@ -3,10 +3,10 @@ use Rattle.std.proofs.Common.{◌≡◌, ℕ, ◌^◌, ◌<◌, List, [], ◌∷
 use Rattle.std.proofs.lemmas.Bool.{cases_lt}
 use Rattle.std.proofs.lemmas.Grind.{flat_map-append}
 use Rattle.std.specs.List.{AllByRecursion}
-use Rattle.der_core_head.specs.Shapes.{Shape, Value, octets_of, IsValid}
-use Rattle.der_core_head.proofs.OneEncoding.{one_value}
-use Rattle.der_core_head.proofs.Complete.{element_some}
-use Rattle.der_core_head.proofs.BoundLaws.{front_all}
+use Rattle.x509_cert_certificates.specs.Der.Shapes.{Shape, Value, octets_of, IsValid}
+use Rattle.x509_cert_certificates.proofs.Der.OneEncoding.{one_value}
+use Rattle.x509_cert_certificates.proofs.Der.Complete.{element_some}
+use Rattle.x509_cert_certificates.proofs.Der.BoundLaws.{front_all}
 use Rattle.cert_desk_bundle.specs.declared.fault_kind.FaultKind.{FaultKind}
 use Rattle.cert_desk_bundle.specs.declared.fault_kind.FaultKind.TheVariants as kinds
 use Rattle.cert_desk_bundle.specs.Series.{IsUnambiguous, MayStand, Series, SeriesSplit, encodings}

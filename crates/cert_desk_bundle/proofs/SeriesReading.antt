@@ -1,6 +1,6 @@
 -- What is read of a series: values up to a rest that is unfinished or faulty.
 use Rattle.std.proofs.Common.{◌≡◌, ◌≢◌, ℕ, ◌+◌, ◌^◌, ◌<◌, List, [], ◌∷◌, ◌++◌, length, refl, ap, arith, length-append}
-use Rattle.der_core_head.specs.Shapes.{Shape, Body, Value, octets_of, sequence}
+use Rattle.x509_cert_certificates.specs.Der.Shapes.{Shape, Body, Value, octets_of, sequence}
 use Rattle.cert_desk_bundle.specs.declared.fault_kind.FaultKind.{FaultKind}
 use Rattle.cert_desk_bundle.specs.declared.fault_kind.FaultKind.TheVariants as kinds
 use Rattle.cert_desk_bundle.specs.declared.standing.Standing.TheVariants as standings

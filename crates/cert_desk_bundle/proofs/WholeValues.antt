@@ -1,9 +1,9 @@
 -- A whole value behind a SEQUENCE tag, at the front of a rest.
 use Rattle.std.proofs.Common.{◌≡◌, ℕ, List, ◌∷◌, ◌++◌, length, take, sym, ap, ◌∙◌, arith, append_assoc, length-append}
 use Rattle.std.proofs.lemmas.List.{take_at}
-use Rattle.der_core_head.specs.declared.tag.Tag.TheVariants as tags
-use Rattle.der_core_head.specs.Heads.{length_octets, head_octets}
-use Rattle.der_core_head.specs.Shapes.{Body, Value, Spells, sequence}
+use Rattle.x509_cert_certificates.specs.Der.TagTypes.Tag.TheVariants as tags
+use Rattle.x509_cert_certificates.specs.Der.Heads.{length_octets, head_octets}
+use Rattle.x509_cert_certificates.specs.Der.Shapes.{Body, Value, Spells, sequence}
 use Rattle.cert_desk_bundle.specs.declared.fault_kind.FaultKind.TheVariants as kinds
 use Rattle.cert_desk_bundle.specs.Faults.{IsFault}
 use Rattle.cert_desk_bundle.specs.Headers.{HasWhole}

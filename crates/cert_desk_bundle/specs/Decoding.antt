@@ -1,6 +1,6 @@
 -- What octets are the encoding of.
 use Rattle.std.specs.Prelude.{◌≡◌, ℕ, List}
-use Rattle.der_core_head.specs.Shapes.{Shape, Value, Spells}
+use Rattle.x509_cert_certificates.specs.Der.Shapes.{Shape, Value, Spells}
 
 -- The value that octets are the encoding of, or that they are the encoding of none. No two values
 -- have the same encoding.

@@ -1,6 +1,6 @@
 -- What a bundle lends of a certificate.
 use Rattle.std.specs.Prelude.{◌≡◌, ℕ, List, Some, slice_get}
-use Rattle.der_core_head.specs.Shapes.{octets_of, IsValid}
+use Rattle.x509_cert_certificates.specs.Der.Shapes.{octets_of, IsValid}
 use Rattle.x509_cert_certificates.specs.Certificates.{PlainCertificate, certificate_octets}
 use Rattle.x509_cert_certificates.specs.Certificates.{raw_certificate, raw_tbs_certificate, tbs}
 use Rattle.x509_cert_certificates.specs.Views.{certificate_plain}

@@ -1,10 +1,10 @@
 -- The certificate at the front of octets, or why none is there.
 use Rattle.std.specs.Prelude.{ℕ, List, Result, Err, length, nat_lt, if◌then◌else◌}
-use Rattle.const_oid.specs.Bound.{Bound}
-use Rattle.der_core_head.specs.declared.error.ErrorKind.{ErrorKind}
-use Rattle.der_core_head.specs.declared.error.ErrorKind.TheVariants as kinds
-use Rattle.der_core_head.specs.Grammar.{read}
-use Rattle.der_core_head.specs.Limits.{length_max, levels_max}
+use Rattle.x509_cert_certificates.specs.Oid.Bound.{Bound}
+use Rattle.x509_cert_certificates.specs.Der.ErrorTypes.ErrorKind.{ErrorKind}
+use Rattle.x509_cert_certificates.specs.Der.ErrorTypes.ErrorKind.TheVariants as kinds
+use Rattle.x509_cert_certificates.specs.Der.Grammar.{read}
+use Rattle.x509_cert_certificates.specs.Der.Limits.{length_max, levels_max}
 use Rattle.x509_cert_certificates.specs.Certificates.{PlainCertificate, raw_certificate}
 
 -- what reading a certificate at the front of octets gives, and the octets behind it

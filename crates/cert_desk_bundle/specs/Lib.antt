@@ -10,3 +10,10 @@ pub mod Locations
 pub mod Rests
 pub mod Steps
 pub mod FirstFaults
+pub use Rattle.x509_cert_certificates.specs as CertCertificates
+pub use Rattle.x509_cert_certificates.specs.CertNames
+pub use Rattle.x509_cert_certificates.specs.CertParts
+pub use Rattle.x509_cert_certificates.specs.Der
+pub use Rattle.cert_desk_io.specs as DeskIo
+pub use Rattle.x509_cert_certificates.specs.Oid
+pub use Rattle.x509_cert_certificates.specs.Types

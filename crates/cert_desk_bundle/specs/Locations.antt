@@ -1,11 +1,11 @@
 -- Where a bundle keeps its certificates.
 use Rattle.std.specs.Prelude.{◌≡◌, ◌≢◌, ℕ, ◌≤◌, List, [], length, map, ◌⊎◌, Some, slice_get}
 use Rattle.std.specs.List.{AllByRecursion}
-use Rattle.der_core_head.specs.Shapes.{Spells}
+use Rattle.x509_cert_certificates.specs.Der.Shapes.{Spells}
 use Rattle.x509_cert_certificates.specs.Certificates.{PlainCertificate, raw_certificate}
 use Rattle.x509_cert_certificates.specs.Certificates.{certificate_octets, signed_start}
 use Rattle.x509_cert_certificates.specs.Certificates.{signed_length}
-use Rattle.const_oid.specs.Bound.{Bound}
+use Rattle.x509_cert_certificates.specs.Oid.Bound.{Bound}
 use Rattle.x509_cert_certificates.specs.Views.{certificate_plain}
 use Rattle.cert_desk_bundle.specs.declared.bundle.Bundle.TheInside.{Inside}
 use Rattle.cert_desk_bundle.specs.declared.fault_kind.FaultKind.TheVariants as kinds

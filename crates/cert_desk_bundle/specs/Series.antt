@@ -3,8 +3,8 @@
 use Rattle.std.specs.Prelude.{◌≡◌, ℕ, ◌≤◌, ◌<◌, ◌^◌, List, [], ◌∷◌, ◌++◌, length, flat_map}
 use Rattle.std.specs.Prelude.{true}
 use Rattle.std.specs.List.{AllByRecursion}
-use Rattle.der_core_head.specs.Shapes.{Shape, Value, octets_of, IsValid}
-use Rattle.der_core_head.specs.Spelling.{is_apart, is_element, are_enough}
+use Rattle.x509_cert_certificates.specs.Der.Shapes.{Shape, Value, octets_of, IsValid}
+use Rattle.x509_cert_certificates.specs.Der.Spelling.{is_apart, is_element, are_enough}
 
 -- Values of the shape are told apart, whatever stands behind them: each has a header, first tags
 -- are kept apart, and some number of levels is enough.

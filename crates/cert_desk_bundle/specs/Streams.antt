@@ -1,6 +1,6 @@
 -- What a reader of a stream of values has read, and what a bundle of certificates keeps.
 use Rattle.std.specs.Prelude.{ℕ, List, length}
-use Rattle.der_core_head.specs.Shapes.{Shape, Value}
+use Rattle.x509_cert_certificates.specs.Der.Shapes.{Shape, Value}
 use Rattle.x509_cert_certificates.specs.Certificates.{PlainCertificate, raw_certificate}
 use Rattle.cert_desk_bundle.specs.declared.fault_kind.FaultKind.TheVariants as kinds
 use Rattle.cert_desk_bundle.specs.declared.standing.Standing.{Standing}

@@ -1,7 +1,7 @@
 //! A stream of certificates, read as it comes.
 ghost use Rattle.std.specs.Prelude.{◌≡◌, ◌≢◌, ℕ, ◌+◌, ◌<◌, ◌≤◌, ◌^◌, ◌==◌, ◌↔◌, List, [], ◌++◌};
 ghost use Rattle.std.specs.Prelude.{length, IsTrue, IsSome, IfSome, IfOk, IfErr, OnOk, OnErr};
-ghost use Rattle.const_oid.specs.Bound.{Bound};
+ghost use Rattle.x509_cert_certificates.specs.Oid.Bound.{Bound};
 ghost use Rattle.cert_desk_bundle.specs.Chains.{joined};
 ghost use Rattle.cert_desk_bundle.specs.Streams.{Reads};
 ghost use Rattle.cert_desk_bundle.specs.Entries.{IsEntry};

@@ -1,7 +1,7 @@
 //! A certificate of a stream.
 
 use x509_cert_certificates::CertificateInner;
-use x509_cert_parts::Raw;
+use x509_cert_certificates::cert_parts::Raw;
 
 /// A certificate of a stream, where it stands. Nothing is copied.
 #[derive(Clone, Copy, Debug)]

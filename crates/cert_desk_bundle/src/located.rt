@@ -5,13 +5,13 @@ ghost use Rattle.cert_desk_bundle.specs.Locations.{IsPlacedAt, IsUnread};
 use crate::fault_kind::FaultKind;
 use crate::scan::content_start;
 use crate::standing::Standing;
-use der_core::making::is_want_of_memory;
-use der_core::{Error, ErrorKind, FromDer};
-use der_types_values::BitString;
 use std::alloc::Global;
 use x509_cert_certificates::assembling::certificate_of;
+use x509_cert_certificates::cert_parts::{AlgorithmIdentifier, Raw};
+use x509_cert_certificates::der::making::is_want_of_memory;
+use x509_cert_certificates::der::{Error, ErrorKind, FromDer};
+use x509_cert_certificates::types::BitString;
 use x509_cert_certificates::{CertificateInner, TbsCertificateInner};
-use x509_cert_parts::{AlgorithmIdentifier, Raw};
 
 /// A certificate, its octets, and where it stands.
 #[derive(Drop)]

@@ -3,11 +3,11 @@ ghost use Rattle.std.specs.Prelude.{◌≡◌, ◌≤◌, ℕ, List, Ok, Err, If
 ghost use Rattle.x509_cert_certificates.specs.Certificates.{PlainCertificate};
 ghost use Rattle.cert_desk_bundle.specs.FirstFaults.{first_certificate};
 
-use der_core::making::is_want_of_memory;
-use der_core::{Error, FromDer};
 use std::alloc::{AllocError, Global};
 use x509_cert_certificates::CertificateInner;
-use x509_cert_parts::Raw;
+use x509_cert_certificates::cert_parts::Raw;
+use x509_cert_certificates::der::making::is_want_of_memory;
+use x509_cert_certificates::der::{Error, FromDer};
 
 // An error whose place, if it has one, is one of so many octets, or their end.
 fn placed_within(error: Error, len: usize) -> Error

@@ -1,10 +1,10 @@
 // Where a certificate ends, by the header at its front.
 ghost use Rattle.std.specs.Prelude.{◌≡◌, ◌≤◌, IfOk, IfErr, IfSome, IfNone};
-ghost use Rattle.der_core_head.specs.Shapes.{Body, Value, Spells, sequence};
+ghost use Rattle.x509_cert_certificates.specs.Der.Shapes.{Body, Value, Spells, sequence};
 ghost use Rattle.cert_desk_bundle.specs.Headers.{fault_of, IsContentAt, IsWanted, IsEarlyFault};
 
 use crate::fault_kind::FaultKind;
-use der_core::{ErrorKind, Header};
+use x509_cert_certificates::der::{ErrorKind, Header};
 
 // What a fault of the header is to a stream.
 fn fault_of(kind: ErrorKind) -> FaultKind

@@ -1,22 +1,22 @@
 -- What is told of the questions of a chain.
 use Rattle.std.proofs.Common.{◌≡◌, ◌≢◌, ◌≤◌, ◌<◌, ◌⊎◌, inl, inr, ℕ, List, [], length, refl, sym, ap, subst, ◌∙◌, arith}
-use Rattle.const_oid.specs.Bound.{Bound}
-use Rattle.cert_desk_io.specs.declared.exit_status.ExitStatus.{ExitStatus}
-use Rattle.cert_desk_io.specs.declared.exit_status.ExitStatus.TheVariants as statuses
-use Rattle.cert_desk_io.specs.Statuses.{code_of}
-use Rattle.cert_desk_buffers.specs.Returned.{IsExact, IsExactWithMemory, IsTextStatus}
-use Rattle.cert_desk_buffers.proofs.Returning.{given, withheld}
-use Rattle.x509_cert_certificates.specs.Certificates.{PlainCertificate}
-use Rattle.cert_desk_bundle.specs.declared.standing.Standing.{Standing}
-use Rattle.cert_desk_bundle.specs.declared.standing.Standing.TheVariants as standings
-use Rattle.cert_desk_bundle.specs.Chains.{Chain, joined}
-use Rattle.cert_desk_bundle.specs.Streams.{Kept, Reads}
-use Rattle.cert_desk_bundle.proofs.Readings.{ReadsUnder}
-use Rattle.cert_desk_bundle.proofs.OneChain.{fault_no_chain, one_chain}
-use Rattle.cert_desk_rules.specs.Judging.{PlainAnchor}
-use Rattle.cert_desk_checking.specs.AnchorFiles.{IsAnchorFile}
-use Rattle.cert_desk_checking.specs.QuestionLines.{chain_lines, lines_octets}
-use Rattle.cert_desk_checking.proofs.ChainLaws.{chain_is_some}
+use Rattle.cert_tool_describe.specs.Oid.Bound.{Bound}
+use Rattle.cert_desk_listing.specs.DeskIo.declared.exit_status.ExitStatus.{ExitStatus}
+use Rattle.cert_desk_listing.specs.DeskIo.declared.exit_status.ExitStatus.TheVariants as statuses
+use Rattle.cert_desk_listing.specs.DeskIo.Statuses.{code_of}
+use Rattle.cert_desk_answers.specs.DeskRules.Returned.{IsExact, IsExactWithMemory, IsTextStatus}
+use Rattle.cert_desk_answers.proofs.DeskRules.Returning.{given, withheld}
+use Rattle.cert_tool_describe.specs.CertCertificates.Certificates.{PlainCertificate}
+use Rattle.cert_desk_answers.specs.DeskBundle.declared.standing.Standing.{Standing}
+use Rattle.cert_desk_answers.specs.DeskBundle.declared.standing.Standing.TheVariants as standings
+use Rattle.cert_desk_answers.specs.DeskBundle.Chains.{Chain, joined}
+use Rattle.cert_desk_answers.specs.DeskBundle.Streams.{Kept, Reads}
+use Rattle.cert_desk_answers.proofs.DeskBundle.Readings.{ReadsUnder}
+use Rattle.cert_desk_answers.proofs.DeskBundle.OneChain.{fault_no_chain, one_chain}
+use Rattle.cert_desk_answers.specs.DeskRules.Judging.{PlainAnchor}
+use Rattle.cert_desk_answers.specs.DeskChecking.AnchorFiles.{IsAnchorFile}
+use Rattle.cert_desk_answers.specs.DeskChecking.QuestionLines.{chain_lines, lines_octets}
+use Rattle.cert_desk_answers.proofs.DeskChecking.ChainLaws.{chain_is_some}
 use Rattle.cert_desk_answers.specs.Judged.{IsUnanswered}
 use Rattle.cert_desk_c.specs.Judged.{AreAnchors, AreQuestions, HasNoQuestions, IsNoChain}
 use Rattle.cert_desk_c.proofs.Verdicts.{one_file}

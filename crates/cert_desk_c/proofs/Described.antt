@@ -1,12 +1,12 @@
 -- The statuses of a call that describes a value.
 use Rattle.std.proofs.Common.{◌≡◌, ◌≢◌, ◌⊎◌, inl, inr, ℕ, List, length, Option, Some, None, IfNone, IfSome, refl}
-use Rattle.der_core_head.specs.declared.error.ErrorKind.{ErrorKind}
-use Rattle.der_core_head.specs.declared.error.ErrorKind.TheVariants.{OutOfMemory}
-use Rattle.cert_desk_io.specs.declared.exit_status.ExitStatus.{ExitStatus}
-use Rattle.cert_desk_io.specs.declared.exit_status.ExitStatus.TheVariants as statuses
-use Rattle.cert_desk_io.specs.Statuses.{code_of}
-use Rattle.cert_desk_buffers.specs.Returned.{IsExact, IsExactWithMemory, IsFaultyStatus, IsTextStatus}
-use Rattle.cert_desk_buffers.proofs.Returning.{unspelled}
+use Rattle.cert_tool_describe.specs.Der.ErrorTypes.ErrorKind.{ErrorKind}
+use Rattle.cert_tool_describe.specs.Der.ErrorTypes.ErrorKind.TheVariants.{OutOfMemory}
+use Rattle.cert_desk_listing.specs.DeskIo.declared.exit_status.ExitStatus.{ExitStatus}
+use Rattle.cert_desk_listing.specs.DeskIo.declared.exit_status.ExitStatus.TheVariants as statuses
+use Rattle.cert_desk_listing.specs.DeskIo.Statuses.{code_of}
+use Rattle.cert_desk_answers.specs.DeskRules.Returned.{IsExact, IsExactWithMemory, IsFaultyStatus, IsTextStatus}
+use Rattle.cert_desk_answers.proofs.DeskRules.Returning.{unspelled}
 
 -- the text has `size` bytes
 abbrev Counted : ℕ → List ℕ → Type 0

@@ -1,16 +1,16 @@
 -- What is told of the extension that is looked for.
 use Rattle.std.proofs.Common.{◌≡◌, ◌⊎◌, inl, inr, ℕ, List, Option, is_some, true, false, refl, sym, ap, ◌∙◌}
-use Rattle.const_oid.specs.Bound.{Bound}
-use Rattle.der_core_head.specs.Shapes.{Spells}
-use Rattle.x509_cert_parts.specs.Grammar.{PlainExtension}
-use Rattle.x509_cert_certificates.specs.Certificates.{PlainCertificate, extensions_of, raw_certificate}
-use Rattle.cert_desk_io.specs.declared.exit_status.ExitStatus.{ExitStatus}
-use Rattle.cert_desk_io.specs.declared.exit_status.ExitStatus.TheVariants as statuses
-use Rattle.cert_desk_io.specs.Statuses.{code_of}
-use Rattle.cert_desk_buffers.specs.Returned.{IsExact, IsExactWithMemory}
-use Rattle.cert_desk_buffers.specs.Rooms.{IsLack}
-use Rattle.cert_desk_buffers.proofs.Returning.{is_exact}
-use Rattle.cert_desk_buffers.specs.Identifiers.{IsNoIdentifier, SpellsIdentifier}
+use Rattle.cert_tool_describe.specs.Oid.Bound.{Bound}
+use Rattle.cert_tool_describe.specs.Der.Shapes.{Spells}
+use Rattle.cert_tool_describe.specs.CertParts.Grammar.{PlainExtension}
+use Rattle.cert_tool_describe.specs.CertCertificates.Certificates.{PlainCertificate, extensions_of, raw_certificate}
+use Rattle.cert_desk_listing.specs.DeskIo.declared.exit_status.ExitStatus.{ExitStatus}
+use Rattle.cert_desk_listing.specs.DeskIo.declared.exit_status.ExitStatus.TheVariants as statuses
+use Rattle.cert_desk_listing.specs.DeskIo.Statuses.{code_of}
+use Rattle.cert_desk_answers.specs.DeskRules.Returned.{IsExact, IsExactWithMemory}
+use Rattle.cert_desk_answers.specs.DeskRules.Rooms.{IsLack}
+use Rattle.cert_desk_answers.proofs.DeskRules.Returning.{is_exact}
+use Rattle.cert_desk_answers.specs.DeskRules.Identifiers.{IsNoIdentifier, SpellsIdentifier}
 use Rattle.cert_desk_c.specs.Values.{IsExtensionStatus, IsNoCertificate, first_extension}
 use Rattle.cert_desk_c.proofs.Told.{one_identifier, one_spelled}
 

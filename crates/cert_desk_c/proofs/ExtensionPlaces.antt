@@ -2,18 +2,18 @@
 use Rattle.std.proofs.Common.{◌≡◌, ℕ, ◌-◌, ◌<◌, ◌≤◌, Bool, true, false, cond, List, [], ◌∷◌, ◌++◌, length, take, drop, get_or, Option, Some, None, is_some, refl, sym, ap, subst, ◌∙◌, arith, append-nil}
 use Rattle.std.proofs.lemmas.List.{take_rest}
 use Rattle.std.specs.Option.{option_map_or}
-use Rattle.const_oid.specs.Bound.{Bound, max_size}
-use Rattle.const_oid.specs.Comparing.{owned_eq}
-use Rattle.der_core_head.specs.declared.tag.Tag.{Tag}
-use Rattle.der_core_head.specs.declared.tag.Tag.TheVariants as tags
-use Rattle.der_core_head.specs.Heads.{head_octets, length_octets, tlv}
-use Rattle.der_core_head.specs.Leaves as leaves
-use Rattle.der_core_head.specs.Shapes.{Shape, Content, Body, Value, BodyValue, ContentValue, Spells, tagged, field, optional, done, leaf, nested, many, only, explicit, octets_of, contents, body_octets, unless, IsValid, IsBody}
-use Rattle.der_core_head.specs.Tags.{context, tag_octets}
-use Rattle.x509_cert_parts.specs.declared.extension.Extension.{Extension}
-use Rattle.x509_cert_parts.specs.Grammar.{PlainExtension, extension, extension_fields, extension_octets, extensions, false_by_default, implicit_leaf, is_critical, object_identifier, octet_string}
-use Rattle.x509_cert_parts.specs.Views.{extension_plain, extensions_plain}
-use Rattle.x509_cert_certificates.specs.Certificates.{PlainCertificate, extensions_of, optional_fields, raw_certificate, tbs, tbs_extensions, tbs_issuer_unique_id, tbs_subject_unique_id}
+use Rattle.cert_tool_describe.specs.Oid.Bound.{Bound, max_size}
+use Rattle.cert_tool_describe.specs.Oid.Comparing.{owned_eq}
+use Rattle.cert_tool_describe.specs.Der.TagTypes.Tag.{Tag}
+use Rattle.cert_tool_describe.specs.Der.TagTypes.Tag.TheVariants as tags
+use Rattle.cert_tool_describe.specs.Der.Heads.{head_octets, length_octets, tlv}
+use Rattle.cert_tool_describe.specs.Der.Leaves as leaves
+use Rattle.cert_tool_describe.specs.Der.Shapes.{Shape, Content, Body, Value, BodyValue, ContentValue, Spells, tagged, field, optional, done, leaf, nested, many, only, explicit, octets_of, contents, body_octets, unless, IsValid, IsBody}
+use Rattle.cert_tool_describe.specs.Der.Tags.{context, tag_octets}
+use Rattle.cert_tool_describe.specs.CertParts.declared.extension.Extension.{Extension}
+use Rattle.cert_tool_describe.specs.CertParts.Grammar.{PlainExtension, extension, extension_fields, extension_octets, extensions, false_by_default, implicit_leaf, is_critical, object_identifier, octet_string}
+use Rattle.cert_tool_describe.specs.CertParts.Views.{extension_plain, extensions_plain}
+use Rattle.cert_tool_describe.specs.CertCertificates.Certificates.{PlainCertificate, extensions_of, optional_fields, raw_certificate, tbs, tbs_extensions, tbs_issuer_unique_id, tbs_subject_unique_id}
 use Rattle.cert_desk_c.specs.declared.places.WdSpan.{WdSpan}
 use Rattle.cert_desk_c.specs.Places.{Enters, IsBehindKey, IsFound, IsRest, Passes, StandsAt, behind_key}
 use Rattle.cert_desk_c.specs.Values.{first_extension}

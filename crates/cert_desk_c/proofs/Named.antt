@@ -1,19 +1,19 @@
 -- What is told of a text that spells a name.
 use Rattle.std.proofs.Common.{◌≡◌, ◌≢◌, ◌⊎◌, inl, inr, ℕ, List, [], Ok, Err, IsUtf8, Result, refl, sym, ap, subst, ◌∙◌}
-use Rattle.const_oid.specs.Bound.{Bound}
-use Rattle.der_core_head.specs.declared.error.ErrorKind.{ErrorKind}
-use Rattle.der_core_head.specs.declared.error.ErrorKind.TheVariants.{OutOfMemory}
-use Rattle.der_core_head.specs.Grammar.{plain_list}
-use Rattle.der_core_head.specs.Writing.{Out, write}
-use Rattle.cert_desk_io.specs.declared.exit_status.ExitStatus.{ExitStatus}
-use Rattle.cert_desk_buffers.specs.Rooms.{IsLack}
+use Rattle.cert_tool_describe.specs.Oid.Bound.{Bound}
+use Rattle.cert_tool_describe.specs.Der.ErrorTypes.ErrorKind.{ErrorKind}
+use Rattle.cert_tool_describe.specs.Der.ErrorTypes.ErrorKind.TheVariants.{OutOfMemory}
+use Rattle.cert_tool_describe.specs.Der.Grammar.{plain_list}
+use Rattle.cert_tool_describe.specs.Der.Writing.{Out, write}
+use Rattle.cert_desk_listing.specs.DeskIo.declared.exit_status.ExitStatus.{ExitStatus}
+use Rattle.cert_desk_answers.specs.DeskRules.Rooms.{IsLack}
 use Rattle.cert_desk_answers.proofs.Judged.{ok_is}
-use Rattle.x509_cert_names.specs.declared.attribute_type_and_value.AttributeTypeAndValue.{AttributeTypeAndValue}
-use Rattle.x509_cert_names.specs.Names.{PlainName, name}
-use Rattle.x509_cert_names.specs.NameTexts.{ReadsEncoding, ReadsName}
-use Rattle.x509_cert_names.specs.Pairs.{relative_plain}
-use Rattle.x509_cert_names.specs.PlainTexts.{SpellsName}
-use Rattle.x509_cert_names.proofs.OneName.{one_spelled, spelled_stands}
+use Rattle.cert_tool_describe.specs.CertNames.declared.attribute_type_and_value.AttributeTypeAndValue.{AttributeTypeAndValue}
+use Rattle.cert_tool_describe.specs.CertNames.Names.{PlainName, name}
+use Rattle.cert_tool_describe.specs.CertNames.NameTexts.{ReadsEncoding, ReadsName}
+use Rattle.cert_tool_describe.specs.CertNames.Pairs.{relative_plain}
+use Rattle.cert_tool_describe.specs.CertNames.PlainTexts.{SpellsName}
+use Rattle.cert_tool_describe.proofs.CertNames.OneName.{one_spelled, spelled_stands}
 use Rattle.cert_desk_c.specs.Values.{IsEncodedName, IsNoNameText, written_octets}
 
 module _ (text : List ℕ) where

@@ -2,23 +2,23 @@
 use Rattle.std.proofs.Common.{◌≡◌, ◌≢◌, ℕ, ◌+◌, ◌-◌, ◌<◌, ◌≤◌, Bool, true, false, List, [], ◌∷◌, ◌++◌, length, take, drop, get_or, None, Ok, Err, refl, sym, ap, ◌∙◌, arith, append_assoc, append-nil, length-append, length-drop, take-append-drop}
 use Rattle.std.specs.Prelude.{bytes_eq}
 use Rattle.std.proofs.lemmas.List.{drop_at, take_rest}
-use Rattle.const_oid.specs.Bound.{Bound}
-use Rattle.der_core_head.specs.declared.error.ErrorKind.{ErrorKind}
-use Rattle.der_core_head.specs.declared.tag.Tag.{Tag}
-use Rattle.der_core_head.specs.declared.tag.Tag.TheVariants as tags
-use Rattle.der_core_head.specs.Heads.{Head, head_octets, head_at, tlv}
-use Rattle.der_core_head.specs.Integers.{integer_octets}
-use Rattle.der_core_head.specs.Leaves.{integer}
-use Rattle.der_core_head.specs.Limits.{IsLength}
-use Rattle.der_core_head.specs.Shapes.{Shape, Content, Body, Value, BodyValue, ContentValue, Spells, tagged, field, done, leaf, nested, many, explicit, octets_of, contents, body_octets, unless, IsValid, IsContent, IsBody}
-use Rattle.der_core_head.specs.Tags.{IsTag, tag_octets}
-use Rattle.der_core_head.proofs.HeadLaws.{head_again}
-use Rattle.der_core_head.proofs.Results.{ok_is}
-use Rattle.der_core_octets.specs.declared.header.Header.{Header}
-use Rattle.der_core_octets.specs.Headers.{head_of}
-use Rattle.x509_cert_names.specs.Names.{name, relative_name}
-use Rattle.x509_cert_parts.specs.Grammar.{algorithm_identifier, algorithm_fields, bit_string, public_key_info, public_key_fields, version, version_field, serial_number, numbers_within, validity, validity_fields}
-use Rattle.x509_cert_certificates.specs.Certificates.{PlainCertificate, Tbs, raw_certificate, raw_certificate_fields, raw_tbs_certificate, raw_tbs_fields, from_validity, optional_fields, tbs, tbs_serial, issuer, subject, public_key}
+use Rattle.cert_tool_describe.specs.Oid.Bound.{Bound}
+use Rattle.cert_tool_describe.specs.Der.ErrorTypes.ErrorKind.{ErrorKind}
+use Rattle.cert_tool_describe.specs.Der.TagTypes.Tag.{Tag}
+use Rattle.cert_tool_describe.specs.Der.TagTypes.Tag.TheVariants as tags
+use Rattle.cert_tool_describe.specs.Der.Heads.{Head, head_octets, head_at, tlv}
+use Rattle.cert_tool_describe.specs.Der.Integers.{integer_octets}
+use Rattle.cert_tool_describe.specs.Der.Leaves.{integer}
+use Rattle.cert_tool_describe.specs.Der.Limits.{IsLength}
+use Rattle.cert_tool_describe.specs.Der.Shapes.{Shape, Content, Body, Value, BodyValue, ContentValue, Spells, tagged, field, done, leaf, nested, many, explicit, octets_of, contents, body_octets, unless, IsValid, IsContent, IsBody}
+use Rattle.cert_tool_describe.specs.Der.Tags.{IsTag, tag_octets}
+use Rattle.cert_tool_describe.proofs.Der.HeadLaws.{head_again}
+use Rattle.cert_tool_describe.proofs.Der.Results.{ok_is}
+use Rattle.cert_tool_describe.specs.Der.HeaderTypes.Header.{Header}
+use Rattle.cert_tool_describe.specs.Der.Headers.{head_of}
+use Rattle.cert_tool_describe.specs.CertNames.Names.{name, relative_name}
+use Rattle.cert_tool_describe.specs.CertParts.Grammar.{algorithm_identifier, algorithm_fields, bit_string, public_key_info, public_key_fields, version, version_field, serial_number, numbers_within, validity, validity_fields}
+use Rattle.cert_tool_describe.specs.CertCertificates.Certificates.{PlainCertificate, Tbs, raw_certificate, raw_certificate_fields, raw_tbs_certificate, raw_tbs_fields, from_validity, optional_fields, tbs, tbs_serial, issuer, subject, public_key}
 use Rattle.cert_desk_c.specs.Places.{IsRest, Enters, Passes, PassesVersion, numbered_fields, behind_key, IsBehindKey}
 
 -- A header at the front

@@ -1,16 +1,16 @@
 -- What is told of octets that spell one value, or none.
 use Rattle.std.proofs.Common.{◌≡◌, ◌⊎◌, ℕ, ◌≤◌, ◌<◌, List, length, true, ap, sym, ◌∙◌, append-nil, ◌++◌, []}
-use Rattle.const_oid.specs.Bound.{Bound}
-use Rattle.const_oid.proofs.PrefixLaws.{same_octets}
-use Rattle.der_core_head.specs.Shapes.{Shape, Spells, Value, octets_of}
-use Rattle.der_core_head.specs.Spelling.{is_apart, is_element}
-use Rattle.der_core_head.proofs.OneEncoding.{one_value}
-use Rattle.cert_desk_io.specs.declared.exit_status.ExitStatus.{ExitStatus}
-use Rattle.cert_desk_io.specs.declared.exit_status.ExitStatus.TheVariants as statuses
-use Rattle.cert_desk_io.specs.Statuses.{code_of}
-use Rattle.cert_desk_buffers.specs.Identifiers.{SpellsIdentifier}
-use Rattle.cert_desk_buffers.specs.Rooms.{IsLack}
-use Rattle.cert_desk_buffers.proofs.Returning.{Told, spelled, unspelled}
+use Rattle.cert_tool_describe.specs.Oid.Bound.{Bound}
+use Rattle.cert_tool_describe.proofs.Oid.PrefixLaws.{same_octets}
+use Rattle.cert_tool_describe.specs.Der.Shapes.{Shape, Spells, Value, octets_of}
+use Rattle.cert_tool_describe.specs.Der.Spelling.{is_apart, is_element}
+use Rattle.cert_tool_describe.proofs.Der.OneEncoding.{one_value}
+use Rattle.cert_desk_listing.specs.DeskIo.declared.exit_status.ExitStatus.{ExitStatus}
+use Rattle.cert_desk_listing.specs.DeskIo.declared.exit_status.ExitStatus.TheVariants as statuses
+use Rattle.cert_desk_listing.specs.DeskIo.Statuses.{code_of}
+use Rattle.cert_desk_answers.specs.DeskRules.Identifiers.{SpellsIdentifier}
+use Rattle.cert_desk_answers.specs.DeskRules.Rooms.{IsLack}
+use Rattle.cert_desk_answers.proofs.DeskRules.Returning.{Told, spelled, unspelled}
 
 pub one_identifier : (octets arcs other : List ℕ) → SpellsIdentifier octets arcs → SpellsIdentifier octets other → arcs ≡ other
 one_identifier octets arcs other p q = same_octets Bound arcs other p.0 q.0 (sym p.2 ∙ q.2)

@@ -1,23 +1,23 @@
 -- What is told of a chain that is judged.
 use Rattle.std.proofs.Common.{◌≡◌, ◌≤◌, ◌<◌, ◌^◌, ◌⊎◌, inl, inr, ℕ, List, [], length, Ok, refl, sym, ap, subst, ◌∙◌}
-use Rattle.cert_desk_io.specs.declared.exit_status.ExitStatus.{ExitStatus}
-use Rattle.cert_desk_io.specs.declared.exit_status.ExitStatus.TheVariants as statuses
-use Rattle.cert_desk_io.specs.Statuses.{code_of}
-use Rattle.cert_desk_buffers.specs.Returned.{IsExact, IsExactWithMemory}
-use Rattle.cert_desk_buffers.proofs.Returning.{is_exact}
-use Rattle.cert_desk_bundle.specs.declared.fault_kind.FaultKind.{FaultKind}
-use Rattle.cert_desk_rules.specs.declared.rule.Rule.{Rule}
-use Rattle.cert_desk_rules.specs.declared.checked.Verdict.{Verdict}
-use Rattle.cert_desk_rules.specs.declared.checked.Verdict.TheVariants as verdicts
-use Rattle.cert_desk_rules.specs.Answers.{only_yes_to}
-use Rattle.cert_desk_rules.specs.Judging.{PlainAnchor, Terms}
-use Rattle.cert_desk_rules.specs.Questions.{Question}
-use Rattle.cert_desk_rules.specs.Verdicts.{Faulty, IsVerdict, Refused, Trusted}
-use Rattle.cert_desk_checking.specs.declared.anchor_fault.AnchorFault.{AnchorFault}
-use Rattle.cert_desk_checking.specs.AnchorFiles.{IsAnchorFile}
-use Rattle.cert_desk_checking.specs.Runs.{run_terms, status_of}
-use Rattle.cert_desk_checking.proofs.OneAnchorFile.{one_anchor_file}
-use Rattle.cert_desk_checking.proofs.OneVerdict.{one_verdict}
+use Rattle.cert_desk_listing.specs.DeskIo.declared.exit_status.ExitStatus.{ExitStatus}
+use Rattle.cert_desk_listing.specs.DeskIo.declared.exit_status.ExitStatus.TheVariants as statuses
+use Rattle.cert_desk_listing.specs.DeskIo.Statuses.{code_of}
+use Rattle.cert_desk_answers.specs.DeskRules.Returned.{IsExact, IsExactWithMemory}
+use Rattle.cert_desk_answers.proofs.DeskRules.Returning.{is_exact}
+use Rattle.cert_desk_answers.specs.DeskBundle.declared.fault_kind.FaultKind.{FaultKind}
+use Rattle.cert_desk_answers.specs.DeskRules.declared.rule.Rule.{Rule}
+use Rattle.cert_desk_answers.specs.DeskRules.declared.checked.Verdict.{Verdict}
+use Rattle.cert_desk_answers.specs.DeskRules.declared.checked.Verdict.TheVariants as verdicts
+use Rattle.cert_desk_answers.specs.DeskRules.Answers.{only_yes_to}
+use Rattle.cert_desk_answers.specs.DeskRules.Judging.{PlainAnchor, Terms}
+use Rattle.cert_desk_answers.specs.DeskRules.Questions.{Question}
+use Rattle.cert_desk_answers.specs.DeskRules.Verdicts.{Faulty, IsVerdict, Refused, Trusted}
+use Rattle.cert_desk_answers.specs.DeskChecking.declared.anchor_fault.AnchorFault.{AnchorFault}
+use Rattle.cert_desk_answers.specs.DeskChecking.AnchorFiles.{IsAnchorFile}
+use Rattle.cert_desk_answers.specs.DeskChecking.Runs.{run_terms, status_of}
+use Rattle.cert_desk_answers.proofs.DeskChecking.OneAnchorFile.{one_anchor_file}
+use Rattle.cert_desk_answers.proofs.DeskChecking.OneVerdict.{one_verdict}
 use Rattle.cert_desk_answers.specs.declared.line_fault.LineFault.{LineFault}
 use Rattle.cert_desk_answers.specs.AnswerLines.{file_says}
 use Rattle.cert_desk_answers.specs.Judged.{AreGiven, IsUnanswered, UnderGiven}

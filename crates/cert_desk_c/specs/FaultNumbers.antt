@@ -1,9 +1,9 @@
 -- The numbers of kinds of faults.
 use Rattle.std.specs.Prelude.{◌≡◌, ◌≢◌, ℕ, ◌⊎◌}
-use Rattle.der_core_head.specs.declared.error.ErrorKind.{ErrorKind}
-use Rattle.der_core_head.specs.declared.error.ErrorKind.TheVariants as kinds
-use Rattle.cert_desk_io.specs.declared.exit_status.ExitStatus.TheVariants as statuses
-use Rattle.cert_desk_io.specs.Statuses.{code_of}
+use Rattle.cert_tool_describe.specs.Der.ErrorTypes.ErrorKind.{ErrorKind}
+use Rattle.cert_tool_describe.specs.Der.ErrorTypes.ErrorKind.TheVariants as kinds
+use Rattle.cert_desk_listing.specs.DeskIo.declared.exit_status.ExitStatus.TheVariants as statuses
+use Rattle.cert_desk_listing.specs.DeskIo.Statuses.{code_of}
 use Rattle.cert_desk_c.specs.declared.faults.WdFault.{WdFault}
 
 abbrev pub fault_number : ErrorKind → ℕ

@@ -1,20 +1,20 @@
 -- What the calls that judge a chain report, and when.
 use Rattle.std.specs.Prelude.{◌≡◌, ℕ, ◌≤◌, ◌<◌, ◌^◌, List, [], length, ⊤}
-use Rattle.const_oid.specs.Bound.{Bound}
-use Rattle.x509_cert_certificates.specs.Certificates.{PlainCertificate}
-use Rattle.cert_desk_io.specs.declared.exit_status.ExitStatus.{ExitStatus}
-use Rattle.cert_desk_io.specs.declared.exit_status.ExitStatus.TheVariants as statuses
-use Rattle.cert_desk_buffers.specs.Identifiers.{SpellsIdentifier}
-use Rattle.cert_desk_bundle.specs.declared.fault_kind.FaultKind.{FaultKind}
-use Rattle.cert_desk_bundle.specs.Chains.{Chain, joined}
-use Rattle.cert_desk_bundle.specs.Faults.{rank}
-use Rattle.cert_desk_rules.specs.declared.checked.Verdict.{Verdict}
-use Rattle.cert_desk_rules.specs.declared.checked.Verdict.TheVariants as verdicts
-use Rattle.cert_desk_rules.specs.declared.rule.Rule.{Rule}
-use Rattle.cert_desk_rules.specs.Judging.{PlainAnchor, Terms, number}
-use Rattle.cert_desk_rules.specs.Verdicts.{Faulty, Refused, Trusted}
-use Rattle.cert_desk_checking.specs.AnchorFiles.{IsAnchorFile}
-use Rattle.cert_desk_checking.specs.QuestionLines.{chain_lines, lines_octets}
+use Rattle.cert_tool_describe.specs.Oid.Bound.{Bound}
+use Rattle.cert_tool_describe.specs.CertCertificates.Certificates.{PlainCertificate}
+use Rattle.cert_desk_listing.specs.DeskIo.declared.exit_status.ExitStatus.{ExitStatus}
+use Rattle.cert_desk_listing.specs.DeskIo.declared.exit_status.ExitStatus.TheVariants as statuses
+use Rattle.cert_desk_answers.specs.DeskRules.Identifiers.{SpellsIdentifier}
+use Rattle.cert_desk_answers.specs.DeskBundle.declared.fault_kind.FaultKind.{FaultKind}
+use Rattle.cert_desk_answers.specs.DeskBundle.Chains.{Chain, joined}
+use Rattle.cert_desk_answers.specs.DeskBundle.Faults.{rank}
+use Rattle.cert_desk_answers.specs.DeskRules.declared.checked.Verdict.{Verdict}
+use Rattle.cert_desk_answers.specs.DeskRules.declared.checked.Verdict.TheVariants as verdicts
+use Rattle.cert_desk_answers.specs.DeskRules.declared.rule.Rule.{Rule}
+use Rattle.cert_desk_answers.specs.DeskRules.Judging.{PlainAnchor, Terms, number}
+use Rattle.cert_desk_answers.specs.DeskRules.Verdicts.{Faulty, Refused, Trusted}
+use Rattle.cert_desk_answers.specs.DeskChecking.AnchorFiles.{IsAnchorFile}
+use Rattle.cert_desk_answers.specs.DeskChecking.QuestionLines.{chain_lines, lines_octets}
 use Rattle.cert_desk_answers.specs.Judged.{UnderGiven}
 use Rattle.cert_desk_c.specs.declared.numbers.WdPlace.{WdPlace}
 

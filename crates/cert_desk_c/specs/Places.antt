@@ -1,17 +1,22 @@
 -- Where parts of a certificate stand in its octets.
 use Rattle.std.specs.Prelude.{◌≡◌, ℕ, List, ◌++◌, length, Bool, Option, Some, None, ⊤}
-use Rattle.const_oid.specs.Bound.{Bound}
-use Rattle.der_core_head.specs.declared.tag.Tag.{Tag}
-use Rattle.der_core_head.specs.Integers.{integer_octets}
-use Rattle.der_core_head.specs.Shapes.{Content, Body, BodyValue, ContentValue, tagged, field}
-use Rattle.der_core_head.specs.Shapes.{octets_of, contents, body_octets, IsValid, IsBody}
-use Rattle.x509_cert_names.specs.Names.{name}
-use Rattle.x509_cert_parts.specs.Grammar.{PlainExtension, algorithm_identifier, extension_octets}
-use Rattle.x509_cert_parts.specs.Grammar.{is_critical, public_key_info, serial_number}
-use Rattle.x509_cert_certificates.specs.Certificates.{PlainCertificate, Tbs, from_validity, issuer}
-use Rattle.x509_cert_certificates.specs.Certificates.{optional_fields, public_key, subject, tbs}
-use Rattle.x509_cert_certificates.specs.Certificates.{raw_tbs_certificate, raw_tbs_fields}
-use Rattle.x509_cert_certificates.specs.Certificates.{tbs_serial}
+use Rattle.cert_tool_describe.specs.Oid.Bound.{Bound}
+use Rattle.cert_tool_describe.specs.Der.TagTypes.Tag.{Tag}
+use Rattle.cert_tool_describe.specs.Der.Integers.{integer_octets}
+use Rattle.cert_tool_describe.specs.Der.Shapes.{Content, Body, BodyValue, ContentValue, tagged}
+use Rattle.cert_tool_describe.specs.Der.Shapes.{field}
+use Rattle.cert_tool_describe.specs.Der.Shapes.{octets_of, contents, body_octets, IsValid, IsBody}
+use Rattle.cert_tool_describe.specs.CertNames.Names.{name}
+use Rattle.cert_tool_describe.specs.CertParts.Grammar.{PlainExtension, algorithm_identifier}
+use Rattle.cert_tool_describe.specs.CertParts.Grammar.{extension_octets}
+use Rattle.cert_tool_describe.specs.CertParts.Grammar.{is_critical, public_key_info, serial_number}
+use Rattle.cert_tool_describe.specs.CertCertificates.Certificates.{PlainCertificate, Tbs}
+use Rattle.cert_tool_describe.specs.CertCertificates.Certificates.{from_validity, issuer}
+use Rattle.cert_tool_describe.specs.CertCertificates.Certificates.{optional_fields, public_key}
+use Rattle.cert_tool_describe.specs.CertCertificates.Certificates.{subject, tbs}
+use Rattle.cert_tool_describe.specs.CertCertificates.Certificates.{raw_tbs_certificate}
+use Rattle.cert_tool_describe.specs.CertCertificates.Certificates.{raw_tbs_fields}
+use Rattle.cert_tool_describe.specs.CertCertificates.Certificates.{tbs_serial}
 use Rattle.cert_desk_c.specs.declared.places.WdSpan.{WdSpan}
 use Rattle.cert_desk_c.specs.declared.places.WdSpans.{WdSpans}
 

@@ -1,26 +1,27 @@
 -- What bytes are the encoding of, and what the calls report about it.
 use Rattle.std.specs.Prelude.{◌≡◌, ℕ, ◌⊎◌, List, [], ◌∷◌, if◌then◌else◌, Option, Some, None, Ok}
 use Rattle.std.specs.Prelude.{Err, IsNone, IsSome, IsUtf8, false}
-use Rattle.const_oid.specs.Bound.{Bound}
-use Rattle.const_oid.specs.Comparing.{owned_eq}
-use Rattle.const_oid.specs.DottedText.{dotted}
-use Rattle.const_oid.specs.TextFaults.{IsDottedText}
-use Rattle.der_core_head.specs.declared.error.ErrorKind.{ErrorKind}
-use Rattle.der_core_head.specs.Grammar.{plain_list}
-use Rattle.der_core_head.specs.Shapes.{Spells}
-use Rattle.der_core_head.specs.Writing.{Out, write}
-use Rattle.x509_cert_names.specs.Names.{PlainName, name}
-use Rattle.x509_cert_names.specs.NameTexts.{ReadsEncoding, ReadsName}
-use Rattle.x509_cert_names.specs.Pairs.{relative_plain}
-use Rattle.x509_cert_names.specs.PlainTexts.{SpellsName, name_text}
-use Rattle.x509_cert_parts.specs.Grammar.{PlainExtension, extension_arcs}
-use Rattle.x509_cert_certificates.specs.Certificates.{PlainCertificate, raw_certificate}
-use Rattle.x509_cert_certificates.specs.Certificates.{extensions_of, issuer, subject}
-use Rattle.x509_cert_lists.specs.ListGrammar.{cert_req}
-use Rattle.cert_desk_io.specs.declared.exit_status.ExitStatus.{ExitStatus}
-use Rattle.cert_desk_io.specs.declared.exit_status.ExitStatus.TheVariants as statuses
-use Rattle.cert_desk_buffers.specs.Identifiers.{IsNoIdentifier, IsSomeIdentifier}
-use Rattle.cert_desk_buffers.specs.Identifiers.{SpellsIdentifier}
+use Rattle.cert_tool_describe.specs.Oid.Bound.{Bound}
+use Rattle.cert_tool_describe.specs.Oid.Comparing.{owned_eq}
+use Rattle.cert_tool_describe.specs.Oid.DottedText.{dotted}
+use Rattle.cert_tool_describe.specs.Oid.TextFaults.{IsDottedText}
+use Rattle.cert_tool_describe.specs.Der.ErrorTypes.ErrorKind.{ErrorKind}
+use Rattle.cert_tool_describe.specs.Der.Grammar.{plain_list}
+use Rattle.cert_tool_describe.specs.Der.Shapes.{Spells}
+use Rattle.cert_tool_describe.specs.Der.Writing.{Out, write}
+use Rattle.cert_tool_describe.specs.CertNames.Names.{PlainName, name}
+use Rattle.cert_tool_describe.specs.CertNames.NameTexts.{ReadsEncoding, ReadsName}
+use Rattle.cert_tool_describe.specs.CertNames.Pairs.{relative_plain}
+use Rattle.cert_tool_describe.specs.CertNames.PlainTexts.{SpellsName, name_text}
+use Rattle.cert_tool_describe.specs.CertParts.Grammar.{PlainExtension, extension_arcs}
+use Rattle.cert_tool_describe.specs.CertCertificates.Certificates.{PlainCertificate}
+use Rattle.cert_tool_describe.specs.CertCertificates.Certificates.{raw_certificate}
+use Rattle.cert_tool_describe.specs.CertCertificates.Certificates.{extensions_of, issuer, subject}
+use Rattle.cert_tool_describe.specs.CertLists.ListGrammar.{cert_req}
+use Rattle.cert_desk_listing.specs.DeskIo.declared.exit_status.ExitStatus.{ExitStatus}
+use Rattle.cert_desk_listing.specs.DeskIo.declared.exit_status.ExitStatus.TheVariants as statuses
+use Rattle.cert_desk_answers.specs.DeskRules.Identifiers.{IsNoIdentifier, IsSomeIdentifier}
+use Rattle.cert_desk_answers.specs.DeskRules.Identifiers.{SpellsIdentifier}
 use Rattle.cert_desk_listing.specs.Parts.{PlainList, PlainRequest, raw_certificate_list}
 
 -- The bytes are the encoding of no certificate, no CRL, no CSR, no name.

@@ -1,14 +1,15 @@
 //! Parts of certificates.
 ghost use Rattle.std.specs.Prelude.{◌≡◌, ◌≢◌, take};
-ghost use Rattle.der_types_time.specs.Seconds.{unix_seconds};
-ghost use Rattle.x509_cert_certificates.specs.Certificates.{not_after, not_before};
-ghost use Rattle.x509_cert_certificates.specs.Views.{certificate_plain};
-ghost use Rattle.cert_desk_io.specs.declared.exit_status.ExitStatus.TheVariants.{Device, Done};
-ghost use Rattle.cert_desk_io.specs.declared.exit_status.ExitStatus.TheVariants.{Faulty};
-ghost use Rattle.cert_desk_io.specs.Statuses.{code_of};
-ghost use Rattle.cert_desk_buffers.specs.Returned.{IsExactWithMemory, IsFaultyStatus};
-ghost use Rattle.cert_desk_buffers.specs.Returned.{IsTextStatus, IsValueStatus};
-ghost use Rattle.cert_desk_buffers.specs.Rooms.{ChangesFront, IsUnsized, Wants};
+ghost use Rattle.cert_tool_describe.specs.Types.Seconds.{unix_seconds};
+ghost use Rattle.cert_tool_describe.specs.CertCertificates.Certificates.{not_after, not_before};
+ghost use Rattle.cert_tool_describe.specs.CertCertificates.Views.{certificate_plain};
+ghost use Rattle.cert_desk_listing.specs.DeskIo.declared.exit_status.ExitStatus.TheVariants.{Device};
+ghost use Rattle.cert_desk_listing.specs.DeskIo.declared.exit_status.ExitStatus.TheVariants.{Done};
+ghost use Rattle.cert_desk_listing.specs.DeskIo.declared.exit_status.ExitStatus.TheVariants.{Faulty};
+ghost use Rattle.cert_desk_listing.specs.DeskIo.Statuses.{code_of};
+ghost use Rattle.cert_desk_answers.specs.DeskRules.Returned.{IsExactWithMemory, IsFaultyStatus};
+ghost use Rattle.cert_desk_answers.specs.DeskRules.Returned.{IsTextStatus, IsValueStatus};
+ghost use Rattle.cert_desk_answers.specs.DeskRules.Rooms.{ChangesFront, IsUnsized, Wants};
 ghost use Rattle.cert_tool_describe.specs.Files.{IsCertificate};
 ghost use Rattle.cert_desk_c.specs.Places.{ArePlaced};
 ghost use Rattle.cert_desk_c.specs.Values.{IsIssuerText, IsNoCertificate, IsOfCertificate};
@@ -17,11 +18,11 @@ ghost use Rattle.cert_desk_c.specs.Values.{IsSubjectText};
 use crate::names::text_of;
 use crate::places::{WdSpans, parts_in};
 use crate::reading::certificate_of;
-use cert_desk_buffers::{code, give};
-use cert_desk_io::ExitStatus;
+use cert_desk_answers::desk_rules::{code, give};
+use cert_desk_listing::desk_io::ExitStatus;
+use cert_tool_describe::cert_certificates::CertificateInner;
+use cert_tool_describe::cert_parts::Raw;
 use std::alloc::Global;
-use x509_cert_certificates::CertificateInner;
-use x509_cert_parts::Raw;
 
 /// The dates of a validity (RFC 5280 4.1.2.5).
 #[repr(C)]

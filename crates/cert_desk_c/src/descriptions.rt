@@ -1,20 +1,22 @@
 //! Descriptions.
 ghost use Rattle.std.specs.Prelude.{◌≡◌, ◌≢◌, ◌<◌, ◌⊎◌, length, IfSome, None};
-ghost use Rattle.der_core_head.specs.declared.error.ErrorKind.TheVariants.{OutOfMemory};
-ghost use Rattle.cert_desk_io.specs.declared.exit_status.ExitStatus.TheVariants.{Device, Done};
-ghost use Rattle.cert_desk_io.specs.declared.exit_status.ExitStatus.TheVariants.{Faulty, Memory};
-ghost use Rattle.cert_desk_io.specs.Statuses.{code_of};
-ghost use Rattle.cert_desk_buffers.specs.Returned.{IsExactWithMemory, IsFaultyStatus};
-ghost use Rattle.cert_desk_buffers.specs.Returned.{IsTextStatus};
-ghost use Rattle.cert_desk_buffers.specs.Rooms.{ChangesFront, IsUnsized};
+ghost use Rattle.cert_tool_describe.specs.Der.ErrorTypes.ErrorKind.TheVariants.{OutOfMemory};
+ghost use Rattle.cert_desk_listing.specs.DeskIo.declared.exit_status.ExitStatus.TheVariants.{Device};
+ghost use Rattle.cert_desk_listing.specs.DeskIo.declared.exit_status.ExitStatus.TheVariants.{Done};
+ghost use Rattle.cert_desk_listing.specs.DeskIo.declared.exit_status.ExitStatus.TheVariants.{Faulty};
+ghost use Rattle.cert_desk_listing.specs.DeskIo.declared.exit_status.ExitStatus.TheVariants.{Memory};
+ghost use Rattle.cert_desk_listing.specs.DeskIo.Statuses.{code_of};
+ghost use Rattle.cert_desk_answers.specs.DeskRules.Returned.{IsExactWithMemory, IsFaultyStatus};
+ghost use Rattle.cert_desk_answers.specs.DeskRules.Returned.{IsTextStatus};
+ghost use Rattle.cert_desk_answers.specs.DeskRules.Rooms.{ChangesFront, IsUnsized};
 ghost use Rattle.cert_tool_describe.specs.Files.{IsCertificate, IsList, IsRequest};
 ghost use Rattle.cert_desk_c.specs.Values.{IsNoCertificate, IsNoList, IsNoRequest};
 
-use cert_desk_buffers::{code, give};
-use cert_desk_io::ExitStatus;
+use cert_desk_answers::desk_rules::{code, give};
+use cert_desk_listing::desk_io::ExitStatus;
+use cert_tool_describe::der::ErrorKind;
+use cert_tool_describe::tool_lines::Lines;
 use cert_tool_describe::{add_certificate, add_list, add_request};
-use cert_tool_lines::Lines;
-use der_core::ErrorKind;
 use std::alloc::Global;
 
 // Writes a description, unless the bytes couldn't be decoded.

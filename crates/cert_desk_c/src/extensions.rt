@@ -1,29 +1,34 @@
 //! Extensions of certificates.
 ghost use Rattle.std.specs.Prelude.{◌≡◌, ◌≢◌, ◌++◌, ℕ, List, Some, None};
-ghost use Rattle.const_oid.specs.Bound.{Bound};
-ghost use Rattle.der_core_head.specs.Shapes.{Spells, many, octets_of, body_octets, IsValid, IsBody};
-ghost use Rattle.x509_cert_parts.specs.Grammar.{PlainExtension, extension, extension_octets};
-ghost use Rattle.x509_cert_parts.specs.Grammar.{is_critical};
-ghost use Rattle.x509_cert_parts.specs.Views.{extensions_plain};
-ghost use Rattle.x509_cert_certificates.specs.Certificates.{extensions_of, raw_certificate};
-ghost use Rattle.x509_cert_certificates.specs.Views.{certificate_plain};
-ghost use Rattle.cert_desk_io.specs.declared.exit_status.ExitStatus.TheVariants.{Done, Empty};
-ghost use Rattle.cert_desk_io.specs.declared.exit_status.ExitStatus.TheVariants.{Faulty, Memory};
-ghost use Rattle.cert_desk_io.specs.Statuses.{code_of};
-ghost use Rattle.cert_desk_buffers.specs.Identifiers.{IsSomeIdentifier, SpellsIdentifier};
-ghost use Rattle.cert_desk_buffers.specs.Returned.{IsExactWithMemory};
+ghost use Rattle.cert_tool_describe.specs.Oid.Bound.{Bound};
+ghost use Rattle.cert_tool_describe.specs.Der.Shapes.{Spells, many, octets_of, body_octets};
+ghost use Rattle.cert_tool_describe.specs.Der.Shapes.{IsValid, IsBody};
+ghost use Rattle.cert_tool_describe.specs.CertParts.Grammar.{PlainExtension, extension};
+ghost use Rattle.cert_tool_describe.specs.CertParts.Grammar.{extension_octets};
+ghost use Rattle.cert_tool_describe.specs.CertParts.Grammar.{is_critical};
+ghost use Rattle.cert_tool_describe.specs.CertParts.Views.{extensions_plain};
+ghost use Rattle.cert_tool_describe.specs.CertCertificates.Certificates.{extensions_of};
+ghost use Rattle.cert_tool_describe.specs.CertCertificates.Certificates.{raw_certificate};
+ghost use Rattle.cert_tool_describe.specs.CertCertificates.Views.{certificate_plain};
+ghost use Rattle.cert_desk_listing.specs.DeskIo.declared.exit_status.ExitStatus.TheVariants.{Done};
+ghost use Rattle.cert_desk_listing.specs.DeskIo.declared.exit_status.ExitStatus.TheVariants.{Empty};
+ghost use Rattle.cert_desk_listing.specs.DeskIo.declared.exit_status.ExitStatus.TheVariants.{Faulty};
+ghost use Rattle.cert_desk_listing.specs.DeskIo.declared.exit_status.ExitStatus.TheVariants.{Memory};
+ghost use Rattle.cert_desk_listing.specs.DeskIo.Statuses.{code_of};
+ghost use Rattle.cert_desk_answers.specs.DeskRules.Identifiers.{IsSomeIdentifier, SpellsIdentifier};
+ghost use Rattle.cert_desk_answers.specs.DeskRules.Returned.{IsExactWithMemory};
 ghost use Rattle.cert_desk_c.specs.Places.{IsFound, IsRest, StandsAt};
 ghost use Rattle.cert_desk_c.specs.Values.{IsExtensionStatus, IsNoCertificate, IsOfCertificate};
 ghost use Rattle.cert_desk_c.specs.Values.{first_extension};
 
 use crate::places::{WdSpan, behind, behind_where, inside, part, parts_in};
 use crate::reading::certificate_of;
-use cert_desk_buffers::code;
-use cert_desk_io::ExitStatus;
-use const_oid::ObjectIdentifier;
+use cert_desk_answers::desk_rules::code;
+use cert_desk_listing::desk_io::ExitStatus;
+use cert_tool_describe::cert_certificates::CertificateInner;
+use cert_tool_describe::cert_parts::{Extension, Raw};
+use cert_tool_describe::oid::ObjectIdentifier;
 use std::alloc::Global;
-use x509_cert_certificates::CertificateInner;
-use x509_cert_parts::{Extension, Raw};
 
 // Where the content of the extension stands with which a rest of octets begins.
 fn content_in(octets: &[u8], rest: &[u8], critical: bool) -> WdSpan

@@ -1,27 +1,29 @@
 //! Whether bytes are the encoding of a value, and the first error if they aren't.
 ghost use Rattle.std.specs.Prelude.{◌≡◌, ◌≢◌, ◌⊎◌, Err};
-ghost use Rattle.const_oid.specs.Bound.{Bound};
-ghost use Rattle.der_core_head.specs.declared.error.ErrorKind.{ErrorKind};
-ghost use Rattle.der_core_head.specs.Grammar.{read_whole};
-ghost use Rattle.der_core_head.specs.Shapes.{Spells};
-ghost use Rattle.cert_desk_io.specs.declared.exit_status.ExitStatus.TheVariants.{Done, Faulty};
-ghost use Rattle.cert_desk_io.specs.declared.exit_status.ExitStatus.TheVariants.{Memory};
-ghost use Rattle.cert_desk_io.specs.Statuses.{code_of};
-ghost use Rattle.x509_cert_certificates.specs.Certificates.{PlainCertificate, raw_certificate};
-ghost use Rattle.x509_cert_lists.specs.ListGrammar.{cert_req};
+ghost use Rattle.cert_tool_describe.specs.Oid.Bound.{Bound};
+ghost use Rattle.cert_tool_describe.specs.Der.ErrorTypes.ErrorKind.{ErrorKind};
+ghost use Rattle.cert_tool_describe.specs.Der.Grammar.{read_whole};
+ghost use Rattle.cert_tool_describe.specs.Der.Shapes.{Spells};
+ghost use Rattle.cert_desk_listing.specs.DeskIo.declared.exit_status.ExitStatus.TheVariants.{Done};
+ghost use Rattle.cert_desk_listing.specs.DeskIo.declared.exit_status.ExitStatus.TheVariants.{Faulty};
+ghost use Rattle.cert_desk_listing.specs.DeskIo.declared.exit_status.ExitStatus.TheVariants.{Memory};
+ghost use Rattle.cert_desk_listing.specs.DeskIo.Statuses.{code_of};
+ghost use Rattle.cert_tool_describe.specs.CertCertificates.Certificates.{PlainCertificate};
+ghost use Rattle.cert_tool_describe.specs.CertCertificates.Certificates.{raw_certificate};
+ghost use Rattle.cert_tool_describe.specs.CertLists.ListGrammar.{cert_req};
 ghost use Rattle.cert_desk_listing.specs.Parts.{PlainList, PlainRequest, raw_certificate_list};
 ghost use Rattle.cert_desk_c.specs.FaultNumbers.{IsTold, fault_number};
 ghost use Rattle.cert_desk_c.specs.Values.{IsNoCertificate, IsNoList, IsNoRequest};
 
 use crate::reading::read_list;
-use cert_desk_buffers::code;
-use cert_desk_io::ExitStatus;
-use der_core::making::is_want_of_memory;
-use der_core::{Error, ErrorKind};
+use cert_desk_answers::desk_rules::code;
+use cert_desk_listing::desk_io::ExitStatus;
+use cert_tool_describe::cert_certificates::CertificateInner;
+use cert_tool_describe::cert_lists::CertReq;
+use cert_tool_describe::cert_parts::Raw;
+use cert_tool_describe::der::making::is_want_of_memory;
+use cert_tool_describe::der::{Error, ErrorKind};
 use std::alloc::Global;
-use x509_cert_certificates::CertificateInner;
-use x509_cert_lists::CertReq;
-use x509_cert_parts::Raw;
 
 /// The first error that decoding meets.
 #[repr(C)]

@@ -1,22 +1,25 @@
 //! Object identifiers.
 ghost use Rattle.std.specs.Prelude.{◌≡◌, ◌≢◌, ◌≤◌, ℕ, List, Ok, take, length, IfOk, IfErr};
 ghost use Rattle.std.specs.Prelude.{IsUtf8, string_bytes};
-ghost use Rattle.const_oid.specs.Bound.{Bound};
-ghost use Rattle.const_oid.specs.DottedText.{dotted};
-ghost use Rattle.const_oid.specs.IdentifierOctets.{IsIdentifier, identifier_octets};
-ghost use Rattle.const_oid.specs.TextFaults.{IsDottedText};
-ghost use Rattle.cert_desk_io.specs.declared.exit_status.ExitStatus.TheVariants.{Device, Done};
-ghost use Rattle.cert_desk_io.specs.declared.exit_status.ExitStatus.TheVariants.{Faulty, Memory};
-ghost use Rattle.cert_desk_io.specs.Statuses.{code_of};
-ghost use Rattle.cert_desk_buffers.specs.Identifiers.{IsNoIdentifier, IsSomeIdentifier};
-ghost use Rattle.cert_desk_buffers.specs.Returned.{IsExact, IsExactWithMemory, IsFaultyStatus};
-ghost use Rattle.cert_desk_buffers.specs.Returned.{IsTextStatus};
-ghost use Rattle.cert_desk_buffers.specs.Rooms.{ChangesFront, IsUnsized, Wants};
+ghost use Rattle.cert_tool_describe.specs.Oid.Bound.{Bound};
+ghost use Rattle.cert_tool_describe.specs.Oid.DottedText.{dotted};
+ghost use Rattle.cert_tool_describe.specs.Oid.IdentifierOctets.{IsIdentifier, identifier_octets};
+ghost use Rattle.cert_tool_describe.specs.Oid.TextFaults.{IsDottedText};
+ghost use Rattle.cert_desk_listing.specs.DeskIo.declared.exit_status.ExitStatus.TheVariants.{Device};
+ghost use Rattle.cert_desk_listing.specs.DeskIo.declared.exit_status.ExitStatus.TheVariants.{Done};
+ghost use Rattle.cert_desk_listing.specs.DeskIo.declared.exit_status.ExitStatus.TheVariants.{Faulty};
+ghost use Rattle.cert_desk_listing.specs.DeskIo.declared.exit_status.ExitStatus.TheVariants.{Memory};
+ghost use Rattle.cert_desk_listing.specs.DeskIo.Statuses.{code_of};
+ghost use Rattle.cert_desk_answers.specs.DeskRules.Identifiers.{IsNoIdentifier, IsSomeIdentifier};
+ghost use Rattle.cert_desk_answers.specs.DeskRules.Returned.{IsExact, IsExactWithMemory};
+ghost use Rattle.cert_desk_answers.specs.DeskRules.Returned.{IsFaultyStatus};
+ghost use Rattle.cert_desk_answers.specs.DeskRules.Returned.{IsTextStatus};
+ghost use Rattle.cert_desk_answers.specs.DeskRules.Rooms.{ChangesFront, IsUnsized, Wants};
 ghost use Rattle.cert_desk_c.specs.Values.{IsDottedTextOf, IsIdentifierOf, IsNoDottedText};
 
-use cert_desk_buffers::{code, give};
-use cert_desk_io::ExitStatus;
-use const_oid::ObjectIdentifier;
+use cert_desk_answers::desk_rules::{code, give};
+use cert_desk_listing::desk_io::ExitStatus;
+use cert_tool_describe::oid::ObjectIdentifier;
 use std::alloc::{AllocError, Global};
 
 // Returns the dotted text of an identifier.

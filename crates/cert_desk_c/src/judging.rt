@@ -1,31 +1,32 @@
 //! Verdicts on certificate chains.
 ghost use Rattle.std.specs.Prelude.{◌≡◌, ◌≢◌, ◌≤◌, ◌<◌, ◌^◌, ◌⊎◌, ℕ, List, [], length, Ok};
-ghost use Rattle.const_oid.specs.Bound.{Bound};
-ghost use Rattle.const_oid.specs.IdentifierOctets.{IsIdentifier, identifier_octets};
-ghost use Rattle.cert_desk_io.specs.declared.exit_status.ExitStatus.TheVariants.{Done, Empty};
-ghost use Rattle.cert_desk_io.specs.declared.exit_status.ExitStatus.TheVariants.{Faulty, Memory};
-ghost use Rattle.cert_desk_io.specs.declared.exit_status.ExitStatus.TheVariants.{Refused as Breach};
-ghost use Rattle.cert_desk_io.specs.Statuses.{code_of};
-ghost use Rattle.cert_desk_buffers.specs.Identifiers.{IsSomeIdentifier};
-ghost use Rattle.cert_desk_buffers.specs.Returned.{IsExactWithMemory};
-ghost use Rattle.cert_desk_bundle.specs.declared.fault_kind.FaultKind.{FaultKind};
-ghost use Rattle.cert_desk_bundle.specs.Faults.{rank};
-ghost use Rattle.cert_desk_rules.specs.declared.rule.Rule.{Rule};
-ghost use Rattle.cert_desk_rules.specs.Answers.{only_yes_to};
-ghost use Rattle.cert_desk_rules.specs.Judging.{PlainAnchor, number};
-ghost use Rattle.cert_desk_rules.specs.Questions.{Question};
-ghost use Rattle.cert_desk_rules.specs.Verdicts.{Trusted, Refused, Faulty as IsFaulty};
-ghost use Rattle.cert_desk_checking.specs.AnchorFiles.{IsAnchorFile};
-ghost use Rattle.cert_desk_checking.specs.Runs.{run_terms};
+ghost use Rattle.cert_tool_describe.specs.Oid.Bound.{Bound};
+ghost use Rattle.cert_tool_describe.specs.Oid.IdentifierOctets.{IsIdentifier, identifier_octets};
+ghost use Rattle.cert_desk_listing.specs.DeskIo.declared.exit_status.ExitStatus.TheVariants.{Done};
+ghost use Rattle.cert_desk_listing.specs.DeskIo.declared.exit_status.ExitStatus.TheVariants.{Empty};
+ghost use Rattle.cert_desk_listing.specs.DeskIo.declared.exit_status.ExitStatus.TheVariants.{Faulty};
+ghost use Rattle.cert_desk_listing.specs.DeskIo.declared.exit_status.ExitStatus.TheVariants.{Memory};
+ghost use Rattle.cert_desk_listing.specs.DeskIo.declared.exit_status.ExitStatus.TheVariants.{Refused as Breach};
+ghost use Rattle.cert_desk_listing.specs.DeskIo.Statuses.{code_of};
+ghost use Rattle.cert_desk_answers.specs.DeskRules.Identifiers.{IsSomeIdentifier};
+ghost use Rattle.cert_desk_answers.specs.DeskRules.Returned.{IsExactWithMemory};
+ghost use Rattle.cert_desk_answers.specs.DeskBundle.declared.fault_kind.FaultKind.{FaultKind};
+ghost use Rattle.cert_desk_answers.specs.DeskBundle.Faults.{rank};
+ghost use Rattle.cert_desk_answers.specs.DeskRules.declared.rule.Rule.{Rule};
+ghost use Rattle.cert_desk_answers.specs.DeskRules.Answers.{only_yes_to};
+ghost use Rattle.cert_desk_answers.specs.DeskRules.Judging.{PlainAnchor, number};
+ghost use Rattle.cert_desk_answers.specs.DeskRules.Questions.{Question};
+ghost use Rattle.cert_desk_answers.specs.DeskRules.Verdicts.{Trusted, Refused, Faulty as IsFaulty};
+ghost use Rattle.cert_desk_answers.specs.DeskChecking.AnchorFiles.{IsAnchorFile};
+ghost use Rattle.cert_desk_answers.specs.DeskChecking.Runs.{run_terms};
 ghost use Rattle.cert_desk_answers.specs.AnswerLines.{file_says};
 ghost use Rattle.cert_desk_c.specs.Judged.{AreWithin, IsVerdictStatus, UnderTerms};
 
 use crate::numbers::{WdPlace, tell};
+use cert_desk_answers::desk_rules::{Verdict, code};
 use cert_desk_answers::verdict_of;
-use cert_desk_buffers::code;
-use cert_desk_io::ExitStatus;
-use cert_desk_rules::Verdict;
-use const_oid::ObjectIdentifier;
+use cert_desk_listing::desk_io::ExitStatus;
+use cert_tool_describe::oid::ObjectIdentifier;
 use std::alloc::Global;
 
 /// Validates a certificate chain under trust anchors, at a validation time in seconds since

@@ -1,26 +1,28 @@
 //! Listings.
 ghost use Rattle.std.specs.Prelude.{◌≡◌, ◌≢◌, take, IfOk};
-ghost use Rattle.cert_desk_io.specs.declared.exit_status.ExitStatus.TheVariants.{Done, Faulty};
-ghost use Rattle.cert_desk_io.specs.declared.exit_status.ExitStatus.TheVariants.{Device};
-ghost use Rattle.cert_desk_io.specs.Statuses.{code_of};
-ghost use Rattle.cert_desk_buffers.specs.Returned.{IsExactWithMemory, IsFaultyStatus};
-ghost use Rattle.cert_desk_buffers.specs.Returned.{IsTextStatus};
-ghost use Rattle.cert_desk_buffers.specs.Rooms.{ChangesFront, IsUnsized, Wants};
+ghost use Rattle.cert_desk_listing.specs.DeskIo.declared.exit_status.ExitStatus.TheVariants.{Done};
+ghost use Rattle.cert_desk_listing.specs.DeskIo.declared.exit_status.ExitStatus.TheVariants.{Faulty};
+ghost use Rattle.cert_desk_listing.specs.DeskIo.declared.exit_status.ExitStatus.TheVariants.{Device};
+ghost use Rattle.cert_desk_listing.specs.DeskIo.Statuses.{code_of};
+ghost use Rattle.cert_desk_answers.specs.DeskRules.Returned.{IsExactWithMemory, IsFaultyStatus};
+ghost use Rattle.cert_desk_answers.specs.DeskRules.Returned.{IsTextStatus};
+ghost use Rattle.cert_desk_answers.specs.DeskRules.Rooms.{ChangesFront, IsUnsized, Wants};
 ghost use Rattle.cert_desk_listing.specs.declared.file_kind.FileKind.TheVariants as kinds;
 ghost use Rattle.cert_desk_listing.specs.Listing.{certificate_lines, list_lines, request_lines};
 ghost use Rattle.cert_desk_listing.specs.Shown.{IsListing};
-ghost use Rattle.x509_cert_certificates.specs.Views.{certificate_plain};
-ghost use Rattle.x509_cert_lists.specs.ListViews.{certificate_list_plain, cert_req_plain};
+ghost use Rattle.cert_tool_describe.specs.CertCertificates.Views.{certificate_plain};
+ghost use Rattle.cert_tool_describe.specs.CertLists.ListViews.{certificate_list_plain};
+ghost use Rattle.cert_tool_describe.specs.CertLists.ListViews.{cert_req_plain};
 ghost use Rattle.cert_desk_c.specs.Values.{IsNoCertificate, IsNoList, IsNoRequest};
 
 use crate::reading::{certificate_of, list_of, request_of};
-use cert_desk_buffers::{code, give};
-use cert_desk_io::{ExitStatus, ToWrite};
+use cert_desk_answers::desk_rules::{code, give};
+use cert_desk_listing::desk_io::{ExitStatus, ToWrite};
 use cert_desk_listing::{show_certificate, show_list, show_request};
+use cert_tool_describe::cert_certificates::CertificateInner;
+use cert_tool_describe::cert_lists::{CertReq, CertificateList};
+use cert_tool_describe::cert_parts::Raw;
 use std::alloc::{AllocError, Global};
-use x509_cert_certificates::CertificateInner;
-use x509_cert_lists::{CertReq, CertificateList};
-use x509_cert_parts::Raw;
 
 // Returns the listing of a certificate.
 fn certificate_listing(

@@ -1,21 +1,23 @@
 //! Names.
 ghost use Rattle.std.specs.Prelude.{◌≡◌, ◌≢◌, take, IfOk, IfErr, IsUtf8, string_bytes};
-ghost use Rattle.x509_cert_names.specs.PlainTexts.{name_text};
-ghost use Rattle.x509_cert_names.specs.Views.{name_plain};
-ghost use Rattle.cert_desk_io.specs.declared.exit_status.ExitStatus.TheVariants.{Device, Done};
-ghost use Rattle.cert_desk_io.specs.declared.exit_status.ExitStatus.TheVariants.{Faulty, Memory};
-ghost use Rattle.cert_desk_io.specs.Statuses.{code_of};
-ghost use Rattle.cert_desk_buffers.specs.Returned.{IsExactWithMemory, IsFaultyStatus};
-ghost use Rattle.cert_desk_buffers.specs.Returned.{IsTextStatus};
-ghost use Rattle.cert_desk_buffers.specs.Rooms.{ChangesFront, IsLack, IsUnsized, Wants};
+ghost use Rattle.cert_tool_describe.specs.CertNames.PlainTexts.{name_text};
+ghost use Rattle.cert_tool_describe.specs.CertNames.Views.{name_plain};
+ghost use Rattle.cert_desk_listing.specs.DeskIo.declared.exit_status.ExitStatus.TheVariants.{Device};
+ghost use Rattle.cert_desk_listing.specs.DeskIo.declared.exit_status.ExitStatus.TheVariants.{Done};
+ghost use Rattle.cert_desk_listing.specs.DeskIo.declared.exit_status.ExitStatus.TheVariants.{Faulty};
+ghost use Rattle.cert_desk_listing.specs.DeskIo.declared.exit_status.ExitStatus.TheVariants.{Memory};
+ghost use Rattle.cert_desk_listing.specs.DeskIo.Statuses.{code_of};
+ghost use Rattle.cert_desk_answers.specs.DeskRules.Returned.{IsExactWithMemory, IsFaultyStatus};
+ghost use Rattle.cert_desk_answers.specs.DeskRules.Returned.{IsTextStatus};
+ghost use Rattle.cert_desk_answers.specs.DeskRules.Rooms.{ChangesFront, IsLack, IsUnsized, Wants};
 ghost use Rattle.cert_desk_c.specs.Values.{IsEncodedName, IsNameText, IsNoName, IsNoNameText};
 
 use crate::reading::{lack, name_of};
-use cert_desk_buffers::{code, give};
-use cert_desk_io::ExitStatus;
-use der_core::ToDer;
+use cert_desk_answers::desk_rules::{code, give};
+use cert_desk_listing::desk_io::ExitStatus;
+use cert_tool_describe::cert_names::{Name, RdnSequence};
+use cert_tool_describe::der::ToDer;
 use std::alloc::{AllocError, Global};
-use x509_cert_names::{Name, RdnSequence};
 
 /// Returns the text of a name (RFC 4514).
 pub(crate) fn text_of(alloc: Global, name: &Name) -> Result<String, AllocError>

@@ -1,14 +1,13 @@
 //! What the calls report of a verdict, as numbers.
 ghost use Rattle.std.specs.Prelude.{◌≡◌};
-ghost use Rattle.cert_desk_io.specs.Statuses.{code_of};
-ghost use Rattle.cert_desk_bundle.specs.Faults.{rank};
-ghost use Rattle.cert_desk_checking.specs.Runs.{status_of};
+ghost use Rattle.cert_desk_listing.specs.DeskIo.Statuses.{code_of};
+ghost use Rattle.cert_desk_answers.specs.DeskBundle.Faults.{rank};
+ghost use Rattle.cert_desk_answers.specs.DeskChecking.Runs.{status_of};
 ghost use Rattle.cert_desk_c.specs.Judged.{Tells};
 
-use cert_desk_buffers::{code, rule_number};
-use cert_desk_bundle::FaultKind;
-use cert_desk_checking::status_of;
-use cert_desk_rules::Verdict;
+use cert_desk_answers::desk_bundle::FaultKind;
+use cert_desk_answers::desk_checking::status_of;
+use cert_desk_answers::desk_rules::{Verdict, code, rule_number};
 
 /// Where a chain is refused, and by which rule, or where it is faulty, and the kind of fault.
 #[repr(C)]

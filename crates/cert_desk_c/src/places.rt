@@ -1,16 +1,17 @@
 //! Where the parts of a certificate stand in its octets, by the headers before them.
 ghost use Rattle.std.specs.Prelude.{◌≡◌, ◌≤◌, ◌<◌, ◌^◌, ◌++◌, ℕ, List, length, true, false};
-ghost use Rattle.const_oid.specs.Bound.{Bound};
-ghost use Rattle.der_core_head.specs.declared.tag.Tag.{Tag};
-ghost use Rattle.der_core_head.specs.Heads.{head_octets};
-ghost use Rattle.der_core_head.specs.Limits.{IsLength};
-ghost use Rattle.der_core_head.specs.Shapes.{Spells};
-ghost use Rattle.der_core_head.specs.Tags.{IsTag};
-ghost use Rattle.x509_cert_certificates.specs.Certificates.{PlainCertificate, raw_certificate};
+ghost use Rattle.cert_tool_describe.specs.Oid.Bound.{Bound};
+ghost use Rattle.cert_tool_describe.specs.Der.TagTypes.Tag.{Tag};
+ghost use Rattle.cert_tool_describe.specs.Der.Heads.{head_octets};
+ghost use Rattle.cert_tool_describe.specs.Der.Limits.{IsLength};
+ghost use Rattle.cert_tool_describe.specs.Der.Shapes.{Spells};
+ghost use Rattle.cert_tool_describe.specs.Der.Tags.{IsTag};
+ghost use Rattle.cert_tool_describe.specs.CertCertificates.Certificates.{PlainCertificate};
+ghost use Rattle.cert_tool_describe.specs.CertCertificates.Certificates.{raw_certificate};
 ghost use Rattle.cert_desk_c.specs.Places.{ArePlaced, Enters, IsBehindKey, Passes, PassesVersion};
 ghost use Rattle.cert_desk_c.specs.Places.{IsRest, StandsAt};
 
-use der_core::header_of;
+use cert_tool_describe::der::header_of;
 
 /// Where octets stand in those of a caller.
 #[repr(C)]

@@ -1,19 +1,19 @@
 //! The questions that the signatures of a chain may ask.
 ghost use Rattle.std.specs.Prelude.{◌≡◌, ◌≢◌, ◌≤◌, ◌<◌, ◌^◌, ◌⊎◌, length, take, IfOk, IfErr};
 ghost use Rattle.std.specs.Prelude.{string_bytes};
-ghost use Rattle.const_oid.specs.Bound.{Bound};
-ghost use Rattle.cert_desk_io.specs.declared.exit_status.ExitStatus.TheVariants as statuses;
-ghost use Rattle.cert_desk_io.specs.Statuses.{code_of};
-ghost use Rattle.cert_desk_buffers.specs.Returned.{IsExactWithMemory, IsTextStatus};
-ghost use Rattle.cert_desk_buffers.specs.Rooms.{ChangesFront, IsUnsized, Wants};
-ghost use Rattle.cert_desk_bundle.specs.Chains.{Chain};
+ghost use Rattle.cert_tool_describe.specs.Oid.Bound.{Bound};
+ghost use Rattle.cert_desk_listing.specs.DeskIo.declared.exit_status.ExitStatus.TheVariants as statuses;
+ghost use Rattle.cert_desk_listing.specs.DeskIo.Statuses.{code_of};
+ghost use Rattle.cert_desk_answers.specs.DeskRules.Returned.{IsExactWithMemory, IsTextStatus};
+ghost use Rattle.cert_desk_answers.specs.DeskRules.Rooms.{ChangesFront, IsUnsized, Wants};
+ghost use Rattle.cert_desk_answers.specs.DeskBundle.Chains.{Chain};
 ghost use Rattle.cert_desk_c.specs.Judged.{AreQuestions, AreWithin, HasNoQuestions, IsNoChain};
 
+use cert_desk_answers::desk_bundle::{Bundle, Standing};
+use cert_desk_answers::desk_checking::{Anchor, chain_lines};
+use cert_desk_answers::desk_rules::{code, give};
 use cert_desk_answers::{anchors_of, bundle_of};
-use cert_desk_buffers::{code, give};
-use cert_desk_bundle::{Bundle, Standing};
-use cert_desk_checking::{Anchor, chain_lines};
-use cert_desk_io::ExitStatus;
+use cert_desk_listing::desk_io::ExitStatus;
 use std::alloc::Global;
 
 // Parses a chain of at least one certificate, or returns the status.

@@ -1,28 +1,29 @@
 //! Decoding of values.
 ghost use Rattle.std.specs.Prelude.{◌≢◌, [], IfOk, IfErr};
-ghost use Rattle.const_oid.specs.Bound.{Bound};
-ghost use Rattle.der_core_head.specs.declared.error.ErrorKind.TheVariants.{OutOfMemory};
-ghost use Rattle.der_core_head.specs.Grammar.{read_whole};
-ghost use Rattle.der_core_head.specs.Reading.{Gives};
-ghost use Rattle.der_core_head.specs.Shapes.{Spells};
-ghost use Rattle.x509_cert_names.specs.Names.{name};
-ghost use Rattle.x509_cert_names.specs.Views.{name_plain};
-ghost use Rattle.x509_cert_certificates.specs.Certificates.{raw_certificate};
-ghost use Rattle.x509_cert_certificates.specs.Views.{certificate_plain};
-ghost use Rattle.x509_cert_lists.specs.ListGrammar.{cert_req};
-ghost use Rattle.x509_cert_lists.specs.ListViews.{certificate_list_plain, cert_req_plain};
+ghost use Rattle.cert_tool_describe.specs.Oid.Bound.{Bound};
+ghost use Rattle.cert_tool_describe.specs.Der.ErrorTypes.ErrorKind.TheVariants.{OutOfMemory};
+ghost use Rattle.cert_tool_describe.specs.Der.Grammar.{read_whole};
+ghost use Rattle.cert_tool_describe.specs.Der.Reading.{Gives};
+ghost use Rattle.cert_tool_describe.specs.Der.Shapes.{Spells};
+ghost use Rattle.cert_tool_describe.specs.CertNames.Names.{name};
+ghost use Rattle.cert_tool_describe.specs.CertNames.Views.{name_plain};
+ghost use Rattle.cert_tool_describe.specs.CertCertificates.Certificates.{raw_certificate};
+ghost use Rattle.cert_tool_describe.specs.CertCertificates.Views.{certificate_plain};
+ghost use Rattle.cert_tool_describe.specs.CertLists.ListGrammar.{cert_req};
+ghost use Rattle.cert_tool_describe.specs.CertLists.ListViews.{certificate_list_plain};
+ghost use Rattle.cert_tool_describe.specs.CertLists.ListViews.{cert_req_plain};
 ghost use Rattle.cert_desk_listing.specs.Parts.{raw_certificate_list};
-ghost use Rattle.cert_desk_buffers.specs.Rooms.{IsLack};
+ghost use Rattle.cert_desk_answers.specs.DeskRules.Rooms.{IsLack};
 ghost use Rattle.cert_desk_c.specs.Values.{IsNoCertificate, IsNoList, IsNoName, IsNoRequest};
 
-use cert_desk_io::ExitStatus;
-use der_core::making::is_want_of_memory;
-use der_core::{Error, FromDer};
+use cert_desk_listing::desk_io::ExitStatus;
+use cert_tool_describe::cert_certificates::CertificateInner;
+use cert_tool_describe::cert_lists::{CertReq, CertificateList};
+use cert_tool_describe::cert_names::Name;
+use cert_tool_describe::cert_parts::Raw;
+use cert_tool_describe::der::making::is_want_of_memory;
+use cert_tool_describe::der::{Error, FromDer};
 use std::alloc::Global;
-use x509_cert_certificates::CertificateInner;
-use x509_cert_lists::{CertReq, CertificateList};
-use x509_cert_names::Name;
-use x509_cert_parts::Raw;
 
 /// Returns the status of an error.
 pub(crate) fn lack(error: &Error) -> ExitStatus

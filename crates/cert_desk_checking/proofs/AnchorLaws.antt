@@ -1,7 +1,7 @@
 -- A file of anchors, one trust anchor after the other.
 use Rattle.std.proofs.Common.{◌≡◌, ℕ, List, drop, Result, Ok, Err, refl, subst, sym}
 use Rattle.std.specs.Prelude.{IfOk, IfErr}
-use Rattle.der_core_head.specs.Limits.{levels_max}
+use Rattle.x509_cert_anchors.specs.Der.Limits.{levels_max}
 use Rattle.x509_cert_anchors.specs.Anchors.{PlainAnchor as PlainChoice}
 use Rattle.cert_desk_checking.specs.declared.anchor.Anchor.{Anchor}
 use Rattle.cert_desk_checking.specs.declared.anchor_fault.AnchorFault.{AnchorFault}
@@ -12,7 +12,7 @@ use Rattle.cert_desk_checking.specs.Anchors.{anchor_plain, given_by}
 use Rattle.cert_desk_checking.specs.AnchorFiles.{raw_choice, IsFaulty}
 use Rattle.cert_desk_checking.specs.AnchorReading.{StandsAt, GivesAt, UngivenFor, IsUngiven, GivesNone}
 use Rattle.cert_desk_rules.specs.Judging.{PlainAnchor}
-use Rattle.cert_desk_bundle.specs.Series.{IsUnambiguous, BeginsWith}
+use Rattle.cert_desk_rules.specs.DeskBundle.Series.{IsUnambiguous, BeginsWith}
 use Rattle.cert_desk_checking.proofs.FileReading.{SoFar, begins_with}
 
 pub choices_told : IsUnambiguous raw_choice

@@ -4,8 +4,8 @@ use Rattle.std.specs.List.{list_any}
 use Rattle.std.proofs.lemmas.List.{at_drop_more, at_drop_all}
 use Rattle.std.proofs.lemmas.Slice.Eq.{bytes_eq-Decides}
 use Rattle.std.proofs.lemmas.Bool.Decides.{same_from_decides}
-use Rattle.x509_cert_certificates.specs.Certificates.{PlainCertificate}
-use Rattle.x509_cert_names.specs.Names.{PlainName, name_octets}
+use Rattle.x509_cert_anchors.specs.CertCertificates.Certificates.{PlainCertificate}
+use Rattle.x509_cert_anchors.specs.CertNames.Names.{PlainName, name_octets}
 use Rattle.cert_desk_checking.specs.declared.anchor.Anchor.{Anchor}
 use Rattle.cert_desk_checking.specs.Anchors.{anchor_plain}
 use Rattle.cert_desk_rules.specs.Judging.{Answers, PlainAnchor, same_name}

@@ -2,23 +2,23 @@
 use Rattle.std.proofs.Common.{◌≡◌, ℕ, zero, suc, ◌+◌, List, [], ◌∷◌, length, map, Bool, true, false, cond, Option, Some, None, Ok, Err, inl, inr, slice_get, refl, ap, subst, sym, ◌∙◌}
 use Rattle.std.specs.List.{AllByRecursion}
 use Rattle.std.specs.Option.{option_map_or}
-use Rattle.const_oid.specs.Bound.{Bound}
-use Rattle.der_core_head.specs.Octets.{IsOctets}
-use Rattle.der_core_head.specs.Shapes.{IsValid, IsContent, IsBody, octets_of}
-use Rattle.der_core_head.proofs.OneEncoding.{octets_below}
-use Rattle.der_core_head.proofs.BoundLaws.{both_all}
-use Rattle.x509_cert_certificates.specs.Certificates.{PlainCertificate, raw_certificate}
-use Rattle.x509_cert_certificates.specs.Certificates.{raw_tbs_certificate, subject, tbs}
-use Rattle.x509_cert_certificates.specs.Certificates.{tbs_public_key, tbs_subject, public_key}
-use Rattle.x509_cert_certificates.specs.Certificates.{signature_bits}
+use Rattle.x509_cert_anchors.specs.Oid.Bound.{Bound}
+use Rattle.x509_cert_anchors.specs.Der.Octets.{IsOctets}
+use Rattle.x509_cert_anchors.specs.Der.Shapes.{IsValid, IsContent, IsBody, octets_of}
+use Rattle.x509_cert_anchors.proofs.Der.OneEncoding.{octets_below}
+use Rattle.x509_cert_anchors.proofs.Der.BoundLaws.{both_all}
+use Rattle.x509_cert_anchors.specs.CertCertificates.Certificates.{PlainCertificate, raw_certificate}
+use Rattle.x509_cert_anchors.specs.CertCertificates.Certificates.{raw_tbs_certificate, subject, tbs}
+use Rattle.x509_cert_anchors.specs.CertCertificates.Certificates.{tbs_public_key, tbs_subject, public_key}
+use Rattle.x509_cert_anchors.specs.CertCertificates.Certificates.{signature_bits}
 use Rattle.x509_cert_anchors.specs.Anchors.{PlainControls, PlainAnchor as PlainChoice}
-use Rattle.x509_cert_parts.specs.Grammar.{PublicKey, algorithm_identifier, bit_string}
-use Rattle.x509_cert_parts.specs.Grammar.{public_key_info}
+use Rattle.x509_cert_anchors.specs.CertParts.Grammar.{PublicKey, algorithm_identifier, bit_string}
+use Rattle.x509_cert_anchors.specs.CertParts.Grammar.{public_key_info}
 use Rattle.cert_desk_checking.specs.declared.anchor_error.AnchorError.{AnchorError}
 use Rattle.cert_desk_checking.specs.declared.anchor_error.AnchorError.TheVariants as errors
 use Rattle.cert_desk_checking.specs.AnchorFiles.{IsAnchorFile, raw_choice}
 use Rattle.cert_desk_checking.specs.Anchors.{controls_name, given_by, given_by_key, has_only_name, info_controls, info_key}
-use Rattle.cert_desk_bundle.specs.Chains.{Chain}
+use Rattle.cert_desk_rules.specs.DeskBundle.Chains.{Chain}
 use Rattle.cert_desk_rules.specs.Judging.{PlainAnchor, is_named, signed_part}
 use Rattle.cert_desk_checking.specs.QuestionLines.{QuestionLine, anchor_lines, chain_lines, lines_at, lines_below, lines_of}
 use Rattle.cert_desk_rules.specs.Questions.{Question, question}

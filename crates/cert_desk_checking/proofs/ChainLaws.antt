@@ -1,21 +1,21 @@
 -- What a verdict says of a stream of one chain, and of one with a fault.
 use Rattle.std.proofs.Common.{◌≡◌, ℕ, ◌+◌, ◌-◌, ◌<◌, ◌^◌, min, max, List, [], ◌∷◌, ◌++◌, length, true, refl, sym, ap, ◌∙◌, subst, arith}
 use Rattle.std.proofs.lemmas.Bool.{both_ways}
-use Rattle.x509_cert_certificates.specs.Certificates.{PlainCertificate, certificate_octets}
+use Rattle.x509_cert_anchors.specs.CertCertificates.Certificates.{PlainCertificate, certificate_octets}
 use Rattle.cert_desk_rules.specs.declared.checked.Checked.{Checked}
-use Rattle.cert_desk_bundle.specs.declared.standing.Standing.TheVariants as standings
+use Rattle.cert_desk_rules.specs.DeskBundle.declared.standing.Standing.TheVariants as standings
 use Rattle.cert_desk_rules.specs.declared.checked.Verdict.{Verdict}
 use Rattle.cert_desk_rules.specs.declared.checked.Verdict.TheVariants as verdicts
-use Rattle.cert_desk_bundle.specs.declared.fault_kind.FaultKind.{FaultKind}
-use Rattle.cert_desk_bundle.specs.Chains.{Chain, joined}
-use Rattle.cert_desk_bundle.specs.Faults.{StreamFault}
+use Rattle.cert_desk_rules.specs.DeskBundle.declared.fault_kind.FaultKind.{FaultKind}
+use Rattle.cert_desk_rules.specs.DeskBundle.Chains.{Chain, joined}
+use Rattle.cert_desk_rules.specs.DeskBundle.Faults.{StreamFault}
 use Rattle.cert_desk_rules.specs.Judging.{Terms, keeps_at}
 use Rattle.cert_desk_rules.specs.Verdicts.{IsVerdict, Trusted, Asks, IsCounted, asked}
-use Rattle.cert_desk_bundle.specs.Streams.{Kept, Reads}
+use Rattle.cert_desk_rules.specs.DeskBundle.Streams.{Kept, Reads}
 use Rattle.cert_desk_checking.specs.Places.{Rises}
-use Rattle.cert_desk_bundle.proofs.OneChain.{one_chain, fault_no_chain}
+use Rattle.cert_desk_rules.proofs.DeskBundle.OneChain.{one_chain, fault_no_chain}
 use Rattle.cert_desk_checking.proofs.Encodings.{certificate_octets-first}
-use Rattle.cert_desk_bundle.proofs.Readings.{ReadsUnder}
+use Rattle.cert_desk_rules.proofs.DeskBundle.Readings.{ReadsUnder}
 
 -- an encoding isn't empty
 pub encoding_is_some : (bound : ℕ) (c : PlainCertificate) (w : List ℕ) → [] ≡ certificate_octets bound c ++ w → ⊥

@@ -2,19 +2,19 @@
 use Rattle.std.proofs.Common.{◌≡◌, ℕ, zero, suc, ◌+◌, ◌<◌, ◌^◌, List, [], ◌∷◌, ◌++◌, length, true, false, ◌&&◌, ◌||◌, Some, slice_get, refl, sym, ap, ◌∙◌, subst, arith, length-append}
 use Rattle.std.specs.List.{list_any}
 use Rattle.std.specs.Option.{option_map_or}
-use Rattle.der_core_head.proofs.BoundLaws.{back_all, front_all}
-use Rattle.x509_cert_certificates.specs.Certificates.{PlainCertificate, certificate_octets, issuer}
-use Rattle.x509_cert_certificates.specs.Certificates.{outer_algorithm, public_key, raw_certificate}
-use Rattle.x509_cert_certificates.specs.Certificates.{signature_bits, subject}
+use Rattle.x509_cert_anchors.proofs.Der.BoundLaws.{back_all, front_all}
+use Rattle.x509_cert_anchors.specs.CertCertificates.Certificates.{PlainCertificate, certificate_octets, issuer}
+use Rattle.x509_cert_anchors.specs.CertCertificates.Certificates.{outer_algorithm, public_key, raw_certificate}
+use Rattle.x509_cert_anchors.specs.CertCertificates.Certificates.{signature_bits, subject}
 use Rattle.cert_desk_rules.specs.declared.rule.Rule.{Rule}
 use Rattle.cert_desk_rules.specs.declared.rule.Rule.TheVariants as rules
-use Rattle.cert_desk_bundle.specs.Chains.{Chain, Stands, joined}
+use Rattle.cert_desk_rules.specs.DeskBundle.Chains.{Chain, Stands, joined}
 use Rattle.cert_desk_checking.specs.Issuers.{among, as_anchor}
 use Rattle.cert_desk_rules.specs.Judging.{Terms, is_named, keeps, keeps_at, same_name, signed_part}
 use Rattle.cert_desk_rules.specs.Verdicts.{Trusted}
 use Rattle.cert_desk_rules.proofs.Asking.{says_yes}
-use Rattle.cert_desk_bundle.proofs.OneChain.{one_chain}
-use Rattle.cert_desk_bundle.proofs.SeriesLaws.{encodings-append}
+use Rattle.cert_desk_rules.proofs.DeskBundle.OneChain.{one_chain}
+use Rattle.cert_desk_rules.proofs.DeskBundle.SeriesLaws.{encodings-append}
 use Rattle.cert_desk_checking.proofs.Windows.{Window, same_signed, trusted_window}
 
 slice_get-front : {A : Type 0} (xs ys : List A) (n : ℕ) → n < length xs → slice_get xs n ≡ slice_get (xs ++ ys) n

@@ -3,7 +3,7 @@ use Rattle.std.proofs.Common.{◌≡◌, ℕ, zero, suc, ◌+◌, ◌<◌, ◌�
 use Rattle.std.specs.Option.{option_map_or}
 use Rattle.std.proofs.lemmas.Bool.{both_ways, cases_lt, cases_order}
 use Rattle.std.proofs.lemmas.Option.{slice_get_past}
-use Rattle.x509_cert_certificates.specs.Certificates.{PlainCertificate}
+use Rattle.x509_cert_anchors.specs.CertCertificates.Certificates.{PlainCertificate}
 use Rattle.cert_desk_rules.specs.declared.checked.Verdict.TheVariants as verdicts
 use Rattle.cert_desk_rules.specs.declared.kept_rules.KeptRules.{KeptRules}
 use Rattle.cert_desk_rules.specs.declared.rule.Rule.{Rule}
@@ -13,7 +13,7 @@ use Rattle.cert_desk_checking.specs.Laws.{RefusedAtFirstBreach, TrustedWithoutBr
 use Rattle.cert_desk_rules.specs.Verdicts.{IsVerdict, Refused, Trusted, asked_signature}
 use Rattle.cert_desk_checking.specs.Places.{Rises, asked_each}
 use Rattle.cert_desk_checking.proofs.Counts.{Rises-by, Rises-more}
-use Rattle.cert_desk_bundle.proofs.OneChain.{one_chain}
+use Rattle.cert_desk_rules.proofs.DeskBundle.OneChain.{one_chain}
 use Rattle.cert_desk_checking.proofs.OneVerdict.{one_verdict}
 
 -- behind the last place nothing is broken

@@ -2,18 +2,18 @@
 use Rattle.std.proofs.Common.{◌≡◌, ℕ, zero, suc, ◌+◌, List, [], ◌∷◌, ◌++◌, length, take, drop, Some, slice_get, refl, sym, ap, ◌∙◌, subst}
 use Rattle.std.specs.List.{AllByRecursion}
 use Rattle.std.proofs.lemmas.List.{drop-drop, drop_at, take_at, append_assoc}
-use Rattle.der_core_head.specs.declared.tag.Tag.TheVariants as tags
-use Rattle.der_core_head.specs.Tags.{tag_octets}
-use Rattle.der_core_head.specs.Heads.{tlv, head_octets, length_octets}
-use Rattle.der_core_head.specs.Shapes.{octets_of, contents, body_octets, IsValid, IsContent, IsBody}
-use Rattle.x509_cert_certificates.specs.Certificates.{PlainCertificate, raw_certificate}
-use Rattle.x509_cert_certificates.specs.Certificates.{raw_certificate_fields, certificate_octets}
-use Rattle.x509_cert_certificates.specs.Certificates.{raw_tbs_certificate, tbs, inner_algorithm}
-use Rattle.x509_cert_certificates.specs.Certificates.{outer_algorithm, issuer, signed_start}
-use Rattle.x509_cert_certificates.specs.Certificates.{signed_length}
-use Rattle.x509_cert_parts.specs.Grammar.{algorithm_identifier}
-use Rattle.x509_cert_names.specs.Names.{name}
-use Rattle.cert_desk_bundle.specs.Chains.{Stands, joined, offset_at}
+use Rattle.x509_cert_anchors.specs.Der.TagTypes.Tag.TheVariants as tags
+use Rattle.x509_cert_anchors.specs.Der.Tags.{tag_octets}
+use Rattle.x509_cert_anchors.specs.Der.Heads.{tlv, head_octets, length_octets}
+use Rattle.x509_cert_anchors.specs.Der.Shapes.{octets_of, contents, body_octets, IsValid, IsContent, IsBody}
+use Rattle.x509_cert_anchors.specs.CertCertificates.Certificates.{PlainCertificate, raw_certificate}
+use Rattle.x509_cert_anchors.specs.CertCertificates.Certificates.{raw_certificate_fields, certificate_octets}
+use Rattle.x509_cert_anchors.specs.CertCertificates.Certificates.{raw_tbs_certificate, tbs, inner_algorithm}
+use Rattle.x509_cert_anchors.specs.CertCertificates.Certificates.{outer_algorithm, issuer, signed_start}
+use Rattle.x509_cert_anchors.specs.CertCertificates.Certificates.{signed_length}
+use Rattle.x509_cert_anchors.specs.CertParts.Grammar.{algorithm_identifier}
+use Rattle.x509_cert_anchors.specs.CertNames.Names.{name}
+use Rattle.cert_desk_rules.specs.DeskBundle.Chains.{Stands, joined, offset_at}
 use Rattle.cert_desk_rules.specs.Judging.{signed_part}
 
 -- a certificate begins with the octet of a SEQUENCE

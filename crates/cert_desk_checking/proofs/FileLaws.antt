@@ -1,11 +1,11 @@
 -- What a file of values says: one list, or one first place where something is wrong.
 use Rattle.std.proofs.Common.{◌≡◌, ℕ, List, [], ◌∷◌, ◌++◌, length, map, Result, Ok, Err, refl, sym, ap, subst, ◌∙◌, append-nil}
 use Rattle.std.specs.List.{AllByRecursion}
-use Rattle.der_core_head.specs.Shapes.{Shape, Value, octets_of, IsValid}
-use Rattle.der_core_head.proofs.BoundLaws.{front_all}
-use Rattle.cert_desk_bundle.specs.Series.{IsUnambiguous, encodings}
+use Rattle.x509_cert_anchors.specs.Der.Shapes.{Shape, Value, octets_of, IsValid}
+use Rattle.x509_cert_anchors.proofs.Der.BoundLaws.{front_all}
+use Rattle.cert_desk_rules.specs.DeskBundle.Series.{IsUnambiguous, encodings}
 use Rattle.cert_desk_checking.specs.Files.{GiveAll, IsFileOf, BeginsNone, BeginsRefused, HasFirstWrong}
-use Rattle.cert_desk_bundle.proofs.SeriesLaws.{each-last, each-so, value_some, one_first, one_front}
+use Rattle.cert_desk_rules.proofs.DeskBundle.SeriesLaws.{each-last, each-so, value_some, one_first, one_front}
 
 module _ (s : Shape) (u : IsUnambiguous s) {A E : Type 0} (gives : Value s → Result A E) where
   -- no value that gives something begins these octets

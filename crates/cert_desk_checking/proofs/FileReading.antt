@@ -1,10 +1,10 @@
 -- A file of values is read one behind the other.
 use Rattle.std.proofs.Common.{◌≡◌, ℕ, ◌+◌, ◌-◌, ◌<◌, ◌≤◌, List, [], ◌∷◌, ◌++◌, length, map, drop, Result, Ok, refl, sym, ap, ◌∙◌, arith, append_assoc, append-nil, length-append, length-drop}
 use Rattle.std.proofs.lemmas.List.{map-append, drop_at, drop-drop}
-use Rattle.der_core_head.specs.Shapes.{Shape, Value, octets_of, IsValid}
-use Rattle.cert_desk_bundle.specs.Series.{IsUnambiguous, BeginsWith, encodings}
+use Rattle.x509_cert_anchors.specs.Der.Shapes.{Shape, Value, octets_of, IsValid}
+use Rattle.cert_desk_rules.specs.DeskBundle.Series.{IsUnambiguous, BeginsWith, encodings}
 use Rattle.cert_desk_checking.specs.Files.{GiveAll, StandsAt, GivesAt}
-use Rattle.cert_desk_bundle.proofs.SeriesLaws.{each-more, encodings-more, value_some}
+use Rattle.cert_desk_rules.proofs.DeskBundle.SeriesLaws.{each-more, encodings-more, value_some}
 
 module _ (s : Shape) (octets : List ℕ) (start : ℕ) where
   -- where a value ends with which the octets from the start on begin, by how much is left

@@ -2,11 +2,11 @@
 use Rattle.std.proofs.Common.{◌≡◌, ℕ, zero, suc, ◌+◌, List, [], ◌∷◌, Bool, true, false, ◌&&◌, ◌||◌, cond, Option, Some, None, slice_get, refl, ap, ◌∙◌}
 use Rattle.std.specs.List.{list_any, AllByRecursion}
 use Rattle.std.specs.Option.{option_map_or}
-use Rattle.x509_cert_certificates.specs.Certificates.{PlainCertificate, public_key}
+use Rattle.x509_cert_anchors.specs.CertCertificates.Certificates.{PlainCertificate, public_key}
 use Rattle.cert_desk_rules.specs.declared.checked.Verdict.{Verdict}
 use Rattle.cert_desk_rules.specs.declared.rule.Rule.{Rule}
 use Rattle.cert_desk_rules.specs.declared.rule.Rule.TheVariants as rules
-use Rattle.cert_desk_bundle.specs.Chains.{Chain}
+use Rattle.cert_desk_rules.specs.DeskBundle.Chains.{Chain}
 use Rattle.cert_desk_rules.specs.Judging.{Answers, Terms, PlainAnchor, is_named, is_signed, keeps}
 use Rattle.cert_desk_rules.specs.Questions.{Question, question, anchor_questions, questions_of, answer_on, AnswerAlike, under}
 use Rattle.cert_desk_rules.specs.Verdicts.{IsVerdict, Asks}

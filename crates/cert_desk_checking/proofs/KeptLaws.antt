@@ -3,7 +3,7 @@ use Rattle.std.proofs.Common.{◌≡◌, ℕ, ◌<◌, List, Bool, true, false, 
 use Rattle.std.specs.List.{list_any}
 use Rattle.std.proofs.lemmas.Bool.{both_ways}
 use Rattle.std.specs.Option.{option_map_or}
-use Rattle.x509_cert_certificates.specs.Certificates.{PlainCertificate, extensions_of}
+use Rattle.x509_cert_anchors.specs.CertCertificates.Certificates.{PlainCertificate, extensions_of}
 use Rattle.cert_desk_rules.specs.declared.findings.Findings.{Findings}
 use Rattle.cert_desk_rules.specs.declared.kept_rules.KeptRules.{KeptRules}
 use Rattle.cert_desk_rules.specs.declared.path_room.PathRoom.{PathRoom}

@@ -28,3 +28,7 @@ pub mod QuestionLaws
 pub mod ListedQuestions
 pub mod AskedValues
 pub mod SameQuestions
+pub use Rattle.x509_cert_anchors.proofs.Der
+pub use Rattle.cert_desk_rules.proofs.DeskBundle
+pub use Rattle.cert_desk_rules.proofs.DeskIo
+pub use Rattle.cert_desk_rules.proofs as DeskRules

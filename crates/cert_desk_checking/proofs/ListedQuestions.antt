@@ -4,11 +4,11 @@ use Rattle.std.specs.List.{AllByRecursion}
 use Rattle.std.specs.Option.{option_map_or}
 use Rattle.std.proofs.lemmas.Bool.{cases_lt}
 use Rattle.std.proofs.lemmas.Option.{slice_get_past}
-use Rattle.der_core_head.proofs.BoundLaws.{front_all, back_all}
-use Rattle.const_oid.specs.Bound.{Bound}
-use Rattle.x509_cert_certificates.specs.Certificates.{PlainCertificate, public_key}
+use Rattle.x509_cert_anchors.proofs.Der.BoundLaws.{front_all, back_all}
+use Rattle.x509_cert_anchors.specs.Oid.Bound.{Bound}
+use Rattle.x509_cert_anchors.specs.CertCertificates.Certificates.{PlainCertificate, public_key}
 use Rattle.cert_desk_rules.specs.declared.checked.Verdict.{Verdict}
-use Rattle.cert_desk_bundle.specs.Chains.{Chain}
+use Rattle.cert_desk_rules.specs.DeskBundle.Chains.{Chain}
 use Rattle.cert_desk_rules.specs.Judging.{Answers, Terms, PlainAnchor, is_named}
 use Rattle.cert_desk_checking.specs.QuestionLines.{QuestionLine, anchor_lines, chain_lines, lines_at, lines_below, lines_of, questions_of_lines}
 use Rattle.cert_desk_rules.specs.Questions.{Question, anchor_questions, answer_on, question, questions_at, questions_of, under}

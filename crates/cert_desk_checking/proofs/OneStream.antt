@@ -2,14 +2,14 @@
 use Rattle.std.proofs.Common.{◌≡◌, ℕ, suc, List, [], ◌∷◌, ◌++◌, Option, Some, None, slice_get, refl, sym, ap, ◌∙◌}
 use Rattle.std.specs.List.{AllByRecursion}
 use Rattle.std.specs.Option.{option_map}
-use Rattle.der_core_head.specs.BitStrings.{Bits}
-use Rattle.der_core_head.specs.Shapes.{octets_of, IsValid, IsContent, IsBody}
-use Rattle.der_core_head.proofs.OneEncoding.{one_value}
-use Rattle.x509_cert_certificates.specs.Certificates.{PlainCertificate, Tbs, raw_certificate}
-use Rattle.x509_cert_certificates.specs.Certificates.{raw_tbs_certificate, outer_algorithm}
-use Rattle.x509_cert_certificates.specs.Certificates.{signature_bits, tbs}
-use Rattle.x509_cert_parts.specs.Grammar.{Algorithm}
-use Rattle.cert_desk_bundle.specs.Chains.{Chain, Stands, joined}
+use Rattle.x509_cert_anchors.specs.Der.BitStrings.{Bits}
+use Rattle.x509_cert_anchors.specs.Der.Shapes.{octets_of, IsValid, IsContent, IsBody}
+use Rattle.x509_cert_anchors.proofs.Der.OneEncoding.{one_value}
+use Rattle.x509_cert_anchors.specs.CertCertificates.Certificates.{PlainCertificate, Tbs, raw_certificate}
+use Rattle.x509_cert_anchors.specs.CertCertificates.Certificates.{raw_tbs_certificate, outer_algorithm}
+use Rattle.x509_cert_anchors.specs.CertCertificates.Certificates.{signature_bits, tbs}
+use Rattle.x509_cert_anchors.specs.CertParts.Grammar.{Algorithm}
+use Rattle.cert_desk_rules.specs.DeskBundle.Chains.{Chain, Stands, joined}
 use Rattle.cert_desk_checking.specs.Issuers.{shown_at}
 use Rattle.cert_desk_rules.specs.Judging.{signed_part}
 use Rattle.cert_desk_checking.proofs.Encodings.{signed_part-is}

@@ -1,16 +1,16 @@
 -- A stream has one verdict.
 use Rattle.std.proofs.Common.{◌≡◌, ℕ, ◌<◌, ◌^◌, List, [], length, true, refl, sym, ap, ◌∙◌, subst, arith, ◌⊎◌, inl, inr}
 use Rattle.std.proofs.lemmas.Bool.{both_ways, cases_order}
-use Rattle.x509_cert_certificates.specs.Certificates.{PlainCertificate}
+use Rattle.x509_cert_anchors.specs.CertCertificates.Certificates.{PlainCertificate}
 use Rattle.cert_desk_rules.specs.declared.checked.Verdict.{Verdict}
 use Rattle.cert_desk_rules.specs.declared.checked.Verdict.TheVariants as verdicts
-use Rattle.cert_desk_bundle.specs.declared.fault_kind.FaultKind.{FaultKind}
+use Rattle.cert_desk_rules.specs.DeskBundle.declared.fault_kind.FaultKind.{FaultKind}
 use Rattle.cert_desk_rules.specs.declared.rule.Rule.{Rule}
-use Rattle.cert_desk_bundle.specs.Chains.{Chain, joined}
+use Rattle.cert_desk_rules.specs.DeskBundle.Chains.{Chain, joined}
 use Rattle.cert_desk_rules.specs.Judging.{Terms, keeps_at, number}
 use Rattle.cert_desk_rules.specs.Verdicts.{IsVerdict, Faulty, Refused, Before}
 use Rattle.cert_desk_rules.proofs.RuleList.{one_number}
-use Rattle.cert_desk_bundle.proofs.OneChain.{one_chain, one_fault, fault_no_chain}
+use Rattle.cert_desk_rules.proofs.DeskBundle.OneChain.{one_chain, one_fault, fault_no_chain}
 use Rattle.cert_desk_checking.proofs.ChainLaws.{chain_is_some, only_trusted}
 
 -- one is at the other's place, or one comes before

@@ -1,10 +1,10 @@
 -- From what was found at each place to what is said of the stream.
 use Rattle.std.proofs.Common.{◌≡◌, ℕ, zero, suc, ◌+◌, ◌<◌, List, length, true, false, cond, ◌&&◌, Some, None, inl, inr, refl, sym, subst, arith}
 use Rattle.std.proofs.lemmas.Bool.{and_parts, and_from, and_left, and_right, both_ways, false_from_ne_true, cond-true, cond-false, cases_order}
-use Rattle.x509_cert_certificates.specs.Certificates.{PlainCertificate}
+use Rattle.x509_cert_anchors.specs.CertCertificates.Certificates.{PlainCertificate}
 use Rattle.cert_desk_rules.specs.declared.rule.Rule.{Rule}
 use Rattle.cert_desk_rules.specs.declared.rule.Rule.TheVariants as rules
-use Rattle.cert_desk_bundle.specs.Chains.{Chain, joined}
+use Rattle.cert_desk_rules.specs.DeskBundle.Chains.{Chain, joined}
 use Rattle.cert_desk_rules.specs.Judging.{Terms, keeps_at, may_ask, number}
 use Rattle.cert_desk_rules.proofs.Asking.{keeps_all}
 use Rattle.cert_desk_rules.specs.Paths.{extensions_at}

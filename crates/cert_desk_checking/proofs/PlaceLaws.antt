@@ -6,22 +6,22 @@ use Rattle.std.specs.Option.{option_map_or}
 use Rattle.std.proofs.lemmas.Bool.{false_from_ne_true, both_ways}
 use Rattle.std.proofs.lemmas.Bool.Decides.{same_from_decides}
 use Rattle.std.proofs.lemmas.Slice.Eq.{bytes_eq-Decides}
-use Rattle.const_oid.specs.Bound.{Bound}
-use Rattle.der_core_head.specs.Shapes.{octets_of, IsValid}
-use Rattle.x509_cert_certificates.specs.Certificates.{PlainCertificate, raw_certificate}
-use Rattle.x509_cert_certificates.specs.Certificates.{inner_algorithm, outer_algorithm, issuer}
-use Rattle.x509_cert_certificates.specs.Certificates.{subject, public_key}
-use Rattle.x509_cert_parts.specs.Grammar.{algorithm_identifier}
-use Rattle.x509_cert_certificates.specs.Views.{certificate_plain}
+use Rattle.x509_cert_anchors.specs.Oid.Bound.{Bound}
+use Rattle.x509_cert_anchors.specs.Der.Shapes.{octets_of, IsValid}
+use Rattle.x509_cert_anchors.specs.CertCertificates.Certificates.{PlainCertificate, raw_certificate}
+use Rattle.x509_cert_anchors.specs.CertCertificates.Certificates.{inner_algorithm, outer_algorithm, issuer}
+use Rattle.x509_cert_anchors.specs.CertCertificates.Certificates.{subject, public_key}
+use Rattle.x509_cert_anchors.specs.CertParts.Grammar.{algorithm_identifier}
+use Rattle.x509_cert_anchors.specs.CertCertificates.Views.{certificate_plain}
 use Rattle.cert_desk_checking.specs.declared.anchor.Anchor.{Anchor}
-use Rattle.cert_desk_bundle.specs.declared.entry.Entry.{Entry}
+use Rattle.cert_desk_rules.specs.DeskBundle.declared.entry.Entry.{Entry}
 use Rattle.cert_desk_checking.specs.declared.issuer.Issuer.{Issuer}
 use Rattle.cert_desk_checking.specs.declared.issuer.Issuer.TheVariants as issuers
 use Rattle.cert_desk_rules.specs.declared.path_room.PathRoom.{PathRoom}
 use Rattle.cert_desk_rules.specs.declared.rule.Rule.{Rule}
 use Rattle.cert_desk_rules.specs.declared.rule.Rule.TheVariants as rules
 use Rattle.cert_desk_checking.specs.Anchors.{anchor_plain, terms_of}
-use Rattle.cert_desk_bundle.specs.Entries.{IsEntry}
+use Rattle.cert_desk_rules.specs.DeskBundle.Entries.{IsEntry}
 use Rattle.cert_desk_rules.specs.Findings.{IsRoom}
 use Rattle.cert_desk_rules.specs.Judging.{accepted, Answers, Terms, has_one_algorithm, keeps, keeps_at, number, may_ask, is_named, same_name, signed_part}
 use Rattle.cert_desk_checking.specs.Places.{IsIssuer, StandsAt, asked_of, linked_to, signed_by, signs}

@@ -1,16 +1,16 @@
 -- The lines of a certificate's questions are those of the chain.
 use Rattle.std.proofs.Common.{◌≡◌, ℕ, zero, suc, ◌+◌, ◌-◌, ◌<◌, List, [], ◌∷◌, ◌++◌, cond, codes, decimal, Option, Some, None, Bool, true, false, slice_get, arith, refl, ap, sym, ◌∙◌, append-nil}
 use Rattle.std.specs.Option.{option_map_or}
-use Rattle.cert_desk_bundle.specs.declared.entry.Entry.{Entry}
+use Rattle.cert_desk_rules.specs.DeskBundle.declared.entry.Entry.{Entry}
 use Rattle.hex.specs.Hex.{encode_lower}
-use Rattle.const_oid.specs.Bound.{Bound}
-use Rattle.x509_cert_certificates.specs.Certificates.{PlainCertificate, outer_algorithm, public_key}
-use Rattle.x509_cert_certificates.specs.Certificates.{signature_bits}
-use Rattle.x509_cert_parts.specs.Grammar.{PublicKey, algorithm_identifier, bit_string}
-use Rattle.x509_cert_parts.specs.Grammar.{public_key_info}
-use Rattle.x509_cert_certificates.specs.Views.{certificate_plain}
-use Rattle.cert_desk_bundle.specs.Chains.{joined}
-use Rattle.cert_desk_bundle.specs.Entries.{IsEntry}
+use Rattle.x509_cert_anchors.specs.Oid.Bound.{Bound}
+use Rattle.x509_cert_anchors.specs.CertCertificates.Certificates.{PlainCertificate, outer_algorithm, public_key}
+use Rattle.x509_cert_anchors.specs.CertCertificates.Certificates.{signature_bits}
+use Rattle.x509_cert_anchors.specs.CertParts.Grammar.{PublicKey, algorithm_identifier, bit_string}
+use Rattle.x509_cert_anchors.specs.CertParts.Grammar.{public_key_info}
+use Rattle.x509_cert_anchors.specs.CertCertificates.Views.{certificate_plain}
+use Rattle.cert_desk_rules.specs.DeskBundle.Chains.{joined}
+use Rattle.cert_desk_rules.specs.DeskBundle.Entries.{IsEntry}
 use Rattle.cert_desk_rules.specs.Judging.{PlainAnchor, is_named}
 use Rattle.cert_desk_rules.specs.Questions.{Question, question}
 use Rattle.cert_desk_checking.proofs.Encodings.{signed_part-is}

@@ -4,10 +4,10 @@ use Rattle.std.proofs.lemmas.List.{at_drop_more}
 use Rattle.std.proofs.lemmas.Bool.{and_left, and_right, both_ways, cases_order, false_from_ne_true, or_left, or_right}
 use Rattle.std.specs.List.{list_all, list_any}
 use Rattle.std.specs.Option.{is_some, option_map_or}
-use Rattle.const_oid.specs.Bound.{Bound}
-use Rattle.der_core_head.specs.Grammar.{plain_list}
-use Rattle.x509_cert_certificates.specs.Certificates.{PlainCertificate, extensions_of}
-use Rattle.x509_cert_parts.specs.Grammar.{PlainExtension}
+use Rattle.x509_cert_anchors.specs.Oid.Bound.{Bound}
+use Rattle.x509_cert_anchors.specs.Der.Grammar.{plain_list}
+use Rattle.x509_cert_anchors.specs.CertCertificates.Certificates.{PlainCertificate, extensions_of}
+use Rattle.x509_cert_anchors.specs.CertParts.Grammar.{PlainExtension}
 use Rattle.cert_desk_rules.specs.declared.findings.Findings.{Findings}
 use Rattle.cert_desk_rules.specs.declared.reason.Reason.{Reason}
 use Rattle.cert_desk_rules.specs.declared.reason.Reason.TheVariants as reasons

@@ -1,29 +1,29 @@
 -- What a run reads.
 use Rattle.std.proofs.Common.{◌≡◌, ◌≢◌, ℕ, ◌<◌, List, [], ◌++◌, length, Result, Ok, Err, OnOk, IfErr, ◌⊎◌, inl, inr, refl, subst, sym, ap, ◌∙◌, arith, append-nil}
-use Rattle.const_oid.specs.Bound.{Bound}
-use Rattle.cert_desk_io.specs.Devices.{Device, Moved, MetEnd, Sound}
-use Rattle.x509_cert_certificates.specs.Certificates.{PlainCertificate, raw_certificate}
-use Rattle.cert_desk_bundle.specs.declared.bundle_error.BundleError.TheVariants as errors
-use Rattle.cert_desk_bundle.specs.declared.bundle_error.ReadError.{ReadError}
-use Rattle.cert_desk_bundle.specs.declared.bundle_error.ReadError.TheVariants as read_errors
+use Rattle.x509_cert_anchors.specs.Oid.Bound.{Bound}
+use Rattle.cert_desk_rules.specs.DeskIo.Devices.{Device, Moved, MetEnd, Sound}
+use Rattle.x509_cert_anchors.specs.CertCertificates.Certificates.{PlainCertificate, raw_certificate}
+use Rattle.cert_desk_rules.specs.DeskBundle.declared.bundle_error.BundleError.TheVariants as errors
+use Rattle.cert_desk_rules.specs.DeskBundle.declared.bundle_error.ReadError.{ReadError}
+use Rattle.cert_desk_rules.specs.DeskBundle.declared.bundle_error.ReadError.TheVariants as read_errors
 use Rattle.cert_desk_rules.specs.declared.checked.Verdict.{Verdict}
 use Rattle.cert_desk_rules.specs.declared.checked.Verdict.TheVariants as verdicts
-use Rattle.cert_desk_bundle.specs.declared.fault_kind.FaultKind.{FaultKind}
-use Rattle.cert_desk_bundle.specs.declared.fault_kind.FaultKind.TheVariants as kinds
-use Rattle.cert_desk_bundle.specs.declared.standing.Standing.{Standing}
-use Rattle.cert_desk_bundle.specs.declared.standing.Standing.TheVariants as standings
-use Rattle.cert_desk_bundle.specs.Chains.{Chain}
-use Rattle.cert_desk_bundle.specs.Faults.{Says, Split, StreamFault, NoneBefore, rank}
+use Rattle.cert_desk_rules.specs.DeskBundle.declared.fault_kind.FaultKind.{FaultKind}
+use Rattle.cert_desk_rules.specs.DeskBundle.declared.fault_kind.FaultKind.TheVariants as kinds
+use Rattle.cert_desk_rules.specs.DeskBundle.declared.standing.Standing.{Standing}
+use Rattle.cert_desk_rules.specs.DeskBundle.declared.standing.Standing.TheVariants as standings
+use Rattle.cert_desk_rules.specs.DeskBundle.Chains.{Chain}
+use Rattle.cert_desk_rules.specs.DeskBundle.Faults.{Says, Split, StreamFault, NoneBefore, rank}
 use Rattle.cert_desk_rules.specs.Judging.{Terms}
 use Rattle.cert_desk_checking.specs.Reading.{MayGoOn, AsksNoMore, ReadFailed, FedUnder, IsFed}
 use Rattle.cert_desk_checking.specs.Runs.{IsReadFor, IsReadInVain, Judge, IsUnasked}
-use Rattle.cert_desk_bundle.specs.Series.{SeriesSplit, encodings}
-use Rattle.cert_desk_bundle.specs.Steps.{RefusesInput, StopsAtLast, Takes}
-use Rattle.cert_desk_bundle.specs.Streams.{Kept, Reads}
+use Rattle.cert_desk_rules.specs.DeskBundle.Series.{SeriesSplit, encodings}
+use Rattle.cert_desk_rules.specs.DeskBundle.Steps.{RefusesInput, StopsAtLast, Takes}
+use Rattle.cert_desk_rules.specs.DeskBundle.Streams.{Kept, Reads}
 use Rattle.cert_desk_rules.specs.Verdicts.{IsVerdict, StopsAsking}
-use Rattle.cert_desk_bundle.proofs.OneChain.{certificates_told, fault_no_chain}
-use Rattle.cert_desk_bundle.proofs.SeriesLaws.{one_split}
-use Rattle.cert_desk_bundle.proofs.Readings.{ReadsUnder}
+use Rattle.cert_desk_rules.proofs.DeskBundle.OneChain.{certificates_told, fault_no_chain}
+use Rattle.cert_desk_rules.proofs.DeskBundle.SeriesLaws.{one_split}
+use Rattle.cert_desk_rules.proofs.DeskBundle.Readings.{ReadsUnder}
 
 early : (kind : FaultKind) → kind ≢ kinds.Truncated → rank kind < rank kinds.Truncated
 early kinds.NoCertificate ne = omega arith

@@ -5,18 +5,18 @@ use Rattle.std.specs.Cmp.Lexicographic.{bytes_decides}
 use Rattle.std.specs.List.{AllByRecursion, list_any}
 use Rattle.std.specs.Option.{option_eq}
 use Rattle.std.proofs.lemmas.Bool.{and_from, and_parts, eq-eqb, or_cases}
-use Rattle.const_oid.specs.Bound.{Bound}
-use Rattle.const_oid.specs.Comparing.{owned_eq}
-use Rattle.const_oid.specs.IdentifierOctets.{IsIdentifier, identifier_octets}
-use Rattle.const_oid.proofs.OrderLaws.{equal_arcs}
-use Rattle.der_core_head.specs.declared.tag.Tag.{Tag}
-use Rattle.der_core_head.specs.BitStrings.{Bits, bit_contents}
-use Rattle.der_core_head.specs.Shapes.{AnyValue, IsValid, IsContent, IsBody}
-use Rattle.der_core_head.specs.Tags.{leading_octet, number_of}
-use Rattle.der_core_head.proofs.TagLaws.{same_tags}
-use Rattle.x509_cert_parts.specs.Grammar.{Algorithm, PublicKey, algorithm_arcs}
-use Rattle.x509_cert_parts.specs.Grammar.{algorithm_identifier, algorithm_parameters, key_algorithm}
-use Rattle.x509_cert_parts.specs.Grammar.{key_bits, public_key_info}
+use Rattle.x509_cert_anchors.specs.Oid.Bound.{Bound}
+use Rattle.x509_cert_anchors.specs.Oid.Comparing.{owned_eq}
+use Rattle.x509_cert_anchors.specs.Oid.IdentifierOctets.{IsIdentifier, identifier_octets}
+use Rattle.x509_cert_anchors.proofs.Oid.OrderLaws.{equal_arcs}
+use Rattle.x509_cert_anchors.specs.Der.TagTypes.Tag.{Tag}
+use Rattle.x509_cert_anchors.specs.Der.BitStrings.{Bits, bit_contents}
+use Rattle.x509_cert_anchors.specs.Der.Shapes.{AnyValue, IsValid, IsContent, IsBody}
+use Rattle.x509_cert_anchors.specs.Der.Tags.{leading_octet, number_of}
+use Rattle.x509_cert_anchors.proofs.Der.TagLaws.{same_tags}
+use Rattle.x509_cert_anchors.specs.CertParts.Grammar.{Algorithm, PublicKey, algorithm_arcs}
+use Rattle.x509_cert_anchors.specs.CertParts.Grammar.{algorithm_identifier, algorithm_parameters, key_algorithm}
+use Rattle.x509_cert_anchors.specs.CertParts.Grammar.{key_bits, public_key_info}
 use Rattle.cert_desk_rules.specs.Answers.{any_key, is_about, only_yes_to, same_algorithm, same_any, same_bits, same_key}
 use Rattle.cert_desk_rules.specs.Judging.{Answers}
 use Rattle.cert_desk_checking.specs.QuestionLines.{QuestionLine, questions_of_lines}

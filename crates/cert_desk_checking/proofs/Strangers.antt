@@ -2,11 +2,11 @@
 use Rattle.std.proofs.Common.{◌≡◌, ℕ, zero, suc, ◌+◌, ◌≤◌, List, [], ◌∷◌, length, Bool, true, false, ◌&&◌, ◌||◌, cond, Option, Some, None, slice_get, refl, sym, ap, ◌∙◌, arith}
 use Rattle.std.specs.List.{filter, list_any}
 use Rattle.std.specs.Option.{option_map_or}
-use Rattle.x509_cert_certificates.specs.Certificates.{PlainCertificate}
+use Rattle.x509_cert_anchors.specs.CertCertificates.Certificates.{PlainCertificate}
 use Rattle.cert_desk_rules.specs.declared.checked.Verdict.{Verdict}
 use Rattle.cert_desk_rules.specs.declared.rule.Rule.{Rule}
 use Rattle.cert_desk_rules.specs.declared.rule.Rule.TheVariants as rules
-use Rattle.cert_desk_bundle.specs.Chains.{Chain}
+use Rattle.cert_desk_rules.specs.DeskBundle.Chains.{Chain}
 use Rattle.cert_desk_checking.specs.Issuers.{among, anchors_named}
 use Rattle.cert_desk_rules.specs.Judging.{Terms, PlainAnchor, is_named, keeps, keeps_at, may_ask}
 use Rattle.cert_desk_rules.specs.Verdicts.{IsVerdict, all_kept_below, asked, asked_below}

@@ -3,28 +3,28 @@ use Rattle.std.proofs.Common.{◌≡◌, ℕ, zero, suc, ◌≤◌, ◌⊎◌, i
 use Rattle.std.specs.Prelude.{Contains}
 use Rattle.std.specs.List.{AllByRecursion}
 use Rattle.std.specs.Option.{option_map_or}
-use Rattle.const_oid.specs.Comparing.{owned_eq}
-use Rattle.der_core_head.specs.declared.error.ErrorKind.{ErrorKind}
-use Rattle.der_core_head.specs.declared.error.ErrorKind.TheVariants as kinds
-use Rattle.der_core_head.specs.Bounds.{IsValidUnder, HoldsLarge}
-use Rattle.der_core_head.specs.Grammar.{read, whole, read_whole}
-use Rattle.der_core_head.specs.Limits.{length_max, levels_max}
-use Rattle.der_core_head.specs.Octets.{IsOctets, ◌>>=◌}
-use Rattle.der_core_head.specs.declared.tag.Tag.TheVariants as tags
-use Rattle.der_core_head.specs.Leaves.{octets}
-use Rattle.der_core_head.specs.Shapes.{Shape, Value, IsValid, IsContent, IsBody, done, explicit, field, leaf, octets_of, optional, sequence, sequence_of, tagged}
-use Rattle.der_core_head.proofs.OneEncoding.{bytes_are}
-use Rattle.der_core_head.proofs.BoundLaws.{below_or_large, Family, same_octets, valid_wider, valid_narrow, whole_wider, whole_new}
-use Rattle.x509_cert_certificates.specs.Certificates.{PlainCertificate, extensions_of}
-use Rattle.x509_cert_certificates.specs.Certificates.{raw_certificate}
-use Rattle.x509_cert_parts.specs.Grammar.{PlainExtension, extension_arcs, extension_octets}
-use Rattle.x509_cert_parts.specs.Grammar.{object_identifier, false_by_default}
-use Rattle.der_core_head.proofs.Results.{bind_ok, unless_ok, whole_ok}
+use Rattle.x509_cert_anchors.specs.Oid.Comparing.{owned_eq}
+use Rattle.x509_cert_anchors.specs.Der.ErrorTypes.ErrorKind.{ErrorKind}
+use Rattle.x509_cert_anchors.specs.Der.ErrorTypes.ErrorKind.TheVariants as kinds
+use Rattle.x509_cert_anchors.specs.Der.Bounds.{IsValidUnder, HoldsLarge}
+use Rattle.x509_cert_anchors.specs.Der.Grammar.{read, whole, read_whole}
+use Rattle.x509_cert_anchors.specs.Der.Limits.{length_max, levels_max}
+use Rattle.x509_cert_anchors.specs.Der.Octets.{IsOctets, ◌>>=◌}
+use Rattle.x509_cert_anchors.specs.Der.TagTypes.Tag.TheVariants as tags
+use Rattle.x509_cert_anchors.specs.Der.Leaves.{octets}
+use Rattle.x509_cert_anchors.specs.Der.Shapes.{Shape, Value, IsValid, IsContent, IsBody, done, explicit, field, leaf, octets_of, optional, sequence, sequence_of, tagged}
+use Rattle.x509_cert_anchors.proofs.Der.OneEncoding.{bytes_are}
+use Rattle.x509_cert_anchors.proofs.Der.BoundLaws.{below_or_large, Family, same_octets, valid_wider, valid_narrow, whole_wider, whole_new}
+use Rattle.x509_cert_anchors.specs.CertCertificates.Certificates.{PlainCertificate, extensions_of}
+use Rattle.x509_cert_anchors.specs.CertCertificates.Certificates.{raw_certificate}
+use Rattle.x509_cert_anchors.specs.CertParts.Grammar.{PlainExtension, extension_arcs, extension_octets}
+use Rattle.x509_cert_anchors.specs.CertParts.Grammar.{object_identifier, false_by_default}
+use Rattle.x509_cert_anchors.proofs.Der.Results.{bind_ok, unless_ok, whole_ok}
 use Rattle.cert_desk_checking.specs.Bounded.{BecomesReadable, OneBecomesReadable, OneHoldsLarge, identifiers_in, identifiers_said}
-use Rattle.cert_desk_bundle.specs.Chains.{Chain, Stands, joined}
+use Rattle.cert_desk_rules.specs.DeskBundle.Chains.{Chain, Stands, joined}
 use Rattle.cert_desk_rules.specs.Weighing.{Meaning, basic_constraints_in, constraints_of, extended_key_usage, extended_key_usage_in, is_ce, is_malformed, key_usage_in, malformed, meaning_of, other_names, purposes, subject_alt_name, subject_alt_name_in, unweighed, uses, weigh}
 use Rattle.cert_desk_rules.proofs.Meanings.{meaning_read, read_meaning}
-use Rattle.cert_desk_bundle.proofs.SeriesLaws.{each-so}
+use Rattle.cert_desk_rules.proofs.DeskBundle.SeriesLaws.{each-so}
 
 -- Certificates
 

@@ -1,25 +1,25 @@
 -- Faults of streams under a wider bound of arcs.
 use Rattle.std.proofs.Common.{◌≡◌, ◌≢◌, ℕ, ◌+◌, ◌<◌, ◌≤◌, ◌^◌, ◌⊎◌, inl, inr, List, [], ◌∷◌, ◌++◌, length, Result, Ok, Err, refl, sym, ap, ◌∙◌, subst, arith, append_assoc, length-append}
 use Rattle.std.proofs.lemmas.Bool.{cases_lt}
-use Rattle.der_core_head.specs.declared.error.ErrorKind.{ErrorKind}
-use Rattle.der_core_head.specs.declared.tag.Tag.TheVariants as tags
-use Rattle.der_core_head.specs.Bounds.{HoldsLarge}
-use Rattle.der_core_head.specs.Grammar.{read_whole}
-use Rattle.der_core_head.specs.Heads.{head_octets, tlv}
-use Rattle.der_core_head.specs.Octets.{IsOctets}
-use Rattle.der_core_head.specs.Shapes.{IsValid, Spells, body_octets, contents, octets_of}
-use Rattle.der_core_head.proofs.OneEncoding.{is_spelled, whole_again, bytes_are, octets_below}
-use Rattle.der_core_head.proofs.HeadLaws.{valid_fits}
-use Rattle.x509_cert_certificates.specs.Certificates.{PlainCertificate, raw_certificate}
-use Rattle.x509_cert_certificates.specs.Certificates.{raw_certificate_fields}
-use Rattle.cert_desk_bundle.specs.declared.fault_kind.FaultKind.{FaultKind}
-use Rattle.cert_desk_bundle.specs.declared.fault_kind.FaultKind.TheVariants as kinds
+use Rattle.x509_cert_anchors.specs.Der.ErrorTypes.ErrorKind.{ErrorKind}
+use Rattle.x509_cert_anchors.specs.Der.TagTypes.Tag.TheVariants as tags
+use Rattle.x509_cert_anchors.specs.Der.Bounds.{HoldsLarge}
+use Rattle.x509_cert_anchors.specs.Der.Grammar.{read_whole}
+use Rattle.x509_cert_anchors.specs.Der.Heads.{head_octets, tlv}
+use Rattle.x509_cert_anchors.specs.Der.Octets.{IsOctets}
+use Rattle.x509_cert_anchors.specs.Der.Shapes.{IsValid, Spells, body_octets, contents, octets_of}
+use Rattle.x509_cert_anchors.proofs.Der.OneEncoding.{is_spelled, whole_again, bytes_are, octets_below}
+use Rattle.x509_cert_anchors.proofs.Der.HeadLaws.{valid_fits}
+use Rattle.x509_cert_anchors.specs.CertCertificates.Certificates.{PlainCertificate, raw_certificate}
+use Rattle.x509_cert_anchors.specs.CertCertificates.Certificates.{raw_certificate_fields}
+use Rattle.cert_desk_rules.specs.DeskBundle.declared.fault_kind.FaultKind.{FaultKind}
+use Rattle.cert_desk_rules.specs.DeskBundle.declared.fault_kind.FaultKind.TheVariants as kinds
 use Rattle.cert_desk_checking.specs.Bounded.{identifiers_in}
-use Rattle.cert_desk_bundle.specs.Chains.{Chain, Stands, joined}
-use Rattle.cert_desk_bundle.specs.Faults.{IsFault, NoneBefore, Says, StreamFault, whole_length}
-use Rattle.cert_desk_bundle.specs.Series.{BeginsSeries}
-use Rattle.cert_desk_bundle.proofs.SeriesLaws.{Series-more, each-last, encodings-more}
-use Rattle.cert_desk_bundle.proofs.SeriesReading.{reads_fault}
+use Rattle.cert_desk_rules.specs.DeskBundle.Chains.{Chain, Stands, joined}
+use Rattle.cert_desk_rules.specs.DeskBundle.Faults.{IsFault, NoneBefore, Says, StreamFault, whole_length}
+use Rattle.cert_desk_rules.specs.DeskBundle.Series.{BeginsSeries}
+use Rattle.cert_desk_rules.proofs.DeskBundle.SeriesLaws.{Series-more, each-last, encodings-more}
+use Rattle.cert_desk_rules.proofs.DeskBundle.SeriesReading.{reads_fault}
 use Rattle.cert_desk_checking.proofs.TwoBounds.{certificate_or_large, certificate_wider, chain_wider, leaves_none, same_encoding, same_joined}
 
 -- whether all are octets

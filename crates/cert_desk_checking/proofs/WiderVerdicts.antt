@@ -5,15 +5,15 @@ use Rattle.std.specs.Option.{option_map_or}
 use Rattle.std.proofs.lemmas.Bool.{both_ways}
 use Rattle.std.proofs.lemmas.List.Folds.{list_any_at}
 use Rattle.std.proofs.lemmas.Option.{slice_get-get_or}
-use Rattle.der_core_head.specs.Shapes.{octets_of}
-use Rattle.x509_cert_certificates.specs.Certificates.{PlainCertificate, extensions_of, signed_start}
-use Rattle.x509_cert_certificates.specs.Certificates.{signed_length}
-use Rattle.x509_cert_parts.specs.Grammar.{PlainExtension, is_critical}
+use Rattle.x509_cert_anchors.specs.Der.Shapes.{octets_of}
+use Rattle.x509_cert_anchors.specs.CertCertificates.Certificates.{PlainCertificate, extensions_of, signed_start}
+use Rattle.x509_cert_anchors.specs.CertCertificates.Certificates.{signed_length}
+use Rattle.x509_cert_anchors.specs.CertParts.Grammar.{PlainExtension, is_critical}
 use Rattle.cert_desk_rules.specs.declared.checked.Verdict.TheVariants as verdicts
 use Rattle.cert_desk_rules.specs.declared.rule.Rule.{Rule}
 use Rattle.cert_desk_rules.specs.declared.rule.Rule.TheVariants as rules
 use Rattle.cert_desk_checking.specs.Bounded.{OneBecomesReadable, bounded}
-use Rattle.cert_desk_bundle.specs.Chains.{Chain}
+use Rattle.cert_desk_rules.specs.DeskBundle.Chains.{Chain}
 use Rattle.cert_desk_rules.specs.Judging.{PlainAnchor, Terms, has_one_algorithm, is_linked, is_named, is_signed, keeps, keeps_at}
 use Rattle.cert_desk_rules.specs.Paths.{used_up, counts, extensions_at, is_last, is_within, is_within_lengths, keep_lengths, keeps_length}
 use Rattle.cert_desk_rules.specs.Verdicts.{Trusted, asked}
@@ -21,8 +21,8 @@ use Rattle.cert_desk_checking.specs.WiderBounds.{IsJudgedSame}
 use Rattle.cert_desk_rules.specs.Weighing.{Meaning, is_authority, is_malformed, is_unweighed, may_certify, path_length, serves, weigh}
 use Rattle.cert_desk_rules.proofs.Asking.{asked_anchors, says_yes}
 use Rattle.cert_desk_checking.proofs.AlikeTerms.{Alike, asked_alike, asked_of_first, verdict_alike}
-use Rattle.cert_desk_bundle.proofs.OneChain.{fault_no_chain, one_chain}
-use Rattle.cert_desk_bundle.proofs.SeriesLaws.{each-so}
+use Rattle.cert_desk_rules.proofs.DeskBundle.OneChain.{fault_no_chain, one_chain}
+use Rattle.cert_desk_rules.proofs.DeskBundle.SeriesLaws.{each-so}
 use Rattle.cert_desk_checking.proofs.TwoBounds.{certificates_weighed, chain_wider}
 
 any_each : {A : Type 0} (test other : A → Bool) (xs : List A) → AllByRecursion (λ x. test x ≡ other x) xs → list_any test xs ≡ list_any other xs

@@ -5,12 +5,12 @@ use Rattle.std.specs.Option.{option_map_or}
 use Rattle.std.proofs.lemmas.Bool.{and_from, and_parts, cases_lt, eq-eqb, eqb-true, or_cases}
 use Rattle.std.proofs.lemmas.Bool.Decides.{eqb_tells}
 use Rattle.std.proofs.lemmas.Option.{slice_get_cases}
-use Rattle.x509_cert_certificates.specs.Certificates.{PlainCertificate, extensions_of, issuer}
-use Rattle.x509_cert_certificates.specs.Certificates.{outer_algorithm, public_key, signature_bits}
-use Rattle.x509_cert_certificates.specs.Certificates.{subject}
+use Rattle.x509_cert_anchors.specs.CertCertificates.Certificates.{PlainCertificate, extensions_of, issuer}
+use Rattle.x509_cert_anchors.specs.CertCertificates.Certificates.{outer_algorithm, public_key, signature_bits}
+use Rattle.x509_cert_anchors.specs.CertCertificates.Certificates.{subject}
 use Rattle.cert_desk_rules.specs.declared.rule.Rule.{Rule}
 use Rattle.cert_desk_rules.specs.declared.rule.Rule.TheVariants as rules
-use Rattle.cert_desk_bundle.specs.Chains.{Stands, joined}
+use Rattle.cert_desk_rules.specs.DeskBundle.Chains.{Stands, joined}
 use Rattle.cert_desk_checking.specs.Issuers.{among}
 use Rattle.cert_desk_rules.specs.Judging.{PlainAnchor, Terms, has_authority, is_linked, is_signed, keeps, keeps_at, same_name, signed_part}
 use Rattle.cert_desk_rules.specs.Paths.{used_up, counts, extensions_at, is_last, is_self_issued, is_within, is_within_lengths, keep_lengths, keeps_length}

@@ -1,7 +1,7 @@
 -- Files of anchors: the encodings of trust anchors (RFC 5914 2), one behind the other.
 use Rattle.std.specs.Prelude.{ℕ, List, None, Result, Ok, Err}
-use Rattle.const_oid.specs.Bound.{Bound}
-use Rattle.der_core_head.specs.Shapes.{Shape, octets_of}
+use Rattle.x509_cert_anchors.specs.Oid.Bound.{Bound}
+use Rattle.x509_cert_anchors.specs.Der.Shapes.{Shape, octets_of}
 use Rattle.x509_cert_anchors.specs.Anchors.{trust_anchor_choice, PlainAnchor as PlainChoice}
 use Rattle.cert_desk_checking.specs.declared.anchor_error.AnchorError.TheVariants as errors
 use Rattle.cert_desk_checking.specs.declared.anchor_fault.AnchorFault.{AnchorFault}

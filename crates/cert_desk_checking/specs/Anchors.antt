@@ -3,13 +3,13 @@
 use Rattle.std.specs.Prelude.{ℕ, List, map, Bool, ◌&&◌, if◌then◌else◌, is_none, Option, Some, None}
 use Rattle.std.specs.Prelude.{Result, Ok, Err}
 use Rattle.std.proofs.Common.{inl, inr}
-use Rattle.const_oid.specs.Bound.{Bound}
-use Rattle.x509_cert_names.specs.Views.{name_plain}
-use Rattle.x509_cert_parts.specs.Views.{key_plain}
-use Rattle.x509_cert_names.specs.Names.{PlainName}
-use Rattle.x509_cert_parts.specs.Grammar.{PublicKey}
-use Rattle.x509_cert_certificates.specs.Certificates.{subject, public_key, tbs_subject}
-use Rattle.x509_cert_certificates.specs.Certificates.{tbs_public_key}
+use Rattle.x509_cert_anchors.specs.Oid.Bound.{Bound}
+use Rattle.x509_cert_anchors.specs.CertNames.Views.{name_plain}
+use Rattle.x509_cert_anchors.specs.CertParts.Views.{key_plain}
+use Rattle.x509_cert_anchors.specs.CertNames.Names.{PlainName}
+use Rattle.x509_cert_anchors.specs.CertParts.Grammar.{PublicKey}
+use Rattle.x509_cert_anchors.specs.CertCertificates.Certificates.{subject, public_key, tbs_subject}
+use Rattle.x509_cert_anchors.specs.CertCertificates.Certificates.{tbs_public_key}
 use Rattle.x509_cert_anchors.specs.Anchors.{PlainControls, PlainInfo, PlainAnchor as PlainChoice}
 use Rattle.cert_desk_checking.specs.declared.anchor.Anchor.{Anchor}
 use Rattle.cert_desk_checking.specs.declared.anchor_error.AnchorError.{AnchorError}

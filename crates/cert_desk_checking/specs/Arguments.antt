@@ -1,9 +1,9 @@
 -- What the program's arguments ask for.
 use Rattle.std.specs.Prelude.{◌≡◌, ℕ, ◌≤◌, ◌<◌, ◌^◌, List, [], ◌∷◌, length, codes}
 use Rattle.std.specs.Str.Parse.{IsNumeral, digits_value}
-use Rattle.const_oid.specs.Bound.{Bound, max_size}
-use Rattle.const_oid.specs.IdentifierOctets.{identifier_octets, IsIdentifier}
-use Rattle.const_oid.specs.TextFaults.{IsDottedText}
+use Rattle.x509_cert_anchors.specs.Oid.Bound.{Bound, max_size}
+use Rattle.x509_cert_anchors.specs.Oid.IdentifierOctets.{identifier_octets, IsIdentifier}
+use Rattle.x509_cert_anchors.specs.Oid.TextFaults.{IsDottedText}
 
 -- one or more decimal digits in ASCII, and the number that they write
 unfoldable pub IsNumber : ℕ → List ℕ → Type 0

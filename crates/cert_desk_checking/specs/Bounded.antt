@@ -1,10 +1,10 @@
 -- What a bound of arcs decides of a chain. Neither certificates nor octets depend on it, so one
 -- chain is judged under any bound.
 use Rattle.std.specs.Prelude.{◌≡◌, ℕ, List, [], false, Contains}
-use Rattle.der_core_head.specs.Bounds.{identifiers_of, HoldsLarge}
-use Rattle.x509_cert_certificates.specs.Certificates.{PlainCertificate, extensions_of}
-use Rattle.x509_cert_certificates.specs.Certificates.{raw_certificate}
-use Rattle.x509_cert_parts.specs.Grammar.{PlainExtension}
+use Rattle.x509_cert_anchors.specs.Der.Bounds.{identifiers_of, HoldsLarge}
+use Rattle.x509_cert_anchors.specs.CertCertificates.Certificates.{PlainCertificate, extensions_of}
+use Rattle.x509_cert_anchors.specs.CertCertificates.Certificates.{raw_certificate}
+use Rattle.x509_cert_anchors.specs.CertParts.Grammar.{PlainExtension}
 use Rattle.cert_desk_rules.specs.Judging.{Terms}
 use Rattle.cert_desk_rules.specs.Weighing.{Meaning, uses, other_names, constraints, purposes}
 use Rattle.cert_desk_rules.specs.Weighing.{malformed, unweighed, extended_key_usage}

@@ -1,9 +1,9 @@
 -- What holds of every chain: of its parts, of strangers among the anchors, and of the questions
 -- about it.
 use Rattle.std.specs.Prelude.{◌≡◌, ℕ, ◌+◌, ◌≤◌, ◌<◌, List, [], ◌∷◌, ◌++◌, length}
-use Rattle.x509_cert_certificates.specs.Certificates.{PlainCertificate}
+use Rattle.x509_cert_anchors.specs.CertCertificates.Certificates.{PlainCertificate}
 use Rattle.cert_desk_rules.specs.declared.checked.Verdict.{Verdict}
-use Rattle.cert_desk_bundle.specs.Chains.{Chain, joined}
+use Rattle.cert_desk_rules.specs.DeskBundle.Chains.{Chain, joined}
 use Rattle.cert_desk_checking.specs.Issuers.{among, anchors_named, as_anchor, shown_at}
 use Rattle.cert_desk_rules.specs.Judging.{PlainAnchor, Terms}
 use Rattle.cert_desk_rules.specs.Verdicts.{IsVerdict, Trusted, asked}

@@ -2,8 +2,8 @@
 -- reason.
 use Rattle.std.specs.Prelude.{◌≡◌, ◌≢◌, ℕ, ◌+◌, List, [], ◌++◌, length, map, drop, Result, Ok, Err}
 use Rattle.std.specs.List.{AllByRecursion}
-use Rattle.der_core_head.specs.Shapes.{Shape, Value, octets_of, IsValid}
-use Rattle.cert_desk_bundle.specs.Series.{encodings, BeginsWith}
+use Rattle.x509_cert_anchors.specs.Der.Shapes.{Shape, Value, octets_of, IsValid}
+use Rattle.cert_desk_rules.specs.DeskBundle.Series.{encodings, BeginsWith}
 
 -- Each of the values has an encoding, and they give the items.
 pub record GiveAll (s : Shape) {A E : Type 0} (gives : Value s → Result A E) (vs : List (Value s))

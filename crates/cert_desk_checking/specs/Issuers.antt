@@ -2,10 +2,11 @@
 use Rattle.std.specs.Prelude.{ℕ, List, Option, slice_get}
 use Rattle.std.specs.List.{filter}
 use Rattle.std.specs.Option.{option_map}
-use Rattle.der_core_head.specs.BitStrings.{Bits}
-use Rattle.x509_cert_certificates.specs.Certificates.{PlainCertificate, outer_algorithm, public_key}
-use Rattle.x509_cert_certificates.specs.Certificates.{signature_bits, subject}
-use Rattle.x509_cert_parts.specs.Grammar.{Algorithm}
+use Rattle.x509_cert_anchors.specs.Der.BitStrings.{Bits}
+use Rattle.x509_cert_anchors.specs.CertCertificates.Certificates.{PlainCertificate, outer_algorithm}
+use Rattle.x509_cert_anchors.specs.CertCertificates.Certificates.{public_key}
+use Rattle.x509_cert_anchors.specs.CertCertificates.Certificates.{signature_bits, subject}
+use Rattle.x509_cert_anchors.specs.CertParts.Grammar.{Algorithm}
 use Rattle.cert_desk_rules.specs.Judging.{Terms, PlainAnchor, is_named, signed_part}
 
 -- the anchors of the issuer's name (RFC 5280 6.1.3 (a)(4))

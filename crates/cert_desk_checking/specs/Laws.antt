@@ -1,24 +1,24 @@
 -- What holds of every stream.
 use Rattle.std.specs.Prelude.{◌≡◌, ◌≢◌, ◌<◌, ◌↔◌, ℕ, List, length, ◌++◌, true, Result}
 use Rattle.std.specs.List.{AllByRecursion}
-use Rattle.const_oid.specs.Bound.{Bound}
-use Rattle.der_core_head.specs.Shapes.{Shape, Value}
-use Rattle.x509_cert_certificates.specs.Certificates.{PlainCertificate}
+use Rattle.x509_cert_anchors.specs.Oid.Bound.{Bound}
+use Rattle.x509_cert_anchors.specs.Der.Shapes.{Shape, Value}
+use Rattle.x509_cert_anchors.specs.CertCertificates.Certificates.{PlainCertificate}
 use Rattle.cert_desk_rules.specs.declared.checked.Verdict.{Verdict}
 use Rattle.cert_desk_rules.specs.declared.checked.Verdict.TheVariants as verdicts
-use Rattle.cert_desk_bundle.specs.declared.fault_kind.FaultKind.{FaultKind}
-use Rattle.cert_desk_bundle.specs.declared.fault_kind.FaultKind.TheVariants as kinds
+use Rattle.cert_desk_rules.specs.DeskBundle.declared.fault_kind.FaultKind.{FaultKind}
+use Rattle.cert_desk_rules.specs.DeskBundle.declared.fault_kind.FaultKind.TheVariants as kinds
 use Rattle.cert_desk_checking.specs.declared.anchor_fault.AnchorFault.{AnchorFault}
 use Rattle.cert_desk_rules.specs.declared.kept_rules.KeptRules.{KeptRules}
 use Rattle.cert_desk_rules.specs.declared.rule.Rule.{Rule}
 use Rattle.cert_desk_checking.specs.AnchorFiles.{SaysAsFile}
-use Rattle.cert_desk_bundle.specs.Chains.{Chain}
-use Rattle.cert_desk_bundle.specs.Faults.{SeriesFault, StreamFault}
+use Rattle.cert_desk_rules.specs.DeskBundle.Chains.{Chain}
+use Rattle.cert_desk_rules.specs.DeskBundle.Faults.{SeriesFault, StreamFault}
 use Rattle.cert_desk_rules.specs.Judging.{PlainAnchor, Answers, Terms}
 use Rattle.cert_desk_rules.specs.KeptRules.{AreJudged, IsFirstBreach, kept_at}
 use Rattle.cert_desk_checking.specs.QuestionLines.{chain_lines, lines_at, questions_of_lines}
 use Rattle.cert_desk_rules.specs.Questions.{AnswerAlike, answer_on, questions_at, under}
-use Rattle.cert_desk_bundle.specs.Series.{IsUnambiguous, Series}
+use Rattle.cert_desk_rules.specs.DeskBundle.Series.{IsUnambiguous, Series}
 use Rattle.cert_desk_rules.specs.Verdicts.{IsVerdict, Asks}
 
 -- No stream joins two lists of values of a shape whose values are told apart.

@@ -14,3 +14,12 @@ pub mod Reading
 pub mod Runs
 pub mod QuestionLines
 pub mod Questioning
+pub use Rattle.x509_cert_anchors.specs as CertAnchors
+pub use Rattle.x509_cert_anchors.specs.CertCertificates
+pub use Rattle.x509_cert_anchors.specs.CertGeneralNames
+pub use Rattle.x509_cert_anchors.specs.CertParts
+pub use Rattle.x509_cert_anchors.specs.Der
+pub use Rattle.cert_desk_rules.specs.DeskBundle
+pub use Rattle.cert_desk_rules.specs.DeskIo
+pub use Rattle.cert_desk_rules.specs as DeskRules
+pub use Rattle.x509_cert_anchors.specs.Oid

@@ -2,11 +2,12 @@
 use Rattle.std.specs.Prelude.{ℕ, zero, suc, ◌+◌, List, [], ◌∷◌, ◌++◌, length, codes, decimal, map}
 use Rattle.std.specs.Prelude.{flat_map, if◌then◌else◌, Option, Some, None, slice_get}
 use Rattle.std.specs.Option.{option_map_or}
-use Rattle.der_core_head.specs.Shapes.{Shape, Value, octets_of}
+use Rattle.x509_cert_anchors.specs.Der.Shapes.{Shape, Value, octets_of}
 use Rattle.hex.specs.Hex.{encode_lower}
-use Rattle.const_oid.specs.Bound.{Bound}
-use Rattle.x509_cert_certificates.specs.Certificates.{PlainCertificate, public_key}
-use Rattle.x509_cert_parts.specs.Grammar.{algorithm_identifier, bit_string, public_key_info}
+use Rattle.x509_cert_anchors.specs.Oid.Bound.{Bound}
+use Rattle.x509_cert_anchors.specs.CertCertificates.Certificates.{PlainCertificate, public_key}
+use Rattle.x509_cert_anchors.specs.CertParts.Grammar.{algorithm_identifier, bit_string}
+use Rattle.x509_cert_anchors.specs.CertParts.Grammar.{public_key_info}
 use Rattle.cert_desk_rules.specs.Judging.{PlainAnchor, is_named}
 use Rattle.cert_desk_rules.specs.Questions.{Question, question}
 

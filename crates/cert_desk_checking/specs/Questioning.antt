@@ -1,10 +1,10 @@
 -- The questions about a certificate that a bundle lends.
 use Rattle.std.specs.Prelude.{ℕ, ◌+◌, List, [], ◌∷◌, ◌++◌, Option, Some, if◌then◌else◌}
-use Rattle.cert_desk_bundle.specs.declared.entry.Entry.{Entry}
-use Rattle.const_oid.specs.Bound.{Bound}
-use Rattle.x509_cert_parts.specs.Grammar.{PublicKey}
-use Rattle.x509_cert_certificates.specs.Views.{certificate_plain}
-use Rattle.x509_cert_certificates.specs.Certificates.{outer_algorithm, signature_bits}
+use Rattle.cert_desk_rules.specs.DeskBundle.declared.entry.Entry.{Entry}
+use Rattle.x509_cert_anchors.specs.Oid.Bound.{Bound}
+use Rattle.x509_cert_anchors.specs.CertParts.Grammar.{PublicKey}
+use Rattle.x509_cert_anchors.specs.CertCertificates.Views.{certificate_plain}
+use Rattle.x509_cert_anchors.specs.CertCertificates.Certificates.{outer_algorithm, signature_bits}
 use Rattle.cert_desk_rules.specs.Judging.{PlainAnchor, is_named}
 use Rattle.cert_desk_rules.specs.Questions.{Question}
 use Rattle.cert_desk_checking.specs.QuestionLines.{line_octets}

@@ -1,15 +1,15 @@
 -- What a bundle read from an input.
 use Rattle.std.specs.Prelude.{◌≡◌, ◌≢◌, ℕ, ◌≤◌, List, length}
-use Rattle.const_oid.specs.Bound.{Bound}
-use Rattle.cert_desk_io.specs.Devices.{Device, Moved, MetEnd, Sound, Fails}
-use Rattle.x509_cert_certificates.specs.Certificates.{PlainCertificate, raw_certificate}
-use Rattle.cert_desk_bundle.specs.declared.fault_kind.FaultKind.{FaultKind}
-use Rattle.cert_desk_bundle.specs.declared.fault_kind.FaultKind.TheVariants as kinds
-use Rattle.cert_desk_bundle.specs.declared.standing.Standing.{Standing}
-use Rattle.cert_desk_bundle.specs.declared.standing.Standing.TheVariants as standings
-use Rattle.cert_desk_bundle.specs.Faults.{Split, StreamFault}
-use Rattle.cert_desk_bundle.specs.Series.{BeginsSeries}
-use Rattle.cert_desk_bundle.specs.Streams.{Kept, Reads}
+use Rattle.x509_cert_anchors.specs.Oid.Bound.{Bound}
+use Rattle.cert_desk_rules.specs.DeskIo.Devices.{Device, Moved, MetEnd, Sound, Fails}
+use Rattle.x509_cert_anchors.specs.CertCertificates.Certificates.{PlainCertificate, raw_certificate}
+use Rattle.cert_desk_rules.specs.DeskBundle.declared.fault_kind.FaultKind.{FaultKind}
+use Rattle.cert_desk_rules.specs.DeskBundle.declared.fault_kind.FaultKind.TheVariants as kinds
+use Rattle.cert_desk_rules.specs.DeskBundle.declared.standing.Standing.{Standing}
+use Rattle.cert_desk_rules.specs.DeskBundle.declared.standing.Standing.TheVariants as standings
+use Rattle.cert_desk_rules.specs.DeskBundle.Faults.{Split, StreamFault}
+use Rattle.cert_desk_rules.specs.DeskBundle.Series.{BeginsSeries}
+use Rattle.cert_desk_rules.specs.DeskBundle.Streams.{Kept, Reads}
 
 -- octets with no fault but that they may end too early
 abbrev pub MayGoOn : ℕ → List ℕ → Type 0

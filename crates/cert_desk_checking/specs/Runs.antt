@@ -1,18 +1,18 @@
 -- What a run finds in its inputs, and what it tells.
 use Rattle.std.specs.Prelude.{◌≡◌, ℕ, ◌⊎◌, List}
-use Rattle.const_oid.specs.Bound.{Bound}
-use Rattle.cert_desk_io.specs.declared.exit_status.ExitStatus.{ExitStatus}
-use Rattle.cert_desk_io.specs.declared.exit_status.ExitStatus.TheVariants as statuses
-use Rattle.cert_desk_io.specs.declared.read_all_error.ReadAllError.TheVariants as reasons
-use Rattle.cert_desk_io.specs.Devices.{Device, Moved, MetEnd, Sound, Untouched}
-use Rattle.cert_desk_io.specs.Telling.{IsAnswer, IsComplaint, IsDeviceTold, IsMemoryTold}
-use Rattle.cert_desk_io.specs.Whole.{IsWhole, IsUnread, most_octets}
+use Rattle.x509_cert_anchors.specs.Oid.Bound.{Bound}
+use Rattle.cert_desk_rules.specs.DeskIo.declared.exit_status.ExitStatus.{ExitStatus}
+use Rattle.cert_desk_rules.specs.DeskIo.declared.exit_status.ExitStatus.TheVariants as statuses
+use Rattle.cert_desk_rules.specs.DeskIo.declared.read_all_error.ReadAllError.TheVariants as reasons
+use Rattle.cert_desk_rules.specs.DeskIo.Devices.{Device, Moved, MetEnd, Sound, Untouched}
+use Rattle.cert_desk_rules.specs.DeskIo.Telling.{IsAnswer, IsComplaint, IsDeviceTold, IsMemoryTold}
+use Rattle.cert_desk_rules.specs.DeskIo.Whole.{IsWhole, IsUnread, most_octets}
 use Rattle.cert_desk_checking.specs.declared.anchor_fault.AnchorFault.TheVariants as faults
 use Rattle.cert_desk_checking.specs.declared.anchors_error.AnchorsError.{AnchorsError}
 use Rattle.cert_desk_checking.specs.declared.anchors_error.AnchorsError.TheVariants as errors
 use Rattle.cert_desk_rules.specs.declared.checked.Verdict.{Verdict}
 use Rattle.cert_desk_rules.specs.declared.checked.Verdict.TheVariants as verdicts
-use Rattle.cert_desk_bundle.specs.declared.fault_kind.FaultKind.TheVariants as kinds
+use Rattle.cert_desk_rules.specs.DeskBundle.declared.fault_kind.FaultKind.TheVariants as kinds
 use Rattle.cert_desk_checking.specs.declared.outcome.Outcome.{Outcome}
 use Rattle.cert_desk_checking.specs.declared.outcome.Outcome.TheVariants as outcomes
 use Rattle.cert_desk_checking.specs.AnchorFiles.{IsAnchorFile, HasFirstFault}

@@ -1,15 +1,15 @@
 -- What a wider bound of arcs changes of streams and their verdicts.
 use Rattle.std.specs.Prelude.{◌≡◌, ℕ, ◌≤◌, ◌⊎◌, List, [], ◌∷◌, ◌++◌}
-use Rattle.der_core_head.specs.Bounds.{HoldsLarge}
-use Rattle.x509_cert_certificates.specs.Certificates.{PlainCertificate, raw_certificate}
+use Rattle.x509_cert_anchors.specs.Der.Bounds.{HoldsLarge}
+use Rattle.x509_cert_anchors.specs.CertCertificates.Certificates.{PlainCertificate, raw_certificate}
 use Rattle.cert_desk_rules.specs.declared.checked.Verdict.{Verdict}
-use Rattle.cert_desk_bundle.specs.declared.fault_kind.FaultKind.{FaultKind}
+use Rattle.cert_desk_rules.specs.DeskBundle.declared.fault_kind.FaultKind.{FaultKind}
 use Rattle.cert_desk_checking.specs.Bounded.{OneBecomesReadable, OneHoldsLarge, bounded}
 use Rattle.cert_desk_checking.specs.Bounded.{identifiers_in}
-use Rattle.cert_desk_bundle.specs.Chains.{Chain}
-use Rattle.cert_desk_bundle.specs.Faults.{StreamFault}
+use Rattle.cert_desk_rules.specs.DeskBundle.Chains.{Chain}
+use Rattle.cert_desk_rules.specs.DeskBundle.Faults.{StreamFault}
 use Rattle.cert_desk_rules.specs.Judging.{Terms}
-use Rattle.cert_desk_bundle.specs.Series.{BeginsSeries}
+use Rattle.cert_desk_rules.specs.DeskBundle.Series.{BeginsSeries}
 use Rattle.cert_desk_rules.specs.Verdicts.{IsVerdict, Trusted, asked}
 
 -- A chain is the same chain under a wider bound.

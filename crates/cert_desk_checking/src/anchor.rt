@@ -1,15 +1,15 @@
 //! What a chain may rest on.
 ghost use Rattle.std.specs.Prelude.{◌≡◌, ◌≢◌, Ok, Err, IfOk, IfErr};
-ghost use Rattle.x509_cert_names.specs.Views.{name_plain};
-ghost use Rattle.x509_cert_parts.specs.Views.{key_plain};
+ghost use Rattle.x509_cert_anchors.specs.CertNames.Views.{name_plain};
+ghost use Rattle.x509_cert_anchors.specs.CertParts.Views.{key_plain};
 ghost use Rattle.x509_cert_anchors.specs.AnchorViews.{cert_path_controls_plain, trust_anchor_plain};
 ghost use Rattle.cert_desk_checking.specs.Anchors.{anchor_plain, has_only_name, given_by};
 
 use crate::anchor_error::AnchorError;
 use std::alloc::Global;
+use x509_cert_anchors::cert_names::Name;
+use x509_cert_anchors::cert_parts::{Raw, SubjectPublicKeyInfo};
 use x509_cert_anchors::{CertPathControls, TrustAnchorChoice};
-use x509_cert_names::Name;
-use x509_cert_parts::{Raw, SubjectPublicKeyInfo};
 
 /// A trust anchor as chains need it: a name and a key that are trusted without a certificate.
 #[derive(Debug, Drop)]

@@ -1,6 +1,6 @@
 //! Files of anchors.
 ghost use Rattle.std.specs.Prelude.{◌≡◌, ◌<◌, ◌^◌, length, map, IfOk, IfErr};
-ghost use Rattle.der_core_head.specs.Heads.{Fits};
+ghost use Rattle.x509_cert_anchors.specs.Der.Heads.{Fits};
 ghost use Rattle.x509_cert_anchors.specs.AnchorViews.{trust_anchor_plain};
 ghost use Rattle.cert_desk_checking.specs.Anchors.{anchor_plain, given_by};
 ghost use Rattle.cert_desk_checking.specs.AnchorFiles.{IsAnchorFile};
@@ -10,11 +10,11 @@ ghost use Rattle.cert_desk_checking.specs.AnchorReading.{IsNoAnchorFile};
 use crate::anchor::Anchor;
 use crate::anchor_error::AnchorError;
 use crate::anchor_fault::AnchorFault;
-use der_core::FromDer;
-use der_core::making::is_want_of_memory;
 use std::alloc::Global;
 use x509_cert_anchors::TrustAnchorChoice;
-use x509_cert_parts::Raw;
+use x509_cert_anchors::cert_parts::Raw;
+use x509_cert_anchors::der::FromDer;
+use x509_cert_anchors::der::making::is_want_of_memory;
 
 /// Why octets give no anchors.
 #[derive(Clone, Copy)]

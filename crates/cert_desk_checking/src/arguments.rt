@@ -2,7 +2,7 @@
 ghost use Rattle.std.specs.Prelude.{◌≡◌, ℕ, ◌<◌, ◌≤◌, ◌^◌, List, map, IfSome, IfNone, string_bytes};
 ghost use Rattle.cert_desk_checking.specs.Arguments.{IsNumber, AskCheck, AskNoCheck};
 
-use const_oid::ObjectIdentifier;
+use x509_cert_anchors::oid::ObjectIdentifier;
 
 /// How the program is called, in one line.
 pub const USAGE: &str =

@@ -3,24 +3,26 @@ ghost use Rattle.std.specs.Prelude.{◌≡◌, ◌≢◌, ℕ, ◌+◌, ◌<◌,
 ghost use Rattle.std.specs.Prelude.{IfOk, OnErr, IsTrue, nat_le, not, true, ◌&&◌};
 ghost use Rattle.std.specs.List.{list_any};
 ghost use Rattle.std.specs.Option.{is_some};
-ghost use Rattle.const_oid.specs.Bound.{Bound};
-ghost use Rattle.der_core_head.specs.Shapes.{IsValid};
-ghost use Rattle.der_types_time.specs.Seconds.{unix_seconds};
-ghost use Rattle.x509_cert_certificates.specs.Views.{certificate_plain};
-ghost use Rattle.x509_cert_parts.specs.Views.{key_plain};
-ghost use Rattle.x509_cert_names.specs.Views.{name_plain};
-ghost use Rattle.x509_cert_certificates.specs.Certificates.{PlainCertificate, extensions_of};
-ghost use Rattle.x509_cert_certificates.specs.Certificates.{issuer, not_before, not_after};
-ghost use Rattle.x509_cert_certificates.specs.Certificates.{raw_certificate};
-ghost use Rattle.cert_desk_bundle.specs.declared.fault_kind.FaultKind.{FaultKind};
+ghost use Rattle.x509_cert_anchors.specs.Oid.Bound.{Bound};
+ghost use Rattle.x509_cert_anchors.specs.Der.Shapes.{IsValid};
+ghost use Rattle.x509_cert_anchors.specs.Types.Seconds.{unix_seconds};
+ghost use Rattle.x509_cert_anchors.specs.CertCertificates.Views.{certificate_plain};
+ghost use Rattle.x509_cert_anchors.specs.CertParts.Views.{key_plain};
+ghost use Rattle.x509_cert_anchors.specs.CertNames.Views.{name_plain};
+ghost use Rattle.x509_cert_anchors.specs.CertCertificates.Certificates.{PlainCertificate};
+ghost use Rattle.x509_cert_anchors.specs.CertCertificates.Certificates.{extensions_of};
+ghost use Rattle.x509_cert_anchors.specs.CertCertificates.Certificates.{issuer, not_before};
+ghost use Rattle.x509_cert_anchors.specs.CertCertificates.Certificates.{not_after};
+ghost use Rattle.x509_cert_anchors.specs.CertCertificates.Certificates.{raw_certificate};
+ghost use Rattle.cert_desk_rules.specs.DeskBundle.declared.fault_kind.FaultKind.{FaultKind};
 ghost use Rattle.cert_desk_checking.specs.Anchors.{anchor_plain, terms_of};
-ghost use Rattle.cert_desk_bundle.specs.Chains.{Chain, joined};
+ghost use Rattle.cert_desk_rules.specs.DeskBundle.Chains.{Chain, joined};
 ghost use Rattle.cert_desk_rules.specs.Findings.{IsRoom};
 ghost use Rattle.cert_desk_rules.specs.Paths.{is_self_issued};
 ghost use Rattle.cert_desk_rules.specs.KeptRules.{kept_by};
 ghost use Rattle.cert_desk_rules.specs.Judging.{Answers, has_one_algorithm, is_named, keeps_at};
 ghost use Rattle.cert_desk_rules.specs.Judging.{accepted, number, same_name};
-ghost use Rattle.cert_desk_bundle.specs.Streams.{Reads};
+ghost use Rattle.cert_desk_rules.specs.DeskBundle.Streams.{Reads};
 ghost use Rattle.cert_desk_rules.specs.Verdicts.{IsVerdict, Trusted, IsCounted, StopsAsking};
 ghost use Rattle.cert_desk_rules.specs.Verdicts.{asked, asked_until};
 ghost use Rattle.cert_desk_checking.specs.Places.{Rises, StandsAt, asked_of};
@@ -29,16 +31,16 @@ ghost use Rattle.cert_desk_rules.specs.Weighing.{may_take_memory};
 
 use crate::anchor::Anchor;
 use crate::issuer::Issuer;
-use cert_desk_bundle::{Bundle, Entry, Standing};
+use cert_desk_rules::desk_bundle::{Bundle, Entry, Standing};
 use cert_desk_rules::{
     CheckError, Checked, KeptRules, PathRoom, Rule, SignatureJudge, Verdict, extensions_of,
     findings_of, first_twin,
 };
-use const_oid::ObjectIdentifier;
 use std::alloc::{AllocError, Global};
-use x509_cert_certificates::CertificateInner;
-use x509_cert_names::Name;
-use x509_cert_parts::{Raw, SubjectPublicKeyInfo};
+use x509_cert_anchors::cert_certificates::CertificateInner;
+use x509_cert_anchors::cert_names::Name;
+use x509_cert_anchors::cert_parts::{Raw, SubjectPublicKeyInfo};
+use x509_cert_anchors::oid::ObjectIdentifier;
 
 /// The verdict on the stream that a bundle has read, and how often the judge was asked for it.
 ///

@@ -1,19 +1,19 @@
 //! Each place of a chain is judged by each rule.
 ghost use Rattle.std.specs.Prelude.{◌≡◌, ◌≤◌, ℕ, length, IfOk, OnOk, OnErr};
-ghost use Rattle.const_oid.specs.Bound.{Bound};
+ghost use Rattle.x509_cert_anchors.specs.Oid.Bound.{Bound};
 ghost use Rattle.cert_desk_checking.specs.Anchors.{terms_of};
 ghost use Rattle.cert_desk_checking.specs.Places.{asked_each};
-ghost use Rattle.cert_desk_bundle.specs.Chains.{joined};
+ghost use Rattle.cert_desk_rules.specs.DeskBundle.Chains.{joined};
 ghost use Rattle.cert_desk_rules.specs.KeptRules.{AreJudged};
 ghost use Rattle.cert_desk_rules.specs.Verdicts.{raised};
 
 use crate::anchor::Anchor;
 use crate::checking::{is_signed, rules_kept};
 use crate::issuer::Issuer;
-use cert_desk_bundle::Bundle;
+use cert_desk_rules::desk_bundle::Bundle;
 use cert_desk_rules::{KeptRules, PathRoom, SignatureJudge};
-use const_oid::ObjectIdentifier;
 use std::alloc::{AllocError, Global};
+use x509_cert_anchors::oid::ObjectIdentifier;
 
 /// Which rules each certificate of a bundle keeps, in their order, under these anchors, at this
 /// validation time (seconds since 1970-01-01T00:00:00Z), for this key purpose.

@@ -1,8 +1,8 @@
 //! Who may have issued a certificate.
 
 use crate::anchor::Anchor;
-use x509_cert_certificates::CertificateInner;
-use x509_cert_parts::Raw;
+use x509_cert_anchors::cert_certificates::CertificateInner;
+use x509_cert_anchors::cert_parts::Raw;
 
 /// Who may have issued a certificate of a chain.
 #[derive(Clone, Copy)]

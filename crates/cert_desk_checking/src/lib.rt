@@ -30,3 +30,57 @@ pub use question_lines::chain_lines;
 pub use reasons::reason_of;
 pub use running::{find_outcome, read_anchors, read_stream, run_check, status_of};
 pub use verdict_lines::{anchors_line, verdict_line};
+
+/// The names of `x509_cert_anchors` that the crates above use.
+pub mod cert_anchors {
+    pub use x509_cert_anchors::TrustAnchorChoice;
+}
+
+/// The names of `x509_cert_general_names` that the crates above use.
+pub mod cert_general_names {
+    pub use x509_cert_anchors::cert_general_names::GeneralName;
+}
+
+/// The names of `x509_cert_parts` that the crates above use.
+pub mod cert_parts {
+    pub use x509_cert_anchors::cert_parts::{AlgorithmIdentifier, SubjectPublicKeyInfo};
+}
+
+/// The names of `der_core` that the crates above use.
+pub mod der {
+    pub use x509_cert_anchors::der::{Decode, ErrorKind, SliceReader, making};
+}
+
+/// The names of `cert_desk_bundle` that the crates above use.
+pub mod desk_bundle {
+    pub use cert_desk_rules::desk_bundle::{
+        Bundle, BundleError, Entry, FaultKind, ReadError, Standing, first_fault,
+    };
+}
+
+/// The names of `cert_desk_io` that the crates above use.
+pub mod desk_io {
+    pub use cert_desk_rules::desk_io::{
+        DeviceError, ExitStatus, FrameError, FromRead, HostFiles, Input, MemoryInput, NamedInputs,
+        OpenError, Output, ReadAllError, ToWrite, answer, append_frame, complain, read_all,
+        read_frame, split_frame, tell_device, tell_memory, words_of, write_all,
+    };
+}
+
+/// The names of `cert_desk_rules` that the crates above use.
+pub mod desk_rules {
+    pub use cert_desk_rules::{
+        Answer, AnswersJudge, CheckError, Checked, DigestJudge, KeptRules, Reason, Rule,
+        Sha256Digest, SignatureJudge, Verdict, code, give, rule_number,
+    };
+}
+
+/// The names of `const_oid` that the crates above use.
+pub mod oid {
+    pub use x509_cert_anchors::oid::ObjectIdentifier;
+}
+
+/// The names of `der_types` that the crates above use.
+pub mod types {
+    pub use x509_cert_anchors::types::BitString;
+}

@@ -1,24 +1,24 @@
 //! The questions of a chain, in lines.
 ghost use Rattle.std.specs.Prelude.{◌≡◌, ◌<◌, List, ◌++◌, length, map, IfOk, OnOk, string_bytes};
-ghost use Rattle.der_core_head.specs.Shapes.{IsValid, octets_of};
+ghost use Rattle.x509_cert_anchors.specs.Der.Shapes.{IsValid, octets_of};
 ghost use Rattle.hex.specs.Hex.{encode_lower};
 ghost use Rattle.cert_desk_checking.specs.Anchors.{anchor_plain};
-ghost use Rattle.const_oid.specs.Bound.{Bound};
-ghost use Rattle.x509_cert_certificates.specs.Views.{certificate_plain};
-ghost use Rattle.x509_cert_certificates.specs.Certificates.{raw_certificate};
-ghost use Rattle.cert_desk_bundle.specs.Chains.{joined};
+ghost use Rattle.x509_cert_anchors.specs.Oid.Bound.{Bound};
+ghost use Rattle.x509_cert_anchors.specs.CertCertificates.Views.{certificate_plain};
+ghost use Rattle.x509_cert_anchors.specs.CertCertificates.Certificates.{raw_certificate};
+ghost use Rattle.cert_desk_rules.specs.DeskBundle.Chains.{joined};
 ghost use Rattle.cert_desk_rules.specs.Judging.{PlainAnchor};
-ghost use Rattle.x509_cert_parts.specs.Views.{key_plain};
+ghost use Rattle.x509_cert_anchors.specs.CertParts.Views.{key_plain};
 ghost use Rattle.cert_desk_checking.specs.QuestionLines.{anchor_word, chain_lines};
 ghost use Rattle.cert_desk_checking.specs.QuestionLines.{lines_at, lines_octets};
 ghost use Rattle.cert_desk_checking.specs.Questioning.{anchor_line, entry_line, entry_lines};
 
 use crate::anchor::Anchor;
 use crate::checking::is_issued_by;
-use cert_desk_bundle::{Bundle, Entry};
-use der_core::{Encode, ToDer};
+use cert_desk_rules::desk_bundle::{Bundle, Entry};
 use std::alloc::{AllocError, Global};
-use x509_cert_parts::SubjectPublicKeyInfo;
+use x509_cert_anchors::cert_parts::SubjectPublicKeyInfo;
+use x509_cert_anchors::der::{Encode, ToDer};
 
 // The encoding of a value, in base 16.
 fn hex_encoding_of<T: Encode>(alloc: Global, value: &T) -> Result<String, AllocError>

@@ -3,8 +3,8 @@ ghost use Rattle.std.specs.Prelude.{◌≡◌, ◌<◌, ◌≤◌, ◌+◌, ◌-
 ghost use Rattle.std.specs.Prelude.{not, IfSome, IfOk, OnErr, ◌&&◌, ◌||◌};
 ghost use Rattle.std.specs.List.{list_any};
 ghost use Rattle.std.specs.Option.{is_some};
-ghost use Rattle.const_oid.specs.Bound.{Bound};
-ghost use Rattle.x509_cert_parts.specs.Views.{extension_plain, extensions_plain};
+ghost use Rattle.x509_cert_anchors.specs.Oid.Bound.{Bound};
+ghost use Rattle.x509_cert_anchors.specs.CertParts.Views.{extension_plain, extensions_plain};
 ghost use Rattle.cert_desk_rules.specs.Judging.{Terms, are_distinct, is_alone, keeps_at};
 ghost use Rattle.cert_desk_rules.specs.Paths.{used_up, counts, extensions_at, is_last};
 ghost use Rattle.cert_desk_rules.specs.Paths.{is_within_lengths, keep_lengths, keeps_length};
@@ -14,12 +14,12 @@ ghost use Rattle.cert_desk_rules.specs.Reasons.{have_one_identifier, is_against,
 ghost use Rattle.cert_desk_rules.specs.Weighing.{may_take_memory};
 
 use crate::checking::is_self_issued;
-use cert_desk_bundle::Bundle;
+use cert_desk_rules::desk_bundle::Bundle;
 use cert_desk_rules::{Findings, Reason, Rule, extensions_of, findings_of, first_twin};
-use const_oid::ObjectIdentifier;
 use std::alloc::{AllocError, Global};
 use std::slice;
-use x509_cert_parts::Extension;
+use x509_cert_anchors::cert_parts::Extension;
+use x509_cert_anchors::oid::ObjectIdentifier;
 
 /// Why the certificate at a place of a bundle breaks a rule, for this purpose, where it does and
 /// the rule leaves that open. Of the reasons that hold it is the first: of extensions and places

@@ -1,8 +1,8 @@
 //! A whole run, over any inputs and outputs.
 ghost use Rattle.std.specs.Prelude.{◌≡◌, ◌≢◌, ℕ, ◌<◌, ◌≤◌, List, map, IfOk, IfErr};
-ghost use Rattle.cert_desk_io.specs.Devices.{sink, source};
+ghost use Rattle.cert_desk_rules.specs.DeskIo.Devices.{sink, source};
 ghost use Rattle.cert_desk_checking.specs.declared.outcome.Outcome.{Outcome};
-ghost use Rattle.cert_desk_bundle.specs.declared.standing.Standing.{Standing};
+ghost use Rattle.cert_desk_rules.specs.DeskBundle.declared.standing.Standing.{Standing};
 ghost use Rattle.cert_desk_checking.specs.Anchors.{anchor_plain, purpose_plain};
 ghost use Rattle.cert_desk_checking.specs.Reading.{IsFed};
 ghost use Rattle.cert_desk_checking.specs.Runs.{HasAnchors, HasNoAnchors, IsOutcome, IsTold};
@@ -15,13 +15,13 @@ use crate::anchors_error::AnchorsError;
 use crate::checking::check;
 use crate::outcome::Outcome;
 use crate::verdict_lines::{anchors_line, verdict_line};
-use cert_desk_bundle::Bundle;
-use cert_desk_io::{
+use cert_desk_rules::desk_bundle::Bundle;
+use cert_desk_rules::desk_io::{
     ExitStatus, Input, Output, ReadAllError, answer, complain, read_all, tell_device, tell_memory,
 };
 use cert_desk_rules::{CheckError, Checked, SignatureJudge, Verdict};
-use const_oid::ObjectIdentifier;
 use std::alloc::Global;
+use x509_cert_anchors::oid::ObjectIdentifier;
 
 /// A bundle that was fed what an input gives, to its end, to a fault, or to where an allocation
 /// or a read failed.

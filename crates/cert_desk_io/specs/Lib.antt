@@ -7,3 +7,4 @@ pub mod Whole
 pub mod Telling
 pub mod Statuses
 pub mod NamedInputs
+pub mod Frames

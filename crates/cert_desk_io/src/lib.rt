@@ -4,12 +4,15 @@
 //! either speaks of the octets that moved, in turn, and of a count of failures, so that code above
 //! is proved once for every device. [`FromRead`] and [`ToWrite`] make devices of readers and
 //! writers, [`MemoryInput`] and [`MemoryOutput`] of memory, for tests; [`NamedInputs`] are opened
-//! by their names. Above them stand the texts that every run tells, and the [`ExitStatus`] that it
-//! comes to.
+//! by their names, as [`HostFiles`] are. Above them stand the texts that every run tells, and the
+//! [`ExitStatus`] that it comes to.
 #![tactic(auto)]
 
 pub mod device_error;
 pub mod exit_status;
+mod frame_error;
+mod frames;
+pub mod host;
 pub mod inputs;
 pub mod memory_inputs;
 pub mod memory_outputs;
@@ -23,6 +26,9 @@ pub mod writers;
 
 pub use device_error::DeviceError;
 pub use exit_status::ExitStatus;
+pub use frame_error::FrameError;
+pub use frames::{append_frame, read_frame, split_frame};
+pub use host::{HostFiles, HostReader, words_of};
 pub use inputs::{Input, read_all};
 pub use memory_inputs::MemoryInput;
 pub use memory_outputs::MemoryOutput;

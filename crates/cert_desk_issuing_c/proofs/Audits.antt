@@ -1,29 +1,29 @@
 -- Chains that orders ask for, judged where each signature is right.
 use Rattle.std.proofs.Common.{◌≡◌, ◌≢◌, ◌⊎◌, inl, inr, ℕ, List, [], ◌∷◌, length, sym, ap, ◌∙◌, subst, arith}
-use Rattle.const_oid.specs.Bound.{Bound}
-use Rattle.der_core_head.specs.BitStrings.{Bits}
-use Rattle.der_core_head.specs.Limits.{length_max}
-use Rattle.der_core_head.specs.Shapes.{Spells}
-use Rattle.x509_cert_parts.specs.Grammar.{Algorithm, algorithm_identifier}
-use Rattle.x509_cert_certificates.specs.Certificates.{PlainCertificate}
-use Rattle.cert_desk_io.specs.declared.exit_status.ExitStatus.{ExitStatus}
-use Rattle.cert_desk_buffers.specs.Identifiers.{IsSomeIdentifier, SpellsIdentifier}
-use Rattle.cert_desk_bundle.specs.Chains.{Chain}
-use Rattle.cert_desk_bundle.proofs.OneChain.{fault_no_chain}
-use Rattle.cert_desk_rules.specs.declared.checked.Verdict.{Verdict}
-use Rattle.cert_desk_rules.specs.declared.checked.Verdict.TheVariants as verdicts
-use Rattle.cert_desk_rules.specs.Verdicts.{IsVerdict, Trusted}
+use Rattle.cert_desk_orders.specs.Oid.Bound.{Bound}
+use Rattle.cert_desk_orders.specs.Der.BitStrings.{Bits}
+use Rattle.cert_desk_orders.specs.Der.Limits.{length_max}
+use Rattle.cert_desk_orders.specs.Der.Shapes.{Spells}
+use Rattle.cert_desk_orders.specs.CertParts.Grammar.{Algorithm, algorithm_identifier}
+use Rattle.x509_cert_builders.specs.CertCertificates.Certificates.{PlainCertificate}
+use Rattle.cert_desk_checking.specs.DeskIo.declared.exit_status.ExitStatus.{ExitStatus}
+use Rattle.cert_desk_checking.specs.DeskRules.Identifiers.{IsSomeIdentifier, SpellsIdentifier}
+use Rattle.cert_desk_checking.specs.DeskBundle.Chains.{Chain}
+use Rattle.cert_desk_checking.proofs.DeskBundle.OneChain.{fault_no_chain}
+use Rattle.cert_desk_checking.specs.DeskRules.declared.checked.Verdict.{Verdict}
+use Rattle.cert_desk_checking.specs.DeskRules.declared.checked.Verdict.TheVariants as verdicts
+use Rattle.cert_desk_checking.specs.DeskRules.Verdicts.{IsVerdict, Trusted}
 use Rattle.cert_desk_checking.proofs.ChainLaws.{chain_is_some}
 use Rattle.cert_desk_orders.specs.declared.order.Order.{Order}
 use Rattle.cert_desk_orders.specs.OrdersFile.{SaysOrders}
-use Rattle.cert_desk_issuing.specs.declared.issue_error.IssueError.{IssueError}
-use Rattle.cert_desk_issuing.specs.declared.issue_error.IssueError.TheVariants as errors
-use Rattle.cert_desk_issuing.specs.Acceptance.{AcceptedOrders}
-use Rattle.cert_desk_issuing.specs.Chains.{HoldFront, HoldsOrders}
-use Rattle.cert_desk_issuing.specs.Laws.{terms_for}
-use Rattle.cert_desk_issuing.specs.PlainOrders.{PlainOrder}
-use Rattle.cert_desk_issuing.specs.Runs.{signing_keys}
-use Rattle.cert_desk_issuing.proofs.Trusting.{held_is_trusted, trusted_is_permitted}
+use Rattle.cert_desk.specs.declared.issue_error.IssueError.{IssueError}
+use Rattle.cert_desk.specs.declared.issue_error.IssueError.TheVariants as errors
+use Rattle.cert_desk.specs.Acceptance.{AcceptedOrders}
+use Rattle.cert_desk.specs.Chains.{HoldFront, HoldsOrders}
+use Rattle.cert_desk.specs.Laws.{terms_for}
+use Rattle.cert_desk.specs.PlainOrders.{PlainOrder}
+use Rattle.cert_desk.specs.Runs.{signing_keys}
+use Rattle.cert_desk.proofs.Trusting.{held_is_trusted, trusted_is_permitted}
 use Rattle.cert_desk_issuing_c.specs.Auditing.{AreTrusted, IsAudit, IsBroken, IsJudged, Judges, always}
 use Rattle.cert_desk_issuing_c.specs.Reasons.{TellsVerdict, place_of, reason_number, status_of}
 use Rattle.cert_desk_issuing_c.specs.Signing.{AreFaulty, HoldEach, IsFault, RefusesEach, all_bits}

@@ -2,28 +2,28 @@
 use Rattle.std.proofs.Common.{◌≡◌, ◌≢◌, ◌⊎◌, inl, inr, ℕ, zero, suc, ◌<◌, ◌≤◌, List, [], ◌∷◌, length, map, take, get_or, Some, slice_get, refl, sym, ap, ◌∙◌, subst, arith}
 use Rattle.std.proofs.lemmas.Option.{same_Some, slice_get_read}
 use mathlib.Core.List.{map-map}
-use Rattle.const_oid.specs.Bound.{Bound}
-use Rattle.der_core_head.specs.BitStrings.{Bits}
-use Rattle.der_core_head.specs.Grammar.{plain_list}
-use Rattle.der_core_head.specs.Limits.{length_max}
-use Rattle.der_core_head.specs.Shapes.{Spells, octets_of, contents, body_octets}
-use Rattle.der_types_sets.proofs.AscendingSteps.{length_plain_list}
-use Rattle.x509_cert_parts.specs.Grammar.{Algorithm, PublicKey, algorithm_identifier}
-use Rattle.x509_cert_certificates.specs.Certificates.{PlainCertificate, certificate, certificate_octets}
-use Rattle.cert_desk_io.specs.declared.exit_status.ExitStatus.{ExitStatus}
-use Rattle.cert_desk_io.specs.declared.exit_status.ExitStatus.TheVariants as statuses
-use Rattle.cert_desk_io.specs.Statuses.{code_of}
-use Rattle.cert_desk_bundle.specs.Chains.{Chain}
-use Rattle.cert_desk_bundle.proofs.OneChain.{one_chain}
+use Rattle.cert_desk_orders.specs.Oid.Bound.{Bound}
+use Rattle.cert_desk_orders.specs.Der.BitStrings.{Bits}
+use Rattle.cert_desk_orders.specs.Der.Grammar.{plain_list}
+use Rattle.cert_desk_orders.specs.Der.Limits.{length_max}
+use Rattle.cert_desk_orders.specs.Der.Shapes.{Spells, octets_of, contents, body_octets}
+use Rattle.cert_desk_orders.proofs.Types.AscendingSteps.{length_plain_list}
+use Rattle.cert_desk_orders.specs.CertParts.Grammar.{Algorithm, PublicKey, algorithm_identifier}
+use Rattle.x509_cert_builders.specs.CertCertificates.Certificates.{PlainCertificate, certificate, certificate_octets}
+use Rattle.cert_desk_checking.specs.DeskIo.declared.exit_status.ExitStatus.{ExitStatus}
+use Rattle.cert_desk_checking.specs.DeskIo.declared.exit_status.ExitStatus.TheVariants as statuses
+use Rattle.cert_desk_checking.specs.DeskIo.Statuses.{code_of}
+use Rattle.cert_desk_checking.specs.DeskBundle.Chains.{Chain}
+use Rattle.cert_desk_checking.proofs.DeskBundle.OneChain.{one_chain}
 use Rattle.cert_desk_orders.specs.declared.order.Order.{Order}
 use Rattle.cert_desk_orders.specs.OrdersFile.{SaysOrders}
-use Rattle.cert_desk_issuing.specs.declared.issue_error.IssueError.{IssueError}
-use Rattle.cert_desk_issuing.specs.declared.issue_error.IssueError.TheVariants as errors
-use Rattle.cert_desk_issuing.specs.Acceptance.{AcceptedOrders}
-use Rattle.cert_desk_issuing.specs.Chains.{IssuedChain}
-use Rattle.cert_desk_issuing.specs.Roles.{place_above, signers_for}
-use Rattle.cert_desk_issuing.specs.Runs.{signing_keys}
-use Rattle.cert_desk_issuing.proofs.AcceptedFronts.{plain_at}
+use Rattle.cert_desk.specs.declared.issue_error.IssueError.{IssueError}
+use Rattle.cert_desk.specs.declared.issue_error.IssueError.TheVariants as errors
+use Rattle.cert_desk.specs.Acceptance.{AcceptedOrders}
+use Rattle.cert_desk.specs.Chains.{IssuedChain}
+use Rattle.cert_desk.specs.Roles.{place_above, signers_for}
+use Rattle.cert_desk.specs.Runs.{signing_keys}
+use Rattle.cert_desk.proofs.AcceptedFronts.{plain_at}
 use Rattle.cert_desk_issuing_c.specs.declared.given_signer.GivenSigner.{GivenSigner}
 use Rattle.cert_desk_issuing_c.specs.Reasons.{status_of}
 use Rattle.cert_desk_issuing_c.specs.Signing.{AreOrdered, AreRefusedFor, AreSigners, HoldEach, IsBeyond, IsFault, IsRefusal, IsRefusalAt, PlainSigner, RefusesEach, all_bits, given_algorithm, given_key, gives, signer_for, signer_plain}

@@ -1,29 +1,29 @@
 -- Orders that a file says ask for one thing, however often they are read.
 use Rattle.std.proofs.Common.{◌≡◌, ℕ, zero, suc, ◌<◌, List, [], ◌∷◌, length, map, codes, Option, Some, slice_get, string_bytes, refl, sym, ap, ◌∙◌, subst, arith}
 use Rattle.std.proofs.lemmas.Option.{same_Some, slice_get_within}
-use Rattle.const_oid.specs.Bound.{Bound}
-use Rattle.der_core_head.specs.Dates.{Civil}
-use Rattle.der_core_head.specs.Grammar.{plain_list}
-use Rattle.der_core_head.specs.Shapes.{IsBody, IsContent, IsValid}
-use Rattle.der_types_time.proofs.SecondsOrders.{one_by_text}
-use Rattle.x509_cert_parts.specs.Grammar.{Algorithm, PlainValidity, PublicKey, civil_of, not_after, not_before}
-use Rattle.x509_cert_parts.specs.SerialNumbers.{new_serial}
-use Rattle.x509_cert_parts.specs.Times.{time_of}
-use Rattle.x509_cert_parts.specs.Views.{key_plain}
-use Rattle.x509_cert_names.specs.Names.{name}
-use Rattle.x509_cert_names.specs.PlainTexts.{SpellsName}
-use Rattle.x509_cert_names.proofs.OneName.{one_spelled}
-use Rattle.x509_cert_certificates.specs.Certificates.{PlainCertificate, Tbs, outer_algorithm, raw_certificate, raw_tbs_certificate, tbs}
+use Rattle.cert_desk_orders.specs.Oid.Bound.{Bound}
+use Rattle.cert_desk_orders.specs.Der.Dates.{Civil}
+use Rattle.cert_desk_orders.specs.Der.Grammar.{plain_list}
+use Rattle.cert_desk_orders.specs.Der.Shapes.{IsBody, IsContent, IsValid}
+use Rattle.cert_desk_orders.proofs.Types.SecondsOrders.{one_by_text}
+use Rattle.cert_desk_orders.specs.CertParts.Grammar.{Algorithm, PlainValidity, PublicKey, civil_of, not_after, not_before}
+use Rattle.cert_desk_orders.specs.CertParts.SerialNumbers.{new_serial}
+use Rattle.cert_desk_orders.specs.CertParts.Times.{time_of}
+use Rattle.cert_desk_orders.specs.CertParts.Views.{key_plain}
+use Rattle.x509_cert_builders.specs.CertNames.Names.{name}
+use Rattle.x509_cert_builders.specs.CertNames.PlainTexts.{SpellsName}
+use Rattle.x509_cert_builders.proofs.CertNames.OneName.{one_spelled}
+use Rattle.x509_cert_builders.specs.CertCertificates.Certificates.{PlainCertificate, Tbs, outer_algorithm, raw_certificate, raw_tbs_certificate, tbs}
 use Rattle.cert_desk_orders.specs.declared.order.Order.{Order}
 use Rattle.cert_desk_orders.specs.OrderValues.{key_in, octets_in}
 use Rattle.cert_desk_orders.specs.OrdersFile.{PlainLine, SayOrder, SayOrders, SaysOrders, by_order, lines_in, value_of}
 use Rattle.std.specs.Option.{option_and_then}
-use Rattle.cert_desk_issuing.specs.Acceptance.{AcceptedOrders, IsAccepted}
-use Rattle.cert_desk_issuing.specs.Chains.{IsOrderedAt}
-use Rattle.cert_desk_issuing.specs.Ordered.{ordered_part}
-use Rattle.cert_desk_issuing.specs.PlainOrders.{IsRight, PlainOrder}
-use Rattle.cert_desk_issuing.specs.Roles.{place_above, role_at}
-use Rattle.cert_desk_issuing.specs.Runs.{signing_keys}
+use Rattle.cert_desk.specs.Acceptance.{AcceptedOrders, IsAccepted}
+use Rattle.cert_desk.specs.Chains.{IsOrderedAt}
+use Rattle.cert_desk.specs.Ordered.{ordered_part}
+use Rattle.cert_desk.specs.PlainOrders.{IsRight, PlainOrder}
+use Rattle.cert_desk.specs.Roles.{place_above, role_at}
+use Rattle.cert_desk.specs.Runs.{signing_keys}
 
 one_of : {A : Type 0} (o : Option A) (x y : A) → o ≡ Some x → o ≡ Some y → x ≡ y
 one_of o x y e f = same_Some x y (sym e ∙ f)

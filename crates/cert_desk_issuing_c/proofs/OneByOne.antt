@@ -2,11 +2,11 @@
 use Rattle.std.proofs.Common.{◌≡◌, ℕ, zero, suc, List, [], ◌∷◌, ◌++◌, length, Some, slice_get, refl, sym, ap, ◌∙◌, subst}
 use Rattle.std.specs.List.{AllByRecursion}
 use Rattle.std.proofs.lemmas.Option.{same_Some}
-use Rattle.const_oid.specs.Bound.{Bound}
-use Rattle.der_core_head.specs.Limits.{length_max}
-use Rattle.x509_cert_certificates.specs.Certificates.{PlainCertificate, certificate_octets}
-use Rattle.cert_desk_bundle.specs.Chains.{Stands, joined as joined_certificates}
-use Rattle.cert_desk_issuing.specs.Chains.{IsOrderedAt}
+use Rattle.cert_desk_orders.specs.Oid.Bound.{Bound}
+use Rattle.cert_desk_orders.specs.Der.Limits.{length_max}
+use Rattle.x509_cert_builders.specs.CertCertificates.Certificates.{PlainCertificate, certificate_octets}
+use Rattle.cert_desk_checking.specs.DeskBundle.Chains.{Stands, joined as joined_certificates}
+use Rattle.cert_desk.specs.Chains.{IsOrderedAt}
 use Rattle.cert_desk_issuing_c.specs.OneByOne.{IssuedAreOneChain, joined}
 use Rattle.cert_desk_issuing_c.proofs.OneAsked.{ordered_again}
 

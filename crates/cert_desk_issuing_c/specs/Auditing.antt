@@ -1,22 +1,23 @@
 -- What the chain that orders ask for comes to, whoever signs it.
 use Rattle.std.specs.Prelude.{◌≡◌, ◌⊎◌, ℕ, List, [], ◌∷◌, true}
-use Rattle.der_core_head.specs.Limits.{length_max}
-use Rattle.x509_cert_certificates.specs.Certificates.{PlainCertificate}
-use Rattle.cert_desk_io.specs.declared.exit_status.ExitStatus.{ExitStatus}
-use Rattle.cert_desk_io.specs.declared.exit_status.ExitStatus.TheVariants as statuses
-use Rattle.cert_desk_buffers.specs.Identifiers.{IsNoIdentifier, IsSomeIdentifier, SpellsIdentifier}
-use Rattle.cert_desk_rules.specs.declared.checked.Verdict.{Verdict}
-use Rattle.cert_desk_rules.specs.declared.checked.Verdict.TheVariants as verdicts
-use Rattle.cert_desk_rules.specs.declared.rule.Rule.{Rule}
-use Rattle.cert_desk_rules.specs.Judging.{Answers, number}
-use Rattle.cert_desk_rules.specs.Verdicts.{Refused, Trusted}
+use Rattle.cert_desk_orders.specs.Der.Limits.{length_max}
+use Rattle.x509_cert_builders.specs.CertCertificates.Certificates.{PlainCertificate}
+use Rattle.cert_desk_checking.specs.DeskIo.declared.exit_status.ExitStatus.{ExitStatus}
+use Rattle.cert_desk_checking.specs.DeskIo.declared.exit_status.ExitStatus.TheVariants as statuses
+use Rattle.cert_desk_checking.specs.DeskRules.Identifiers.{IsNoIdentifier, IsSomeIdentifier}
+use Rattle.cert_desk_checking.specs.DeskRules.Identifiers.{SpellsIdentifier}
+use Rattle.cert_desk_checking.specs.DeskRules.declared.checked.Verdict.{Verdict}
+use Rattle.cert_desk_checking.specs.DeskRules.declared.checked.Verdict.TheVariants as verdicts
+use Rattle.cert_desk_checking.specs.DeskRules.declared.rule.Rule.{Rule}
+use Rattle.cert_desk_checking.specs.DeskRules.Judging.{Answers, number}
+use Rattle.cert_desk_checking.specs.DeskRules.Verdicts.{Refused, Trusted}
 use Rattle.cert_desk_orders.specs.declared.order.Order.{Order}
-use Rattle.cert_desk_issuing.specs.declared.issue_error.IssueError.{IssueError}
-use Rattle.cert_desk_issuing.specs.Acceptance.{AcceptedOrders}
-use Rattle.cert_desk_issuing.specs.Chains.{HoldsOrders}
-use Rattle.cert_desk_issuing.specs.Laws.{AreAnswered, AreWithin, terms_for}
-use Rattle.cert_desk_issuing.specs.PlainOrders.{PlainOrder}
-use Rattle.cert_desk_issuing.specs.Runs.{signing_keys}
+use Rattle.cert_desk.specs.declared.issue_error.IssueError.{IssueError}
+use Rattle.cert_desk.specs.Acceptance.{AcceptedOrders}
+use Rattle.cert_desk.specs.Chains.{HoldsOrders}
+use Rattle.cert_desk.specs.Laws.{AreAnswered, AreWithin, terms_for}
+use Rattle.cert_desk.specs.PlainOrders.{PlainOrder}
+use Rattle.cert_desk.specs.Runs.{signing_keys}
 use Rattle.cert_desk_issuing_c.specs.Reasons.{place_of, reason_number}
 use Rattle.cert_desk_issuing_c.specs.Signing.{AreFaulty, AreRefusedFor, UnderOrders}
 

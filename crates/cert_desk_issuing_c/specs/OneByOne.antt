@@ -1,12 +1,12 @@
 -- Certificates that are issued of one orders file, one by one.
 use Rattle.std.specs.Prelude.{◌≡◌, ℕ, ◌<◌, ◌^◌, List, flat_map, length, Some, slice_get}
-use Rattle.x509_cert_certificates.specs.Certificates.{PlainCertificate}
+use Rattle.x509_cert_builders.specs.CertCertificates.Certificates.{PlainCertificate}
 use Rattle.cert_desk_orders.specs.declared.order.Order.{Order}
 use Rattle.cert_desk_orders.specs.OrdersFile.{SaysOrders}
-use Rattle.cert_desk_issuing.specs.Acceptance.{AcceptedOrders}
-use Rattle.cert_desk_issuing.specs.Chains.{HoldsOrders}
-use Rattle.cert_desk_issuing.specs.PlainOrders.{PlainOrder}
-use Rattle.cert_desk_issuing.specs.Runs.{signing_keys}
+use Rattle.cert_desk.specs.Acceptance.{AcceptedOrders}
+use Rattle.cert_desk.specs.Chains.{HoldsOrders}
+use Rattle.cert_desk.specs.PlainOrders.{PlainOrder}
+use Rattle.cert_desk.specs.Runs.{signing_keys}
 use Rattle.cert_desk_issuing_c.specs.Signing.{IsIssued}
 
 -- one behind the other

@@ -1,12 +1,12 @@
 -- Why orders are refused, and which rule their chain breaks, in numbers.
 use Rattle.std.specs.Prelude.{◌≡◌, ℕ}
-use Rattle.cert_desk_io.specs.declared.exit_status.ExitStatus.{ExitStatus}
-use Rattle.cert_desk_io.specs.declared.exit_status.ExitStatus.TheVariants as statuses
-use Rattle.cert_desk_rules.specs.declared.checked.Verdict.{Verdict}
-use Rattle.cert_desk_rules.specs.declared.checked.Verdict.TheVariants as verdicts
-use Rattle.cert_desk_rules.specs.Judging.{number}
-use Rattle.cert_desk_issuing.specs.declared.issue_error.IssueError.{IssueError}
-use Rattle.cert_desk_issuing.specs.declared.issue_error.IssueError.TheVariants as errors
+use Rattle.cert_desk_checking.specs.DeskIo.declared.exit_status.ExitStatus.{ExitStatus}
+use Rattle.cert_desk_checking.specs.DeskIo.declared.exit_status.ExitStatus.TheVariants as statuses
+use Rattle.cert_desk_checking.specs.DeskRules.declared.checked.Verdict.{Verdict}
+use Rattle.cert_desk_checking.specs.DeskRules.declared.checked.Verdict.TheVariants as verdicts
+use Rattle.cert_desk_checking.specs.DeskRules.Judging.{number}
+use Rattle.cert_desk.specs.declared.issue_error.IssueError.{IssueError}
+use Rattle.cert_desk.specs.declared.issue_error.IssueError.TheVariants as errors
 
 abbrev pub status_of : IssueError → ExitStatus
 status_of errors.OutOfMemory = statuses.Memory

@@ -2,28 +2,30 @@
 use Rattle.std.specs.Prelude.{◌≡◌, ◌≢◌, ◌≤◌, ◌<◌, ◌⊎◌, ℕ, List, [], length, map, take}
 use Rattle.std.specs.Prelude.{None, Some, slice_get}
 use Rattle.std.specs.List.{AllByRecursion}
-use Rattle.const_oid.specs.Bound.{Bound}
-use Rattle.der_core_head.specs.BitStrings.{Bits}
-use Rattle.der_core_head.specs.Limits.{length_max}
-use Rattle.der_core_head.specs.Shapes.{Spells}
-use Rattle.x509_cert_parts.specs.Grammar.{Algorithm, PublicKey, algorithm_identifier}
-use Rattle.x509_cert_parts.specs.Views.{algorithm_plain, key_plain}
-use Rattle.x509_cert_certificates.specs.Certificates.{PlainCertificate, certificate_octets}
-use Rattle.x509_cert_certificates.specs.Certificates.{outer_algorithm, signature_bits, tbs}
-use Rattle.cert_desk_io.specs.declared.exit_status.ExitStatus.{ExitStatus}
-use Rattle.cert_desk_io.specs.declared.exit_status.ExitStatus.TheVariants as statuses
-use Rattle.cert_desk_bundle.specs.Chains.{Stands}
+use Rattle.cert_desk_orders.specs.Oid.Bound.{Bound}
+use Rattle.cert_desk_orders.specs.Der.BitStrings.{Bits}
+use Rattle.cert_desk_orders.specs.Der.Limits.{length_max}
+use Rattle.cert_desk_orders.specs.Der.Shapes.{Spells}
+use Rattle.cert_desk_orders.specs.CertParts.Grammar.{Algorithm, PublicKey, algorithm_identifier}
+use Rattle.cert_desk_orders.specs.CertParts.Views.{algorithm_plain, key_plain}
+use Rattle.x509_cert_builders.specs.CertCertificates.Certificates.{PlainCertificate}
+use Rattle.x509_cert_builders.specs.CertCertificates.Certificates.{certificate_octets}
+use Rattle.x509_cert_builders.specs.CertCertificates.Certificates.{outer_algorithm, signature_bits}
+use Rattle.x509_cert_builders.specs.CertCertificates.Certificates.{tbs}
+use Rattle.cert_desk_checking.specs.DeskIo.declared.exit_status.ExitStatus.{ExitStatus}
+use Rattle.cert_desk_checking.specs.DeskIo.declared.exit_status.ExitStatus.TheVariants as statuses
+use Rattle.cert_desk_checking.specs.DeskBundle.Chains.{Stands}
 use Rattle.cert_desk_orders.specs.declared.order.Order.{Order}
 use Rattle.cert_desk_orders.specs.OrdersFile.{SaysOrders, faulty_line}
-use Rattle.cert_desk_issuing.specs.declared.issue_error.IssueError.{IssueError}
-use Rattle.cert_desk_issuing.specs.declared.issue_error.IssueError.TheVariants as errors
-use Rattle.cert_desk_issuing.specs.Acceptance.{AcceptedOrders}
-use Rattle.cert_desk_issuing.specs.Chains.{HoldFront}
-use Rattle.cert_desk_issuing.specs.Ordered.{part_octets}
-use Rattle.cert_desk_issuing.specs.PlainOrders.{PlainOrder}
-use Rattle.cert_desk_issuing.specs.Refusals.{Refuses}
-use Rattle.cert_desk_issuing.specs.Roles.{signers_for}
-use Rattle.cert_desk_issuing.specs.Runs.{key_of, signing_keys}
+use Rattle.cert_desk.specs.declared.issue_error.IssueError.{IssueError}
+use Rattle.cert_desk.specs.declared.issue_error.IssueError.TheVariants as errors
+use Rattle.cert_desk.specs.Acceptance.{AcceptedOrders}
+use Rattle.cert_desk.specs.Chains.{HoldFront}
+use Rattle.cert_desk.specs.Ordered.{part_octets}
+use Rattle.cert_desk.specs.PlainOrders.{PlainOrder}
+use Rattle.cert_desk.specs.Refusals.{Refuses}
+use Rattle.cert_desk.specs.Roles.{signers_for}
+use Rattle.cert_desk.specs.Runs.{key_of, signing_keys}
 use Rattle.cert_desk_issuing_c.specs.declared.given_signer.GivenSigner.{GivenSigner}
 
 -- all bits of these octets

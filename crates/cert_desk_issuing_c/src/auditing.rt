@@ -1,23 +1,22 @@
 //! What the chain that orders ask for comes to, whoever signs it.
 ghost use Rattle.std.specs.Prelude.{◌≡◌, ◌≢◌, ◌⊎◌, IfOk, IfErr};
-ghost use Rattle.x509_cert_parts.specs.Views.{algorithm_plain};
-ghost use Rattle.cert_desk_io.specs.declared.exit_status.ExitStatus.TheVariants.{Refused};
-ghost use Rattle.cert_desk_io.specs.Statuses.{code_of};
+ghost use Rattle.cert_desk_orders.specs.CertParts.Views.{algorithm_plain};
+ghost use Rattle.cert_desk_checking.specs.DeskIo.declared.exit_status.ExitStatus.TheVariants.{Refused};
+ghost use Rattle.cert_desk_checking.specs.DeskIo.Statuses.{code_of};
 ghost use Rattle.cert_desk_issuing_c.specs.Auditing.{IsAudit, IsJudged};
 ghost use Rattle.cert_desk_issuing_c.specs.Signing.{RefusesEach};
 
 use crate::issuing::{algorithm_of, bits_of, issued_of, orders_of};
 use crate::reasons::{WdReason, tell_error, tell_verdict};
 use crate::willing_judge::WillingJudge;
-use cert_desk_buffers::code;
-use cert_desk_io::ExitStatus;
-use cert_desk_issuing::IssueError;
+use cert_desk::IssueError;
+use cert_desk_checking::desk_io::ExitStatus;
+use cert_desk_checking::desk_rules::{Verdict, code};
 use cert_desk_orders::Order;
-use cert_desk_rules::Verdict;
-use const_oid::ObjectIdentifier;
-use der_types_values::BitString;
+use cert_desk_orders::cert_parts::AlgorithmIdentifier;
+use cert_desk_orders::oid::ObjectIdentifier;
+use cert_desk_orders::types::BitString;
 use std::alloc::Global;
-use x509_cert_parts::AlgorithmIdentifier;
 
 // The verdict on the chain that orders ask for, where each signature is right.
 fn verdict_of(

@@ -1,9 +1,9 @@
 //! Keys that sign elsewhere.
 
-use der_types_values::BitString;
+use cert_desk_orders::cert_parts::{AlgorithmIdentifier, SubjectPublicKeyInfo};
+use cert_desk_orders::types::BitString;
 use std::alloc::Global;
 use x509_cert_builders::{SignError, Signer};
-use x509_cert_parts::{AlgorithmIdentifier, SubjectPublicKeyInfo};
 
 /// A key that signs elsewhere: the signature is given, whatever is signed.
 #[derive(Drop)]

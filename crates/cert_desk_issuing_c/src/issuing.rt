@@ -1,15 +1,15 @@
 //! Certificates that orders ask for, with signatures that are made elsewhere.
 ghost use Rattle.std.specs.Prelude.{◌≡◌, ◌≢◌, ◌≤◌, ◌<◌, ◌⊎◌, [], length, take, None, IfErr};
 ghost use Rattle.std.specs.Prelude.{IfOk, OnOk};
-ghost use Rattle.const_oid.specs.Bound.{Bound};
-ghost use Rattle.der_core_head.specs.Limits.{length_max};
-ghost use Rattle.der_core_head.specs.Shapes.{Spells};
-ghost use Rattle.x509_cert_parts.specs.Grammar.{algorithm_identifier};
-ghost use Rattle.x509_cert_parts.specs.Views.{algorithm_plain};
-ghost use Rattle.cert_desk_io.specs.declared.exit_status.ExitStatus.TheVariants as statuses;
-ghost use Rattle.cert_desk_io.specs.Statuses.{code_of};
-ghost use Rattle.cert_desk_buffers.specs.Rooms.{ChangesFront, IsUnsized, Wants};
-ghost use Rattle.cert_desk_issuing.specs.Roles.{signers_for};
+ghost use Rattle.cert_desk_orders.specs.Oid.Bound.{Bound};
+ghost use Rattle.cert_desk_orders.specs.Der.Limits.{length_max};
+ghost use Rattle.cert_desk_orders.specs.Der.Shapes.{Spells};
+ghost use Rattle.cert_desk_orders.specs.CertParts.Grammar.{algorithm_identifier};
+ghost use Rattle.cert_desk_orders.specs.CertParts.Views.{algorithm_plain};
+ghost use Rattle.cert_desk_checking.specs.DeskIo.declared.exit_status.ExitStatus.TheVariants as statuses;
+ghost use Rattle.cert_desk_checking.specs.DeskIo.Statuses.{code_of};
+ghost use Rattle.cert_desk_checking.specs.DeskRules.Rooms.{ChangesFront, IsUnsized, Wants};
+ghost use Rattle.cert_desk.specs.Roles.{signers_for};
 ghost use Rattle.cert_desk_orders.specs.OrdersFile.{SaysOrders, faulty_line};
 ghost use Rattle.cert_desk_issuing_c.specs.Signing.{AreFaulty, AreOrdered, AreRefused, AreSigners};
 ghost use Rattle.cert_desk_issuing_c.specs.Signing.{HoldEach, IsBeyond, IsFault, IsIssued};
@@ -18,16 +18,16 @@ ghost use Rattle.cert_desk_issuing_c.specs.Signing.{IsSignedPart, RefusesEach, a
 
 use crate::given_signer::GivenSigner;
 use crate::reasons::status_of;
-use cert_desk_buffers::{code, give};
-use cert_desk_io::ExitStatus;
-use cert_desk_issuing::{IssueError, Issued, issue};
+use cert_desk::{IssueError, Issued, issue};
+use cert_desk_checking::desk_io::ExitStatus;
+use cert_desk_checking::desk_rules::{code, give};
+use cert_desk_orders::cert_parts::AlgorithmIdentifier;
+use cert_desk_orders::der::making::is_want_of_memory;
+use cert_desk_orders::der::{FromDer, ToDer};
+use cert_desk_orders::types::BitString;
 use cert_desk_orders::{Order, OrdersError, orders_in};
-use der_core::making::is_want_of_memory;
-use der_core::{FromDer, ToDer};
-use der_types_values::BitString;
 use std::alloc::{AllocError, Global};
-use x509_cert_certificates::Certificate;
-use x509_cert_parts::AlgorithmIdentifier;
+use x509_cert_builders::cert_certificates::Certificate;
 
 /// The orders that octets say, or the status.
 pub(crate) fn orders_of(alloc: Global, octets: &[u8]) -> Result<Vec<Order>, ExitStatus>

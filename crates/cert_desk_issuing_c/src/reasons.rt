@@ -1,13 +1,12 @@
 //! Why orders are refused, and which rule their chain breaks, in numbers.
 ghost use Rattle.std.specs.Prelude.{◌≡◌, ◌≢◌};
-ghost use Rattle.cert_desk_io.specs.declared.exit_status.ExitStatus.TheVariants.{Refused};
+ghost use Rattle.cert_desk_checking.specs.DeskIo.declared.exit_status.ExitStatus.TheVariants.{Refused};
 ghost use Rattle.cert_desk_issuing_c.specs.Reasons.{TellsVerdict, place_of, reason_number};
 ghost use Rattle.cert_desk_issuing_c.specs.Reasons.{status_of};
 
-use cert_desk_buffers::rule_number;
-use cert_desk_io::ExitStatus;
-use cert_desk_issuing::IssueError;
-use cert_desk_rules::Verdict;
+use cert_desk::IssueError;
+use cert_desk_checking::desk_io::ExitStatus;
+use cert_desk_checking::desk_rules::{Verdict, rule_number};
 
 /// Where orders are refused, or where their chain breaks a rule, and why.
 #[repr(C)]

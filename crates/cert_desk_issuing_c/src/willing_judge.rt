@@ -1,8 +1,8 @@
 //! A judge that finds each signature right.
 
-use cert_desk_rules::SignatureJudge;
-use der_types_values::BitString;
-use x509_cert_parts::{AlgorithmIdentifier, SubjectPublicKeyInfo};
+use cert_desk_checking::desk_rules::SignatureJudge;
+use cert_desk_orders::cert_parts::{AlgorithmIdentifier, SubjectPublicKeyInfo};
+use cert_desk_orders::types::BitString;
 
 /// A judge that says yes, whatever it is asked: by it a chain is judged that isn't signed yet.
 #[derive(Drop)]

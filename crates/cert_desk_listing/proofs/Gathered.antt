@@ -1,10 +1,10 @@
 -- The lines of a certificate, gathered one after the other.
 use Rattle.std.proofs.Common.{◌≡◌, ℕ, ℤ, List, ◌++◌, codes, ap, ◌∙◌}
 use Rattle.x509_cert_certificates.specs.Certificates.{PlainCertificate, issuer, subject}
-use Rattle.x509_cert_names.specs.Names.{PlainName}
-use Rattle.x509_cert_parts.specs.Grammar.{PlainExtension}
-use Rattle.x509_cert_names.specs.PlainTexts.{name_text}
-use Rattle.x509_cert_parts.specs.Texts.{serial_text, time_text}
+use Rattle.x509_cert_lists.specs.CertNames.Names.{PlainName}
+use Rattle.x509_cert_lists.specs.CertParts.Grammar.{PlainExtension}
+use Rattle.x509_cert_lists.specs.CertNames.PlainTexts.{name_text}
+use Rattle.x509_cert_lists.specs.CertParts.Texts.{serial_text, time_text}
 use Rattle.cert_desk_listing.specs.Listing.{alone, labelled, extension_lines, certificate_lines}
 use Rattle.cert_desk_listing.specs.Parts.{PlainTime, serial, not_before, not_after, extensions_of}
 

@@ -2,19 +2,19 @@
 use Rattle.std.specs.Prelude.{ℕ, List, [], ◌++◌, codes, Option, Some, None, Result, Ok, Err}
 use Rattle.std.specs.Prelude.{if◌then◌else◌}
 use Rattle.std.specs.List.{flat_map}
-use Rattle.const_oid.specs.Bound.{Bound}
-use Rattle.const_oid.specs.Comparing.{owned_eq}
-use Rattle.const_oid.specs.DottedText.{dotted}
-use Rattle.der_core_head.specs.declared.error.ErrorKind.{ErrorKind}
-use Rattle.der_core_head.specs.declared.tag.Tag.TheVariants as tags
-use Rattle.der_core_head.specs.Shapes.{AnyValue}
+use Rattle.x509_cert_lists.specs.Oid.Bound.{Bound}
+use Rattle.x509_cert_lists.specs.Oid.Comparing.{owned_eq}
+use Rattle.x509_cert_lists.specs.Oid.DottedText.{dotted}
+use Rattle.x509_cert_lists.specs.Der.ErrorTypes.ErrorKind.{ErrorKind}
+use Rattle.x509_cert_lists.specs.Der.TagTypes.Tag.TheVariants as tags
+use Rattle.x509_cert_lists.specs.Der.Shapes.{AnyValue}
 use Rattle.x509_cert_certificates.specs.Certificates.{PlainCertificate, issuer, subject}
 use Rattle.x509_cert_lists.specs.ListGrammar.{extension_req_arcs, extension_req_content}
-use Rattle.x509_cert_names.specs.Names.{PlainAttribute}
-use Rattle.x509_cert_parts.specs.Grammar.{PlainExtension, extension_arcs, is_critical}
-use Rattle.der_types_any.specs.Contents.{content_as}
-use Rattle.x509_cert_names.specs.PlainTexts.{name_text}
-use Rattle.x509_cert_parts.specs.Texts.{serial_text, time_text}
+use Rattle.x509_cert_lists.specs.CertNames.Names.{PlainAttribute}
+use Rattle.x509_cert_lists.specs.CertParts.Grammar.{PlainExtension, extension_arcs, is_critical}
+use Rattle.x509_cert_lists.specs.Types.Contents.{content_as}
+use Rattle.x509_cert_lists.specs.CertNames.PlainTexts.{name_text}
+use Rattle.x509_cert_lists.specs.CertParts.Texts.{serial_text, time_text}
 use Rattle.cert_desk_listing.specs.Parts.{serial, not_before, not_after, extensions_of, PlainTime}
 use Rattle.cert_desk_listing.specs.Parts.{PlainList, PlainRevoked, list_issuer, this_update}
 use Rattle.cert_desk_listing.specs.Parts.{next_update, revoked, list_extensions, revoked_serial}

@@ -1,12 +1,12 @@
 -- The parts of certificates, lists and requests of which listings tell.
 use Rattle.std.specs.Prelude.{ℕ, ℤ, List, [], Option, Some, None}
-use Rattle.der_core_head.specs.Shapes.{Shape, Value, BodyValue, AnyValue, sequence}
+use Rattle.x509_cert_lists.specs.Der.Shapes.{Shape, Value, BodyValue, AnyValue, sequence}
 use Rattle.x509_cert_certificates.specs.Certificates.{PlainCertificate, tbs, tbs_extensions}
 use Rattle.x509_cert_certificates.specs.Certificates.{tbs_validity}
 use Rattle.x509_cert_lists.specs.ListGrammar.{revoked_cert_fields, certificate_list_fields}
 use Rattle.x509_cert_lists.specs.ListGrammar.{cert_req_fields}
-use Rattle.x509_cert_names.specs.Names.{PlainName, PlainAttribute}
-use Rattle.x509_cert_parts.specs.Grammar.{PlainExtension, time}
+use Rattle.x509_cert_lists.specs.CertNames.Names.{PlainName, PlainAttribute}
+use Rattle.x509_cert_lists.specs.CertParts.Grammar.{PlainExtension, time}
 
 -- the members of a field; where it is absent there are none
 abbrev pub members_in_field : {A : Type 0} → Option (List A) → List A

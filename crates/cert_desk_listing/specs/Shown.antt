@@ -6,8 +6,8 @@ use Rattle.cert_desk_io.specs.declared.read_all_error.ReadAllError.TheVariants a
 use Rattle.cert_desk_io.specs.Devices.{Device, Untouched, IsCut}
 use Rattle.cert_desk_io.specs.Telling.{IsAnswer, IsComplaint, IsDeviceTold, IsMemoryTold}
 use Rattle.cert_desk_io.specs.Whole.{IsWhole, IsUnread, most_octets}
-use Rattle.const_oid.specs.Bound.{Bound}
-use Rattle.der_core_head.specs.Shapes.{Spells}
+use Rattle.x509_cert_lists.specs.Oid.Bound.{Bound}
+use Rattle.x509_cert_lists.specs.Der.Shapes.{Spells}
 use Rattle.x509_cert_certificates.specs.Certificates.{PlainCertificate, raw_certificate}
 use Rattle.x509_cert_lists.specs.ListGrammar.{cert_req}
 use Rattle.cert_desk_listing.specs.declared.finding.Finding.{Finding}

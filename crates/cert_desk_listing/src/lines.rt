@@ -1,25 +1,26 @@
 //! The lines of listings.
 ghost use Rattle.std.specs.Prelude.{◌≡◌, ◌++◌, codes, Some, IfOk, IfSome, OnOk, string_bytes};
 ghost use Rattle.std.specs.List.{flat_map};
-ghost use Rattle.der_core_head.specs.Grammar.{plain_option, plain_list};
-ghost use Rattle.x509_cert_names.specs.Views.{name_plain, attribute_plain};
-ghost use Rattle.x509_cert_parts.specs.Views.{extension_plain, extensions_plain, time_value};
+ghost use Rattle.x509_cert_lists.specs.Der.Grammar.{plain_option, plain_list};
+ghost use Rattle.x509_cert_lists.specs.CertNames.Views.{name_plain, attribute_plain};
+ghost use Rattle.x509_cert_lists.specs.CertParts.Views.{extension_plain, extensions_plain};
+ghost use Rattle.x509_cert_lists.specs.CertParts.Views.{time_value};
 ghost use Rattle.x509_cert_lists.specs.ListViews.{revoked_cert_plain};
-ghost use Rattle.x509_cert_names.specs.PlainTexts.{name_text};
-ghost use Rattle.x509_cert_parts.specs.Texts.{serial_text, time_text};
+ghost use Rattle.x509_cert_lists.specs.CertNames.PlainTexts.{name_text};
+ghost use Rattle.x509_cert_lists.specs.CertParts.Texts.{serial_text, time_text};
 ghost use Rattle.cert_desk_listing.specs.Listing.{alone, labelled, extension_line, extension_lines};
 ghost use Rattle.cert_desk_listing.specs.Listing.{next_update_line, revoked_line, revoked_lines};
 ghost use Rattle.cert_desk_listing.specs.Listing.{value_lines, attribute_lines};
 ghost use Rattle.cert_desk_listing.specs.Parts.{members_in_field};
 
-use const_oid::AssociatedOid;
-use der_core::making::is_want_of_memory;
-use der_types_any::Any;
 use std::alloc::{AllocError, Global};
 use std::fmt;
+use x509_cert_lists::cert_names::{Attribute, Name};
+use x509_cert_lists::cert_parts::{Extension, Extensions, SerialNumber, Time};
+use x509_cert_lists::der::making::is_want_of_memory;
+use x509_cert_lists::oid::AssociatedOid;
+use x509_cert_lists::types::Any;
 use x509_cert_lists::{ExtensionReq, RevokedCert};
-use x509_cert_names::{Attribute, Name};
-use x509_cert_parts::{Extension, Extensions, SerialNumber, Time};
 
 /// Room for so many octets is taken at first: the lines of most certificates have fewer.
 const FIRST_ROOM: usize = 512;

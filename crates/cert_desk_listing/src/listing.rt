@@ -11,8 +11,8 @@ use crate::show_error::ShowError;
 use cert_desk_io::{Output, write_all};
 use std::alloc::{AllocError, Global};
 use x509_cert_certificates::CertificateInner;
+use x509_cert_lists::cert_parts::Profile;
 use x509_cert_lists::{CertReq, CertificateList};
-use x509_cert_parts::Profile;
 
 /// The lines of a certificate.
 pub(crate) fn of_certificate<P: Profile>(

@@ -1,8 +1,8 @@
 //! A whole run of `show`, over any input and outputs.
 ghost use Rattle.std.specs.Prelude.{◌≡◌, ◌≢◌, IfOk, IfErr};
-ghost use Rattle.const_oid.specs.Bound.{Bound};
-ghost use Rattle.der_core_head.specs.declared.error.ErrorKind.TheVariants.{OutOfMemory};
-ghost use Rattle.der_core_head.specs.Shapes.{Spells};
+ghost use Rattle.x509_cert_lists.specs.Oid.Bound.{Bound};
+ghost use Rattle.x509_cert_lists.specs.Der.ErrorTypes.ErrorKind.TheVariants.{OutOfMemory};
+ghost use Rattle.x509_cert_lists.specs.Der.Shapes.{Spells};
 ghost use Rattle.x509_cert_lists.specs.ListViews.{certificate_list_plain};
 ghost use Rattle.cert_desk_io.specs.Devices.{sink, source};
 ghost use Rattle.cert_desk_listing.specs.Parts.{PlainList, raw_certificate_list};
@@ -16,12 +16,12 @@ use crate::listing::{of_certificate, of_list, of_request};
 use cert_desk_io::{
     ExitStatus, Input, Output, ReadAllError, answer, complain, read_all, tell_device, tell_memory,
 };
-use der_core::making::is_want_of_memory;
-use der_core::{Error, FromDer};
 use std::alloc::Global;
 use x509_cert_certificates::CertificateInner;
+use x509_cert_lists::cert_parts::Raw;
+use x509_cert_lists::der::making::is_want_of_memory;
+use x509_cert_lists::der::{Error, FromDer};
 use x509_cert_lists::{CertReq, CertificateList};
-use x509_cert_parts::Raw;
 
 // The certificate that these octets spell.
 fn certificate_in(alloc: Global, octets: &[u8]) -> Finding

@@ -1,7 +1,7 @@
 -- What is read of an orders file, by the definition of it.
 use Rattle.std.specs.Prelude.{◌≡◌, ℕ, ◌+◌, List, Option, Some, codes, drop, map}
 use Rattle.std.specs.List.{position_or_len}
-use Rattle.der_core_head.specs.Grammar.{plain_option}
+use Rattle.x509_cert_parts.specs.Der.Grammar.{plain_option}
 use Rattle.cert_desk_orders.specs.declared.line.Line.{Line}
 use Rattle.cert_desk_orders.specs.declared.orders_error.OrdersError.{OrdersError}
 use Rattle.cert_desk_orders.specs.declared.orders_error.OrdersError.TheVariants as errors

@@ -4,8 +4,8 @@ use Rattle.std.specs.Option.{option_and_then, option_map}
 use Rattle.std.specs.Result.{result_ok}
 use Rattle.std.specs.Str.{all_ascii_digits}
 use Rattle.std.specs.Str.Parse.{digits_value}
-use Rattle.const_oid.specs.Bound.{Bound}
-use Rattle.der_core_head.specs.Grammar.{read_whole}
+use Rattle.x509_cert_parts.specs.Oid.Bound.{Bound}
+use Rattle.x509_cert_parts.specs.Der.Grammar.{read_whole}
 use Rattle.hex.specs.Hex.{decode_of}
 use Rattle.x509_cert_parts.specs.Grammar.{PublicKey, public_key_info}
 

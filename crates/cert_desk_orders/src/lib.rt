@@ -12,3 +12,25 @@ mod orders_file;
 pub use order::Order;
 pub use orders_error::OrdersError;
 pub use orders_file::orders_in;
+
+/// The names of `x509_cert_parts` that the crates above use.
+pub mod cert_parts {
+    pub use x509_cert_parts::{
+        AlgorithmIdentifier, Raw, SerialNumber, SubjectPublicKeyInfo, Time, Validity,
+    };
+}
+
+/// The names of `der_core` that the crates above use.
+pub mod der {
+    pub use x509_cert_parts::der::{FromDer, ToDer, making};
+}
+
+/// The names of `const_oid` that the crates above use.
+pub mod oid {
+    pub use x509_cert_parts::oid::ObjectIdentifier;
+}
+
+/// The names of `der_types` that the crates above use.
+pub mod types {
+    pub use x509_cert_parts::types::{BitString, Ia5String};
+}

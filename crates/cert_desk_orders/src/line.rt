@@ -1,6 +1,6 @@
 //! The lines of orders files.
 ghost use Rattle.std.specs.Prelude.{◌≡◌, map, IfOk};
-ghost use Rattle.der_core_head.specs.Grammar.{plain_option};
+ghost use Rattle.x509_cert_parts.specs.Der.Grammar.{plain_option};
 ghost use Rattle.cert_desk_orders.specs.OrderReading.{line_plain, lines_plain};
 ghost use Rattle.cert_desk_orders.specs.OrdersFile.{value_if, value_of};
 ghost use Rattle.cert_desk_orders.specs.OrdersFile.{has, line_of, lines_in, parts_in, stands};

@@ -1,14 +1,14 @@
 //! The values of lines.
 ghost use Rattle.std.specs.Prelude.{◌≡◌, IfOk};
-ghost use Rattle.der_core_head.specs.Grammar.{plain_option};
+ghost use Rattle.x509_cert_parts.specs.Der.Grammar.{plain_option};
 ghost use Rattle.cert_desk_orders.specs.OrderValues.{octets_in, key_in, key_read, length_in};
 ghost use Rattle.x509_cert_parts.specs.Views.{key_plain};
 
-use der_core::FromDer;
-use der_core::making::is_want_of_memory;
 use hex::FromHexError;
 use std::alloc::{AllocError, Global};
 use x509_cert_parts::SubjectPublicKeyInfo;
+use x509_cert_parts::der::FromDer;
+use x509_cert_parts::der::making::is_want_of_memory;
 
 // The octets that a text writes in base 16, if it does.
 pub(crate) fn octets_of(alloc: Global, text: &str) -> Result<Option<Vec<u8>>, AllocError>

@@ -12,9 +12,9 @@ use Rattle.std.proofs.lemmas.Bool.{and_parts}
 use Rattle.std.proofs.lemmas.Cmp.{tied_itself}
 use Rattle.std.proofs.lemmas.List.{get_or-drop, length-drop}
 use Rattle.std.proofs.lemmas.List.Sorted.{IsPartitionedBy-leb, IsPartitionedBy-ltb, searchable_from_sorted}
-use Rattle.der_core_head.specs.BitStrings.{Bits, bit_contents}
-use Rattle.x509_cert_parts.specs.Grammar.{Algorithm, PublicKey, key_algorithm, key_bits}
-use Rattle.x509_cert_parts.specs.Views.{key_plain, algorithm_plain}
+use Rattle.cert_desk_bundle.specs.Der.BitStrings.{Bits, bit_contents}
+use Rattle.cert_desk_bundle.specs.CertParts.Grammar.{Algorithm, PublicKey, key_algorithm, key_bits}
+use Rattle.cert_desk_bundle.specs.CertParts.Views.{key_plain, algorithm_plain}
 use Rattle.cert_desk_rules.specs.declared.answer.Answer.{Answer}
 use Rattle.cert_desk_rules.specs.Answers.{answer_plain, answer_rank, is_about, rank, rank_cmp, same_algorithm, same_bits, same_key}
 

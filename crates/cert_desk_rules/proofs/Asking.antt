@@ -1,7 +1,7 @@
 -- What is asked under some terms.
 use Rattle.std.proofs.Common.{ℕ, List, Bool, ◌&&◌}
-use Rattle.x509_cert_certificates.specs.Certificates.{PlainCertificate}
-use Rattle.x509_cert_parts.specs.Grammar.{PublicKey}
+use Rattle.cert_desk_bundle.specs.CertCertificates.Certificates.{PlainCertificate}
+use Rattle.cert_desk_bundle.specs.CertParts.Grammar.{PublicKey}
 use Rattle.cert_desk_rules.specs.Judging.{PlainAnchor, Terms, accepted, keeps_at, may_ask, signed_part}
 use Rattle.cert_desk_rules.specs.declared.rule.Rule.TheVariants as rules
 use Rattle.cert_desk_rules.specs.Verdicts.{asked_until}

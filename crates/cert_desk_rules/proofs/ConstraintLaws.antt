@@ -3,19 +3,19 @@ use Rattle.std.proofs.Common.{◌≡◌, ◌==◌, ℕ, suc, ℤ, pos, negsuc, �
 use Rattle.std.proofs.lemmas.Bool.{cases_lt, eqb-true, lt-ltb, le-ltb}
 use Rattle.std.proofs.lemmas.List.{append-nil}
 use Rattle.std.specs.Int.RustNames.{unsigned_abs}
-use Rattle.const_oid.proofs.DigitLaws.{digits-one}
-use Rattle.der_core_head.specs.declared.error.ErrorKind.{ErrorKind}
-use Rattle.der_core_head.specs.declared.tag.Tag.TheVariants as tags
-use Rattle.der_core_head.specs.Grammar.{plain_option, read_whole}
-use Rattle.der_core_head.specs.Heads.{head_octets, length_octets, tlv}
-use Rattle.der_core_head.specs.Integers.{integer_octets, unsigned}
-use Rattle.der_core_head.specs.Leaves.{boolean, integer}
-use Rattle.der_core_head.specs.Shapes.{Shape, Spells, IsValid, Value, leaf, octets_of, body_octets, optional, tagged, unless}
-use Rattle.der_core_head.specs.Tags.{tag_octets}
-use Rattle.der_core_head.proofs.OneEncoding.{is_spelled, whole_again}
-use Rattle.der_core_head.proofs.Results.{IsBytes}
-use Rattle.der_core_head.proofs.HeadLaws.{length-short}
-use Rattle.x509_cert_policies.specs.Policies.{basic_constraints_fields}
+use Rattle.cert_desk_bundle.proofs.Oid.DigitLaws.{digits-one}
+use Rattle.cert_desk_bundle.specs.Der.ErrorTypes.ErrorKind.{ErrorKind}
+use Rattle.cert_desk_bundle.specs.Der.TagTypes.Tag.TheVariants as tags
+use Rattle.cert_desk_bundle.specs.Der.Grammar.{plain_option, read_whole}
+use Rattle.cert_desk_bundle.specs.Der.Heads.{head_octets, length_octets, tlv}
+use Rattle.cert_desk_bundle.specs.Der.Integers.{integer_octets, unsigned}
+use Rattle.cert_desk_bundle.specs.Der.Leaves.{boolean, integer}
+use Rattle.cert_desk_bundle.specs.Der.Shapes.{Shape, Spells, IsValid, Value, leaf, octets_of, body_octets, optional, tagged, unless}
+use Rattle.cert_desk_bundle.specs.Der.Tags.{tag_octets}
+use Rattle.cert_desk_bundle.proofs.Der.OneEncoding.{is_spelled, whole_again}
+use Rattle.cert_desk_bundle.proofs.Der.Results.{IsBytes}
+use Rattle.cert_desk_bundle.proofs.Der.HeadLaws.{length-short}
+use Rattle.x509_cert_extensions.specs.PolicyTypes.Policies.{basic_constraints_fields}
 use Rattle.cert_desk_rules.specs.Weighing.{basic_constraints_in, ca_octets, constraints, constraints_of, malformed, meaning_of}
 use Rattle.cert_desk_rules.proofs.Meanings.{basic_constraints, meaning_none, meaning_once}
 

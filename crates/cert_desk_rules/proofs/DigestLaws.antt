@@ -4,11 +4,11 @@ use Rattle.std.specs.Option.{option_map_or}
 use Rattle.std.proofs.lemmas.Bool.{and_left, and_right, ne_eqb, eq-eqb}
 use Rattle.std.proofs.lemmas.Bool.Decides.{same_from_decides}
 use Rattle.std.proofs.lemmas.Slice.Eq.{bytes_eq-Decides}
-use Rattle.der_core_head.specs.BitStrings.{Bits}
-use Rattle.der_core_head.specs.Shapes.{AnyValue}
+use Rattle.cert_desk_bundle.specs.Der.BitStrings.{Bits}
+use Rattle.cert_desk_bundle.specs.Der.Shapes.{AnyValue}
 use Rattle.sha2.specs.Sha256.{sha256}
-use Rattle.x509_cert_parts.specs.Grammar.{Algorithm, PublicKey, algorithm_arcs}
-use Rattle.x509_cert_parts.specs.Grammar.{algorithm_parameters, key_bits}
+use Rattle.cert_desk_bundle.specs.CertParts.Grammar.{Algorithm, PublicKey, algorithm_arcs}
+use Rattle.cert_desk_bundle.specs.CertParts.Grammar.{algorithm_parameters, key_bits}
 use Rattle.cert_desk_rules.specs.Digests.{digest_arcs, is_digest, digest_answers}
 use Rattle.cert_desk_rules.proofs.Folds.{and_yes}
 

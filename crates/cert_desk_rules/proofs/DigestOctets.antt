@@ -1,10 +1,10 @@
 -- The octets of the digest judge's algorithm.
 use Rattle.std.proofs.Common.{◌≡◌, ℕ, List, [], ◌∷◌, refl, sym, ap, ◌∙◌, arith}
-use Rattle.const_oid.specs.Arcs.{arcs_of}
-use Rattle.const_oid.specs.Bound.{Bound}
-use Rattle.const_oid.specs.Digits.{digits, digits_within, marked}
-use Rattle.const_oid.specs.IdentifierOctets.{arc_octets, identifier_octets, IsIdentifier}
-use Rattle.const_oid.proofs.ArcsLaws.{arcs_of-identifier_octets}
+use Rattle.cert_desk_bundle.specs.Oid.Arcs.{arcs_of}
+use Rattle.cert_desk_bundle.specs.Oid.Bound.{Bound}
+use Rattle.cert_desk_bundle.specs.Oid.Digits.{digits, digits_within, marked}
+use Rattle.cert_desk_bundle.specs.Oid.IdentifierOctets.{arc_octets, identifier_octets, IsIdentifier}
+use Rattle.cert_desk_bundle.proofs.Oid.ArcsLaws.{arcs_of-identifier_octets}
 use Rattle.cert_desk_rules.specs.Digests.{digest_arcs}
 
 abbrev pub digest_octets : List ℕ

@@ -4,15 +4,15 @@ use Rattle.std.specs.BTreeSet.{BTreeSet, Updates, contains}
 use Rattle.std.specs.Cmp.Lexicographic.{bytes_decides, nat_list_eq_equiv}
 use Rattle.std.specs.List.{list_any}
 use Rattle.std.specs.Prelude.{nat_eq, bytes_eq, IfOk}
-use Rattle.const_oid.specs.Comparing.{owned_eq}
+use Rattle.cert_desk_bundle.specs.Oid.Comparing.{owned_eq}
 use Rattle.std.proofs.lemmas.List.{at_drop_more, take_rest}
 use Rattle.std.proofs.lemmas.Bool.{cases_order, false_from_ne_true}
-use Rattle.const_oid.specs.IdentifierOctets.{arc_octets, identifier_octets}
-use Rattle.const_oid.specs.Orders.{owned_cmp, owned_cmp_ties}
-use Rattle.const_oid.proofs.EncodingLaws.{arc_octets-one}
-use Rattle.der_core_head.specs.Grammar.{plain_list}
-use Rattle.x509_cert_parts.specs.ExtensionTypes.{id_ce}
-use Rattle.x509_cert_parts.specs.Grammar.{PlainExtension, extension_arcs}
+use Rattle.cert_desk_bundle.specs.Oid.IdentifierOctets.{arc_octets, identifier_octets}
+use Rattle.cert_desk_bundle.specs.Oid.Orders.{owned_cmp, owned_cmp_ties}
+use Rattle.cert_desk_bundle.proofs.Oid.EncodingLaws.{arc_octets-one}
+use Rattle.cert_desk_bundle.specs.Der.Grammar.{plain_list}
+use Rattle.cert_desk_bundle.specs.CertParts.ExtensionTypes.{id_ce}
+use Rattle.cert_desk_bundle.specs.CertParts.Grammar.{PlainExtension, extension_arcs}
 use Rattle.cert_desk_rules.specs.declared.weight.Weight.{Weight}
 use Rattle.cert_desk_rules.specs.declared.weight.Weight.TheVariants as weights
 use Rattle.cert_desk_rules.specs.Findings.{weight_of}

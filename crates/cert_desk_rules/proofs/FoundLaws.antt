@@ -1,7 +1,7 @@
 -- What was gathered of extensions, by the definitions of what they say.
 use Rattle.std.proofs.Common.{◌≡◌, ℕ, List, Bool, ◌&&◌, ◌||◌, Option, Some, None, nat_le, refl, ap, ◌∙◌}
 use Rattle.std.specs.List.{list_all, list_any}
-use Rattle.x509_cert_parts.specs.Grammar.{PlainExtension, is_critical}
+use Rattle.cert_desk_bundle.specs.CertParts.Grammar.{PlainExtension, is_critical}
 use Rattle.cert_desk_rules.specs.declared.findings.Findings.{Findings}
 use Rattle.cert_desk_rules.specs.Findings.{add, add_extension, found, no_findings, shorter, weight_of}
 use Rattle.cert_desk_rules.specs.Paths.{is_within}

@@ -10,3 +10,6 @@ pub mod RuleList
 pub mod DigestOctets
 pub mod DigestLaws
 pub mod AnswerOrder
+pub mod Returning
+pub use Rattle.cert_desk_bundle.proofs as DeskBundle
+pub use Rattle.cert_desk_bundle.proofs.DeskIo

@@ -1,13 +1,13 @@
 -- What a content says, by its encodings and by reading.
 use Rattle.std.proofs.Common.{◌≡◌, ℕ, List, true, Result, Ok, Err, refl, ap}
-use Rattle.der_core_head.specs.declared.error.ErrorKind.{ErrorKind}
-use Rattle.der_core_head.specs.Limits.{levels_max}
-use Rattle.der_core_head.specs.Grammar.{read_whole}
-use Rattle.der_core_head.specs.Shapes.{Shape, Value, Spells, sequence}
-use Rattle.der_core_head.specs.Spelling.{is_apart, are_enough}
-use Rattle.der_core_head.proofs.OneEncoding.{whole_again}
-use Rattle.der_core_head.proofs.Results.{IsBytes}
-use Rattle.x509_cert_policies.specs.Policies.{basic_constraints_fields}
+use Rattle.cert_desk_bundle.specs.Der.ErrorTypes.ErrorKind.{ErrorKind}
+use Rattle.cert_desk_bundle.specs.Der.Limits.{levels_max}
+use Rattle.cert_desk_bundle.specs.Der.Grammar.{read_whole}
+use Rattle.cert_desk_bundle.specs.Der.Shapes.{Shape, Value, Spells, sequence}
+use Rattle.cert_desk_bundle.specs.Der.Spelling.{is_apart, are_enough}
+use Rattle.cert_desk_bundle.proofs.Der.OneEncoding.{whole_again}
+use Rattle.cert_desk_bundle.proofs.Der.Results.{IsBytes}
+use Rattle.x509_cert_extensions.specs.PolicyTypes.Policies.{basic_constraints_fields}
 use Rattle.cert_desk_bundle.specs.Decoding.{Decoding, decodes_to, decodes_to_none}
 use Rattle.cert_desk_bundle.proofs.Decodings.{decodes_once, whole_spells}
 use Rattle.cert_desk_rules.specs.Weighing.{Meaning, malformed, meaning_of}

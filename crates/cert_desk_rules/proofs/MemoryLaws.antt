@@ -3,9 +3,9 @@ use Rattle.std.proofs.Common.{◌≡◌, ℕ, ◌<◌, List, [], ◌∷◌, Bool
 use Rattle.std.proofs.lemmas.List.Folds.{list_any_at}
 use Rattle.std.specs.Option.{option_map_or}
 use Rattle.std.proofs.lemmas.Bool.{or_left}
-use Rattle.der_core_head.specs.Grammar.{plain_list}
-use Rattle.x509_cert_certificates.specs.Certificates.{PlainCertificate, extensions_of}
-use Rattle.x509_cert_parts.specs.Grammar.{PlainExtension}
+use Rattle.cert_desk_bundle.specs.Der.Grammar.{plain_list}
+use Rattle.cert_desk_bundle.specs.CertCertificates.Certificates.{PlainCertificate, extensions_of}
+use Rattle.cert_desk_bundle.specs.CertParts.Grammar.{PlainExtension}
 use Rattle.cert_desk_rules.specs.Paths.{extensions_at}
 use Rattle.cert_desk_rules.specs.Reasons.{SomeMayTakeMemory}
 use Rattle.cert_desk_rules.specs.Weighing.{is_ce, may_take_memory}

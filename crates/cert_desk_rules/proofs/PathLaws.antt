@@ -2,7 +2,7 @@
 use Rattle.std.proofs.Common.{◌≡◌, ℕ, zero, suc, ◌+◌, ◌-◌, ◌<◌, List, [], Bool, true, false, cond, not, ◌&&◌, ◌||◌, Option, Some, None, slice_get, refl, sym, ap, ◌∙◌, subst, arith}
 use Rattle.std.specs.List.{list_all}
 use Rattle.std.specs.Option.{is_some, option_map, option_map_or}
-use Rattle.x509_cert_certificates.specs.Certificates.{PlainCertificate, extensions_of}
+use Rattle.cert_desk_bundle.specs.CertCertificates.Certificates.{PlainCertificate, extensions_of}
 use Rattle.cert_desk_rules.specs.declared.path_room.PathRoom.{PathRoom}
 use Rattle.cert_desk_rules.specs.Findings.{IsRoom, add_place, allow, found, left_by, shorter}
 use Rattle.cert_desk_rules.specs.Paths.{used_up, counts, extensions_at, is_within, is_within_lengths, keep_lengths, keeps_length}

@@ -5,13 +5,13 @@ use Rattle.std.specs.Ordering.{nat_cmp}
 use Rattle.std.specs.Cmp.Lexicographic.{pointwise, slice_cmp}
 use Rattle.std.specs.List.{list_any}
 use Rattle.std.specs.Option.{option_eq}
-use Rattle.const_oid.specs.Comparing.{owned_eq}
-use Rattle.der_core_head.specs.BitStrings.{Bits, bit_contents}
-use Rattle.der_core_head.specs.Shapes.{AnyValue}
-use Rattle.der_core_head.specs.Tags.{leading_octet, number_of}
-use Rattle.x509_cert_parts.specs.Grammar.{Algorithm, PublicKey, algorithm_arcs}
-use Rattle.x509_cert_parts.specs.Grammar.{algorithm_parameters, key_algorithm, key_bits}
-use Rattle.x509_cert_parts.specs.Views.{key_plain, algorithm_plain}
+use Rattle.cert_desk_bundle.specs.Oid.Comparing.{owned_eq}
+use Rattle.cert_desk_bundle.specs.Der.BitStrings.{Bits, bit_contents}
+use Rattle.cert_desk_bundle.specs.Der.Shapes.{AnyValue}
+use Rattle.cert_desk_bundle.specs.Der.Tags.{leading_octet, number_of}
+use Rattle.cert_desk_bundle.specs.CertParts.Grammar.{Algorithm, PublicKey, algorithm_arcs}
+use Rattle.cert_desk_bundle.specs.CertParts.Grammar.{algorithm_parameters, key_algorithm, key_bits}
+use Rattle.cert_desk_bundle.specs.CertParts.Views.{key_plain, algorithm_plain}
 use Rattle.cert_desk_rules.specs.Judging.{Answers}
 use Rattle.cert_desk_rules.specs.Questions.{Question}
 use Rattle.cert_desk_rules.specs.declared.answer.Answer.{Answer}

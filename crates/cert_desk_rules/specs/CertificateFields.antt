@@ -1,11 +1,11 @@
 -- The fields of a certificate by which a chain is judged, by their names (RFC 5280 4.1, 4.1.2).
 use Rattle.std.specs.Prelude.{List, []}
 use Rattle.std.specs.Option.{option_map_or}
-use Rattle.der_core_head.specs.BitStrings.{Bits}
-use Rattle.der_core_head.specs.Dates.{Civil}
-use Rattle.x509_cert_names.specs.Names.{PlainName}
-use Rattle.x509_cert_parts.specs.Grammar.{Algorithm, PlainExtension, PublicKey, civil_of}
-use Rattle.x509_cert_certificates.specs.Certificates.{PlainCertificate}
+use Rattle.cert_desk_bundle.specs.Der.BitStrings.{Bits}
+use Rattle.cert_desk_bundle.specs.Der.Dates.{Civil}
+use Rattle.cert_desk_bundle.specs.CertNames.Names.{PlainName}
+use Rattle.cert_desk_bundle.specs.CertParts.Grammar.{Algorithm, PlainExtension, PublicKey, civil_of}
+use Rattle.cert_desk_bundle.specs.CertCertificates.Certificates.{PlainCertificate}
 
 -- Of its dates not how they are spelled, and no extensions where that field is absent.
 pub record Fields : Type 0 where

@@ -2,7 +2,8 @@
 use Rattle.std.specs.Prelude.{ℕ, List, [], ◌∷◌, ◌++◌, Bool, true, false, ◌==◌, ◌&&◌, bytes_eq}
 use Rattle.sha2.specs.Sha256.{sha256}
 use Rattle.std.specs.Option.{option_map_or}
-use Rattle.x509_cert_parts.specs.Grammar.{Algorithm, algorithm_arcs, algorithm_parameters, key_bits}
+use Rattle.cert_desk_bundle.specs.CertParts.Grammar.{Algorithm, algorithm_arcs}
+use Rattle.cert_desk_bundle.specs.CertParts.Grammar.{algorithm_parameters, key_bits}
 use Rattle.cert_desk_rules.specs.Judging.{Answers}
 
 -- 1.3.6.1.4.1.32473.2

@@ -3,8 +3,8 @@ use Rattle.std.specs.Prelude.{◌≡◌, ℕ, zero, suc, ◌+◌, ◌-◌, List,
 use Rattle.std.specs.Prelude.{None, min, if◌then◌else◌, ◌&&◌, ◌||◌}
 use Rattle.std.specs.List.{fold, list_all}
 use Rattle.std.specs.Option.{option_map}
-use Rattle.x509_cert_certificates.specs.Certificates.{PlainCertificate}
-use Rattle.x509_cert_parts.specs.Grammar.{PlainExtension, is_critical}
+use Rattle.cert_desk_bundle.specs.CertCertificates.Certificates.{PlainCertificate}
+use Rattle.cert_desk_bundle.specs.CertParts.Grammar.{PlainExtension, is_critical}
 use Rattle.cert_desk_rules.specs.declared.findings.Findings.{Findings}
 use Rattle.cert_desk_rules.specs.declared.path_room.PathRoom.{PathRoom}
 use Rattle.cert_desk_rules.specs.declared.weight.Weight.{Weight}

@@ -3,15 +3,15 @@ use Rattle.std.specs.Prelude.{ℕ, zero, suc, ◌+◌, List, [], ◌∷◌, take
 use Rattle.std.specs.Prelude.{nat_le, ◌&&◌, ◌||◌, bytes_eq, slice_get}
 use Rattle.std.specs.List.{list_any, list_all}
 use Rattle.std.specs.Option.{option_map_or}
-use Rattle.const_oid.specs.Comparing.{owned_eq}
-use Rattle.der_core_head.specs.BitStrings.{Bits}
-use Rattle.der_core_head.specs.Shapes.{octets_of}
-use Rattle.x509_cert_certificates.specs.Certificates.{PlainCertificate, signed_start}
-use Rattle.x509_cert_certificates.specs.Certificates.{signed_length}
-use Rattle.x509_cert_parts.specs.Grammar.{PlainExtension, PublicKey, Algorithm}
-use Rattle.x509_cert_parts.specs.Grammar.{algorithm_identifier, extension_arcs}
-use Rattle.x509_cert_names.specs.Names.{PlainName, name_octets}
-use Rattle.der_types_time.specs.Seconds.{unix_seconds}
+use Rattle.cert_desk_bundle.specs.Oid.Comparing.{owned_eq}
+use Rattle.cert_desk_bundle.specs.Der.BitStrings.{Bits}
+use Rattle.cert_desk_bundle.specs.Der.Shapes.{octets_of}
+use Rattle.cert_desk_bundle.specs.CertCertificates.Certificates.{PlainCertificate, signed_start}
+use Rattle.cert_desk_bundle.specs.CertCertificates.Certificates.{signed_length}
+use Rattle.cert_desk_bundle.specs.CertParts.Grammar.{PlainExtension, PublicKey, Algorithm}
+use Rattle.cert_desk_bundle.specs.CertParts.Grammar.{algorithm_identifier, extension_arcs}
+use Rattle.cert_desk_bundle.specs.CertNames.Names.{PlainName, name_octets}
+use Rattle.cert_desk_bundle.specs.Types.Seconds.{unix_seconds}
 use Rattle.cert_desk_rules.specs.declared.rule.Rule.{Rule}
 use Rattle.cert_desk_rules.specs.declared.rule.Rule.TheVariants as rules
 use Rattle.cert_desk_bundle.specs.Chains.{offset_at}

@@ -11,3 +11,8 @@ pub mod Questions
 pub mod Answers
 pub mod Judges
 pub mod RuleNames
+pub mod Identifiers
+pub mod Rooms
+pub mod Returned
+pub use Rattle.cert_desk_bundle.specs as DeskBundle
+pub use Rattle.cert_desk_bundle.specs.DeskIo

@@ -5,9 +5,9 @@ use Rattle.std.specs.Prelude.{Option, Some, None, nat_le, ◌==◌, ◌&&◌, �
 use Rattle.std.specs.Prelude.{slice_get}
 use Rattle.std.specs.List.{list_all}
 use Rattle.std.specs.Option.{option_map_or}
-use Rattle.x509_cert_certificates.specs.Certificates.{PlainCertificate}
-use Rattle.x509_cert_parts.specs.Grammar.{PlainExtension}
-use Rattle.x509_cert_names.specs.Names.{name_octets}
+use Rattle.cert_desk_bundle.specs.CertCertificates.Certificates.{PlainCertificate}
+use Rattle.cert_desk_bundle.specs.CertParts.Grammar.{PlainExtension}
+use Rattle.cert_desk_bundle.specs.CertNames.Names.{name_octets}
 use Rattle.cert_desk_rules.specs.CertificateFields.{fields}
 use Rattle.cert_desk_rules.specs.Weighing.{path_length, weigh}
 

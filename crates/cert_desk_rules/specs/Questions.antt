@@ -2,10 +2,10 @@
 use Rattle.std.specs.Prelude.{◌≡◌, ℕ, zero, suc, List, [], ◌∷◌, Bool, if◌then◌else◌, slice_get}
 use Rattle.std.specs.List.{AllByRecursion}
 use Rattle.std.specs.Option.{option_map_or}
-use Rattle.der_core_head.specs.BitStrings.{Bits}
-use Rattle.x509_cert_certificates.specs.Certificates.{PlainCertificate, outer_algorithm}
-use Rattle.x509_cert_certificates.specs.Certificates.{signature_bits, public_key}
-use Rattle.x509_cert_parts.specs.Grammar.{PublicKey, Algorithm}
+use Rattle.cert_desk_bundle.specs.Der.BitStrings.{Bits}
+use Rattle.cert_desk_bundle.specs.CertCertificates.Certificates.{PlainCertificate, outer_algorithm}
+use Rattle.cert_desk_bundle.specs.CertCertificates.Certificates.{signature_bits, public_key}
+use Rattle.cert_desk_bundle.specs.CertParts.Grammar.{PublicKey, Algorithm}
 use Rattle.cert_desk_rules.specs.Judging.{Answers, Terms, PlainAnchor, is_named, signed_part}
 
 -- a key, an algorithm, the octets that are signed, and the bits

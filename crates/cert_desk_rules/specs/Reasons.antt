@@ -3,9 +3,9 @@ use Rattle.std.specs.Prelude.{◌≡◌, ℕ, ◌<◌, ◌≤◌, ◌⊎◌, Lis
 use Rattle.std.specs.Bool.{⊤}
 use Rattle.std.specs.List.{list_any}
 use Rattle.std.specs.Option.{option_map_or}
-use Rattle.const_oid.specs.Comparing.{owned_eq}
-use Rattle.x509_cert_certificates.specs.Certificates.{PlainCertificate}
-use Rattle.x509_cert_parts.specs.Grammar.{PlainExtension, extension_arcs}
+use Rattle.cert_desk_bundle.specs.Oid.Comparing.{owned_eq}
+use Rattle.cert_desk_bundle.specs.CertCertificates.Certificates.{PlainCertificate}
+use Rattle.cert_desk_bundle.specs.CertParts.Grammar.{PlainExtension, extension_arcs}
 use Rattle.cert_desk_rules.specs.declared.findings.Findings.{Findings}
 use Rattle.cert_desk_rules.specs.declared.reason.Reason.{Reason}
 use Rattle.cert_desk_rules.specs.declared.reason.Reason.TheVariants as reasons

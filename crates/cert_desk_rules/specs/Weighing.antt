@@ -5,17 +5,19 @@ use Rattle.std.specs.Prelude.{if◌then◌else◌, ◌&&◌, ◌||◌, length, n
 use Rattle.std.specs.Int.RustNames.{unsigned_abs}
 use Rattle.std.specs.List.{list_any}
 use Rattle.std.proofs.Common.{refl}
-use Rattle.const_oid.specs.Comparing.{owned_eq}
-use Rattle.der_core_head.specs.declared.tag.Tag.TheVariants as tags
-use Rattle.der_core_head.specs.Grammar.{plain_option}
-use Rattle.der_core_head.specs.Leaves.{named}
-use Rattle.der_core_head.specs.Shapes.{Shape, BodyValue, Value, leaf, sequence, sequence_of, tagged}
-use Rattle.x509_cert_parts.specs.ExtensionTypes.{id_ce}
+use Rattle.cert_desk_bundle.specs.Oid.Comparing.{owned_eq}
+use Rattle.cert_desk_bundle.specs.Der.TagTypes.Tag.TheVariants as tags
+use Rattle.cert_desk_bundle.specs.Der.Grammar.{plain_option}
+use Rattle.cert_desk_bundle.specs.Der.Leaves.{named}
+use Rattle.cert_desk_bundle.specs.Der.Shapes.{Shape, BodyValue, Value, leaf, sequence, sequence_of}
+use Rattle.cert_desk_bundle.specs.Der.Shapes.{tagged}
+use Rattle.cert_desk_bundle.specs.CertParts.ExtensionTypes.{id_ce}
 use Rattle.x509_cert_extensions.specs.NamedBits.{has_bit}
-use Rattle.x509_cert_parts.specs.Grammar.{PlainExtension, extension_arcs, extension_octets}
-use Rattle.x509_cert_parts.specs.Grammar.{is_critical, object_identifier}
-use Rattle.x509_cert_policies.specs.Policies.{basic_constraints_fields}
-use Rattle.x509_cert_general_names.specs.GeneralNames.{general_name, general_names}
+use Rattle.cert_desk_bundle.specs.CertParts.Grammar.{PlainExtension, extension_arcs}
+use Rattle.cert_desk_bundle.specs.CertParts.Grammar.{extension_octets}
+use Rattle.cert_desk_bundle.specs.CertParts.Grammar.{is_critical, object_identifier}
+use Rattle.x509_cert_extensions.specs.PolicyTypes.Policies.{basic_constraints_fields}
+use Rattle.x509_cert_extensions.specs.CertGeneralNames.GeneralNames.{general_name, general_names}
 use Rattle.cert_desk_bundle.specs.Decoding.{Decoding, decodes_to, decodes_to_none}
 use Rattle.cert_desk_bundle.proofs.Decodings.{decoding}
 

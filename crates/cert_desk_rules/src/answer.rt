@@ -1,12 +1,12 @@
 //! Answers of a verifier.
 ghost use Rattle.std.specs.Prelude.{◌≡◌};
-ghost use Rattle.x509_cert_parts.specs.Views.{key_plain, algorithm_plain};
+ghost use Rattle.cert_desk_bundle.specs.CertParts.Views.{key_plain, algorithm_plain};
 ghost use Rattle.cert_desk_rules.specs.Answers.{answer_plain, answer_rank, is_about, rank};
 ghost use Rattle.cert_desk_rules.specs.Answers.{rank_cmp};
 
-use der_types_values::BitString;
+use cert_desk_bundle::cert_parts::{AlgorithmIdentifier, SubjectPublicKeyInfo};
+use cert_desk_bundle::types::BitString;
 use std::cmp::Ordering;
-use x509_cert_parts::{AlgorithmIdentifier, SubjectPublicKeyInfo};
 
 /// A signature that is right, as a verifier says: the key, the algorithm, the octets that are
 /// signed, and the bits.

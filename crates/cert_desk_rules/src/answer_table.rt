@@ -2,13 +2,13 @@
 ghost use Rattle.std.specs.Prelude.{◌≡◌, map};
 ghost use Rattle.std.specs.List.{list_any};
 ghost use Rattle.std.specs.List.Sorted.{IsSortedByKey};
-ghost use Rattle.x509_cert_parts.specs.Views.{key_plain, algorithm_plain};
+ghost use Rattle.cert_desk_bundle.specs.CertParts.Views.{key_plain, algorithm_plain};
 ghost use Rattle.cert_desk_rules.specs.Answers.{answer_plain, answer_rank, is_about, only_yes_to};
 ghost use Rattle.cert_desk_rules.specs.Answers.{rank_cmp};
 
 use crate::answer::Answer;
-use der_types_values::BitString;
-use x509_cert_parts::{AlgorithmIdentifier, SubjectPublicKeyInfo};
+use cert_desk_bundle::cert_parts::{AlgorithmIdentifier, SubjectPublicKeyInfo};
+use cert_desk_bundle::types::BitString;
 
 /// Answers in their order.
 #[derive(Debug, Drop)]

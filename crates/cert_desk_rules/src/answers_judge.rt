@@ -6,8 +6,8 @@ ghost use Rattle.cert_desk_rules.specs.Judges.{judge_answers, judge_questions};
 use crate::answer::Answer;
 use crate::answer_table::AnswerTable;
 use crate::signature_judge::SignatureJudge;
-use der_types_values::BitString;
-use x509_cert_parts::{AlgorithmIdentifier, SubjectPublicKeyInfo};
+use cert_desk_bundle::cert_parts::{AlgorithmIdentifier, SubjectPublicKeyInfo};
+use cert_desk_bundle::types::BitString;
 
 /// A judge that says yes exactly to the signatures of a list, which a verifier outside made. It
 /// finds them by search.

@@ -5,7 +5,7 @@ ghost use Rattle.cert_desk_rules.specs.Weighing.{basic_constraints_in, ca_octets
 ghost use Rattle.cert_desk_rules.specs.Weighing.{meaning_of};
 
 use crate::weight::Weight;
-use der_core::making::leaf_from_der;
+use cert_desk_bundle::der::making::leaf_from_der;
 use std::alloc::Global;
 
 // What basic constraints weigh. The only number in them is within eight bits, so their length is

@@ -1,12 +1,12 @@
 //! A signature verifier of digests, a stand-in where an algorithm would be.
 ghost use Rattle.std.specs.Prelude.{◌≡◌};
-ghost use Rattle.x509_cert_parts.specs.Views.{algorithm_plain};
+ghost use Rattle.cert_desk_bundle.specs.CertParts.Views.{algorithm_plain};
 ghost use Rattle.cert_desk_rules.specs.Digests.{digest_answers, is_digest};
 
 use crate::signature_judge::SignatureJudge;
-use der_types_values::BitString;
+use cert_desk_bundle::cert_parts::{AlgorithmIdentifier, SubjectPublicKeyInfo};
+use cert_desk_bundle::types::BitString;
 use sha2::{Digest, Sha256};
-use x509_cert_parts::{AlgorithmIdentifier, SubjectPublicKeyInfo};
 
 // The octets of 1.3.6.1.4.1.32473.2, under the arc for examples (RFC 5612).
 const DIGEST_ALGORITHM: [u8; 9] = [0x2b, 0x06, 0x01, 0x04, 0x01, 0x81, 0xfd, 0x59, 0x02];

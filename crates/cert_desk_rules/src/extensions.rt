@@ -3,19 +3,19 @@
 ghost use Rattle.std.specs.Prelude.{◌≡◌, ◌<◌, ℕ, length, true, false, not, nat_eq};
 ghost use Rattle.std.specs.Prelude.{IfOk, IfSome, OnErr};
 ghost use Rattle.std.specs.Option.{is_some, option_map_or};
-ghost use Rattle.const_oid.specs.Comparing.{owned_eq};
-ghost use Rattle.x509_cert_certificates.specs.Certificates.{extensions_of};
-ghost use Rattle.x509_cert_certificates.specs.Views.{certificate_plain};
-ghost use Rattle.x509_cert_parts.specs.ExtensionTypes.{id_ce};
-ghost use Rattle.x509_cert_parts.specs.Views.{extension_plain, extensions_plain};
+ghost use Rattle.cert_desk_bundle.specs.Oid.Comparing.{owned_eq};
+ghost use Rattle.cert_desk_bundle.specs.CertCertificates.Certificates.{extensions_of};
+ghost use Rattle.cert_desk_bundle.specs.CertCertificates.Views.{certificate_plain};
+ghost use Rattle.cert_desk_bundle.specs.CertParts.ExtensionTypes.{id_ce};
+ghost use Rattle.cert_desk_bundle.specs.CertParts.Views.{extension_plain, extensions_plain};
 ghost use Rattle.cert_desk_rules.specs.Judging.{are_distinct, has_twin, is_alone};
 ghost use Rattle.cert_desk_rules.specs.Weighing.{may_take_memory};
 
-use const_oid::ObjectIdentifier;
+use cert_desk_bundle::cert_certificates::CertificateInner;
+use cert_desk_bundle::cert_parts::{Extension, Raw};
+use cert_desk_bundle::oid::ObjectIdentifier;
 use std::alloc::{AllocError, Global};
 use std::collections::BTreeSet;
-use x509_cert_certificates::CertificateInner;
-use x509_cert_parts::{Extension, Raw};
 
 /// The last arc of keyUsage, below 2.5.29 (RFC 5280 4.2.1.3).
 pub const KEY_USAGE: u8 = 15;

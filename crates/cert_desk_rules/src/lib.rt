@@ -11,8 +11,10 @@ mod digest_judge;
 mod extensions;
 mod findings;
 mod kept_rules;
+mod numbers;
 mod path_room;
 mod reason;
+mod rooms;
 mod rule;
 mod sha256_digest;
 mod signature_judge;
@@ -26,9 +28,27 @@ pub use digest_judge::DigestJudge;
 pub use extensions::{extensions_of, first_twin};
 pub use findings::Findings;
 pub use kept_rules::KeptRules;
+pub use numbers::rule_number;
 pub use path_room::PathRoom;
 pub use reason::Reason;
+pub use rooms::{code, give};
 pub use rule::Rule;
 pub use sha256_digest::Sha256Digest;
 pub use signature_judge::SignatureJudge;
 pub use weighing::findings_of;
+
+/// The names of `cert_desk_bundle` that the crates above use.
+pub mod desk_bundle {
+    pub use cert_desk_bundle::{
+        Bundle, BundleError, Entry, FaultKind, ReadError, Standing, first_fault,
+    };
+}
+
+/// The names of `cert_desk_io` that the crates above use.
+pub mod desk_io {
+    pub use cert_desk_bundle::desk_io::{
+        DeviceError, ExitStatus, FrameError, FromRead, HostFiles, Input, MemoryInput, NamedInputs,
+        OpenError, Output, ReadAllError, ToWrite, answer, append_frame, complain, read_all,
+        read_frame, split_frame, tell_device, tell_memory, words_of, write_all,
+    };
+}

@@ -1,9 +1,9 @@
 //! The digest by which certificates are mostly named.
 ghost use Rattle.sha2.specs.Sha256.{sha256};
 
+use cert_desk_bundle::cert_certificates::CertDigest;
 use sha2::{Digest, Sha256};
 use std::alloc::{AllocError, Global};
-use x509_cert_certificates::CertDigest;
 
 /// SHA-256 (FIPS 180-4) as a digest of certificates: `certificate.hash::<Sha256Digest>(alloc)`
 /// answers that of the certificate's encoding.

@@ -1,11 +1,11 @@
 //! Who says whether a signature is right.
 ghost use Rattle.std.specs.Prelude.{◌≡◌, ℕ};
-ghost use Rattle.x509_cert_parts.specs.Views.{key_plain, algorithm_plain};
+ghost use Rattle.cert_desk_bundle.specs.CertParts.Views.{key_plain, algorithm_plain};
 ghost use Rattle.cert_desk_rules.specs.Judging.{Answers};
 ghost use Rattle.cert_desk_rules.specs.Verdicts.{raised};
 
-use der_types_values::BitString;
-use x509_cert_parts::{AlgorithmIdentifier, SubjectPublicKeyInfo};
+use cert_desk_bundle::cert_parts::{AlgorithmIdentifier, SubjectPublicKeyInfo};
+use cert_desk_bundle::types::BitString;
 
 /// A signature verifier: says whether a signature is right. The answer is a function of the key,
 /// the algorithm, the octets and the bits, which no call changes. Questions take no memory.

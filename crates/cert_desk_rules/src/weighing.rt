@@ -1,12 +1,12 @@
 //! The extensions by which a chain is judged, read (RFC 5280 4.2.1.3, 4.2.1.6, 4.2.1.9, 4.2.1.12).
 ghost use Rattle.std.specs.Prelude.{◌≡◌, ◌≢◌, ◌||◌, ℕ, List, [], true, IfOk, OnErr};
-ghost use Rattle.const_oid.specs.Bound.{Bound};
-ghost use Rattle.const_oid.specs.Comparing.{owned_eq};
-ghost use Rattle.der_core_head.specs.declared.error.ErrorKind.{ErrorKind};
-ghost use Rattle.der_core_head.specs.Grammar.{plain_list, read_whole};
-ghost use Rattle.der_core_head.specs.Reading.{Gives};
-ghost use Rattle.der_core_head.specs.Shapes.{sequence_of};
-ghost use Rattle.x509_cert_parts.specs.Views.{extension_plain, extensions_plain};
+ghost use Rattle.cert_desk_bundle.specs.Oid.Bound.{Bound};
+ghost use Rattle.cert_desk_bundle.specs.Oid.Comparing.{owned_eq};
+ghost use Rattle.cert_desk_bundle.specs.Der.ErrorTypes.ErrorKind.{ErrorKind};
+ghost use Rattle.cert_desk_bundle.specs.Der.Grammar.{plain_list, read_whole};
+ghost use Rattle.cert_desk_bundle.specs.Der.Reading.{Gives};
+ghost use Rattle.cert_desk_bundle.specs.Der.Shapes.{sequence_of};
+ghost use Rattle.cert_desk_bundle.specs.CertParts.Views.{extension_plain, extensions_plain};
 ghost use Rattle.cert_desk_rules.specs.Findings.{found, weight_of};
 ghost use Rattle.cert_desk_rules.specs.Weighing.{any_purpose, extended_key_usage_in, is_ce};
 ghost use Rattle.cert_desk_rules.specs.Weighing.{key_usage_in, may_take_memory, meaning_of};
@@ -17,16 +17,15 @@ use crate::constraints::weigh_constraints;
 use crate::extensions::{BASIC_CONSTRAINTS, EXT_KEY_USAGE, KEY_USAGE, SUBJECT_ALT_NAME, number_of};
 use crate::findings::Findings;
 use crate::weight::Weight;
-use const_oid::ObjectIdentifier;
-use der_core::making::{is_want_of_memory, leaf_from_der, read_whole};
-use der_core::{Decode, Error, Explicit, Implicit, OneOf8, SliceReader};
-use der_types_text::Ia5StringRef;
-use der_types_values::{FlagSet, OctetStringRef};
+use cert_desk_bundle::cert_names::Name;
+use cert_desk_bundle::cert_parts::Extension;
+use cert_desk_bundle::der::making::{is_want_of_memory, leaf_from_der, read_whole};
+use cert_desk_bundle::der::{Decode, Error, Explicit, Implicit, OneOf8, SliceReader};
+use cert_desk_bundle::oid::ObjectIdentifier;
+use cert_desk_bundle::types::{FlagSet, Ia5StringRef, OctetStringRef};
 use std::alloc::{AllocError, Global};
+use x509_cert_extensions::cert_general_names::{EdiPartyName, OtherName};
 use x509_cert_extensions::{KeyUsage, KeyUsages};
-use x509_cert_general_names::{EdiPartyName, OtherName};
-use x509_cert_names::Name;
-use x509_cert_parts::Extension;
 
 // A name that the octets lend where it is a text or octets.
 type NameLent<'a> = OneOf8<

@@ -1,27 +1,27 @@
 -- A stream whose certificates are passed piece by piece, and forgotten, is fed to one bundle as a whole.
 use Rattle.std.proofs.Common.{◌≡◌, ℕ, ◌+◌, ◌<◌, ◌≤◌, ◌^◌, List, [], ◌∷◌, ◌++◌, length, true, false, Option, Some, None, Ok, Err, inl, inr, refl, sym, ap, subst, ◌∙◌, arith, append_assoc, append-nil, length-append}
-use Rattle.const_oid.specs.Bound.{Bound}
-use Rattle.der_core_head.specs.Shapes.{Shape}
-use Rattle.der_core_head.proofs.BoundLaws.{back_all, both_all}
-use Rattle.x509_cert_certificates.specs.Certificates.{PlainCertificate, raw_certificate, raw_certificate_fields}
-use Rattle.cert_desk_io.specs.Devices.{Device, Fails, Moved, Sound}
-use Rattle.cert_desk_rules.specs.declared.checked.Verdict.TheVariants as verdicts
-use Rattle.cert_desk_bundle.specs.declared.bundle_error.BundleError.{BundleError}
-use Rattle.cert_desk_bundle.specs.declared.bundle_error.BundleError.TheVariants as errors
-use Rattle.cert_desk_bundle.specs.declared.fault_kind.FaultKind.{FaultKind}
-use Rattle.cert_desk_bundle.specs.declared.fault_kind.FaultKind.TheVariants as kinds
-use Rattle.cert_desk_bundle.specs.declared.standing.Standing.{Standing}
-use Rattle.cert_desk_bundle.specs.declared.standing.Standing.TheVariants as standings
-use Rattle.cert_desk_bundle.specs.Chains.{joined}
-use Rattle.cert_desk_bundle.specs.Faults.{NoneBefore, Says, Split}
-use Rattle.cert_desk_bundle.specs.Series.{MayStand, Series, SeriesSplit}
-use Rattle.cert_desk_bundle.specs.Streams.{Kept, ReadsSeries}
-use Rattle.cert_desk_bundle.proofs.OneChain.{fault_no_chain, one_fault}
-use Rattle.cert_desk_bundle.proofs.SeriesLaws.{encodings-append}
-use Rattle.cert_desk_bundle.proofs.SeriesReading.{reads_nothing}
-use Rattle.cert_desk_checking.specs.declared.outcome.Outcome.{Outcome}
-use Rattle.cert_desk_checking.specs.declared.outcome.Outcome.TheVariants as outcomes
-use Rattle.cert_desk_checking.specs.Reading.{AsksNoMore, MayGoOn}
+use Rattle.cert_tool_explain.specs.Oid.Bound.{Bound}
+use Rattle.cert_tool_explain.specs.Der.Shapes.{Shape}
+use Rattle.cert_tool_explain.proofs.Der.BoundLaws.{back_all, both_all}
+use Rattle.cert_tool_explain.specs.CertCertificates.Certificates.{PlainCertificate, raw_certificate, raw_certificate_fields}
+use Rattle.cert_tool_explain.specs.DeskIo.Devices.{Device, Fails, Moved, Sound}
+use Rattle.cert_tool_explain.specs.DeskRules.declared.checked.Verdict.TheVariants as verdicts
+use Rattle.cert_tool_explain.specs.DeskBundle.declared.bundle_error.BundleError.{BundleError}
+use Rattle.cert_tool_explain.specs.DeskBundle.declared.bundle_error.BundleError.TheVariants as errors
+use Rattle.cert_tool_explain.specs.DeskBundle.declared.fault_kind.FaultKind.{FaultKind}
+use Rattle.cert_tool_explain.specs.DeskBundle.declared.fault_kind.FaultKind.TheVariants as kinds
+use Rattle.cert_tool_explain.specs.DeskBundle.declared.standing.Standing.{Standing}
+use Rattle.cert_tool_explain.specs.DeskBundle.declared.standing.Standing.TheVariants as standings
+use Rattle.cert_tool_explain.specs.DeskBundle.Chains.{joined}
+use Rattle.cert_tool_explain.specs.DeskBundle.Faults.{NoneBefore, Says, Split}
+use Rattle.cert_tool_explain.specs.DeskBundle.Series.{MayStand, Series, SeriesSplit}
+use Rattle.cert_tool_explain.specs.DeskBundle.Streams.{Kept, ReadsSeries}
+use Rattle.cert_tool_explain.proofs.DeskBundle.OneChain.{fault_no_chain, one_fault}
+use Rattle.cert_tool_explain.proofs.DeskBundle.SeriesLaws.{encodings-append}
+use Rattle.cert_tool_explain.proofs.DeskBundle.SeriesReading.{reads_nothing}
+use Rattle.cert_tool_explain.specs.DeskChecking.declared.outcome.Outcome.{Outcome}
+use Rattle.cert_tool_explain.specs.DeskChecking.declared.outcome.Outcome.TheVariants as outcomes
+use Rattle.cert_tool_explain.specs.DeskChecking.Reading.{AsksNoMore, MayGoOn}
 use Rattle.cert_tool.specs.declared.each_certificate.Passed.{Passed}
 use Rattle.cert_tool.specs.Passing.{HasMoved, HasTaken, IsBehind, IsHeld, IsPassed, IsRead, IsUnwritten, stop_behind}
 use Rattle.cert_tool.specs.Stops.{stop_under, unasked}

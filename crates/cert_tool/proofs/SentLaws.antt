@@ -3,8 +3,8 @@ use Rattle.std.proofs.Common.{◌≡◌, ℕ, ◌<◌, ◌^◌, List, ◌++◌, 
 use Rattle.std.proofs.lemmas.Bool.{false≢true}
 use Rattle.std.proofs.lemmas.List.{append_cancel_left}
 use Rattle.std.specs.Bool.{Decides}
-use Rattle.cert_desk_frames.specs.Frames.{frame, number_octets}
-use Rattle.cert_desk_frames.proofs.FrameLaws.{same_number}
+use Rattle.cert_tool_explain.specs.DeskIo.Frames.{frame, number_octets}
+use Rattle.cert_tool_explain.proofs.DeskIo.FrameLaws.{same_number}
 use Rattle.cert_tool.specs.Sending.{IsSent, here, behind}
 
 -- frames with which the same octets begin have the same content

@@ -3,12 +3,12 @@ use Rattle.std.proofs.Common.{◌≡◌, ℕ, ◌<◌, ◌^◌, ◌≤◌, ◌�
 use Rattle.std.proofs.lemmas.Bool.{false≢true}
 use Rattle.std.specs.Prelude.{IsUtf8}
 use Rattle.std.specs.List.{list_any}
-use Rattle.cert_desk_io.specs.declared.exit_status.ExitStatus.{ExitStatus}
-use Rattle.cert_desk_io.specs.Devices.{Device, sink, source}
-use Rattle.cert_desk_io.specs.NamedInputs.{Inputs}
-use Rattle.cert_desk_frames.specs.declared.frame_error.FrameError.{FrameError}
-use Rattle.cert_desk_frames.specs.declared.frame_error.FrameError.TheVariants as errors
-use Rattle.cert_desk_frames.specs.Frames.{frame}
+use Rattle.cert_tool_explain.specs.DeskIo.declared.exit_status.ExitStatus.{ExitStatus}
+use Rattle.cert_tool_explain.specs.DeskIo.Devices.{Device, sink, source}
+use Rattle.cert_tool_explain.specs.DeskIo.NamedInputs.{Inputs}
+use Rattle.cert_tool_explain.specs.DeskIo.declared.frame_error.FrameError.{FrameError}
+use Rattle.cert_tool_explain.specs.DeskIo.declared.frame_error.FrameError.TheVariants as errors
+use Rattle.cert_tool_explain.specs.DeskIo.Frames.{frame}
 use Rattle.cert_tool.proofs.SentLaws.{same_content}
 use Rattle.cert_tool.proofs.ToldLaws.{any_map}
 use Rattle.cert_tool.specs.TaskRuns.{Clock, IsObeyed, asks_of_program}

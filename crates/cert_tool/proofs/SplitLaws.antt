@@ -1,10 +1,10 @@
 -- Certificates, one after the other.
 use Rattle.std.proofs.Common.{◌≡◌, ℕ, zero, suc, ◌+◌, ◌-◌, ◌<◌, List, [], ◌∷◌, ◌++◌, Some, drop, slice_get, unwrap_or, arith, ap, sym, ◌∙◌}
-use Rattle.cert_desk_bundle.specs.declared.entry.Entry.{Entry}
-use Rattle.const_oid.specs.Bound.{Bound}
-use Rattle.x509_cert_certificates.specs.Certificates.{PlainCertificate, certificate_octets}
-use Rattle.x509_cert_certificates.specs.Views.{certificate_plain}
-use Rattle.cert_desk_bundle.specs.Entries.{IsEntry}
+use Rattle.cert_tool_explain.specs.DeskBundle.declared.entry.Entry.{Entry}
+use Rattle.cert_tool_explain.specs.Oid.Bound.{Bound}
+use Rattle.cert_tool_explain.specs.CertCertificates.Certificates.{PlainCertificate, certificate_octets}
+use Rattle.cert_tool_explain.specs.CertCertificates.Views.{certificate_plain}
+use Rattle.cert_tool_explain.specs.DeskBundle.Entries.{IsEntry}
 use Rattle.cert_tool.specs.Splitting.{reversed}
 
 some_is : (a b : PlainCertificate) → Some a ≡ Some b → a ≡ b

@@ -2,9 +2,9 @@
 use Rattle.std.proofs.Common.{◌≡◌, ℕ, ◌+◌, ◌||◌, Bool, List, [], ◌∷◌, ◌++◌, length, map, take, Result, Ok, Err, OnErr, OnOk, inl, inr, refl, sym, ap, subst, arith, length-append}
 use Rattle.std.proofs.Math.Seq.{take-append-add}
 use Rattle.std.specs.List.{list_any}
-use Rattle.cert_desk_io.specs.declared.exit_status.ExitStatus.{ExitStatus}
-use Rattle.cert_desk_io.specs.Devices.{Device, Fails, IsCut, IsWritten}
-use Rattle.cert_desk_io.specs.Telling.{IsMemoryTold, memory_line}
+use Rattle.cert_tool_explain.specs.DeskIo.declared.exit_status.ExitStatus.{ExitStatus}
+use Rattle.cert_tool_explain.specs.DeskIo.Devices.{Device, Fails, IsCut, IsWritten}
+use Rattle.cert_tool_explain.specs.DeskIo.Telling.{IsMemoryTold, memory_line}
 use Rattle.cert_tool.specs.Stops.{IsReasonTold, IsTried}
 use Rattle.cert_tool.proofs.PassedLaws.{failed_on}
 

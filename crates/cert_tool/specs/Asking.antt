@@ -1,18 +1,18 @@
 -- What a run of `questions` finds and tells.
 use Rattle.std.specs.Prelude.{◌≡◌, ℕ, ◌⊎◌, List, Some, None, Result, Ok, Err}
-use Rattle.cert_desk_io.specs.declared.exit_status.ExitStatus.{ExitStatus}
-use Rattle.cert_desk_io.specs.declared.exit_status.ExitStatus.TheVariants as statuses
-use Rattle.cert_desk_io.specs.Devices.{Device, Untouched}
-use Rattle.cert_desk_io.specs.Telling.{IsAnswer}
-use Rattle.cert_desk_checking.specs.declared.anchors_error.AnchorsError.{AnchorsError}
-use Rattle.cert_desk_checking.specs.declared.outcome.Outcome.{Outcome}
-use Rattle.cert_desk_checking.specs.declared.outcome.Outcome.TheVariants as outcomes
-use Rattle.const_oid.specs.Bound.{Bound}
-use Rattle.cert_desk_bundle.specs.Chains.{joined}
-use Rattle.cert_desk_rules.specs.Judging.{PlainAnchor}
-use Rattle.cert_desk_checking.specs.Runs.{HasAnchors, HasNoAnchors, outcome_of}
-use Rattle.cert_desk_bundle.specs.Streams.{Kept}
-use Rattle.cert_desk_checking.specs.QuestionLines.{chain_lines, lines_octets}
+use Rattle.cert_tool_explain.specs.DeskIo.declared.exit_status.ExitStatus.{ExitStatus}
+use Rattle.cert_tool_explain.specs.DeskIo.declared.exit_status.ExitStatus.TheVariants as statuses
+use Rattle.cert_tool_explain.specs.DeskIo.Devices.{Device, Untouched}
+use Rattle.cert_tool_explain.specs.DeskIo.Telling.{IsAnswer}
+use Rattle.cert_tool_explain.specs.DeskChecking.declared.anchors_error.AnchorsError.{AnchorsError}
+use Rattle.cert_tool_explain.specs.DeskChecking.declared.outcome.Outcome.{Outcome}
+use Rattle.cert_tool_explain.specs.DeskChecking.declared.outcome.Outcome.TheVariants as outcomes
+use Rattle.cert_tool_explain.specs.Oid.Bound.{Bound}
+use Rattle.cert_tool_explain.specs.DeskBundle.Chains.{joined}
+use Rattle.cert_tool_explain.specs.DeskRules.Judging.{PlainAnchor}
+use Rattle.cert_tool_explain.specs.DeskChecking.Runs.{HasAnchors, HasNoAnchors, outcome_of}
+use Rattle.cert_tool_explain.specs.DeskBundle.Streams.{Kept}
+use Rattle.cert_tool_explain.specs.DeskChecking.QuestionLines.{chain_lines, lines_octets}
 use Rattle.cert_tool.specs.Stops.{FedWithin, IsStopTold, stop_of}
 
 -- What is found in the inputs of anchors and of the stream: the lines of the questions of a chain

@@ -1,19 +1,20 @@
 -- What is read to describe or to explain, and how that ends. The texts that are told aren't given
 -- here.
 use Rattle.std.specs.Prelude.{ℕ, ◌⊎◌, List, Option, Some, None, Ok, Err, codes}
-use Rattle.cert_desk_io.specs.declared.exit_status.ExitStatus.{ExitStatus}
-use Rattle.cert_desk_io.specs.declared.exit_status.ExitStatus.TheVariants as statuses
-use Rattle.cert_desk_io.specs.declared.read_all_error.ReadAllError.{ReadAllError}
-use Rattle.cert_desk_io.specs.declared.read_all_error.ReadAllError.TheVariants as errors
-use Rattle.cert_desk_io.specs.Devices.{Device, Untouched}
-use Rattle.cert_desk_io.specs.Telling.{IsAnswer, IsComplaint, IsDeviceTold, IsMemoryTold}
-use Rattle.cert_desk_io.specs.Whole.{IsUnread, IsWhole, most_octets}
-use Rattle.cert_desk_rules.specs.Questions.{Question}
-use Rattle.cert_desk_checking.specs.declared.outcome.Outcome.{Outcome}
-use Rattle.cert_desk_checking.specs.declared.outcome.Outcome.TheVariants as outcomes
-use Rattle.cert_desk_checking.specs.AnchorFiles.{HasFirstFault}
-use Rattle.cert_desk_checking.specs.Runs.{status_of}
-use Rattle.cert_desk_bundle.specs.Streams.{Kept}
+use Rattle.cert_tool_explain.specs.DeskIo.declared.exit_status.ExitStatus.{ExitStatus}
+use Rattle.cert_tool_explain.specs.DeskIo.declared.exit_status.ExitStatus.TheVariants as statuses
+use Rattle.cert_tool_explain.specs.DeskIo.declared.read_all_error.ReadAllError.{ReadAllError}
+use Rattle.cert_tool_explain.specs.DeskIo.declared.read_all_error.ReadAllError.TheVariants as errors
+use Rattle.cert_tool_explain.specs.DeskIo.Devices.{Device, Untouched}
+use Rattle.cert_tool_explain.specs.DeskIo.Telling.{IsAnswer, IsComplaint, IsDeviceTold}
+use Rattle.cert_tool_explain.specs.DeskIo.Telling.{IsMemoryTold}
+use Rattle.cert_tool_explain.specs.DeskIo.Whole.{IsUnread, IsWhole, most_octets}
+use Rattle.cert_tool_explain.specs.DeskRules.Questions.{Question}
+use Rattle.cert_tool_explain.specs.DeskChecking.declared.outcome.Outcome.{Outcome}
+use Rattle.cert_tool_explain.specs.DeskChecking.declared.outcome.Outcome.TheVariants as outcomes
+use Rattle.cert_tool_explain.specs.DeskChecking.AnchorFiles.{HasFirstFault}
+use Rattle.cert_tool_explain.specs.DeskChecking.Runs.{status_of}
+use Rattle.cert_tool_explain.specs.DeskBundle.Streams.{Kept}
 use Rattle.cert_desk_answers.specs.declared.no_answers.NoAnswers.{NoAnswers}
 use Rattle.cert_tool.specs.Stops.{FedWithin, stop_of}
 use Rattle.cert_tool.specs.Verifying.{AreAnswers, IsNoneTold}

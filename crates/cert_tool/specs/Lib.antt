@@ -11,3 +11,4 @@ pub mod Help
 pub mod TaskRuns
 pub mod Sending
 pub mod Serving
+pub mod Opened

@@ -1,18 +1,18 @@
 -- How each certificate of a stream is described, and forgotten. The texts aren't given here.
 use Rattle.std.specs.Prelude.{◌≡◌, ℕ, ◌+◌, ◌<◌, ◌≤◌, ◌^◌, ◌⊎◌, List, [], ◌++◌, length, Bool, true}
 use Rattle.std.specs.Prelude.{false, Option, Some, Result, Ok, Err}
-use Rattle.const_oid.specs.Bound.{Bound}
-use Rattle.cert_desk_io.specs.Devices.{Device, Fails, MetEnd, Moved, Sound}
-use Rattle.cert_desk_rules.specs.declared.checked.Verdict.TheVariants as verdicts
-use Rattle.cert_desk_bundle.specs.declared.bundle_error.BundleError.{BundleError}
-use Rattle.cert_desk_bundle.specs.declared.bundle_error.BundleError.TheVariants as errors
-use Rattle.cert_desk_bundle.specs.declared.fault_kind.FaultKind.TheVariants as kinds
-use Rattle.cert_desk_bundle.specs.declared.standing.Standing.{Standing}
-use Rattle.cert_desk_bundle.specs.declared.standing.Standing.TheVariants as standings
-use Rattle.cert_desk_bundle.specs.Chains.{joined}
-use Rattle.cert_desk_bundle.specs.Streams.{Kept, Reads}
-use Rattle.cert_desk_checking.specs.declared.outcome.Outcome.{Outcome}
-use Rattle.cert_desk_checking.specs.declared.outcome.Outcome.TheVariants as outcomes
+use Rattle.cert_tool_explain.specs.Oid.Bound.{Bound}
+use Rattle.cert_tool_explain.specs.DeskIo.Devices.{Device, Fails, MetEnd, Moved, Sound}
+use Rattle.cert_tool_explain.specs.DeskRules.declared.checked.Verdict.TheVariants as verdicts
+use Rattle.cert_tool_explain.specs.DeskBundle.declared.bundle_error.BundleError.{BundleError}
+use Rattle.cert_tool_explain.specs.DeskBundle.declared.bundle_error.BundleError.TheVariants as errors
+use Rattle.cert_tool_explain.specs.DeskBundle.declared.fault_kind.FaultKind.TheVariants as kinds
+use Rattle.cert_tool_explain.specs.DeskBundle.declared.standing.Standing.{Standing}
+use Rattle.cert_tool_explain.specs.DeskBundle.declared.standing.Standing.TheVariants as standings
+use Rattle.cert_tool_explain.specs.DeskBundle.Chains.{joined}
+use Rattle.cert_tool_explain.specs.DeskBundle.Streams.{Kept, Reads}
+use Rattle.cert_tool_explain.specs.DeskChecking.declared.outcome.Outcome.{Outcome}
+use Rattle.cert_tool_explain.specs.DeskChecking.declared.outcome.Outcome.TheVariants as outcomes
 use Rattle.cert_tool.specs.declared.each_certificate.Passed.{Passed}
 use Rattle.cert_tool.specs.Stops.{FedWithin, stop_of, unasked}
 

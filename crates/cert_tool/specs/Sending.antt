@@ -1,8 +1,8 @@
 -- Inputs that are sent with a request.
 use Rattle.std.specs.Prelude.{◌≡◌, ◌≢◌, ℕ, ◌<◌, ◌^◌, List, ◌++◌, length}
-use Rattle.cert_desk_io.specs.declared.named_inputs.OpenError.{OpenError}
-use Rattle.cert_desk_io.specs.declared.named_inputs.OpenError.TheVariants as errors
-use Rattle.cert_desk_frames.specs.Frames.{frame}
+use Rattle.cert_tool_explain.specs.DeskIo.declared.named_inputs.OpenError.{OpenError}
+use Rattle.cert_tool_explain.specs.DeskIo.declared.named_inputs.OpenError.TheVariants as errors
+use Rattle.cert_tool_explain.specs.DeskIo.Frames.{frame}
 
 -- In frames of names and of octets, in turn, these are the octets behind the first that is this
 -- name. Each has fewer than 2^32.

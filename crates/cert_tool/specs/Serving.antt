@@ -1,20 +1,22 @@
 -- Requests, and what answers them.
-use Rattle.std.specs.Prelude.{◌≡◌, ℕ, ◌*◌, ◌<◌, ◌≤◌, ◌^◌, ◌==◌, ◌⊎◌, List, [], ◌∷◌, ◌++◌, length, codes}
+use Rattle.std.specs.Prelude.{◌≡◌, ℕ, ◌*◌, ◌<◌, ◌≤◌, ◌^◌, ◌==◌, ◌⊎◌, List, [], ◌∷◌, ◌++◌, length}
+use Rattle.std.specs.Prelude.{codes}
 use Rattle.std.specs.Prelude.{Bool, true, false, Some, None, IsUtf8}
 use Rattle.std.specs.Global.{Vec}
 use Rattle.std.specs.List.{list_any, slice_split}
-use Rattle.cert_desk_io.specs.declared.exit_status.ExitStatus.{ExitStatus}
-use Rattle.cert_desk_io.specs.declared.exit_status.ExitStatus.TheVariants as statuses
-use Rattle.cert_desk_io.specs.declared.writers.ToWrite.{ToWrite}
-use Rattle.cert_desk_io.specs.Devices.{Device, IsCut, IsWritten, Moved, Sound, Untouched, sink}
-use Rattle.cert_desk_io.specs.Memory.{HasEnded, octets_left, read_failures}
-use Rattle.cert_desk_io.specs.NamedInputs.{Inputs, inputs}
-use Rattle.cert_desk_io.specs.Statuses.{code_of}
-use Rattle.cert_desk_io.specs.Telling.{IsComplaint, IsDeviceTold, IsMemoryTold}
-use Rattle.cert_desk_io.specs.Writers.{write_failures, writer_of}
-use Rattle.cert_desk_frames.specs.declared.frame_error.FrameError.{FrameError}
-use Rattle.cert_desk_frames.specs.declared.frame_error.FrameError.TheVariants as errors
-use Rattle.cert_desk_frames.specs.Frames.{IsNext, IsUnread, frame}
+use Rattle.cert_tool_explain.specs.DeskIo.declared.exit_status.ExitStatus.{ExitStatus}
+use Rattle.cert_tool_explain.specs.DeskIo.declared.exit_status.ExitStatus.TheVariants as statuses
+use Rattle.cert_tool_explain.specs.DeskIo.declared.writers.ToWrite.{ToWrite}
+use Rattle.cert_tool_explain.specs.DeskIo.Devices.{Device, IsCut, IsWritten, Moved, Sound}
+use Rattle.cert_tool_explain.specs.DeskIo.Devices.{Untouched, sink}
+use Rattle.cert_tool_explain.specs.DeskIo.Memory.{HasEnded, octets_left, read_failures}
+use Rattle.cert_tool_explain.specs.DeskIo.NamedInputs.{Inputs, inputs}
+use Rattle.cert_tool_explain.specs.DeskIo.Statuses.{code_of}
+use Rattle.cert_tool_explain.specs.DeskIo.Telling.{IsComplaint, IsDeviceTold, IsMemoryTold}
+use Rattle.cert_tool_explain.specs.DeskIo.Writers.{write_failures, writer_of}
+use Rattle.cert_tool_explain.specs.DeskIo.declared.frame_error.FrameError.{FrameError}
+use Rattle.cert_tool_explain.specs.DeskIo.declared.frame_error.FrameError.TheVariants as errors
+use Rattle.cert_tool_explain.specs.DeskIo.Frames.{IsNext, IsUnread, frame}
 use Rattle.cert_tool.specs.TaskRuns.{Clock, IsObeyed, asks_of_program}
 use Rattle.cert_tool.specs.Sending.{IsNotSent, IsSent}
 

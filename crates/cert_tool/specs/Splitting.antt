@@ -3,17 +3,18 @@ use Rattle.std.specs.Prelude.{◌≡◌, ◌≢◌, ℕ, zero, suc, ◌+◌, ◌
 use Rattle.std.specs.Prelude.{decimal, Option, Some, None, slice_get, Bool, true, false, ◌==◌}
 use Rattle.std.specs.Prelude.{if◌then◌else◌}
 use Rattle.std.specs.Option.{option_map_or}
-use Rattle.cert_desk_io.specs.declared.exit_status.ExitStatus.{ExitStatus}
-use Rattle.cert_desk_io.specs.declared.exit_status.ExitStatus.TheVariants as statuses
-use Rattle.cert_desk_io.specs.Devices.{Device, Untouched}
-use Rattle.cert_desk_io.specs.Telling.{IsAnswer, IsComplaint, IsMemoryTold}
-use Rattle.cert_desk_checking.specs.declared.outcome.Outcome.{Outcome}
-use Rattle.const_oid.specs.Bound.{Bound}
-use Rattle.x509_cert_certificates.specs.Certificates.{PlainCertificate, certificate_octets}
-use Rattle.x509_cert_certificates.specs.Certificates.{subject}
-use Rattle.x509_cert_names.specs.PlainTexts.{name_text}
-use Rattle.cert_desk_bundle.specs.Chains.{offset_at}
-use Rattle.cert_desk_bundle.specs.Streams.{Kept}
+use Rattle.cert_tool_explain.specs.DeskIo.declared.exit_status.ExitStatus.{ExitStatus}
+use Rattle.cert_tool_explain.specs.DeskIo.declared.exit_status.ExitStatus.TheVariants as statuses
+use Rattle.cert_tool_explain.specs.DeskIo.Devices.{Device, Untouched}
+use Rattle.cert_tool_explain.specs.DeskIo.Telling.{IsAnswer, IsComplaint, IsMemoryTold}
+use Rattle.cert_tool_explain.specs.DeskChecking.declared.outcome.Outcome.{Outcome}
+use Rattle.cert_tool_explain.specs.Oid.Bound.{Bound}
+use Rattle.cert_tool_explain.specs.CertCertificates.Certificates.{PlainCertificate}
+use Rattle.cert_tool_explain.specs.CertCertificates.Certificates.{certificate_octets}
+use Rattle.cert_tool_explain.specs.CertCertificates.Certificates.{subject}
+use Rattle.cert_tool_explain.specs.CertNames.PlainTexts.{name_text}
+use Rattle.cert_tool_explain.specs.DeskBundle.Chains.{offset_at}
+use Rattle.cert_tool_explain.specs.DeskBundle.Streams.{Kept}
 use Rattle.cert_tool.specs.JsonTexts.{escaped_text, place_object}
 use Rattle.cert_tool.specs.Stops.{IsStopTold, stop_of}
 

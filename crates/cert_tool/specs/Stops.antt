@@ -1,22 +1,22 @@
 -- What ends a run before what was asked for went out, and how it is told.
 use Rattle.std.specs.Prelude.{◌≡◌, ℕ, ◌<◌, ◌⊎◌, List, [], ◌∷◌, length, Option, Some, None}
-use Rattle.cert_desk_io.specs.declared.exit_status.ExitStatus.{ExitStatus}
-use Rattle.cert_desk_io.specs.declared.exit_status.ExitStatus.TheVariants as statuses
-use Rattle.cert_desk_io.specs.Devices.{Device, IsCut, IsWritten}
-use Rattle.cert_desk_io.specs.Telling.{IsComplaint, IsDeviceTold, IsMemoryTold}
-use Rattle.cert_desk_rules.specs.declared.checked.Verdict.{Verdict}
-use Rattle.cert_desk_rules.specs.declared.checked.Verdict.TheVariants as verdicts
-use Rattle.cert_desk_bundle.specs.declared.standing.Standing.{Standing}
-use Rattle.cert_desk_bundle.specs.declared.standing.Standing.TheVariants as standings
-use Rattle.cert_desk_checking.specs.declared.outcome.Outcome.{Outcome}
-use Rattle.cert_desk_checking.specs.declared.outcome.Outcome.TheVariants as outcomes
-use Rattle.const_oid.specs.Bound.{Bound}
-use Rattle.x509_cert_certificates.specs.Certificates.{PlainCertificate}
-use Rattle.cert_desk_bundle.specs.Chains.{joined}
-use Rattle.cert_desk_checking.specs.Lines.{anchors_line, line_of}
-use Rattle.cert_desk_checking.specs.Reading.{IsFed}
-use Rattle.cert_desk_checking.specs.Runs.{status_of}
-use Rattle.cert_desk_bundle.specs.Streams.{Kept}
+use Rattle.cert_tool_explain.specs.DeskIo.declared.exit_status.ExitStatus.{ExitStatus}
+use Rattle.cert_tool_explain.specs.DeskIo.declared.exit_status.ExitStatus.TheVariants as statuses
+use Rattle.cert_tool_explain.specs.DeskIo.Devices.{Device, IsCut, IsWritten}
+use Rattle.cert_tool_explain.specs.DeskIo.Telling.{IsComplaint, IsDeviceTold, IsMemoryTold}
+use Rattle.cert_tool_explain.specs.DeskRules.declared.checked.Verdict.{Verdict}
+use Rattle.cert_tool_explain.specs.DeskRules.declared.checked.Verdict.TheVariants as verdicts
+use Rattle.cert_tool_explain.specs.DeskBundle.declared.standing.Standing.{Standing}
+use Rattle.cert_tool_explain.specs.DeskBundle.declared.standing.Standing.TheVariants as standings
+use Rattle.cert_tool_explain.specs.DeskChecking.declared.outcome.Outcome.{Outcome}
+use Rattle.cert_tool_explain.specs.DeskChecking.declared.outcome.Outcome.TheVariants as outcomes
+use Rattle.cert_tool_explain.specs.Oid.Bound.{Bound}
+use Rattle.cert_tool_explain.specs.CertCertificates.Certificates.{PlainCertificate}
+use Rattle.cert_tool_explain.specs.DeskBundle.Chains.{joined}
+use Rattle.cert_tool_explain.specs.DeskChecking.Lines.{anchors_line, line_of}
+use Rattle.cert_tool_explain.specs.DeskChecking.Reading.{IsFed}
+use Rattle.cert_tool_explain.specs.DeskChecking.Runs.{status_of}
+use Rattle.cert_tool_explain.specs.DeskBundle.Streams.{Kept}
 
 -- that the stream has this verdict, for which nobody was asked
 abbrev pub unasked : Verdict → Outcome

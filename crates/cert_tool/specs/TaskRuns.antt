@@ -1,21 +1,22 @@
 -- What becomes of a task.
 use Rattle.std.specs.Prelude.{◌≡◌, ℕ, ◌⊎◌, List, [], ◌∷◌, Option, Some, None, Result, Ok, Err}
 use Rattle.std.specs.Prelude.{IsTrue, Bool, false, bytes_eq, codes, ◌||◌}
-use Rattle.cert_desk_io.specs.declared.exit_status.ExitStatus.{ExitStatus}
-use Rattle.cert_desk_io.specs.declared.exit_status.ExitStatus.TheVariants as statuses
-use Rattle.cert_desk_io.specs.Devices.{Device, Untouched}
-use Rattle.cert_desk_io.specs.declared.named_inputs.OpenError.{OpenError}
-use Rattle.cert_desk_io.specs.NamedInputs.{AreUnopened, Inputs, OfOpened, unopened_status}
-use Rattle.cert_desk_io.specs.Telling.{IsAnswer}
-use Rattle.cert_desk_io.specs.Whole.{IsWhole, most_octets}
-use Rattle.cert_desk_rules.specs.declared.answers_judge.AnswersJudge.{AnswersJudge}
-use Rattle.cert_desk_checking.specs.declared.outcome.Outcome.{Outcome}
-use Rattle.cert_desk_checking.specs.Anchors.{purpose_plain}
-use Rattle.cert_desk_rules.specs.Answers.{only_yes_to}
-use Rattle.cert_desk_rules.specs.Judges.{judge_answers, judge_questions}
-use Rattle.cert_desk_rules.specs.Questions.{Question}
-use Rattle.cert_desk_checking.specs.Runs.{IsOutcome, judging}
-use Rattle.cert_desk_bundle.specs.Streams.{Kept}
+use Rattle.cert_tool_explain.specs.DeskIo.declared.exit_status.ExitStatus.{ExitStatus}
+use Rattle.cert_tool_explain.specs.DeskIo.declared.exit_status.ExitStatus.TheVariants as statuses
+use Rattle.cert_tool_explain.specs.DeskIo.Devices.{Device, Untouched}
+use Rattle.cert_tool_explain.specs.DeskIo.declared.named_inputs.OpenError.{OpenError}
+use Rattle.cert_tool_explain.specs.DeskIo.NamedInputs.{AreUnopened, Inputs, OfOpened}
+use Rattle.cert_tool_explain.specs.DeskIo.NamedInputs.{unopened_status}
+use Rattle.cert_tool_explain.specs.DeskIo.Telling.{IsAnswer}
+use Rattle.cert_tool_explain.specs.DeskIo.Whole.{IsWhole, most_octets}
+use Rattle.cert_tool_explain.specs.DeskRules.declared.answers_judge.AnswersJudge.{AnswersJudge}
+use Rattle.cert_tool_explain.specs.DeskChecking.declared.outcome.Outcome.{Outcome}
+use Rattle.cert_tool_explain.specs.DeskChecking.Anchors.{purpose_plain}
+use Rattle.cert_tool_explain.specs.DeskRules.Answers.{only_yes_to}
+use Rattle.cert_tool_explain.specs.DeskRules.Judges.{judge_answers, judge_questions}
+use Rattle.cert_tool_explain.specs.DeskRules.Questions.{Question}
+use Rattle.cert_tool_explain.specs.DeskChecking.Runs.{IsOutcome, judging}
+use Rattle.cert_tool_explain.specs.DeskBundle.Streams.{Kept}
 use Rattle.cert_tool_explain.specs.declared.kind.Kind.{Kind}
 use Rattle.cert_tool_explain.specs.Describing.{IsDescribed}
 use Rattle.cert_tool.specs.declared.arguments.Moment.{Moment}

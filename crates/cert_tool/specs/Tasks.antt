@@ -3,12 +3,12 @@ use Rattle.std.specs.Prelude.{◌≡◌, ◌≢◌, ℕ, ◌≤◌, ◌<◌, ◌
 use Rattle.std.specs.Prelude.{◌&&◌, ◌||◌, codes, bytes_eq, is_ok, is_some, unwrap_or, if◌then◌else◌}
 use Rattle.std.specs.Prelude.{IsSome, IsTrue, Option, Some, None, option_map, Ok, Err}
 use Rattle.std.specs.Borrow.{Bor}
-use Rattle.const_oid.specs.Bound.{Bound, max_size}
-use Rattle.const_oid.specs.TextReading.{read_text}
-use Rattle.der_core_head.specs.Dates.{Civil, is_civil}
-use Rattle.der_types_time.specs.DateTexts.{date_text}
-use Rattle.der_types_time.specs.Seconds.{last_second, unix_seconds}
-use Rattle.cert_desk_checking.specs.Arguments.{IsNumber}
+use Rattle.cert_tool_explain.specs.Oid.Bound.{Bound, max_size}
+use Rattle.cert_tool_explain.specs.Oid.TextReading.{read_text}
+use Rattle.cert_tool_explain.specs.Der.Dates.{Civil, is_civil}
+use Rattle.cert_tool_explain.specs.Types.DateTexts.{date_text}
+use Rattle.cert_tool_explain.specs.Types.Seconds.{last_second, unix_seconds}
+use Rattle.cert_tool_explain.specs.DeskChecking.Arguments.{IsNumber}
 use Rattle.cert_tool.specs.declared.given.Key.{Key}
 use Rattle.cert_tool.specs.declared.given.Key.TheVariants as keys
 use Rattle.cert_tool_explain.specs.declared.kind.Kind.{Kind}

@@ -2,21 +2,22 @@
 -- what it finds.
 use Rattle.std.specs.Prelude.{◌≡◌, ℕ, ◌⊎◌, List, ◌++◌, codes, decimal, Result, Ok, Err, Bool}
 use Rattle.std.specs.Prelude.{true, false}
-use Rattle.cert_desk_io.specs.declared.exit_status.ExitStatus.{ExitStatus}
-use Rattle.cert_desk_io.specs.declared.exit_status.ExitStatus.TheVariants as statuses
-use Rattle.cert_desk_io.specs.declared.read_all_error.ReadAllError.TheVariants as errors
-use Rattle.cert_desk_io.specs.Devices.{Device, Untouched}
-use Rattle.cert_desk_io.specs.Telling.{IsAnswer, IsComplaint, IsDeviceTold, IsMemoryTold}
-use Rattle.cert_desk_io.specs.Whole.{IsUnread, IsWhole, most_octets}
-use Rattle.cert_desk_rules.specs.declared.checked.Verdict.{Verdict}
-use Rattle.cert_desk_rules.specs.declared.checked.Verdict.TheVariants as verdicts
-use Rattle.cert_desk_checking.specs.declared.outcome.Outcome.{Outcome}
-use Rattle.cert_desk_checking.specs.declared.outcome.Outcome.TheVariants as outcomes
-use Rattle.cert_desk_bundle.specs.FaultNames.{kind_name}
-use Rattle.cert_desk_rules.specs.RuleNames.{rule_name}
-use Rattle.cert_desk_checking.specs.Lines.{line_of}
-use Rattle.cert_desk_rules.specs.Questions.{Question}
-use Rattle.cert_desk_checking.specs.Runs.{status_of}
+use Rattle.cert_tool_explain.specs.DeskIo.declared.exit_status.ExitStatus.{ExitStatus}
+use Rattle.cert_tool_explain.specs.DeskIo.declared.exit_status.ExitStatus.TheVariants as statuses
+use Rattle.cert_tool_explain.specs.DeskIo.declared.read_all_error.ReadAllError.TheVariants as errors
+use Rattle.cert_tool_explain.specs.DeskIo.Devices.{Device, Untouched}
+use Rattle.cert_tool_explain.specs.DeskIo.Telling.{IsAnswer, IsComplaint, IsDeviceTold}
+use Rattle.cert_tool_explain.specs.DeskIo.Telling.{IsMemoryTold}
+use Rattle.cert_tool_explain.specs.DeskIo.Whole.{IsUnread, IsWhole, most_octets}
+use Rattle.cert_tool_explain.specs.DeskRules.declared.checked.Verdict.{Verdict}
+use Rattle.cert_tool_explain.specs.DeskRules.declared.checked.Verdict.TheVariants as verdicts
+use Rattle.cert_tool_explain.specs.DeskChecking.declared.outcome.Outcome.{Outcome}
+use Rattle.cert_tool_explain.specs.DeskChecking.declared.outcome.Outcome.TheVariants as outcomes
+use Rattle.cert_tool_explain.specs.DeskBundle.FaultNames.{kind_name}
+use Rattle.cert_tool_explain.specs.DeskRules.RuleNames.{rule_name}
+use Rattle.cert_tool_explain.specs.DeskChecking.Lines.{line_of}
+use Rattle.cert_tool_explain.specs.DeskRules.Questions.{Question}
+use Rattle.cert_tool_explain.specs.DeskChecking.Runs.{status_of}
 use Rattle.cert_desk_answers.specs.declared.line_fault.LineFault.{LineFault}
 use Rattle.cert_desk_answers.specs.declared.no_answers.NoAnswers.{NoAnswers}
 use Rattle.cert_desk_answers.specs.declared.no_answers.NoAnswers.TheVariants as reasons

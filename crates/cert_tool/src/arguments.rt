@@ -1,17 +1,17 @@
 //! The values of options.
 
 ghost use Rattle.std.specs.Prelude.{◌≡◌, ◌≢◌, ℕ, ◌≤◌, true, IfSome, IfNone};
-ghost use Rattle.const_oid.specs.Bound.{Bound, max_size};
-ghost use Rattle.const_oid.specs.TextReading.{read_text};
-ghost use Rattle.der_core_head.specs.Dates.{Civil, is_civil};
-ghost use Rattle.der_types_time.specs.DateTexts.{date_text};
-ghost use Rattle.der_types_time.specs.Seconds.{last_second};
-ghost use Rattle.cert_desk_checking.specs.Arguments.{IsNumber};
+ghost use Rattle.cert_tool_explain.specs.Oid.Bound.{Bound, max_size};
+ghost use Rattle.cert_tool_explain.specs.Oid.TextReading.{read_text};
+ghost use Rattle.cert_tool_explain.specs.Der.Dates.{Civil, is_civil};
+ghost use Rattle.cert_tool_explain.specs.Types.DateTexts.{date_text};
+ghost use Rattle.cert_tool_explain.specs.Types.Seconds.{last_second};
+ghost use Rattle.cert_tool_explain.specs.DeskChecking.Arguments.{IsNumber};
 ghost use Rattle.cert_tool.specs.Tasks.{IsMoment, IsNoMoment, arcs_of};
 
-use cert_desk_checking::number_in;
-use const_oid::{Error, ObjectIdentifier};
-use der_types_time::DateTime;
+use cert_tool_explain::desk_checking::number_in;
+use cert_tool_explain::oid::{Error, ObjectIdentifier};
+use cert_tool_explain::types::DateTime;
 
 /// The validation time: when a chain is judged.
 #[derive(Clone, Copy)]
@@ -36,7 +36,7 @@ pub(crate) struct Terms {
 }
 
 // The seconds of a moment that isn't `now`: a date, or a number of seconds.
-#[tactic(auto, unfolding(cert_desk_checking::specs::Arguments::IsNumber))]
+#[tactic(auto, unfolding(crate::specs::Opened::IsNumber))]
 fn seconds_in(text: &str) -> Option<u64>
     ensures read { IfSome result (λ n. IsMoment (Moment.Seconds n) text.now) }
     ensures refused { IfNone result (

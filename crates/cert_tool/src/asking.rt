@@ -1,14 +1,14 @@
 //! Runs that write the questions of a chain.
 
 ghost use Rattle.std.specs.Prelude.{ℕ, ◌≤◌, List, Result, IfOk, IfErr, Ok, Err, string_bytes};
-ghost use Rattle.cert_desk_io.specs.Devices.{sink, source};
-ghost use Rattle.cert_desk_checking.specs.declared.outcome.Outcome.{Outcome};
+ghost use Rattle.cert_tool_explain.specs.DeskIo.Devices.{sink, source};
+ghost use Rattle.cert_tool_explain.specs.DeskChecking.declared.outcome.Outcome.{Outcome};
 ghost use Rattle.cert_tool.specs.Asking.{IsAsked, IsAskedTold};
 
 use crate::stopping::tell_stop;
 use crate::stream_fault::stop_of;
-use cert_desk_checking::{Outcome, chain_lines, read_anchors, read_stream};
-use cert_desk_io::{ExitStatus, Input, Output, answer};
+use cert_tool_explain::desk_checking::{Outcome, chain_lines, read_anchors, read_stream};
+use cert_tool_explain::desk_io::{ExitStatus, Input, Output, answer};
 use std::alloc::Global;
 
 // The questions of a stream under anchors.

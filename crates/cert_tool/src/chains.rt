@@ -1,8 +1,8 @@
 //! What is done with a chain under anchors.
 
 ghost use Rattle.std.specs.Prelude.{◌≡◌, ◌≤◌, IfOk, IfErr, IfSome, IfNone, OnOk};
-ghost use Rattle.cert_desk_io.specs.Devices.{sink, source};
-ghost use Rattle.cert_desk_io.specs.NamedInputs.{inputs};
+ghost use Rattle.cert_tool_explain.specs.DeskIo.Devices.{sink, source};
+ghost use Rattle.cert_tool_explain.specs.DeskIo.NamedInputs.{inputs};
 ghost use Rattle.cert_tool.specs.Stops.{IsTried};
 ghost use Rattle.cert_tool.specs.TaskRuns.{IsMeant, IsUntimed, IsUnopened, judged_names};
 ghost use Rattle.cert_tool.specs.TaskRuns.{IsJudged, IsVerified, IsChainExplained, IsListedFor};
@@ -16,7 +16,7 @@ use crate::files::{open, tell_failure};
 use crate::tasks::Task;
 use crate::telling::tell_more;
 use crate::verifying::{run_verify, tell_none};
-use cert_desk_io::{ExitStatus, Input, NamedInputs, Output, write_all};
+use cert_tool_explain::desk_io::{ExitStatus, Input, NamedInputs, Output, write_all};
 use std::alloc::Global;
 
 // The inputs of a chain that is judged.

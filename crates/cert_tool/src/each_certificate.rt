@@ -2,8 +2,8 @@
 
 ghost use Rattle.std.specs.Prelude.{◌≡◌, ℕ, ◌<◌, ◌≤◌, List, [], ◌++◌, Some, Option};
 ghost use Rattle.std.specs.Prelude.{IfSome, IfNone, IfErr, IfOk, OnOk};
-ghost use Rattle.cert_desk_io.specs.Devices.{Fails, sink, source};
-ghost use Rattle.cert_desk_checking.specs.declared.outcome.Outcome.{Outcome};
+ghost use Rattle.cert_tool_explain.specs.DeskIo.Devices.{Fails, sink, source};
+ghost use Rattle.cert_tool_explain.specs.DeskChecking.declared.outcome.Outcome.{Outcome};
 ghost use Rattle.cert_tool.specs.Passing.{HasMoved, HasTaken, IsBehind, IsHeld, IsPassed, IsRead};
 ghost use Rattle.cert_tool.specs.Passing.{IsUnwritten, stop_behind};
 ghost use Rattle.cert_tool.specs.Splitting.{IsEndTold};
@@ -11,12 +11,12 @@ ghost use Rattle.cert_tool.specs.Stops.{unasked};
 ghost use Rattle.cert_tool.specs.TaskRuns.{ToldLast};
 
 use crate::stopping::tell_stop;
-use cert_desk_bundle::{Bundle, BundleError, Standing};
-use cert_desk_checking::Outcome;
-use cert_desk_io::{ExitStatus, Input, Output, write_all};
-use cert_desk_rules::{Checked, Verdict};
-use cert_tool_describe::add_certificate;
-use cert_tool_lines::Lines;
+use cert_tool_explain::desk_bundle::{Bundle, BundleError, Standing};
+use cert_tool_explain::desk_checking::Outcome;
+use cert_tool_explain::desk_io::{ExitStatus, Input, Output, write_all};
+use cert_tool_explain::desk_rules::{Checked, Verdict};
+use cert_tool_explain::tool_describe::add_certificate;
+use cert_tool_explain::tool_lines::Lines;
 use std::alloc::{AllocError, Global};
 
 // The certificates of a stream that were described: how many, and how many octets they have.

@@ -1,8 +1,8 @@
 //! Why chains are refused.
 
 ghost use Rattle.std.specs.Prelude.{◌≤◌, length, IfErr};
-ghost use Rattle.cert_desk_io.specs.Devices.{sink, source};
-ghost use Rattle.cert_desk_io.specs.Whole.{most_octets};
+ghost use Rattle.cert_tool_explain.specs.DeskIo.Devices.{sink, source};
+ghost use Rattle.cert_tool_explain.specs.DeskIo.Whole.{most_octets};
 ghost use Rattle.cert_tool.specs.Explaining.{AreNoAnchors, IsExplained, IsSaidOf};
 ghost use Rattle.cert_tool.specs.Explaining.{IsSaidUnder, IsStopSaid, IsStreamSaid};
 
@@ -10,14 +10,16 @@ use crate::arguments::Terms;
 use crate::reading::{read_input, tell_text};
 use crate::stream_fault::stop_of;
 use crate::verifying::{read_answers, tell_none};
-use cert_desk_bundle::Bundle;
-use cert_desk_checking::{
+use cert_tool_explain::desk_bundle::Bundle;
+use cert_tool_explain::desk_checking::{
     Anchor, AnchorsError, Outcome, judge_each, read_anchors, read_stream, status_of,
 };
-use cert_desk_io::{ExitStatus, FromRead, Input, Output, complain, tell_device, tell_memory};
-use cert_desk_rules::{Answer, AnswersJudge, KeptRules, Verdict};
-use cert_tool_chains::{Heard, Judged, add_chain};
-use cert_tool_lines::Lines;
+use cert_tool_explain::desk_io::{
+    ExitStatus, FromRead, Input, Output, complain, tell_device, tell_memory,
+};
+use cert_tool_explain::desk_rules::{Answer, AnswersJudge, KeptRules, Verdict};
+use cert_tool_explain::tool_lines::Lines;
+use cert_tool_explain::{Heard, Judged, add_chain};
 use std::alloc::{AllocError, Global};
 
 // What each certificate of a chain breaks, as it was judged.

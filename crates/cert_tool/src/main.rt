@@ -28,14 +28,13 @@ mod verifying;
 mod words;
 
 use crate::clock::HostClock;
-use crate::files::HostFiles;
 use crate::serving::serve;
 use crate::words::obey;
-use cert_desk_io::{ExitStatus, FromRead, Output, ToWrite, complain, tell_memory};
+use cert_tool_explain::desk_io::{ExitStatus, FromRead, HostFiles, ToWrite, tell_memory, words_of};
 use std::alloc::{AllocError, Global};
+use std::io;
 use std::io::IsTerminal;
 use std::process::ExitCode;
-use std::{env, io};
 
 fn main(rt: HostRuntime) -> ExitCode {
     ExitCode::from(run(&rt))
@@ -52,24 +51,10 @@ fn texts_of(alloc: Global, words: &[String]) -> Result<Vec<&str>, AllocError> {
     Ok(texts)
 }
 
-// The arguments. Where one is no text, that is told, and the status is the error.
-fn words_of<E: Output>(rt: &HostRuntime, err: &mut E) -> Result<Vec<String>, ExitStatus> {
-    match env::args(rt) {
-        Ok(words) => match words.collect(rt.alloc()) {
-            Ok(words) => Ok(words),
-            Err(_) => Err(tell_memory(err)),
-        },
-        Err(error) => match error.kind() {
-            io::ErrorKind::OutOfMemory => Err(tell_memory(err)),
-            _ => Err(complain(err, b"a word isn't UTF-8\n", ExitStatus::Arguments)),
-        },
-    }
-}
-
 // Does what the arguments ask for.
 fn run(rt: &HostRuntime) -> ExitStatus {
     let mut err = ToWrite::new(rt.stderr());
-    let words = match words_of(rt, &mut err) {
+    let words = match words_of(rt, &mut err, b"a word isn't UTF-8\n") {
         Ok(words) => words,
         Err(status) => return status,
     };
@@ -90,7 +75,7 @@ fn run(rt: &HostRuntime) -> ExitStatus {
     obey(
         rt.alloc(),
         &HostClock::new(rt),
-        &HostFiles::new(rt),
+        &HostFiles::new(rt, Some("-")),
         texts.as_slice(),
         &mut out,
         &mut err,

@@ -1,20 +1,19 @@
 //! What is done with a file that is read whole.
 
 ghost use Rattle.std.specs.Prelude.{◌≡◌, ◌≤◌, IfOk, IfErr, OnOk};
-ghost use Rattle.cert_desk_io.specs.Devices.{sink, source};
-ghost use Rattle.cert_desk_io.specs.NamedInputs.{OfOpened, inputs};
-ghost use Rattle.cert_desk_io.specs.Whole.{IsWhole, most_octets};
+ghost use Rattle.cert_tool_explain.specs.DeskIo.Devices.{sink, source};
+ghost use Rattle.cert_tool_explain.specs.DeskIo.NamedInputs.{OfOpened, inputs};
+ghost use Rattle.cert_tool_explain.specs.DeskIo.Whole.{IsWhole, most_octets};
 ghost use Rattle.cert_tool.specs.Explaining.{IsNotRead, IsSaid};
 ghost use Rattle.cert_tool.specs.TaskRuns.{IsFileDescribed, IsFileExplained, IsNotHad};
 
 use crate::files::{open, tell_failure};
 use crate::tasks::{Command, Task};
-use cert_desk_io::{
+use cert_tool_explain::desk_io::{
     ExitStatus, Input, NamedInputs, Output, ReadAllError, answer, complain, read_all, tell_device,
     tell_memory,
 };
-use cert_tool_chains::{explain_anchors, explain_stream};
-use cert_tool_explain::{Kind, describe, explain_octets};
+use cert_tool_explain::{Kind, describe, explain_anchors, explain_octets, explain_stream};
 use std::alloc::{AllocError, Global};
 
 // What an input holds, to its end. Where it can't be had, that is told, and the status is the

@@ -2,8 +2,7 @@
 ghost use Rattle.std.specs.Prelude.{List, ℕ, IfSome, IsNone};
 ghost use Rattle.cert_tool.specs.Sending.{IsSent};
 
-use cert_desk_frames::split_frame;
-use cert_desk_io::{MemoryInput, NamedInputs, OpenError};
+use cert_tool_explain::desk_io::{MemoryInput, NamedInputs, OpenError, split_frame};
 
 /// Inputs that were sent: frames of names and of octets, in turn.
 #[derive(Clone, Copy)]
@@ -13,7 +12,7 @@ pub struct Sent<'a> {
 }
 
 impl<'a> NamedInputs<MemoryInput<'a>> for Sent<'a> {
-    ghost use Rattle.cert_desk_io.specs.Memory.{octets_left};
+    ghost use Rattle.cert_tool_explain.specs.DeskIo.Memory.{octets_left};
     ghost use Rattle.cert_tool.specs.Sending.{IsNotSent, IsSent};
 
     ghost is_opened = { λ sent name input. IsSent name (octets_left input) sent.parts.now };

@@ -1,7 +1,7 @@
 //! Requests in frames, each answered in frames.
 ghost use Rattle.std.specs.Prelude.{◌≡◌, ◌≤◌, ◌^◌, ◌⊎◌, length, map, IfErr, IfOk};
-ghost use Rattle.cert_desk_io.specs.Devices.{sink, source};
-ghost use Rattle.cert_desk_frames.specs.declared.frame_error.FrameError.TheVariants as faults;
+ghost use Rattle.cert_tool_explain.specs.DeskIo.Devices.{sink, source};
+ghost use Rattle.cert_tool_explain.specs.DeskIo.declared.frame_error.FrameError.TheVariants as faults;
 ghost use Rattle.cert_tool.specs.Serving.{HasNoReply, IsNextServed, IsNextUnserved, IsReply};
 ghost use Rattle.cert_tool.specs.Serving.{IsRequestObeyed, IsServed, IsUnservedTold};
 ghost use Rattle.cert_tool.specs.Serving.{reply_frames, words_in};
@@ -9,9 +9,9 @@ ghost use Rattle.cert_tool.specs.Serving.{reply_frames, words_in};
 use crate::clock::UnixClock;
 use crate::sent::Sent;
 use crate::words::obey;
-use cert_desk_frames::{FrameError, append_frame, read_frame, split_frame};
-use cert_desk_io::{
-    ExitStatus, Input, Output, ToWrite, complain, tell_device, tell_memory, write_all,
+use cert_tool_explain::desk_io::{
+    ExitStatus, FrameError, Input, Output, ToWrite, append_frame, complain, read_frame,
+    split_frame, tell_device, tell_memory, write_all,
 };
 use std::alloc::{AllocError, Global};
 use std::str;

@@ -1,12 +1,12 @@
 //! Runs that take streams apart.
 
 ghost use Rattle.std.specs.Prelude.{◌≡◌, ◌≢◌, ◌<◌, ◌≤◌, IfOk, length, string_bytes, true};
-ghost use Rattle.x509_cert_certificates.specs.Certificates.{subject};
-ghost use Rattle.x509_cert_certificates.specs.Views.{certificate_plain};
-ghost use Rattle.x509_cert_names.specs.PlainTexts.{name_text};
-ghost use Rattle.x509_cert_names.specs.Views.{name_plain};
-ghost use Rattle.cert_desk_io.specs.Devices.{sink, source};
-ghost use Rattle.cert_desk_bundle.specs.Streams.{Kept};
+ghost use Rattle.cert_tool_explain.specs.CertCertificates.Certificates.{subject};
+ghost use Rattle.cert_tool_explain.specs.CertCertificates.Views.{certificate_plain};
+ghost use Rattle.cert_tool_explain.specs.CertNames.PlainTexts.{name_text};
+ghost use Rattle.cert_tool_explain.specs.CertNames.Views.{name_plain};
+ghost use Rattle.cert_tool_explain.specs.DeskIo.Devices.{sink, source};
+ghost use Rattle.cert_tool_explain.specs.DeskBundle.Streams.{Kept};
 ghost use Rattle.cert_tool.specs.JsonTexts.{escaped_text};
 ghost use Rattle.cert_tool.specs.Splitting.{IsListed, IsReversed, IsTaken, comma_before};
 ghost use Rattle.cert_tool.specs.Splitting.{json_at, place_lines, places_text, reversed};
@@ -15,13 +15,13 @@ ghost use Rattle.cert_tool.specs.Stops.{FedWithin};
 use crate::json_texts::{escaped_text, place_object};
 use crate::stopping::tell_stop;
 use crate::stream_fault::stop_of;
-use cert_desk_bundle::{Bundle, Standing};
-use cert_desk_checking::read_stream;
-use cert_desk_io::{ExitStatus, Input, Output, answer, complain, tell_memory};
+use cert_tool_explain::cert_certificates::CertificateInner;
+use cert_tool_explain::cert_names::Name;
+use cert_tool_explain::cert_parts::Raw;
+use cert_tool_explain::desk_bundle::{Bundle, Standing};
+use cert_tool_explain::desk_checking::read_stream;
+use cert_tool_explain::desk_io::{ExitStatus, Input, Output, answer, complain, tell_memory};
 use std::alloc::{AllocError, Global};
-use x509_cert_certificates::CertificateInner;
-use x509_cert_names::Name;
-use x509_cert_parts::Raw;
 
 // A line for each certificate: its place, where it begins, and how many octets it has.
 fn list_of(alloc: Global, bundle: &Bundle) -> Result<String, AllocError>

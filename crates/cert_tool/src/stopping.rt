@@ -1,9 +1,9 @@
 //! Runs that end before what was asked for.
-ghost use Rattle.cert_desk_io.specs.Devices.{sink};
+ghost use Rattle.cert_tool_explain.specs.DeskIo.Devices.{sink};
 ghost use Rattle.cert_tool.specs.Stops.{IsStopTold};
 
-use cert_desk_checking::{Outcome, anchors_line, status_of, verdict_line};
-use cert_desk_io::{ExitStatus, Output, complain, tell_device, tell_memory};
+use cert_tool_explain::desk_checking::{Outcome, anchors_line, status_of, verdict_line};
+use cert_tool_explain::desk_io::{ExitStatus, Output, complain, tell_device, tell_memory};
 use std::alloc::Global;
 
 // Tells on the error output what ended a run.

@@ -2,9 +2,9 @@
 ghost use Rattle.std.specs.Prelude.{◌≡◌, ◌≢◌};
 ghost use Rattle.cert_tool.specs.Stops.{stop_of};
 
-use cert_desk_bundle::{Bundle, Standing};
-use cert_desk_checking::Outcome;
-use cert_desk_rules::{Checked, Verdict};
+use cert_tool_explain::desk_bundle::{Bundle, Standing};
+use cert_tool_explain::desk_checking::Outcome;
+use cert_tool_explain::desk_rules::{Checked, Verdict};
 
 // Why a bundle holds no whole stream with a certificate in it, if it doesn't.
 pub(crate) fn stop_of(bundle: &Bundle) -> Option<Outcome>

@@ -1,9 +1,9 @@
 //! What is done with a stream.
 
 ghost use Rattle.std.specs.Prelude.{◌≤◌};
-ghost use Rattle.cert_desk_io.specs.Devices.{sink, source};
-ghost use Rattle.cert_desk_io.specs.NamedInputs.{inputs};
-ghost use Rattle.cert_desk_bundle.specs.Streams.{Kept};
+ghost use Rattle.cert_tool_explain.specs.DeskIo.Devices.{sink, source};
+ghost use Rattle.cert_tool_explain.specs.DeskIo.NamedInputs.{inputs};
+ghost use Rattle.cert_tool_explain.specs.DeskBundle.Streams.{Kept};
 ghost use Rattle.cert_tool.specs.Stops.{FedWithin};
 ghost use Rattle.cert_tool.specs.TaskRuns.{IsEachDescribed, IsSplitAt, IsSplit, IsTurned};
 
@@ -12,7 +12,7 @@ use crate::files::{open, tell_failure};
 use crate::splitting::{run_list, run_reverse, run_take};
 use crate::tasks::Task;
 use crate::telling::tell_fault;
-use cert_desk_io::{ExitStatus, Input, NamedInputs, Output};
+use cert_tool_explain::desk_io::{ExitStatus, Input, NamedInputs, Output};
 use std::alloc::Global;
 
 // Lists the certificates of an input, or writes one.

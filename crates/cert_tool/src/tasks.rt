@@ -13,9 +13,9 @@ ghost use Rattle.cert_tool.specs.Tasks.{IsLimit, moment_text, purpose_text, limi
 
 use crate::arguments::{Moment, moment_in, purpose_in};
 use crate::given::{Given, Key, WordFault, given_in};
-use cert_desk_checking::{limit_in, number_in};
 use cert_tool_explain::Kind;
-use const_oid::ObjectIdentifier;
+use cert_tool_explain::desk_checking::{limit_in, number_in};
+use cert_tool_explain::oid::ObjectIdentifier;
 
 /// What is done.
 #[derive(Clone, Copy)]

@@ -1,7 +1,7 @@
 //! Texts that the program itself tells.
 
 ghost use Rattle.std.specs.Prelude.{◌<◌, length, IfOk, string_bytes};
-ghost use Rattle.cert_desk_io.specs.Devices.{sink};
+ghost use Rattle.cert_tool_explain.specs.DeskIo.Devices.{sink};
 ghost use Rattle.cert_tool.specs.Stops.{IsReasonTold};
 
 use crate::given::{Key, WordFault};
@@ -9,7 +9,7 @@ use crate::help::help_of;
 use crate::no_command::no_command_line;
 use crate::shell_words::shell_word;
 use crate::tasks::{Misuse, Task};
-use cert_desk_io::{ExitStatus, Output, tell_memory, write_all};
+use cert_tool_explain::desk_io::{ExitStatus, Output, tell_memory, write_all};
 use std::alloc::{AllocError, Global};
 
 // A line with its end.

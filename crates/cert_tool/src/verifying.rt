@@ -1,25 +1,25 @@
 //! Runs that judge a chain by answers.
 
 ghost use Rattle.std.specs.Prelude.{◌≡◌, ◌≤◌, List, map, IfOk, IfErr, OnErr, Ok, Err, string_bytes};
-ghost use Rattle.cert_desk_io.specs.Devices.{sink, source};
-ghost use Rattle.cert_desk_checking.specs.declared.outcome.Outcome.{Outcome};
-ghost use Rattle.cert_desk_checking.specs.Anchors.{purpose_plain};
-ghost use Rattle.cert_desk_rules.specs.Questions.{Question};
-ghost use Rattle.cert_desk_checking.specs.Runs.{IsOutcome, judging};
-ghost use Rattle.cert_desk_rules.specs.declared.answers_judge.AnswersJudge.{AnswersJudge};
-ghost use Rattle.cert_desk_rules.specs.Answers.{answer_plain, only_yes_to};
-ghost use Rattle.cert_desk_rules.specs.Judges.{judge_answers, judge_questions};
+ghost use Rattle.cert_tool_explain.specs.DeskIo.Devices.{sink, source};
+ghost use Rattle.cert_tool_explain.specs.DeskChecking.declared.outcome.Outcome.{Outcome};
+ghost use Rattle.cert_tool_explain.specs.DeskChecking.Anchors.{purpose_plain};
+ghost use Rattle.cert_tool_explain.specs.DeskRules.Questions.{Question};
+ghost use Rattle.cert_tool_explain.specs.DeskChecking.Runs.{IsOutcome, judging};
+ghost use Rattle.cert_tool_explain.specs.DeskRules.declared.answers_judge.AnswersJudge.{AnswersJudge};
+ghost use Rattle.cert_tool_explain.specs.DeskRules.Answers.{answer_plain, only_yes_to};
+ghost use Rattle.cert_tool_explain.specs.DeskRules.Judges.{judge_answers, judge_questions};
 ghost use Rattle.cert_tool.specs.Verifying.{AreAnswers, IsNoneTold, IsToldAs, wrong_line};
 ghost use Rattle.cert_tool.specs.Verifying.{verdict_json, verdict_text};
 
 use crate::stopping::tell_stop;
 use cert_desk_answers::{LineFault, NoAnswers, answers_in};
-use cert_desk_checking::{Outcome, find_outcome, status_of, verdict_line};
-use cert_desk_io::{
+use cert_tool_explain::desk_checking::{Outcome, find_outcome, status_of, verdict_line};
+use cert_tool_explain::desk_io::{
     ExitStatus, Input, Output, ReadAllError, answer, complain, read_all, tell_device, tell_memory,
 };
-use cert_desk_rules::{Answer, AnswersJudge, Checked, Verdict};
-use const_oid::ObjectIdentifier;
+use cert_tool_explain::desk_rules::{Answer, AnswersJudge, Checked, Verdict};
+use cert_tool_explain::oid::ObjectIdentifier;
 use std::alloc::{AllocError, Global};
 
 /// The answers that an input gives, to its end, as `answers_in` reads them.

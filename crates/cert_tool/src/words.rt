@@ -2,9 +2,9 @@
 
 ghost use Rattle.std.specs.Prelude.{◌≡◌, ◌≤◌, ◌++◌, map, OnErr, OnOk};
 ghost use Rattle.std.specs.List.{list_any};
-ghost use Rattle.cert_desk_io.specs.Devices.{IsCut, IsWritten, sink};
-ghost use Rattle.cert_desk_io.specs.NamedInputs.{inputs};
-ghost use Rattle.cert_desk_io.specs.Telling.{IsAnswer};
+ghost use Rattle.cert_tool_explain.specs.DeskIo.Devices.{IsCut, IsWritten, sink};
+ghost use Rattle.cert_tool_explain.specs.DeskIo.NamedInputs.{inputs};
+ghost use Rattle.cert_tool_explain.specs.DeskIo.Telling.{IsAnswer};
 ghost use Rattle.cert_tool.specs.Help.{is_version, program_text};
 ghost use Rattle.cert_tool.specs.TaskRuns.{asks_of_program, IsDone, IsObeyed};
 
@@ -15,7 +15,9 @@ use crate::reading::{describe_file, explain_file};
 use crate::streams::{describe_each, reverse, split};
 use crate::tasks::{Command, Task};
 use crate::telling::tell_misuse;
-use cert_desk_io::{DeviceError, ExitStatus, Input, NamedInputs, Output, tell_device, write_all};
+use cert_tool_explain::desk_io::{
+    DeviceError, ExitStatus, Input, NamedInputs, Output, tell_device, write_all,
+};
 use std::alloc::Global;
 
 // Whether a word asks for help, or which program it is.

@@ -1,7 +1,7 @@
 -- What octets of a file spell, as they are read under `Raw`.
 use Rattle.std.specs.Prelude.{ℕ, List, None}
-use Rattle.const_oid.specs.Bound.{Bound}
-use Rattle.der_core_head.specs.Shapes.{BodyValue, Shape, Spells, sequence}
+use Rattle.x509_cert_lists.specs.Oid.Bound.{Bound}
+use Rattle.x509_cert_lists.specs.Der.Shapes.{BodyValue, Shape, Spells, sequence}
 use Rattle.x509_cert_certificates.specs.Certificates.{PlainCertificate, raw_certificate}
 use Rattle.x509_cert_lists.specs.ListGrammar.{cert_req, cert_req_fields, certificate_list_fields}
 

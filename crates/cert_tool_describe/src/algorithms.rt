@@ -2,12 +2,11 @@
 
 use crate::values::{read, values_in};
 use cert_tool_lines::Lines;
-use der_core::Error;
-use der_core::making::leaf_from_der;
-use der_types_any::Any;
-use der_types_values::BitString;
+use cert_tool_lines::cert_parts::AlgorithmIdentifier;
+use cert_tool_lines::types::{Any, BitString};
 use std::alloc::Global;
-use x509_cert_parts::AlgorithmIdentifier;
+use x509_cert_lists::der::Error;
+use x509_cert_lists::der::making::leaf_from_der;
 
 // The identifier id-RSASSA-PSS, 1.2.840.113549.1.1.10.
 const PSS: &[u8] = &[0x2a, 0x86, 0x48, 0x86, 0xf7, 0x0d, 1, 1, 0x0a];

@@ -5,29 +5,27 @@ use crate::general_names::{add_general_names, names_in};
 use crate::timestamps::timestamps_fault;
 use crate::values::{add_value_of, read, read_list};
 use cert_tool_lines::Lines;
-use const_oid::ObjectIdentifier;
-use der_core::describing::{DecodeWay, Described};
-use der_core::making::leaf_from_der;
-use der_core::{Error, ErrorKind, FixedTag, Leaf, SliceReader};
-use der_types_numbers::Uint;
-use der_types_time::GeneralizedTime;
-use der_types_values::{FlagSet, OctetString};
+use cert_tool_lines::cert_parts::Extension;
+use cert_tool_lines::types::{FlagSet, GeneralizedTime, OctetString, Uint};
 use std::alloc::Global;
+use x509_cert_extensions::cert_general_names::{
+    AccessDescription, AuthorityKeyIdentifier, DistributionPoint, IssuingDistributionPoint,
+    NameConstraints,
+};
+use x509_cert_extensions::policy_types::timestamps::SignedCertificateTimestampList;
+use x509_cert_extensions::policy_types::{
+    BasicConstraints, CertificatePolicies, InhibitAnyPolicy, PolicyConstraints, PolicyInformation,
+    PolicyMapping, PolicyMappings, PrivateKeyUsagePeriod,
+};
 use x509_cert_extensions::{
     AuthorityInfoAccessSyntax, CrlDistributionPoints, CrlNumber, CrlReason, ExtendedKeyUsage,
     KeyUsage, KeyUsages, SubjectKeyIdentifier,
 };
-use x509_cert_general_names::{
-    AccessDescription, AuthorityKeyIdentifier, DistributionPoint, IssuingDistributionPoint,
-    NameConstraints,
-};
-use x509_cert_names::Attribute;
-use x509_cert_parts::Extension;
-use x509_cert_policies::{
-    BasicConstraints, CertificatePolicies, InhibitAnyPolicy, PolicyConstraints, PolicyInformation,
-    PolicyMapping, PolicyMappings, PrivateKeyUsagePeriod,
-};
-use x509_cert_timestamps::SignedCertificateTimestampList;
+use x509_cert_lists::cert_names::Attribute;
+use x509_cert_lists::der::describing::{DecodeWay, Described};
+use x509_cert_lists::der::making::leaf_from_der;
+use x509_cert_lists::der::{Error, ErrorKind, FixedTag, Leaf, SliceReader};
+use x509_cert_lists::oid::ObjectIdentifier;
 
 // The identifier of timestamps of logs, 1.3.6.1.4.1.11129.2.4.2.
 const TIMESTAMPS: &[u8] = &[0x2b, 6, 1, 4, 1, 0xd6, 0x79, 2, 4, 2];

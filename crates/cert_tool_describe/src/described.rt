@@ -1,10 +1,10 @@
 //! Values that descriptions have lines of.
 ghost use Rattle.std.specs.Prelude.{◌≢◌, List, ℕ, IfErr, IfNone, IfSome, OnOk};
-ghost use Rattle.der_core_head.specs.declared.error.ErrorKind.TheVariants.{OutOfMemory};
+ghost use Rattle.x509_cert_lists.specs.Der.ErrorTypes.ErrorKind.TheVariants.{OutOfMemory};
 
 use cert_tool_lines::Lines;
-use der_core::{Error, ErrorKind};
 use std::alloc::Global;
+use x509_cert_lists::der::{Error, ErrorKind};
 
 /// The content of an extension, or a key.
 pub trait Describe {

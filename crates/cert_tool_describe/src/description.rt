@@ -1,6 +1,6 @@
 //! Descriptions of certificates.
 ghost use Rattle.std.specs.Prelude.{◌≢◌, IfNone, IfSome};
-ghost use Rattle.der_core_head.specs.declared.error.ErrorKind.TheVariants.{OutOfMemory};
+ghost use Rattle.x509_cert_lists.specs.Der.ErrorTypes.ErrorKind.TheVariants.{OutOfMemory};
 ghost use Rattle.cert_tool_describe.specs.Files.{IsCertificate};
 
 use crate::algorithms::{add_algorithm, add_signature};
@@ -9,11 +9,11 @@ use crate::described::{DescribeFile, add_file};
 use crate::keys::{add_digests, add_key, add_key_digests};
 use crate::values::add_name;
 use cert_tool_lines::Lines;
-use der_core::{Error, ErrorKind};
-use der_types_values::BitString;
+use cert_tool_lines::cert_parts::{Raw, Version};
+use cert_tool_lines::types::BitString;
 use std::alloc::Global;
 use x509_cert_certificates::{CertificateInner, TbsCertificateInner};
-use x509_cert_parts::{Raw, Version};
+use x509_cert_lists::der::{Error, ErrorKind};
 
 // Adds the line of what is described, and of its version.
 pub fn add_kind(lines: &mut Lines, kind: &str, version: Version) {

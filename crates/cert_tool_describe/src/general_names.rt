@@ -4,11 +4,11 @@ ghost use Rattle.std.specs.Prelude.{◌≡◌, length};
 
 use crate::values::{add_name_members, add_value, read_list};
 use cert_tool_lines::Lines;
-use der_core::Error;
 use std::alloc::Global;
 use std::net::{Ipv4Addr, Ipv6Addr};
-use x509_cert_general_names::{EdiPartyName, GeneralName};
-use x509_cert_names::DirectoryString;
+use x509_cert_extensions::cert_general_names::{EdiPartyName, GeneralName};
+use x509_cert_lists::cert_names::DirectoryString;
+use x509_cert_lists::der::Error;
 
 // Adds an address of four octets.
 fn add_short(lines: &mut Lines, octets: &[u8], behind: &str)

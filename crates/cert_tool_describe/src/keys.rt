@@ -4,15 +4,14 @@ use crate::algorithms::add_members as add_algorithm;
 use crate::contents::{add_malformed, add_members};
 use crate::described::Describe;
 use crate::values::{add_value, list_in, values_in};
+use cert_tool_lines::cert_parts::SubjectPublicKeyInfo;
+use cert_tool_lines::types::{Any, Uint};
 use cert_tool_lines::{Lines, known_name};
-use const_oid::ObjectIdentifier;
-use der_core::making::leaf_from_der;
-use der_core::{ErrorKind, Tag, ToDer};
-use der_types_any::Any;
-use der_types_numbers::Uint;
 use sha1::Sha1;
 use sha2::{Digest, Sha256};
-use x509_cert_parts::SubjectPublicKeyInfo;
+use x509_cert_lists::der::making::leaf_from_der;
+use x509_cert_lists::der::{ErrorKind, Tag, ToDer};
+use x509_cert_lists::oid::ObjectIdentifier;
 
 // How many bits a number has, of its octets with the most significant first.
 fn bit_len(octets: &[u8]) -> usize {

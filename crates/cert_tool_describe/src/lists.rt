@@ -1,8 +1,8 @@
 //! CRLs (RFC 5280 5): their descriptions.
 ghost use Rattle.std.specs.Prelude.{◌≢◌, IfErr, IfNone, IfOk, IfSome};
-ghost use Rattle.const_oid.specs.Bound.{Bound};
-ghost use Rattle.der_core_head.specs.declared.error.ErrorKind.TheVariants.{OutOfMemory};
-ghost use Rattle.der_core_head.specs.Shapes.{Spells};
+ghost use Rattle.x509_cert_lists.specs.Oid.Bound.{Bound};
+ghost use Rattle.x509_cert_lists.specs.Der.ErrorTypes.ErrorKind.TheVariants.{OutOfMemory};
+ghost use Rattle.x509_cert_lists.specs.Der.Shapes.{Spells};
 ghost use Rattle.x509_cert_lists.specs.ListViews.{certificate_list_plain};
 ghost use Rattle.cert_tool_describe.specs.Files.{IsList, PlainList, certificate_list};
 
@@ -13,11 +13,11 @@ use crate::description::add_kind;
 use crate::keys::add_digests;
 use crate::values::add_name;
 use cert_tool_lines::Lines;
-use der_core::{Error, ErrorKind, FromDer};
+use cert_tool_lines::cert_parts::Raw;
 use std::alloc::Global;
 use x509_cert_extensions::{CrlNumber, CrlReason};
+use x509_cert_lists::der::{Error, ErrorKind, FromDer};
 use x509_cert_lists::{CertificateList, RevokedCert, TbsCertList};
-use x509_cert_parts::Raw;
 
 impl Describe for CrlNumber {
     fn describe(&self, lines: &mut Lines) {

@@ -5,11 +5,11 @@ use crate::described::Describe;
 use crate::general_names::{add_general_name, add_general_names};
 use crate::uses::add_flags;
 use cert_tool_lines::Lines;
-use x509_cert_extensions::{AuthorityInfoAccessSyntax, CrlDistributionPoints};
-use x509_cert_general_names::{
+use x509_cert_extensions::cert_general_names::{
     AuthorityKeyIdentifier, DistributionPoint, DistributionPointName, GeneralSubtree,
     IssuingDistributionPoint, NameConstraints, ReasonFlags, Reasons,
 };
+use x509_cert_extensions::{AuthorityInfoAccessSyntax, CrlDistributionPoints};
 
 // Adds the lines of a point's name.
 fn add_point_name(lines: &mut Lines, name: &DistributionPointName) {

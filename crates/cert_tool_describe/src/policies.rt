@@ -3,14 +3,13 @@
 use crate::described::Describe;
 use crate::values::{add_value, list_in, values_in};
 use cert_tool_lines::Lines;
-use const_oid::ObjectIdentifier;
-use der_core::{ErrorKind, Tag};
-use der_types_any::Any;
-use der_types_numbers::Uint;
-use x509_cert_policies::{
+use cert_tool_lines::types::{Any, Uint};
+use x509_cert_extensions::policy_types::{
     CertificatePolicies, InhibitAnyPolicy, PolicyConstraints, PolicyInformation, PolicyMappings,
     PolicyQualifierInfo,
 };
+use x509_cert_lists::der::{ErrorKind, Tag};
+use x509_cert_lists::oid::ObjectIdentifier;
 
 // Adds the lines of the numbers of notices.
 fn add_numbers(lines: &mut Lines, numbers: &Any) {

@@ -1,6 +1,6 @@
 //! Descriptions of CSRs (RFC 2986).
 ghost use Rattle.std.specs.Prelude.{◌≢◌, IfNone, IfSome};
-ghost use Rattle.der_core_head.specs.declared.error.ErrorKind.TheVariants.{OutOfMemory};
+ghost use Rattle.x509_cert_lists.specs.Der.ErrorTypes.ErrorKind.TheVariants.{OutOfMemory};
 ghost use Rattle.cert_tool_describe.specs.Files.{IsRequest};
 
 use crate::algorithms::add_signature;
@@ -10,13 +10,13 @@ use crate::description::add_kind;
 use crate::keys::{add_digests, add_key, add_key_digests};
 use crate::values::{add_name, add_value, list_in};
 use cert_tool_lines::Lines;
-use const_oid::AssociatedOid;
-use der_core::{Error, ErrorKind};
-use der_types_any::Any;
+use cert_tool_lines::cert_parts::{Extension, Extensions, Version};
+use cert_tool_lines::types::Any;
 use std::alloc::Global;
+use x509_cert_lists::cert_names::Attribute;
+use x509_cert_lists::der::{Error, ErrorKind};
+use x509_cert_lists::oid::AssociatedOid;
 use x509_cert_lists::{CertReq, CertReqInfo, ExtensionReq};
-use x509_cert_names::Attribute;
-use x509_cert_parts::{Extension, Extensions, Version};
 
 // The extensions that a value asks for, if it is the one that asks.
 fn wanted_in(lines: &mut Lines, is_wanted: bool, value: &Any) -> Option<Extensions> {

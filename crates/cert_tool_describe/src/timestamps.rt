@@ -2,14 +2,14 @@
 
 use crate::described::Describe;
 use cert_tool_lines::Lines;
-use der_core::making::leaf_from_der;
-use der_core::{Error as DerError, ErrorKind, Tag};
-use der_types_values::OctetString;
+use cert_tool_lines::types::OctetString;
 use std::alloc::Global;
-use x509_cert_timestamps::{
+use x509_cert_extensions::policy_types::timestamps::{
     DigitallySigned, Error, HashAlgorithm, SerializedSct, SignatureAlgorithm,
     SignedCertificateTimestamp, SignedCertificateTimestampList, TlsError,
 };
+use x509_cert_lists::der::making::leaf_from_der;
+use x509_cert_lists::der::{Error as DerError, ErrorKind, Tag};
 
 // The name of a hash (RFC 5246 7.4.1.4.1, RFC 8422 5.1.3).
 fn hash_name(hash: &HashAlgorithm) -> &'static str {

@@ -3,10 +3,9 @@
 
 use crate::described::Describe;
 use cert_tool_lines::Lines;
-use der_types_time::GeneralizedTime;
-use der_types_values::{FlagSet, NamedBits};
+use cert_tool_lines::types::{FlagSet, GeneralizedTime, NamedBits};
+use x509_cert_extensions::policy_types::{BasicConstraints, PrivateKeyUsagePeriod};
 use x509_cert_extensions::{ExtendedKeyUsage, KeyUsage, KeyUsages, SubjectKeyIdentifier};
-use x509_cert_policies::{BasicConstraints, PrivateKeyUsagePeriod};
 
 impl Describe for SubjectKeyIdentifier {
     fn describe(&self, lines: &mut Lines) {

@@ -1,14 +1,14 @@
 //! Values of any type: their texts, or their octets.
 
 use cert_tool_lines::Lines;
-use const_oid::ObjectIdentifier;
-use der_core::describing::{DecodeWay, Described};
-use der_core::making::read_whole;
-use der_core::{Decode, Error, FixedTag, FromDer, SliceReader, Tag};
-use der_types_any::Any;
+use cert_tool_lines::types::Any;
 use std::alloc::Global;
 use std::str;
-use x509_cert_names::{AttributeTypeAndValue, Name};
+use x509_cert_lists::cert_names::{AttributeTypeAndValue, Name};
+use x509_cert_lists::der::describing::{DecodeWay, Described};
+use x509_cert_lists::der::making::read_whole;
+use x509_cert_lists::der::{Decode, Error, FixedTag, FromDer, SliceReader, Tag};
+use x509_cert_lists::oid::ObjectIdentifier;
 
 // The character of two octets, if they are one (X.690 8.23.8).
 fn wide_letter(high: u8, low: u8) -> Option<char> {

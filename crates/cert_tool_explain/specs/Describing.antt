@@ -1,9 +1,9 @@
 -- How octets of a file are described, or why they aren't, and the status.
 use Rattle.std.specs.Prelude.{ℕ, ◌⊎◌, List}
-use Rattle.cert_desk_io.specs.declared.exit_status.ExitStatus.{ExitStatus}
-use Rattle.cert_desk_io.specs.declared.exit_status.ExitStatus.TheVariants as statuses
-use Rattle.cert_desk_io.specs.Devices.{Device, Untouched}
-use Rattle.cert_desk_io.specs.Telling.{IsAnswer, IsComplaint, IsMemoryTold}
+use Rattle.cert_desk_checking.specs.DeskIo.declared.exit_status.ExitStatus.{ExitStatus}
+use Rattle.cert_desk_checking.specs.DeskIo.declared.exit_status.ExitStatus.TheVariants as statuses
+use Rattle.cert_desk_checking.specs.DeskIo.Devices.{Device, Untouched}
+use Rattle.cert_desk_checking.specs.DeskIo.Telling.{IsAnswer, IsComplaint, IsMemoryTold}
 use Rattle.cert_tool_describe.specs.Files.{IsCertificate, IsList, IsRequest}
 use Rattle.cert_tool_explain.specs.declared.kind.Kind.{Kind}
 use Rattle.cert_tool_explain.specs.declared.kind.Kind.TheVariants as kinds

@@ -2,33 +2,44 @@
 -- it may be left out, and what is inside it.
 use Rattle.std.specs.Prelude.{ℕ, List, [], ◌∷◌, ◌++◌, Bool, true, false, Option, Some, None, codes}
 use Rattle.std.specs.Borrow.{Bor}
-use Rattle.const_oid.specs.Bound.{Bound}
-use Rattle.der_core_head.specs.Shapes.{Shape, Content, Body, tagged, any, either, optional}
-use Rattle.der_core_head.specs.Shapes.{defaulted, nothing, leaf, nested, done, field, only, many}
-use Rattle.der_core_head.specs.Shapes.{exactly, few, in_order, rising, sequence}
-use Rattle.der_core_head.specs.Tags.{leading_octet}
-use Rattle.x509_cert_names.specs.Names.{name, type_and_value, attribute, directory_string}
-use Rattle.x509_cert_names.specs.Names.{relative_name}
-use Rattle.x509_cert_parts.specs.Grammar.{object_identifier, algorithm_identifier, public_key_info}
-use Rattle.x509_cert_parts.specs.Grammar.{version, validity, time, extension, extensions, number_of}
-use Rattle.x509_cert_certificates.specs.Certificates.{certificate, tbs_certificate}
-use Rattle.x509_cert_general_names.specs.GeneralNames.{general_name, general_names}
-use Rattle.x509_cert_general_names.specs.GeneralNames.{other_name_fields, edi_party_name_fields}
-use Rattle.x509_cert_general_names.specs.GeneralNames.{authority_key_identifier_fields}
-use Rattle.x509_cert_general_names.specs.GeneralNames.{general_subtree_fields, name_constraints_fields}
-use Rattle.x509_cert_general_names.specs.GeneralNames.{distribution_point_name}
-use Rattle.x509_cert_general_names.specs.GeneralNames.{distribution_point_fields}
-use Rattle.x509_cert_general_names.specs.GeneralNames.{issuing_distribution_point_fields}
-use Rattle.x509_cert_general_names.specs.GeneralNames.{access_description_fields}
-use Rattle.x509_cert_policies.specs.Policies.{basic_constraints_fields, policy_constraints_fields}
-use Rattle.x509_cert_policies.specs.Policies.{policy_mapping_fields, policy_qualifier_info_fields}
-use Rattle.x509_cert_policies.specs.Policies.{policy_information_fields}
-use Rattle.x509_cert_policies.specs.Policies.{private_key_usage_period_fields}
-use Rattle.x509_cert_lists.specs.ListGrammar.{revoked_cert_fields, tbs_cert_list_fields}
-use Rattle.x509_cert_lists.specs.ListGrammar.{certificate_list_fields, cert_req_info_fields}
-use Rattle.x509_cert_lists.specs.ListGrammar.{cert_req_fields}
-use Rattle.x509_cert_anchors.specs.Anchors.{cert_path_controls_fields}
-use Rattle.x509_cert_anchors.specs.Anchors.{trust_anchor_info_fields, trust_anchor_choice}
+use Rattle.cert_tool_describe.specs.Oid.Bound.{Bound}
+use Rattle.cert_tool_describe.specs.Der.Shapes.{Shape, Content, Body, tagged, any, either, optional}
+use Rattle.cert_tool_describe.specs.Der.Shapes.{defaulted, nothing, leaf, nested, done, field, only}
+use Rattle.cert_tool_describe.specs.Der.Shapes.{many}
+use Rattle.cert_tool_describe.specs.Der.Shapes.{exactly, few, in_order, rising, sequence}
+use Rattle.cert_tool_describe.specs.Der.Tags.{leading_octet}
+use Rattle.cert_tool_describe.specs.CertNames.Names.{name, type_and_value, attribute}
+use Rattle.cert_tool_describe.specs.CertNames.Names.{directory_string}
+use Rattle.cert_tool_describe.specs.CertNames.Names.{relative_name}
+use Rattle.cert_tool_describe.specs.CertParts.Grammar.{object_identifier, algorithm_identifier}
+use Rattle.cert_tool_describe.specs.CertParts.Grammar.{public_key_info}
+use Rattle.cert_tool_describe.specs.CertParts.Grammar.{version, validity, time, extension}
+use Rattle.cert_tool_describe.specs.CertParts.Grammar.{extensions, number_of}
+use Rattle.cert_tool_describe.specs.CertCertificates.Certificates.{certificate, tbs_certificate}
+use Rattle.cert_tool_describe.specs.CertGeneralNames.GeneralNames.{general_name, general_names}
+use Rattle.cert_tool_describe.specs.CertGeneralNames.GeneralNames.{other_name_fields}
+use Rattle.cert_tool_describe.specs.CertGeneralNames.GeneralNames.{edi_party_name_fields}
+use Rattle.cert_tool_describe.specs.CertGeneralNames.GeneralNames.{authority_key_identifier_fields}
+use Rattle.cert_tool_describe.specs.CertGeneralNames.GeneralNames.{general_subtree_fields}
+use Rattle.cert_tool_describe.specs.CertGeneralNames.GeneralNames.{name_constraints_fields}
+use Rattle.cert_tool_describe.specs.CertGeneralNames.GeneralNames.{distribution_point_name}
+use Rattle.cert_tool_describe.specs.CertGeneralNames.GeneralNames.{distribution_point_fields}
+use Rattle.cert_tool_describe.specs.CertGeneralNames.GeneralNames.{issuing_distribution_point_fields}
+use Rattle.cert_tool_describe.specs.CertGeneralNames.GeneralNames.{access_description_fields}
+use Rattle.cert_tool_describe.specs.PolicyTypes.Policies.{basic_constraints_fields}
+use Rattle.cert_tool_describe.specs.PolicyTypes.Policies.{policy_constraints_fields}
+use Rattle.cert_tool_describe.specs.PolicyTypes.Policies.{policy_mapping_fields}
+use Rattle.cert_tool_describe.specs.PolicyTypes.Policies.{policy_qualifier_info_fields}
+use Rattle.cert_tool_describe.specs.PolicyTypes.Policies.{policy_information_fields}
+use Rattle.cert_tool_describe.specs.PolicyTypes.Policies.{private_key_usage_period_fields}
+use Rattle.cert_tool_describe.specs.CertLists.ListGrammar.{revoked_cert_fields}
+use Rattle.cert_tool_describe.specs.CertLists.ListGrammar.{tbs_cert_list_fields}
+use Rattle.cert_tool_describe.specs.CertLists.ListGrammar.{certificate_list_fields}
+use Rattle.cert_tool_describe.specs.CertLists.ListGrammar.{cert_req_info_fields}
+use Rattle.cert_tool_describe.specs.CertLists.ListGrammar.{cert_req_fields}
+use Rattle.cert_desk_checking.specs.CertAnchors.Anchors.{cert_path_controls_fields}
+use Rattle.cert_desk_checking.specs.CertAnchors.Anchors.{trust_anchor_info_fields}
+use Rattle.cert_desk_checking.specs.CertAnchors.Anchors.{trust_anchor_choice}
 use Rattle.cert_tool_explain.specs.declared.parts.Node.{Node}
 use Rattle.cert_tool_explain.specs.declared.parts.Node.TheVariants as nodes
 

@@ -1,11 +1,11 @@
 //! Attributes of names whose texts aren't of their type, or are too short or too long.
 
 use crate::remark_lines::{begin_remark, end_remark};
-use cert_tool_lines::Lines;
-use const_oid::ObjectIdentifier;
-use der_core::Tag;
+use cert_tool_describe::cert_names::{AttributeTypeAndValue, Name};
+use cert_tool_describe::der::Tag;
+use cert_tool_describe::oid::ObjectIdentifier;
+use cert_tool_describe::tool_lines::Lines;
 use std::str;
-use x509_cert_names::{AttributeTypeAndValue, Name};
 
 // Whether an octet may stand in a PrintableString (X.680 41.4).
 fn is_of_printable(octet: u8) -> bool {

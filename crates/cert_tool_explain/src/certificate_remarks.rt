@@ -8,14 +8,14 @@ use crate::extension_remarks::{
 use crate::remark_lines::{
     add_each, add_serial_remarks, begin_remark, end_remark, has_twins, is_long_for_its_year,
 };
+use cert_tool_describe::cert_certificates::{CertificateInner, TbsCertificateInner};
+use cert_tool_describe::cert_extensions::KeyUsages;
+use cert_tool_describe::cert_parts::{Extension, Raw, Version};
+use cert_tool_describe::der::making::leaf_from_der;
+use cert_tool_describe::policy_types::BasicConstraints;
+use cert_tool_describe::tool_lines::Lines;
+use cert_tool_describe::types::FlagSet;
 use cert_tool_describe::{content_fault, number_of};
-use cert_tool_lines::Lines;
-use der_core::making::leaf_from_der;
-use der_types_values::FlagSet;
-use x509_cert_certificates::{CertificateInner, TbsCertificateInner};
-use x509_cert_extensions::KeyUsages;
-use x509_cert_parts::{Extension, Raw, Version};
-use x509_cert_policies::BasicConstraints;
 
 // What the extensions of a certificate say of its key and of its names.
 #[derive(Clone, Copy)]

@@ -2,10 +2,10 @@
 
 use crate::faults::add_fault_of_content;
 use crate::parts::{Node, Part};
+use cert_tool_describe::cert_parts::Extension;
+use cert_tool_describe::der::Error;
 use cert_tool_describe::number_of;
-use cert_tool_lines::Lines;
-use der_core::Error;
-use x509_cert_parts::Extension;
+use cert_tool_describe::tool_lines::Lines;
 
 // What the content of an extension of a kind is, by its number.
 fn root_of(number: u16) -> &'static [Part] {

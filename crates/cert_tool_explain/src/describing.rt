@@ -1,16 +1,16 @@
 //! Descriptions of files.
 
 ghost use Rattle.std.specs.Prelude.{◌≢◌, IfNone, IfOk, IfSome};
-ghost use Rattle.der_core_head.specs.declared.error.ErrorKind.TheVariants.{OutOfMemory};
-ghost use Rattle.cert_desk_io.specs.Devices.{sink};
+ghost use Rattle.cert_tool_describe.specs.Der.ErrorTypes.ErrorKind.TheVariants.{OutOfMemory};
+ghost use Rattle.cert_desk_checking.specs.DeskIo.Devices.{sink};
 ghost use Rattle.cert_tool_explain.specs.Describing.{IsDescribed, IsOfKind, IsRefusalTold};
 
 use crate::kind::Kind;
 use crate::refusal::explain_octets;
-use cert_desk_io::{ExitStatus, Output, answer, complain, tell_memory};
+use cert_desk_checking::desk_io::{ExitStatus, Output, answer, complain, tell_memory};
+use cert_tool_describe::der::ErrorKind;
+use cert_tool_describe::tool_lines::Lines;
 use cert_tool_describe::{add_certificate, add_list, add_request};
-use cert_tool_lines::Lines;
-use der_core::ErrorKind;
 use std::alloc::{AllocError, Global};
 
 // Adds the lines of what these octets spell; answers why they spell no value of the kind, if they

@@ -3,18 +3,18 @@
 
 use crate::name_remarks::add_name_remarks;
 use crate::remark_lines::{Seen, add_each, begin_remark, end_remark};
-use cert_tool_describe::number_of;
-use cert_tool_lines::Lines;
-use const_oid::ObjectIdentifier;
-use der_core::describing::{DecodeWay, Described};
-use der_core::making::read_whole;
-use der_core::{Decode, FixedTag, SliceReader};
-use x509_cert_general_names::{
+use cert_tool_describe::cert_general_names::{
     AuthorityKeyIdentifier, DistributionPoint, GeneralName, GeneralSubtree,
     IssuingDistributionPoint, NameConstraints,
 };
-use x509_cert_parts::Extension;
-use x509_cert_policies::{PolicyConstraints, PolicyInformation, PolicyMapping};
+use cert_tool_describe::cert_parts::Extension;
+use cert_tool_describe::der::describing::{DecodeWay, Described};
+use cert_tool_describe::der::making::read_whole;
+use cert_tool_describe::der::{Decode, FixedTag, SliceReader};
+use cert_tool_describe::number_of;
+use cert_tool_describe::oid::ObjectIdentifier;
+use cert_tool_describe::policy_types::{PolicyConstraints, PolicyInformation, PolicyMapping};
+use cert_tool_describe::tool_lines::Lines;
 
 /// The number of a kind, whether it is to be critical, its name, and the section.
 pub type Mark = (u16, bool, &'static str, &'static str);

@@ -1,7 +1,7 @@
 //! Why values are refused, in the words of the standards.
 
-use const_oid::ObjectIdentifier;
-use der_core::{ErrorKind, Tag};
+use cert_tool_describe::der::{ErrorKind, Tag};
+use cert_tool_describe::oid::ObjectIdentifier;
 
 // Why something is wrong, and the section that says so, if one does.
 type Words = (&'static str, &'static str);

@@ -3,8 +3,8 @@
 use crate::fault_words::words_of;
 use crate::parts::{Node, Part, parts_of};
 use crate::way_down::{Step, Way, content_at, is_followed, way_to};
-use cert_tool_lines::Lines;
-use der_core::{Error, ErrorKind, Tag};
+use cert_tool_describe::der::{Error, ErrorKind, Tag};
+use cert_tool_describe::tool_lines::Lines;
 
 // What octets of a kind are, as the one part of a file.
 fn alone(node: Node) -> &'static [Part] {

@@ -7,12 +7,12 @@ use crate::extension_remarks::{OF_LISTS, add_content_remarks, add_mark_remarks, 
 use crate::remark_lines::{
     add_each, begin_remark, end_remark, has_twins, is_long_for_its_year, is_wrong_serial,
 };
+use cert_tool_describe::cert_lists::{CertificateList, RevokedCert, TbsCertList};
+use cert_tool_describe::cert_parts::{Extension, Extensions, Raw, Version};
+use cert_tool_describe::der::making::leaf_from_der;
+use cert_tool_describe::tool_lines::Lines;
+use cert_tool_describe::types::Uint;
 use cert_tool_describe::{content_fault, number_of};
-use cert_tool_lines::Lines;
-use der_core::making::leaf_from_der;
-use der_types_numbers::Uint;
-use x509_cert_lists::{CertificateList, RevokedCert, TbsCertList};
-use x509_cert_parts::{Extension, Extensions, Raw, Version};
 
 // What the extensions of a list say.
 #[derive(Clone, Copy)]

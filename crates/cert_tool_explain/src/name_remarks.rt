@@ -2,8 +2,8 @@
 
 use crate::remark_lines::{begin_remark, end_text};
 use cert_tool_describe::add_general_name;
-use cert_tool_lines::Lines;
-use x509_cert_general_names::GeneralName;
+use cert_tool_describe::cert_general_names::GeneralName;
+use cert_tool_describe::tool_lines::Lines;
 
 // Whether octets are a label of a host's name (RFC 1034 3.5, RFC 1123 2.1).
 fn is_label(label: &[u8]) -> bool {

@@ -6,11 +6,11 @@ use crate::kind::Kind;
 use crate::list_remarks::add_list_remarks;
 use crate::parts::Node;
 use cert_tool_describe::DescribeFile;
-use cert_tool_lines::Lines;
+use cert_tool_describe::cert_certificates::CertificateInner;
+use cert_tool_describe::cert_lists::{CertReq, CertificateList};
+use cert_tool_describe::cert_parts::Raw;
+use cert_tool_describe::tool_lines::Lines;
 use std::alloc::{AllocError, Global};
-use x509_cert_certificates::CertificateInner;
-use x509_cert_lists::{CertReq, CertificateList};
-use x509_cert_parts::Raw;
 
 // How many octets are looked at for the first line of PEM.
 const MOST_TEXT: usize = 65536;

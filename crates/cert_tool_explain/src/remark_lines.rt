@@ -1,9 +1,9 @@
 //! Remarks: what must be otherwise, though it is read, and no rule of a chain forbids it.
 
-use cert_tool_lines::Lines;
+use cert_tool_describe::cert_parts::{Extension, Time};
+use cert_tool_describe::tool_lines::Lines;
 use std::alloc::Global;
 use std::collections::BTreeMap;
-use x509_cert_parts::{Extension, Time};
 
 /// A remark: whether it is made, and the section that says so.
 pub type Remark = (bool, &'static str, &'static str);

@@ -2,8 +2,7 @@
 
 use crate::inner_parts::{Fields, Taken};
 use crate::parts::Part;
-use der_core::{Error, ErrorKind, Tag, header_of};
-use der_core_head::MAX_LEVELS;
+use cert_tool_describe::der::{Error, ErrorKind, MAX_LEVELS, Tag, header_of};
 use std::alloc::{AllocError, Global};
 
 /// A value among others that stand one after the other.

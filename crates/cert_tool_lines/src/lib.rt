@@ -7,3 +7,18 @@ mod lines;
 
 pub use known_names::known_name;
 pub use lines::Lines;
+
+/// The names of `x509_cert_parts` that the crates above use.
+pub mod cert_parts {
+    pub use x509_cert_parts::{
+        AlgorithmIdentifier, Extension, Extensions, Raw, SubjectPublicKeyInfo, Time, Validity,
+        Version,
+    };
+}
+
+/// The names of `der_types` that the crates above use.
+pub mod types {
+    pub use x509_cert_parts::types::{
+        Any, BitString, DateTime, FlagSet, GeneralizedTime, NamedBits, OctetString, Uint,
+    };
+}

@@ -1,13 +1,13 @@
 //! Texts that are written line by line, or as one document of JSON (RFC 8259), by the same calls.
 
 use crate::known_names::known_name;
-use const_oid::ObjectIdentifier;
-use der_core::ErrorKind;
 use std::alloc::{AllocError, Global};
 use std::fmt;
 use std::fmt::Write;
 use ucd_category::GeneralCategory;
 use x509_cert_parts::Time;
+use x509_cert_parts::der::ErrorKind;
+use x509_cert_parts::oid::ObjectIdentifier;
 
 // The digits in base 16.
 const DIGITS: [u8; 16] = *b"0123456789ABCDEF";

@@ -8,13 +8,13 @@ use Rattle.std.proofs.lemmas.Bool.Decides.{nat_tests}
 use Rattle.std.specs.Fn.{Mut, Called}
 use Rattle.std.specs.Iterator.Adapters.{map_steps, map_source, map_callee}
 use Rattle.std.proofs.lemmas.Iterator.{YieldsList, YieldsList-from_slice, YieldsList-from_map_by}
-use Rattle.der_core_head.specs.declared.error.Error.{Error}
-use Rattle.der_core_head.specs.declared.error.ErrorKind.TheVariants as kinds
-use Rattle.der_core_head.specs.Octets.{◌>>=◌}
-use Rattle.der_core_head.specs.Shapes.{Shape, many, Value, body_octets, IsValid, IsBody, octets_of, AllRising, above}
-use Rattle.der_core_head.specs.Grammar.{plain_list, plain_option}
-use Rattle.der_core_head.specs.Spelling.{is_apart, is_body_apart, is_element}
-use Rattle.der_core_head.specs.Writing.{size, size_body, sum_len, many_len, all_follow}
+use Rattle.der_core_coding.specs.CoreHead.declared.error.Error.{Error}
+use Rattle.der_core_coding.specs.CoreHead.declared.error.ErrorKind.TheVariants as kinds
+use Rattle.der_core_coding.specs.CoreHead.Octets.{◌>>=◌}
+use Rattle.der_core_coding.specs.CoreHead.Shapes.{Shape, many, Value, body_octets, IsValid, IsBody, octets_of, AllRising, above}
+use Rattle.der_core_coding.specs.CoreHead.Grammar.{plain_list, plain_option}
+use Rattle.der_core_coding.specs.CoreHead.Spelling.{is_apart, is_body_apart, is_element}
+use Rattle.der_core_coding.specs.CoreHead.Writing.{size, size_body, sum_len, many_len, all_follow}
 use Rattle.der_core.specs.Orders.{encodings_cmp, bodies_cmp, Overflows, octets_cmp}
 use Rattle.der_core.proofs.OrderLaws.{first_decides, others_decide}
 use Rattle.der_core.proofs.Sizes.{size_only, sum_only, over_or, longer}

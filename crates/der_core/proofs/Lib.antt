@@ -4,3 +4,24 @@ pub mod ShapeOrders
 pub mod IterOrders
 pub mod Rows
 pub mod ValueEquality
+mod Cited
+pub mod IntegerLaws
+pub mod TextLaws
+pub mod DigitLaws
+pub mod DecodingLaws
+pub use Rattle.der_core_coding.proofs.CoreHead.Results
+pub use Rattle.der_core_coding.proofs.CoreHead.TagLaws
+pub use Rattle.der_core_coding.proofs.CoreHead.HeadLaws
+pub use Rattle.der_core_coding.proofs.CoreHead.LeafLaws
+pub use Rattle.der_core_coding.proofs.CoreHead.Complete
+pub use Rattle.der_core_coding.proofs.CoreHead.OneEncoding
+pub use Rattle.der_core_coding.proofs.CoreHead.Written
+pub use Rattle.der_core_coding.proofs.CoreHead.BodyLaws
+pub use Rattle.der_core_coding.proofs.CoreHead.BoundLaws
+pub use Rattle.der_core_coding.proofs.CoreOctets.GoingOn
+pub use Rattle.der_core_coding.proofs.CoreOctets.LongLengths
+pub use Rattle.der_core_coding.proofs.CoreOctets.Levels
+pub use Rattle.der_core_coding.proofs.CoreOctets.Added
+pub use Rattle.der_core_coding.proofs.CoreValues.Lists
+pub use Rattle.der_core_coding.proofs.CoreValues.Headed
+pub use Rattle.der_core_coding.proofs.Oid

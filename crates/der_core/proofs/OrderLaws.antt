@@ -8,23 +8,23 @@ use Rattle.std.proofs.lemmas.Bool.Decides.{nat_tests}
 use Rattle.der_core.specs.Orders.{octets_cmp, contents_cmp, Overflows}
 use Rattle.std.proofs.lemmas.Bool.{cases_lt}
 use Rattle.std.specs.Int.Digits.{number_from_digits, number_from_digits_after, AllBelowBase}
-use Rattle.const_oid.specs.Digits.{digits}
+use Rattle.der_core_coding.specs.Oid.Digits.{digits}
 use Rattle.const_oid.proofs.DigitLaws.{digits-Digits, digits-one, digits-more, halved}
 pub use Rattle.const_oid.proofs.OrderLaws.{nat_cmp-less, nat_cmp-greater, nat_cmp-same}
-use Rattle.der_core_head.specs.Limits.{IsLength}
-use Rattle.der_core_head.specs.declared.tag.Tag.{Tag}
-use Rattle.der_core_head.specs.Tags.{IsTag, tag_octets, tag_at}
-use Rattle.der_core_head.specs.Heads.{length_octets, length_at, head_octets, tlv, Fits}
+use Rattle.der_core_coding.specs.CoreHead.Limits.{IsLength}
+use Rattle.der_core_coding.specs.CoreHead.declared.tag.Tag.{Tag}
+use Rattle.der_core_coding.specs.CoreHead.Tags.{IsTag, tag_octets, tag_at}
+use Rattle.der_core_coding.specs.CoreHead.Heads.{length_octets, length_at, head_octets, tlv, Fits}
 use Rattle.der_core_head.proofs.Results.{ok_is}
 use Rattle.der_core_head.proofs.TagLaws.{tag_again}
 use Rattle.der_core_head.proofs.HeadLaws.{length-short, length-long, length_again, split-tlv, fits_contents}
-use Rattle.der_core_head.specs.declared.error.Error.{Error}
-use Rattle.der_core_head.specs.declared.error.ErrorKind.{ErrorKind}
-use Rattle.der_core_head.specs.Shapes.{Content, ContentValue, tagged, contents, octets_of, IsValid, IsContent, leaf}
-use Rattle.der_core_head.specs.Writing.{size, size_content}
+use Rattle.der_core_coding.specs.CoreHead.declared.error.Error.{Error}
+use Rattle.der_core_coding.specs.CoreHead.declared.error.ErrorKind.{ErrorKind}
+use Rattle.der_core_coding.specs.CoreHead.Shapes.{Content, ContentValue, tagged, contents, octets_of, IsValid, IsContent, leaf}
+use Rattle.der_core_coding.specs.CoreHead.Writing.{size, size_content}
 use Rattle.der_core_head.proofs.Written.{sized_content}
 use Rattle.der_core.proofs.Sizes.{content_only, tlv_over, longer}
-use Rattle.der_core_head.specs.Leaves.{Leaf, LeafValue, boolean, null, leaf_contents as octets_of_leaf}
+use Rattle.der_core_coding.specs.CoreHead.Leaves.{Leaf, LeafValue, boolean, null, leaf_contents as octets_of_leaf}
 
 -- The order of lists of octets, and of joined lists.
 

@@ -5,18 +5,18 @@ use Rattle.std.specs.Ordering.{ordering_then, ordering_reverse}
 use Rattle.std.specs.Cmp.Lexicographic.{slice_cmp, nat_list_cmp_total}
 use Rattle.std.proofs.lemmas.Bool.{and_parts, or_cases, false≢true, or_left, or_right}
 use Rattle.std.proofs.lemmas.Bool.Decides.{nat_tests}
-use Rattle.der_core_head.specs.declared.tag.Tag.{Tag}
-use Rattle.der_core_head.specs.Tags.{IsTag, tag_octets}
-use Rattle.der_core_head.specs.Heads.{Fits, tlv}
-use Rattle.der_core_head.specs.Shapes.{Shape, Body, tagged, any, either, optional, defaulted, nothing, field, Value, BodyValue, octets_of, contents, body_octets, unless, IsValid, IsBody, begins, Content, ContentValue, AnyValue}
-use Rattle.der_core_head.specs.Spelling.{is_apart, is_body_apart, is_element, is_clear, is_end, none_of, body_begins}
-use Rattle.der_core_head.proofs.HeadLaws.{fits_contents}
-use Rattle.der_core_head.proofs.TagLaws.{tag_octets-some, same_tag-refl}
-use Rattle.der_core_head.proofs.Complete.{element_some, not_begins, end_empty, tlv_first}
+use Rattle.der_core_coding.specs.CoreHead.declared.tag.Tag.{Tag}
+use Rattle.der_core_coding.specs.CoreHead.Tags.{IsTag, tag_octets}
+use Rattle.der_core_coding.specs.CoreHead.Heads.{Fits, tlv}
+use Rattle.der_core_coding.specs.CoreHead.Shapes.{Shape, Body, tagged, any, either, optional, defaulted, nothing, field, Value, BodyValue, octets_of, contents, body_octets, unless, IsValid, IsBody, begins, Content, ContentValue, AnyValue}
+use Rattle.der_core_coding.specs.CoreHead.Spelling.{is_apart, is_body_apart, is_element, is_clear, is_end, none_of, body_begins}
+use Rattle.der_core_coding.proofs.CoreHead.HeadLaws.{fits_contents}
+use Rattle.der_core_coding.proofs.CoreHead.TagLaws.{tag_octets-some, same_tag-refl}
+use Rattle.der_core_coding.proofs.CoreHead.Complete.{element_some, not_begins, end_empty, tlv_first}
 use Rattle.der_core.specs.Orders.{octets_cmp, encodings_cmp, bodies_cmp, StartsWith, next_cmp, Overflows}
 use Rattle.der_core.proofs.OrderLaws.{then_first, octets_cmp-append, Splits, tag_splits, tag_cmp-equal, tlv_splits}
-use Rattle.der_core_head.specs.declared.error.Error.{Error}
-use Rattle.der_core_head.specs.Writing.{both_len, size, size_body, default_len}
+use Rattle.der_core_coding.specs.CoreHead.declared.error.Error.{Error}
+use Rattle.der_core_coding.specs.CoreHead.Writing.{both_len, size, size_body, default_len}
 use Rattle.der_core.proofs.Sizes.{size_only, first_over, second_over, longer}
 
 -- No encoding begins another

@@ -1,14 +1,14 @@
 -- A length is refused only where it passes what a length can count.
 use Rattle.std.proofs.Common.{◌≡◌, ℕ, zero, suc, Bool, List, [], ◌∷◌, length, Some, None, Result, Ok, Err, refl, arith, inl, inr, slice_get, bytes_eq}
 use Rattle.std.proofs.lemmas.Bool.Decides.{nat_tests}
-use Rattle.der_core_head.specs.declared.error.Error.{Error}
-use Rattle.der_core_head.specs.declared.error.ErrorKind.{ErrorKind}
-use Rattle.der_core_head.specs.declared.error.ErrorKind.TheVariants as kinds
-use Rattle.der_core_head.specs.declared.tag.Tag.{Tag}
-use Rattle.der_core_head.specs.Octets.{◌>>=◌}
-use Rattle.der_core_head.specs.Leaves.{leaf_contents}
-use Rattle.der_core_head.specs.Shapes.{Shape, Content, Body, tagged, any, either, optional, defaulted, nothing, leaf, nested, done, field, only, many, exactly, few, in_order, Value, ContentValue, BodyValue, octets_of}
-use Rattle.der_core_head.specs.Writing.{head_len, sum_len, fit_len, tlv_len, both_len, many_len, default_len, size, size_content, size_body}
+use Rattle.der_core_coding.specs.CoreHead.declared.error.Error.{Error}
+use Rattle.der_core_coding.specs.CoreHead.declared.error.ErrorKind.{ErrorKind}
+use Rattle.der_core_coding.specs.CoreHead.declared.error.ErrorKind.TheVariants as kinds
+use Rattle.der_core_coding.specs.CoreHead.declared.tag.Tag.{Tag}
+use Rattle.der_core_coding.specs.CoreHead.Octets.{◌>>=◌}
+use Rattle.der_core_coding.specs.CoreHead.Leaves.{leaf_contents}
+use Rattle.der_core_coding.specs.CoreHead.Shapes.{Shape, Content, Body, tagged, any, either, optional, defaulted, nothing, leaf, nested, done, field, only, many, exactly, few, in_order, Value, ContentValue, BodyValue, octets_of}
+use Rattle.der_core_coding.specs.CoreHead.Writing.{head_len, sum_len, fit_len, tlv_len, both_len, many_len, default_len, size, size_content, size_body}
 use Rattle.der_core.specs.Orders.{Overflows}
 
 abbrev pub OnlyOverflows : Result ℕ ErrorKind → Type 0

@@ -5,12 +5,12 @@ use Rattle.std.specs.Cmp.{first_so, second_so}
 use Rattle.std.specs.Cmp.Lexicographic.{pointwise, bytes_decides}
 use Rattle.std.specs.Option.{option_eq}
 use Rattle.der_core.specs.Equality.{IsOfValues}
-use Rattle.der_core_head.specs.Grammar.{plain_list, plain_option}
-use Rattle.der_core_head.specs.Heads.{tlv}
-use Rattle.der_core_head.specs.Integers.{Numbers}
-use Rattle.der_core_head.specs.Leaves.{Leaf, LeafValue, boolean, integer, leaf_contents, named}
-use Rattle.der_core_head.specs.Shapes.{Shape, Body, Value, BodyValue, Step, leaf, tagged, either, optional, defaulted, nested, done, field, only, many, in_order, octets_of, contents, body_octets}
-use Rattle.der_core_head.specs.declared.tag.Tag.{Tag}
+use Rattle.der_core_coding.specs.CoreHead.Grammar.{plain_list, plain_option}
+use Rattle.der_core_coding.specs.CoreHead.Heads.{tlv}
+use Rattle.der_core_coding.specs.CoreHead.Integers.{Numbers}
+use Rattle.der_core_coding.specs.CoreHead.Leaves.{Leaf, LeafValue, boolean, integer, leaf_contents, named}
+use Rattle.der_core_coding.specs.CoreHead.Shapes.{Shape, Body, Value, BodyValue, Step, leaf, tagged, either, optional, defaulted, nested, done, field, only, many, in_order, octets_of, contents, body_octets}
+use Rattle.der_core_coding.specs.CoreHead.declared.tag.Tag.{Tag}
 
 pub record Alike (s : Shape) (e : Bool) (v w : Value s) : Type 0 where
   pub encoding : e ≡ true → octets_of s v ≡ octets_of s w

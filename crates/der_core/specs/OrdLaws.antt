@@ -5,11 +5,12 @@ use Rattle.std.proofs.lemmas.Bool.Decides.{nat_tests}
 use Rattle.std.specs.Ordering.{nat_cmp, bool_cmp, ordering_then}
 use Rattle.std.specs.Cmp.{nat_cmp_total, tied_itself}
 use Rattle.std.specs.declared.cmp.Ordering.TheVariants.{Equal}
-use Rattle.const_oid.specs.IdentifierOctets.{identifier_octets}
-use Rattle.const_oid.specs.Orders.{owned_cmp}
-use Rattle.der_core_head.specs.Leaves.{Leaf, LeafValue, leaf_contents as octets_of_leaf, boolean}
-use Rattle.der_core_head.specs.Leaves.{null, identifier}
-use Rattle.der_core_head.specs.Shapes.{leaf, contents, IsContent}
+use Rattle.der_core_coding.specs.Oid.IdentifierOctets.{identifier_octets}
+use Rattle.der_core_coding.specs.Oid.Orders.{owned_cmp}
+use Rattle.der_core_coding.specs.CoreHead.Leaves.{Leaf, LeafValue, leaf_contents as octets_of_leaf}
+use Rattle.der_core_coding.specs.CoreHead.Leaves.{boolean}
+use Rattle.der_core_coding.specs.CoreHead.Leaves.{null, identifier}
+use Rattle.der_core_coding.specs.CoreHead.Shapes.{leaf, contents, IsContent}
 use Rattle.der_core.specs.Orders.{octets_cmp, contents_cmp}
 
 -- a type that is ordered as the octets of its contents

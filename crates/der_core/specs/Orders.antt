@@ -5,13 +5,14 @@ use Rattle.std.specs.Ordering.{nat_cmp}
 use Rattle.std.specs.declared.cmp.Ordering.{Ordering}
 use Rattle.std.specs.declared.cmp.Ordering.TheVariants.{Less}
 use Rattle.std.specs.Cmp.Lexicographic.{slice_cmp}
-use Rattle.der_core_head.specs.declared.error.Error.{Error}
-use Rattle.der_core_head.specs.declared.error.ErrorKind.{ErrorKind}
-use Rattle.der_core_head.specs.declared.error.ErrorKind.TheVariants as kinds
-use Rattle.der_core_head.specs.declared.tag.Tag.{Tag}
-use Rattle.der_core_head.specs.Tags.{IsTag, tag_octets}
-use Rattle.der_core_head.specs.Shapes.{Shape, Content, Body, Value, ContentValue, BodyValue}
-use Rattle.der_core_head.specs.Shapes.{octets_of, contents, body_octets}
+use Rattle.der_core_coding.specs.CoreHead.declared.error.Error.{Error}
+use Rattle.der_core_coding.specs.CoreHead.declared.error.ErrorKind.{ErrorKind}
+use Rattle.der_core_coding.specs.CoreHead.declared.error.ErrorKind.TheVariants as kinds
+use Rattle.der_core_coding.specs.CoreHead.declared.tag.Tag.{Tag}
+use Rattle.der_core_coding.specs.CoreHead.Tags.{IsTag, tag_octets}
+use Rattle.der_core_coding.specs.CoreHead.Shapes.{Shape, Content, Body, Value, ContentValue}
+use Rattle.der_core_coding.specs.CoreHead.Shapes.{BodyValue}
+use Rattle.der_core_coding.specs.CoreHead.Shapes.{octets_of, contents, body_octets}
 
 -- the first octets that differ decide, and where none do the shorter list is the lower one
 abbrev pub octets_cmp : List ℕ → List ℕ → Ordering

@@ -3,10 +3,10 @@ use Rattle.std.specs.Prelude.{◌≡◌, ◌⊎◌, List, [], ◌∷◌, Bool, t
 use Rattle.std.specs.List.{AllByRecursion, list_any}
 use Rattle.std.specs.declared.cmp.Ordering.{Ordering}
 use Rattle.std.specs.declared.cmp.Ordering.TheVariants.{Less, Equal, Greater}
-use Rattle.der_core_head.specs.declared.error.Error.{Error}
-use Rattle.der_core_head.specs.declared.error.ErrorKind.TheVariants as kinds
-use Rattle.der_core_head.specs.Grammar.{plain_list}
-use Rattle.der_core_head.specs.Shapes.{Shape, Value, IsValid}
+use Rattle.der_core_coding.specs.CoreHead.declared.error.Error.{Error}
+use Rattle.der_core_coding.specs.CoreHead.declared.error.ErrorKind.TheVariants as kinds
+use Rattle.der_core_coding.specs.CoreHead.Grammar.{plain_list}
+use Rattle.der_core_coding.specs.CoreHead.Shapes.{Shape, Value, IsValid}
 use Rattle.der_core.specs.Orders.{encodings_cmp}
 
 -- whether an order is this one

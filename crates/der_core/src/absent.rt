@@ -1,20 +1,20 @@
 //! Comparison of fields of no octets.
 
 use crate::order::{DerOrd, FirstTag};
-use der_core_head::{Error, Tag};
+use der_core_coding::core_head::{Error, Tag};
 use std::cmp::Ordering;
 use std::marker::PhantomData;
 
 /// No octets are no octets.
 impl<T> DerOrd for PhantomData<T> {
-    #[tactic(auto, unfolding(der_core_head::specs::Shapes::octets_of))]
+    #[tactic(auto, unfolding(crate::specs::Opened::octets_of))]
     fn der_cmp(&self, _other: &Self) -> Result<Ordering, Error> {
         Ok(Ordering::Equal)
     }
 }
 
 impl<T> FirstTag for PhantomData<T> {
-    #[tactic(auto, unfolding(der_core_head::specs::Shapes::octets_of))]
+    #[tactic(auto, unfolding(crate::specs::Opened::octets_of))]
     fn first_tag(&self) -> Option<Tag> {
         None
     }

@@ -5,7 +5,7 @@ ghost use Rattle.der_core.specs.OrdLaws.{bool_order};
 
 use crate::by_ord::OrdIsValueOrd;
 use crate::order::ValueOrd;
-use der_core_head::Error;
+use der_core_coding::core_head::Error;
 use std::cmp::Ordering;
 
 /// False, `00`, is below true, `FF` (X.690 11.1).

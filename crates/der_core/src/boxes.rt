@@ -1,7 +1,7 @@
 //! Comparison of values in a box.
 
 use crate::order::ValueOrd;
-use der_core_head::Error;
+use der_core_coding::core_head::Error;
 use std::cmp::Ordering;
 
 impl<T: ValueOrd> ValueOrd for Box<T> {

@@ -1,18 +1,18 @@
 //! Types whose own order is that of their contents.
 
 ghost use Rattle.std.specs.Prelude.{◌≡◌, length, true, Ok, IfErr, string_bytes};
-ghost use Rattle.const_oid.specs.Bound.{Bound};
-ghost use Rattle.der_core_head.specs.Leaves.{utf8};
-ghost use Rattle.der_core_head.specs.Shapes.{IsContent, contents};
-ghost use Rattle.der_core_head.specs.Spelling.{is_content_apart};
-ghost use Rattle.der_core_head.specs.Writing.{size_content};
+ghost use Rattle.der_core_coding.specs.Oid.Bound.{Bound};
+ghost use Rattle.der_core_coding.specs.CoreHead.Leaves.{utf8};
+ghost use Rattle.der_core_coding.specs.CoreHead.Shapes.{IsContent, contents};
+ghost use Rattle.der_core_coding.specs.CoreHead.Spelling.{is_content_apart};
+ghost use Rattle.der_core_coding.specs.CoreHead.Writing.{size_content};
 ghost use Rattle.der_core.specs.Orders.{contents_cmp, Overflows};
 ghost use Rattle.der_core.specs.OrdLaws.{identifier_order, octets_order};
 
 use crate::order::ValueOrd;
-use const_oid::ObjectIdentifier;
-use der_core_head::Error;
-use der_core_values::ShapedValue;
+use der_core_coding::core_head::Error;
+use der_core_coding::core_values::ShapedValue;
+use der_core_coding::oid::ObjectIdentifier;
 use std::cmp::Ordering;
 
 /// A type whose `Ord` is the order of contents of equal length, as lists of octets.

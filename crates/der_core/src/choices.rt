@@ -1,15 +1,15 @@
 //! Comparison of choices.
 
 ghost use Rattle.std.specs.Prelude.{◌≡◌, true};
-ghost use Rattle.der_core_head.specs.Shapes.{either, octets_of, IsValid};
-ghost use Rattle.der_core_head.specs.Spelling.{is_apart};
+ghost use Rattle.der_core_coding.specs.CoreHead.Shapes.{either, octets_of, IsValid};
+ghost use Rattle.der_core_coding.specs.CoreHead.Spelling.{is_apart};
 ghost use Rattle.der_core.specs.Orders.{octets_cmp};
 
 use crate::order::{DerOrd, FirstTag};
 use crate::pairs::next_cmp;
 use der_core_coding::EncodeRef;
-use der_core_head::{Error, Tag};
-use der_core_values::{OneOf2, OneOf3, OneOf4, Shaped};
+use der_core_coding::core_head::{Error, Tag};
+use der_core_coding::core_values::{OneOf2, OneOf3, OneOf4, Shaped};
 use std::cmp::Ordering;
 
 /// The alternative `k` of `n`, two to nine, as a pattern or as a value: `case!(5 of 8: value)` is

@@ -1,9 +1,9 @@
 //! Copies of lists, and of what may be absent, in memory of one allocator.
 
 ghost use Rattle.std.specs.Prelude.{◌≡◌, IfOk};
-ghost use Rattle.der_core_head.specs.Grammar.{plain_list, plain_option};
+ghost use Rattle.der_core_coding.specs.CoreHead.Grammar.{plain_list, plain_option};
 
-use der_core_values::Shaped;
+use der_core_coding::core_values::Shaped;
 use std::alloc::{AllocError, Global};
 
 /// Copies of the members of a list, each made by `copy`.

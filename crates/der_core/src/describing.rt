@@ -16,8 +16,8 @@
 
 pub use crate::order::{OrderWay, Ordered};
 pub use crate::records::{AsRecord, RowUser, Rows};
-pub use der_core_values::describing::{
+pub use der_core_coding::core_values::describing::{
     AsEnumerated, AsField, AsInteger, AsLeaf, AsNumbered, AsOctets, DecodeWay, Described,
     EncodeLeaf, Numbered, Octets, Primitive, TagWay, Wraps,
 };
-pub use der_core_values::{DecodeRow, FieldRow, FieldsView};
+pub use der_core_coding::core_values::{DecodeRow, FieldRow, FieldsView};

@@ -1,8 +1,8 @@
 //! Comparison of values behind a reference.
 
 use crate::order::{DerOrd, FirstTag, ValueOrd};
+use der_core_coding::core_head::{Error, Tag};
 use der_core_coding::{EncodeRef, EncodeValueRef};
-use der_core_head::{Error, Tag};
 use std::cmp::Ordering;
 
 /// The content of the value behind the reference.

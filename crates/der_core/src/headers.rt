@@ -1,16 +1,16 @@
 //! The order of tags, lengths and headers, by their octets.
 
 ghost use Rattle.std.specs.Prelude.{◌≡◌, ◌≤◌, take};
-ghost use Rattle.der_core_head.specs.Tags.{IsTag, tag_octets};
-ghost use Rattle.der_core_head.specs.Heads.{length_octets, head_octets};
+ghost use Rattle.der_core_coding.specs.CoreHead.Tags.{IsTag, tag_octets};
+ghost use Rattle.der_core_coding.specs.CoreHead.Heads.{length_octets, head_octets};
 ghost use Rattle.der_core.specs.Orders.{octets_cmp};
 
-use der_core_head::{Length, Tag, leading_octet_of, number_of};
-use der_core_octets::Header;
+use der_core_coding::core_head::{Length, Tag, leading_octet_of, number_of};
+use der_core_coding::core_octets::Header;
 use std::cmp::Ordering;
 
 /// The octets of a tag (X.690 8.1.2): those of the array up to a place.
-#[tactic(auto, using(der_core_head::proofs::TagLaws::tag_forms))]
+#[tactic(auto, using(crate::proofs::Cited::tag_forms))]
 fn tag_octets_of(tag: Tag) -> ([u8; 6], usize)
     ensures octets { take result.1 result.0 ≡ tag_octets tag }
     ensures within { result.1 ≤ 6 }

@@ -1,8 +1,8 @@
 //! Comparison of implicit tags.
 
 use crate::order::ValueOrd;
+use der_core_coding::core_head::Error;
 use der_core_coding::{Implicit, ImplicitRef};
-use der_core_head::Error;
 use std::cmp::Ordering;
 
 /// Behind the tag stands the content of the value (X.690 8.14.3).

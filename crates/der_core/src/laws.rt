@@ -7,22 +7,22 @@ ghost use Rattle.std.specs.Prelude.{◌≡◌, ◌↔◌, ℕ, List, [], ◌++�
 ghost use Rattle.std.specs.Ordering.{nat_cmp, ordering_then, ordering_reverse};
 ghost use Rattle.std.specs.declared.cmp.Ordering.{Ordering};
 ghost use Rattle.std.specs.declared.cmp.Ordering.TheVariants.{Less, Equal};
-ghost use Rattle.der_core_head.specs.Heads.{length_octets};
-ghost use Rattle.der_core_head.specs.Grammar.{read};
-ghost use Rattle.der_core_head.specs.Shapes.{Shape, Value, IsValid, octets_of};
-ghost use Rattle.der_core_head.specs.Spelling.{is_apart, is_element, are_enough};
-ghost use Rattle.der_core_head.specs.Writing.{Out, write};
+ghost use Rattle.der_core_coding.specs.CoreHead.Heads.{length_octets};
+ghost use Rattle.der_core_coding.specs.CoreHead.Grammar.{read};
+ghost use Rattle.der_core_coding.specs.CoreHead.Shapes.{Shape, Value, IsValid, octets_of};
+ghost use Rattle.der_core_coding.specs.CoreHead.Spelling.{is_apart, is_element, are_enough};
+ghost use Rattle.der_core_coding.specs.CoreHead.Writing.{Out, write};
 ghost use Rattle.der_core.specs.Equality.{IsOfValues};
 ghost use Rattle.der_core.specs.Orders.{octets_cmp, encodings_cmp};
 
-pub use der_core_head::laws::{
+pub use der_core_coding::core_head::laws::{
     apart_is_lawful, ber_headers_are_spelled, bodies_end_themselves, bounds_are_those_of_shapes,
     headers_are_spelled, headers_stay, more_levels_read_alike, new_values_hold_large_arcs,
     read_is_spelled, spelled_is_read, valid_is_written, values_begin_as_stated,
     wider_bounds_keep_encodings, written_is_read, written_is_spelled,
 };
-pub use der_core_octets::laws::scanned_in_one_way;
-use der_core_values::{Element, InRange, Member};
+pub use der_core_coding::core_octets::laws::scanned_in_one_way;
+use der_core_coding::core_values::{Element, InRange, Member};
 
 /// What was written of a value has an encoding, where the values of its type are in range, and is
 /// read as that value.

@@ -1,15 +1,17 @@
 //! Comparison of values whose content is no list of values.
 
 ghost use Rattle.std.specs.Prelude.{◌≡◌};
-ghost use Rattle.der_core_head.specs.Integers.{integer_octets};
+ghost use Rattle.der_core_coding.specs.CoreHead.Integers.{integer_octets};
 ghost use Rattle.der_core.specs.Orders.{octets_cmp};
 
 use crate::order::{OrderWay, Ordered};
-use const_oid::ObjectIdentifier;
-use der_core_head::Error;
-use der_core_octets::{BytesOwned, BytesRef, StringOwned, StringRef, integer_octets_of};
-use der_core_values::Integer;
-use der_core_values::describing::{AsInteger, AsNumbered, AsOctets, Numbered, Octets};
+use der_core_coding::core_head::Error;
+use der_core_coding::core_octets::{
+    BytesOwned, BytesRef, StringOwned, StringRef, integer_octets_of,
+};
+use der_core_coding::core_values::Integer;
+use der_core_coding::core_values::describing::{AsInteger, AsNumbered, AsOctets, Numbered, Octets};
+use der_core_coding::oid::ObjectIdentifier;
 use std::cmp::Ordering;
 
 /// The order of the contents of two whole numbers (X.690 8.3). It isn't that of the numbers: 127 is

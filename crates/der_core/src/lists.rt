@@ -1,17 +1,17 @@
 //! Comparison of values that stand one after the other, and of those that iterators give.
 
 ghost use Rattle.std.specs.Prelude.{◌≡◌, true, Ok, IfErr, List};
-ghost use Rattle.der_core_head.specs.Shapes.{many, IsBody, Value};
-ghost use Rattle.der_core_head.specs.Spelling.{is_body_apart};
-ghost use Rattle.der_core_head.specs.Grammar.{plain_list};
-ghost use Rattle.der_core_head.specs.Writing.{size_body};
+ghost use Rattle.der_core_coding.specs.CoreHead.Shapes.{many, IsBody, Value};
+ghost use Rattle.der_core_coding.specs.CoreHead.Spelling.{is_body_apart};
+ghost use Rattle.der_core_coding.specs.CoreHead.Grammar.{plain_list};
+ghost use Rattle.der_core_coding.specs.CoreHead.Writing.{size_body};
 ghost use Rattle.der_core.specs.Orders.{bodies_cmp, Overflows};
 ghost use Rattle.std.specs.Iterator.{AlwaysYields, IsFinite};
 
 use crate::order::{DerOrd, ValueOrd};
 use crate::strict_set_of::StrictSetOf;
 use der_core_coding::EncodeRef;
-use der_core_head::Error;
+use der_core_coding::core_head::Error;
 use std::cmp::Ordering;
 
 /// The order of the joined encodings of values: that of the first that differ, and else of how many
@@ -35,7 +35,7 @@ pub fn elements_cmp<T: DerOrd>(a: &[T], b: &[T]) -> Result<Ordering, Error>
 
 /// SEQUENCE OF (X.690 8.10).
 impl<T: DerOrd> ValueOrd for Vec<T> {
-    #[tactic(auto, unfolding(der_core_head::specs::Shapes::contents, der_core_head::specs::Shapes::IsContent))]
+    #[tactic(auto, unfolding(crate::specs::Opened::contents, crate::specs::Opened::IsContent))]
     fn value_cmp(&self, other: &Self) -> Result<Ordering, Error> {
         elements_cmp(self.as_slice(), other.as_slice())
     }
@@ -43,7 +43,7 @@ impl<T: DerOrd> ValueOrd for Vec<T> {
 
 /// SET OF, whose members are in order (X.690 8.12, 11.6).
 impl<T: DerOrd> ValueOrd for StrictSetOf<T> {
-    #[tactic(auto, unfolding(der_core_head::specs::Shapes::contents, der_core_head::specs::Shapes::IsContent, der_core_head::specs::Shapes::body_octets, der_core_head::specs::Shapes::IsBody))]
+    #[tactic(auto, unfolding(crate::specs::Opened::contents, crate::specs::Opened::IsContent, crate::specs::Opened::body_octets, crate::specs::Opened::IsBody))]
     fn value_cmp(&self, other: &Self) -> Result<Ordering, Error> {
         elements_cmp(self.values.as_slice(), other.values.as_slice())
     }

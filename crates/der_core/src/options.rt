@@ -1,10 +1,10 @@
 //! Comparison of what may be left out.
 
 ghost use Rattle.std.specs.Prelude.{Ok};
-ghost use Rattle.der_core_head.specs.Shapes.{IsValid, octets_of};
+ghost use Rattle.der_core_coding.specs.CoreHead.Shapes.{IsValid, octets_of};
 
 use crate::order::{DerOrd, FirstTag};
-use der_core_head::{Error, Tag};
+use der_core_coding::core_head::{Error, Tag};
 use std::cmp::Ordering;
 
 /// Nothing is below any encoding.
@@ -21,7 +21,7 @@ impl<T: DerOrd> DerOrd for Option<T> {
 }
 
 impl<T: FirstTag> FirstTag for Option<T> {
-    #[tactic(auto, unfolding(der_core_head::specs::Shapes::octets_of, der_core_head::specs::Shapes::IsValid))]
+    #[tactic(auto, unfolding(crate::specs::Opened::octets_of, crate::specs::Opened::IsValid))]
     fn first_tag(&self) -> Option<Tag> {
         self.as_ref()?.first_tag()
     }

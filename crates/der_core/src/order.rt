@@ -1,16 +1,17 @@
 //! Comparison of values by their encodings.
 
 ghost use Rattle.std.specs.Prelude.{◌≡◌, true, Ok, IfErr};
-ghost use Rattle.der_core_head.specs.Shapes.{IsValid, IsContent, tagged, octets_of, begins};
-ghost use Rattle.der_core_head.specs.Spelling.{is_apart, is_content_apart};
-ghost use Rattle.der_core_head.specs.Writing.{size, size_content};
+ghost use Rattle.der_core_coding.specs.CoreHead.Shapes.{IsValid, IsContent, tagged, octets_of};
+ghost use Rattle.der_core_coding.specs.CoreHead.Shapes.{begins};
+ghost use Rattle.der_core_coding.specs.CoreHead.Spelling.{is_apart, is_content_apart};
+ghost use Rattle.der_core_coding.specs.CoreHead.Writing.{size, size_content};
 ghost use Rattle.der_core.specs.Orders.{octets_cmp, encodings_cmp, contents_cmp, Overflows};
 ghost use Rattle.der_core.specs.Orders.{StartsWith};
 
 use crate::headers::{length_cmp, tag_cmp};
-use der_core_head::{Error, Tag};
-use der_core_values::describing::{Described, Way};
-use der_core_values::{EncodeValue, FixedTag, Shaped, ShapedValue};
+use der_core_coding::core_head::{Error, Tag};
+use der_core_coding::core_values::describing::{Described, Way};
+use der_core_coding::core_values::{EncodeValue, FixedTag, Shaped, ShapedValue};
 use std::cmp::Ordering;
 
 /// A type whose values are compared by their contents.

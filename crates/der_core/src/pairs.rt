@@ -2,15 +2,15 @@
 
 ghost use Rattle.std.specs.Prelude.{◌≡◌, true, Ok, IfErr};
 ghost use Rattle.std.specs.Ordering.{ordering_then};
-ghost use Rattle.der_core_head.specs.Shapes.{IsValid, IsBody, body_octets};
-ghost use Rattle.der_core_head.specs.Spelling.{is_apart, is_body_apart, body_begins};
-ghost use Rattle.der_core_head.specs.Writing.{both_len, size, size_body};
+ghost use Rattle.der_core_coding.specs.CoreHead.Shapes.{IsValid, IsBody, body_octets};
+ghost use Rattle.der_core_coding.specs.CoreHead.Spelling.{is_apart, is_body_apart, body_begins};
+ghost use Rattle.der_core_coding.specs.CoreHead.Writing.{both_len, size, size_body};
 ghost use Rattle.der_core.specs.Orders.{encodings_cmp, bodies_cmp, next_cmp, Overflows, StartsWith};
 
 use crate::headers::tag_cmp;
 use crate::order::{DerOrd, FirstTag};
-use der_core_head::{Error, Tag};
-use der_core_values::FieldRow;
+use der_core_coding::core_head::{Error, Tag};
+use der_core_coding::core_values::FieldRow;
 use std::cmp::Ordering;
 
 /// Fields that are compared one after the other.
@@ -75,12 +75,12 @@ fn row_cmp<A: DerOrd, B: FieldsOrd>(row: &(A, B), other: &(A, B)) -> Result<Orde
 }
 
 impl FieldsOrd for () {
-    #[tactic(auto, unfolding(der_core_head::specs::Shapes::body_octets))]
+    #[tactic(auto, unfolding(crate::specs::Opened::body_octets))]
     fn fields_cmp(&self, _other: &Self) -> Result<Ordering, Error> {
         Ok(Ordering::Equal)
     }
 
-    #[tactic(auto, unfolding(der_core_head::specs::Shapes::body_octets))]
+    #[tactic(auto, unfolding(crate::specs::Opened::body_octets))]
     fn fields_tag(&self) -> Option<Tag> {
         None
     }
@@ -98,7 +98,7 @@ impl<A: DerOrd + FirstTag, B: FieldsOrd> FieldsOrd for (A, B) {
         }
     }
 
-    #[tactic(auto, unfolding(der_core_head::specs::Shapes::body_octets, der_core_head::specs::Shapes::IsBody))]
+    #[tactic(auto, unfolding(crate::specs::Opened::body_octets, crate::specs::Opened::IsBody))]
     fn fields_tag(&self) -> Option<Tag> {
         match self.0.first_tag() {
             Some(tag) => Some(tag),

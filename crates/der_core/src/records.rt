@@ -1,21 +1,22 @@
 //! Records: a SEQUENCE of fields (X.690 8.9), which a type lends in rows.
 
 ghost use Rattle.std.specs.Prelude.{◌≡◌, true, Ok, IfErr};
-ghost use Rattle.der_core_head.specs.declared.tag.Tag.TheVariants.{Sequence};
-ghost use Rattle.der_core_head.specs.Shapes.{Body, BodyValue, IsBody, body_octets, nested};
-ghost use Rattle.der_core_head.specs.Reading.{GivesNow};
-ghost use Rattle.der_core_head.specs.Writing.{Writes, size_body, write_body};
-ghost use Rattle.der_core_head.specs.Spelling.{is_body_apart};
-ghost use Rattle.der_core_octets.specs.Outputs.{AddsFront, Continues};
+ghost use Rattle.der_core_coding.specs.CoreHead.declared.tag.Tag.TheVariants.{Sequence};
+ghost use Rattle.der_core_coding.specs.CoreHead.Shapes.{Body, BodyValue, IsBody, body_octets};
+ghost use Rattle.der_core_coding.specs.CoreHead.Shapes.{nested};
+ghost use Rattle.der_core_coding.specs.CoreHead.Reading.{GivesNow};
+ghost use Rattle.der_core_coding.specs.CoreHead.Writing.{Writes, size_body, write_body};
+ghost use Rattle.der_core_coding.specs.CoreHead.Spelling.{is_body_apart};
+ghost use Rattle.der_core_coding.specs.CoreOctets.Outputs.{AddsFront, Continues};
 ghost use Rattle.der_core.specs.Orders.{bodies_cmp, Overflows};
 
 use crate::order::{OrderWay, Ordered};
 use crate::pairs::FieldsOrd;
 use der_core_coding::EncodeFields;
-use der_core_head::{Error, Length, Tag};
-use der_core_octets::{Header, Reader, Writer};
-use der_core_values::describing::{AsReadWay, DecodeWay, Described, TagWay, Way};
-use der_core_values::{AsReadFields, DecodeFields, Fields, read_fields};
+use der_core_coding::core_head::{Error, Length, Tag};
+use der_core_coding::core_octets::{Header, Reader, Writer};
+use der_core_coding::core_values::describing::{AsReadWay, DecodeWay, Described, TagWay, Way};
+use der_core_coding::core_values::{AsReadFields, DecodeFields, Fields, read_fields};
 use std::alloc::Global;
 use std::cmp::Ordering;
 
@@ -195,7 +196,7 @@ impl<T: Rows> Way<T> for AsRecord {
     }
 
     #[inline(always)]
-    #[tactic(auto, unfolding(der_core_head::specs::Shapes::contents))]
+    #[tactic(auto, unfolding(crate::specs::Opened::contents))]
     fn encode_by<W: Writer>(value: &T, writer: &mut W) -> Result<(), Error> {
         value.with_rows(value, writer)
     }
@@ -225,7 +226,7 @@ impl<T: Rows + AsReadFields> AsReadWay<T> for AsRecord {
 
 /// Field after field.
 impl<T: Rows> OrderWay<T> for AsRecord {
-    #[tactic(auto, unfolding(der_core_head::specs::Shapes::contents, der_core_head::specs::Shapes::IsContent))]
+    #[tactic(auto, unfolding(crate::specs::Opened::contents, crate::specs::Opened::IsContent))]
     fn cmp_by(value: &T, other: &T) -> Result<Ordering, Error> {
         value.with_rows(other, &mut Comparing)
     }

@@ -5,21 +5,22 @@ ghost use Rattle.std.specs.Prelude.{◌∷◌, slice_get, IsPermutation, option_
 ghost use Rattle.std.specs.Prelude.{insert};
 ghost use Rattle.std.specs.List.{AllByRecursion};
 ghost use Rattle.std.specs.Slice.Iter.{iter_rest};
-ghost use Rattle.der_core_head.specs.declared.tag.Tag.TheVariants.{Set};
-ghost use Rattle.der_core_head.specs.Shapes.{above, nested, rising, octets_of, AllRising, IsValid};
-ghost use Rattle.der_core_head.specs.Grammar.{plain_list, plain_option, follows_last};
-ghost use Rattle.der_core_head.specs.Reading.{GivesNow};
-ghost use Rattle.der_core_head.specs.Writing.{all_follow};
+ghost use Rattle.der_core_coding.specs.CoreHead.declared.tag.Tag.TheVariants.{Set};
+ghost use Rattle.der_core_coding.specs.CoreHead.Shapes.{above, nested, rising, octets_of};
+ghost use Rattle.der_core_coding.specs.CoreHead.Shapes.{AllRising, IsValid};
+ghost use Rattle.der_core_coding.specs.CoreHead.Grammar.{plain_list, plain_option, follows_last};
+ghost use Rattle.der_core_coding.specs.CoreHead.Reading.{GivesNow};
+ghost use Rattle.der_core_coding.specs.CoreHead.Writing.{all_follow};
 ghost use Rattle.der_core.specs.Placed.{AllValid, IsNotPlaced, placed, stands_among};
 
 use crate::order::DerOrd;
-use der_core_coding::read_rising;
-use der_core_head::{Error, ErrorKind, Length, Tag};
-use der_core_octets::{Header, Reader, Writer};
-use der_core_values::{
+use der_core_coding::core_head::{Error, ErrorKind, Length, Tag};
+use der_core_coding::core_octets::{Header, Reader, Writer};
+use der_core_coding::core_values::{
     ApartValue, AsRead, AsReadValue, Decode, DecodeFields, DecodeValue, Element, Encode,
     EncodeValue, Fields, FixedTag, InRange, InRangeValue, Member, Shaped, ShapedValue, read_fields,
 };
+use der_core_coding::read_rising;
 use std::alloc::Global;
 use std::cmp::Ordering;
 use std::slice::Iter;
@@ -196,7 +197,7 @@ impl<T: Encode + DerOrd + Member + InRange> EncodeValue for StrictSetOf<T> {
     /// # Errors
     /// Those of the members and of the writer; then `SetDuplicate` for the same encoding as the one
     /// before, `SetOrdering` for a lower one (X.690 11.6).
-    #[tactic(auto, unfolding(der_core_head::specs::Shapes::contents))]
+    #[tactic(auto, unfolding(crate::specs::Opened::contents))]
     fn encode_value<W: Writer>(&self, writer: &mut W) -> Result<(), Error> {
         self.values.encode_value(writer)?;
         self.values.value_in_range();
@@ -205,13 +206,13 @@ impl<T: Encode + DerOrd + Member + InRange> EncodeValue for StrictSetOf<T> {
 }
 
 impl<T: Element + Member> ApartValue for StrictSetOf<T> {
-    ghost use Rattle.der_core_values.specs.Both.{both_true};
+    ghost use Rattle.der_core_coding.specs.CoreValues.Both.{both_true};
 
     ghost apart_value = { both_true T.element T.apart };
 }
 
 impl<T: AsRead> AsReadValue for StrictSetOf<T> {
-    ghost use Rattle.der_core_values.specs.Same.{same_list};
+    ghost use Rattle.der_core_coding.specs.CoreValues.Same.{same_list};
 
     ghost as_read_value = { λ v. same_list T.as_read v.values.items };
 }

@@ -1,8 +1,8 @@
 //! Comparison of fields with a default value.
 
 use crate::order::{DerOrd, FirstTag};
+use der_core_coding::core_head::{Error, Tag};
 use der_core_coding::{DefaultValue, WithDefault};
-use der_core_head::{Error, Tag};
 use std::cmp::Ordering;
 
 /// The default is written as nothing, and nothing is below any encoding (X.690 11.5).

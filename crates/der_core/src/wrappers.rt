@@ -1,9 +1,9 @@
 //! Comparison of boxed values, of tags around a value, and of defaults.
 
 use crate::order::{OrderWay, ValueOrd};
-use der_core_head::Error;
-use der_core_values::describing::{AsField, Wraps};
-use der_core_values::{ApartValue, EncodeValue};
+use der_core_coding::core_head::Error;
+use der_core_coding::core_values::describing::{AsField, Wraps};
+use der_core_coding::core_values::{ApartValue, EncodeValue};
 use std::cmp::Ordering;
 
 /// The content of the field.

@@ -4,20 +4,20 @@ use Rattle.std.proofs.lemmas.Bool.{cases_lt, ltb-true}
 use Rattle.std.proofs.lemmas.Bool.Decides.{same_from_decides, Decides-eqb, Decides-like, nat_tests}
 use Rattle.std.proofs.lemmas.List.{append_assoc, append_cancel_left, append-nil}
 use Rattle.std.proofs.lemmas.Slice.Eq.{bytes_eq-Decides}
-use Rattle.der_core_head.proofs.Results.{IsBytes}
-use Rattle.der_core_head.proofs.IntegerLaws.{integer_of-octets, integer_octets-of}
-use Rattle.der_core_head.proofs.HeadLaws.{length-short, length-long, number-1}
-use Rattle.der_core_head.proofs.TagLaws.{tag-0, tag-1, tag-2, tag-3, tag-4, tag-5}
-use Rattle.der_core_head.specs.declared.tag.Tag.{Tag}
-use Rattle.der_core_head.specs.Grammar.{read}
-use Rattle.der_core_head.specs.Heads.{tlv, head_octets, length_octets}
-use Rattle.der_core_head.specs.Integers.{Numbers, integer_octets, integer_of}
-use Rattle.der_core_head.specs.Leaves.{integer}
-use Rattle.der_core_head.specs.Shapes.{Content, ContentValue, leaf, nested, only, tagged, explicit, octets_of, contents, body_octets, IsValid, IsContent, IsBody}
-use Rattle.der_core_head.specs.Spelling.{is_content_apart, are_content_enough}
-use Rattle.der_core_head.specs.Tags.{context, tag_octets, number_octets, number_of, IsTag}
-use Rattle.der_core_head.proofs.Complete.{complete_element}
-use Rattle.der_core_octets.specs.Numbers.{with_sign}
+use Rattle.der_core_values.proofs.CoreHead.Results.{IsBytes}
+use Rattle.der_core_values.proofs.CoreHead.IntegerLaws.{integer_of-octets, integer_octets-of}
+use Rattle.der_core_values.proofs.CoreHead.HeadLaws.{length-short, length-long, number-1}
+use Rattle.der_core_values.proofs.CoreHead.TagLaws.{tag-0, tag-1, tag-2, tag-3, tag-4, tag-5}
+use Rattle.der_core_values.specs.CoreHead.declared.tag.Tag.{Tag}
+use Rattle.der_core_values.specs.CoreHead.Grammar.{read}
+use Rattle.der_core_values.specs.CoreHead.Heads.{tlv, head_octets, length_octets}
+use Rattle.der_core_values.specs.CoreHead.Integers.{Numbers, integer_octets, integer_of}
+use Rattle.der_core_values.specs.CoreHead.Leaves.{integer}
+use Rattle.der_core_values.specs.CoreHead.Shapes.{Content, ContentValue, leaf, nested, only, tagged, explicit, octets_of, contents, body_octets, IsValid, IsContent, IsBody}
+use Rattle.der_core_values.specs.CoreHead.Spelling.{is_content_apart, are_content_enough}
+use Rattle.der_core_values.specs.CoreHead.Tags.{context, tag_octets, number_octets, number_of, IsTag}
+use Rattle.der_core_values.proofs.CoreHead.Complete.{complete_element}
+use Rattle.der_core_values.specs.CoreOctets.Numbers.{with_sign}
 use Rattle.der_core_coding.specs.Defaults.{short_tlv}
 
 -- Lengths

@@ -1,26 +1,26 @@
 -- A value at the front of octets, as its spelling, and what is written into a slice and into memory.
 use Rattle.std.proofs.Common.{◌≡◌, ℕ, true, ltb, List, ◌++◌, length, Result, Ok, Err, sym, ap, ◌∙◌, arith, le-ltb, ltb-false, IfOk, ◌≤◌, ◌-◌, [], take, drop, inl, inr, drop_of_length-le, take_at, take-append-drop, length-append, length-drop, false, Some, refl, IsOkAnd, Bool}
-use Rattle.der_core_head.specs.Limits.{length_max, levels_max}
-use Rattle.der_core_head.specs.declared.error.Error.{Error}
-use Rattle.der_core_head.specs.declared.error.ErrorKind.{ErrorKind}
-use Rattle.der_core_head.specs.declared.error.ErrorKind.TheVariants as kinds
-use Rattle.der_core_head.specs.Heads.{Fits}
-use Rattle.der_core_head.specs.Shapes.{Shape, Value, IsValid, octets_of, Content, ContentValue, contents, IsContent}
-use Rattle.der_core_head.specs.Grammar.{read}
-use Rattle.der_core_head.specs.Reading.{Gives, IsRest, GivesNow}
-use Rattle.der_core_head.specs.Spelling.{is_apart, are_enough, is_element}
-use Rattle.der_core_head.proofs.Results.{unless_ok, IsBytes, ok_is, bind_ok}
-use Rattle.der_core_head.proofs.OneEncoding.{sound}
-use Rattle.der_core_head.proofs.Complete.{complete_element}
-use Rattle.der_core_octets.specs.Fronts.{read_front}
+use Rattle.der_core_values.specs.CoreHead.Limits.{length_max, levels_max}
+use Rattle.der_core_values.specs.CoreHead.declared.error.Error.{Error}
+use Rattle.der_core_values.specs.CoreHead.declared.error.ErrorKind.{ErrorKind}
+use Rattle.der_core_values.specs.CoreHead.declared.error.ErrorKind.TheVariants as kinds
+use Rattle.der_core_values.specs.CoreHead.Heads.{Fits}
+use Rattle.der_core_values.specs.CoreHead.Shapes.{Shape, Value, IsValid, octets_of, Content, ContentValue, contents, IsContent}
+use Rattle.der_core_values.specs.CoreHead.Grammar.{read}
+use Rattle.der_core_values.specs.CoreHead.Reading.{Gives, IsRest, GivesNow}
+use Rattle.der_core_values.specs.CoreHead.Spelling.{is_apart, are_enough, is_element}
+use Rattle.der_core_values.proofs.CoreHead.Results.{unless_ok, IsBytes, ok_is, bind_ok}
+use Rattle.der_core_values.proofs.CoreHead.OneEncoding.{sound}
+use Rattle.der_core_values.proofs.CoreHead.Complete.{complete_element}
+use Rattle.der_core_values.specs.CoreOctets.Fronts.{read_front}
 use Rattle.std.proofs.lemmas.Bool.{cases_lt}
 use Rattle.std.proofs.Math.Seq.{drop-length}
-use Rattle.der_core_head.specs.Octets.{◌>>=◌}
-use Rattle.der_core_head.specs.Writing.{Out, put, write, write_content, size, FailsTaking, Writes}
-use Rattle.der_core_head.proofs.Written.{writes_octets, writes_contents, writes_fitting, put_some-put, put_written, put_content, out, put-append, written_valid, content_valid}
-use Rattle.der_core_octets.specs.Outputs.{blank, finished, filled, appended}
-use Rattle.der_core_head.specs.declared.length.Length.{Length}
-use Rattle.der_core_head.specs.Ranges.{IsInRange, IsContentInRange}
+use Rattle.der_core_values.specs.CoreHead.Octets.{◌>>=◌}
+use Rattle.der_core_values.specs.CoreHead.Writing.{Out, put, write, write_content, size, FailsTaking, Writes}
+use Rattle.der_core_values.proofs.CoreHead.Written.{writes_octets, writes_contents, writes_fitting, put_some-put, put_written, put_content, out, put-append, written_valid, content_valid}
+use Rattle.der_core_values.specs.CoreOctets.Outputs.{blank, finished, filled, appended}
+use Rattle.der_core_values.specs.CoreHead.declared.length.Length.{Length}
+use Rattle.der_core_values.specs.CoreHead.Ranges.{IsInRange, IsContentInRange}
 
 pub front_spelled : {X : Type 0} (s : Shape) (view : X → Value s × List ℕ) (w : List ℕ) (r : Result X Error) → is_apart s ≡ true → IsBytes w → Gives view r (read_front s w)
     → IfOk r (λ x. IsValid s (view x).0 × (w ≡ octets_of s (view x).0 ++ (view x).1))

@@ -1,7 +1,7 @@
 -- What the reader of a slice sees when its end or its place moves.
 use Rattle.std.proofs.Common.{◌≡◌, ℕ, ◌+◌, ◌-◌, ◌<◌, ◌≤◌, Bool, List, ◌++◌, length, take, drop, refl, sym, ap, ◌∙◌, arith}
 use Rattle.std.proofs.lemmas.List.{take-append-drop, take-take, drop-take, drop-drop, length-take, length-drop}
-use Rattle.der_core_head.specs.Reading.{Source, State, entered, restored, past}
+use Rattle.der_core_values.specs.CoreHead.Reading.{Source, State, entered, restored, past}
 use Rattle.der_core_coding.specs.declared.slice_reader.SliceReader.TheInside.{Inside}
 use Rattle.der_core_coding.specs.Slices.{view_of, IsReader}
 

@@ -1,7 +1,7 @@
 -- The octets of a default.
 use Rattle.std.specs.Prelude.{ℕ, List, ◌∷◌, ◌++◌, length}
-use Rattle.der_core_head.specs.declared.tag.Tag.{Tag}
-use Rattle.der_core_head.specs.Tags.{leading_octet, number_octets, number_of}
+use Rattle.der_core_values.specs.CoreHead.declared.tag.Tag.{Tag}
+use Rattle.der_core_values.specs.CoreHead.Tags.{leading_octet, number_octets, number_of}
 
 -- a tag, a content of fewer than 128 octets, and how many these are
 abbrev pub short_tlv : Tag → List ℕ → List ℕ

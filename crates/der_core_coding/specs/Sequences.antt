@@ -2,11 +2,11 @@
 use Rattle.std.specs.Prelude.{◌≡◌, ◌≢◌, ◌+◌, ◌⊎◌, ℕ, length, true, Result, Ok, Err}
 use Rattle.std.specs.Borrow.{MutBor}
 use Rattle.std.specs.Fn.{Once, FnOnceReturnsAtMut}
-use Rattle.der_core_head.specs.declared.error.Error.{Error}
-use Rattle.der_core_head.specs.declared.error.ErrorKind.TheVariants as kinds
-use Rattle.der_core_head.specs.declared.tag.Tag.TheVariants as tags
-use Rattle.der_core_head.specs.Writing.{Out, put_head}
-use Rattle.der_core_octets.specs.Outputs.{Continues}
+use Rattle.der_core_values.specs.CoreHead.declared.error.Error.{Error}
+use Rattle.der_core_values.specs.CoreHead.declared.error.ErrorKind.TheVariants as kinds
+use Rattle.der_core_values.specs.CoreHead.declared.tag.Tag.TheVariants as tags
+use Rattle.der_core_values.specs.CoreHead.Writing.{Out, put_head}
+use Rattle.der_core_values.specs.CoreOctets.Outputs.{Continues}
 
 -- f was called behind the header of a SEQUENCE of n octets, answered r, and left the writer so
 abbrev pub Called : {W F : Type 0} → (W → Out)

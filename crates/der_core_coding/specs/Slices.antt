@@ -1,10 +1,10 @@
 -- What the reader of a slice holds, and the writer to one.
 use Rattle.std.specs.Prelude.{◌-◌, ◌≤◌, ℕ, List, [], Some, false, take, drop, length}
-use Rattle.der_core_head.specs.Limits.{levels_max}
-use Rattle.der_core_head.specs.Heads.{Fits}
-use Rattle.der_core_head.specs.declared.encoding_rules.EncodingRules.TheVariants as encodings
-use Rattle.der_core_head.specs.Reading.{State}
-use Rattle.der_core_head.specs.Writing.{Out}
+use Rattle.der_core_values.specs.CoreHead.Limits.{levels_max}
+use Rattle.der_core_values.specs.CoreHead.Heads.{Fits}
+use Rattle.der_core_values.specs.CoreHead.declared.encoding_rules.EncodingRules.TheVariants as encodings
+use Rattle.der_core_values.specs.CoreHead.Reading.{State}
+use Rattle.der_core_values.specs.CoreHead.Writing.{Out}
 use Rattle.der_core_coding.specs.declared.slice_reader.SliceReader.TheInside.{Inside}
 use Rattle.der_core_coding.specs.declared.slice_writer.SliceWriter.{SliceWriter}
 

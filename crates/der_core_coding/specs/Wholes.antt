@@ -1,12 +1,12 @@
 -- All of the octets, by BER.
 use Rattle.std.specs.Prelude.{ℕ, List, length, Result, Err, nat_lt, if◌then◌else◌}
-use Rattle.der_core_head.specs.Limits.{length_max, levels_max}
-use Rattle.der_core_head.specs.declared.error.ErrorKind.{ErrorKind}
-use Rattle.der_core_head.specs.declared.error.ErrorKind.TheVariants as kinds
-use Rattle.der_core_head.specs.declared.encoding_rules.EncodingRules.TheVariants as encodings
-use Rattle.der_core_head.specs.Octets.{◌>>=◌}
-use Rattle.der_core_head.specs.Shapes.{Shape, Value}
-use Rattle.der_core_head.specs.Grammar.{read_by, whole}
+use Rattle.der_core_values.specs.CoreHead.Limits.{length_max, levels_max}
+use Rattle.der_core_values.specs.CoreHead.declared.error.ErrorKind.{ErrorKind}
+use Rattle.der_core_values.specs.CoreHead.declared.error.ErrorKind.TheVariants as kinds
+use Rattle.der_core_values.specs.CoreHead.declared.encoding_rules.EncodingRules.TheVariants as encodings
+use Rattle.der_core_values.specs.CoreHead.Octets.{◌>>=◌}
+use Rattle.der_core_values.specs.CoreHead.Shapes.{Shape, Value}
+use Rattle.der_core_values.specs.CoreHead.Grammar.{read_by, whole}
 
 -- all of the octets, which a length can count, where headers are read by BER
 unfoldable pub whole_ber_at : (s : Shape) → List ℕ → Result (Value s × List ℕ) ErrorKind

@@ -1,12 +1,12 @@
 //! An octet before octets.
 
 ghost use Rattle.std.specs.Prelude.{◌≡◌, ◌+◌, ◌∷◌};
-ghost use Rattle.der_core_head.specs.Reading.{GivesNow};
-ghost use Rattle.der_core_head.specs.Writing.{Writes, put, fit_len};
-ghost use Rattle.der_core_octets.specs.Outputs.{AddsFront, Continues};
+ghost use Rattle.der_core_values.specs.CoreHead.Reading.{GivesNow};
+ghost use Rattle.der_core_values.specs.CoreHead.Writing.{Writes, put, fit_len};
+ghost use Rattle.der_core_values.specs.CoreOctets.Outputs.{AddsFront, Continues};
 
-use der_core_head::{Error, Length};
-use der_core_octets::Writer;
+use der_core_values::core_head::{Error, Length};
+use der_core_values::core_octets::Writer;
 
 /// A number of octets and one more.
 ///
@@ -22,7 +22,7 @@ pub fn len_behind(octets: Length) -> Result<Length, Error>
 ///
 /// # Errors
 /// Those of the writer.
-#[tactic(auto, using(der_core_octets::proofs::Added::refused_adds))]
+#[tactic(auto, using(crate::proofs::Cited::refused_adds))]
 pub fn encode_behind<W: Writer>(writer: &mut W, first: u8, octets: &[u8]) -> Result<(), Error>
     ensures exact { Writes W.takes_memory (W.out writer.old) (W.out writer.new) result
         (put (first ∷ octets.now)) }

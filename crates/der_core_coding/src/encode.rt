@@ -2,17 +2,17 @@
 
 ghost use Rattle.std.specs.Prelude.{◌≡◌, ◌≤◌, ◌++◌, [], length, take, Ok, None, false, true};
 ghost use Rattle.std.specs.Prelude.{IfOk, IfErr, IsOkAnd};
-ghost use Rattle.der_core_head.specs.Heads.{Fits};
-ghost use Rattle.der_core_head.specs.Ranges.{IsInRange};
-ghost use Rattle.der_core_head.specs.Shapes.{IsValid, octets_of};
-ghost use Rattle.der_core_head.specs.Reading.{Fails, Gives, GivesNow};
-ghost use Rattle.der_core_head.specs.Writing.{write};
-ghost use Rattle.der_core_octets.specs.Outputs.{appended, filled};
+ghost use Rattle.der_core_values.specs.CoreHead.Heads.{Fits};
+ghost use Rattle.der_core_values.specs.CoreHead.Ranges.{IsInRange};
+ghost use Rattle.der_core_values.specs.CoreHead.Shapes.{IsValid, octets_of};
+ghost use Rattle.der_core_values.specs.CoreHead.Reading.{Fails, Gives, GivesNow};
+ghost use Rattle.der_core_values.specs.CoreHead.Writing.{write};
+ghost use Rattle.der_core_values.specs.CoreOctets.Outputs.{appended, filled};
 
 use crate::slice_writer::SliceWriter;
-use der_core_head::{Error, Length};
-use der_core_octets::{Writer, header_of};
 use der_core_values::Encode;
+use der_core_values::core_head::{Error, Length};
+use der_core_values::core_octets::{Writer, header_of};
 use std::alloc::{AllocError, Global};
 
 /// The writer to a vector of its own, which takes room for a whole value once its header comes.
@@ -28,7 +28,7 @@ impl Writer for VecWriter {
 
     // Inlined, so that a known number of octets is copied without a call.
     #[inline(always)]
-    #[tactic(auto, unfolding(der_core_head::specs::Writing::put))]
+    #[tactic(auto, unfolding(crate::specs::Opened::put))]
     fn write(&mut self, octets: &[u8]) -> Result<(), Error> {
         if self.octets.capacity() - self.octets.len() < octets.len() {
             take_room(&mut self.octets, octets)?;
@@ -104,7 +104,7 @@ pub trait ToDer: Encode {
     /// The octets that spell the value. Memory is asked for once, for so many octets, where the tag
     /// has one octet.
     ///
-    /// As in `crates/build_certificates/src/main.rt`:
+    /// As in `crates/example_build_certificates/src/main.rt`:
     ///
     /// ```rust
     /// let octets = made.to_der(alloc)?;

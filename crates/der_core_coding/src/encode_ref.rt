@@ -2,8 +2,8 @@
 
 ghost use Rattle.std.specs.Prelude.{◌≡◌};
 
-use der_core_head::{Error, Length};
-use der_core_octets::Writer;
+use der_core_values::core_head::{Error, Length};
+use der_core_values::core_octets::Writer;
 use der_core_values::{AsRead, Element, Encode, InRange, Member, Shaped};
 
 /// A value behind a reference, which is written as the value.

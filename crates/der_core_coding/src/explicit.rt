@@ -1,11 +1,11 @@
 //! An explicit tag around a value (X.690 8.14.2).
 
 ghost use Rattle.std.specs.Prelude.{true};
-ghost use Rattle.der_core_head.specs.Tags.{context};
-ghost use Rattle.der_core_head.specs.Shapes.{nested, only};
+ghost use Rattle.der_core_values.specs.CoreHead.Tags.{context};
+ghost use Rattle.der_core_values.specs.CoreHead.Shapes.{nested, only};
 
-use der_core_head::{Error, Length, Tag, TagNumber};
-use der_core_octets::{Header, Reader, Writer};
+use der_core_values::core_head::{Error, Length, Tag, TagNumber};
+use der_core_values::core_octets::{Header, Reader, Writer};
 use der_core_values::{
     ApartValue, AsRead, AsReadValue, Decode, DecodeFields, DecodeValue, Element, Encode,
     EncodeValue, Fields, FixedTag, InRange, InRangeValue, Member, Shaped, ShapedValue, read_fields,
@@ -68,7 +68,7 @@ impl<T: Encode, const N: u32> EncodeValue for Explicit<T, N> {
         self.value.encoded_len()
     }
 
-    #[tactic(auto, unfolding(der_core_head::specs::Shapes::contents))]
+    #[tactic(auto, unfolding(crate::specs::Opened::contents))]
     fn encode_value<W: Writer>(&self, writer: &mut W) -> Result<(), Error> {
         self.value.encode(writer)
     }

@@ -1,9 +1,9 @@
 //! An implicit tag in place of a value's own (X.690 8.14.3).
 
-ghost use Rattle.der_core_head.specs.Tags.{implicit_tag};
+ghost use Rattle.der_core_values.specs.CoreHead.Tags.{implicit_tag};
 
-use der_core_head::{Error, Length, Tag, TagNumber, is_constructed};
-use der_core_octets::{Header, Reader, Writer};
+use der_core_values::core_head::{Error, Length, Tag, TagNumber, is_constructed};
+use der_core_values::core_octets::{Header, Reader, Writer};
 use der_core_values::{
     ApartValue, AsReadValue, DecodeValue, EncodeValue, FixedTag, InRangeValue, ShapedValue,
 };

@@ -2,17 +2,18 @@
 
 ghost use Rattle.std.specs.Prelude.{◌≡◌, List, ℕ, [], ◌∷◌, Ok, true, bytes_eq, nat_lt, length};
 ghost use Rattle.std.specs.Prelude.{pos, refl};
-ghost use Rattle.der_core_head.specs.Grammar.{read};
-ghost use Rattle.der_core_head.specs.Leaves.{integer};
-ghost use Rattle.der_core_head.specs.Limits.{levels_max};
-ghost use Rattle.der_core_head.specs.Shapes.{leaf, octets_of, contents, IsValid, IsContent};
-ghost use Rattle.der_core_head.specs.Spelling.{are_content_enough};
-ghost use Rattle.der_core_head.specs.Tags.{context};
+ghost use Rattle.der_core_values.specs.CoreHead.Grammar.{read};
+ghost use Rattle.der_core_values.specs.CoreHead.Leaves.{integer};
+ghost use Rattle.der_core_values.specs.CoreHead.Limits.{levels_max};
+ghost use Rattle.der_core_values.specs.CoreHead.Shapes.{leaf, octets_of, contents, IsValid};
+ghost use Rattle.der_core_values.specs.CoreHead.Shapes.{IsContent};
+ghost use Rattle.der_core_values.specs.CoreHead.Spelling.{are_content_enough};
+ghost use Rattle.der_core_values.specs.CoreHead.Tags.{context};
 ghost use Rattle.der_core_coding.specs.Defaults.{short_tlv};
 
 use crate::explicit::Explicit;
 use crate::implicit::Implicit;
-use der_core_head::number_of;
+use der_core_values::core_head::number_of;
 use der_core_values::{ApartValue, AsRead, AsReadValue, FixedTag, Integer, Shaped, ShapedValue};
 
 /// A type with a value that is never written (X.690 11.5), whose values are written as they are
@@ -116,19 +117,19 @@ impl DefaultContent for bool {
 
     ghost enough = { λ _. refl };
 
-    #[tactic(auto, unfolding(der_core_head::specs::Shapes::contents, der_core_head::specs::Shapes::IsContent))]
+    #[tactic(auto, unfolding(crate::specs::Opened::contents, crate::specs::Opened::IsContent))]
     fn default_content() -> bool {
         false
     }
 
-    #[tactic(auto, unfolding(der_core_head::specs::Shapes::contents, der_core_head::specs::Shapes::IsContent))]
+    #[tactic(auto, unfolding(crate::specs::Opened::contents, crate::specs::Opened::IsContent))]
     fn is_default_content(&self) -> bool {
         !*self
     }
 }
 
 /// Whether a number is 0.
-#[tactic(auto, unfolding(der_core_head::specs::Shapes::contents, der_core_head::specs::Shapes::IsContent))]
+#[tactic(auto, unfolding(crate::specs::Opened::contents, crate::specs::Opened::IsContent))]
 pub fn is_zero<T: Integer>(value: &T) -> bool
     ensures octets { result
         ≡ bytes_eq (contents (leaf (integer T.numbers)) (T.number value.now)) (0 ∷ []) }

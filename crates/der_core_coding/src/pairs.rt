@@ -1,12 +1,12 @@
 //! Fields in a row: `(A, (B, (C, ())))`.
 
-ghost use Rattle.der_core_head.specs.Reading.{GivesNow};
-ghost use Rattle.der_core_head.specs.Shapes.{body_octets};
-ghost use Rattle.der_core_head.specs.Writing.{Writes, size_body, write_body};
-ghost use Rattle.der_core_octets.specs.Outputs.{AddsFront, Continues};
+ghost use Rattle.der_core_values.specs.CoreHead.Reading.{GivesNow};
+ghost use Rattle.der_core_values.specs.CoreHead.Shapes.{body_octets};
+ghost use Rattle.der_core_values.specs.CoreHead.Writing.{Writes, size_body, write_body};
+ghost use Rattle.der_core_values.specs.CoreOctets.Outputs.{AddsFront, Continues};
 
-use der_core_head::{Error, Length};
-use der_core_octets::Writer;
+use der_core_values::core_head::{Error, Length};
+use der_core_values::core_octets::Writer;
 use der_core_values::{Encode, FieldRow};
 use std::marker::PhantomData;
 
@@ -38,21 +38,21 @@ impl EncodeFields for () {
         Ok(Length { value: 0 })
     }
 
-    #[tactic(auto, using(der_core_octets::proofs::Added::none_added))]
+    #[tactic(auto, using(crate::proofs::Cited::none_added))]
     fn encode_fields<W: Writer>(&self, _writer: &mut W) -> Result<(), Error> {
         Ok(())
     }
 }
 
 impl<A: Encode, B: EncodeFields> EncodeFields for (A, B) {
-    #[tactic(auto, unfolding(der_core_head::specs::Writing::both_len))]
+    #[tactic(auto, unfolding(crate::specs::Opened::both_len))]
     fn fields_len(&self) -> Result<Length, Error> {
         let first = self.0.encoded_len()?;
         let others = self.1.fields_len()?;
         first + others
     }
 
-    #[tactic(auto, using(der_core_octets::proofs::Added::first_added, der_core_octets::proofs::Added::value_then_added), unfolding(der_core_head::specs::Shapes::body_octets))]
+    #[tactic(auto, using(crate::proofs::Cited::first_added, crate::proofs::Cited::value_then_added), unfolding(crate::specs::Opened::body_octets))]
     fn encode_fields<W: Writer>(&self, writer: &mut W) -> Result<(), Error> {
         self.0.encode(writer)?;
         self.1.encode_fields(writer)
@@ -64,7 +64,7 @@ impl<T> EncodeFields for PhantomData<T> {
         Ok(Length { value: 0 })
     }
 
-    #[tactic(auto, using(der_core_octets::proofs::Added::none_added))]
+    #[tactic(auto, using(crate::proofs::Cited::none_added))]
     fn encode_fields<W: Writer>(&self, _writer: &mut W) -> Result<(), Error> {
         Ok(())
     }

@@ -1,13 +1,13 @@
 //! Calls on a reader by the type of what is read.
 
 ghost use Rattle.std.specs.Prelude.{◌≡◌, OnErr, true};
-ghost use Rattle.der_core_head.specs.Tags.{context, implicit_tag};
-ghost use Rattle.der_core_head.specs.Shapes.{nested, only, optional, tagged};
-ghost use Rattle.der_core_head.specs.Grammar.{value_at, plain_option};
-ghost use Rattle.der_core_head.specs.Reading.{Reads, read_at, read_content_at};
+ghost use Rattle.der_core_values.specs.CoreHead.Tags.{context, implicit_tag};
+ghost use Rattle.der_core_values.specs.CoreHead.Shapes.{nested, only, optional, tagged};
+ghost use Rattle.der_core_values.specs.CoreHead.Grammar.{value_at, plain_option};
+ghost use Rattle.der_core_values.specs.CoreHead.Reading.{Reads, read_at, read_content_at};
 
-use der_core_head::{Error, Tag, TagMode, TagNumber, is_constructed, is_same_tag};
-use der_core_octets::{Header, Reader};
+use der_core_values::core_head::{Error, Tag, TagMode, TagNumber, is_constructed, is_same_tag};
+use der_core_values::core_octets::{Header, Reader};
 use der_core_values::{Decode, DecodeValue, FixedTag};
 use std::alloc::Global;
 
@@ -39,7 +39,7 @@ fn read_only<'a, R: Reader<'a>, T: Decode<'a, R>>(
 /// # Errors
 /// `TagUnexpected` behind another tag; else the first error met in reading, or `OutOfMemory`;
 /// `Failed` where the reader failed before.
-#[tactic(auto, unfolding(der_core_head::specs::Grammar::tlv_at))]
+#[tactic(auto, unfolding(crate::specs::Opened::tlv_at))]
 pub fn read_explicit<'a, R: Reader<'a>, T: Decode<'a, R>>(
     alloc: Global,
     reader: &mut R,
@@ -53,7 +53,7 @@ pub fn read_explicit<'a, R: Reader<'a>, T: Decode<'a, R>>(
 }
 
 /// The value behind a tag in place of its own.
-#[tactic(auto, unfolding(der_core_head::specs::Grammar::tlv_at))]
+#[tactic(auto, unfolding(crate::specs::Opened::tlv_at))]
 fn read_implicit<'a, R: Reader<'a>, T: DecodeValue<'a, R>>(
     alloc: Global,
     reader: &mut R,
@@ -70,7 +70,7 @@ fn read_implicit<'a, R: Reader<'a>, T: DecodeValue<'a, R>>(
 ///
 /// # Errors
 /// The first error met in reading, or `OutOfMemory`; `Failed` where the reader failed before.
-#[tactic(auto, unfolding(der_core_head::specs::Grammar::opt_at))]
+#[tactic(auto, unfolding(crate::specs::Opened::opt_at))]
 pub fn optional_explicit<'a, R: Reader<'a>, T: Decode<'a, R>>(
     alloc: Global,
     reader: &mut R,
@@ -93,7 +93,7 @@ pub fn optional_explicit<'a, R: Reader<'a>, T: Decode<'a, R>>(
 ///
 /// # Errors
 /// The first error met in reading, or `OutOfMemory`; `Failed` where the reader failed before.
-#[tactic(auto, unfolding(der_core_head::specs::Grammar::opt_at))]
+#[tactic(auto, unfolding(crate::specs::Opened::opt_at))]
 pub fn optional_implicit<'a, R: Reader<'a>, T: DecodeValue<'a, R>>(
     alloc: Global,
     reader: &mut R,

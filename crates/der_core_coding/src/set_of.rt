@@ -1,13 +1,13 @@
 //! SET OF, whose members rise (X.690 8.12, 11.6).
 
-ghost use Rattle.der_core_head.specs.Shapes.{above, rising};
-ghost use Rattle.der_core_head.specs.Grammar.{plain_list, follows_last};
-ghost use Rattle.der_core_head.specs.Reading.{Reads, IsDer, read_body_at, Gives};
-ghost use Rattle.der_core_octets.specs.Fronts.{octets_at};
+ghost use Rattle.der_core_values.specs.CoreHead.Shapes.{above, rising};
+ghost use Rattle.der_core_values.specs.CoreHead.Grammar.{plain_list, follows_last};
+ghost use Rattle.der_core_values.specs.CoreHead.Reading.{Reads, IsDer, read_body_at, Gives};
+ghost use Rattle.der_core_values.specs.CoreOctets.Fronts.{octets_at};
 
 use crate::sliced::decode_sliced;
-use der_core_head::{EncodingRules, Error, ErrorKind, Length};
-use der_core_octets::Reader;
+use der_core_values::core_head::{EncodingRules, Error, ErrorKind, Length};
+use der_core_values::core_octets::Reader;
 use der_core_values::{Decode, Member};
 use std::alloc::Global;
 use std::cmp::Ordering;

@@ -1,14 +1,14 @@
 //! The reader of a slice.
 
 ghost use Rattle.std.specs.Prelude.{◌≡◌, ◌≤◌, ◌<◌, length, [], false, IfOk, IfErr, IsSomeAnd, ⊤};
-ghost use Rattle.der_core_head.specs.Limits.{length_max, levels_max};
-ghost use Rattle.der_core_head.specs.Heads.{Fits};
-ghost use Rattle.der_core_head.specs.Reading.{State, unread, broken};
+ghost use Rattle.der_core_values.specs.CoreHead.Limits.{length_max, levels_max};
+ghost use Rattle.der_core_values.specs.CoreHead.Heads.{Fits};
+ghost use Rattle.der_core_values.specs.CoreHead.Reading.{State, unread, broken};
 ghost use Rattle.der_core_coding.specs.Slices.{unread_within};
-ghost use Rattle.der_core_octets.specs.Places.{IsAt};
+ghost use Rattle.der_core_values.specs.CoreOctets.Places.{IsAt};
 
-use der_core_head::{EncodingRules, Error, ErrorKind, Length, MAX_LEVELS};
-use der_core_octets::Reader;
+use der_core_values::core_head::{EncodingRules, Error, ErrorKind, Length, MAX_LEVELS};
+use der_core_values::core_octets::Reader;
 use std::alloc::AllocError;
 use std::marker::Model;
 
@@ -24,7 +24,7 @@ pub struct SliceReader<'a> {
 }
 
 impl<'a> Model for SliceReader<'a> {
-    ghost use Rattle.der_core_head.specs.Reading.{State};
+    ghost use Rattle.der_core_values.specs.CoreHead.Reading.{State};
 
     ghost Value = { State };
 

@@ -2,17 +2,17 @@
 
 ghost use Rattle.std.specs.Prelude.{◌≡◌, ◌≤◌, ◌<◌, length, [], Some, IfOk, IfErr, IsSomeAnd};
 ghost use Rattle.std.specs.Prelude.{IsNone, IsErrAnd, OnOk, OnErr, true, false};
-ghost use Rattle.der_core_head.specs.Limits.{IsLength, length_max};
-ghost use Rattle.der_core_head.specs.Tags.{implicit_tag};
-ghost use Rattle.der_core_head.specs.Shapes.{explicit, octets_of, tagged};
-ghost use Rattle.der_core_head.specs.Reading.{GivesNow};
-ghost use Rattle.der_core_head.specs.Writing.{write};
-ghost use Rattle.der_core_octets.specs.Outputs.{AddsFront, Continues, Encloses, blank};
+ghost use Rattle.der_core_values.specs.CoreHead.Limits.{IsLength, length_max};
+ghost use Rattle.der_core_values.specs.CoreHead.Tags.{implicit_tag};
+ghost use Rattle.der_core_values.specs.CoreHead.Shapes.{explicit, octets_of, tagged};
+ghost use Rattle.der_core_values.specs.CoreHead.Reading.{GivesNow};
+ghost use Rattle.der_core_values.specs.CoreHead.Writing.{write};
+ghost use Rattle.der_core_values.specs.CoreOctets.Outputs.{AddsFront, Continues, Encloses, blank};
 ghost use Rattle.der_core_coding.specs.Sequences.{RefusesEnclosed, failing};
 
 use crate::tagging::{encode_explicit, encode_implicit};
-use der_core_head::{Error, ErrorKind, Length, Tag, TagMode, TagNumber};
-use der_core_octets::{Writer, encode_header};
+use der_core_values::core_head::{Error, ErrorKind, Length, Tag, TagMode, TagNumber};
+use der_core_values::core_octets::{Writer, encode_header};
 use der_core_values::{Encode, EncodeValue, FixedTag};
 
 /// The writer to a slice, which takes no memory. After a write for which there was no room it has
@@ -87,7 +87,7 @@ impl<'a> SliceWriter<'a> {
     /// # Errors
     /// `Failed` where the writer failed before, `Overlength` where there is no room, `Overflow`
     /// where a length passes 2^32 - 1.
-    #[tactic(auto, using(der_core_octets::proofs::Added::none_added))]
+    #[tactic(auto, using(crate::proofs::Cited::none_added))]
     pub fn encode<T: Encode>(&mut self, value: &T) -> Result<(), Error>
         ensures writes { (output self.old).failed ≡ false
             → GivesNow (λ _. output self.new) result
@@ -118,7 +118,7 @@ impl<'a> SliceWriter<'a> {
     /// # Errors
     /// `Failed` where the writer failed before, `Overlength` where there is no room, `Overflow`
     /// where a length passes 2^32 - 1.
-    #[tactic(auto, using(der_core_octets::proofs::Added::none_added))]
+    #[tactic(auto, using(crate::proofs::Cited::none_added))]
     pub fn context_specific<T: EncodeValue + FixedTag>(
         &mut self,
         tag_number: TagNumber,
@@ -228,7 +228,7 @@ impl<'a> Writer for SliceWriter<'a> {
 
     ghost takes_memory = { false };
 
-    #[tactic(auto, unfolding(der_core_head::specs::Writing::put))]
+    #[tactic(auto, unfolding(crate::specs::Opened::put))]
     fn write(&mut self, octets: &[u8]) -> Result<(), Error> {
         if self.failed {
             return Err(Error::from(ErrorKind::Failed));

@@ -1,11 +1,11 @@
 //! Values beside the octets that they were read from.
 
 ghost use Rattle.std.specs.Prelude.{◌≡◌, ◌++◌, IfOk};
-ghost use Rattle.der_core_head.specs.Shapes.{octets_of};
-ghost use Rattle.der_core_head.specs.Reading.{Reads, IsDer, read_at};
+ghost use Rattle.der_core_values.specs.CoreHead.Shapes.{octets_of};
+ghost use Rattle.der_core_values.specs.CoreHead.Reading.{Reads, IsDer, read_at};
 
-use der_core_head::Error;
-use der_core_octets::Reader;
+use der_core_values::core_head::Error;
+use der_core_values::core_octets::Reader;
 use der_core_values::{Decode, Member};
 use std::alloc::Global;
 

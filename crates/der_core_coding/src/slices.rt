@@ -1,17 +1,17 @@
 //! Contents of values in slices, and their headers.
 
 ghost use Rattle.std.specs.Prelude.{◌≡◌, ◌≤◌, length, Ok, IfOk, IsOkAnd};
-ghost use Rattle.der_core_head.specs.Ranges.{IsContentInRange};
-ghost use Rattle.der_core_head.specs.Shapes.{IsContent, contents};
-ghost use Rattle.der_core_head.specs.Reading.{GivesNow};
-ghost use Rattle.der_core_head.specs.Writing.{size_content, write_content};
-ghost use Rattle.der_core_octets.specs.Outputs.{filled};
+ghost use Rattle.der_core_values.specs.CoreHead.Ranges.{IsContentInRange};
+ghost use Rattle.der_core_values.specs.CoreHead.Shapes.{IsContent, contents};
+ghost use Rattle.der_core_values.specs.CoreHead.Reading.{GivesNow};
+ghost use Rattle.der_core_values.specs.CoreHead.Writing.{size_content, write_content};
+ghost use Rattle.der_core_values.specs.CoreOctets.Outputs.{filled};
 
 use crate::slice_writer::SliceWriter;
 use crate::tagged::Tagged;
-use der_core_head::Error;
-use der_core_octets::Header;
 use der_core_values::EncodeValue;
+use der_core_values::core_head::Error;
+use der_core_values::core_octets::Header;
 
 /// The header of a value: its tag, and the number of octets of its content.
 ///

@@ -1,11 +1,11 @@
 //! The tag of a value.
 
 ghost use Rattle.std.specs.Prelude.{◌≡◌, Bool, Ok};
-ghost use Rattle.der_core_head.specs.declared.tag.Tag.{Tag};
-ghost use Rattle.der_core_head.specs.Tags.{is_constructed};
+ghost use Rattle.der_core_values.specs.CoreHead.declared.tag.Tag.{Tag};
+ghost use Rattle.der_core_values.specs.CoreHead.Tags.{is_constructed};
 
-use der_core_head::{Error, Length, Tag};
-use der_core_octets::Writer;
+use der_core_values::core_head::{Error, Length, Tag};
+use der_core_values::core_octets::Writer;
 use der_core_values::{ApartValue, AsReadValue, EncodeValue, FixedTag, InRangeValue, ShapedValue};
 
 /// What has a tag.

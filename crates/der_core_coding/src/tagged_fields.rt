@@ -1,7 +1,7 @@
 //! Fields after tags, from and for a row.
 
 ghost use Rattle.std.specs.Prelude.{◌≡◌};
-ghost use Rattle.der_core_head.specs.Grammar.{plain_option};
+ghost use Rattle.der_core_values.specs.CoreHead.Grammar.{plain_option};
 
 use crate::encode_ref::EncodeRef;
 use crate::explicit::Explicit;

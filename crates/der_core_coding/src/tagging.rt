@@ -1,22 +1,22 @@
 //! Values after tags that are known when they are written.
 
 ghost use Rattle.std.specs.Prelude.{◌≡◌, true};
-ghost use Rattle.der_core_head.specs.Tags.{context, implicit_tag};
-ghost use Rattle.der_core_head.specs.Shapes.{nested, octets_of, only, tagged};
-ghost use Rattle.der_core_head.specs.Writing.{Writes, write};
-ghost use Rattle.der_core_octets.specs.Outputs.{AddsFront, Continues};
+ghost use Rattle.der_core_values.specs.CoreHead.Tags.{context, implicit_tag};
+ghost use Rattle.der_core_values.specs.CoreHead.Shapes.{nested, octets_of, only, tagged};
+ghost use Rattle.der_core_values.specs.CoreHead.Writing.{Writes, write};
+ghost use Rattle.der_core_values.specs.CoreOctets.Outputs.{AddsFront, Continues};
 
 use crate::encode_ref::EncodeRef;
 use crate::explicit::Explicit;
-use der_core_head::{Error, Tag, TagNumber, is_constructed};
-use der_core_octets::{Writer, encode_header};
+use der_core_values::core_head::{Error, Tag, TagNumber, is_constructed};
+use der_core_values::core_octets::{Writer, encode_header};
 use der_core_values::{Encode, EncodeValue, FixedTag};
 
 /// Writes a content behind a tag.
 ///
 /// # Errors
 /// `Overflow` where a length passes 2^32 - 1, and those of the writer.
-#[tactic(auto, using(der_core_octets::proofs::Added::none_added, der_core_octets::proofs::Added::header_adds, der_core_octets::proofs::Added::content_adds), unfolding(der_core_head::specs::Writing::write_tlv))]
+#[tactic(auto, using(crate::proofs::Cited::none_added, crate::proofs::Cited::header_adds, crate::proofs::Cited::content_adds), unfolding(crate::specs::Opened::write_tlv))]
 pub fn encode_tagged<W: Writer, T: EncodeValue>(
     writer: &mut W,
     tag: Tag,

@@ -2,18 +2,19 @@
 
 ghost use Rattle.std.specs.Prelude.{◌≡◌, ◌<◌, ◌^◌, ◌++◌, ℕ, List, length, [], true, false, Ok};
 ghost use Rattle.std.specs.Prelude.{◌≢◌, IfOk, IfErr};
-ghost use Rattle.der_core_head.specs.Limits.{levels_max};
-ghost use Rattle.der_core_head.specs.Heads.{Fits};
-ghost use Rattle.der_core_head.specs.Shapes.{Value, Spells, IsValid, octets_of, leaf, tagged};
-ghost use Rattle.der_core_head.specs.Spelling.{is_apart, is_element, are_enough};
-ghost use Rattle.der_core_head.specs.Grammar.{read_whole};
-ghost use Rattle.der_core_head.specs.Reading.{Gives, GivesNow};
-ghost use Rattle.der_core_octets.specs.Fronts.{read_front};
+ghost use Rattle.der_core_values.specs.CoreHead.Limits.{levels_max};
+ghost use Rattle.der_core_values.specs.CoreHead.Heads.{Fits};
+ghost use Rattle.der_core_values.specs.CoreHead.Shapes.{Value, Spells, IsValid, octets_of, leaf};
+ghost use Rattle.der_core_values.specs.CoreHead.Shapes.{tagged};
+ghost use Rattle.der_core_values.specs.CoreHead.Spelling.{is_apart, is_element, are_enough};
+ghost use Rattle.der_core_values.specs.CoreHead.Grammar.{read_whole};
+ghost use Rattle.der_core_values.specs.CoreHead.Reading.{Gives, GivesNow};
+ghost use Rattle.der_core_values.specs.CoreOctets.Fronts.{read_front};
 ghost use Rattle.der_core_coding.specs.Wholes.{whole_ber_at};
 
 use crate::slice_reader::SliceReader;
-use der_core_head::{EncodingRules, Error, ErrorKind};
-use der_core_octets::Reader;
+use der_core_values::core_head::{EncodingRules, Error, ErrorKind};
+use der_core_values::core_octets::Reader;
 use der_core_values::{Decode, FixedTag, Leaf, decode_leaf_of_tag};
 use std::alloc::Global;
 
@@ -21,7 +22,7 @@ use std::alloc::Global;
 ///
 /// # Errors
 /// Those of `from_der`.
-#[tactic(auto, unfolding(der_core_head::specs::Grammar::read_whole))]
+#[tactic(auto, unfolding(crate::specs::Opened::read_whole))]
 pub fn read_whole<'a, T: Decode<'a, SliceReader<'a>>>(
     alloc: Global,
     bytes: &'a [u8],
@@ -69,7 +70,7 @@ fn read_front<'a, T: Decode<'a, SliceReader<'a>>>(
 ///
 /// # Errors
 /// Those of `from_der`, but `OutOfMemory` of a type that takes memory alone.
-#[tactic(auto, unfolding(der_core_head::specs::Grammar::read_whole))]
+#[tactic(auto, unfolding(crate::specs::Opened::read_whole))]
 pub fn leaf_from_der<'a, T: Leaf<'a> + FixedTag>(alloc: Global, bytes: &'a [u8]) -> Result<T, Error>
     ensures exact { Gives (λ v. (T.leaf_plain v, [])) result
         (read_whole (tagged T.fixed_tag (leaf T.kind)) bytes.now) }
@@ -90,7 +91,7 @@ pub fn leaf_from_der<'a, T: Leaf<'a> + FixedTag>(alloc: Global, bytes: &'a [u8])
 pub trait FromDer<'a>: Decode<'a, SliceReader<'a>> {
     /// The value that the octets spell, all of the octets.
     ///
-    /// As in `crates/own_types/src/main.rt`:
+    /// As in `crates/example_own_types/src/main.rt`:
     ///
     /// ```rust
     /// let ticket = Ticket::from_der(alloc, octets.as_slice())?;

@@ -1,11 +1,11 @@
 //! A field with a default value (X.690 11.5).
 
 ghost use Rattle.std.specs.Prelude.{Ok, refl};
-ghost use Rattle.der_core_head.specs.Shapes.{defaulted};
+ghost use Rattle.der_core_values.specs.CoreHead.Shapes.{defaulted};
 
 use crate::kinds::DefaultValue;
-use der_core_head::{Error, ErrorKind, Length};
-use der_core_octets::{Reader, Writer};
+use der_core_values::core_head::{Error, ErrorKind, Length};
+use der_core_values::core_octets::{Reader, Writer};
 use der_core_values::{AsRead, Choice, Decode, Encode, InRange, Shaped};
 use std::alloc::Global;
 
@@ -31,7 +31,7 @@ impl<T: DefaultValue> AsRead for WithDefault<T> {
 impl<'a, R: Reader<'a>, T: Decode<'a, R> + Choice + DefaultValue> Decode<'a, R> for WithDefault<T> {
     // Inlined, since a default that is absent is told by one octet.
     #[inline(always)]
-    #[tactic(auto, unfolding(der_core_head::specs::Grammar::default_at))]
+    #[tactic(auto, unfolding(crate::specs::Opened::default_at))]
     fn decode(alloc: Global, reader: &mut R) -> Result<WithDefault<T>, Error> {
         let Some(tag) = reader.next_tag_or_end()? else {
             return Ok(WithDefault {
@@ -56,7 +56,7 @@ impl<'a, R: Reader<'a>, T: Decode<'a, R> + Choice + DefaultValue> Decode<'a, R> 
 impl<T: Encode + DefaultValue> Encode for WithDefault<T> {
     // Inlined, so that what is answered isn't moved.
     #[inline(always)]
-    #[tactic(auto, unfolding(der_core_head::specs::Writing::default_len))]
+    #[tactic(auto, unfolding(crate::specs::Opened::default_len))]
     fn encoded_len(&self) -> Result<Length, Error> {
         if self.value.is_default() {
             Ok(Length { value: 0 })
@@ -67,7 +67,7 @@ impl<T: Encode + DefaultValue> Encode for WithDefault<T> {
 
     // Inlined, so that what is answered isn't moved.
     #[inline(always)]
-    #[tactic(auto, using(der_core_octets::proofs::Added::none_added), unfolding(der_core_head::specs::Writing::default_write, der_core_head::specs::Shapes::octets_of, der_core_head::specs::Shapes::unless))]
+    #[tactic(auto, using(crate::proofs::Cited::none_added), unfolding(crate::specs::Opened::default_write, crate::specs::Opened::octets_of, crate::specs::Opened::unless))]
     fn encode<W: Writer>(&self, writer: &mut W) -> Result<(), Error> {
         if self.value.is_default() {
             Ok(())

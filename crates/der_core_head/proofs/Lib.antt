@@ -9,3 +9,4 @@ pub mod OneEncoding
 pub mod Written
 pub mod BodyLaws
 pub mod BoundLaws
+pub use Rattle.const_oid.proofs as Oid

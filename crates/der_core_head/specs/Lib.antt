@@ -22,3 +22,4 @@ pub mod Writing
 pub mod Reading
 pub mod Bodies
 pub mod Fronts
+pub use Rattle.const_oid.specs as Oid

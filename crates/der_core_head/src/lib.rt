@@ -22,3 +22,8 @@ pub use tag::{Tag, is_constructed, is_same_tag, leading_octet_of, number_of};
 pub use tag_mode::TagMode;
 pub use tag_number::TagNumber;
 pub use tag_octets::{short_tag_at, short_tag_of, tag_of, tag_of_class};
+
+/// The names of `const_oid` that the crates above use.
+pub mod oid {
+    pub use const_oid::{AssociatedOid, Error, ObjectIdentifier};
+}

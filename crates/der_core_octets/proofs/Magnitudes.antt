@@ -7,8 +7,8 @@ use Rattle.der_core_head.specs.declared.tag.Tag.{Tag}
 use Rattle.der_core_head.specs.Integers.{positive, integer_octets, unsigned, signed, is_redundant, integer_of, shortest_integer, integer_read}
 use Rattle.std.proofs.lemmas.Int.Digits.{number_after_ge}
 use Rattle.der_core_octets.specs.Numbers.{with_sign, turn, turned}
-use Rattle.const_oid.specs.Digits.{digits}
-use Rattle.const_oid.proofs.DigitLaws.{digits-Digits, digits-one, digits-more}
+use Rattle.der_core_head.specs.Oid.Digits.{digits}
+use Rattle.der_core_head.proofs.Oid.DigitLaws.{digits-Digits, digits-one, digits-more}
 use Rattle.std.proofs.lemmas.List.{drop_more, map-append}
 use Rattle.std.proofs.lemmas.Nat.{div_below}
 

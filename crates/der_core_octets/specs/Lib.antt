@@ -8,3 +8,5 @@ pub mod Parts
 pub mod Pieces
 pub mod Headers
 pub mod LoneLengths
+pub use Rattle.der_core_head.specs as CoreHead
+pub use Rattle.der_core_head.specs.Oid

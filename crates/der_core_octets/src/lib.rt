@@ -35,3 +35,18 @@ pub use reader::Reader;
 pub use string_owned::StringOwned;
 pub use string_ref::StringRef;
 pub use writer::Writer;
+
+/// The names of `der_core_head` that the crates above use.
+pub mod core_head {
+    pub use der_core_head::{
+        CLASS_APPLICATION, CLASS_CONTEXT_SPECIFIC, CLASS_PRIVATE, CLASS_UNIVERSAL, Class,
+        EncodingRules, Error, ErrorKind, Length, MAX_LEVELS, Result, Tag, TagMode, TagNumber,
+        header_len, is_constructed, is_same_tag, laws, leading_octet_of, number_of, short_tag_of,
+        tag_of, tag_of_class,
+    };
+}
+
+/// The names of `const_oid` that the crates above use.
+pub mod oid {
+    pub use der_core_head::oid::{AssociatedOid, Error, ObjectIdentifier};
+}

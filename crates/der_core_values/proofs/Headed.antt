@@ -1,24 +1,24 @@
 -- A value behind a header of the tag that is wanted.
 use Rattle.std.proofs.Common.{◌≡◌, ℕ, List, Result, Ok, Err, ap, subst, ◌∙◌, arith, Bool, true, false, length, take, drop, refl, sym, inl, inr}
-use Rattle.der_core_head.specs.declared.error.Error.{Error}
-use Rattle.der_core_head.specs.declared.error.ErrorKind.{ErrorKind}
-use Rattle.der_core_head.specs.declared.tag.Tag.{Tag}
-use Rattle.der_core_head.specs.Octets.{Readings, ◌>>=◌}
-use Rattle.der_core_head.specs.Heads.{Head, Fits}
-use Rattle.der_core_head.specs.Bodies.{head_by}
-use Rattle.der_core_head.specs.Shapes.{Content, ContentValue, tagged, leaf}
-use Rattle.der_core_head.specs.Grammar.{value_at, tlv_at, whole, slice_at, read_content_by, leaf_at, kept}
-use Rattle.der_core_head.specs.Reading.{State, Reads, ReadsNow, read_at, read_content_at, IsRest, Fails, Gives, broken}
+use Rattle.der_core_octets.specs.CoreHead.declared.error.Error.{Error}
+use Rattle.der_core_octets.specs.CoreHead.declared.error.ErrorKind.{ErrorKind}
+use Rattle.der_core_octets.specs.CoreHead.declared.tag.Tag.{Tag}
+use Rattle.der_core_octets.specs.CoreHead.Octets.{Readings, ◌>>=◌}
+use Rattle.der_core_octets.specs.CoreHead.Heads.{Head, Fits}
+use Rattle.der_core_octets.specs.CoreHead.Bodies.{head_by}
+use Rattle.der_core_octets.specs.CoreHead.Shapes.{Content, ContentValue, tagged, leaf}
+use Rattle.der_core_octets.specs.CoreHead.Grammar.{value_at, tlv_at, whole, slice_at, read_content_by, leaf_at, kept}
+use Rattle.der_core_octets.specs.CoreHead.Reading.{State, Reads, ReadsNow, read_at, read_content_at, IsRest, Fails, Gives, broken}
 use Rattle.der_core_octets.specs.Headers.{wanted_at}
 use Rattle.der_core_octets.proofs.GoingOn.{broken_kept, reads_after, tlv_wanted, kept_then}
 use Rattle.std.proofs.lemmas.Bool.{cases_lt, le-ltb}
-use Rattle.der_core_head.specs.Limits.{length_max}
-use Rattle.der_core_head.specs.declared.error.ErrorKind.TheVariants as kinds
-use Rattle.der_core_head.specs.Lengths.{counted}
-use Rattle.der_core_head.specs.Leaves.{Leaf, LeafValue, leaf_read, octets}
-use Rattle.der_core_head.specs.declared.encoding_rules.EncodingRules.{EncodingRules}
+use Rattle.der_core_octets.specs.CoreHead.Limits.{length_max}
+use Rattle.der_core_octets.specs.CoreHead.declared.error.ErrorKind.TheVariants as kinds
+use Rattle.der_core_octets.specs.CoreHead.Lengths.{counted}
+use Rattle.der_core_octets.specs.CoreHead.Leaves.{Leaf, LeafValue, leaf_read, octets}
+use Rattle.der_core_octets.specs.CoreHead.declared.encoding_rules.EncodingRules.{EncodingRules}
 use Rattle.der_core_values.specs.Memory.{GivesTaking}
-use Rattle.der_core_head.proofs.Results.{ok_is, slice_ok, slice_short, value_enough, value_short}
+use Rattle.der_core_octets.proofs.CoreHead.Results.{ok_is, slice_ok, slice_short, value_enough, value_short}
 
 module _ (c : Content) (wanted tag : Tag) (same : wanted ≡ tag) (old : State) where
   abbrev value : Readings (ContentValue c)

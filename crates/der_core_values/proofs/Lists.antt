@@ -1,12 +1,12 @@
 -- Lists and arrays are read and written member by member, and in order.
 use Rattle.std.proofs.Common.{◌≡◌, ℕ, suc, ◌-◌, ◌+◌, ◌≤◌, ◌<◌, true, false, List, [], ◌∷◌, ◌++◌, Result, Ok, Err, refl, sym, ap, ◌∙◌, append_assoc, arith, ◌≢◌, Option, Some, append-nil, length, subst, None}
-use Rattle.der_core_head.specs.declared.error.ErrorKind.{ErrorKind}
-use Rattle.der_core_head.specs.declared.error.ErrorKind.TheVariants as kinds
-use Rattle.der_core_head.specs.Octets.{◌>>=◌, Readings}
-use Rattle.der_core_head.specs.Shapes.{Step, Shape, Value, octets_of}
-use Rattle.der_core_head.specs.Grammar.{read_many, read_exactly, read_in_order, follows_last, plain_list, read, read_by}
-use Rattle.der_core_head.specs.Reading.{State, IsRest, Kept, Fails, read_at, IsDer}
-use Rattle.der_core_head.proofs.Results.{plain-append}
+use Rattle.der_core_octets.specs.CoreHead.declared.error.ErrorKind.{ErrorKind}
+use Rattle.der_core_octets.specs.CoreHead.declared.error.ErrorKind.TheVariants as kinds
+use Rattle.der_core_octets.specs.CoreHead.Octets.{◌>>=◌, Readings}
+use Rattle.der_core_octets.specs.CoreHead.Shapes.{Step, Shape, Value, octets_of}
+use Rattle.der_core_octets.specs.CoreHead.Grammar.{read_many, read_exactly, read_in_order, follows_last, plain_list, read, read_by}
+use Rattle.der_core_octets.specs.CoreHead.Reading.{State, IsRest, Kept, Fails, read_at, IsDer}
+use Rattle.der_core_octets.proofs.CoreHead.Results.{plain-append}
 use Rattle.der_core_octets.proofs.GoingOn.{frame_then, kept_then, rest_then}
 
 -- Values that are read one after the other, as a loop does.

@@ -2,12 +2,12 @@
 use Rattle.std.proofs.Common.{rules, ◌≡◌, ℕ, ◌≤◌, ◌<◌, ◌^◌, Bool, true, false, cond, List, [], ◌∷◌, length, Ok, Err, refl, sym, ap, arith, ℤ, pos, negsuc, nat_lt, ◌==◌, ◌≢◌}
 use Rattle.std.specs.List.{AllByRecursion, list_any}
 use Rattle.std.proofs.lemmas.Bool.{ltb-false, ltb-true, ne_eqb, and_parts}
-use Rattle.der_core_head.specs.declared.error.ErrorKind.{ErrorKind}
-use Rattle.der_core_head.specs.declared.error.ErrorKind.TheVariants as kinds
-use Rattle.der_core_head.specs.declared.tag.Tag.{Tag}
-use Rattle.der_core_head.specs.Integers.{Numbers, unsigned, among, checked, shortest_integer, integer_read, is_redundant, integer_of}
-use Rattle.der_core_head.specs.Octets.{◌>>=◌}
-use Rattle.der_core_head.proofs.Results.{fine}
+use Rattle.der_core_octets.specs.CoreHead.declared.error.ErrorKind.{ErrorKind}
+use Rattle.der_core_octets.specs.CoreHead.declared.error.ErrorKind.TheVariants as kinds
+use Rattle.der_core_octets.specs.CoreHead.declared.tag.Tag.{Tag}
+use Rattle.der_core_octets.specs.CoreHead.Integers.{Numbers, unsigned, among, checked, shortest_integer, integer_read, is_redundant, integer_of}
+use Rattle.der_core_octets.specs.CoreHead.Octets.{◌>>=◌}
+use Rattle.der_core_octets.proofs.CoreHead.Results.{fine}
 use Rattle.der_core_values.specs.Numbered.{are_octets}
 
 not_fine : (b : Bool) (z : ℤ) (d k : ErrorKind) → cond b (fine z) (Err d) ≡ Err k → (b ≡ false) × (d ≡ k)

@@ -1,8 +1,8 @@
 -- What a call answers that takes memory or not.
 use Rattle.std.specs.Prelude.{Bool, true, false, Result}
-use Rattle.der_core_head.specs.declared.error.Error.{Error}
-use Rattle.der_core_head.specs.declared.error.ErrorKind.{ErrorKind}
-use Rattle.der_core_head.specs.Reading.{Gives, GivesNow}
+use Rattle.der_core_octets.specs.CoreHead.declared.error.Error.{Error}
+use Rattle.der_core_octets.specs.CoreHead.declared.error.ErrorKind.{ErrorKind}
+use Rattle.der_core_octets.specs.CoreHead.Reading.{Gives, GivesNow}
 
 abbrev pub GivesTaking : {X P : Type 0} → Bool → (X → P) → Result X Error → Result P ErrorKind
     → Type 0

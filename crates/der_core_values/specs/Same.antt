@@ -1,7 +1,7 @@
 -- Two views that agree on each value agree on options and on lists of values.
 use Rattle.std.specs.Prelude.{◌≡◌, List, [], ◌∷◌, Option, Some, None, refl}
 use Rattle.std.proofs.Common.{ap, ◌∙◌}
-use Rattle.der_core_head.specs.Grammar.{plain_option, plain_list}
+use Rattle.der_core_octets.specs.CoreHead.Grammar.{plain_option, plain_list}
 
 pub same_option : {A B : Type 0} {f g : A → B} → ((x : A) → f x ≡ g x) → (o : Option A)
     → plain_option f o ≡ plain_option g o

@@ -1,14 +1,14 @@
 //! A field of no octets, as `PhantomData`.
 
 ghost use Rattle.std.specs.Prelude.{refl};
-ghost use Rattle.der_core_head.specs.Shapes.{nothing, done};
+ghost use Rattle.der_core_octets.specs.CoreHead.Shapes.{nothing, done};
 
 use crate::decode::{Choice, Decode, Shaped};
 use crate::elements::{AsRead, Member};
 use crate::encode::Encode;
 use crate::fields::{DecodeRow, FieldRow};
 use crate::in_range::InRange;
-use der_core_head::{Error, ErrorKind, Length, Tag};
+use der_core_octets::core_head::{Error, ErrorKind, Length, Tag};
 use der_core_octets::{Reader, Writer};
 use std::alloc::Global;
 use std::marker::PhantomData;

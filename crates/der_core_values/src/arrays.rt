@@ -1,9 +1,9 @@
 //! SEQUENCE OF with so many values (X.690 8.10).
 
 ghost use Rattle.der_core_values.specs.Both.{both_true};
-ghost use Rattle.der_core_head.specs.declared.tag.Tag.TheVariants.{Sequence};
-ghost use Rattle.der_core_head.specs.Shapes.{nested, exactly};
-ghost use Rattle.der_core_head.specs.Grammar.{plain_list};
+ghost use Rattle.der_core_octets.specs.CoreHead.declared.tag.Tag.TheVariants.{Sequence};
+ghost use Rattle.der_core_octets.specs.CoreHead.Shapes.{nested, exactly};
+ghost use Rattle.der_core_octets.specs.CoreHead.Grammar.{plain_list};
 
 use crate::decode::{Decode, DecodeValue, FixedTag, Shaped, ShapedValue};
 use crate::elements::{ApartValue, AsRead, AsReadValue, Element, Member};
@@ -12,7 +12,7 @@ use crate::fields::{DecodeFields, Fields, read_fields};
 use crate::in_range::{InRange, InRangeValue};
 use crate::members::{encode_members, members_len};
 use crate::vec::list_in_range;
-use der_core_head::{Error, ErrorKind, Length, Tag};
+use der_core_octets::core_head::{Error, ErrorKind, Length, Tag};
 use der_core_octets::{Header, Reader, Writer};
 use std::alloc::Global;
 
@@ -90,7 +90,7 @@ impl<T: Encode, const N: usize> EncodeValue for [T; N] {
         members_len(self.as_slice())
     }
 
-    #[tactic(auto, unfolding(der_core_head::specs::Shapes::contents))]
+    #[tactic(auto, unfolding(crate::specs::Opened::contents))]
     fn encode_value<W: Writer>(&self, writer: &mut W) -> Result<(), Error> {
         encode_members(self.as_slice(), writer)
     }

@@ -1,16 +1,16 @@
 //! BOOLEAN, as `bool` (X.690 8.2, 11.1).
 
 ghost use Rattle.std.specs.Prelude.{true, false, Err, refl};
-ghost use Rattle.der_core_head.specs.declared.tag.Tag.TheVariants.{Boolean};
-ghost use Rattle.der_core_head.specs.Shapes.{leaf};
-ghost use Rattle.der_core_head.specs.Leaves.{boolean};
+ghost use Rattle.der_core_octets.specs.CoreHead.declared.tag.Tag.TheVariants.{Boolean};
+ghost use Rattle.der_core_octets.specs.CoreHead.Shapes.{leaf};
+ghost use Rattle.der_core_octets.specs.CoreHead.Leaves.{boolean};
 
 use crate::decode::{DecodeValue, FixedTag, ShapedValue};
 use crate::elements::{ApartValue, AsReadValue};
 use crate::encode::EncodeValue;
 use crate::in_range::InRangeValue;
 use crate::leaves::{Leaf, Primitive, decode_leaf};
-use der_core_head::{Error, ErrorKind, Length, Tag};
+use der_core_octets::core_head::{Error, ErrorKind, Length, Tag};
 use der_core_octets::{Header, Reader, Writer};
 use std::alloc::Global;
 
@@ -60,7 +60,7 @@ impl EncodeValue for bool {
         Ok(Length { value: 1 })
     }
 
-    #[tactic(auto, using(der_core_octets::proofs::Added::write_adds), unfolding(der_core_head::specs::Shapes::contents))]
+    #[tactic(auto, using(der_core_octets::proofs::Added::write_adds), unfolding(crate::specs::Opened::contents))]
     fn encode_value<W: Writer>(&self, writer: &mut W) -> Result<(), Error> {
         writer.write_byte(if *self { 255 } else { 0 })
     }

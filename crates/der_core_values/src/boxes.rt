@@ -4,7 +4,7 @@ use crate::decode::{DecodeValue, FixedTag, ShapedValue};
 use crate::elements::{ApartValue, AsReadValue};
 use crate::encode::EncodeValue;
 use crate::in_range::InRangeValue;
-use der_core_head::{Error, Length, Tag};
+use der_core_octets::core_head::{Error, Length, Tag};
 use der_core_octets::{Header, Reader, Writer};
 use std::alloc::Global;
 

@@ -1,17 +1,17 @@
 //! Octets that stand as they are, whatever tag is before them (X.690 8.7).
 
 ghost use Rattle.std.specs.Prelude.{◌≡◌, false};
-ghost use Rattle.der_core_head.specs.Grammar.{slice_at, value_at};
+ghost use Rattle.der_core_octets.specs.CoreHead.Grammar.{slice_at, value_at};
 ghost use Rattle.der_core_octets.specs.Held.{held_octets};
-ghost use Rattle.der_core_head.specs.Leaves.{octets};
-ghost use Rattle.der_core_head.specs.Reading.{Reads, read_content_at};
-ghost use Rattle.der_core_head.specs.Shapes.{leaf};
+ghost use Rattle.der_core_octets.specs.CoreHead.Leaves.{octets};
+ghost use Rattle.der_core_octets.specs.CoreHead.Reading.{Reads, read_content_at};
+ghost use Rattle.der_core_octets.specs.CoreHead.Shapes.{leaf};
 
 use crate::in_range::octets_in_range;
 use crate::leaf_ways::{AsOctets, Octets};
 use crate::leaves::{Leaf, Primitive};
 use crate::ways::Described;
-use der_core_head::{Error, Tag};
+use der_core_octets::core_head::{Error, Tag};
 use der_core_octets::{BytesOwned, BytesRef, Header, Reader};
 use std::alloc::Global;
 

@@ -1,12 +1,13 @@
 //! Reading of values.
 
 ghost use Rattle.std.specs.Prelude.{◌≡◌};
-ghost use Rattle.der_core_head.specs.declared.tag.Tag.{Tag};
-ghost use Rattle.der_core_head.specs.Shapes.{Shape, Content, Value, ContentValue, tagged, begins};
-ghost use Rattle.der_core_head.specs.Grammar.{value_at};
-ghost use Rattle.der_core_head.specs.Reading.{Reads, read_at, read_content_at};
+ghost use Rattle.der_core_octets.specs.CoreHead.declared.tag.Tag.{Tag};
+ghost use Rattle.der_core_octets.specs.CoreHead.Shapes.{Shape, Content, Value, ContentValue};
+ghost use Rattle.der_core_octets.specs.CoreHead.Shapes.{tagged, begins};
+ghost use Rattle.der_core_octets.specs.CoreHead.Grammar.{value_at};
+ghost use Rattle.der_core_octets.specs.CoreHead.Reading.{Reads, read_at, read_content_at};
 
-use der_core_head::{Error, Tag, is_same_tag};
+use der_core_octets::core_head::{Error, Tag, is_same_tag};
 use der_core_octets::{Header, Reader};
 use std::alloc::Global;
 
@@ -78,7 +79,7 @@ impl<T: ShapedValue + FixedTag> Shaped for T {
 /// `TagUnexpected` for another tag; else the first error met in reading, or `OutOfMemory`; `Failed`
 /// where the reader failed before.
 #[inline(always)]
-#[tactic(auto, unfolding(der_core_head::specs::Grammar::tlv_at))]
+#[tactic(auto, unfolding(crate::specs::Opened::tlv_at))]
 fn decode_tagged<'a, R: Reader<'a>, T: DecodeValue<'a, R> + FixedTag>(
     alloc: Global,
     reader: &mut R,

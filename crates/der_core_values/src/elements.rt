@@ -1,7 +1,7 @@
 //! Types each of whose values has one spelling, and types that are written as they are read.
 
 ghost use Rattle.std.specs.Prelude.{◌≡◌, true, refl};
-ghost use Rattle.der_core_head.specs.Spelling.{is_apart, is_element, is_content_apart};
+ghost use Rattle.der_core_octets.specs.CoreHead.Spelling.{is_apart, is_element, is_content_apart};
 
 use crate::decode::{FixedTag, Shaped, ShapedValue};
 

@@ -1,12 +1,13 @@
 //! Writing of values.
 
-ghost use Rattle.der_core_head.specs.Reading.{GivesNow};
-ghost use Rattle.der_core_head.specs.Shapes.{contents, octets_of};
-ghost use Rattle.der_core_head.specs.Writing.{Writes, size, write, size_content, write_content};
+ghost use Rattle.der_core_octets.specs.CoreHead.Reading.{GivesNow};
+ghost use Rattle.der_core_octets.specs.CoreHead.Shapes.{contents, octets_of};
+ghost use Rattle.der_core_octets.specs.CoreHead.Writing.{Writes, size, write, size_content};
+ghost use Rattle.der_core_octets.specs.CoreHead.Writing.{write_content};
 ghost use Rattle.der_core_octets.specs.Outputs.{AddsFront, Continues};
 
 use crate::decode::{FixedTag, Shaped, ShapedValue};
-use der_core_head::{Error, Length};
+use der_core_octets::core_head::{Error, Length};
 use der_core_octets::{Writer, encode_header};
 
 /// What is written as octets, with its header.
@@ -57,7 +58,7 @@ pub trait EncodeValue: ShapedValue {
 impl<T: EncodeValue + FixedTag> Encode for T {
     // Inlined, so that what is answered isn't moved.
     #[inline(always)]
-    #[tactic(auto, unfolding(der_core_head::specs::Writing::tlv_len, der_core_head::specs::Writing::head_len))]
+    #[tactic(auto, unfolding(crate::specs::Opened::tlv_len, crate::specs::Opened::head_len))]
     fn encoded_len(&self) -> Result<Length, Error> {
         let len = self.value_len()?;
         len.for_tlv(T::tag())
@@ -65,7 +66,7 @@ impl<T: EncodeValue + FixedTag> Encode for T {
 
     // Inlined, so that what is answered isn't moved.
     #[inline(always)]
-    #[tactic(auto, using(der_core_octets::proofs::Added::none_added, der_core_octets::proofs::Added::header_adds, der_core_octets::proofs::Added::content_adds), unfolding(der_core_head::specs::Writing::write_tlv))]
+    #[tactic(auto, using(der_core_octets::proofs::Added::none_added, der_core_octets::proofs::Added::header_adds, der_core_octets::proofs::Added::content_adds), unfolding(crate::specs::Opened::write_tlv))]
     fn encode<W: Writer>(&self, writer: &mut W) -> Result<(), Error> {
         let len = self.value_len()?;
         encode_header(writer, T::tag(), len)?;

@@ -1,11 +1,11 @@
 //! Values whose content is a list of fields.
 
 ghost use Rattle.std.specs.Prelude.{◌≡◌, refl};
-ghost use Rattle.der_core_head.specs.Shapes.{Body, BodyValue, nested};
-ghost use Rattle.der_core_head.specs.Grammar.{value_at};
-ghost use Rattle.der_core_head.specs.Reading.{Reads, read_body_at, read_content_at};
+ghost use Rattle.der_core_octets.specs.CoreHead.Shapes.{Body, BodyValue, nested};
+ghost use Rattle.der_core_octets.specs.CoreHead.Grammar.{value_at};
+ghost use Rattle.der_core_octets.specs.CoreHead.Reading.{Reads, read_body_at, read_content_at};
 
-use der_core_head::Error;
+use der_core_octets::core_head::Error;
 use der_core_octets::{Header, Reader};
 use std::alloc::Global;
 

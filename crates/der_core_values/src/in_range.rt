@@ -3,13 +3,13 @@
 //!
 //! Each is a law of the values of a type, and stands as the contract of a call that does nothing.
 
-ghost use Rattle.der_core_head.specs.Octets.{IsOctets};
-ghost use Rattle.der_core_head.specs.Texts.{IsUtf8Text};
-ghost use Rattle.der_core_head.specs.Ranges.{IsInRange, IsContentInRange, IsBodyInRange};
+ghost use Rattle.der_core_octets.specs.CoreHead.Octets.{IsOctets};
+ghost use Rattle.der_core_octets.specs.CoreHead.Texts.{IsUtf8Text};
+ghost use Rattle.der_core_octets.specs.CoreHead.Ranges.{IsInRange, IsContentInRange, IsBodyInRange};
 
 use crate::decode::{FixedTag, Shaped, ShapedValue};
 use crate::fields::FieldRow;
-use der_core_head::number_of;
+use der_core_octets::core_head::number_of;
 
 /// A type whose values are in range.
 pub trait InRange: Shaped {

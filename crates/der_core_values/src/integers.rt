@@ -1,16 +1,17 @@
 //! Whole numbers: two's complement in the fewest octets (X.690 8.3).
 
 ghost use Rattle.std.specs.Prelude.{◌≡◌, ℤ, pos, false, refl};
-ghost use Rattle.der_core_head.specs.declared.tag.Tag.TheVariants as tags;
-ghost use Rattle.der_core_head.specs.Shapes.{leaf};
-ghost use Rattle.der_core_head.specs.Integers.{Numbers, IsNumber, unsigned, signed, integer_read};
-ghost use Rattle.der_core_head.specs.Leaves.{integer};
-ghost use Rattle.der_core_head.specs.Reading.{GivesNow};
+ghost use Rattle.der_core_octets.specs.CoreHead.declared.tag.Tag.TheVariants as tags;
+ghost use Rattle.der_core_octets.specs.CoreHead.Shapes.{leaf};
+ghost use Rattle.der_core_octets.specs.CoreHead.Integers.{Numbers, IsNumber, unsigned, signed};
+ghost use Rattle.der_core_octets.specs.CoreHead.Integers.{integer_read};
+ghost use Rattle.der_core_octets.specs.CoreHead.Leaves.{integer};
+ghost use Rattle.der_core_octets.specs.CoreHead.Reading.{GivesNow};
 ghost use Rattle.der_core_octets.specs.Numbers.{with_sign};
 
 use crate::leaves::{Leaf, Primitive, decode_leaf};
 use crate::ways::{AsReadWay, DecodeWay, Described, RangeWay, TagWay, Way};
-use der_core_head::{Error, Length, Tag};
+use der_core_octets::core_head::{Error, Length, Tag};
 use der_core_octets::{Header, Reader, Writer, integer_octets_of, signed_of, unsigned_of};
 use std::alloc::Global;
 
@@ -66,7 +67,7 @@ impl<T: Integer> Way<T> for AsInteger {
         Ok(Length::new((17 - start) as u32))
     }
 
-    #[tactic(auto, using(der_core_octets::proofs::Added::write_adds), unfolding(der_core_head::specs::Shapes::contents))]
+    #[tactic(auto, using(der_core_octets::proofs::Added::write_adds), unfolding(crate::specs::Opened::contents))]
     fn encode_by<W: Writer>(value: &T, writer: &mut W) -> Result<(), Error> {
         let (negative, number) = value.sign_and_bits();
         let (octets, start) = integer_octets_of(negative, number);

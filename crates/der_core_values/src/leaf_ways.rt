@@ -1,15 +1,15 @@
 //! Ways of types whose content is no list of values.
 
 ghost use Rattle.std.specs.Prelude.{◌≡◌, refl};
-ghost use Rattle.der_core_head.specs.Leaves.{leaf_contents, IsLeafValue};
-ghost use Rattle.der_core_head.specs.Reading.{GivesNow};
-ghost use Rattle.der_core_head.specs.Shapes.{contents, leaf};
-ghost use Rattle.der_core_head.specs.Writing.{Writes, size_content, write_content};
+ghost use Rattle.der_core_octets.specs.CoreHead.Leaves.{leaf_contents, IsLeafValue};
+ghost use Rattle.der_core_octets.specs.CoreHead.Reading.{GivesNow};
+ghost use Rattle.der_core_octets.specs.CoreHead.Shapes.{contents, leaf};
+ghost use Rattle.der_core_octets.specs.CoreHead.Writing.{Writes, size_content, write_content};
 ghost use Rattle.der_core_octets.specs.Outputs.{AddsFront, Continues};
 
 use crate::leaves::{Leaf, Primitive, decode_leaf};
 use crate::ways::{AsReadWay, DecodeWay, RangeWay, Way};
-use der_core_head::{Error, Length};
+use der_core_octets::core_head::{Error, Length};
 use der_core_octets::{Header, Reader, Writer, slice_len};
 use std::alloc::Global;
 
@@ -36,7 +36,7 @@ impl<T: Octets> Way<T> for AsOctets {
         slice_len(value.content())
     }
 
-    #[tactic(auto, using(der_core_octets::proofs::Added::write_adds), unfolding(der_core_head::specs::Shapes::contents))]
+    #[tactic(auto, using(der_core_octets::proofs::Added::write_adds), unfolding(crate::specs::Opened::contents))]
     fn encode_by<W: Writer>(value: &T, writer: &mut W) -> Result<(), Error> {
         writer.write(value.content())
     }

@@ -1,14 +1,14 @@
 //! Values whose content is no list of values.
 
 ghost use Rattle.std.specs.Prelude.{◌≡◌, Bool, true, false, IfOk, IfErr, Err};
-ghost use Rattle.der_core_head.specs.Heads.{Fits};
-ghost use Rattle.der_core_head.specs.Shapes.{leaf};
-ghost use Rattle.der_core_head.specs.Grammar.{value_at};
-ghost use Rattle.der_core_head.specs.Reading.{Reads, TakesContent, read_content_at};
+ghost use Rattle.der_core_octets.specs.CoreHead.Heads.{Fits};
+ghost use Rattle.der_core_octets.specs.CoreHead.Shapes.{leaf};
+ghost use Rattle.der_core_octets.specs.CoreHead.Grammar.{value_at};
+ghost use Rattle.der_core_octets.specs.CoreHead.Reading.{Reads, TakesContent, read_content_at};
 ghost use Rattle.der_core_values.specs.Memory.{GivesTaking};
-ghost use Rattle.der_core_head.specs.Leaves.{Leaf as LeafKind, LeafValue, leaf_read};
+ghost use Rattle.der_core_octets.specs.CoreHead.Leaves.{Leaf as LeafKind, LeafValue, leaf_read};
 
-use der_core_head::{Error, Tag};
+use der_core_octets::core_head::{Error, Tag};
 use der_core_octets::{Header, Reader};
 use std::alloc::Global;
 

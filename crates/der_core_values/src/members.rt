@@ -1,14 +1,14 @@
 //! Encodings of members, one after the other.
 
-ghost use Rattle.der_core_head.specs.Shapes.{body_octets, many};
-ghost use Rattle.der_core_head.specs.Grammar.{plain_list};
-ghost use Rattle.der_core_head.specs.Reading.{GivesNow};
-ghost use Rattle.der_core_head.specs.Writing.{Writes, size_body, write_body};
+ghost use Rattle.der_core_octets.specs.CoreHead.Shapes.{body_octets, many};
+ghost use Rattle.der_core_octets.specs.CoreHead.Grammar.{plain_list};
+ghost use Rattle.der_core_octets.specs.CoreHead.Reading.{GivesNow};
+ghost use Rattle.der_core_octets.specs.CoreHead.Writing.{Writes, size_body, write_body};
 ghost use Rattle.der_core_octets.specs.Outputs.{AddsFront, Continues};
 
 use crate::encode::Encode;
-use der_core_head::{Error, Length};
 use der_core_octets::Writer;
+use der_core_octets::core_head::{Error, Length};
 
 /// The number of octets of the encodings.
 ///

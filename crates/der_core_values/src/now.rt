@@ -1,13 +1,13 @@
 //! Values whose contents are leaves, after their tags.
 
 ghost use Rattle.std.specs.Prelude.{◌≡◌, false, IfErr, Err};
-ghost use Rattle.der_core_head.specs.Shapes.{leaf, tagged};
-ghost use Rattle.der_core_head.specs.Reading.{Reads, read_at};
+ghost use Rattle.der_core_octets.specs.CoreHead.Shapes.{leaf, tagged};
+ghost use Rattle.der_core_octets.specs.CoreHead.Reading.{Reads, read_at};
 
 use crate::decode::FixedTag;
 use crate::leaves::{Leaf, decode_leaf};
-use der_core_head::Error;
 use der_core_octets::Reader;
+use der_core_octets::core_head::Error;
 use std::alloc::Global;
 
 /// The value of the type's tag that stands next. After a refusal the reader has failed.
@@ -15,7 +15,7 @@ use std::alloc::Global;
 /// # Errors
 /// `TagUnexpected` for another tag; else the first error met in reading, or, of a type that takes
 /// memory, `OutOfMemory`; `Failed` where the reader failed before.
-#[tactic(auto, unfolding(der_core_head::specs::Grammar::tlv_at))]
+#[tactic(auto, unfolding(crate::specs::Opened::tlv_at))]
 pub fn decode_leaf_of_tag<'a, R: Reader<'a>, T: Leaf<'a> + FixedTag>(
     alloc: Global,
     reader: &mut R,

@@ -2,17 +2,17 @@
 
 ghost use Rattle.std.specs.Prelude.{◌≡◌, ◌≢◌, ◌==◌, ℕ, List, true, pos, IfSome, IfNone, refl};
 ghost use Rattle.std.specs.List.{AllByRecursion, list_any};
-ghost use Rattle.der_core_head.specs.declared.tag.Tag.TheVariants as tags;
-ghost use Rattle.der_core_head.specs.Integers.{among, integer_read};
-ghost use Rattle.der_core_head.specs.Leaves.{integer};
-ghost use Rattle.der_core_head.specs.Shapes.{leaf};
+ghost use Rattle.der_core_octets.specs.CoreHead.declared.tag.Tag.TheVariants as tags;
+ghost use Rattle.der_core_octets.specs.CoreHead.Integers.{among, integer_read};
+ghost use Rattle.der_core_octets.specs.CoreHead.Leaves.{integer};
+ghost use Rattle.der_core_octets.specs.CoreHead.Shapes.{leaf};
 ghost use Rattle.der_core_values.specs.Numbered.{are_octets};
 
 use crate::decode::FixedTag;
 use crate::integers::{AsInteger, Integer};
 use crate::leaves::decode_leaf;
 use crate::ways::{AsReadWay, DecodeWay, RangeWay, TagWay, Way};
-use der_core_head::{Error, ErrorKind, Length, Tag};
+use der_core_octets::core_head::{Error, ErrorKind, Length, Tag};
 use der_core_octets::{Header, Reader, Writer, unsigned_of};
 use std::alloc::Global;
 use std::marker::PhantomData;
@@ -70,7 +70,7 @@ impl<T: Numbered> Integer for NumberOf<T> {
         }
     }
 
-    #[tactic(auto, using(der_core_head::proofs::IntegerLaws::listed))]
+    #[tactic(auto, using(crate::proofs::Cited::listed))]
     fn sign_and_bits(&self) -> (bool, u128) {
         (false, u128::from(self.value.to_number()))
     }
@@ -117,7 +117,7 @@ impl<T: Numbered, K> Way<T> for AsNumbered<K> {
         <AsInteger as Way<u8>>::len_by(&value.to_number())
     }
 
-    #[tactic(auto, unfolding(der_core_head::specs::Shapes::contents))]
+    #[tactic(auto, unfolding(crate::specs::Opened::contents))]
     fn encode_by<W: Writer>(value: &T, writer: &mut W) -> Result<(), Error> {
         <AsInteger as Way<u8>>::encode_by(&value.to_number(), writer)
     }
@@ -145,7 +145,7 @@ impl<'a, R: Reader<'a>, T: Numbered, K> DecodeWay<'a, R, T> for AsNumbered<K> {
 }
 
 impl<T: Numbered, K> RangeWay<T> for AsNumbered<K> {
-    #[tactic(auto, using(der_core_head::proofs::IntegerLaws::listed))]
+    #[tactic(auto, using(crate::proofs::Cited::listed))]
     fn range_by(value: &T) {
         let _number = value.to_number();
     }

@@ -1,16 +1,16 @@
 //! OBJECT IDENTIFIER.
 
 ghost use Rattle.std.specs.Prelude.{◌≡◌, false};
-ghost use Rattle.const_oid.specs.Bound.{Bound};
-ghost use Rattle.der_core_head.specs.declared.tag.Tag.TheVariants.{ObjectIdentifier as ObjectIdentifierTag};
-ghost use Rattle.der_core_head.specs.Leaves.{identifier};
+ghost use Rattle.der_core_octets.specs.Oid.Bound.{Bound};
+ghost use Rattle.der_core_octets.specs.CoreHead.declared.tag.Tag.TheVariants.{ObjectIdentifier as ObjectIdentifierTag};
+ghost use Rattle.der_core_octets.specs.CoreHead.Leaves.{identifier};
 
 use crate::decode::FixedTag;
 use crate::leaf_ways::{AsOctets, Octets};
 use crate::leaves::{Leaf, Primitive};
 use crate::ways::Described;
-use const_oid::ObjectIdentifier;
-use der_core_head::{Error, Tag};
+use der_core_octets::core_head::{Error, Tag};
+use der_core_octets::oid::ObjectIdentifier;
 use std::alloc::Global;
 
 impl<const MAX_SIZE: usize> FixedTag for ObjectIdentifier<MAX_SIZE> {

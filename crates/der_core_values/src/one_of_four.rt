@@ -1,6 +1,6 @@
 //! One of four alternatives, or of more.
 
-ghost use Rattle.der_core_head.specs.Shapes.{either};
+ghost use Rattle.der_core_octets.specs.CoreHead.Shapes.{either};
 ghost use Rattle.der_core_values.specs.Both.{both_true};
 ghost use Rattle.der_core_values.specs.Choices.{plain_of_four};
 
@@ -9,7 +9,7 @@ use crate::elements::Element;
 use crate::encode::Encode;
 use crate::in_range::InRange;
 use crate::one_of_two::{OneOf2, OneOf3};
-use der_core_head::{Error, Length, Tag};
+use der_core_octets::core_head::{Error, Length, Tag};
 use der_core_octets::{Reader, Writer};
 use std::alloc::Global;
 
@@ -91,7 +91,7 @@ impl<A: Encode, B: Encode, C: Encode, D: Encode> Encode for OneOf4<A, B, C, D> {
         }
     }
 
-    #[tactic(auto, unfolding(der_core_head::specs::Shapes::octets_of))]
+    #[tactic(auto, unfolding(crate::specs::Opened::octets_of))]
     fn encode<W: Writer>(&self, writer: &mut W) -> Result<(), Error> {
         match self {
             OneOf4::First(value) => value.encode(writer),

@@ -1,6 +1,6 @@
 //! One of two alternatives, or of three.
 
-ghost use Rattle.der_core_head.specs.Shapes.{either};
+ghost use Rattle.der_core_octets.specs.CoreHead.Shapes.{either};
 ghost use Rattle.der_core_values.specs.Both.{both_true};
 ghost use Rattle.der_core_values.specs.Choices.{plain_of_two};
 
@@ -8,7 +8,7 @@ use crate::decode::{Choice, Decode, Shaped};
 use crate::elements::Element;
 use crate::encode::Encode;
 use crate::in_range::InRange;
-use der_core_head::{Error, ErrorKind, Length, Tag};
+use der_core_octets::core_head::{Error, ErrorKind, Length, Tag};
 use der_core_octets::{Reader, Writer};
 use std::alloc::Global;
 
@@ -50,7 +50,7 @@ impl<A: Element, B: Element> Element for OneOf2<A, B> {
 
 impl<'a, R: Reader<'a>, A: Decode<'a, R> + Choice, B: Decode<'a, R> + Choice> Decode<'a, R>
     for OneOf2<A, B> {
-    #[tactic(auto, unfolding(der_core_head::specs::Grammar::either_at))]
+    #[tactic(auto, unfolding(crate::specs::Opened::either_at))]
     fn decode(alloc: Global, reader: &mut R) -> Result<OneOf2<A, B>, Error> {
         let tag = reader.next_tag()?;
         if A::can_decode(tag) {
@@ -72,7 +72,7 @@ impl<A: Encode, B: Encode> Encode for OneOf2<A, B> {
         }
     }
 
-    #[tactic(auto, unfolding(der_core_head::specs::Shapes::octets_of))]
+    #[tactic(auto, unfolding(crate::specs::Opened::octets_of))]
     fn encode<W: Writer>(&self, writer: &mut W) -> Result<(), Error> {
         match self {
             OneOf2::First(value) => value.encode(writer),

@@ -1,13 +1,13 @@
 //! What may be left out.
 
-ghost use Rattle.der_core_head.specs.Shapes.{optional};
-ghost use Rattle.der_core_head.specs.Grammar.{plain_option};
+ghost use Rattle.der_core_octets.specs.CoreHead.Shapes.{optional};
+ghost use Rattle.der_core_octets.specs.CoreHead.Grammar.{plain_option};
 
 use crate::decode::{Choice, Decode, Shaped};
 use crate::elements::AsRead;
 use crate::encode::Encode;
 use crate::in_range::InRange;
-use der_core_head::{Error, Length};
+use der_core_octets::core_head::{Error, Length};
 use der_core_octets::{Reader, Writer};
 use std::alloc::Global;
 
@@ -20,7 +20,7 @@ impl<T: Shaped> Shaped for Option<T> {
 }
 
 impl<'a, R: Reader<'a>, T: Decode<'a, R> + Choice> Decode<'a, R> for Option<T> {
-    #[tactic(auto, unfolding(der_core_head::specs::Grammar::opt_at))]
+    #[tactic(auto, unfolding(crate::specs::Opened::opt_at))]
     fn decode(alloc: Global, reader: &mut R) -> Result<Option<T>, Error> {
         let Some(tag) = reader.next_tag_or_end()? else {
             return Ok(None);
@@ -45,7 +45,7 @@ impl<T: Encode> Encode for Option<T> {
 
     // Inlined, so that what is answered isn't moved.
     #[inline(always)]
-    #[tactic(auto, using(der_core_octets::proofs::Added::none_added), unfolding(der_core_head::specs::Shapes::octets_of))]
+    #[tactic(auto, using(der_core_octets::proofs::Added::none_added), unfolding(crate::specs::Opened::octets_of))]
     fn encode<W: Writer>(&self, writer: &mut W) -> Result<(), Error> {
         match self {
             Some(value) => value.encode(writer),

@@ -1,12 +1,12 @@
 //! Fields in a row: `(A, (B, (C, ())))`.
 
-ghost use Rattle.der_core_head.specs.Shapes.{field, done};
+ghost use Rattle.der_core_octets.specs.CoreHead.Shapes.{field, done};
 
 use crate::decode::{Decode, Shaped};
 use crate::fields::{DecodeRow, FieldRow};
 use crate::in_range::{InRange, InRangeFields};
-use der_core_head::{Error, ErrorKind};
 use der_core_octets::Reader;
+use der_core_octets::core_head::{Error, ErrorKind};
 use std::alloc::Global;
 
 impl FieldRow for () {

@@ -1,16 +1,16 @@
 //! A content of no octets, as `()` (NULL, X.690 8.8).
 
 ghost use Rattle.std.specs.Prelude.{false, Err, refl};
-ghost use Rattle.der_core_head.specs.declared.tag.Tag.TheVariants.{Null};
-ghost use Rattle.der_core_head.specs.Shapes.{leaf};
-ghost use Rattle.der_core_head.specs.Leaves.{null};
+ghost use Rattle.der_core_octets.specs.CoreHead.declared.tag.Tag.TheVariants.{Null};
+ghost use Rattle.der_core_octets.specs.CoreHead.Shapes.{leaf};
+ghost use Rattle.der_core_octets.specs.CoreHead.Leaves.{null};
 
 use crate::decode::{DecodeValue, FixedTag, ShapedValue};
 use crate::elements::{ApartValue, AsReadValue};
 use crate::encode::EncodeValue;
 use crate::in_range::InRangeValue;
 use crate::leaves::{Leaf, Primitive, decode_leaf};
-use der_core_head::{Error, ErrorKind, Length, Tag};
+use der_core_octets::core_head::{Error, ErrorKind, Length, Tag};
 use der_core_octets::{Header, Reader, Writer};
 use std::alloc::Global;
 
@@ -60,7 +60,7 @@ impl EncodeValue for () {
         Ok(Length { value: 0 })
     }
 
-    #[tactic(auto, using(der_core_octets::proofs::Added::write_adds), unfolding(der_core_head::specs::Shapes::contents))]
+    #[tactic(auto, using(der_core_octets::proofs::Added::write_adds), unfolding(crate::specs::Opened::contents))]
     fn encode_value<W: Writer>(&self, writer: &mut W) -> Result<(), Error> {
         writer.write(&[])
     }

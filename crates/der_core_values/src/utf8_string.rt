@@ -1,16 +1,16 @@
 //! UTF8String (X.690 8.23.10).
 
 ghost use Rattle.std.specs.Prelude.{◌≡◌, false, string_bytes};
-ghost use Rattle.der_core_head.specs.declared.tag.Tag.TheVariants.{Utf8String};
+ghost use Rattle.der_core_octets.specs.CoreHead.declared.tag.Tag.TheVariants.{Utf8String};
 ghost use Rattle.der_core_octets.specs.Held.{held_text};
-ghost use Rattle.der_core_head.specs.Leaves.{utf8};
+ghost use Rattle.der_core_octets.specs.CoreHead.Leaves.{utf8};
 
 use crate::decode::FixedTag;
 use crate::in_range::text_in_range;
 use crate::leaf_ways::{AsOctets, Octets};
 use crate::leaves::{Leaf, Primitive};
 use crate::ways::Described;
-use der_core_head::{Error, Tag};
+use der_core_octets::core_head::{Error, Tag};
 use der_core_octets::{StringOwned, StringRef};
 use std::alloc::Global;
 use std::str;
@@ -39,7 +39,7 @@ impl<'a> Primitive for &'a str {
 impl<'a> Leaf<'a> for &'a str {
     ghost takes_memory = { false };
 
-    #[tactic(auto, using(der_core_head::proofs::TextLaws::utf8_reads))]
+    #[tactic(auto, using(crate::proofs::Cited::utf8_reads))]
     fn from_content(_alloc: Global, _tag: Tag, octets: &'a [u8]) -> Result<&'a str, Error> {
         Ok(str::from_utf8(octets)?)
     }
@@ -72,7 +72,7 @@ impl Primitive for String {
 
 /// The octets of the text, copied; others than UTF-8 are `Utf8`.
 impl<'a> Leaf<'a> for String {
-    #[tactic(auto, using(der_core_head::proofs::TextLaws::utf8_reads))]
+    #[tactic(auto, using(crate::proofs::Cited::utf8_reads))]
     fn from_content(alloc: Global, _tag: Tag, octets: &'a [u8]) -> Result<String, Error> {
         let text = str::from_utf8(octets)?;
         Ok(String::from_str(alloc, text)?)
@@ -100,7 +100,7 @@ impl<'a> Primitive for StringRef<'a> {
 impl<'a> Leaf<'a> for StringRef<'a> {
     ghost takes_memory = { false };
 
-    #[tactic(auto, using(der_core_head::proofs::TextLaws::utf8_reads))]
+    #[tactic(auto, using(crate::proofs::Cited::utf8_reads))]
     fn from_content(_alloc: Global, _tag: Tag, octets: &'a [u8]) -> Result<StringRef<'a>, Error> {
         let text = str::from_utf8(octets)?;
         StringRef::new(text)
@@ -126,7 +126,7 @@ impl Primitive for StringOwned {
 
 /// The octets of the text, copied; others than UTF-8 are `Utf8`.
 impl<'a> Leaf<'a> for StringOwned {
-    #[tactic(auto, using(der_core_head::proofs::TextLaws::utf8_reads))]
+    #[tactic(auto, using(crate::proofs::Cited::utf8_reads))]
     fn from_content(alloc: Global, _tag: Tag, octets: &'a [u8]) -> Result<StringOwned, Error> {
         let text = str::from_utf8(octets)?;
         let text = String::from_str(alloc, text)?;

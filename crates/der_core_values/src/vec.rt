@@ -1,10 +1,10 @@
 //! SEQUENCE OF, as a list (X.690 8.10).
 
-ghost use Rattle.der_core_head.specs.declared.tag.Tag.TheVariants.{Sequence};
-ghost use Rattle.der_core_head.specs.Shapes.{nested, many};
-ghost use Rattle.der_core_head.specs.Grammar.{plain_list};
+ghost use Rattle.der_core_octets.specs.CoreHead.declared.tag.Tag.TheVariants.{Sequence};
+ghost use Rattle.der_core_octets.specs.CoreHead.Shapes.{nested, many};
+ghost use Rattle.der_core_octets.specs.CoreHead.Grammar.{plain_list};
 ghost use Rattle.std.specs.List.{AllByRecursion};
-ghost use Rattle.der_core_head.specs.Ranges.{IsInRange};
+ghost use Rattle.der_core_octets.specs.CoreHead.Ranges.{IsInRange};
 
 use crate::decode::{Decode, DecodeValue, FixedTag, Shaped, ShapedValue};
 use crate::elements::{ApartValue, AsRead, AsReadValue, Element, Member};
@@ -12,7 +12,7 @@ use crate::encode::{Encode, EncodeValue};
 use crate::fields::{DecodeFields, Fields, read_fields};
 use crate::in_range::{InRange, InRangeValue};
 use crate::members::{encode_members, members_len};
-use der_core_head::{Error, ErrorKind, Length, Tag};
+use der_core_octets::core_head::{Error, ErrorKind, Length, Tag};
 use der_core_octets::{Header, Reader, Writer};
 use std::alloc::Global;
 
@@ -106,7 +106,7 @@ impl<T: Encode> EncodeValue for Vec<T> {
         members_len(self.as_slice())
     }
 
-    #[tactic(auto, unfolding(der_core_head::specs::Shapes::contents))]
+    #[tactic(auto, unfolding(crate::specs::Opened::contents))]
     fn encode_value<W: Writer>(&self, writer: &mut W) -> Result<(), Error> {
         encode_members(self.as_slice(), writer)
     }

@@ -2,20 +2,20 @@
 //! of values serves all types that do.
 
 ghost use Rattle.std.specs.Prelude.{◌≡◌, true};
-ghost use Rattle.der_core_head.specs.declared.tag.Tag.{Tag};
-ghost use Rattle.der_core_head.specs.Shapes.{Content, ContentValue, contents};
-ghost use Rattle.der_core_head.specs.Grammar.{value_at};
-ghost use Rattle.der_core_head.specs.Ranges.{IsContentInRange};
-ghost use Rattle.der_core_head.specs.Reading.{Reads, GivesNow, read_content_at};
-ghost use Rattle.der_core_head.specs.Spelling.{is_content_apart};
-ghost use Rattle.der_core_head.specs.Writing.{Writes, size_content, write_content};
+ghost use Rattle.der_core_octets.specs.CoreHead.declared.tag.Tag.{Tag};
+ghost use Rattle.der_core_octets.specs.CoreHead.Shapes.{Content, ContentValue, contents};
+ghost use Rattle.der_core_octets.specs.CoreHead.Grammar.{value_at};
+ghost use Rattle.der_core_octets.specs.CoreHead.Ranges.{IsContentInRange};
+ghost use Rattle.der_core_octets.specs.CoreHead.Reading.{Reads, GivesNow, read_content_at};
+ghost use Rattle.der_core_octets.specs.CoreHead.Spelling.{is_content_apart};
+ghost use Rattle.der_core_octets.specs.CoreHead.Writing.{Writes, size_content, write_content};
 ghost use Rattle.der_core_octets.specs.Outputs.{AddsFront, Continues};
 
 use crate::decode::{DecodeValue, FixedTag, ShapedValue};
 use crate::elements::{ApartValue, AsReadValue};
 use crate::encode::EncodeValue;
 use crate::in_range::InRangeValue;
-use der_core_head::{Error, Length, Tag};
+use der_core_octets::core_head::{Error, Length, Tag};
 use der_core_octets::{Header, Reader, Writer};
 use std::alloc::Global;
 

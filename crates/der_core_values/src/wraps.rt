@@ -7,7 +7,7 @@ use crate::elements::{ApartValue, AsReadValue};
 use crate::encode::EncodeValue;
 use crate::in_range::InRangeValue;
 use crate::ways::{AsReadWay, DecodeWay, RangeWay, TagWay, Way};
-use der_core_head::{Error, Length, Tag};
+use der_core_octets::core_head::{Error, Length, Tag};
 use der_core_octets::{Header, Reader, Writer};
 use std::alloc::Global;
 use std::marker::PhantomData;

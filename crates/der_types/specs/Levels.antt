@@ -1,7 +1,7 @@
 -- How many levels of values within values the types of DER need.
 use Rattle.std.specs.Prelude.{◌≡◌, ℕ, suc, true}
-use Rattle.der_core_head.specs.Shapes.{Shape}
-use Rattle.der_core_head.specs.Spelling.{are_enough}
+use Rattle.der_types_tagged.specs.Der.Shapes.{Shape}
+use Rattle.der_types_tagged.specs.Der.Spelling.{are_enough}
 
 -- none: no value stands within another
 abbrev pub NeedsNone : Shape → Type 0

@@ -7,18 +7,18 @@ ghost use Rattle.der_types_tagged.specs.Fields.{explicit_field};
 ghost use Rattle.der_types.specs.Levels.{NeedsNone, NeedsOneMore};
 
 use crate::*;
-use der_core::{Shaped, StrictSetOf};
 pub use der_types_any::laws::any_forms_agree;
-pub use der_types_numbers::laws::{integer_forms_agree, natural_forms_agree};
-pub use der_types_sets::laws::{borrowed_and_owned_agree, order_of_insertions};
-pub use der_types_tagged::laws::{others_are_absent, written_is_read_back};
-pub use der_types_text::laws::{
+pub use der_types_any::types_numbers::laws::{integer_forms_agree, natural_forms_agree};
+pub use der_types_any::types_numbers::time_laws::{one_date, order_is_that_of_seconds};
+pub use der_types_any::types_text::laws::{
     forms_answer_alike, forms_compare_alike, forms_read_alike, octets_identify,
     order_is_that_of_octets, printed_strings_are_read_back, utf8_forms_answer_alike,
     utf8_forms_compare_alike, utf8_forms_read_alike,
 };
-pub use der_types_time::laws::{one_date, order_is_that_of_seconds};
-pub use der_types_values::laws::{bit_forms_agree, octet_forms_agree};
+pub use der_types_any::types_values::laws::{bit_forms_agree, octet_forms_agree};
+pub use der_types_sets::laws::{borrowed_and_owned_agree, order_of_insertions};
+use der_types_tagged::der::{Shaped, StrictSetOf};
+pub use der_types_tagged::laws::{others_are_absent, written_is_read_back};
 
 /// How many levels of values within values the types need: none, or where they hold others, one
 /// more than those. So each nests no deeper than a reader allows where its members do.

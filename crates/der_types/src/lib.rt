@@ -12,10 +12,11 @@ pub use asn1::{
     SequenceRef, SetOf, SetOfIter, SetOfRef, SetOfRefIter, SetOfVec, TeletexString,
     TeletexStringRef, Uint, UintRef, UtcTime, Utf8StringRef, VideotexStringRef,
 };
-pub use der_types_tagged::{ClassField, ClassFieldRef};
-pub use der_types_text::{
+pub use der_types_any::types_numbers::{DateTime, const_contains_u8};
+pub use der_types_any::types_text::{
     AsciiString, AsciiStringRef, AsciiType, BmpChars, BmpCodepoints, Ia5, Printable, Teletex,
     Videotex,
 };
-pub use der_types_time::{DateTime, const_contains_u8};
-pub use der_types_values::{AllowedLenBitString, FlagSet, NamedBits};
+pub use der_types_any::types_values::{AllowedLenBitString, FlagSet, NamedBits};
+pub use der_types_sets::making;
+pub use der_types_tagged::{ClassField, ClassFieldRef};

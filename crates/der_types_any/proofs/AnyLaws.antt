@@ -1,26 +1,26 @@
 -- A content that is read as a value of a type.
 use Rattle.std.proofs.Common.{◌≡◌, ℕ, List, [], length, true, false, Result, Ok, Err, refl, sym, ap, ◌∙◌, arith, le-ltb, Bool, nat_eq, ◌&&◌}
 use Rattle.std.proofs.lemmas.List.{take_all, drop_all}
-use Rattle.der_core_head.specs.declared.error.ErrorKind.{ErrorKind}
-use Rattle.der_core_head.specs.declared.error.ErrorKind.TheVariants as kinds
-use Rattle.der_core_head.specs.declared.encoding_rules.EncodingRules.{EncodingRules}
-use Rattle.der_core_head.specs.declared.tag.Tag.{Tag}
-use Rattle.der_core_head.specs.Octets.{◌>>=◌, Readings}
-use Rattle.der_core_head.specs.Tags.{same_tag, leading_octet, number_of}
-use Rattle.der_core_head.specs.Shapes.{AnyValue, Content, ContentValue, any}
-use Rattle.der_core_head.specs.Grammar.{read_content_by, whole, value_at}
-use Rattle.der_core_head.specs.Reading.{Fails}
-use Rattle.der_core_head.specs.Fronts.{alone}
+use Rattle.der_types_text.specs.Der.ErrorTypes.ErrorKind.{ErrorKind}
+use Rattle.der_types_text.specs.Der.ErrorTypes.ErrorKind.TheVariants as kinds
+use Rattle.der_types_text.specs.Der.EncodingRulesTypes.EncodingRules.{EncodingRules}
+use Rattle.der_types_text.specs.Der.TagTypes.Tag.{Tag}
+use Rattle.der_types_text.specs.Der.Octets.{◌>>=◌, Readings}
+use Rattle.der_types_text.specs.Der.Tags.{same_tag, leading_octet, number_of}
+use Rattle.der_types_text.specs.Der.Shapes.{AnyValue, Content, ContentValue, any}
+use Rattle.der_types_text.specs.Der.Grammar.{read_content_by, whole, value_at}
+use Rattle.der_types_text.specs.Der.Reading.{Fails}
+use Rattle.der_types_text.specs.Der.Fronts.{alone}
 use Rattle.der_types_any.specs.Contents.{content_by}
-use Rattle.der_core_head.proofs.TagLaws.{same_tags}
-use Rattle.der_core_head.specs.Limits.{length_max}
-use Rattle.der_core_head.specs.Heads.{Fits}
-use Rattle.der_core_head.specs.Texts.{Repertoire, text_read, utf8_read}
+use Rattle.der_types_text.proofs.Der.TagLaws.{same_tags}
+use Rattle.der_types_text.specs.Der.Limits.{length_max}
+use Rattle.der_types_text.specs.Der.Heads.{Fits}
+use Rattle.der_types_text.specs.Der.Texts.{Repertoire, text_read, utf8_read}
 use Rattle.der_types_text.specs.Texts.{text_from, utf8_from}
 use Rattle.der_types_text.proofs.BmpTexts.{any_read}
 use Rattle.std.specs.Cmp.{nat_eq_equiv}
 use Rattle.std.specs.Cmp.Lexicographic.{pointwise, bytes_decides}
-use Rattle.der_core.proofs.ValueEquality.{Alike, exact}
+use Rattle.der_types_text.proofs.Der.ValueEquality.{Alike, exact}
 use Rattle.der_types_any.specs.AnyOrders.{any_key}
 
 pub value_whole : {P : Type 0} (f : Readings P) (w : List ℕ) → value_at f (length w) w ≡ (f w >>= whole >>= λ x. Ok (x.0, []))

@@ -8,8 +8,8 @@ use Rattle.std.specs.Cmp.Lexicographic.{texts_ties}
 use Rattle.std.specs.Hash as fed
 use Rattle.std.specs.Ordering.{nat_cmp, eq_by_cmp}
 use Rattle.std.specs.declared.cmp.Ordering.{Ordering}
-use Rattle.der_core_head.specs.Tags.{leading_octet, number_of}
-use Rattle.der_core_head.specs.Shapes.{AnyValue}
+use Rattle.der_types_text.specs.Der.Tags.{leading_octet, number_of}
+use Rattle.der_types_text.specs.Der.Shapes.{AnyValue}
 
 -- what is compared: the leading octet of the tag, its number, the content
 abbrev pub any_key : AnyValue → List ℕ

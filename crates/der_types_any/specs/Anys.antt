@@ -1,7 +1,7 @@
 -- What contracts see of any value: its tag and its content.
 use Rattle.std.specs.Prelude.{ℕ, List}
-use Rattle.der_core_head.specs.Heads.{Fits}
-use Rattle.der_core_head.specs.Shapes.{AnyValue}
+use Rattle.der_types_text.specs.Der.Heads.{Fits}
+use Rattle.der_types_text.specs.Der.Shapes.{AnyValue}
 use Rattle.der_types_any.specs.AnyOrders.{any_key}
 use Rattle.der_types_any.specs.declared.any.Any.TheInside.{Inside}
 use Rattle.der_types_any.specs.declared.any_ref.AnyRef.{AnyRef}

@@ -1,21 +1,21 @@
 -- The content of any value, read as a value of a type.
 use Rattle.std.specs.Prelude.{ℕ, ℤ, List, [], None, false, Result, Err, if◌then◌else◌}
-use Rattle.der_core_head.specs.declared.encoding_rules.EncodingRules.{EncodingRules}
-use Rattle.der_core_head.specs.declared.encoding_rules.EncodingRules.TheVariants as encodings
-use Rattle.der_core_head.specs.declared.error.Error.{Error}
-use Rattle.der_core_head.specs.declared.error.ErrorKind.{ErrorKind}
-use Rattle.der_core_head.specs.declared.error.ErrorKind.TheVariants as kinds
-use Rattle.der_core_head.specs.declared.tag.Tag.{Tag}
-use Rattle.der_core_head.specs.declared.tag.Tag.TheVariants as tags
-use Rattle.der_core_head.specs.Integers.{Numbers}
-use Rattle.der_core_head.specs.Octets.{◌>>=◌}
-use Rattle.der_core_head.specs.Tags.{same_tag}
-use Rattle.der_core_head.specs.Leaves.{Leaf, LeafValue, integer, leaf_read}
-use Rattle.der_core_head.specs.Shapes.{AnyValue, Content, ContentValue}
-use Rattle.der_core_head.specs.Grammar.{read_content_by, whole}
-use Rattle.der_core_head.specs.Reading.{GivesNow}
-use Rattle.der_core_head.specs.Writing.{write_content}
-use Rattle.der_core_head.specs.Fronts.{alone}
+use Rattle.der_types_text.specs.Der.EncodingRulesTypes.EncodingRules.{EncodingRules}
+use Rattle.der_types_text.specs.Der.EncodingRulesTypes.EncodingRules.TheVariants as encodings
+use Rattle.der_types_text.specs.Der.ErrorTypes.Error.{Error}
+use Rattle.der_types_text.specs.Der.ErrorTypes.ErrorKind.{ErrorKind}
+use Rattle.der_types_text.specs.Der.ErrorTypes.ErrorKind.TheVariants as kinds
+use Rattle.der_types_text.specs.Der.TagTypes.Tag.{Tag}
+use Rattle.der_types_text.specs.Der.TagTypes.Tag.TheVariants as tags
+use Rattle.der_types_text.specs.Der.Integers.{Numbers}
+use Rattle.der_types_text.specs.Der.Octets.{◌>>=◌}
+use Rattle.der_types_text.specs.Der.Tags.{same_tag}
+use Rattle.der_types_text.specs.Der.Leaves.{Leaf, LeafValue, integer, leaf_read}
+use Rattle.der_types_text.specs.Der.Shapes.{AnyValue, Content, ContentValue}
+use Rattle.der_types_text.specs.Der.Grammar.{read_content_by, whole}
+use Rattle.der_types_text.specs.Der.Reading.{GivesNow}
+use Rattle.der_types_text.specs.Der.Writing.{write_content}
+use Rattle.der_types_text.specs.Der.Fronts.{alone}
 use Rattle.der_types_numbers.specs.Numbers.{if_countable}
 
 -- the value of a type that any value is read as by given rules, where the tag is that of the type,

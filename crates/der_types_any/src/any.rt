@@ -4,27 +4,28 @@ ghost use Rattle.std.specs.Prelude.{◌≡◌, ◌<◌, ◌↔◌, [], length, v
 ghost use Rattle.std.specs.Prelude.{None, Ok, IsTrue, IfOk, IfErr, IsErrAnd, refl};
 ghost use Rattle.std.specs.Cmp.{po, partial_equiv_from_equiv, on_equiv, on_per};
 ghost use Rattle.std.specs.Cmp.Lexicographic.{pointwise, nat_list_eq_equiv};
-ghost use Rattle.der_core_head.specs.Limits.{IsLength, length_max, levels_max};
-ghost use Rattle.der_core_head.specs.Shapes.{any, tagged, nested, Body, BodyValue, ContentValue};
-ghost use Rattle.der_core_head.specs.Shapes.{IsValid, Spells, octets_of};
-ghost use Rattle.der_core_head.specs.Spelling.{is_apart, are_enough};
-ghost use Rattle.der_core_head.specs.Tags.{same_tag};
-ghost use Rattle.der_core_head.specs.Reading.{Gives, ClosureReads, HandsBack, unread};
-ghost use Rattle.der_core_octets.specs.Nesting.{Answered, RefusesNested};
-ghost use Rattle.der_core_head.specs.Writing.{write_content};
+ghost use Rattle.der_types_text.specs.Der.Limits.{IsLength, length_max, levels_max};
+ghost use Rattle.der_types_text.specs.Der.Shapes.{any, tagged, nested, Body, BodyValue};
+ghost use Rattle.der_types_text.specs.Der.Shapes.{ContentValue};
+ghost use Rattle.der_types_text.specs.Der.Shapes.{IsValid, Spells, octets_of};
+ghost use Rattle.der_types_text.specs.Der.Spelling.{is_apart, are_enough};
+ghost use Rattle.der_types_text.specs.Der.Tags.{same_tag};
+ghost use Rattle.der_types_text.specs.Der.Reading.{Gives, ClosureReads, HandsBack, unread};
+ghost use Rattle.der_types_text.specs.Der.Nesting.{Answered, RefusesNested};
+ghost use Rattle.der_types_text.specs.Der.Writing.{write_content};
 ghost use Rattle.der_types_any.specs.AnyOrders.{any_cmp, any_cmp_total, any_cmp_ties, any_fed};
 ghost use Rattle.der_types_any.specs.AnyOrders.{any_fed_alike};
 ghost use Rattle.der_types_any.specs.Anys.{any_lent};
-ghost use Rattle.der_core.specs.Orders.{octets_cmp};
+ghost use Rattle.der_types_text.specs.Der.Orders.{octets_cmp};
 ghost use Rattle.der_types_any.specs.Contents.{content_as, content_by, written_as};
 
 use crate::any_ref::AnyRef;
-use der_core::making::is_same_tag;
-use der_core::{
+use der_types_numbers::KeptOctets;
+use der_types_text::der::making::is_same_tag;
+use der_types_text::der::{
     Choice, Decode, DecodeValue, DerOrd, Encode, EncodeValue, EncodingRules, Error, ErrorKind,
     FirstTag, FixedTag, Header, Length, Reader, Shaped, SliceReader, Tag, Writer,
 };
-use der_types_numbers::KeptOctets;
 use std::alloc::{AllocError, Global};
 use std::cmp::Ordering;
 use std::hash::{Hash, Hasher};
@@ -41,7 +42,7 @@ pub struct Any {
 }
 
 impl Model for Any {
-    ghost use Rattle.der_core_head.specs.Shapes.{AnyValue};
+    ghost use Rattle.der_types_text.specs.Der.Shapes.{AnyValue};
 
     ghost Value = { AnyValue };
 

@@ -2,8 +2,8 @@
 
 use crate::any::Any;
 use crate::any_ref::AnyRef;
-use der_core::InRange;
-use der_core::making::{number_of, octets_in_range};
+use der_types_text::der::InRange;
+use der_types_text::der::making::{number_of, octets_in_range};
 
 impl<'a> InRange for AnyRef<'a> {
     fn in_range(&self) {

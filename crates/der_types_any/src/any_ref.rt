@@ -4,24 +4,25 @@ ghost use Rattle.std.specs.Prelude.{◌≡◌, ◌<◌, ◌↔◌, [], length, n
 ghost use Rattle.std.specs.Prelude.{IsTrue, IfOk, IfErr, IsErrAnd, refl};
 ghost use Rattle.std.specs.Cmp.{po, partial_equiv_from_equiv, on_equiv, on_per, on_total};
 ghost use Rattle.std.specs.Cmp.Lexicographic.{pointwise, nat_list_eq_equiv};
-ghost use Rattle.der_core_head.specs.Limits.{length_max, levels_max};
-ghost use Rattle.der_core_head.specs.Heads.{Fits};
-ghost use Rattle.der_core_head.specs.Shapes.{any, tagged, nested, Body, BodyValue, ContentValue};
-ghost use Rattle.der_core_head.specs.Shapes.{IsValid, Spells, octets_of};
-ghost use Rattle.der_core_head.specs.Spelling.{is_apart, are_enough};
-ghost use Rattle.der_core_head.specs.Tags.{same_tag};
-ghost use Rattle.der_core_head.specs.Reading.{Gives, ClosureReads, HandsBack, unread};
-ghost use Rattle.der_core_octets.specs.Nesting.{Answered, RefusesNested};
-ghost use Rattle.der_core.specs.Orders.{octets_cmp};
+ghost use Rattle.der_types_text.specs.Der.Limits.{length_max, levels_max};
+ghost use Rattle.der_types_text.specs.Der.Heads.{Fits};
+ghost use Rattle.der_types_text.specs.Der.Shapes.{any, tagged, nested, Body, BodyValue};
+ghost use Rattle.der_types_text.specs.Der.Shapes.{ContentValue};
+ghost use Rattle.der_types_text.specs.Der.Shapes.{IsValid, Spells, octets_of};
+ghost use Rattle.der_types_text.specs.Der.Spelling.{is_apart, are_enough};
+ghost use Rattle.der_types_text.specs.Der.Tags.{same_tag};
+ghost use Rattle.der_types_text.specs.Der.Reading.{Gives, ClosureReads, HandsBack, unread};
+ghost use Rattle.der_types_text.specs.Der.Nesting.{Answered, RefusesNested};
+ghost use Rattle.der_types_text.specs.Der.Orders.{octets_cmp};
 ghost use Rattle.der_types_any.specs.AnyOrders.{any_cmp, any_cmp_total, any_cmp_ties, any_fed};
 ghost use Rattle.der_types_any.specs.AnyOrders.{any_fed_alike};
 ghost use Rattle.der_types_any.specs.Contents.{content_as, content_by};
 
 use crate::any::Any;
-use der_core::making::{
+use der_types_text::der::making::{
     cmp_behind, encode_header, header_len, is_same_tag, leading_octet_of, number_of, slice_len,
 };
-use der_core::{
+use der_types_text::der::{
     Choice, Decode, DecodeValue, DerOrd, Encode, EncodingRules, Error, ErrorKind, FirstTag,
     FixedTag, Header, Length, Reader, Shaped, SliceReader, Tag, Writer,
 };
@@ -312,7 +313,7 @@ impl<'a> Choice for AnyRef<'a> {
 impl<'a, R: Reader<'a>> Decode<'a, R> for AnyRef<'a> {
     // Inlined, so that what is answered isn't moved.
     #[inline(always)]
-    #[tactic(auto, unfolding(der_core_head::specs::Grammar::any_at))]
+    #[tactic(auto, unfolding(crate::specs::Opened::any_at))]
     fn decode(_alloc: Global, reader: &mut R) -> Result<AnyRef<'a>, Error> {
         let header = reader.read_header()?;
         let bytes = reader.read_slice(header.length)?;
@@ -326,7 +327,7 @@ impl<'a, R: Reader<'a>> Decode<'a, R> for AnyRef<'a> {
 impl<'a> Encode for AnyRef<'a> {
     // Inlined, so that what is answered isn't moved.
     #[inline(always)]
-    #[tactic(auto, unfolding(der_core_head::specs::Writing::tlv_len, der_core_head::specs::Writing::head_len))]
+    #[tactic(auto, unfolding(crate::specs::Opened::tlv_len, crate::specs::Opened::head_len))]
     fn encoded_len(&self) -> Result<Length, Error> {
         let len = slice_len(self.bytes)?;
         header_len(self.tag, len) + len
@@ -334,7 +335,7 @@ impl<'a> Encode for AnyRef<'a> {
 
     // Inlined, so that what is answered isn't moved.
     #[inline(always)]
-    #[tactic(auto, using(der_core_octets::proofs::Added::none_added), unfolding(der_core_head::specs::Writing::write_tlv))]
+    #[tactic(auto, using(crate::proofs::Cited::none_added), unfolding(crate::specs::Opened::write_tlv))]
     fn encode<W: Writer>(&self, writer: &mut W) -> Result<(), Error> {
         let len = slice_len(self.bytes)?;
         encode_header(writer, self.tag, len)?;
@@ -352,7 +353,7 @@ impl<'a> DerOrd for AnyRef<'a> {
 }
 
 impl<'a> FirstTag for AnyRef<'a> {
-    #[tactic(auto, using(der_core::proofs::ShapeOrders::any_starts))]
+    #[tactic(auto, using(crate::proofs::Cited::any_starts))]
     fn first_tag(&self) -> Option<Tag> {
         Some(self.tag)
     }

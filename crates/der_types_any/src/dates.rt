@@ -1,16 +1,16 @@
 //! Any value as a time. An owned value is decoded as an `AnyRef` to it is.
 
-ghost use Rattle.der_core_head.specs.declared.tag.Tag.TheVariants as tags;
-ghost use Rattle.der_core_head.specs.Leaves.{utc_time, generalized_time};
-ghost use Rattle.der_core_head.specs.Reading.{GivesNow};
+ghost use Rattle.der_types_text.specs.Der.TagTypes.Tag.TheVariants as tags;
+ghost use Rattle.der_types_text.specs.Der.Leaves.{utc_time, generalized_time};
+ghost use Rattle.der_types_text.specs.Der.Reading.{GivesNow};
 ghost use Rattle.der_types_any.specs.Anys.{any_lent};
 ghost use Rattle.der_types_any.specs.Contents.{leaf_as};
 
 use crate::any::Any;
 use crate::any_ref::AnyRef;
 use crate::conversions::check_tag;
-use der_core::{Error, Tag};
-use der_types_time::{DateTime, GeneralizedTime, UtcTime};
+use der_types_numbers::{DateTime, GeneralizedTime, UtcTime};
+use der_types_text::der::{Error, Tag};
 
 /// The time of a UTCTime.
 impl<'a> TryFrom<AnyRef<'a>> for UtcTime {

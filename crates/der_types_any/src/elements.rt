@@ -5,7 +5,7 @@ ghost use Rattle.std.specs.Prelude.{refl};
 
 use crate::any::Any;
 use crate::any_ref::AnyRef;
-use der_core::{AsRead, Element, Member};
+use der_types_text::der::{AsRead, Element, Member};
 
 impl Member for Any {
     ghost apart = { refl };

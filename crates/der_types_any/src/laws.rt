@@ -4,13 +4,13 @@
 //! `decode_as` and `sequence` answer is said at each in the same words.
 
 ghost use Rattle.std.specs.Prelude.{◌≡◌};
-ghost use Rattle.der_core_head.specs.Shapes.{octets_of};
-ghost use Rattle.der_core.specs.Orders.{encodings_cmp};
+ghost use Rattle.der_types_text.specs.Der.Shapes.{octets_of};
+ghost use Rattle.der_types_text.specs.Der.Orders.{encodings_cmp};
 ghost use Rattle.der_types_any.specs.Anys.{any_lent};
 
 use crate::any::Any;
 use crate::any_ref::AnyRef;
-use der_core::Shaped;
+use der_types_text::der::Shaped;
 use std::cmp::{Ord, PartialEq};
 use std::hash::Hash;
 

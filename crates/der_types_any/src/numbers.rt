@@ -2,10 +2,11 @@
 //! it is.
 
 ghost use Rattle.std.specs.Prelude.{◌≡◌, pos};
-ghost use Rattle.der_core_head.specs.declared.tag.Tag.TheVariants as tags;
-ghost use Rattle.der_core_head.specs.Integers.{unsigned, signed, natural, every, integer_octets};
-ghost use Rattle.der_core_head.specs.Leaves.{integer};
-ghost use Rattle.der_core_head.specs.Reading.{GivesNow};
+ghost use Rattle.der_types_text.specs.Der.TagTypes.Tag.TheVariants as tags;
+ghost use Rattle.der_types_text.specs.Der.Integers.{unsigned, signed, natural, every};
+ghost use Rattle.der_types_text.specs.Der.Integers.{integer_octets};
+ghost use Rattle.der_types_text.specs.Der.Leaves.{integer};
+ghost use Rattle.der_types_text.specs.Der.Reading.{GivesNow};
 ghost use Rattle.der_types_any.specs.Anys.{any_lent};
 ghost use Rattle.der_types_any.specs.Contents.{leaf_as, IntegerGives};
 ghost use Rattle.der_types_numbers.specs.Ints.{integer_lent, natural_lent};
@@ -13,8 +14,8 @@ ghost use Rattle.der_types_numbers.specs.Ints.{integer_lent, natural_lent};
 use crate::any::Any;
 use crate::any_ref::AnyRef;
 use crate::conversions::check_tag;
-use der_core::{Error, Integer, Tag};
 use der_types_numbers::{IntRef, UintRef};
+use der_types_text::der::{Error, Integer, Tag};
 
 /// The number of an INTEGER.
 #[tactic(auto, unfolding(crate::specs::Contents::leaf_as))]

@@ -1,17 +1,17 @@
 //! Any value as a text, and back. An owned value is decoded as an `AnyRef` to it is.
 
 ghost use Rattle.std.specs.Prelude.{◌≡◌};
-ghost use Rattle.der_core_head.specs.declared.tag.Tag.TheVariants as tags;
-ghost use Rattle.der_core_head.specs.Leaves.{text, utf8};
-ghost use Rattle.der_core_head.specs.Texts.{any_octet};
-ghost use Rattle.der_core_head.specs.Reading.{GivesNow};
+ghost use Rattle.der_types_text.specs.Der.TagTypes.Tag.TheVariants as tags;
+ghost use Rattle.der_types_text.specs.Der.Leaves.{text, utf8};
+ghost use Rattle.der_types_text.specs.Der.Texts.{any_octet};
+ghost use Rattle.der_types_text.specs.Der.Reading.{GivesNow};
 ghost use Rattle.der_types_any.specs.Anys.{any_lent};
 ghost use Rattle.der_types_any.specs.Contents.{leaf_as, any_from};
 
 use crate::any::Any;
 use crate::any_ref::AnyRef;
 use crate::conversions::check_tag;
-use der_core::{Error, Tag};
+use der_types_text::der::{Error, Tag};
 use der_types_text::{AsciiStringRef, AsciiType, GeneralStringRef, Utf8StringRef};
 
 /// The text of a character string type whose characters are ASCII.

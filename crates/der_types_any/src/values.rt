@@ -2,10 +2,10 @@
 //! back. An owned value is decoded as an `AnyRef` to it is.
 
 ghost use Rattle.std.specs.Prelude.{◌≡◌, []};
-ghost use Rattle.const_oid.specs.Bound.{Bound};
-ghost use Rattle.der_core_head.specs.declared.tag.Tag.TheVariants as tags;
-ghost use Rattle.der_core_head.specs.Leaves.{boolean, null, bits, octets, identifier};
-ghost use Rattle.der_core_head.specs.Reading.{GivesNow};
+ghost use Rattle.der_types_text.specs.Oid.Bound.{Bound};
+ghost use Rattle.der_types_text.specs.Der.TagTypes.Tag.TheVariants as tags;
+ghost use Rattle.der_types_text.specs.Der.Leaves.{boolean, null, bits, octets, identifier};
+ghost use Rattle.der_types_text.specs.Der.Reading.{GivesNow};
 ghost use Rattle.der_types_any.specs.Anys.{any_lent};
 ghost use Rattle.der_types_any.specs.Contents.{leaf_as};
 ghost use Rattle.der_types_values.specs.BitStrings.{bits_lent};
@@ -15,8 +15,8 @@ ghost use Rattle.der_types_values.specs.Sequences.{fields_lent};
 use crate::any::Any;
 use crate::any_ref::AnyRef;
 use crate::conversions::check_tag;
-use const_oid::ObjectIdentifier;
-use der_core::{Error, ErrorKind, Tag};
+use der_types_text::der::{Error, ErrorKind, Tag};
+use der_types_text::oid::ObjectIdentifier;
 use der_types_values::{BitStringRef, Null, OctetStringRef, SequenceRef};
 
 /// The truth value of a BOOLEAN.

@@ -1,1 +1,3 @@
 mod Naturals
+pub mod SecondsOrders
+mod Cited

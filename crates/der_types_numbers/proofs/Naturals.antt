@@ -3,15 +3,15 @@ use Rattle.std.proofs.Common.{◌≡◌, ℕ, ◌<◌, ◌≤◌, true, false, L
 use Rattle.std.specs.Int.Digits.{number_from_digits}
 use Rattle.std.proofs.lemmas.Bool.{not-true, not-false, eqb-true, eqb-false, or_cases, and_parts}
 use Rattle.std.proofs.lemmas.Bool.Decides.{nat_tests}
-use Rattle.const_oid.specs.Digits.{digits}
-use Rattle.der_core_head.specs.declared.error.ErrorKind.TheVariants as kinds
-use Rattle.der_core_head.specs.declared.tag.Tag.{Tag}
-use Rattle.der_core_head.specs.Integers.{positive, natural, integer_octets, integer_of, integer_read, is_redundant, shortest_integer}
-use Rattle.der_core_head.proofs.Results.{IsBytes, octets_are}
-use Rattle.der_core_head.proofs.IntegerLaws.{integer_octets-of, integer_octets-some, integer_octets-not_redundant, integer_of-octets}
+use Rattle.der_core.specs.Oid.Digits.{digits}
+use Rattle.der_core.specs.ErrorTypes.ErrorKind.TheVariants as kinds
+use Rattle.der_core.specs.TagTypes.Tag.{Tag}
+use Rattle.der_core.specs.Integers.{positive, natural, integer_octets, integer_of, integer_read, is_redundant, shortest_integer}
+use Rattle.der_core.proofs.Results.{IsBytes, octets_are}
+use Rattle.der_core.proofs.IntegerLaws.{integer_octets-of, integer_octets-some, integer_octets-not_redundant, integer_of-octets}
 use Rattle.der_types_numbers.specs.Numbers.{is_first_bit_set, has_leading_zero}
 use Rattle.der_types_numbers.specs.NumberOrders.{number-content}
-use Rattle.const_oid.proofs.DigitLaws.{digits-number_from_digits}
+use Rattle.der_core.proofs.DigitLaws.{digits-number_from_digits}
 
 positive-set : (w : List ℕ) → is_first_bit_set w ≡ true → positive w ≡ 0 ∷ w
 positive-set [] e = absurd cc

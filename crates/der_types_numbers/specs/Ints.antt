@@ -1,9 +1,9 @@
 -- What contracts see of whole numbers of any size: the number.
 use Rattle.std.specs.Prelude.{◌≡◌, ◌<◌, ℕ, ℤ, pos, List, false, length}
 use Rattle.std.specs.Int.Digits.{number_from_digits}
-use Rattle.const_oid.specs.Digits.{digits}
-use Rattle.der_core_head.specs.Heads.{Fits}
-use Rattle.der_core_head.specs.Integers.{integer_of, integer_octets, is_redundant}
+use Rattle.der_core.specs.Oid.Digits.{digits}
+use Rattle.der_core.specs.Heads.{Fits}
+use Rattle.der_core.specs.Integers.{integer_of, integer_octets, is_redundant}
 use Rattle.der_types_numbers.specs.declared.int.Int.TheInside.{Inside}
 use Rattle.der_types_numbers.specs.declared.int_ref.IntRef.{IntRef}
 use Rattle.der_types_numbers.specs.declared.uint.Uint.TheInside.{Inside as UintInside}

@@ -2,3 +2,9 @@ pub mod Ints
 pub mod Numbers
 pub mod NumberOrders
 pub mod Kept
+pub mod Seconds
+pub mod DateTimes
+pub mod DateOrders
+pub mod Times
+pub mod DateTexts
+pub mod Opened

@@ -11,14 +11,14 @@ use Rattle.std.specs.Cmp.Lexicographic.{pointwise, slice_cmp}
 use Rattle.std.specs.Int.Digits.{number_from_digits}
 use Rattle.std.specs.Ordering.{nat_cmp, ordering_then, is_eq, eq_by_cmp}
 use Rattle.std.specs.declared.cmp.Ordering.{Ordering}
-use Rattle.const_oid.specs.Digits.{digits}
-use Rattle.const_oid.specs.Orders.{sized_cmp, sized_cmp_total, sized_cmp_ties}
-use Rattle.const_oid.proofs.DigitLaws.{number_from_digits-digits, digits-Digits, digits-one}
-use Rattle.const_oid.proofs.DigitLaws.{digits-more, halved}
-use Rattle.der_core_head.specs.Integers.{every, natural, positive, integer_octets}
-use Rattle.der_core_head.specs.Leaves.{integer}
-use Rattle.der_core_head.specs.Shapes.{leaf, contents, IsContent}
-use Rattle.der_core_head.proofs.IntegerLaws.{integer_octets-below}
+use Rattle.der_core.specs.Oid.Digits.{digits}
+use Rattle.der_core.specs.Oid.Orders.{sized_cmp, sized_cmp_total, sized_cmp_ties}
+use Rattle.der_core.proofs.DigitLaws.{number_from_digits-digits, digits-Digits, digits-one}
+use Rattle.der_core.proofs.DigitLaws.{digits-more, halved}
+use Rattle.der_core.specs.Integers.{every, natural, positive, integer_octets}
+use Rattle.der_core.specs.Leaves.{integer}
+use Rattle.der_core.specs.Shapes.{leaf, contents, IsContent}
+use Rattle.der_core.proofs.IntegerLaws.{integer_octets-below}
 use Rattle.der_core.specs.Orders.{contents_cmp}
 use Rattle.der_core.proofs.OrderLaws.{split_cmp, after_cmp}
 use Rattle.der_core.proofs.OrderLaws.{then_equal, octets_cmp-append, splits_lengths}

@@ -2,11 +2,11 @@
 use Rattle.std.specs.Prelude.{ℕ, ℤ, pos, List, [], ◌∷◌, length, Bool, false, nat_lt, ◌==◌, not}
 use Rattle.std.specs.Prelude.{Result, Ok, Err, if◌then◌else◌}
 use Rattle.std.specs.Int.Digits.{number_from_digits}
-use Rattle.der_core_head.specs.Limits.{length_max}
-use Rattle.der_core_head.specs.declared.error.ErrorKind.{ErrorKind}
-use Rattle.der_core_head.specs.declared.error.ErrorKind.TheVariants as kinds
-use Rattle.der_core_head.specs.declared.tag.Tag.TheVariants.{Integer}
-use Rattle.der_core_head.specs.Integers.{integer_of, integer_octets}
+use Rattle.der_core.specs.Limits.{length_max}
+use Rattle.der_core.specs.ErrorTypes.ErrorKind.{ErrorKind}
+use Rattle.der_core.specs.ErrorTypes.ErrorKind.TheVariants as kinds
+use Rattle.der_core.specs.TagTypes.Tag.TheVariants.{Integer}
+use Rattle.der_core.specs.Integers.{integer_of, integer_octets}
 
 -- a number, if its content has no more octets than a length can count
 unfoldable pub if_countable : {A : Type 0} → List ℕ → A → Result A ErrorKind

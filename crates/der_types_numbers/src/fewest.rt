@@ -3,12 +3,12 @@
 ghost use Rattle.std.specs.Prelude.{◌≡◌, ◌<◌, pos, length, false, IfOk};
 ghost use Rattle.std.specs.Int.Digits.{number_from_digits};
 ghost use Rattle.std.specs.List.{cons_option};
-ghost use Rattle.const_oid.specs.Digits.{digits};
-ghost use Rattle.const_oid.specs.Orders as orders;
-ghost use Rattle.der_core_head.specs.Integers.{integer_of, integer_octets, is_redundant};
-ghost use Rattle.der_core_head.specs.Writing.{Writes, put};
+ghost use Rattle.der_core.specs.Oid.Digits.{digits};
+ghost use Rattle.der_core.specs.Oid.Orders as orders;
+ghost use Rattle.der_core.specs.Integers.{integer_of, integer_octets, is_redundant};
+ghost use Rattle.der_core.specs.Writing.{Writes, put};
 ghost use Rattle.der_types_numbers.specs.Numbers.{has_leading_zero, is_first_bit_set};
-ghost use Rattle.der_core_octets.specs.Outputs.{AddsFront, Continues};
+ghost use Rattle.der_core.specs.Outputs.{AddsFront, Continues};
 
 use der_core::making::{encode_behind, has_redundant_octet};
 use der_core::{Error, Writer};

@@ -6,11 +6,11 @@ ghost use Rattle.std.proofs.Common.{refl, ap};
 ghost use Rattle.std.specs.Cmp.{po, partial_equiv_from_equiv, on_equiv, on_per, on_total};
 ghost use Rattle.std.specs.Cmp.Lexicographic.{pointwise, bytes_decides, nat_list_eq_equiv};
 ghost use Rattle.std.specs.Hash as fed;
-ghost use Rattle.der_core_head.specs.Heads.{Fits};
-ghost use Rattle.der_core_head.specs.declared.tag.Tag.TheVariants.{Integer as IntegerTag};
-ghost use Rattle.der_core_head.specs.Integers.{every, integer_of, integer_octets, is_redundant};
-ghost use Rattle.der_core_head.specs.Leaves.{integer, leaf_read};
-ghost use Rattle.der_core_head.specs.Reading.{GivesNow};
+ghost use Rattle.der_core.specs.Heads.{Fits};
+ghost use Rattle.der_core.specs.TagTypes.Tag.TheVariants.{Integer as IntegerTag};
+ghost use Rattle.der_core.specs.Integers.{every, integer_of, integer_octets, is_redundant};
+ghost use Rattle.der_core.specs.Leaves.{integer, leaf_read};
+ghost use Rattle.der_core.specs.Reading.{GivesNow};
 ghost use Rattle.der_types_numbers.specs.NumberOrders.{integer_cmp, integer_cmp_total};
 ghost use Rattle.der_types_numbers.specs.NumberOrders.{integer_cmp_ties};
 ghost use Rattle.der_types_numbers.specs.Numbers.{signed_number};
@@ -95,7 +95,7 @@ impl<'a> IntRef<'a> {
     ///
     /// # Errors
     /// `Length` for no octets, `Noncanonical` where fewer would do.
-    #[tactic(auto, unfolding(der_core_head::specs::Integers::shortest_integer))]
+    #[tactic(auto, unfolding(crate::specs::Opened::shortest_integer))]
     pub fn of_content(tag: Tag, octets: &'a [u8]) -> Result<IntRef<'a>, Error>
         requires { Fits octets.now }
         ensures { GivesNow integer_lent result (leaf_read (integer every) tag octets.now) }

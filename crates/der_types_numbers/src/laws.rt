@@ -3,7 +3,7 @@
 //! What the calls that both have answer is said at each in the same words.
 
 ghost use Rattle.std.specs.Prelude.{◌≡◌};
-ghost use Rattle.der_core_head.specs.Shapes.{contents};
+ghost use Rattle.der_core.specs.Shapes.{contents};
 ghost use Rattle.der_types_numbers.specs.Ints.{integer_lent, natural_lent};
 
 use crate::int::Int;

@@ -6,12 +6,12 @@ ghost use Rattle.std.specs.Cmp.{po, partial_equiv_from_equiv, on_equiv, on_per, 
 ghost use Rattle.std.specs.Cmp.Lexicographic.{pointwise, bytes_decides, nat_list_eq_equiv};
 ghost use Rattle.std.specs.Hash as fed;
 ghost use Rattle.std.specs.Ordering.{nat_cmp};
-ghost use Rattle.const_oid.specs.Digits.{digits};
-ghost use Rattle.der_core_head.specs.Heads.{Fits};
-ghost use Rattle.der_core_head.specs.Integers.{natural, integer_octets};
-ghost use Rattle.der_core_head.specs.declared.tag.Tag.TheVariants.{Integer};
-ghost use Rattle.der_core_head.specs.Leaves.{integer};
-ghost use Rattle.der_core_head.specs.Reading.{Gives};
+ghost use Rattle.der_core.specs.Oid.Digits.{digits};
+ghost use Rattle.der_core.specs.Heads.{Fits};
+ghost use Rattle.der_core.specs.Integers.{natural, integer_octets};
+ghost use Rattle.der_core.specs.TagTypes.Tag.TheVariants.{Integer};
+ghost use Rattle.der_core.specs.Leaves.{integer};
+ghost use Rattle.der_core.specs.Reading.{Gives};
 ghost use Rattle.der_types_numbers.specs.Ints.{natural_lent};
 ghost use Rattle.der_types_numbers.specs.NumberOrders.{digits_ties};
 ghost use Rattle.der_types_numbers.specs.Numbers.{unsigned_number};

@@ -8,12 +8,12 @@ ghost use Rattle.std.specs.Cmp.Lexicographic.{pointwise, bytes_decides, nat_list
 ghost use Rattle.std.specs.Hash as fed;
 ghost use Rattle.std.specs.Ordering.{nat_cmp};
 ghost use Rattle.std.specs.Int.Digits.{number_from_digits};
-ghost use Rattle.const_oid.specs.Digits.{digits};
-ghost use Rattle.der_core_head.specs.Heads.{Fits};
-ghost use Rattle.der_core_head.specs.declared.tag.Tag.TheVariants.{Integer as IntegerTag};
-ghost use Rattle.der_core_head.specs.Integers.{natural, integer_of, integer_octets};
-ghost use Rattle.der_core_head.specs.Leaves.{integer, leaf_read};
-ghost use Rattle.der_core_head.specs.Reading.{GivesNow};
+ghost use Rattle.der_core.specs.Oid.Digits.{digits};
+ghost use Rattle.der_core.specs.Heads.{Fits};
+ghost use Rattle.der_core.specs.TagTypes.Tag.TheVariants.{Integer as IntegerTag};
+ghost use Rattle.der_core.specs.Integers.{natural, integer_of, integer_octets};
+ghost use Rattle.der_core.specs.Leaves.{integer, leaf_read};
+ghost use Rattle.der_core.specs.Reading.{GivesNow};
 ghost use Rattle.der_types_numbers.specs.NumberOrders.{digits_ties};
 ghost use Rattle.der_types_numbers.specs.Numbers.{unsigned_number};
 
@@ -249,7 +249,7 @@ impl<'a> EncodeLeaf for UintRef<'a> {
         Ok(Length::try_from(content_len(self.bytes))?)
     }
 
-    #[tactic(auto, unfolding(der_core_head::specs::Shapes::contents))]
+    #[tactic(auto, unfolding(crate::specs::Opened::contents))]
     fn encode_leaf<W: Writer>(&self, writer: &mut W) -> Result<(), Error> {
         encode_natural(writer, self.bytes)
     }

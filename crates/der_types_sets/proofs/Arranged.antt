@@ -6,7 +6,7 @@ use Rattle.std.specs.Cmp.Lexicographic.{nat_list_cmp_total}
 use Rattle.std.proofs.lemmas.Cmp.{tied_itself}
 use Rattle.std.proofs.lemmas.List.Sums.{sum_by-cons}
 use Rattle.std.proofs.lemmas.List.Sorted.{sum_by-IsPermutation, all_adjacent_more, All-permutation, IsPermutation-refl, IsPermutation-trans, IsPermutation-to_front, IsPermutation-insert, IsPermutation-append_left, IsPermutation-map, IsPermutation-keeps, length_permutation}
-use Rattle.der_core_head.specs.Shapes.{Shape, Value, octets_of, IsValid}
+use Rattle.der_core.specs.Shapes.{Shape, Value, octets_of, IsValid}
 use Rattle.der_core.specs.Orders.{octets_cmp}
 use Rattle.der_core.proofs.OrderLaws.{octets_cmp-equal}
 use Rattle.der_core.specs.Placed.{AllValid}
@@ -23,9 +23,9 @@ use Rattle.std.proofs.lemmas.List.Elements.{filter-append, filter_agree, All-tak
 use Rattle.std.proofs.lemmas.List.FromFn.{length-range_with_len, get_or-range_with_len, fill_by_all}
 use Rattle.std.proofs.lemmas.Map.Text.{is_eq-slice_cmp}
 use Rattle.std.proofs.lemmas.Slice.Eq.{bytes_eq-Decides}
-use Rattle.der_core_head.specs.declared.error.Error.{Error}
-use Rattle.der_core_head.specs.declared.error.ErrorKind.TheVariants as kinds
-use Rattle.der_core_head.proofs.BoundLaws.{front_all, back_all}
+use Rattle.der_core.specs.ErrorTypes.Error.{Error}
+use Rattle.der_core.specs.ErrorTypes.ErrorKind.TheVariants as kinds
+use Rattle.der_core.proofs.BoundLaws.{front_all, back_all}
 use Rattle.der_types_sets.specs.Rearranged.{member_at, members_at, AscendsAt, member_encoding, KeepsPlaces}
 use Rattle.der_types_sets.proofs.SetSteps.{last_is, valid_at}
 

@@ -2,29 +2,29 @@
 use Rattle.std.proofs.Common.{◌≡◌, ◌≤◌, ℕ, zero, suc, true, List, [], ◌∷◌, length, take, drop, Result, Ok, inr, ◌⊎◌, refl, sym, ap, subst, ◌∙◌, flat_map, IsPermutation, le-ltb, append-nil, take-append-drop, arith, ◌+◌, ◌<◌, ◌++◌, Option, Some, None, ◌≢◌, length-append}
 use Rattle.std.specs.List.{AllByRecursion}
 use Rattle.std.proofs.lemmas.List.Sorted.{IsPermutation-sym, IsPermutation-trans, length_permutation}
-use Rattle.der_core_head.specs.declared.encoding_rules.EncodingRules.{EncodingRules}
-use Rattle.der_core_head.specs.declared.encoding_rules.EncodingRules.TheVariants as encodings
-use Rattle.der_core_head.specs.declared.error.Error.{Error}
-use Rattle.der_core_head.specs.declared.error.ErrorKind.{ErrorKind}
-use Rattle.der_core_head.specs.declared.error.ErrorKind.TheVariants as kinds
-use Rattle.der_core_head.specs.declared.tag.Tag.{Tag}
-use Rattle.der_core_head.specs.declared.tag.Tag.TheVariants as tags
-use Rattle.der_core_head.specs.Octets.{Readings, ◌>>=◌}
-use Rattle.der_core_head.specs.Heads.{Fits}
-use Rattle.der_core_head.specs.Shapes.{Shape, Body, BodyValue, tagged, nested, many, Value, Spells, IsValid, IsContent, IsBody, octets_of, contents, body_octets, few, Step, above, not_below, ascending, rising, AllRising}
-use Rattle.der_core_head.specs.Spelling.{is_apart, is_element, are_content_enough, are_enough}
-use Rattle.der_core_head.specs.Grammar.{whole, value_at, read, read_many, read_content, read_content_by, read_body_by, plain_list, read_body, read_in_order, follows_last}
-use Rattle.der_core_head.specs.Reading.{State, IsDer, IsBer, Fails, read_content_at, IsRest, read_at}
-use Rattle.der_core_head.proofs.Results.{ok_is, bind_ok, whole_ok, IsBytes, bytes_take, fine, plain_permutation}
-use Rattle.der_core_head.proofs.HeadLaws.{fits_front}
-use Rattle.der_core_head.proofs.OneEncoding.{value_sound, many_sound, sound, one_body, OrderedFrom, order_on, from_none}
-use Rattle.der_core_head.proofs.Complete.{complete_content, complete_body, more_body}
-use Rattle.der_core_values.specs.Both.{both_true}
+use Rattle.der_core.specs.EncodingRulesTypes.EncodingRules.{EncodingRules}
+use Rattle.der_core.specs.EncodingRulesTypes.EncodingRules.TheVariants as encodings
+use Rattle.der_core.specs.ErrorTypes.Error.{Error}
+use Rattle.der_core.specs.ErrorTypes.ErrorKind.{ErrorKind}
+use Rattle.der_core.specs.ErrorTypes.ErrorKind.TheVariants as kinds
+use Rattle.der_core.specs.TagTypes.Tag.{Tag}
+use Rattle.der_core.specs.TagTypes.Tag.TheVariants as tags
+use Rattle.der_core.specs.Octets.{Readings, ◌>>=◌}
+use Rattle.der_core.specs.Heads.{Fits}
+use Rattle.der_core.specs.Shapes.{Shape, Body, BodyValue, tagged, nested, many, Value, Spells, IsValid, IsContent, IsBody, octets_of, contents, body_octets, few, Step, above, not_below, ascending, rising, AllRising}
+use Rattle.der_core.specs.Spelling.{is_apart, is_element, are_content_enough, are_enough}
+use Rattle.der_core.specs.Grammar.{whole, value_at, read, read_many, read_content, read_content_by, read_body_by, plain_list, read_body, read_in_order, follows_last}
+use Rattle.der_core.specs.Reading.{State, IsDer, IsBer, Fails, read_content_at, IsRest, read_at}
+use Rattle.der_core.proofs.Results.{ok_is, bind_ok, whole_ok, IsBytes, bytes_take, fine, plain_permutation}
+use Rattle.der_core.proofs.HeadLaws.{fits_front}
+use Rattle.der_core.proofs.OneEncoding.{value_sound, many_sound, sound, one_body, OrderedFrom, order_on, from_none}
+use Rattle.der_core.proofs.Complete.{complete_content, complete_body, more_body}
+use Rattle.der_core.specs.Both.{both_true}
 use Rattle.der_core.specs.Placed.{AllValid}
 use Rattle.der_types_sets.specs.Sets.{Ascends, Loose, SpellsLoosely, TooLong}
 use Rattle.der_types_sets.proofs.Arranged.{one_arrangement, valid_moved}
-use Rattle.der_core_head.specs.Limits.{levels_max}
-use Rattle.der_core_values.proofs.Lists.{InTurn, all_in_turn, none_in_turn, on_in_turn, done_in_turn}
+use Rattle.der_core.specs.Limits.{levels_max}
+use Rattle.der_core.proofs.Lists.{InTurn, all_in_turn, none_in_turn, on_in_turn, done_in_turn}
 use Rattle.der_types_sets.specs.Ascending.{JoinsAscending, IsCount, first_of, values_at}
 
 -- Members that stand in any order.

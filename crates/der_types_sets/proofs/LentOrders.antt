@@ -3,34 +3,34 @@ use Rattle.std.proofs.Common.{◌≡◌, ℕ, zero, suc, ◌<◌, eqb, Bool, fal
 use Rattle.std.specs.List.{AllByRecursion}
 use Rattle.std.proofs.lemmas.Bool.Decides.{nat_tests, Decides-eqb}
 use Rattle.std.proofs.lemmas.List.{append-nil, nil_from_length, drop_all}
-use Rattle.der_core_head.specs.Limits.{levels_max}
-use Rattle.der_core_head.specs.declared.error.Error.{Error}
-use Rattle.der_core_head.specs.declared.error.ErrorKind.{ErrorKind}
-use Rattle.der_core_head.specs.Heads.{Fits, length_octets}
-use Rattle.der_core_head.specs.Octets.{◌>>=◌}
-use Rattle.der_core_head.specs.Ranges.{IsInRange}
-use Rattle.der_core_head.specs.Shapes.{not_below, Shape, many, nested, Value, IsValid, IsBody, octets_of, contents, body_octets, AllAscending, Content, ContentValue, tagged, Step, above, Body, any, either, optional, defaulted, nothing, leaf, done, field, only, exactly, few, in_order, BodyValue}
-use Rattle.der_core_head.specs.Grammar.{read, plain_list, plain_option, ordered, follows_last}
-use Rattle.der_core_head.specs.Reading.{GivesNow, Gives}
-use Rattle.der_core_head.specs.Writing.{Out, Writes, put, size_body, write_many, all_follow, write_in_order, write, size, size_content, put_head, head_len, sum_len, fit_len, tlv_len, both_len, many_len, default_len, write_tlv, default_write, write_content, write_body}
-use Rattle.der_core_head.proofs.Written.{sized_body, ordered_written, put_some, put_body, list_valid, out, put_is, unsized, list_in_range}
+use Rattle.der_core.specs.Limits.{levels_max}
+use Rattle.der_core.specs.ErrorTypes.Error.{Error}
+use Rattle.der_core.specs.ErrorTypes.ErrorKind.{ErrorKind}
+use Rattle.der_core.specs.Heads.{Fits, length_octets}
+use Rattle.der_core.specs.Octets.{◌>>=◌}
+use Rattle.der_core.specs.Ranges.{IsInRange}
+use Rattle.der_core.specs.Shapes.{not_below, Shape, many, nested, Value, IsValid, IsBody, octets_of, contents, body_octets, AllAscending, Content, ContentValue, tagged, Step, above, Body, any, either, optional, defaulted, nothing, leaf, done, field, only, exactly, few, in_order, BodyValue}
+use Rattle.der_core.specs.Grammar.{read, plain_list, plain_option, ordered, follows_last}
+use Rattle.der_core.specs.Reading.{GivesNow, Gives}
+use Rattle.der_core.specs.Writing.{Out, Writes, put, size_body, write_many, all_follow, write_in_order, write, size, size_content, put_head, head_len, sum_len, fit_len, tlv_len, both_len, many_len, default_len, write_tlv, default_write, write_content, write_body}
+use Rattle.der_core.proofs.Written.{sized_body, ordered_written, put_some, put_body, list_valid, out, put_is, unsized, list_in_range}
 use Rattle.der_types_sets.specs.Sets.{Ascends}
 use Rattle.der_types_sets.specs.Ascending.{JoinsAscending, values_at}
 use Rattle.der_types_sets.specs.Lent.{Lent, IsLent, members_spelled, members_lent, IsMisplaced, IsUnwritten, IsUncompared}
 use Rattle.std.specs.Ordering.{ordering_then}
 use Rattle.std.specs.Cmp.Lexicographic.{pointwise, slice_cmp}
 use Rattle.std.proofs.lemmas.Slice.Eq.{strip_prefix_is}
-use Rattle.der_core_head.specs.declared.tag.Tag.{Tag}
+use Rattle.der_core.specs.TagTypes.Tag.{Tag}
 use Rattle.der_core.proofs.OrderLaws.{long_inside, then_same, nat_cmp-equal, octets_cmp-self, octets_cmp-append, splits_lengths}
 use Rattle.der_core.proofs.Sizes.{size_only, many_over}
 use Rattle.der_core.specs.Orders.{octets_cmp, Overflows}
 use Rattle.der_types_sets.proofs.AscendingSteps.{length_plain_list, ascends-plain, views}
-use Rattle.der_core_head.specs.Tags.{tag_octets}
-use Rattle.der_core_head.specs.Leaves.{leaf_contents}
-use Rattle.der_core_head.proofs.Results.{bind_ok, or_memory, plain-append}
-use Rattle.der_core_head.specs.declared.error.ErrorKind.TheVariants as kinds
+use Rattle.der_core.specs.Tags.{tag_octets}
+use Rattle.der_core.specs.Leaves.{leaf_contents}
+use Rattle.der_core.proofs.Results.{bind_ok, or_memory, plain-append}
+use Rattle.der_core.specs.ErrorTypes.ErrorKind.TheVariants as kinds
 use Rattle.std.proofs.lemmas.Bool.{cases_lt}
-use Rattle.der_core_head.proofs.BoundLaws.{both_all}
+use Rattle.der_core.proofs.BoundLaws.{both_all}
 
 -- What a lent set writes: its octets, where it has any, and else the encodings of its values.
 

@@ -7,21 +7,21 @@ use Rattle.std.proofs.lemmas.List.{get_or_default, get_or-take, take_more, take-
 use Rattle.std.proofs.lemmas.List.Edits.{length-insert}
 use Rattle.std.proofs.lemmas.List.Elements.{All-take, All-from_recursion, recursion_from_All}
 use Rattle.std.proofs.lemmas.List.Sorted.{All-permutation, IsPermutation-trans, IsPermutation-to_front, IsPermutation-insert, IsPermutation-append_left}
-use Rattle.der_core_head.specs.declared.error.Error.{Error}
-use Rattle.der_core_head.specs.Shapes.{Shape, Value, IsValid, octets_of}
+use Rattle.der_core.specs.ErrorTypes.Error.{Error}
+use Rattle.der_core.specs.Shapes.{Shape, Value, IsValid, octets_of}
 use Rattle.der_core.specs.Orders.{octets_cmp, encodings_cmp}
 use Rattle.der_core.specs.Placed.{AllValid}
 use Rattle.der_types_sets.specs.Sets.{NotAbove, IsBelow, Ascends, Behind, Before, IsPlace, TooLong, IsBelowLast}
 use Rattle.std.proofs.lemmas.Option.{slice_get_past}
-use Rattle.der_core_head.specs.Limits.{length_max, levels_max}
-use Rattle.der_core_head.specs.declared.error.ErrorKind.{ErrorKind}
-use Rattle.der_core_head.specs.declared.error.ErrorKind.TheVariants as kinds
-use Rattle.der_core_head.specs.Spelling.{is_apart}
-use Rattle.der_core_head.specs.Grammar.{read, plain_list}
-use Rattle.der_core_head.proofs.Results.{IsBytes, only_memory}
-use Rattle.der_core_head.proofs.HeadLaws.{fits_rest}
-use Rattle.der_core_head.proofs.OneEncoding.{sound}
-use Rattle.der_core_octets.specs.Fronts.{read_front}
+use Rattle.der_core.specs.Limits.{length_max, levels_max}
+use Rattle.der_core.specs.ErrorTypes.ErrorKind.{ErrorKind}
+use Rattle.der_core.specs.ErrorTypes.ErrorKind.TheVariants as kinds
+use Rattle.der_core.specs.Spelling.{is_apart}
+use Rattle.der_core.specs.Grammar.{read, plain_list}
+use Rattle.der_core.proofs.Results.{IsBytes, only_memory}
+use Rattle.der_core.proofs.HeadLaws.{fits_rest}
+use Rattle.der_core.proofs.OneEncoding.{sound}
+use Rattle.der_core.specs.OctetsFronts.{read_front}
 use Rattle.der_types_sets.specs.Ascending.{first_of, values_at}
 use Rattle.der_types_sets.specs.Lent.{Lent, IsSpelled, members_lent, YieldsMember}
 

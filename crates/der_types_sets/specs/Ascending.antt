@@ -1,9 +1,9 @@
 -- Sets that are kept as they stand: members that ascend, of which none is below the one before it
 -- (X.690 8.12, 11.6).
 use Rattle.std.specs.Prelude.{◌≡◌, ℕ, zero, suc, List, [], ◌∷◌, length, flat_map, Result, Ok, Err}
-use Rattle.der_core_head.specs.declared.error.ErrorKind.{ErrorKind}
-use Rattle.der_core_head.specs.Octets.{Readings}
-use Rattle.der_core_head.specs.Shapes.{Shape, Value, octets_of, AllAscending}
+use Rattle.der_core.specs.ErrorTypes.ErrorKind.{ErrorKind}
+use Rattle.der_core.specs.Octets.{Readings}
+use Rattle.der_core.specs.Shapes.{Shape, Value, octets_of, AllAscending}
 use Rattle.der_core.specs.Placed.{AllValid}
 
 -- The octets join the encodings of the members, of which none is below the one before it.

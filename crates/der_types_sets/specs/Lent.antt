@@ -4,15 +4,15 @@ use Rattle.std.specs.Prelude.{◌≡◌, ◌≢◌, ℕ, ◌<◌, List, [], ◌+
 use Rattle.std.specs.Prelude.{Some, false, Result, Err, MatchOption, MatchResult, refl, ◌∷◌, ◌⊎◌}
 use Rattle.std.proofs.Common.{ap}
 use Rattle.std.specs.Coded.{Coded, code_by, coded×, coded_list, coded_ℕ}
-use Rattle.der_core_head.specs.Limits.{levels_max}
-use Rattle.der_core_head.specs.declared.error.Error.{Error}
-use Rattle.der_core_head.specs.declared.error.ErrorKind.{ErrorKind}
-use Rattle.der_core_head.specs.declared.error.ErrorKind.TheVariants as kinds
-use Rattle.der_core_head.specs.Heads.{Fits}
-use Rattle.der_core_head.specs.Shapes.{Shape, Value, many}
-use Rattle.der_core_head.specs.Grammar.{read, plain_list}
-use Rattle.der_core_head.specs.Writing.{size_body, write}
-use Rattle.der_core_values.specs.Same.{same_list}
+use Rattle.der_core.specs.Limits.{levels_max}
+use Rattle.der_core.specs.ErrorTypes.Error.{Error}
+use Rattle.der_core.specs.ErrorTypes.ErrorKind.{ErrorKind}
+use Rattle.der_core.specs.ErrorTypes.ErrorKind.TheVariants as kinds
+use Rattle.der_core.specs.Heads.{Fits}
+use Rattle.der_core.specs.Shapes.{Shape, Value, many}
+use Rattle.der_core.specs.Grammar.{read, plain_list}
+use Rattle.der_core.specs.Writing.{size_body, write}
+use Rattle.der_core.specs.Same.{same_list}
 use Rattle.der_types_sets.specs.Sets.{Ascends}
 use Rattle.der_types_sets.specs.Ascending.{JoinsAscending, values_at}
 

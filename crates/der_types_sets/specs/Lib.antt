@@ -3,3 +3,4 @@ pub mod Lends
 pub mod Ascending
 pub mod Lent
 pub mod Rearranged
+pub mod Opened

@@ -3,7 +3,7 @@ use Rattle.std.specs.Prelude.{ℕ, List, [], ◌∷◌, length, map, slice_index
 use Rattle.std.specs.List.{AllAdjacentBelow, range_with_len}
 use Rattle.std.specs.List.Sorted.{IsStableBy}
 use Rattle.std.specs.Ordering.{is_lt}
-use Rattle.der_core_head.specs.Shapes.{Shape, Value, octets_of}
+use Rattle.der_core.specs.Shapes.{Shape, Value, octets_of}
 use Rattle.der_core.specs.Orders.{octets_cmp}
 use Rattle.der_types_sets.specs.Sets.{NotAbove}
 

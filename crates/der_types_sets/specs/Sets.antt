@@ -4,14 +4,14 @@ use Rattle.std.specs.Prelude.{slice_index_or, flat_map, bytes_eq, ⊤, ◌⊎◌
 use Rattle.std.specs.Prelude.{Err, true, false, insert, filter, IsPermutation}
 use Rattle.std.specs.Iterator.{YieldsThen}
 use Rattle.std.specs.declared.cmp.Ordering.TheVariants.{Less, Greater}
-use Rattle.der_core_head.specs.declared.error.Error.{Error}
-use Rattle.der_core_head.specs.declared.error.ErrorKind.TheVariants as kinds
-use Rattle.der_core_head.specs.declared.tag.Tag.TheVariants as tags
-use Rattle.der_core_head.specs.Octets.{Readings}
-use Rattle.der_core_head.specs.Grammar.{plain_list}
-use Rattle.der_core_head.specs.Reading.{State, IsBer, IsRest, Kept, Fails}
-use Rattle.der_core_head.specs.Shapes.{Shape, Value, tagged, nested, many, Spells, IsValid}
-use Rattle.der_core_head.specs.Shapes.{octets_of}
+use Rattle.der_core.specs.ErrorTypes.Error.{Error}
+use Rattle.der_core.specs.ErrorTypes.ErrorKind.TheVariants as kinds
+use Rattle.der_core.specs.TagTypes.Tag.TheVariants as tags
+use Rattle.der_core.specs.Octets.{Readings}
+use Rattle.der_core.specs.Grammar.{plain_list}
+use Rattle.der_core.specs.Reading.{State, IsBer, IsRest, Kept, Fails}
+use Rattle.der_core.specs.Shapes.{Shape, Value, tagged, nested, many, Spells, IsValid}
+use Rattle.der_core.specs.Shapes.{octets_of}
 use Rattle.der_core.specs.Orders.{octets_cmp}
 use Rattle.der_core.specs.Placed.{AllValid}
 

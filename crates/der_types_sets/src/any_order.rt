@@ -1,6 +1,6 @@
 //! Members of a SET OF as they stand.
 
-ghost use Rattle.der_core_head.specs.declared.tag.Tag.TheVariants.{Set};
+ghost use Rattle.der_core.specs.TagTypes.Tag.TheVariants.{Set};
 
 use der_core::{DecodeValue, Error, FixedTag, Header, Reader, ShapedValue, Tag};
 use std::alloc::Global;

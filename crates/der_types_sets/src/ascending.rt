@@ -1,12 +1,12 @@
 //! Reading of members that ascend, equal ones among them.
 
 ghost use Rattle.std.specs.Prelude.{◌≤◌, IfOk, IfErr};
-ghost use Rattle.der_core_head.specs.Limits.{levels_max};
-ghost use Rattle.der_core_head.specs.Heads.{Fits};
-ghost use Rattle.der_core_head.specs.Shapes.{not_below, ascending};
-ghost use Rattle.der_core_head.specs.Grammar.{follows_last, read_body};
-ghost use Rattle.der_core_head.specs.Reading.{Fails, GivesNow};
-ghost use Rattle.der_core_octets.specs.Fronts.{octets_at};
+ghost use Rattle.der_core.specs.Limits.{levels_max};
+ghost use Rattle.der_core.specs.Heads.{Fits};
+ghost use Rattle.der_core.specs.Shapes.{not_below, ascending};
+ghost use Rattle.der_core.specs.Grammar.{follows_last, read_body};
+ghost use Rattle.der_core.specs.Reading.{Fails, GivesNow};
+ghost use Rattle.der_core.specs.OctetsFronts.{octets_at};
 ghost use Rattle.der_types_sets.specs.Ascending.{IsCount};
 
 use der_core::making::decode_sliced;

@@ -1,9 +1,9 @@
 //! The order of values one after another, and of octets.
 
 ghost use Rattle.std.specs.Prelude.{◌≡◌, Ok, Err, IfErr};
-ghost use Rattle.der_core_head.specs.Shapes.{many, IsBody, body_octets};
-ghost use Rattle.der_core_head.specs.Grammar.{plain_list};
-ghost use Rattle.der_core_head.specs.Reading.{Gives};
+ghost use Rattle.der_core.specs.Shapes.{many, IsBody, body_octets};
+ghost use Rattle.der_core.specs.Grammar.{plain_list};
+ghost use Rattle.der_core.specs.Reading.{Gives};
 ghost use Rattle.der_core.specs.Orders.{octets_cmp};
 ghost use Rattle.der_types_sets.specs.Lent.{IsUnwritten};
 

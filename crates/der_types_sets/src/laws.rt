@@ -3,8 +3,8 @@
 //! Each is the contract of a function that does nothing.
 
 ghost use Rattle.std.specs.Prelude.{◌≡◌, ℕ, ◌<◌, List, length, slice_get, IsPermutation};
-ghost use Rattle.der_core_head.specs.Shapes.{Shape, Value, nested, many, body_octets};
-ghost use Rattle.der_core_head.specs.Grammar.{plain_list, plain_option};
+ghost use Rattle.der_core.specs.Shapes.{Shape, Value, nested, many, body_octets};
+ghost use Rattle.der_core.specs.Grammar.{plain_list, plain_option};
 ghost use Rattle.der_core.specs.Orders.{contents_cmp};
 ghost use Rattle.der_types_sets.specs.Lent.{Lent, IsLent, members_lent};
 ghost use Rattle.der_core.specs.Placed.{AllValid};
@@ -14,7 +14,7 @@ use der_core::Shaped;
 
 /// The encoding of a set doesn't depend on the order in which its members were inserted: two lists
 /// in ascending order that have the same members join to the same octets (X.690 11.6).
-#[tactic(auto, using(crate::proofs::Arranged::one_arrangement), unfolding(der_core_head::specs::Shapes::body_octets))]
+#[tactic(auto, using(crate::proofs::Arranged::one_arrangement), unfolding(crate::specs::Opened::body_octets))]
 pub fn order_of_insertions()
     ensures { (s : Shape) (v w : List (Value s)) → AllValid s (λ x. x) v → AllValid s (λ x. x) w
         → Ascends s (λ x. x) v → Ascends s (λ x. x) w → IsPermutation v w

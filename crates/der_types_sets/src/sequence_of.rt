@@ -7,9 +7,9 @@ ghost use Rattle.std.specs.Cmp.Lexicographic.{pointwise, lists_per, lists_equiv}
 ghost use Rattle.std.specs.Hash as fed;
 ghost use Rattle.std.specs.Hash.{items_Alike};
 ghost use Rattle.std.specs.Slice.Iter.{iter_rest};
-ghost use Rattle.der_core_head.specs.declared.tag.Tag.TheVariants.{Sequence};
-ghost use Rattle.der_core_head.specs.Shapes.{nested, few};
-ghost use Rattle.der_core_head.specs.Grammar.{plain_list};
+ghost use Rattle.der_core.specs.TagTypes.Tag.TheVariants.{Sequence};
+ghost use Rattle.der_core.specs.Shapes.{nested, few};
+ghost use Rattle.der_core.specs.Grammar.{plain_list};
 
 use crate::iter::SequenceOfIter;
 use arrayvec::ArrayVec;
@@ -193,13 +193,13 @@ impl<'a, R: Reader<'a>, T: Decode<'a, R> + Default, const N: usize> DecodeValue<
 }
 
 impl<T: Element + Member, const N: usize> ApartValue for SequenceOf<T, N> {
-    ghost use Rattle.der_core_values.specs.Both.{both_true};
+    ghost use Rattle.der_core.specs.Both.{both_true};
 
     ghost apart_value = { both_true T.element T.apart };
 }
 
 impl<T: AsRead, const N: usize> AsReadValue for SequenceOf<T, N> {
-    ghost use Rattle.der_core_values.specs.Same.{same_list};
+    ghost use Rattle.der_core.specs.Same.{same_list};
 
     ghost as_read_value = { same_list T.as_read };
 }
@@ -216,7 +216,7 @@ impl<T: Encode, const N: usize> EncodeValue for SequenceOf<T, N> {
         members_len(self.members.as_slice())
     }
 
-    #[tactic(auto, unfolding(der_core_head::specs::Shapes::contents))]
+    #[tactic(auto, unfolding(crate::specs::Opened::contents))]
     fn encode_value<W: Writer>(&self, writer: &mut W) -> Result<(), Error> {
         encode_members(self.members.as_slice(), writer)
     }
@@ -224,7 +224,7 @@ impl<T: Encode, const N: usize> EncodeValue for SequenceOf<T, N> {
 
 /// The encodings of the members, one after the other.
 impl<T: DerOrd, const N: usize> ValueOrd for SequenceOf<T, N> {
-    #[tactic(auto, unfolding(der_core_head::specs::Shapes::contents, der_core_head::specs::Shapes::IsContent, der_core_head::specs::Shapes::body_octets, der_core_head::specs::Shapes::IsBody))]
+    #[tactic(auto, unfolding(crate::specs::Opened::contents, crate::specs::Opened::IsContent, crate::specs::Opened::body_octets, crate::specs::Opened::IsBody))]
     fn value_cmp(&self, other: &Self) -> Result<Ordering, Error> {
         elements_cmp(self.members.as_slice(), other.members.as_slice())
     }

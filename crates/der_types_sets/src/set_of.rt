@@ -3,12 +3,12 @@
 ghost use Rattle.std.specs.Prelude.{◌≡◌, ◌⊎◌, ◌≤◌, List, take, true, false, Ok, MatchResult, ◌==◌};
 ghost use Rattle.std.specs.Prelude.{[], ◌∷◌, ◌++◌, length, slice_get, IfOk, OnOk, OnErr, IfErr};
 ghost use Rattle.std.specs.Prelude.{option_copied, IsPermutation};
-ghost use Rattle.der_core_head.specs.declared.tag.Tag.TheVariants.{Set};
-ghost use Rattle.der_core_head.specs.Limits.{levels_max};
-ghost use Rattle.der_core_head.specs.Shapes.{Value, tagged, nested, few};
-ghost use Rattle.der_core_head.specs.Spelling.{is_element, are_enough, are_content_enough};
-ghost use Rattle.der_core_head.specs.Grammar.{plain_list, value_at, read_whole};
-ghost use Rattle.der_core_head.specs.Reading.{Gives, Fails, IsDer, read_content_at};
+ghost use Rattle.der_core.specs.TagTypes.Tag.TheVariants.{Set};
+ghost use Rattle.der_core.specs.Limits.{levels_max};
+ghost use Rattle.der_core.specs.Shapes.{Value, tagged, nested, few};
+ghost use Rattle.der_core.specs.Spelling.{is_element, are_enough, are_content_enough};
+ghost use Rattle.der_core.specs.Grammar.{plain_list, value_at, read_whole};
+ghost use Rattle.der_core.specs.Reading.{Gives, Fails, IsDer, read_content_at};
 ghost use Rattle.std.specs.Cmp.Lexicographic.{pointwise, slice_cmp, slice_partial_cmp, lists_per};
 ghost use Rattle.std.specs.Cmp.Lexicographic.{lists_equiv, lists_po, lists_total, lists_agrees};
 ghost use Rattle.std.specs.Cmp.Lexicographic.{lists_ties};
@@ -300,7 +300,7 @@ impl<T: Encode, const N: usize> EncodeValue for SetOf<T, N> {
         members_len(self.members.as_slice())
     }
 
-    #[tactic(auto, unfolding(der_core_head::specs::Shapes::contents))]
+    #[tactic(auto, unfolding(crate::specs::Opened::contents))]
     fn encode_value<W: Writer>(&self, writer: &mut W) -> Result<(), Error> {
         encode_members(self.members.as_slice(), writer)
     }
@@ -308,7 +308,7 @@ impl<T: Encode, const N: usize> EncodeValue for SetOf<T, N> {
 
 /// The encodings of the members, one after the other.
 impl<T: DerOrd, const N: usize> ValueOrd for SetOf<T, N> {
-    #[tactic(auto, unfolding(der_core_head::specs::Shapes::contents, der_core_head::specs::Shapes::IsContent, der_core_head::specs::Shapes::body_octets, der_core_head::specs::Shapes::IsBody))]
+    #[tactic(auto, unfolding(crate::specs::Opened::contents, crate::specs::Opened::IsContent, crate::specs::Opened::body_octets, crate::specs::Opened::IsBody))]
     fn value_cmp(&self, other: &Self) -> Result<Ordering, Error> {
         elements_cmp(self.members.as_slice(), other.members.as_slice())
     }

@@ -2,13 +2,13 @@
 
 ghost use Rattle.std.specs.Prelude.{⊤, ◌≡◌, ◌⊎◌, ◌==◌, List, length, true, false, slice_get, IfOk};
 ghost use Rattle.std.specs.Prelude.{IfErr, Ok, MatchResult};
-ghost use Rattle.der_core_head.specs.declared.tag.Tag.TheVariants.{Set};
-ghost use Rattle.der_core_head.specs.Shapes.{Value, tagged, nested, many, ascending, IsContent};
-ghost use Rattle.der_core_head.specs.Shapes.{IsValid};
-ghost use Rattle.der_core_head.specs.Spelling.{is_apart, is_body_apart, is_element, are_enough};
-ghost use Rattle.der_core_head.specs.Grammar.{plain_list, plain_option, read_body};
-ghost use Rattle.der_core_head.specs.Reading.{Gives, GivesNow, Reads, read_body_at};
-ghost use Rattle.der_core_head.specs.Writing.{size, size_body};
+ghost use Rattle.der_core.specs.TagTypes.Tag.TheVariants.{Set};
+ghost use Rattle.der_core.specs.Shapes.{Value, tagged, nested, many, ascending, IsContent};
+ghost use Rattle.der_core.specs.Shapes.{IsValid};
+ghost use Rattle.der_core.specs.Spelling.{is_apart, is_body_apart, is_element, are_enough};
+ghost use Rattle.der_core.specs.Grammar.{plain_list, plain_option, read_body};
+ghost use Rattle.der_core.specs.Reading.{Gives, GivesNow, Reads, read_body_at};
+ghost use Rattle.der_core.specs.Writing.{size, size_body};
 ghost use Rattle.der_core.specs.Orders.{contents_cmp, encodings_cmp, Overflows};
 ghost use Rattle.der_types_sets.specs.Sets.{Ascends, IsOutOfOrder, TooLong};
 ghost use Rattle.der_types_sets.specs.Ascending.{JoinsAscending};
@@ -301,7 +301,7 @@ impl<'a, R: Reader<'a>, T: Decode<'a, SliceReader<'a>> + Member> DecodeValue<'a,
 }
 
 impl<'a, T: Element + Member> ApartValue for SetOfRef<'a, T> {
-    ghost use Rattle.der_core_values.specs.Both.{both_true};
+    ghost use Rattle.der_core.specs.Both.{both_true};
 
     ghost apart_value = { both_true T.element T.apart };
 }
@@ -338,7 +338,7 @@ impl<'a, T: Encode + InRange> EncodeValue for SetOfRef<'a, T> {
         self.content_len()
     }
 
-    #[tactic(auto, unfolding(der_core_head::specs::Shapes::contents))]
+    #[tactic(auto, unfolding(crate::specs::Opened::contents))]
     fn encode_value<W: Writer>(&self, writer: &mut W) -> Result<(), Error> {
         if self.octets.is_empty() {
             list_in_range(self.values);

@@ -1,8 +1,8 @@
 //! The members of a borrowed set, one after another.
 
 ghost use Rattle.std.specs.Prelude.{◌≡◌, ◌<◌, ◌-◌, [], ◌∷◌, IfOk, IfErr};
-ghost use Rattle.der_core_head.specs.Limits.{levels_max};
-ghost use Rattle.der_core_head.specs.Grammar.{read};
+ghost use Rattle.der_core.specs.Limits.{levels_max};
+ghost use Rattle.der_core.specs.Grammar.{read};
 ghost use Rattle.der_types_sets.specs.Ascending.{values_at};
 ghost use Rattle.der_types_sets.specs.Lent.{Lent, HasMembers, IsSpelled, IsWantOfMemory};
 

@@ -3,13 +3,13 @@
 ghost use Rattle.std.specs.Prelude.{◌≡◌, ◌⊎◌, ◌≤◌, MatchResult, List, take, true, false, Ok, Err};
 ghost use Rattle.std.specs.Prelude.{◌==◌, [], ◌∷◌, ◌++◌, length, slice_get, IfOk, OnOk, OnErr};
 ghost use Rattle.std.specs.Prelude.{IfErr, IsErrAnd, option_copied, IsPermutation};
-ghost use Rattle.der_core_head.specs.declared.tag.Tag.TheVariants.{Set};
-ghost use Rattle.der_core_head.specs.Limits.{levels_max};
-ghost use Rattle.der_core_head.specs.Shapes.{Value, tagged, nested, many, rising, octets_of};
-ghost use Rattle.der_core_head.specs.Shapes.{AllRising};
-ghost use Rattle.der_core_head.specs.Spelling.{is_element, are_enough, are_content_enough};
-ghost use Rattle.der_core_head.specs.Grammar.{plain_list, value_at, read_whole};
-ghost use Rattle.der_core_head.specs.Reading.{Reads, Gives, Fails, IsDer, read_content_at};
+ghost use Rattle.der_core.specs.TagTypes.Tag.TheVariants.{Set};
+ghost use Rattle.der_core.specs.Limits.{levels_max};
+ghost use Rattle.der_core.specs.Shapes.{Value, tagged, nested, many, rising, octets_of};
+ghost use Rattle.der_core.specs.Shapes.{AllRising};
+ghost use Rattle.der_core.specs.Spelling.{is_element, are_enough, are_content_enough};
+ghost use Rattle.der_core.specs.Grammar.{plain_list, value_at, read_whole};
+ghost use Rattle.der_core.specs.Reading.{Reads, Gives, Fails, IsDer, read_content_at};
 ghost use Rattle.std.specs.Cmp.Lexicographic.{pointwise, slice_cmp, slice_partial_cmp, lists_per};
 ghost use Rattle.std.specs.Cmp.Lexicographic.{lists_equiv, lists_po, lists_total, lists_agrees};
 ghost use Rattle.std.specs.Cmp.Lexicographic.{lists_ties};
@@ -393,7 +393,7 @@ impl<T: Encode> EncodeValue for SetOfVec<T> {
         self.members.value_len()
     }
 
-    #[tactic(auto, unfolding(der_core_head::specs::Shapes::contents))]
+    #[tactic(auto, unfolding(crate::specs::Opened::contents))]
     fn encode_value<W: Writer>(&self, writer: &mut W) -> Result<(), Error> {
         self.members.encode_value(writer)
     }
@@ -401,7 +401,7 @@ impl<T: Encode> EncodeValue for SetOfVec<T> {
 
 /// The encodings of the members, one after the other.
 impl<T: DerOrd> ValueOrd for SetOfVec<T> {
-    #[tactic(auto, unfolding(der_core_head::specs::Shapes::contents, der_core_head::specs::Shapes::IsContent))]
+    #[tactic(auto, unfolding(crate::specs::Opened::contents, crate::specs::Opened::IsContent))]
     fn value_cmp(&self, other: &Self) -> Result<Ordering, Error> {
         elements_cmp(self.members.as_slice(), other.members.as_slice())
     }

@@ -5,7 +5,7 @@ ghost use Rattle.std.specs.Prelude.{◌≡◌, ℕ, ◌≤◌, ◌<◌, ◌+◌,
 ghost use Rattle.std.specs.Prelude.{map, take, Some, IfSome, IfOk, IfErr, OnOk, OnErr, ⊤};
 ghost use Rattle.std.specs.Prelude.{IsPermutation, vec_len, vec_capacity};
 ghost use Rattle.std.specs.List.{range_with_len};
-ghost use Rattle.der_core_head.specs.Shapes.{IsValid};
+ghost use Rattle.der_core.specs.Shapes.{IsValid};
 ghost use Rattle.der_core.specs.Orders.{octets_cmp, encodings_cmp};
 ghost use Rattle.der_core.specs.Placed.{AllValid};
 ghost use Rattle.der_types_sets.specs.Sets.{Ascends, IsArranged, StopsBehind};

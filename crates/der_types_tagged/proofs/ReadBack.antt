@@ -1,15 +1,15 @@
 -- What fields write is read back.
 use Rattle.std.proofs.Common.{◌≡◌, ◌/◌, ℕ, true, false, List, [], ◌∷◌, ◌++◌, length, Some, None, Ok, refl, ap, sym, subst, ◌∙◌, append_assoc, arith}
 use Rattle.std.proofs.lemmas.Bool.Decides.{nat_tests}
-use Rattle.der_core_head.specs.declared.encoding_rules.EncodingRules.TheVariants as encodings
-use Rattle.der_core_head.specs.declared.tag.Tag.{Tag}
-use Rattle.der_core_head.specs.Tags.{class_tag, number_of, same_tag, tag_at, tag_octets}
-use Rattle.der_core_head.specs.Heads.{Head, head_at, head_octets, tlv}
-use Rattle.der_core_head.specs.Shapes.{Shape, Content, Value, ContentValue, tagged, optional, nested, only, contents, octets_of, IsValid}
-use Rattle.der_core_head.specs.Spelling.{is_apart, is_element, are_enough}
-use Rattle.der_core_head.specs.Grammar.{read, peek_at, opt_at}
-use Rattle.der_core_head.proofs.HeadLaws.{head_again, fits_contents}
-use Rattle.der_core_head.proofs.Complete.{element_first, peek_again, complete_element}
+use Rattle.der_core.specs.EncodingRulesTypes.EncodingRules.TheVariants as encodings
+use Rattle.der_core.specs.TagTypes.Tag.{Tag}
+use Rattle.der_core.specs.Tags.{class_tag, number_of, same_tag, tag_at, tag_octets}
+use Rattle.der_core.specs.Heads.{Head, head_at, head_octets, tlv}
+use Rattle.der_core.specs.Shapes.{Shape, Content, Value, ContentValue, tagged, optional, nested, only, contents, octets_of, IsValid}
+use Rattle.der_core.specs.Spelling.{is_apart, is_element, are_enough}
+use Rattle.der_core.specs.Grammar.{read, peek_at, opt_at}
+use Rattle.der_core.proofs.HeadLaws.{head_again, fits_contents}
+use Rattle.der_core.proofs.Complete.{element_first, peek_again, complete_element}
 use Rattle.der_types_tagged.specs.Fields.{explicit_field, numbered_at}
 
 -- a value that may be absent is read where it stands, whatever follows

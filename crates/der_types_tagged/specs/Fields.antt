@@ -1,15 +1,15 @@
 -- Fields behind a tag of a class and a number, in front of the value's own tag or in its place
 -- (X.690 8.14). A class is told by its bits in the first octet of a tag (8.1.2.2).
 use Rattle.std.specs.Prelude.{ℕ, ◌/◌, ◌==◌, ◌||◌, true, Ok, IsTrue}
-use Rattle.der_core_head.specs.declared.encoding_rules.EncodingRules.{EncodingRules}
-use Rattle.der_core_head.specs.declared.tag.Tag.{Tag}
-use Rattle.der_core_head.specs.declared.tag_mode.TagMode.{TagMode}
-use Rattle.der_core_head.specs.declared.tag_mode.TagMode.TheVariants as modes
-use Rattle.der_core_head.specs.Octets.{◌>>=◌, Readings}
-use Rattle.der_core_head.specs.Tags.{class_tag, is_constructed, number_of}
-use Rattle.der_core_head.specs.Bodies.{head_by}
-use Rattle.der_core_head.specs.Shapes.{Shape, Content, Value, tagged, nested, only}
-use Rattle.der_core_head.specs.Grammar.{read_by}
+use Rattle.der_core.specs.EncodingRulesTypes.EncodingRules.{EncodingRules}
+use Rattle.der_core.specs.TagTypes.Tag.{Tag}
+use Rattle.der_core.specs.TagModeTypes.TagMode.{TagMode}
+use Rattle.der_core.specs.TagModeTypes.TagMode.TheVariants as modes
+use Rattle.der_core.specs.Octets.{◌>>=◌, Readings}
+use Rattle.der_core.specs.Tags.{class_tag, is_constructed, number_of}
+use Rattle.der_core.specs.Bodies.{head_by}
+use Rattle.der_core.specs.Shapes.{Shape, Content, Value, tagged, nested, only}
+use Rattle.der_core.specs.Grammar.{read_by}
 
 -- the bits of a class that isn't the universal one: application, context-specific, private
 abbrev pub IsClass : ℕ → Type 0

@@ -2,17 +2,17 @@
 
 ghost use Rattle.std.specs.Prelude.{◌≡◌, ◌↔◌, ◌/◌, [], Ok, None, false, true, IsTrue, IfOk, IfSome};
 ghost use Rattle.std.specs.Prelude.{IfErr};
-ghost use Rattle.der_core_head.specs.Classes.{tag_class};
-ghost use Rattle.der_core_head.specs.Shapes.{nested, only, optional, tagged, IsContent, IsValid};
-ghost use Rattle.der_core_head.specs.Shapes.{contents, octets_of};
-ghost use Rattle.der_core_head.specs.Spelling.{is_content_apart};
-ghost use Rattle.der_core_head.specs.Grammar.{plain_option};
-ghost use Rattle.der_core_head.specs.Reading.{Gives, GivesNow, Reads, read_at};
-ghost use Rattle.der_core_head.specs.Writing.{Writes, size, size_content, write, write_content};
+ghost use Rattle.der_core.specs.Classes.{tag_class};
+ghost use Rattle.der_core.specs.Shapes.{nested, only, optional, tagged, IsContent, IsValid};
+ghost use Rattle.der_core.specs.Shapes.{contents, octets_of};
+ghost use Rattle.der_core.specs.Spelling.{is_content_apart};
+ghost use Rattle.der_core.specs.Grammar.{plain_option};
+ghost use Rattle.der_core.specs.Reading.{Gives, GivesNow, Reads, read_at};
+ghost use Rattle.der_core.specs.Writing.{Writes, size, size_content, write, write_content};
 ghost use Rattle.der_core.specs.Orders.{contents_cmp, octets_cmp, Overflows};
 ghost use Rattle.der_types_tagged.specs.Fields.{field_tag, explicit_field, implicit_field};
 ghost use Rattle.der_types_tagged.specs.Fields.{numbered_at, IsClass};
-ghost use Rattle.der_core_octets.specs.Outputs.{AddsFront, Continues};
+ghost use Rattle.der_core.specs.Outputs.{AddsFront, Continues};
 
 use crate::class_field_ref::ClassFieldRef;
 use crate::fields::{

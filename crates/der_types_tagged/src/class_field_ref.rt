@@ -1,11 +1,11 @@
 //! Lent values after tags of one class.
 
 ghost use Rattle.std.specs.Prelude.{◌≡◌, [], Ok, None, false, IsOk, IfOk, ⊤};
-ghost use Rattle.der_core_head.specs.Shapes.{nested, only, tagged, IsValid, contents, octets_of};
-ghost use Rattle.der_core_head.specs.Reading.{Gives, GivesNow};
-ghost use Rattle.der_core_head.specs.Writing.{Writes, size, size_content, write, write_content};
+ghost use Rattle.der_core.specs.Shapes.{nested, only, tagged, IsValid, contents, octets_of};
+ghost use Rattle.der_core.specs.Reading.{Gives, GivesNow};
+ghost use Rattle.der_core.specs.Writing.{Writes, size, size_content, write, write_content};
 ghost use Rattle.der_types_tagged.specs.Fields.{field_tag, explicit_field, implicit_field, IsClass};
-ghost use Rattle.der_core_octets.specs.Outputs.{AddsFront, Continues};
+ghost use Rattle.der_core.specs.Outputs.{AddsFront, Continues};
 
 use crate::class_field::ClassField;
 use crate::fields::{

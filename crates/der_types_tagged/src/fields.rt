@@ -1,13 +1,14 @@
 //! Fields after tags of a class and a number, by their mode.
 
 ghost use Rattle.std.specs.Prelude.{◌≡◌, [], Ok, None, false, true, IfErr};
-ghost use Rattle.der_core_head.specs.Shapes.{nested, only, tagged, IsContent, IsValid, contents, octets_of};
-ghost use Rattle.der_core_head.specs.Spelling.{is_content_apart};
-ghost use Rattle.der_core_head.specs.Reading.{Gives, GivesNow};
-ghost use Rattle.der_core_head.specs.Writing.{Writes, size, size_content, write, write_content};
+ghost use Rattle.der_core.specs.Shapes.{nested, only, tagged, IsContent, IsValid, contents};
+ghost use Rattle.der_core.specs.Shapes.{octets_of};
+ghost use Rattle.der_core.specs.Spelling.{is_content_apart};
+ghost use Rattle.der_core.specs.Reading.{Gives, GivesNow};
+ghost use Rattle.der_core.specs.Writing.{Writes, size, size_content, write, write_content};
 ghost use Rattle.der_core.specs.Orders.{contents_cmp, octets_cmp, Overflows};
 ghost use Rattle.der_types_tagged.specs.Fields.{field_tag, explicit_field, implicit_field};
-ghost use Rattle.der_core_octets.specs.Outputs.{AddsFront, Continues};
+ghost use Rattle.der_core.specs.Outputs.{AddsFront, Continues};
 
 use der_core::making::{cmp_behind, encode_tagged, is_constructed, tag_of_class};
 use der_core::{
@@ -45,7 +46,7 @@ pub fn value_len_of_field<T: EncodeValue + FixedTag>(
 }
 
 /// Writes the content.
-#[tactic(auto, unfolding(der_core_head::specs::Shapes::contents))]
+#[tactic(auto, unfolding(crate::specs::Opened::contents))]
 pub fn encode_value_of_field<W: Writer, T: EncodeValue + FixedTag>(
     writer: &mut W,
     mode: TagMode,
@@ -262,21 +263,21 @@ impl<'a, T: Encode> EncodeValue for Whole<'a, T> {
         self.0.encoded_len()
     }
 
-    #[tactic(auto, unfolding(der_core_head::specs::Shapes::contents))]
+    #[tactic(auto, unfolding(crate::specs::Opened::contents))]
     fn encode_value<W: Writer>(&self, writer: &mut W) -> Result<(), Error> {
         self.0.encode(writer)
     }
 }
 
 impl<'a, T: DerOrd> ValueOrd for Whole<'a, T> {
-    #[tactic(auto, unfolding(der_core_head::specs::Shapes::contents, der_core_head::specs::Shapes::IsContent, der_core_head::specs::Shapes::body_octets, der_core_head::specs::Shapes::IsBody))]
+    #[tactic(auto, unfolding(crate::specs::Opened::contents, crate::specs::Opened::IsContent, crate::specs::Opened::body_octets, crate::specs::Opened::IsBody))]
     fn value_cmp(&self, other: &Self) -> Result<Ordering, Error> {
         self.0.der_cmp(other.0)
     }
 }
 
 /// The number of octets of a content and its header.
-#[tactic(auto, unfolding(der_core_head::specs::Writing::tlv_len, der_core_head::specs::Writing::head_len))]
+#[tactic(auto, unfolding(crate::specs::Opened::tlv_len, crate::specs::Opened::head_len))]
 pub fn len_behind<T: EncodeValue>(tag: Tag, value: &T) -> Result<Length, Error>
     ensures { GivesNow (λ l. l.value) result
         (size (tagged tag T.content) (T.value_written value.now)) }

@@ -3,15 +3,15 @@
 //! Each is the contract of a function that does nothing.
 
 ghost use Rattle.std.specs.Prelude.{◌≡◌, ◌/◌, ◌++◌, ℕ, List, [], true, false, Some, None, Ok, Err};
-ghost use Rattle.der_core_head.specs.declared.error.ErrorKind.{ErrorKind};
-ghost use Rattle.der_core_head.specs.declared.tag.Tag.{Tag};
-ghost use Rattle.der_core_head.specs.Tags.{IsTag, class_tag, same_tag, tag_at};
-ghost use Rattle.der_core_head.specs.Shapes.{Shape, Content, Value, ContentValue, optional, tagged};
-ghost use Rattle.der_core_head.specs.Shapes.{IsValid, octets_of};
-ghost use Rattle.der_core_head.specs.Spelling.{is_apart, is_content_apart, is_element, are_enough};
-ghost use Rattle.der_core_head.specs.Spelling.{are_content_enough};
-ghost use Rattle.der_core_head.specs.declared.encoding_rules.EncodingRules.TheVariants.{Der};
-ghost use Rattle.der_core_head.specs.Grammar.{read};
+ghost use Rattle.der_core.specs.ErrorTypes.ErrorKind.{ErrorKind};
+ghost use Rattle.der_core.specs.TagTypes.Tag.{Tag};
+ghost use Rattle.der_core.specs.Tags.{IsTag, class_tag, same_tag, tag_at};
+ghost use Rattle.der_core.specs.Shapes.{Shape, Content, Value, ContentValue, optional, tagged};
+ghost use Rattle.der_core.specs.Shapes.{IsValid, octets_of};
+ghost use Rattle.der_core.specs.Spelling.{is_apart, is_content_apart, is_element, are_enough};
+ghost use Rattle.der_core.specs.Spelling.{are_content_enough};
+ghost use Rattle.der_core.specs.EncodingRulesTypes.EncodingRules.TheVariants.{Der};
+ghost use Rattle.der_core.specs.Grammar.{read};
 ghost use Rattle.der_types_tagged.specs.Fields.{explicit_field, implicit_field, numbered_at};
 
 /// What a field of a class writes is read back with its number, whatever follows: by

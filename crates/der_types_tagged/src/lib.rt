@@ -14,3 +14,13 @@ pub use class_field::ClassField;
 pub use class_field_ref::ClassFieldRef;
 pub use context_specific::{ContextSpecific, ContextSpecificRef};
 pub use private::{Private, PrivateRef};
+
+/// The names of `der_core` that the crates above use.
+pub mod der {
+    pub use der_core::{Shaped, StrictSetOf};
+}
+
+/// The names of `const_oid` that the crates above use.
+pub mod oid {
+    pub use der_core::oid::ObjectIdentifier;
+}

@@ -7,17 +7,17 @@ use Rattle.std.proofs.lemmas.Bool.Decides.{same_from_decides, Decides-eqb, nat_t
 use Rattle.std.proofs.lemmas.Grind.{flat_map-append}
 use Rattle.std.proofs.lemmas.List.Folds.{list_all-append}
 use Rattle.std.proofs.lemmas.Slice.Eq.{slice_eq-Decides}
-use Rattle.der_core_head.specs.declared.error.ErrorKind.TheVariants as kinds
-use Rattle.der_core_head.specs.declared.tag.Tag.TheVariants as tags
-use Rattle.der_core_head.specs.BmpStrings.{is_unit, unit_octets, bmp_octets, are_pairs, units, IsBmp}
-use Rattle.der_core_head.proofs.Results.{IsBytes, octets_are, fine, ok_is, if_ok}
-use Rattle.der_core_head.proofs.TextLaws.{bmp_octets-units, units-octets, all_ascii}
+use Rattle.der_core.specs.ErrorTypes.ErrorKind.TheVariants as kinds
+use Rattle.der_core.specs.TagTypes.Tag.TheVariants as tags
+use Rattle.der_core.specs.BmpStrings.{is_unit, unit_octets, bmp_octets, are_pairs, units, IsBmp}
+use Rattle.der_core.proofs.Results.{IsBytes, octets_are, fine, ok_is, if_ok}
+use Rattle.der_core.proofs.TextLaws.{bmp_octets-units, units-octets, all_ascii}
 use Rattle.der_types_text.specs.BmpStrings.{are_bmp, bmp_from}
 use Rattle.std.proofs.Math.Utf8.{scalar, scalars}
 use Rattle.std.proofs.lemmas.Str.{chars-encodes, encodes-chars, IsUtf8-from_ascii}
-use Rattle.der_core_head.specs.Octets.{IsOctets}
-use Rattle.der_core_head.specs.declared.tag.Tag.{Tag}
-use Rattle.der_core_head.specs.Texts.{any_octet, is_within, text_read}
+use Rattle.der_core.specs.Octets.{IsOctets}
+use Rattle.der_core.specs.TagTypes.Tag.{Tag}
+use Rattle.der_core.specs.Texts.{any_octet, is_within, text_read}
 
 -- pairs are an even number of octets
 pub are_pairs-even : (w : List ℕ) → are_pairs w ≡ nat_eq (length w % 2) 0

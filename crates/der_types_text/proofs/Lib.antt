@@ -1,1 +1,3 @@
 pub mod BmpTexts
+mod Cited
+pub use Rattle.der_core.proofs as Der

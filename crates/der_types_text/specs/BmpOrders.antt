@@ -3,9 +3,9 @@ use Rattle.std.specs.Prelude.{◌≡◌, ℕ, ◌/◌, ◌%◌, List, [], ◌∷
 use Rattle.std.proofs.Common.{refl, sym, ◌∙◌, arith}
 use Rattle.std.specs.Cmp.Lexicographic.{slice_cmp}
 use Rattle.std.specs.Ordering.{nat_cmp, ordering_then}
-use Rattle.der_core_head.specs.BmpStrings.{bmp_octets}
-use Rattle.der_core_head.specs.Leaves.{bmp}
-use Rattle.der_core_head.specs.Shapes.{leaf, contents, IsContent}
+use Rattle.der_core.specs.BmpStrings.{bmp_octets}
+use Rattle.der_core.specs.Leaves.{bmp}
+use Rattle.der_core.specs.Shapes.{leaf, contents, IsContent}
 use Rattle.der_core.specs.Orders.{contents_cmp}
 use Rattle.der_core.specs.OrdLaws.{octets_order}
 use Rattle.der_core.proofs.OrderLaws.{split_cmp}

@@ -2,11 +2,11 @@
 use Rattle.std.specs.Prelude.{◌≡◌, ◌&&◌, ℕ, List, Bool, length, Result, Ok, Err, nat_lt}
 use Rattle.std.specs.Prelude.{if◌then◌else◌}
 use Rattle.std.specs.List.{list_all}
-use Rattle.der_core_head.specs.Limits.{length_max}
-use Rattle.der_core_head.specs.declared.error.ErrorKind.{ErrorKind}
-use Rattle.der_core_head.specs.declared.error.ErrorKind.TheVariants as kinds
-use Rattle.der_core_head.specs.declared.tag.Tag.TheVariants as tags
-use Rattle.der_core_head.specs.BmpStrings.{is_unit, IsBmp, bmp_octets, bmp_read, are_pairs, units}
+use Rattle.der_core.specs.Limits.{length_max}
+use Rattle.der_core.specs.ErrorTypes.ErrorKind.{ErrorKind}
+use Rattle.der_core.specs.ErrorTypes.ErrorKind.TheVariants as kinds
+use Rattle.der_core.specs.TagTypes.Tag.TheVariants as tags
+use Rattle.der_core.specs.BmpStrings.{is_unit, IsBmp, bmp_octets, bmp_read, are_pairs, units}
 use Rattle.der_types_text.specs.declared.bmp_string.BmpString.TheInside.{Inside}
 
 -- pairs of octets, each a character

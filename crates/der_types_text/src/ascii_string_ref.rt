@@ -2,10 +2,10 @@
 
 ghost use Rattle.std.specs.Prelude.{◌≡◌, ◌↔◌, length, IsTrue, IfOk, [], Some, ⊤, false};
 ghost use Rattle.std.specs.List.{list_all};
-ghost use Rattle.der_core_head.specs.Heads.{Fits};
-ghost use Rattle.der_core_head.specs.Leaves.{text};
-ghost use Rattle.der_core_head.specs.Reading.{GivesNow};
-ghost use Rattle.der_core_head.specs.Texts.{is_within, text_read, IsText};
+ghost use Rattle.der_core.specs.Heads.{Fits};
+ghost use Rattle.der_core.specs.Leaves.{text};
+ghost use Rattle.der_core.specs.Reading.{GivesNow};
+ghost use Rattle.der_core.specs.Texts.{is_within, text_read, IsText};
 ghost use Rattle.der_core.specs.OrdLaws.{octets_order};
 ghost use Rattle.der_types_text.specs.Texts.{AreWithin, text_from};
 
@@ -57,7 +57,7 @@ impl<'a, T: AsciiType> AsciiStringRef<'a, T> {
     ///
     /// # Errors
     /// `Value` with the tag where an octet is no character of the type.
-    #[tactic(auto, unfolding(der_core_head::specs::Texts::text_read))]
+    #[tactic(auto, unfolding(crate::specs::Opened::text_read))]
     pub(crate) fn spelled_by(tag: Tag, octets: &'a [u8]) -> Result<AsciiStringRef<'a, T>, Error>
         requires { Fits octets.now }
         ensures ok { IfOk result (λ t. t.text.now ≡ octets.now) }

@@ -1,8 +1,8 @@
 //! Character string types whose characters are ASCII.
 
 ghost use Rattle.std.specs.Prelude.{◌≡◌, ◌<◌, ℕ, true};
-ghost use Rattle.der_core_head.specs.declared.tag.Tag.{Tag};
-ghost use Rattle.der_core_head.specs.Texts.{Repertoire, is_within};
+ghost use Rattle.der_core.specs.TagTypes.Tag.{Tag};
+ghost use Rattle.der_core.specs.Texts.{Repertoire, is_within};
 
 use der_core::Tag;
 

@@ -2,7 +2,7 @@
 
 ghost use Rattle.std.specs.Prelude.{◌≡◌, ◌<◌, true, MatchOption};
 ghost use Rattle.std.specs.Iterator.{YieldsFirst, item_count};
-ghost use Rattle.der_core_head.specs.BmpStrings.{IsBmp, is_unit, units};
+ghost use Rattle.der_core.specs.BmpStrings.{IsBmp, is_unit, units};
 
 use std::marker::Model;
 

@@ -9,11 +9,11 @@ ghost use Rattle.std.specs.Cmp.Lexicographic.{nat_list_eq_equiv, nat_list_cmp_to
 ghost use Rattle.std.specs.Hash as fed;
 ghost use Rattle.std.specs.Ordering.{nat_cmp};
 ghost use Rattle.std.specs.List.{list_all};
-ghost use Rattle.der_core_head.specs.BmpStrings.{IsBmp, is_unit, unit_octets, bmp_octets, bmp_read};
-ghost use Rattle.der_core_head.specs.BmpStrings.{units};
-ghost use Rattle.der_core_head.specs.declared.tag.Tag.TheVariants.{BmpString as BmpStringTag};
-ghost use Rattle.der_core_head.specs.Leaves.{bmp};
-ghost use Rattle.der_core_head.specs.Reading.{Gives, GivesNow};
+ghost use Rattle.der_core.specs.BmpStrings.{IsBmp, is_unit, unit_octets, bmp_octets, bmp_read};
+ghost use Rattle.der_core.specs.BmpStrings.{units};
+ghost use Rattle.der_core.specs.TagTypes.Tag.TheVariants.{BmpString as BmpStringTag};
+ghost use Rattle.der_core.specs.Leaves.{bmp};
+ghost use Rattle.der_core.specs.Reading.{Gives, GivesNow};
 ghost use Rattle.der_types_text.specs.BmpStrings.{are_bmp, bmp_from, ucs2_from};
 ghost use Rattle.der_types_text.specs.BmpOrders.{bmp_order};
 
@@ -112,7 +112,7 @@ impl BmpString {
     /// # Errors
     /// `Overflow` for 2^32 octets or more, `Value` for an odd number of octets, and where a pair is
     /// a half of a surrogate pair.
-    #[tactic(auto, unfolding(der_core_head::specs::BmpStrings::bmp_read))]
+    #[tactic(auto, unfolding(crate::specs::Opened::bmp_read))]
     pub fn from_ucs2(bytes: Vec<u8>) -> Result<BmpString, Error>
         ensures { GivesNow (λ s. s) result (ucs2_from bytes.items) }
     {
@@ -217,7 +217,7 @@ impl Primitive for BmpString {
 
 /// The characters, two octets each.
 impl<'a> Leaf<'a> for BmpString {
-    #[tactic(auto, unfolding(der_core_head::specs::BmpStrings::bmp_read))]
+    #[tactic(auto, unfolding(crate::specs::Opened::bmp_read))]
     fn from_content(alloc: Global, tag: Tag, octets: &'a [u8]) -> Result<BmpString, Error> {
         if !are_characters(octets) {
             return Err(Error::from(ErrorKind::Value { tag }));

@@ -1,13 +1,13 @@
 //! GeneralString.
 
 ghost use Rattle.std.specs.Prelude.{◌≡◌, ◌↔◌, length, IsTrue, IfOk, [], false};
-ghost use Rattle.der_core_head.specs.declared.tag.Tag.TheVariants.{GeneralString};
-ghost use Rattle.der_core_head.specs.Heads.{Fits};
-ghost use Rattle.der_core_head.specs.Leaves.{text};
-ghost use Rattle.der_core_head.specs.Reading.{GivesNow};
-ghost use Rattle.der_core_head.specs.Texts.{any_octet};
+ghost use Rattle.der_core.specs.TagTypes.Tag.TheVariants.{GeneralString};
+ghost use Rattle.der_core.specs.Heads.{Fits};
+ghost use Rattle.der_core.specs.Leaves.{text};
+ghost use Rattle.der_core.specs.Reading.{GivesNow};
+ghost use Rattle.der_core.specs.Texts.{any_octet};
 ghost use Rattle.der_core.specs.OrdLaws.{octets_order};
-ghost use Rattle.der_core_head.specs.Lengths.{counted};
+ghost use Rattle.der_core.specs.Lengths.{counted};
 
 use der_core::describing::{AsOctets, Described, Octets, Ordered, Primitive};
 use der_core::making::{octets_in_range, slice_len};

@@ -5,11 +5,11 @@
 //! and `is_empty` answer is said at each in the same words.
 
 ghost use Rattle.std.specs.Prelude.{◌≡◌, string_bytes, ℕ, List, Ok, encode_utf8_all, chars, IsUtf8};
-ghost use Rattle.der_core_head.specs.Shapes.{contents, octets_of};
+ghost use Rattle.der_core.specs.Shapes.{contents, octets_of};
 ghost use Rattle.der_core.specs.Orders.{contents_cmp, encodings_cmp, octets_cmp};
 ghost use Rattle.std.specs.Cmp.Lexicographic.{slice_cmp};
 ghost use Rattle.std.specs.Ordering.{nat_cmp};
-ghost use Rattle.der_core_head.specs.BmpStrings.{IsBmp, bmp_octets};
+ghost use Rattle.der_core.specs.BmpStrings.{IsBmp, bmp_octets};
 ghost use Rattle.der_types_text.specs.BmpStrings.{bmp_from};
 
 use crate::ascii_string::AsciiString;

@@ -25,3 +25,17 @@ pub use printable_string::{Printable, PrintableString, PrintableStringRef};
 pub use teletex_string::{Teletex, TeletexString, TeletexStringRef};
 pub use utf8_string::Utf8StringRef;
 pub use videotex_string::{Videotex, VideotexStringRef};
+
+/// The names of `der_core` that the crates above use.
+pub mod der {
+    pub use der_core::{
+        AsRead, Choice, Decode, DecodeValue, DerOrd, Element, Encode, EncodeValue, EncodingRules,
+        Error, ErrorKind, FirstTag, FixedTag, Header, InRange, Integer, Length, Member, Reader,
+        Shaped, SliceReader, Tag, Writer, making,
+    };
+}
+
+/// The names of `const_oid` that the crates above use.
+pub mod oid {
+    pub use der_core::oid::ObjectIdentifier;
+}

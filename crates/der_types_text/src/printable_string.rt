@@ -1,8 +1,8 @@
 //! PrintableString.
 
-ghost use Rattle.der_core_head.specs.declared.tag.Tag.TheVariants.{PrintableString as PrintableStringTag};
-ghost use Rattle.der_core_head.specs.Texts.{printable};
-ghost use Rattle.der_core_head.proofs.TextLaws.{printable_below};
+ghost use Rattle.der_core.specs.TagTypes.Tag.TheVariants.{PrintableString as PrintableStringTag};
+ghost use Rattle.der_core.specs.Texts.{printable};
+ghost use Rattle.der_core.proofs.TextLaws.{printable_below};
 
 use crate::ascii_string::AsciiString;
 use crate::ascii_string_ref::AsciiStringRef;

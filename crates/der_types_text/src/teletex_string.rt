@@ -1,7 +1,7 @@
 //! TeletexString.
 
-ghost use Rattle.der_core_head.specs.declared.tag.Tag.TheVariants.{TeletexString as TeletexStringTag};
-ghost use Rattle.der_core_head.specs.Texts.{ascii};
+ghost use Rattle.der_core.specs.TagTypes.Tag.TheVariants.{TeletexString as TeletexStringTag};
+ghost use Rattle.der_core.specs.Texts.{ascii};
 ghost use Rattle.der_types_text.specs.Texts.{ascii_below};
 
 use crate::ascii_string::AsciiString;

@@ -1,13 +1,13 @@
 //! UTF8String.
 
 ghost use Rattle.std.specs.Prelude.{◌≡◌, ◌↔◌, length, IsTrue, IfOk, [], Some, string_bytes, false};
-ghost use Rattle.der_core_head.specs.declared.tag.Tag.TheVariants.{Utf8String};
-ghost use Rattle.der_core_head.specs.Heads.{Fits};
-ghost use Rattle.der_core_head.specs.Leaves.{utf8};
-ghost use Rattle.der_core_head.specs.Reading.{GivesNow};
-ghost use Rattle.der_core_head.specs.Texts.{utf8_read};
+ghost use Rattle.der_core.specs.TagTypes.Tag.TheVariants.{Utf8String};
+ghost use Rattle.der_core.specs.Heads.{Fits};
+ghost use Rattle.der_core.specs.Leaves.{utf8};
+ghost use Rattle.der_core.specs.Reading.{GivesNow};
+ghost use Rattle.der_core.specs.Texts.{utf8_read};
 ghost use Rattle.der_core.specs.OrdLaws.{octets_order};
-ghost use Rattle.der_core_head.specs.Lengths.{counted};
+ghost use Rattle.der_core.specs.Lengths.{counted};
 ghost use Rattle.der_types_text.specs.Texts.{utf8_from};
 
 use der_core::describing::{AsOctets, Described, Octets, Ordered, Primitive};
@@ -32,7 +32,7 @@ pub struct Utf8StringRef<'a> {
 ///
 /// # Errors
 /// `Utf8` where they are none.
-#[tactic(auto, using(der_core_head::proofs::TextLaws::utf8_reads))]
+#[tactic(auto, using(crate::proofs::Cited::utf8_reads))]
 fn utf8_of(octets: &[u8]) -> Result<&str, Error>
     ensures same { IfOk result (λ s. s.now ≡ octets.now) }
     ensures exact { GivesNow (λ s. s.now) result (utf8_read octets.now) }

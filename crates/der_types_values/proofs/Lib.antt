@@ -1,1 +1,2 @@
 pub mod NamedSteps
+mod Cited

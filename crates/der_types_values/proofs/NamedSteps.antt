@@ -1,7 +1,7 @@
 -- Sets of named bits, octet by octet.
 use Rattle.std.proofs.Common.{◌≡◌, ℕ, ◌*◌, ◌%◌, ◌≤◌, true, List, [], ◌∷◌, length, arith, suc, ◌-◌, get_or, refl, sym, ◌∙◌, ap, Bool, map, zero, ◌+◌, ◌/◌, ◌<◌, ◌^◌, false, ◌++◌, take, drop, inl, inr, Ok, Err, nat_lt, ◌==◌, ◌&&◌, not, slice_set, append-nil, pow_mono, drop-cons}
 use Rattle.std.proofs.lemmas.Bool.{and_parts, ltb-true, eqb-true, eq-eqb, cases_eq}
-use Rattle.der_core_head.specs.BitStrings.{are_bits, last_octet}
+use Rattle.der_core.specs.BitStrings.{are_bits, last_octet}
 use Rattle.std.specs.List.{range_with_len}
 use Rattle.std.proofs.lemmas.List.{length-map, take_more_set, take_all, append_assoc}
 use Rattle.std.proofs.lemmas.List.FromFn.{length-range_with_len}
@@ -9,11 +9,11 @@ use Rattle.std.specs.Int.{w8, reverse_bits, trailing_zeros}
 use Rattle.std.proofs.lemmas.Nat.{div_below}
 use Rattle.std.proofs.Math.Nat.{pow-suc, pow-le-pow_right}
 use Rattle.std.proofs.lemmas.Grind.{pow_more}
-use Rattle.der_core_head.specs.declared.error.ErrorKind.TheVariants as kinds
-use Rattle.der_core_head.specs.declared.tag.Tag.{Tag}
-use Rattle.der_core_head.specs.NamedBits.{set_octets, spelled_set, unused_bits, named_octets, ends_in_one, named_read}
-use Rattle.der_core_head.proofs.Results.{IsBytes}
-use Rattle.der_core_head.proofs.IntegerLaws.{set_octets-zero, set_octets-step, named_sound}
+use Rattle.der_core.specs.ErrorTypes.ErrorKind.TheVariants as kinds
+use Rattle.der_core.specs.TagTypes.Tag.{Tag}
+use Rattle.der_core.specs.NamedBits.{set_octets, spelled_set, unused_bits, named_octets, ends_in_one, named_read}
+use Rattle.der_core.proofs.Results.{IsBytes}
+use Rattle.der_core.proofs.IntegerLaws.{set_octets-zero, set_octets-step, named_sound}
 
 -- Bit strings whose bits all count, and how many bits of others don't.
 

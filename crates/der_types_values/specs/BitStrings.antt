@@ -2,7 +2,7 @@
 -- themselves.
 use Rattle.std.specs.Prelude.{◌≡◌, Bool, true, List, map}
 use Rattle.std.specs.List.{range_with_len}
-use Rattle.der_core_head.specs.BitStrings.{Bits, are_bits}
+use Rattle.der_core.specs.BitStrings.{Bits, are_bits}
 use Rattle.der_types_values.specs.declared.bit_string.BitString.TheInside.{Inside}
 use Rattle.der_types_values.specs.declared.bit_string_ref.BitStringRef.{BitStringRef}
 use Rattle.der_types_values.specs.Bits.{bit_at}

@@ -1,7 +1,7 @@
 -- The bits of octets (X.690 8.6.2): the first is the most significant one of the first octet.
 use Rattle.std.specs.Prelude.{ℕ, ◌*◌, ◌-◌, ◌/◌, ◌%◌, ◌^◌, Bool, List, length, map, ◌==◌, get_or}
 use Rattle.std.specs.List.{range_with_len}
-use Rattle.der_core_head.specs.BitStrings.{Bits}
+use Rattle.der_core.specs.BitStrings.{Bits}
 
 -- the bit at a place, counted from 0
 abbrev pub bit_at : List ℕ → ℕ → Bool

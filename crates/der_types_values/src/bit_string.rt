@@ -2,10 +2,10 @@
 
 ghost use Rattle.std.specs.Prelude.{◌≡◌, ◌≢◌, ◌<◌, ◌≤◌, ◌↔◌, [], vec_len, true, false, Some, None};
 ghost use Rattle.std.specs.Prelude.{IsTrue, IsOk, IfOk, IfErr, IfSome, IfNone};
-ghost use Rattle.der_core_head.specs.Limits.{IsLength, length_max};
-ghost use Rattle.der_core_head.specs.BitStrings.{are_bits};
-ghost use Rattle.der_core_head.specs.declared.tag.Tag.TheVariants.{BitString as BitStringTag};
-ghost use Rattle.der_core_head.specs.Leaves.{bits};
+ghost use Rattle.der_core.specs.Limits.{IsLength, length_max};
+ghost use Rattle.der_core.specs.BitStrings.{are_bits};
+ghost use Rattle.der_core.specs.TagTypes.Tag.TheVariants.{BitString as BitStringTag};
+ghost use Rattle.der_core.specs.Leaves.{bits};
 ghost use Rattle.der_types_values.specs.Bits.{bit_at, bit_count, bit_list};
 ghost use Rattle.der_types_values.specs.BitStrings.{bits_lent, bits_left};
 
@@ -28,7 +28,7 @@ pub struct BitString {
 }
 
 impl Model for BitString {
-    ghost use Rattle.der_core_head.specs.BitStrings.{Bits};
+    ghost use Rattle.der_core.specs.BitStrings.{Bits};
 
     ghost Value = { Bits };
 

@@ -1,7 +1,7 @@
 //! The bits of a bit string, one after another.
 
 ghost use Rattle.std.specs.Prelude.{◌≡◌, ◌<◌, ◌≤◌, ◌+◌, ◌*◌, ◌^◌, length};
-ghost use Rattle.der_core_head.specs.Heads.{Fits};
+ghost use Rattle.der_core.specs.Heads.{Fits};
 
 use crate::bits::bit_of;
 use std::iter::FusedIterator;

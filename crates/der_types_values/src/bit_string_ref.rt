@@ -2,12 +2,12 @@
 
 ghost use Rattle.std.specs.Prelude.{◌≡◌, ◌≢◌, ◌<◌, ◌≤◌, ◌↔◌, [], length, true, false, Some};
 ghost use Rattle.std.specs.Prelude.{None, IsTrue, IsOk, IfOk, IfErr, IfSome, IfNone, MatchResult};
-ghost use Rattle.der_core_head.specs.Limits.{length_max};
-ghost use Rattle.der_core_head.specs.Heads.{Fits};
-ghost use Rattle.der_core_head.specs.declared.tag.Tag.TheVariants.{BitString as BitStringTag};
-ghost use Rattle.der_core_head.specs.BitStrings.{Bits, are_bits};
-ghost use Rattle.der_core_head.specs.Leaves.{bits, leaf_read};
-ghost use Rattle.der_core_head.specs.Reading.{GivesNow};
+ghost use Rattle.der_core.specs.Limits.{length_max};
+ghost use Rattle.der_core.specs.Heads.{Fits};
+ghost use Rattle.der_core.specs.TagTypes.Tag.TheVariants.{BitString as BitStringTag};
+ghost use Rattle.der_core.specs.BitStrings.{Bits, are_bits};
+ghost use Rattle.der_core.specs.Leaves.{bits, leaf_read};
+ghost use Rattle.der_core.specs.Reading.{GivesNow};
 ghost use Rattle.der_types_values.specs.Bits.{bit_at, bit_count, bit_list};
 
 use crate::bit_string::BitString;
@@ -164,7 +164,7 @@ impl<'a> BitStringRef<'a> {
     ///
     /// # Errors
     /// `Length` for no octets, `Value` where bits can't be unused.
-    #[tactic(auto, unfolding(der_core_head::specs::BitStrings::bits_read))]
+    #[tactic(auto, unfolding(crate::specs::Opened::bits_read))]
     pub fn of_content(tag: Tag, octets: &'a [u8]) -> Result<BitStringRef<'a>, Error>
         requires { Fits octets.now }
         ensures { GivesNow bits_lent result (leaf_read bits tag octets.now) }
@@ -192,8 +192,8 @@ impl<'a> BitStringRef<'a> {
 /// All bits of a slice of fewer than 2^32 octets.
 impl<'a> TryFrom<&'a [u8]> for BitStringRef<'a> {
     ghost use Rattle.std.specs.Prelude.{◌≡◌, ◌<◌, length, MatchResult};
-    ghost use Rattle.der_core_head.specs.Limits.{length_max};
-    ghost use Rattle.der_core_head.specs.declared.error.ErrorKind.TheVariants as kinds;
+    ghost use Rattle.der_core.specs.Limits.{length_max};
+    ghost use Rattle.der_core.specs.ErrorTypes.ErrorKind.TheVariants as kinds;
     ghost use Rattle.der_types_values.specs.BitStrings.{bits_lent};
 
     type Error = Error;
@@ -243,7 +243,7 @@ impl<'a> EncodeLeaf for BitStringRef<'a> {
         len_behind(self.byte_len())
     }
 
-    #[tactic(auto, unfolding(der_core_head::specs::Shapes::contents))]
+    #[tactic(auto, unfolding(crate::specs::Opened::contents))]
     fn encode_leaf<W: Writer>(&self, writer: &mut W) -> Result<(), Error> {
         encode_behind(writer, self.unused_bits, self.bytes)
     }

@@ -1,9 +1,9 @@
 //! Octets as bits, the most significant one of each first (X.690 8.6.2).
 
 ghost use Rattle.std.specs.Prelude.{◌≡◌, ◌<◌, ◌*◌, ◌↔◌, length, true, false, IsOk, IfErr};
-ghost use Rattle.der_core_head.specs.Limits.{length_max};
-ghost use Rattle.der_core_head.specs.Heads.{Fits};
-ghost use Rattle.der_core_head.specs.BitStrings.{are_bits, last_octet};
+ghost use Rattle.der_core.specs.Limits.{length_max};
+ghost use Rattle.der_core.specs.Heads.{Fits};
+ghost use Rattle.der_core.specs.BitStrings.{are_bits, last_octet};
 ghost use Rattle.der_types_values.specs.Bits.{bit_at};
 
 use crate::bit_string_ref::BitStringRef;

@@ -4,10 +4,10 @@ ghost use Rattle.std.specs.Prelude.{⊤, nat_eq, ◌≡◌, ◌==◌, ◌<◌, �
 ghost use Rattle.std.specs.Prelude.{IfOk, false, bit_and, bit_or};
 ghost use Rattle.std.specs.Cmp.{on_per, on_equiv, nat_eq_equiv, partial_equiv_from_equiv};
 ghost use Rattle.bitflags.specs.Sets.{known_bits};
-ghost use Rattle.der_core_head.specs.declared.tag.Tag.TheVariants.{BitString};
-ghost use Rattle.der_core_head.specs.Leaves.{named};
-ghost use Rattle.der_core_head.specs.NamedBits.{ends_in_one, spelled_set, named_octets, named_read};
-ghost use Rattle.der_core_head.specs.Reading.{GivesNow};
+ghost use Rattle.der_core.specs.TagTypes.Tag.TheVariants.{BitString};
+ghost use Rattle.der_core.specs.Leaves.{named};
+ghost use Rattle.der_core.specs.NamedBits.{ends_in_one, spelled_set, named_octets, named_read};
+ghost use Rattle.der_core.specs.Reading.{GivesNow};
 
 use bitflags::Flags;
 use der_core::describing::{AsLeaf, Described, EncodeLeaf, Primitive};
@@ -103,7 +103,7 @@ fn number_of(octets: &[u8]) -> u64
 ///
 /// # Errors
 /// `Length` for no octets, `Value` where the last bit isn't one or a bit has no name.
-#[tactic(auto, unfolding(der_core_head::specs::NamedBits::named_read))]
+#[tactic(auto, unfolding(crate::specs::Opened::named_read))]
 fn read_named(tag: Tag, octets: &[u8], names: u32) -> Result<u64, Error>
     requires { names ≤ 64 }
     ensures exact { GivesNow (λ n. n) result (named_read names tag octets.now) }
@@ -220,7 +220,7 @@ impl<F: NamedBits> EncodeLeaf for FlagSet<F> {
         Ok(Length { value: len as u32 })
     }
 
-    #[tactic(auto, using(der_core_octets::proofs::Added::write_adds), unfolding(der_core_head::specs::Shapes::contents))]
+    #[tactic(auto, using(crate::proofs::Cited::write_adds), unfolding(crate::specs::Opened::contents))]
     fn encode_leaf<W: Writer>(&self, writer: &mut W) -> Result<(), Error> {
         let (octets, len) = named_octets_of(self.flags.to_number());
         writer.write(&octets[..len])

@@ -3,7 +3,7 @@
 //! What the calls that both have answer is said at each in the same words.
 
 ghost use Rattle.std.specs.Prelude.{◌≡◌};
-ghost use Rattle.der_core_head.specs.Shapes.{contents};
+ghost use Rattle.der_core.specs.Shapes.{contents};
 ghost use Rattle.der_types_values.specs.BitStrings.{bits_lent};
 ghost use Rattle.der_types_values.specs.OctetStrings.{octets_lent};
 

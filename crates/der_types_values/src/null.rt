@@ -1,8 +1,8 @@
 //! NULL.
 
 ghost use Rattle.std.specs.Prelude.{◌≡◌, false};
-ghost use Rattle.der_core_head.specs.declared.tag.Tag.TheVariants.{Null as NullTag};
-ghost use Rattle.der_core_head.specs.Leaves.{null};
+ghost use Rattle.der_core.specs.TagTypes.Tag.TheVariants.{Null as NullTag};
+ghost use Rattle.der_core.specs.Leaves.{null};
 
 use der_core::describing::{AsLeaf, Described, EncodeLeaf, Primitive};
 use der_core::{EncodeValue, Error, FixedTag, Leaf, Length, Tag, Writer};

@@ -1,9 +1,9 @@
 //! OCTET STRING.
 
 ghost use Rattle.std.specs.Prelude.{◌≡◌, ◌<◌, ◌↔◌, [], length, vec_len, IsTrue, IfOk, IfErr};
-ghost use Rattle.der_core_head.specs.Limits.{IsLength, length_max};
-ghost use Rattle.der_core_head.specs.declared.tag.Tag.TheVariants.{OctetString as OctetStringTag};
-ghost use Rattle.der_core_head.specs.Leaves.{octets};
+ghost use Rattle.der_core.specs.Limits.{IsLength, length_max};
+ghost use Rattle.der_core.specs.TagTypes.Tag.TheVariants.{OctetString as OctetStringTag};
+ghost use Rattle.der_core.specs.Leaves.{octets};
 ghost use Rattle.der_types_values.specs.OctetStrings.{octets_lent};
 
 use crate::octet_string_ref::OctetStringRef;

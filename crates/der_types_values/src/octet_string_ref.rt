@@ -2,14 +2,14 @@
 
 ghost use Rattle.std.specs.Prelude.{◌≡◌, ◌<◌, ◌↔◌, [], length, true, Ok, IsTrue, IfOk, false};
 ghost use Rattle.std.specs.Prelude.{IfErr, MatchResult};
-ghost use Rattle.der_core_head.specs.Limits.{length_max, levels_max};
-ghost use Rattle.der_core_head.specs.Heads.{Fits};
-ghost use Rattle.der_core_head.specs.declared.tag.Tag.TheVariants.{OctetString as OctetStringTag};
-ghost use Rattle.der_core_head.specs.Leaves.{octets};
-ghost use Rattle.der_core_head.specs.Shapes.{Value, Spells};
-ghost use Rattle.der_core_head.specs.Spelling.{is_apart, are_enough};
-ghost use Rattle.der_core_head.specs.Grammar.{read_whole};
-ghost use Rattle.der_core_head.specs.Reading.{Gives};
+ghost use Rattle.der_core.specs.Limits.{length_max, levels_max};
+ghost use Rattle.der_core.specs.Heads.{Fits};
+ghost use Rattle.der_core.specs.TagTypes.Tag.TheVariants.{OctetString as OctetStringTag};
+ghost use Rattle.der_core.specs.Leaves.{octets};
+ghost use Rattle.der_core.specs.Shapes.{Value, Spells};
+ghost use Rattle.der_core.specs.Spelling.{is_apart, are_enough};
+ghost use Rattle.der_core.specs.Grammar.{read_whole};
+ghost use Rattle.der_core.specs.Reading.{Gives};
 
 use crate::octet_string::OctetString;
 use der_core::describing::{AsOctets, Described, Octets, Ordered, Primitive};
@@ -118,8 +118,8 @@ impl<'a> AsSlice<u8> for OctetStringRef<'a> {
 /// The octets of a slice, fewer than 2^32.
 impl<'a> TryFrom<&'a [u8]> for OctetStringRef<'a> {
     ghost use Rattle.std.specs.Prelude.{◌≡◌, ◌<◌, length, MatchResult};
-    ghost use Rattle.der_core_head.specs.Limits.{length_max};
-    ghost use Rattle.der_core_head.specs.declared.error.ErrorKind.TheVariants as kinds;
+    ghost use Rattle.der_core.specs.Limits.{length_max};
+    ghost use Rattle.der_core.specs.ErrorTypes.ErrorKind.TheVariants as kinds;
     ghost use Rattle.der_types_values.specs.OctetStrings.{octets_lent};
 
     type Error = Error;

@@ -1,6 +1,6 @@
 //! Comparison of contents.
 
-ghost use Rattle.der_core_head.specs.Leaves.{octets};
+ghost use Rattle.der_core.specs.Leaves.{octets};
 ghost use Rattle.der_core.specs.OrdLaws.{octets_order, null_order};
 ghost use Rattle.der_types_values.specs.OctetStrings.{octets_lent};
 ghost use Rattle.der_types_values.specs.Sequences.{fields_lent};

@@ -1,10 +1,10 @@
 //! SEQUENCE, as it stands, borrowed.
 
 ghost use Rattle.std.specs.Prelude.{◌≡◌, ◌<◌, length, IfOk, IfErr, false};
-ghost use Rattle.der_core_head.specs.Limits.{length_max};
-ghost use Rattle.der_core_head.specs.Heads.{Fits};
-ghost use Rattle.der_core_head.specs.declared.tag.Tag.TheVariants.{Sequence as SequenceTag};
-ghost use Rattle.der_core_head.specs.Leaves.{octets};
+ghost use Rattle.der_core.specs.Limits.{length_max};
+ghost use Rattle.der_core.specs.Heads.{Fits};
+ghost use Rattle.der_core.specs.TagTypes.Tag.TheVariants.{Sequence as SequenceTag};
+ghost use Rattle.der_core.specs.Leaves.{octets};
 
 use der_core::describing::{AsOctets, Described, Octets, Ordered, Primitive};
 use der_core::making::octets_in_range;

@@ -1,1 +1,2 @@
 mod ValueEquality
+mod RequestParts

@@ -2,14 +2,14 @@
 use denote.RattleType.{RattleType}
 use Rattle.std.proofs.Common.{◌≡◌, ℕ, Bool, Option, pos, refl, ap, arith, nat_eq}
 use Rattle.std.specs.Cmp.Lexicographic.{pointwise, bytes_decides}
-use Rattle.const_oid.specs.Bound.{Bound}
-use Rattle.const_oid.specs.Digits.{digits}
-use Rattle.const_oid.proofs.DigitLaws.{same_from_digits}
-use Rattle.der_core.proofs.ValueEquality.{Alike, all_alike, alone, behind, each, exact, first, last, leaves, list, next, option, second, set}
-use Rattle.der_core_head.specs.Integers.{Numbers, among}
-use Rattle.der_core_head.specs.Leaves.{integer}
-use Rattle.der_core_head.specs.Shapes.{Shape, Value, leaf, sequence, tagged}
-use Rattle.der_core_head.specs.declared.tag.Tag.{Tag}
+use Rattle.x509_cert_anchors.specs.Oid.Bound.{Bound}
+use Rattle.x509_cert_anchors.specs.Oid.Digits.{digits}
+use Rattle.x509_cert_anchors.proofs.Oid.DigitLaws.{same_from_digits}
+use Rattle.x509_cert_anchors.proofs.Der.ValueEquality.{Alike, all_alike, alone, behind, each, exact, first, last, leaves, list, next, option, second, set}
+use Rattle.x509_cert_anchors.specs.Der.Integers.{Numbers, among}
+use Rattle.x509_cert_anchors.specs.Der.Leaves.{integer}
+use Rattle.x509_cert_anchors.specs.Der.Shapes.{Shape, Value, leaf, sequence, tagged}
+use Rattle.x509_cert_anchors.specs.Der.TagTypes.Tag.{Tag}
 use Rattle.x509_cert.specs.Equality.{TellsValues}
 use Rattle.x509_cert_anchors.specs.Anchors.{anchor_version, trust_anchor_choice, trust_anchor_info_fields}
 use Rattle.x509_cert_anchors.specs.AnchorViews.{anchor_number, trust_anchor_info_plain, trust_anchor_plain}
@@ -21,31 +21,31 @@ use Rattle.x509_cert_anchors.specs.declared.anchor.Version.TheVariants.{V1}
 use Rattle.x509_cert_anchors.specs.declared.trust_anchor_choice.TrustAnchorChoice.{TrustAnchorChoice}
 use Rattle.x509_cert_anchors.specs.declared.trust_anchor_choice.TrustAnchorChoice.TheVariants as anchors
 use Rattle.x509_cert_anchors.specs.declared.trust_anchor_info.TrustAnchorInfo.{TrustAnchorInfo}
-use Rattle.x509_cert_certificates.specs.Certificates.{certificate, tbs_certificate}
-use Rattle.x509_cert_certificates.specs.Views.{certificate_plain, tbs_plain}
-use Rattle.x509_cert_certificates.specs.contracts.certificate.CertificateInnerPartialEq.TheImpl.{eq-value as same_certificate}
-use Rattle.x509_cert_certificates.specs.contracts.tbs_certificate.TbsCertificateInnerPartialEq.TheImpl.{eq-value as same_tbs}
-use Rattle.x509_cert_certificates.specs.declared.certificate.CertificateInner.{CertificateInner}
-use Rattle.x509_cert_certificates.specs.declared.tbs_certificate.TbsCertificateInner.{TbsCertificateInner}
-use Rattle.x509_cert_extensions.specs.contracts.crl_reason.CrlReasonPartialEq.TheImpl.{eq-value as same_reason}
-use Rattle.x509_cert_extensions.specs.declared.crl_reason.CrlReason.{CrlReason}
-use Rattle.x509_cert_extensions.specs.declared.crl_reason.CrlReason.TheVariants as reasons
-use Rattle.x509_cert_extensions.specs.Reasons.{reason_number, reason_numbers}
-use Rattle.x509_cert_general_names.specs.GeneralNames.{distribution_point_name, general_name}
-use Rattle.x509_cert_general_names.specs.GeneralNameViews.{distribution_point_name_plain, general_name_plain}
-use Rattle.x509_cert_general_names.specs.contracts.distribution_point_name.DistributionPointNamePartialEq.TheImpl.{eq-value as same_point}
-use Rattle.x509_cert_general_names.specs.contracts.general_name.GeneralNamePartialEq.TheImpl.{eq-value as same_name}
-use Rattle.x509_cert_general_names.specs.declared.distribution_point_name.DistributionPointName.{DistributionPointName}
-use Rattle.x509_cert_general_names.specs.declared.distribution_point_name.DistributionPointName.TheVariants as points
-use Rattle.x509_cert_general_names.specs.declared.general_name.GeneralName.{GeneralName}
-use Rattle.x509_cert_general_names.specs.declared.general_name.GeneralName.TheVariants as cases
-use Rattle.x509_cert_names.proofs.SameOctets.{directories, names, pairs}
-use Rattle.der_types_any.proofs.AnyLaws.{values}
-use Rattle.x509_cert_policies.specs.Policies.{display_text}
-use Rattle.x509_cert_policies.specs.PolicyViews.{display_plain}
-use Rattle.x509_cert_policies.specs.contracts.display_text.DisplayTextPartialEq.TheImpl.{eq-value as same_text}
-use Rattle.x509_cert_policies.specs.declared.display_text.DisplayText.{DisplayText}
-use Rattle.x509_cert_policies.specs.declared.display_text.DisplayText.TheVariants as texts
+use Rattle.x509_cert_builders.specs.CertCertificates.Certificates.{certificate, tbs_certificate}
+use Rattle.x509_cert_builders.specs.CertCertificates.Views.{certificate_plain, tbs_plain}
+use Rattle.x509_cert_builders.specs.CertCertificates.contracts.certificate.CertificateInnerPartialEq.TheImpl.{eq-value as same_certificate}
+use Rattle.x509_cert_builders.specs.CertCertificates.contracts.tbs_certificate.TbsCertificateInnerPartialEq.TheImpl.{eq-value as same_tbs}
+use Rattle.x509_cert_builders.specs.CertCertificates.declared.certificate.CertificateInner.{CertificateInner}
+use Rattle.x509_cert_builders.specs.CertCertificates.declared.tbs_certificate.TbsCertificateInner.{TbsCertificateInner}
+use Rattle.x509_cert_builders.specs.CertExtensions.contracts.crl_reason.CrlReasonPartialEq.TheImpl.{eq-value as same_reason}
+use Rattle.x509_cert_builders.specs.CertExtensions.declared.crl_reason.CrlReason.{CrlReason}
+use Rattle.x509_cert_builders.specs.CertExtensions.declared.crl_reason.CrlReason.TheVariants as reasons
+use Rattle.x509_cert_builders.specs.CertExtensions.Reasons.{reason_number, reason_numbers}
+use Rattle.x509_cert_anchors.specs.CertGeneralNames.GeneralNames.{distribution_point_name, general_name}
+use Rattle.x509_cert_anchors.specs.CertGeneralNames.GeneralNameViews.{distribution_point_name_plain, general_name_plain}
+use Rattle.x509_cert_anchors.specs.CertGeneralNames.contracts.distribution_point_name.DistributionPointNamePartialEq.TheImpl.{eq-value as same_point}
+use Rattle.x509_cert_anchors.specs.CertGeneralNames.contracts.general_name.GeneralNamePartialEq.TheImpl.{eq-value as same_name}
+use Rattle.x509_cert_anchors.specs.CertGeneralNames.declared.distribution_point_name.DistributionPointName.{DistributionPointName}
+use Rattle.x509_cert_anchors.specs.CertGeneralNames.declared.distribution_point_name.DistributionPointName.TheVariants as points
+use Rattle.x509_cert_anchors.specs.CertGeneralNames.declared.general_name.GeneralName.{GeneralName}
+use Rattle.x509_cert_anchors.specs.CertGeneralNames.declared.general_name.GeneralName.TheVariants as cases
+use Rattle.x509_cert_lists.proofs.CertNames.SameOctets.{directories, names, pairs}
+use Rattle.x509_cert_lists.proofs.Types.AnyLaws.{values}
+use Rattle.x509_cert_anchors.specs.PolicyTypes.Policies.{display_text}
+use Rattle.x509_cert_anchors.specs.PolicyTypes.PolicyViews.{display_plain}
+use Rattle.x509_cert_anchors.specs.PolicyTypes.contracts.display_text.DisplayTextPartialEq.TheImpl.{eq-value as same_text}
+use Rattle.x509_cert_anchors.specs.PolicyTypes.declared.display_text.DisplayText.{DisplayText}
+use Rattle.x509_cert_anchors.specs.PolicyTypes.declared.display_text.DisplayText.TheVariants as texts
 
 pub whole : {s : Shape} {T : Type 0} {eq : T → T → Bool} {plain : T → Value s} → ((x y : T) → Alike s (eq x y) (plain x) (plain y)) → TellsValues s eq plain
 whole {s} h = record { by_value = all_alike {s = s} h }

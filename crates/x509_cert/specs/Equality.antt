@@ -1,9 +1,9 @@
 -- What `==` of a type says of its plain values.
 use Rattle.std.specs.Prelude.{Bool}
 use Rattle.std.specs.declared.cmp.PartialEq.{Ghosts as Equality}
-use Rattle.der_core.specs.Equality.{IsOfValues}
-use Rattle.der_core_head.specs.Shapes.{Shape, Value, octets_of}
-use Rattle.der_core_values.specs.declared.decode.Shaped.{Ghosts as Shapes}
+use Rattle.x509_cert_anchors.specs.Der.Equality.{IsOfValues}
+use Rattle.x509_cert_anchors.specs.Der.Shapes.{Shape, Value, octets_of}
+use Rattle.x509_cert_anchors.specs.Der.DecodeTypes.Shaped.{Ghosts as Shapes}
 
 -- what it says is of the plain values of a shape
 pub record TellsValues (s : Shape) {T : Type 0} (eq : T → T → Bool) (plain : T → Value s)

@@ -1,8 +1,8 @@
 -- Of which shapes exactly what is spelled is read.
 use Rattle.std.specs.Prelude.{◌≡◌, true}
-use Rattle.der_core_head.specs.Limits.{levels_max}
-use Rattle.der_core_head.specs.Shapes.{Shape}
-use Rattle.der_core_head.specs.Spelling.{are_enough, is_apart}
+use Rattle.x509_cert_anchors.specs.Der.Limits.{levels_max}
+use Rattle.x509_cert_anchors.specs.Der.Shapes.{Shape}
+use Rattle.x509_cert_anchors.specs.Der.Spelling.{are_enough, is_apart}
 
 -- first tags keep its parts apart, and it nests no deeper than the levels that a reader allows
 abbrev pub IsApartWithinLevels : Shape → Type 0

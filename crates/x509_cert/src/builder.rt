@@ -3,9 +3,10 @@
 
 pub mod profile;
 
+pub use crate::crl_builder::CrlBuilder;
+pub use crate::request_builder::RequestBuilder;
 pub use x509_cert_builders::{
     Builder, BuilderProfile, CertificateBuilder, CertificateType, DevId, DomainValidated, Error,
     Root, SignError, Signer, Subordinate, Subscriber, Tls12Options, TpmVersion,
     ca_certificate_naming, check_names_encoding, tcg_sv_tpm_12, tcg_sv_tpm_20,
 };
-pub use x509_cert_list_builders::{CrlBuilder, RequestBuilder};

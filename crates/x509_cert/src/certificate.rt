@@ -1,9 +1,9 @@
 //! Certificates and their profiles (RFC 5280 4.1).
 
-pub use x509_cert_certificates::{
+pub use x509_cert_builders::cert_certificates::{
     CertDigest, Certificate, CertificateInner, TbsCertificate, TbsCertificateInner,
 };
-pub use x509_cert_parts::{Profile, Raw, Rfc5280, Version};
+pub use x509_cert_lists::cert_parts::{Profile, Raw, Rfc5280, Version};
 
 /// Certificates, each of which signs the next one (X.509 7.7, RFC 6066 10.1). Nothing says so of a
 /// value of this type: it is read and written as any list of certificates.

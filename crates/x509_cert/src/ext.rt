@@ -2,5 +2,5 @@
 
 pub mod pkix;
 
-pub use x509_cert_extensions::{Criticality, ToExtension};
-pub use x509_cert_parts::{Extension, Extensions};
+pub use x509_cert_builders::cert_extensions::{Criticality, ToExtension};
+pub use x509_cert_lists::cert_parts::{Extension, Extensions};

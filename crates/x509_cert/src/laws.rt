@@ -4,54 +4,56 @@
 //! Each is the contract of a function that does nothing.
 
 ghost use Rattle.std.specs.Prelude.{◌≤◌, ◌↔◌, ℕ, List, Option, None, pos};
-ghost use Rattle.const_oid.specs.Bound.{Bound};
-ghost use Rattle.der_core_head.specs.Bounds.{identifiers_of, AreBelow};
-ghost use Rattle.der_core_head.specs.Grammar.{plain_list};
-ghost use Rattle.der_core_head.specs.Integers.{among, natural};
-ghost use Rattle.der_core_head.specs.Leaves.{integer, named};
-ghost use Rattle.der_core_head.specs.Shapes.{BodyValue, Value, Spells, leaf, sequence, sequence_of};
-ghost use Rattle.der_core_head.specs.Shapes.{tagged};
+ghost use Rattle.x509_cert_anchors.specs.Oid.Bound.{Bound};
+ghost use Rattle.x509_cert_anchors.specs.Der.Bounds.{identifiers_of, AreBelow};
+ghost use Rattle.x509_cert_anchors.specs.Der.Grammar.{plain_list};
+ghost use Rattle.x509_cert_anchors.specs.Der.Integers.{among, natural};
+ghost use Rattle.x509_cert_anchors.specs.Der.Leaves.{integer, named};
+ghost use Rattle.x509_cert_anchors.specs.Der.Shapes.{BodyValue, Value, Spells, leaf, sequence};
+ghost use Rattle.x509_cert_anchors.specs.Der.Shapes.{sequence_of};
+ghost use Rattle.x509_cert_anchors.specs.Der.Shapes.{tagged};
 ghost use Rattle.x509_cert.specs.Equality.{IsByValue, TellsValues};
 ghost use Rattle.x509_cert.specs.Levels.{IsApartWithinLevels};
 ghost use Rattle.x509_cert_anchors.specs.Anchors as grammar;
 ghost use Rattle.x509_cert_anchors.specs.Anchors.{trust_anchor_choice};
 ghost use Rattle.x509_cert_anchors.specs.AnchorViews as anchor_views;
-ghost use Rattle.x509_cert_extensions.specs.Reasons.{reason_number, reason_numbers};
-ghost use Rattle.x509_cert_general_names.specs.GeneralNames as names;
-ghost use Rattle.x509_cert_general_names.specs.GeneralNameViews as views;
+ghost use Rattle.x509_cert_builders.specs.CertExtensions.Reasons.{reason_number, reason_numbers};
+ghost use Rattle.x509_cert_anchors.specs.CertGeneralNames.GeneralNames as names;
+ghost use Rattle.x509_cert_anchors.specs.CertGeneralNames.GeneralNameViews as views;
 ghost use Rattle.x509_cert_lists.specs.ListGrammar.{certificate_list_fields, cert_req};
 ghost use Rattle.x509_cert.specs.Parts as parts;
-ghost use Rattle.x509_cert_policies.specs.Policies as policies;
-ghost use Rattle.x509_cert_policies.specs.PolicyViews.{policy_information_plain, policy_mapping_plain};
+ghost use Rattle.x509_cert_anchors.specs.PolicyTypes.Policies as policies;
+ghost use Rattle.x509_cert_anchors.specs.PolicyTypes.PolicyViews.{policy_information_plain};
+ghost use Rattle.x509_cert_anchors.specs.PolicyTypes.PolicyViews.{policy_mapping_plain};
 
 use crate::anchor::Version as AnchorVersion;
+pub use crate::list_laws::signed_part_stands_in_place as list_parts_stand_in_place;
 use crate::request::Version as RequestVersion;
 use crate::timestamps::SignedCertificateTimestampList;
 use crate::*;
-use der_core::{Shaped, Tag};
 use std::cmp::PartialEq;
+use x509_cert_anchors::der::{Shaped, Tag};
 pub use x509_cert_anchors::laws::respelled_anchors_are_spelled;
-pub use x509_cert_certificates::laws::{
+pub use x509_cert_anchors::policy_types::timestamps::laws::{
+    lists_are_read as timestamp_lists_are_read, spellings_are_read as timestamps_are_read,
+};
+pub use x509_cert_builders::cert_certificates::laws::{
     certificates_are_apart, equality_of_certificates_is_of_values, identifiers_stand_in_turn,
     newly_read_certificates_hold_a_large_arc, respelled_certificates_are_spelled,
     signed_part_stands_in_place, wider_bounds_keep_certificates, wider_bounds_keep_chains,
     wider_bounds_read_certificates_alike,
 };
-pub use x509_cert_extensions::laws::extensions_are_of_their_types;
-pub use x509_cert_list_builders::laws::signed_part_stands_in_place as list_parts_stand_in_place;
-pub use x509_cert_lists::laws::{attributes_are_of_their_types, equality_of_lists_is_of_values};
-pub use x509_cert_names::laws::{
+pub use x509_cert_builders::cert_extensions::laws::extensions_are_of_their_types;
+pub use x509_cert_lists::cert_names::laws::{
     equality_of_names_is_of_values, newly_read_name_texts_hold_a_large_arc, printed_names_are_read,
     printed_values_are_strings, texts_are_read_as_one_name, texts_identify_names,
     wider_bounds_keep_names, wider_bounds_read_name_texts_alike,
 };
-pub use x509_cert_parts::laws::{
+pub use x509_cert_lists::cert_parts::laws::{
     dates_by_profile, equality_of_parts_is_of_values, parts_are_apart, respelled_dates_are_spelled,
     serial_numbers_by_profile,
 };
-pub use x509_cert_timestamps::laws::{
-    lists_are_read as timestamp_lists_are_read, spellings_are_read as timestamps_are_read,
-};
+pub use x509_cert_lists::laws::{attributes_are_of_their_types, equality_of_lists_is_of_values};
 
 /// Octets spell a CRL, a request or a trust anchor under a narrow bound of arcs exactly
 /// where they spell it under a wider one and each arc of its identifiers is below the narrow one.

@@ -7,53 +7,54 @@ pub mod attr;
 pub mod builder;
 pub mod certificate;
 pub mod crl;
+mod crl_builder;
 pub mod ext;
 pub mod laws;
+pub mod list_laws;
+mod list_writing;
 pub mod name;
 pub mod request;
+mod request_builder;
 pub mod serial_number;
 pub mod time;
 
 pub use certificate::PkiPath;
 
 // Certificates.
-pub use der_types_any::{Any, AnyRef};
-pub use der_types_numbers::Uint;
-pub use der_types_sets::{SetOfIter, SetOfVec};
-pub use der_types_text::Ia5String;
-pub use der_types_time::{DateTime, GeneralizedTime, UtcTime};
-pub use der_types_values::{BitString, FlagSet, NamedBits, OctetString};
-pub use x509_cert_certificates::{
+pub use x509_cert_builders::cert_certificates::{
     CertDigest, Certificate, CertificateInner, TbsCertificate, TbsCertificateInner,
 };
-pub use x509_cert_names::{
+pub use x509_cert_lists::cert_names::{
     Attribute, AttributeType, AttributeTypeAndValue, AttributeValue, Attributes, DirectoryString,
     DistinguishedName, FromAny, Name, NameIter, RdnSequence, RdnSequenceIter,
     RelativeDistinguishedName,
 };
-pub use x509_cert_parts::{
+pub use x509_cert_lists::cert_parts::{
     AlgorithmIdentifier, AlgorithmIdentifierRef, Extension, Extensions, ExtensionsOf, Profile, Raw,
     Rfc5280, SerialNumber, SubjectPublicKeyInfo, SubjectPublicKeyInfoRef, Time, Validity, Version,
     filter_extensions, get_extension,
 };
+pub use x509_cert_lists::types::{
+    Any, AnyRef, BitString, DateTime, FlagSet, GeneralizedTime, Ia5String, NamedBits, OctetString,
+    SetOfIter, SetOfVec, Uint, UtcTime,
+};
 
 // Contents of extensions.
-pub use x509_cert_extensions::{
-    AuthorityInfoAccessSyntax, BaseCrlNumber, Criticality, CrlDistributionPoints, CrlNumber,
-    CrlReason, ExtendedKeyUsage, FreshestCrl, IssuerAltName, KeyUsage, KeyUsages, SubjectAltName,
-    SubjectDirectoryAttributes, SubjectInfoAccessSyntax, SubjectKeyIdentifier, ToExtension,
-};
-pub use x509_cert_general_names::{
+pub use x509_cert_anchors::cert_general_names::{
     AccessDescription, AuthorityKeyIdentifier, DistributionPoint, DistributionPointName,
     EdiPartyName, GeneralName, GeneralNames, GeneralSubtree, GeneralSubtrees, HardwareModuleName,
     IssuingDistributionPoint, NameConstraints, OtherName, ReasonFlags, Reasons,
 };
-pub use x509_cert_policies::{
+pub use x509_cert_anchors::policy_types::{
     BasicConstraints, CertificatePolicies, CpsUri, DisplayText, InhibitAnyPolicy, NoticeReference,
     PolicyConstraints, PolicyInformation, PolicyMapping, PolicyMappings, PolicyQualifierInfo,
-    PrivateKeyUsagePeriod, UserNotice,
+    PrivateKeyUsagePeriod, UserNotice, timestamps,
 };
-pub use x509_cert_timestamps as timestamps;
+pub use x509_cert_builders::cert_extensions::{
+    AuthorityInfoAccessSyntax, BaseCrlNumber, Criticality, CrlDistributionPoints, CrlNumber,
+    CrlReason, ExtendedKeyUsage, FreshestCrl, IssuerAltName, KeyUsage, KeyUsages, SubjectAltName,
+    SubjectDirectoryAttributes, SubjectInfoAccessSyntax, SubjectKeyIdentifier, ToExtension,
+};
 
 // Lists, requests and anchors.
 pub use x509_cert_anchors::{

@@ -1,6 +1,6 @@
 //! Names (RFC 5280 4.1.2.4, RFC 4514).
 
-pub use x509_cert_names::{
+pub use x509_cert_lists::cert_names::{
     AttributeSet, DistinguishedName, Name, NameIter, RdnSequence, RdnSequenceIter,
     RelativeDistinguishedName,
 };

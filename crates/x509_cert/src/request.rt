@@ -1,6 +1,6 @@
 //! Requests for certificates (RFC 2986).
 
-pub use x509_cert_list_builders::RequestBuilder;
+pub use crate::request_builder::RequestBuilder;
 pub use x509_cert_lists::request::Version;
 pub use x509_cert_lists::{CertReq, CertReqInfo, ExtensionReq, TryFromExtensionReq};
 

@@ -1,3 +1,3 @@
 //! Serial numbers (RFC 5280 4.1.2.2).
 
-pub use x509_cert_parts::SerialNumber;
+pub use x509_cert_lists::cert_parts::SerialNumber;

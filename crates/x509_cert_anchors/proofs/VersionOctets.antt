@@ -1,10 +1,10 @@
 -- The octets of a version.
 use Rattle.std.proofs.Common.{◌≡◌, [], ◌∷◌, refl, arith, pos}
-use Rattle.const_oid.proofs.DigitLaws.{digits-one}
-use Rattle.der_core_head.specs.Heads.{tlv, head_octets, length_octets}
-use Rattle.der_core_head.specs.Integers.{integer_octets}
-use Rattle.der_core_head.specs.Shapes.{octets_of, contents, IsValid, IsContent}
-use Rattle.der_core_head.specs.Tags.{tag_octets}
+use Rattle.der_core.proofs.DigitLaws.{digits-one}
+use Rattle.der_core.specs.Heads.{tlv, head_octets, length_octets}
+use Rattle.der_core.specs.Integers.{integer_octets}
+use Rattle.der_core.specs.Shapes.{octets_of, contents, IsValid, IsContent}
+use Rattle.der_core.specs.Tags.{tag_octets}
 use Rattle.x509_cert_anchors.specs.Anchors.{anchor_version, first_anchor_version_octets}
 
 one : integer_octets (pos 1) ≡ 1 ∷ []

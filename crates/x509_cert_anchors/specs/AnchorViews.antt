@@ -1,7 +1,7 @@
 -- What contracts see of the types: the plain values of their shapes.
 use Rattle.std.specs.Prelude.{ℕ, pos, string_bytes}
 use Rattle.std.proofs.Common.{inl, inr}
-use Rattle.der_core_head.specs.Grammar.{plain_option, plain_list}
+use Rattle.der_core.specs.Grammar.{plain_option, plain_list}
 use Rattle.x509_cert_anchors.specs.Anchors.{PlainControls, PlainInfo, PlainAnchor}
 use Rattle.x509_cert_anchors.specs.declared.anchor.Version.{Version}
 use Rattle.x509_cert_anchors.specs.declared.cert_path_controls.CertPathControls.{CertPathControls}
@@ -11,8 +11,8 @@ use Rattle.x509_cert_anchors.specs.declared.trust_anchor_choice.TrustAnchorChoic
 use Rattle.x509_cert_anchors.specs.declared.trust_anchor_info.TrustAnchorInfo.{TrustAnchorInfo}
 use Rattle.x509_cert_certificates.specs.Views.{certificate_plain, tbs_plain}
 use Rattle.x509_cert_general_names.specs.GeneralNameViews.{name_constraints_plain}
-use Rattle.x509_cert_names.specs.Views.{name_plain}
-use Rattle.x509_cert_parts.specs.Views.{key_plain, extensions_plain}
+use Rattle.x509_cert_general_names.specs.CertNames.Views.{name_plain}
+use Rattle.x509_cert_policies.specs.CertParts.Views.{key_plain, extensions_plain}
 use Rattle.x509_cert_policies.specs.PolicyViews.{policy_information_plain}
 
 -- the number of an anchor's version

@@ -2,18 +2,18 @@
 -- octets of a serial number, if there is such a number.
 use Rattle.std.specs.Prelude.{ℕ, ◌^◌, List, [], ◌∷◌, Bool, Option, None, codes}
 use Rattle.std.proofs.Common.{inl, inr}
-use Rattle.der_core_head.specs.declared.tag.Tag.TheVariants as tags
-use Rattle.der_core_head.specs.Grammar.{plain_option}
-use Rattle.der_core_head.specs.Integers.{among}
-use Rattle.der_core_head.specs.Leaves.{integer, utf8, named}
-use Rattle.der_core_head.specs.Shapes.{Shape, Body, Value, BodyValue, tagged, leaf, either}
-use Rattle.der_core_head.specs.Shapes.{optional, defaulted, field, done, many, sequence, explicit}
+use Rattle.der_core.specs.TagTypes.Tag.TheVariants as tags
+use Rattle.der_core.specs.Grammar.{plain_option}
+use Rattle.der_core.specs.Integers.{among}
+use Rattle.der_core.specs.Leaves.{integer, utf8, named}
+use Rattle.der_core.specs.Shapes.{Shape, Body, Value, BodyValue, tagged, leaf, either}
+use Rattle.der_core.specs.Shapes.{optional, defaulted, field, done, many, sequence, explicit}
 use Rattle.x509_cert_certificates.specs.Certificates.{certificate_fields, certificate}
 use Rattle.x509_cert_certificates.specs.Certificates.{tbs_certificate, certificate_by, tbs_by}
 use Rattle.x509_cert_general_names.specs.GeneralNames.{inside, name_constraints_fields}
-use Rattle.x509_cert_parts.specs.Grammar.{implicit_leaf, whole_number}
-use Rattle.x509_cert_names.specs.Names.{name}
-use Rattle.x509_cert_parts.specs.Grammar.{octet_string, public_key_info, extensions}
+use Rattle.x509_cert_policies.specs.CertParts.Grammar.{implicit_leaf, whole_number}
+use Rattle.x509_cert_general_names.specs.CertNames.Names.{name}
+use Rattle.x509_cert_policies.specs.CertParts.Grammar.{octet_string, public_key_info, extensions}
 use Rattle.x509_cert_policies.specs.Policies.{policy_information_fields}
 
 -- CertPolicyFlags ::= BIT STRING { inhibitPolicyMapping (0), requireExplicitPolicy (1),

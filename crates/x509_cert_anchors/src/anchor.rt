@@ -49,7 +49,7 @@ impl Ordered for Version {}
 impl DefaultValue for Version {
     ghost default_octets = { first_anchor_version_octets };
 
-    #[tactic(auto, unfolding(der_core_head::specs::Grammar::tlv_at, der_core_head::specs::Heads::head_at, der_core_head::specs::Tags::tag_at, der_core_head::specs::Tags::universal_tag, der_core_head::specs::Heads::length_at, der_core_head::specs::Grammar::value_at, der_core_head::specs::Integers::shortest_integer, der_core_head::specs::Integers::integer_of))]
+    #[tactic(auto, unfolding(crate::specs::Opened::tlv_at, crate::specs::Opened::head_at, crate::specs::Opened::tag_at, crate::specs::Opened::universal_tag, crate::specs::Opened::length_at, crate::specs::Opened::value_at, crate::specs::Opened::shortest_integer, crate::specs::Opened::integer_of))]
     fn default_value() -> Version {
         Version::V1
     }

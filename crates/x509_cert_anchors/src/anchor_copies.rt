@@ -3,7 +3,8 @@
 
 ghost use Rattle.std.specs.Prelude.{◌≡◌, IfOk, string_bytes};
 ghost use Rattle.der_core.specs.Copies.{IsCopy};
-ghost use Rattle.x509_cert_anchors.specs.AnchorViews.{cert_path_controls_plain, trust_anchor_info_plain};
+ghost use Rattle.x509_cert_anchors.specs.AnchorViews.{cert_path_controls_plain};
+ghost use Rattle.x509_cert_anchors.specs.AnchorViews.{trust_anchor_info_plain};
 ghost use Rattle.x509_cert_anchors.specs.AnchorViews.{trust_anchor_plain};
 
 use crate::{CertPathControls, TrustAnchorChoice, TrustAnchorInfo};
@@ -11,8 +12,8 @@ use der_core::making::{copies_of_option, copy_of_option};
 use std::alloc::{AllocError, Global};
 use x509_cert_certificates::CertificateInner;
 use x509_cert_general_names::NameConstraints;
-use x509_cert_parts::{Extension, Profile};
 use x509_cert_policies::CertificatePolicies;
+use x509_cert_policies::cert_parts::{Extension, Profile};
 
 /// A copy of a text.
 fn copy_of_text(text: &String, alloc: Global) -> Result<String, AllocError>

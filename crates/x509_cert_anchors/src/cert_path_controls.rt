@@ -1,8 +1,8 @@
 //! What a path from a trust anchor must meet.
 
 ghost use Rattle.std.specs.Prelude.{pos, refl};
-ghost use Rattle.const_oid.specs.Bound.{Bound};
-ghost use Rattle.der_core_head.specs.Grammar.{plain_list, plain_option};
+ghost use Rattle.der_core.specs.Oid.Bound.{Bound};
+ghost use Rattle.der_core.specs.Grammar.{plain_list, plain_option};
 ghost use Rattle.x509_cert_general_names.specs.GeneralNameViews.{name_constraints_plain};
 ghost use Rattle.x509_cert_policies.specs.PolicyViews.{policy_information_plain};
 ghost use Rattle.x509_cert_anchors.specs.Anchors.{cert_path_controls_fields, cert_path_controls_by};
@@ -16,9 +16,9 @@ use der_core::{DecodeFields, Error, Fields, Reader, lend, row};
 use std::alloc::Global;
 use x509_cert_certificates::CertificateInner;
 use x509_cert_general_names::NameConstraints;
-use x509_cert_names::Name;
-use x509_cert_parts::{Profile, Rfc5280};
+use x509_cert_general_names::cert_names::Name;
 use x509_cert_policies::CertificatePolicies;
+use x509_cert_policies::cert_parts::{Profile, Rfc5280};
 
 /// The name of a trust anchor, and what a path from it must meet (RFC 5914 2.5).
 ///

@@ -5,7 +5,7 @@ ghost use Rattle.bitflags.specs.Sets.{known_from};
 ghost use Rattle.x509_cert_anchors.specs.Anchors.{policy_flags};
 
 use bitflags::{Flag, Flags, bitflag_items};
-use der_types_values::{FlagSet, NamedBits};
+use x509_cert_policies::types::{FlagSet, NamedBits};
 
 /// What is wanted of policies on a path, the first bit the lowest (RFC 5914 2.5).
 #[derive(Clone, Copy, Debug, PartialEq, Eq)]

@@ -3,7 +3,7 @@
 //! Each is the contract of a function that does nothing.
 
 ghost use Rattle.std.specs.Prelude.{ℕ, Option, Bool};
-ghost use Rattle.der_core_head.specs.Shapes.{IsValid};
+ghost use Rattle.der_core.specs.Shapes.{IsValid};
 ghost use Rattle.x509_cert_anchors.specs.Anchors.{PlainAnchor, trust_anchor_choice};
 ghost use Rattle.x509_cert_anchors.specs.Anchors.{trust_anchor_by};
 

@@ -1,7 +1,7 @@
 //! Trust anchors.
 
 ghost use Rattle.std.specs.Prelude.{◌≡◌, refl};
-ghost use Rattle.const_oid.specs.Bound.{Bound};
+ghost use Rattle.der_core.specs.Oid.Bound.{Bound};
 ghost use Rattle.x509_cert_anchors.specs.Anchors.{trust_anchor_choice, trust_anchor_by};
 ghost use Rattle.x509_cert_anchors.specs.AnchorViews.{trust_anchor_plain};
 
@@ -12,7 +12,7 @@ use der_core::{
 };
 use std::alloc::Global;
 use x509_cert_certificates::{CertificateInner, TbsCertificateInner};
-use x509_cert_parts::{Profile, Rfc5280};
+use x509_cert_policies::cert_parts::{Profile, Rfc5280};
 
 /// A trust anchor (RFC 5914 2).
 ///

@@ -1,7 +1,7 @@
 //! Trust anchors by their keys.
 
 ghost use Rattle.std.specs.Prelude.{◌≡◌, refl};
-ghost use Rattle.const_oid.specs.Bound.{Bound};
+ghost use Rattle.der_core.specs.Oid.Bound.{Bound};
 ghost use Rattle.x509_cert_anchors.specs.Anchors.{trust_anchor_info_fields, trust_anchor_info_by};
 ghost use Rattle.x509_cert_anchors.specs.AnchorViews.{trust_anchor_info_plain};
 
@@ -9,9 +9,9 @@ use crate::anchor::Version;
 use crate::cert_path_controls::CertPathControls;
 use der_core::describing::{AsRecord, Described, RowUser, Rows};
 use der_core::{DecodeFields, Error, Fields, Reader, lend, read_row};
-use der_types_values::OctetString;
 use std::alloc::Global;
-use x509_cert_parts::{Extensions, Profile, Rfc5280, SubjectPublicKeyInfo};
+use x509_cert_policies::cert_parts::{Extensions, Profile, Rfc5280, SubjectPublicKeyInfo};
+use x509_cert_policies::types::OctetString;
 
 /// A trust anchor by its key (RFC 5914 2).
 ///

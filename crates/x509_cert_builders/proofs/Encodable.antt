@@ -4,37 +4,37 @@ use Rattle.std.specs.Prelude.{⊤, pos, reverse, if◌then◌else◌, bit_or}
 use Rattle.std.specs.Int.{reverse_bits, w8}
 use Rattle.std.proofs.lemmas.Bool.Decides.{nat_tests}
 use Rattle.std.proofs.lemmas.List.{length-append, length-map, length-reverse}
-use Rattle.const_oid.specs.Bound.{Bound}
-use Rattle.const_oid.specs.IdentifierOctets.{IsIdentifier, identifier_octets, arc_octets, read_arcs, read_identifier, with_arc}
-use Rattle.const_oid.specs.Digits.{digits, digits_within, marked}
-use Rattle.der_core_head.proofs.HeadLaws.{length-digits-le}
-use Rattle.der_core_head.specs.declared.tag.Tag.{Tag}
-use Rattle.der_core_head.specs.declared.tag.Tag.TheVariants as tags
-use Rattle.der_core_head.specs.Grammar.{plain_option}
-use Rattle.der_core_head.specs.Heads.{Fits, tlv, head_octets, length_octets}
-use Rattle.der_core_head.specs.Integers.{integer_octets, positive}
-use Rattle.der_core_head.specs.Leaves.{named}
-use Rattle.der_core_head.specs.NamedBits.{named_octets, set_octets}
-use Rattle.der_core_head.specs.Octets.{IsOctets}
-use Rattle.der_core_head.specs.Shapes.{leaf, tagged, sequence, sequence_of, octets_of, contents, body_octets, IsValid, IsContent, IsBody, unless, explicit, defaulted}
-use Rattle.der_core_head.specs.Tags.{tag_octets, context}
+use Rattle.x509_cert_certificates.specs.Oid.Bound.{Bound}
+use Rattle.x509_cert_certificates.specs.Oid.IdentifierOctets.{IsIdentifier, identifier_octets, arc_octets, read_arcs, read_identifier, with_arc}
+use Rattle.x509_cert_certificates.specs.Oid.Digits.{digits, digits_within, marked}
+use Rattle.x509_cert_certificates.proofs.Der.HeadLaws.{length-digits-le}
+use Rattle.x509_cert_certificates.specs.Der.TagTypes.Tag.{Tag}
+use Rattle.x509_cert_certificates.specs.Der.TagTypes.Tag.TheVariants as tags
+use Rattle.x509_cert_certificates.specs.Der.Grammar.{plain_option}
+use Rattle.x509_cert_certificates.specs.Der.Heads.{Fits, tlv, head_octets, length_octets}
+use Rattle.x509_cert_certificates.specs.Der.Integers.{integer_octets, positive}
+use Rattle.x509_cert_certificates.specs.Der.Leaves.{named}
+use Rattle.x509_cert_certificates.specs.Der.NamedBits.{named_octets, set_octets}
+use Rattle.x509_cert_certificates.specs.Der.Octets.{IsOctets}
+use Rattle.x509_cert_certificates.specs.Der.Shapes.{leaf, tagged, sequence, sequence_of, octets_of, contents, body_octets, IsValid, IsContent, IsBody, unless, explicit, defaulted}
+use Rattle.x509_cert_certificates.specs.Der.Tags.{tag_octets, context}
 use Rattle.sha1.specs.Sha1.{sha1, digest_bytes}
-use Rattle.x509_cert_parts.specs.Grammar.{false_by_default, object_identifier, octet_string, number_of, Algorithm, PlainExtension, PlainTime, time, version}
-use Rattle.x509_cert_general_names.specs.GeneralNames.{authority_key_identifier_fields}
-use Rattle.x509_cert_policies.specs.Policies.{basic_constraints_fields}
+use Rattle.x509_cert_certificates.specs.CertParts.Grammar.{false_by_default, object_identifier, octet_string, number_of, Algorithm, PlainExtension, PlainTime, time, version}
+use Rattle.x509_cert_extensions.specs.CertGeneralNames.GeneralNames.{authority_key_identifier_fields}
+use Rattle.x509_cert_extensions.specs.PolicyTypes.Policies.{basic_constraints_fields}
 use Rattle.x509_cert_builders.specs.Profiles.{id_kp, purposes, digital_signature, use_where}
-use Rattle.der_core_head.specs.Dates.{Civil, is_civil}
-use Rattle.der_core_head.specs.Ranges.{IsInRange}
+use Rattle.x509_cert_certificates.specs.Der.Dates.{Civil, is_civil}
+use Rattle.x509_cert_certificates.specs.Der.Ranges.{IsInRange}
 use Rattle.x509_cert_certificates.specs.Certificates.{Tbs, tbs_certificate}
-use Rattle.x509_cert_parts.specs.Views.{algorithm_plain, extensions_plain}
-use Rattle.x509_cert_parts.specs.Respelling.{respelled}
+use Rattle.x509_cert_certificates.specs.CertParts.Views.{algorithm_plain, extensions_plain}
+use Rattle.x509_cert_certificates.specs.CertParts.Respelling.{respelled}
 use Rattle.x509_cert_certificates.specs.Assembling.{PlainFields, has_any, signed_part, version_of}
 use Rattle.x509_cert_builders.specs.SignedParts.{IsPartInRange, part_shape, written_part}
 use Rattle.x509_cert_builders.specs.States.{finalized_plain}
 use Rattle.x509_cert_builders.specs.declared.certificate_builder.Finalized.{Finalized}
 use Rattle.std.specs.List.{AllByRecursion, flat_map}
-use Rattle.const_oid.proofs.EncodingLaws.{arc_octets-one}
-use Rattle.const_oid.proofs.IdentifierLaws.{read_arcs-arcs}
+use Rattle.x509_cert_certificates.proofs.Oid.EncodingLaws.{arc_octets-one}
+use Rattle.x509_cert_certificates.proofs.Oid.IdentifierLaws.{read_arcs-arcs}
 use Rattle.x509_cert_extensions.specs.NamedBits as bits
 
 digest_length : (m : List ℕ) → length (sha1 m) ≡ 20

@@ -1,15 +1,15 @@
 -- Why a value isn't written.
 use Rattle.std.proofs.Common.{◌≡◌, ◌≢◌, ◌⊎◌, ℕ, List, [], false, None, Ok, Err, inl, Result, ap, subst}
-use Rattle.der_core_head.specs.declared.error.ErrorKind.{ErrorKind}
-use Rattle.der_core_head.specs.declared.error.ErrorKind.TheVariants as kinds
-use Rattle.der_core_head.specs.Shapes.{IsValid, Shape, Value}
-use Rattle.der_core_head.specs.Writing.{write}
-use Rattle.der_core_head.proofs.Results.{or_memory}
+use Rattle.x509_cert_certificates.specs.Der.ErrorTypes.ErrorKind.{ErrorKind}
+use Rattle.x509_cert_certificates.specs.Der.ErrorTypes.ErrorKind.TheVariants as kinds
+use Rattle.x509_cert_certificates.specs.Der.Shapes.{IsValid, Shape, Value}
+use Rattle.x509_cert_certificates.specs.Der.Writing.{write}
+use Rattle.x509_cert_certificates.proofs.Der.Results.{or_memory}
 use Rattle.x509_cert_extensions.specs.Making.{IsNotMade}
 use Rattle.x509_cert_builders.specs.Refusals.{HasNoEncoding, FailsAs, IsWantOfMemory}
-use Rattle.const_oid.specs.Bound.{Bound}
-use Rattle.der_core_head.specs.Octets.{◌>>=◌}
-use Rattle.x509_cert_general_names.specs.Modules.{PlainOther, module_held}
+use Rattle.x509_cert_certificates.specs.Oid.Bound.{Bound}
+use Rattle.x509_cert_certificates.specs.Der.Octets.{◌>>=◌}
+use Rattle.x509_cert_extensions.specs.CertGeneralNames.Modules.{PlainOther, module_held}
 use Rattle.x509_cert_builders.specs.Devices.{PlainGeneralName, module_name}
 use Rattle.x509_cert_builders.specs.declared.build_error.Error.{Error}
 use Rattle.x509_cert_builders.specs.declared.build_error.Error.TheVariants as errors

@@ -1,19 +1,19 @@
 -- Subjects of subscribers, relative name by relative name.
 use Rattle.std.proofs.Common.{◌≡◌, List, map, [], ◌∷◌, ◌++◌, refl, ap, ◌⊎◌, length, Bool, true, false, sym, ◌∙◌, subst, append_assoc, arith, inl, inr, if◌then◌else◌, ◌==◌, not, IsPermutation, append-nil, ℕ, ◌<◌, Ok, Err, None, length-append, get_or, IsOk, is_ok, ◌||◌, cond}
 use Rattle.std.specs.List.{AllByRecursion, IsDistinct, list_all}
-use Rattle.der_core_head.specs.Grammar.{plain_list}
-use Rattle.der_core_head.proofs.Results.{plain-append}
-use Rattle.x509_cert_parts.specs.Grammar.{PlainExtension}
-use Rattle.x509_cert_parts.specs.ExtensionSearch.{extensions_in_field}
+use Rattle.x509_cert_certificates.specs.Der.Grammar.{plain_list}
+use Rattle.x509_cert_certificates.proofs.Der.Results.{plain-append}
+use Rattle.x509_cert_certificates.specs.CertParts.Grammar.{PlainExtension}
+use Rattle.x509_cert_certificates.specs.CertParts.ExtensionSearch.{extensions_in_field}
 use Rattle.x509_cert_certificates.specs.Assembling.{extensions_if_any}
 use Rattle.std.proofs.lemmas.Bool.{and_parts, eqb-true, cases_lt}
 use Rattle.std.proofs.lemmas.List.Folds.{list_all-append, list_any-append}
 use Rattle.std.proofs.lemmas.List.Sorted.{IsPermutation-refl, length_permutation}
-use Rattle.const_oid.specs.Bound.{Bound}
-use Rattle.der_core_head.specs.declared.error.Error.{Error as DerError}
-use Rattle.der_core_head.specs.declared.error.ErrorKind.TheVariants as kinds
-use Rattle.der_core_head.specs.Shapes.{IsValid}
-use Rattle.x509_cert_names.specs.Names.{PlainName, TypeAndValue, type_and_value, type_of}
+use Rattle.x509_cert_certificates.specs.Oid.Bound.{Bound}
+use Rattle.x509_cert_certificates.specs.Der.ErrorTypes.Error.{Error as DerError}
+use Rattle.x509_cert_certificates.specs.Der.ErrorTypes.ErrorKind.TheVariants as kinds
+use Rattle.x509_cert_certificates.specs.Der.Shapes.{IsValid}
+use Rattle.x509_cert_certificates.specs.CertNames.Names.{PlainName, TypeAndValue, type_and_value, type_of}
 use Rattle.x509_cert_builders.specs.Naming.{name_types, type_behind, type_at, foreign_type, has_required, IsNamed, IsFirstFault, NamesAuthority, is_among}
 use Rattle.x509_cert_builders.specs.Refusals.{IsWantOfMemory}
 use Rattle.x509_cert_builders.specs.Subscribers.{AreShort, HasLongAttribute, KeepsDistinct, SameAttributes, all_stays, attributes_left, relative_in_front, domain_subject, left_of, may_stay, stays}
@@ -23,8 +23,8 @@ use Rattle.std.proofs.lemmas.Bool.Decides.{nat_tests}
 use Rattle.std.proofs.lemmas.List.{get_or_at, take_at}
 use Rattle.std.proofs.lemmas.List.Concat.{flat_map-append}
 use Rattle.std.specs.BTreeSet.{BTreeSet, Updates, contains}
-use Rattle.const_oid.specs.Comparing.{owned_eq}
-use Rattle.const_oid.specs.Orders.{owned_cmp, owned_cmp_ties}
+use Rattle.x509_cert_certificates.specs.Oid.Comparing.{owned_eq}
+use Rattle.x509_cert_certificates.specs.Oid.Orders.{owned_cmp, owned_cmp_ties}
 use Rattle.x509_cert_builders.specs.TypeSets.{HasTypes}
 
 -- The plain values of lists, and lists that stand where they aren't empty.

@@ -2,21 +2,23 @@
 use Rattle.std.specs.Prelude.{⊤, ℕ, List, [], ◌∷◌, length, ◌==◌, Bool, false, Option, Some, None}
 use Rattle.std.specs.Prelude.{Result, Ok, Err, IsOk, if◌then◌else◌}
 use Rattle.std.proofs.Common.{inl, inr}
-use Rattle.const_oid.specs.Bound.{Bound}
-use Rattle.const_oid.specs.Comparing.{owned_eq}
-use Rattle.der_core_head.specs.declared.error.ErrorKind.{ErrorKind}
-use Rattle.der_core_head.specs.declared.error.ErrorKind.TheVariants as kinds
-use Rattle.der_core_head.specs.declared.tag.Tag.TheVariants.{Sequence}
-use Rattle.der_core_head.specs.Grammar.{plain_list, plain_option}
-use Rattle.der_core_head.specs.Octets.{◌>>=◌}
-use Rattle.der_core_head.specs.Shapes.{Value, nested, sequence_of}
-use Rattle.x509_cert_names.specs.Names.{PlainName}
-use Rattle.x509_cert_parts.specs.Grammar.{PlainExtension, PublicKey}
-use Rattle.der_types_any.specs.Contents.{content_as}
-use Rattle.x509_cert_general_names.specs.GeneralNames.{general_name, hardware_module_name_fields}
-use Rattle.x509_cert_general_names.specs.Modules.{PlainModule, module_arcs, module_held}
-use Rattle.x509_cert_general_names.specs.GeneralNameViews.{general_name_plain}
-use Rattle.x509_cert_parts.specs.ExtensionTypes.{id_ce}
+use Rattle.x509_cert_certificates.specs.Oid.Bound.{Bound}
+use Rattle.x509_cert_certificates.specs.Oid.Comparing.{owned_eq}
+use Rattle.x509_cert_certificates.specs.Der.ErrorTypes.ErrorKind.{ErrorKind}
+use Rattle.x509_cert_certificates.specs.Der.ErrorTypes.ErrorKind.TheVariants as kinds
+use Rattle.x509_cert_certificates.specs.Der.TagTypes.Tag.TheVariants.{Sequence}
+use Rattle.x509_cert_certificates.specs.Der.Grammar.{plain_list, plain_option}
+use Rattle.x509_cert_certificates.specs.Der.Octets.{◌>>=◌}
+use Rattle.x509_cert_certificates.specs.Der.Shapes.{Value, nested, sequence_of}
+use Rattle.x509_cert_certificates.specs.CertNames.Names.{PlainName}
+use Rattle.x509_cert_certificates.specs.CertParts.Grammar.{PlainExtension, PublicKey}
+use Rattle.x509_cert_certificates.specs.Types.Contents.{content_as}
+use Rattle.x509_cert_extensions.specs.CertGeneralNames.GeneralNames.{general_name}
+use Rattle.x509_cert_extensions.specs.CertGeneralNames.GeneralNames.{hardware_module_name_fields}
+use Rattle.x509_cert_extensions.specs.CertGeneralNames.Modules.{PlainModule, module_arcs}
+use Rattle.x509_cert_extensions.specs.CertGeneralNames.Modules.{module_held}
+use Rattle.x509_cert_extensions.specs.CertGeneralNames.GeneralNameViews.{general_name_plain}
+use Rattle.x509_cert_certificates.specs.CertParts.ExtensionTypes.{id_ce}
 use Rattle.x509_cert_extensions.specs.Making.{extension_of}
 use Rattle.x509_cert_builders.specs.Profiles.{authority_key_extension, digital_signature}
 use Rattle.x509_cert_builders.specs.Profiles.{usage_extension}

@@ -3,9 +3,9 @@ use Rattle.std.specs.Prelude.{◌≡◌, ◌⊎◌, ℕ, ◌<◌, List, [], ◌�
 use Rattle.std.specs.Prelude.{true, false, ◌&&◌, ◌||◌, nat_lt, not, Option, Some, None, Result, Ok}
 use Rattle.std.specs.Prelude.{Err, IsOk, if◌then◌else◌}
 use Rattle.std.specs.List.{find, flat_map, list_any, list_all, position_or_len}
-use Rattle.const_oid.specs.Comparing.{owned_eq}
-use Rattle.x509_cert_name_texts.specs.Keys.{pilot, x520}
-use Rattle.x509_cert_names.specs.Names.{PlainName, TypeAndValue}
+use Rattle.x509_cert_certificates.specs.Oid.Comparing.{owned_eq}
+use Rattle.x509_cert_certificates.specs.CertNameTexts.Keys.{pilot, x520}
+use Rattle.x509_cert_certificates.specs.CertNames.Names.{PlainName, TypeAndValue}
 use Rattle.x509_cert_builders.specs.declared.build_error.Error.{Error}
 use Rattle.x509_cert_builders.specs.declared.build_error.Error.TheVariants as errors
 use Rattle.x509_cert_builders.specs.Refusals.{IsWantOfMemory}

@@ -1,20 +1,21 @@
 -- The extensions that profiles add (RFC 5280 4.2; CA/Browser Forum, Baseline Requirements 7.1.2).
 use Rattle.std.specs.Prelude.{ℕ, ℤ, ◌+◌, ◌^◌, List, [], ◌∷◌, Bool, true, false, ◌&&◌, Option, Some}
 use Rattle.std.specs.Prelude.{None, if◌then◌else◌}
-use Rattle.const_oid.specs.Bound.{Bound}
-use Rattle.const_oid.specs.Comparing.{owned_eq}
-use Rattle.der_core_head.specs.declared.tag.Tag.TheVariants as tags
-use Rattle.der_core_head.specs.Leaves.{named}
-use Rattle.der_core_head.specs.Shapes.{tagged, leaf, sequence, sequence_of}
-use Rattle.x509_cert_parts.specs.ExtensionTypes.{id_ce}
-use Rattle.x509_cert_general_names.specs.KeyIdentifiers.{key_identifier}
+use Rattle.x509_cert_certificates.specs.Oid.Bound.{Bound}
+use Rattle.x509_cert_certificates.specs.Oid.Comparing.{owned_eq}
+use Rattle.x509_cert_certificates.specs.Der.TagTypes.Tag.TheVariants as tags
+use Rattle.x509_cert_certificates.specs.Der.Leaves.{named}
+use Rattle.x509_cert_certificates.specs.Der.Shapes.{tagged, leaf, sequence, sequence_of}
+use Rattle.x509_cert_certificates.specs.CertParts.ExtensionTypes.{id_ce}
+use Rattle.x509_cert_extensions.specs.CertGeneralNames.KeyIdentifiers.{key_identifier}
 use Rattle.x509_cert_extensions.specs.Making.{extension_of}
 use Rattle.x509_cert_extensions.specs.NamedBits as bits
 use Rattle.x509_cert_extensions.specs.NamedBits.{KeyUse, bit_of}
-use Rattle.x509_cert_parts.specs.Grammar.{PublicKey, PlainExtension, algorithm_arcs, key_algorithm}
-use Rattle.x509_cert_parts.specs.Grammar.{object_identifier, octet_string}
-use Rattle.x509_cert_general_names.specs.GeneralNames.{authority_key_identifier_fields}
-use Rattle.x509_cert_policies.specs.Policies.{basic_constraints_fields}
+use Rattle.x509_cert_certificates.specs.CertParts.Grammar.{PublicKey, PlainExtension}
+use Rattle.x509_cert_certificates.specs.CertParts.Grammar.{algorithm_arcs, key_algorithm}
+use Rattle.x509_cert_certificates.specs.CertParts.Grammar.{object_identifier, octet_string}
+use Rattle.x509_cert_extensions.specs.CertGeneralNames.GeneralNames.{authority_key_identifier_fields}
+use Rattle.x509_cert_extensions.specs.PolicyTypes.Policies.{basic_constraints_fields}
 
 -- AuthorityKeyIdentifier with the issuer's key alone (4.2.1.1)
 abbrev pub authority_key_extension : PublicKey → PlainExtension

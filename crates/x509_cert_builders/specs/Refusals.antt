@@ -1,11 +1,11 @@
 -- Why builders refuse.
 use Rattle.std.specs.Prelude.{◌≡◌, [], false, None, Result, Err}
-use Rattle.der_core_head.specs.declared.error.Error.{Error as DerError}
-use Rattle.der_core_head.specs.declared.error.ErrorKind.{ErrorKind}
-use Rattle.der_core_head.specs.declared.error.ErrorKind.TheVariants as kinds
-use Rattle.der_core_head.specs.Reading.{Fails}
-use Rattle.der_core_head.specs.Shapes.{IsValid, Shape, Value}
-use Rattle.der_core_head.specs.Writing.{write}
+use Rattle.x509_cert_certificates.specs.Der.ErrorTypes.Error.{Error as DerError}
+use Rattle.x509_cert_certificates.specs.Der.ErrorTypes.ErrorKind.{ErrorKind}
+use Rattle.x509_cert_certificates.specs.Der.ErrorTypes.ErrorKind.TheVariants as kinds
+use Rattle.x509_cert_certificates.specs.Der.Reading.{Fails}
+use Rattle.x509_cert_certificates.specs.Der.Shapes.{IsValid, Shape, Value}
+use Rattle.x509_cert_certificates.specs.Der.Writing.{write}
 use Rattle.x509_cert_builders.specs.declared.build_error.Error.{Error}
 use Rattle.x509_cert_builders.specs.declared.build_error.Error.TheVariants as errors
 use Rattle.x509_cert_builders.specs.declared.sign_error.SignError.TheVariants as signers

@@ -1,14 +1,15 @@
 -- What a builder of certificates signs (RFC 5280 4.1.2).
 use Rattle.std.specs.Prelude.{true}
-use Rattle.const_oid.specs.Bound.{Bound}
-use Rattle.der_core_head.specs.Ranges.{IsInRange}
-use Rattle.der_core_head.specs.Shapes.{Shape, explicit, optional}
+use Rattle.x509_cert_certificates.specs.Oid.Bound.{Bound}
+use Rattle.x509_cert_certificates.specs.Der.Ranges.{IsInRange}
+use Rattle.x509_cert_certificates.specs.Der.Shapes.{Shape, explicit, optional}
 use Rattle.x509_cert_certificates.specs.Certificates.{Tbs, raw_tbs_certificate, tbs_by}
 use Rattle.x509_cert_certificates.specs.Certificates.{tbs_inner_algorithm, tbs_issuer, tbs_validity}
 use Rattle.x509_cert_certificates.specs.Certificates.{tbs_subject, tbs_public_key, tbs_extensions}
-use Rattle.x509_cert_names.specs.Names.{name}
-use Rattle.x509_cert_parts.specs.Grammar.{algorithm_identifier, extensions, public_key_info}
-use Rattle.x509_cert_parts.specs.Grammar.{validity}
+use Rattle.x509_cert_certificates.specs.CertNames.Names.{name}
+use Rattle.x509_cert_certificates.specs.CertParts.Grammar.{algorithm_identifier, extensions}
+use Rattle.x509_cert_certificates.specs.CertParts.Grammar.{public_key_info}
+use Rattle.x509_cert_certificates.specs.CertParts.Grammar.{validity}
 
 -- the shape of a part, whatever serial numbers are read
 abbrev pub part_shape : Shape

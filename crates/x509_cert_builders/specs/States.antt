@@ -1,13 +1,13 @@
 -- What contracts see of builders, and of what they make.
 use Rattle.std.specs.Prelude.{ℕ, List, ◌++◌, take, drop, Option, Some, None, true}
-use Rattle.const_oid.specs.Bound.{Bound}
-use Rattle.der_core_head.specs.Grammar.{plain_option}
+use Rattle.x509_cert_certificates.specs.Oid.Bound.{Bound}
+use Rattle.x509_cert_certificates.specs.Der.Grammar.{plain_option}
 use Rattle.x509_cert_certificates.specs.Certificates.{PlainCertificate, Tbs, certificate_by}
 use Rattle.x509_cert_certificates.specs.Certificates.{certificate_octets, signed_start}
 use Rattle.x509_cert_certificates.specs.Certificates.{signed_length, tbs_inner_algorithm}
 use Rattle.x509_cert_certificates.specs.Views.{tbs_plain}
-use Rattle.x509_cert_parts.specs.Grammar.{Algorithm, PlainExtension, PublicKey}
-use Rattle.x509_cert_parts.specs.Views.{algorithm_plain, extensions_plain}
+use Rattle.x509_cert_certificates.specs.CertParts.Grammar.{Algorithm, PlainExtension, PublicKey}
+use Rattle.x509_cert_certificates.specs.CertParts.Views.{algorithm_plain, extensions_plain}
 use Rattle.x509_cert_certificates.specs.Assembling.{PlainFields, bare_part, fields_of, signed_part}
 use Rattle.x509_cert_builders.specs.SignedParts.{written_part}
 use Rattle.x509_cert_builders.specs.declared.certificate_builder.CertificateBuilder.TheInside.{Inside}

@@ -3,14 +3,14 @@ use Rattle.std.specs.Prelude.{⊤, ◌⊎◌, ℕ, List, [], ◌∷◌, Bool, Re
 use Rattle.std.specs.Prelude.{length, ◌==◌, ◌&&◌, not, IsPermutation}
 use Rattle.std.proofs.Common.{inl, inr}
 use Rattle.std.specs.List.{AllByRecursion, IsDistinct, flat_map, list_all}
-use Rattle.const_oid.specs.Bound.{Bound}
-use Rattle.der_core_head.specs.declared.error.ErrorKind.TheVariants as kinds
-use Rattle.der_core_head.specs.Grammar.{plain_list}
-use Rattle.der_core_head.specs.Shapes.{IsValid, Value}
-use Rattle.x509_cert_general_names.specs.GeneralNames.{general_name}
-use Rattle.x509_cert_general_names.specs.GeneralNameViews.{general_name_plain}
-use Rattle.x509_cert_names.specs.Names.{PlainName, TypeAndValue, type_and_value}
-use Rattle.x509_cert_names.specs.Views.{name_plain}
+use Rattle.x509_cert_certificates.specs.Oid.Bound.{Bound}
+use Rattle.x509_cert_certificates.specs.Der.ErrorTypes.ErrorKind.TheVariants as kinds
+use Rattle.x509_cert_certificates.specs.Der.Grammar.{plain_list}
+use Rattle.x509_cert_certificates.specs.Der.Shapes.{IsValid, Value}
+use Rattle.x509_cert_extensions.specs.CertGeneralNames.GeneralNames.{general_name}
+use Rattle.x509_cert_extensions.specs.CertGeneralNames.GeneralNameViews.{general_name_plain}
+use Rattle.x509_cert_certificates.specs.CertNames.Names.{PlainName, TypeAndValue, type_and_value}
+use Rattle.x509_cert_certificates.specs.CertNames.Views.{name_plain}
 use Rattle.x509_cert_builders.specs.Refusals.{IsOfKind}
 use Rattle.x509_cert_builders.specs.Naming.{common_name, country, is_among}
 use Rattle.x509_cert_builders.specs.declared.certificate_type.CertificateType.{CertificateType}

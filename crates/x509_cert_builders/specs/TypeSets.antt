@@ -2,7 +2,7 @@
 use Rattle.std.specs.Prelude.{◌≡◌, ℕ, List, nat_le}
 use Rattle.std.specs.BTreeSet.{BTreeSet, contains}
 use Rattle.std.specs.List.{list_all}
-use Rattle.const_oid.specs.Orders.{owned_cmp}
+use Rattle.x509_cert_certificates.specs.Oid.Orders.{owned_cmp}
 use Rattle.x509_cert_builders.specs.Naming.{is_among, may_follow, rank_of}
 
 -- a set has a type exactly where it is among these

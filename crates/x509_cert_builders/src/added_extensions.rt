@@ -2,11 +2,11 @@
 
 ghost use Rattle.std.specs.Prelude.{◌≡◌, ◌⊎◌, ◌<◌, ◌++◌, ◌∷◌, [], false, pos, Some, None, OnOk};
 ghost use Rattle.std.specs.Prelude.{IfOk, IfErr};
-ghost use Rattle.der_core_head.specs.Grammar.{plain_option, plain_list};
-ghost use Rattle.der_core_head.specs.Shapes.{IsValid};
-ghost use Rattle.x509_cert_names.specs.Views.{name_plain};
-ghost use Rattle.x509_cert_parts.specs.ExtensionTypes.{id_ce};
-ghost use Rattle.x509_cert_parts.specs.Views.{extensions_plain, key_lent};
+ghost use Rattle.x509_cert_certificates.specs.Der.Grammar.{plain_option, plain_list};
+ghost use Rattle.x509_cert_certificates.specs.Der.Shapes.{IsValid};
+ghost use Rattle.x509_cert_certificates.specs.CertNames.Views.{name_plain};
+ghost use Rattle.x509_cert_certificates.specs.CertParts.ExtensionTypes.{id_ce};
+ghost use Rattle.x509_cert_certificates.specs.CertParts.Views.{extensions_plain, key_lent};
 ghost use Rattle.x509_cert_extensions.specs.Making.{extension_of};
 ghost use Rattle.x509_cert_builders.specs.Profiles.{authority_key_extension, constraints_extension};
 ghost use Rattle.x509_cert_builders.specs.Profiles.{purposes_extension, subject_key_extension};
@@ -15,17 +15,17 @@ ghost use Rattle.x509_cert_builders.specs.Refusals.{IsUnwritten, IsWantOfMemory}
 
 use crate::build_error::Error;
 use crate::identifiers::{client_auth, server_auth, x500};
-use der_core::Encode;
-use der_core::making::copies_of;
-use der_types_values::FlagSet;
 use std::alloc::Global;
+use x509_cert_certificates::cert_names::Name;
+use x509_cert_certificates::cert_parts::{Extension, Extensions, SubjectPublicKeyInfoRef};
+use x509_cert_certificates::der::Encode;
+use x509_cert_certificates::der::making::copies_of;
+use x509_cert_certificates::types::FlagSet;
+use x509_cert_extensions::cert_general_names::AuthorityKeyIdentifier;
+use x509_cert_extensions::policy_types::BasicConstraints;
 use x509_cert_extensions::{
     Criticality, ExtendedKeyUsage, KeyUsage, KeyUsages, SubjectKeyIdentifier, ToExtension,
 };
-use x509_cert_general_names::AuthorityKeyIdentifier;
-use x509_cert_names::Name;
-use x509_cert_parts::{Extension, Extensions, SubjectPublicKeyInfoRef};
-use x509_cert_policies::BasicConstraints;
 
 /// Adds the extension of a value, of this number below `id-ce`, with the criticality of its type.
 #[tactic(auto, using(crate::proofs::Subjects::plain_pushed, crate::proofs::Faults::not_made))]

@@ -4,8 +4,10 @@ ghost use Rattle.std.specs.Prelude.{◌≡◌};
 ghost use Rattle.x509_cert_builders.specs.Naming.{authority_types, ordered_types};
 
 use crate::identifiers::x500;
-use const_oid::ObjectIdentifier;
-use x509_cert_names::attribute_types::{common_name, country, domain_component, organization};
+use x509_cert_certificates::cert_names::attribute_types::{
+    common_name, country, domain_component, organization,
+};
+use x509_cert_certificates::oid::ObjectIdentifier;
 
 /// The types whose order in a name is laid down, in that order: between country and organization
 /// `stateOrProvinceName`, `localityName`, `postalCode` and `streetAddress`, after it `surname`,

@@ -5,15 +5,15 @@ ghost use Rattle.x509_cert_builders.specs.declared.build_error.Error.TheVariants
 ghost use Rattle.x509_cert_builders.specs.Refusals.{IsWantOfMemory};
 
 use crate::sign_error::SignError;
-use const_oid::ObjectIdentifier;
 use std::alloc::{AllocError, AllocFailed};
+use x509_cert_certificates::oid::ObjectIdentifier;
 
 /// Why a certificate, a list or a request could not be made.
 #[derive(Debug, Drop, thiserror::Error)]
 pub enum Error {
     /// A fault in DER, or out of memory.
     #[error("ASN.1: {0}")]
-    Asn1(der_core::Error),
+    Asn1(x509_cert_certificates::der::Error),
     /// The signer gives no signature.
     #[error("signature: {0}")]
     Signature(SignError),
@@ -37,10 +37,10 @@ pub enum Error {
     Unsupported,
 }
 
-impl From<der_core::Error> for Error {
+impl From<x509_cert_certificates::der::Error> for Error {
     ghost from_gives = { λ e r. r ≡ Asn1 e };
 
-    fn from(error: der_core::Error) -> Error {
+    fn from(error: x509_cert_certificates::der::Error) -> Error {
         Error::Asn1(error)
     }
 }
@@ -57,7 +57,7 @@ impl From<AllocError> for Error {
     ghost from_gives = { λ _ r. IsWantOfMemory r };
 
     fn from(error: AllocError) -> Error {
-        Error::Asn1(der_core::Error::from(error))
+        Error::Asn1(x509_cert_certificates::der::Error::from(error))
     }
 }
 
@@ -65,6 +65,6 @@ impl<T: Drop> From<AllocFailed<T>> for Error {
     ghost from_gives = { λ _ r. IsWantOfMemory r };
 
     fn from(error: AllocFailed<T>) -> Error {
-        Error::Asn1(der_core::Error::from(error))
+        Error::Asn1(x509_cert_certificates::der::Error::from(error))
     }
 }

@@ -2,17 +2,17 @@
 
 use crate::build_error::Error;
 use crate::signer::Signer;
-use der_types_values::BitString;
 use rand_core::CryptoRng;
 use std::alloc::Global;
+use x509_cert_certificates::types::BitString;
 
 /// What makes a signed thing: the octets that a signer is handed are those of the signed part of
 /// what comes out.
 pub trait Builder: Sized + Drop {
     ghost use Rattle.std.specs.Prelude.{◌≡◌, ◌⊎◌, ℕ, List, Option, Some, None, IfOk, IfErr, OnOk};
-    ghost use Rattle.der_core_head.specs.BitStrings.{Bits};
-    ghost use Rattle.der_core_head.specs.Shapes.{Shape, Value, octets_of};
-    ghost use Rattle.x509_cert_parts.specs.Grammar.{Algorithm, PublicKey};
+    ghost use Rattle.x509_cert_certificates.specs.Der.BitStrings.{Bits};
+    ghost use Rattle.x509_cert_certificates.specs.Der.Shapes.{Shape, Value, octets_of};
+    ghost use Rattle.x509_cert_certificates.specs.CertParts.Grammar.{Algorithm, PublicKey};
     ghost use Rattle.x509_cert_builders.specs.Refusals.{IsFailed, IsUnsigned, IsWantOfMemory};
     ghost use Rattle.x509_cert_builders.specs.declared.build_error.Error.{Error};
 

@@ -3,8 +3,8 @@
 use crate::build_error::Error;
 use std::alloc::Global;
 use x509_cert_certificates::TbsCertificate;
-use x509_cert_names::Name;
-use x509_cert_parts::{Extensions, SubjectPublicKeyInfoRef};
+use x509_cert_certificates::cert_names::Name;
+use x509_cert_certificates::cert_parts::{Extensions, SubjectPublicKeyInfoRef};
 
 /// Which names and which extensions a certificate has that is made.
 ///
@@ -16,10 +16,10 @@ pub trait BuilderProfile {
     ghost use Rattle.x509_cert_builders.specs.Refusals.{IsWantOfMemory};
     ghost use Rattle.x509_cert_certificates.specs.Certificates.{Tbs};
     ghost use Rattle.x509_cert_certificates.specs.Views.{tbs_plain};
-    ghost use Rattle.x509_cert_parts.specs.Grammar.{PlainExtension, PublicKey};
-    ghost use Rattle.x509_cert_names.specs.Names.{PlainName};
-    ghost use Rattle.x509_cert_parts.specs.Views.{extensions_plain, key_lent};
-    ghost use Rattle.x509_cert_names.specs.Views.{name_plain};
+    ghost use Rattle.x509_cert_certificates.specs.CertParts.Grammar.{PlainExtension, PublicKey};
+    ghost use Rattle.x509_cert_certificates.specs.CertNames.Names.{PlainName};
+    ghost use Rattle.x509_cert_certificates.specs.CertParts.Views.{extensions_plain, key_lent};
+    ghost use Rattle.x509_cert_certificates.specs.CertNames.Views.{name_plain};
 
     // The issuer's name, of the subject's.
     ghost issuer_name: { Self → PlainName → PlainName };

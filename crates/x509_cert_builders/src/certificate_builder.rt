@@ -2,16 +2,17 @@
 
 ghost use Rattle.std.specs.Prelude.{◌≡◌, ◌⊎◌, ◌++◌, ◌∷◌, [], Err, Some, None, IsOk, IfOk, IfErr};
 ghost use Rattle.std.specs.Prelude.{OnOk, OnErr};
-ghost use Rattle.const_oid.specs.Bound.{Bound};
-ghost use Rattle.der_core_head.specs.Grammar.{plain_option};
-ghost use Rattle.der_core_head.specs.Shapes.{IsValid};
+ghost use Rattle.x509_cert_certificates.specs.Oid.Bound.{Bound};
+ghost use Rattle.x509_cert_certificates.specs.Der.Grammar.{plain_option};
+ghost use Rattle.x509_cert_certificates.specs.Der.Shapes.{IsValid};
 ghost use Rattle.x509_cert_certificates.specs.Views.{certificate_plain, tbs_plain};
 ghost use Rattle.x509_cert_certificates.specs.Certificates.{outer_algorithm, signature_bits, tbs};
 ghost use Rattle.x509_cert_certificates.specs.Certificates.{tbs_certificate, tbs_public_key};
-ghost use Rattle.x509_cert_parts.specs.Views.{algorithm_plain, extensions_plain, key_plain};
-ghost use Rattle.x509_cert_parts.specs.Views.{validity_plain};
+ghost use Rattle.x509_cert_certificates.specs.CertParts.Views.{algorithm_plain, extensions_plain};
+ghost use Rattle.x509_cert_certificates.specs.CertParts.Views.{key_plain};
+ghost use Rattle.x509_cert_certificates.specs.CertParts.Views.{validity_plain};
 ghost use Rattle.x509_cert_certificates.specs.Assembling.{bare_part, fields_of, signed_part};
-ghost use Rattle.x509_cert_parts.specs.SerialNumbers.{serial_octets_max};
+ghost use Rattle.x509_cert_certificates.specs.CertParts.SerialNumbers.{serial_octets_max};
 ghost use Rattle.x509_cert_builders.specs.SignedParts.{part_shape, written_part};
 ghost use Rattle.x509_cert_builders.specs.States.{algorithm_of_last, as_written};
 ghost use Rattle.x509_cert_builders.specs.States.{certificate_octets_in_place, part_for};
@@ -25,19 +26,19 @@ use crate::builder_profile::BuilderProfile;
 use crate::identifiers::no_algorithm;
 use crate::signed_part::{part_in_range, written};
 use crate::signer::Signer;
-use der_core::ErrorKind;
-use der_types_values::BitString;
 use std::alloc::Global;
 use std::marker::Model;
 use x509_cert_certificates::assembling::{
     bare_part, certificate_of, complete, lay_bare, take_extensions,
 };
-use x509_cert_certificates::laws::signed_part_stands_in_place;
-use x509_cert_certificates::{Certificate, TbsCertificate};
-use x509_cert_extensions::ToExtension;
-use x509_cert_parts::{
+use x509_cert_certificates::cert_parts::{
     AlgorithmIdentifier, Extension, Extensions, SerialNumber, SubjectPublicKeyInfo, Validity,
 };
+use x509_cert_certificates::der::ErrorKind;
+use x509_cert_certificates::laws::signed_part_stands_in_place;
+use x509_cert_certificates::types::BitString;
+use x509_cert_certificates::{Certificate, TbsCertificate};
+use x509_cert_extensions::ToExtension;
 
 /// A builder of certificates (RFC 5280 4.1), whose names and extensions its profile tells.
 /// Extensions that are added stand before those of the profile.
@@ -71,7 +72,7 @@ impl<P> Model for CertificateBuilder<P> {
 impl<P: BuilderProfile + Drop> CertificateBuilder<P> {
     /// A builder of a certificate with this number, these dates and this key.
     ///
-    /// As in `crates/build_certificates/src/answering.rt`:
+    /// As in `crates/example_build_certificates/src/answering.rt`:
     ///
     /// ```rust
     /// let mut builder = CertificateBuilder::new(alloc, profile, serial, validity()?, key)?;
@@ -146,7 +147,7 @@ impl<P: BuilderProfile + Drop> CertificateBuilder<P> {
         let made = extension.to_extension(alloc, self.part.subject(), self.extensions.as_slice())?;
         match self.extensions.push(made) {
             Ok(()) => Ok(()),
-            Err(error) => Err(E::Error::from(der_core::Error::from(error))),
+            Err(error) => Err(E::Error::from(x509_cert_certificates::der::Error::from(error))),
         }
     }
 }
@@ -209,7 +210,7 @@ fn put_back(
     ensures refused { IfErr result (λ e. IsWantOfMemory e ⊎ (finalized ≡ None)) }
 {
     let Some(finalized) = finalized else {
-        return Err(Error::Asn1(der_core::Error::from(ErrorKind::Failed)));
+        return Err(Error::Asn1(x509_cert_certificates::der::Error::from(ErrorKind::Failed)));
     };
     lay_bare(part, finalized.algorithm.clone(alloc)?);
     complete(part, finalized.extensions);

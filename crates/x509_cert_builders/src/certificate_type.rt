@@ -2,11 +2,11 @@
 
 ghost use Rattle.std.specs.Prelude.{◌≡◌, ◌⊎◌, ◌∷◌, [], true, Ok, IsOk, IfOk, IfErr, IsPermutation};
 ghost use Rattle.std.specs.List.{list_all};
-ghost use Rattle.der_core.specs.Copies.{IsCopy};
-ghost use Rattle.der_core_head.specs.Grammar.{plain_list};
-ghost use Rattle.x509_cert_general_names.specs.GeneralNameViews.{general_name_plain};
-ghost use Rattle.x509_cert_names.specs.Views.{name_plain};
-ghost use Rattle.x509_cert_names.specs.Pairs.{relative_plain};
+ghost use Rattle.x509_cert_certificates.specs.Der.Copies.{IsCopy};
+ghost use Rattle.x509_cert_certificates.specs.Der.Grammar.{plain_list};
+ghost use Rattle.x509_cert_extensions.specs.CertGeneralNames.GeneralNameViews.{general_name_plain};
+ghost use Rattle.x509_cert_certificates.specs.CertNames.Views.{name_plain};
+ghost use Rattle.x509_cert_certificates.specs.CertNames.Pairs.{relative_plain};
 ghost use Rattle.x509_cert_builders.specs.Naming.{common_name, country, is_among};
 ghost use Rattle.x509_cert_builders.specs.Refusals.{IsWantOfMemory};
 ghost use Rattle.x509_cert_builders.specs.Subscribers.{HasLongAttribute, KeepsDistinct};
@@ -16,12 +16,12 @@ ghost use Rattle.x509_cert_builders.specs.Subscribers.{type_domains, type_plain,
 
 use crate::build_error::Error;
 use crate::domain_validated::DomainValidated;
-use const_oid::ObjectIdentifier;
 use std::alloc::{AllocError, Global};
-use x509_cert_general_names::GeneralNames;
-use x509_cert_names::{
+use x509_cert_certificates::cert_names::{
     AttributeTypeAndValue, Name, RdnSequence, RelativeDistinguishedName, attribute_types as types,
 };
+use x509_cert_certificates::oid::ObjectIdentifier;
+use x509_cert_extensions::cert_general_names::GeneralNames;
 
 /// How it was found out who a subscriber is (CA/Browser Forum, Baseline Requirements 7.1.2.7.1).
 #[derive(Debug, Drop, PartialEq)]
@@ -78,7 +78,7 @@ fn attributes_left(
 }
 
 /// What is left of an RDN.
-#[tactic(auto, using(der_core_head::proofs::Results::plain_permutation, crate::proofs::Subjects::left_whole))]
+#[tactic(auto, using(crate::proofs::Cited::plain_permutation, crate::proofs::Subjects::left_whole))]
 fn left_of(
     alloc: Global,
     relative: &RelativeDistinguishedName,

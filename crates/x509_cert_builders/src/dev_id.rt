@@ -2,11 +2,11 @@
 
 ghost use Rattle.std.specs.Prelude.{◌≡◌, ◌⊎◌, ◌∷◌, ◌++◌, [], true, false, Ok, Some, IsOk, IfOk};
 ghost use Rattle.std.specs.Prelude.{IfErr, OnOk};
-ghost use Rattle.der_core_head.specs.Grammar.{plain_list, plain_option};
+ghost use Rattle.x509_cert_certificates.specs.Der.Grammar.{plain_list, plain_option};
 ghost use Rattle.x509_cert_certificates.specs.Certificates.{tbs_subject};
-ghost use Rattle.x509_cert_parts.specs.Views.{extensions_plain};
-ghost use Rattle.x509_cert_names.specs.Views.{name_plain};
-ghost use Rattle.x509_cert_general_names.specs.GeneralNameViews.{general_name_plain};
+ghost use Rattle.x509_cert_certificates.specs.CertParts.Views.{extensions_plain};
+ghost use Rattle.x509_cert_certificates.specs.CertNames.Views.{name_plain};
+ghost use Rattle.x509_cert_extensions.specs.CertGeneralNames.GeneralNameViews.{general_name_plain};
 ghost use Rattle.x509_cert_builders.specs.Devices.{IsUnnameable, MayHave, MayNotHave, alternatives};
 ghost use Rattle.x509_cert_builders.specs.Devices.{PlainGeneralName, device_extensions, module_of};
 ghost use Rattle.x509_cert_builders.specs.Devices.{device_names, first_module, is_of_module};
@@ -17,14 +17,16 @@ use crate::added_extensions::{add, add_authority, add_usage};
 use crate::build_error::Error;
 use crate::builder_profile::BuilderProfile;
 use crate::tpm_version::TpmVersion;
-use der_core::ErrorKind;
-use der_types_values::{FlagSet, OctetString};
 use std::alloc::Global;
 use x509_cert_certificates::TbsCertificate;
+use x509_cert_certificates::cert_names::Name;
+use x509_cert_certificates::cert_parts::{Extensions, SubjectPublicKeyInfoRef};
+use x509_cert_certificates::der::ErrorKind;
+use x509_cert_certificates::types::{FlagSet, OctetString};
+use x509_cert_extensions::cert_general_names::{
+    GeneralName, GeneralNames, HardwareModuleName, OtherName,
+};
 use x509_cert_extensions::{KeyUsage, KeyUsages, SubjectAltName};
-use x509_cert_general_names::{GeneralName, GeneralNames, HardwareModuleName, OtherName};
-use x509_cert_names::Name;
-use x509_cert_parts::{Extensions, SubjectPublicKeyInfoRef};
 
 /// The certificate of a device that has an identity of its own (IEEE 802.1AR 8).
 #[derive(Drop)]
@@ -61,7 +63,7 @@ fn check_module(alloc: Global, names: &[GeneralName]) -> Result<(), Error>
             return Ok(());
         }
     }
-    Err(Error::Asn1(der_core::Error::from(ErrorKind::Failed)))
+    Err(Error::Asn1(x509_cert_certificates::der::Error::from(ErrorKind::Failed)))
 }
 
 impl DevId {

@@ -1,12 +1,12 @@
 //! Subscribers whose domains were validated.
 
-ghost use Rattle.der_core.specs.Copies.{IsCopy};
+ghost use Rattle.x509_cert_certificates.specs.Der.Copies.{IsCopy};
 ghost use Rattle.x509_cert_builders.specs.Subscribers.{domains_plain};
 
-use der_core::making::copies_of;
 use std::alloc::{AllocError, Global};
-use x509_cert_general_names::{GeneralName, GeneralNames};
-use x509_cert_names::Name;
+use x509_cert_certificates::cert_names::Name;
+use x509_cert_certificates::der::making::copies_of;
+use x509_cert_extensions::cert_general_names::{GeneralName, GeneralNames};
 
 /// The subject of a subscriber whose domains, and nothing else, were validated (CA/Browser Forum,
 /// Baseline Requirements 7.1.2.7.2): it has countries and common names alone.

@@ -3,8 +3,8 @@
 ghost use Rattle.std.specs.Prelude.{◌≡◌, ◌<◌, ◌∷◌, []};
 ghost use Rattle.x509_cert_builders.specs.Profiles.{id_kp, rsa_encryption, elliptic_curve_key};
 
-use const_oid::ObjectIdentifier;
-use x509_cert_parts::AlgorithmIdentifier;
+use x509_cert_certificates::cert_parts::AlgorithmIdentifier;
+use x509_cert_certificates::oid::ObjectIdentifier;
 
 /// What stands in place of an algorithm until one is told.
 pub(crate) fn no_algorithm() -> AlgorithmIdentifier {

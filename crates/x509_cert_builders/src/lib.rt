@@ -39,4 +39,21 @@ pub use subscriber::Subscriber;
 pub use tls12_options::Tls12Options;
 pub use tpm_version::TpmVersion;
 
+/// The names of `x509_cert_certificates` that the crates above use.
+pub mod cert_certificates {
+    pub use x509_cert_certificates::{
+        CertDigest, Certificate, CertificateInner, TbsCertificate, TbsCertificateInner, laws,
+    };
+}
+
+/// The names of `x509_cert_extensions` that the crates above use.
+pub mod cert_extensions {
+    pub use x509_cert_extensions::{
+        AuthorityInfoAccessSyntax, BaseCrlNumber, Criticality, CrlDistributionPoints, CrlNumber,
+        CrlReason, ExtendedKeyUsage, FreshestCrl, IssuerAltName, KeyUsage, KeyUsages,
+        SubjectAltName, SubjectDirectoryAttributes, SubjectInfoAccessSyntax, SubjectKeyIdentifier,
+        ToExtension, laws,
+    };
+}
+
 // What they make, and of what.

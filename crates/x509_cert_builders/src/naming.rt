@@ -1,16 +1,16 @@
 //! The naming rules of authorities (CA/Browser Forum, Baseline Requirements 7.1.4.1, 7.1.2.10.2).
 
 ghost use Rattle.std.specs.Prelude.{◌≡◌, Ok, Err, not, true, Option, Some, None, IfOk, find};
-ghost use Rattle.x509_cert_names.specs.Views.{name_plain};
+ghost use Rattle.x509_cert_certificates.specs.CertNames.Views.{name_plain};
 ghost use Rattle.x509_cert_builders.specs.Naming.{authority_types, is_among, name_types};
 ghost use Rattle.x509_cert_builders.specs.Naming.{has_required, Names, NamesAuthority};
 
 use crate::attribute_types::authority_types;
 use crate::build_error::Error;
 use crate::types_before::TypesBefore;
-use const_oid::ObjectIdentifier;
 use std::alloc::Global;
-use x509_cert_names::{Name, attribute_types as types};
+use x509_cert_certificates::cert_names::{Name, attribute_types as types};
+use x509_cert_certificates::oid::ObjectIdentifier;
 
 /// The types of a name that keeps the rules of all names, in its order.
 #[tactic(auto, using(crate::proofs::Subjects::checked_none, crate::proofs::Subjects::checked_more, crate::proofs::Subjects::checked_fault, crate::proofs::Subjects::checked_all))]

@@ -1,7 +1,7 @@
 //! Roots.
 
 ghost use Rattle.std.specs.Prelude.{◌≡◌, Ok, IfOk};
-ghost use Rattle.x509_cert_names.specs.Views.{name_plain};
+ghost use Rattle.x509_cert_certificates.specs.CertNames.Views.{name_plain};
 ghost use Rattle.x509_cert_builders.specs.Naming.{NamesAuthority};
 ghost use Rattle.x509_cert_builders.specs.Profiles.{root_extensions};
 
@@ -13,8 +13,8 @@ use crate::builder_profile::BuilderProfile;
 use crate::naming::ca_certificate_naming;
 use std::alloc::Global;
 use x509_cert_certificates::TbsCertificate;
-use x509_cert_names::Name;
-use x509_cert_parts::{Extensions, SubjectPublicKeyInfoRef};
+use x509_cert_certificates::cert_names::Name;
+use x509_cert_certificates::cert_parts::{Extensions, SubjectPublicKeyInfoRef};
 
 /// The certificate of an authority that signed it itself (CA/Browser Forum, Baseline Requirements
 /// 7.1.2.1).

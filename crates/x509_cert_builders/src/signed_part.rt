@@ -3,22 +3,22 @@
 //! the contract of a call that does nothing.
 
 ghost use Rattle.std.specs.Prelude.{◌≡◌, ◌⊎◌, Some, IfOk, IfErr};
-ghost use Rattle.const_oid.specs.Bound.{Bound};
-ghost use Rattle.der_core_head.specs.Ranges.{IsInRange};
-ghost use Rattle.der_core_head.specs.Shapes.{IsValid, octets_of};
-ghost use Rattle.x509_cert_parts.specs.SerialNumbers.{serial_octets_max};
-ghost use Rattle.x509_cert_parts.specs.Views.{validity_plain};
-ghost use Rattle.x509_cert_parts.specs.Grammar.{validity};
+ghost use Rattle.x509_cert_certificates.specs.Oid.Bound.{Bound};
+ghost use Rattle.x509_cert_certificates.specs.Der.Ranges.{IsInRange};
+ghost use Rattle.x509_cert_certificates.specs.Der.Shapes.{IsValid, octets_of};
+ghost use Rattle.x509_cert_certificates.specs.CertParts.SerialNumbers.{serial_octets_max};
+ghost use Rattle.x509_cert_certificates.specs.CertParts.Views.{validity_plain};
+ghost use Rattle.x509_cert_certificates.specs.CertParts.Grammar.{validity};
 ghost use Rattle.x509_cert_certificates.specs.Certificates.{tbs_certificate};
 ghost use Rattle.x509_cert_certificates.specs.Views.{tbs_plain};
 ghost use Rattle.x509_cert_builders.specs.Refusals.{IsUnwritten, IsWantOfMemory};
 ghost use Rattle.x509_cert_builders.specs.SignedParts.{part_shape, written_part, IsPartInRange};
 
 use crate::build_error::Error;
-use der_core::{InRange, ToDer};
 use std::alloc::Global;
 use x509_cert_certificates::TbsCertificate;
-use x509_cert_parts::Validity;
+use x509_cert_certificates::cert_parts::Validity;
+use x509_cert_certificates::der::{InRange, ToDer};
 
 /// The octets of a part.
 pub(crate) fn written(alloc: Global, part: &TbsCertificate) -> Result<Vec<u8>, Error>

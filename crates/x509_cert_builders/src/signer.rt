@@ -1,10 +1,10 @@
 //! Signers.
 
 use crate::sign_error::SignError;
-use der_types_values::BitString;
 use rand_core::CryptoRng;
 use std::alloc::Global;
-use x509_cert_parts::{AlgorithmIdentifier, SubjectPublicKeyInfo};
+use x509_cert_certificates::cert_parts::{AlgorithmIdentifier, SubjectPublicKeyInfo};
+use x509_cert_certificates::types::BitString;
 
 /// A key that signs, wherever it is kept.
 ///
@@ -13,9 +13,9 @@ use x509_cert_parts::{AlgorithmIdentifier, SubjectPublicKeyInfo};
 /// octets relates more than one to them.
 pub trait Signer {
     ghost use Rattle.std.specs.Prelude.{◌≡◌, ℕ, List, IfOk, IfErr};
-    ghost use Rattle.der_core_head.specs.BitStrings.{Bits};
-    ghost use Rattle.x509_cert_parts.specs.Grammar.{Algorithm, PublicKey};
-    ghost use Rattle.x509_cert_parts.specs.Views.{algorithm_plain, key_plain};
+    ghost use Rattle.x509_cert_certificates.specs.Der.BitStrings.{Bits};
+    ghost use Rattle.x509_cert_certificates.specs.CertParts.Grammar.{Algorithm, PublicKey};
+    ghost use Rattle.x509_cert_certificates.specs.CertParts.Views.{algorithm_plain, key_plain};
     ghost use Rattle.x509_cert_builders.specs.declared.sign_error.SignError.TheVariants.{Refused};
 
     /// The key under which the bits are judged.

@@ -1,8 +1,8 @@
 //! Subordinate authorities.
 
 ghost use Rattle.std.specs.Prelude.{Ok, pos};
-ghost use Rattle.der_core_head.specs.Grammar.{plain_option};
-ghost use Rattle.x509_cert_names.specs.Views.{name_plain};
+ghost use Rattle.x509_cert_certificates.specs.Der.Grammar.{plain_option};
+ghost use Rattle.x509_cert_certificates.specs.CertNames.Views.{name_plain};
 ghost use Rattle.x509_cert_builders.specs.Profiles.{subordinate_extensions};
 
 use crate::added_extensions::{
@@ -12,8 +12,8 @@ use crate::build_error::Error;
 use crate::builder_profile::BuilderProfile;
 use std::alloc::Global;
 use x509_cert_certificates::TbsCertificate;
-use x509_cert_names::Name;
-use x509_cert_parts::{Extensions, SubjectPublicKeyInfoRef};
+use x509_cert_certificates::cert_names::Name;
+use x509_cert_certificates::cert_parts::{Extensions, SubjectPublicKeyInfoRef};
 
 /// The certificate of an authority whose key signs certificates of servers (CA/Browser Forum,
 /// Baseline Requirements 7.1.2.6).

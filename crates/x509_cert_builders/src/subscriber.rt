@@ -1,8 +1,8 @@
 //! Subscribers.
 
 ghost use Rattle.std.specs.Prelude.{◌≡◌, ◌<◌, ◌^◌, bit_or, if◌then◌else◌};
-ghost use Rattle.x509_cert_parts.specs.Views.{key_lent};
-ghost use Rattle.x509_cert_names.specs.Views.{name_plain};
+ghost use Rattle.x509_cert_certificates.specs.CertParts.Views.{key_lent};
+ghost use Rattle.x509_cert_certificates.specs.CertNames.Views.{name_plain};
 ghost use Rattle.x509_cert_builders.specs.Profiles.{subscriber_extensions, subscriber_uses};
 ghost use Rattle.x509_cert_builders.specs.Subscribers.{type_subject};
 
@@ -12,12 +12,12 @@ use crate::builder_profile::BuilderProfile;
 use crate::certificate_type::CertificateType;
 use crate::identifiers::{elliptic_curve_key, rsa_encryption};
 use crate::tls12_options::Tls12Options;
-use der_types_values::FlagSet;
 use std::alloc::Global;
 use x509_cert_certificates::TbsCertificate;
+use x509_cert_certificates::cert_names::Name;
+use x509_cert_certificates::cert_parts::{Extensions, SubjectPublicKeyInfoRef};
+use x509_cert_certificates::types::FlagSet;
 use x509_cert_extensions::{KeyUsage, KeyUsages};
-use x509_cert_names::Name;
-use x509_cert_parts::{Extensions, SubjectPublicKeyInfoRef};
 
 /// The certificate of a server (CA/Browser Forum, Baseline Requirements 7.1.2.7). Its domains are
 /// added to the builder, as `SubjectAltName`.

@@ -4,7 +4,7 @@ ghost use Rattle.std.specs.Prelude.{◌≡◌};
 ghost use Rattle.x509_cert_builders.specs.Devices.{version_arcs};
 
 use crate::identifiers::{tcg_sv_tpm_12, tcg_sv_tpm_20};
-use const_oid::ObjectIdentifier;
+use x509_cert_certificates::oid::ObjectIdentifier;
 
 /// A version of the Trusted Platform Module in which a device keeps its key.
 #[derive(Clone, Debug, Drop, PartialEq)]

@@ -2,18 +2,18 @@
 
 ghost use Rattle.std.specs.Prelude.{◌≡◌, ◌<◌, ◌≤◌, ℕ, List, [], ◌∷◌, ◌++◌, IfOk, length, Ok, Err};
 ghost use Rattle.std.specs.List.{list_all, position_or_len};
-ghost use Rattle.const_oid.specs.Comparing.{owned_eq};
-ghost use Rattle.x509_cert_names.specs.Pairs.{relative_plain};
+ghost use Rattle.x509_cert_certificates.specs.Oid.Comparing.{owned_eq};
+ghost use Rattle.x509_cert_certificates.specs.CertNames.Pairs.{relative_plain};
 ghost use Rattle.x509_cert_builders.specs.Naming.{ordered_types, is_among, may_follow, type_behind};
 ghost use Rattle.x509_cert_builders.specs.TypeSets.{HasTypes, IsLeastRank};
 
 use crate::attribute_types::ordered_types;
 use crate::build_error::Error;
-use const_oid::ObjectIdentifier;
 use std::alloc::{AllocError, Global};
 use std::collections::BTreeSet;
 use std::marker::Model;
-use x509_cert_names::RelativeDistinguishedName;
+use x509_cert_certificates::cert_names::RelativeDistinguishedName;
+use x509_cert_certificates::oid::ObjectIdentifier;
 
 /// How many of these types stand before a type; all of them where it is none of them.
 fn rank_among(types: &[ObjectIdentifier<39>], oid: &ObjectIdentifier<39>) -> usize

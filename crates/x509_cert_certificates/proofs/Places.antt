@@ -1,8 +1,8 @@
 -- Where the first field of a sequence stands.
 use Rattle.std.proofs.Common.{◌≡◌, ℕ, List, ◌++◌, length, take, drop, refl, ap, ◌∙◌, drop_at, take_at}
-use Rattle.der_core_head.specs.declared.tag.Tag.TheVariants as tags
-use Rattle.der_core_head.specs.Heads.{tlv, head_octets}
-use Rattle.der_core_head.specs.Shapes.{Shape, Body, BodyValue, field, sequence, octets_of, contents, body_octets}
+use Rattle.der_core.specs.TagTypes.Tag.TheVariants as tags
+use Rattle.der_core.specs.Heads.{tlv, head_octets}
+use Rattle.der_core.specs.Shapes.{Shape, Body, BodyValue, field, sequence, octets_of, contents, body_octets}
 
 -- the header
 abbrev pub outer_head : (b : Body) → BodyValue b → List ℕ

@@ -1,17 +1,17 @@
 -- Certificates whose dates are respelled: they have an encoding, and which of them are the same.
 use Rattle.std.proofs.Common.{◌≡◌, ℕ, ◌≤◌, List, [], ◌++◌, length, Bool, true, false, Option, refl, ap, ◌↔◌, zero, suc, ◌⊎◌, inl, inr, ◌∷◌, arith}
-use Rattle.der_core_head.specs.declared.tag.Tag.TheVariants as tags
-use Rattle.der_core_head.specs.Shapes.{Body, IsValid, IsContent, IsBody, field, done, octets_of, body_octets}
-use Rattle.der_core_head.proofs.OneEncoding.{one_value}
+use Rattle.der_core.specs.TagTypes.Tag.TheVariants as tags
+use Rattle.der_core.specs.Shapes.{Body, IsValid, IsContent, IsBody, field, done, octets_of, body_octets}
+use Rattle.der_core.proofs.OneEncoding.{one_value}
 use Rattle.x509_cert_names.specs.Names.{name}
 use Rattle.x509_cert_parts.specs.Grammar.{PlainValidity, bit_string, algorithm_identifier, public_key_info, version_field, serial_number, validity, not_before, not_after}
 use Rattle.x509_cert_parts.specs.Respelling.{validity_by, is_early_generalized}
 use Rattle.x509_cert_parts.proofs.Respelled.{validity_valid, validity_shorter, validity_same, nested_shorter, nested_valid, behind_same, before_same}
 use Rattle.x509_cert_certificates.specs.Certificates.{Tbs, PlainCertificate, tbs_fields, tbs_certificate, certificate_fields, certificate, optional_fields, from_validity, tbs, tbs_validity, tbs_by, certificate_by}
 use Rattle.std.specs.List.{AllByRecursion}
-use Rattle.der_core_head.specs.Bounds.{IsValidUnder, identifiers_of, HoldsLarge}
+use Rattle.der_core.specs.Bounds.{IsValidUnder, identifiers_of, HoldsLarge}
 use Rattle.x509_cert_certificates.specs.Bounds.{certificate_identifiers, SpellsEach, OneHoldsLarge}
-use Rattle.der_core_head.proofs.BoundLaws.{below_or_large, Family, valid_wider, valid_narrow}
+use Rattle.der_core.proofs.BoundLaws.{below_or_large, Family, valid_wider, valid_narrow}
 
 -- the fields from one on
 abbrev from_subject : ℕ → Body

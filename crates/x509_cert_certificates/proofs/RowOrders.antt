@@ -1,12 +1,12 @@
 -- The length, the order and the first tag of the fields that a record lends are those of its own.
 use Rattle.std.proofs.Common.{◌≡◌, Option, Result, Ok, subst, IfErr, Ordering}
-use Rattle.der_core_head.specs.declared.error.Error.{Error}
-use Rattle.der_core_head.specs.declared.length.Length.{Length}
-use Rattle.der_core_head.specs.declared.tag.Tag.{Tag}
-use Rattle.der_core_head.specs.Reading.{GivesNow}
-use Rattle.der_core_head.specs.Shapes.{Body, BodyValue, IsBody, body_octets}
-use Rattle.der_core_head.specs.Spelling.{body_begins}
-use Rattle.der_core_head.specs.Writing.{size_body}
+use Rattle.der_core.specs.ErrorTypes.Error.{Error}
+use Rattle.der_core.specs.LengthTypes.Length.{Length}
+use Rattle.der_core.specs.TagTypes.Tag.{Tag}
+use Rattle.der_core.specs.Reading.{GivesNow}
+use Rattle.der_core.specs.Shapes.{Body, BodyValue, IsBody, body_octets}
+use Rattle.der_core.specs.Spelling.{body_begins}
+use Rattle.der_core.specs.Writing.{size_body}
 use Rattle.der_core.specs.Orders.{Overflows, StartsWith, bodies_cmp}
 
 pub counted : (b : Body) (v w : BodyValue b) (r : Result Length Error) → v ≡ w → GivesNow (λ l. l.value) r (size_body b v) → GivesNow (λ l. l.value) r (size_body b w)

@@ -1,8 +1,8 @@
 -- What a bound of arcs decides of a certificate.
 use Rattle.std.specs.Prelude.{◌≡◌, ℕ, List, Option, None, flat_map, Contains}
 use Rattle.std.specs.List.{AllByRecursion}
-use Rattle.der_core_head.specs.Bounds.{identifiers_of, HoldsLarge}
-use Rattle.der_core_head.specs.Shapes.{IsValid, octets_of}
+use Rattle.der_core.specs.Bounds.{identifiers_of, HoldsLarge}
+use Rattle.der_core.specs.Shapes.{IsValid, octets_of}
 use Rattle.x509_cert_certificates.specs.Certificates.{PlainCertificate, certificate}
 
 -- the identifiers that stand in a certificate: those of its algorithms, of the attributes of its

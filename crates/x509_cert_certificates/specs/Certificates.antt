@@ -2,13 +2,13 @@
 -- content octets of a serial number, if there is such a number.
 use Rattle.std.specs.Prelude.{ℕ, ℤ, List, [], length, Bool, Option, None}
 use Rattle.std.specs.Option.{option_map_or}
-use Rattle.der_core_head.specs.declared.tag.Tag.TheVariants as tags
-use Rattle.der_core_head.specs.BitStrings.{Bits}
-use Rattle.der_core_head.specs.Dates.{Civil}
-use Rattle.der_core_head.specs.Heads.{head_octets}
-use Rattle.der_core_head.specs.Leaves.{bits}
-use Rattle.der_core_head.specs.Shapes.{Shape, Body, Value, BodyValue, optional}
-use Rattle.der_core_head.specs.Shapes.{field, done, sequence, explicit, octets_of, body_octets}
+use Rattle.der_core.specs.TagTypes.Tag.TheVariants as tags
+use Rattle.der_core.specs.BitStrings.{Bits}
+use Rattle.der_core.specs.Dates.{Civil}
+use Rattle.der_core.specs.Heads.{head_octets}
+use Rattle.der_core.specs.Leaves.{bits}
+use Rattle.der_core.specs.Shapes.{Shape, Body, Value, BodyValue, optional}
+use Rattle.der_core.specs.Shapes.{field, done, sequence, explicit, octets_of, body_octets}
 use Rattle.x509_cert_names.specs.Names.{PlainName, name}
 use Rattle.x509_cert_parts.specs.Grammar.{Algorithm, PublicKey, validity, extensions, civil_of}
 use Rattle.x509_cert_parts.specs.Grammar.{PlainValidity, bit_string, version_field, serial_number}
@@ -22,7 +22,8 @@ use Rattle.x509_cert_parts.specs.Respelling.{validity_by}
 --     OPTIONAL, subjectUniqueID [2] likewise, extensions [3] EXPLICIT Extensions OPTIONAL }
 abbrev pub optional_fields : ℕ → Body
 optional_fields bound = field (optional (implicit_leaf 1 bits))
-    (field (optional (implicit_leaf 2 bits)) (field (optional (explicit 3 (extensions bound))) done))
+    (field (optional (implicit_leaf 2 bits))
+    (field (optional (explicit 3 (extensions bound))) done))
 
 abbrev pub from_validity : ℕ → Body
 from_validity bound =

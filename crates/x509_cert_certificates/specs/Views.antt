@@ -1,6 +1,6 @@
 -- What contracts see of the types: the plain values of their shapes.
 use Rattle.std.specs.Prelude.{pos}
-use Rattle.der_core_head.specs.Grammar.{plain_option}
+use Rattle.der_core.specs.Grammar.{plain_option}
 use Rattle.x509_cert_certificates.specs.Certificates.{Tbs, PlainCertificate}
 use Rattle.x509_cert_certificates.specs.declared.certificate.CertificateInner.{CertificateInner}
 use Rattle.x509_cert_certificates.specs.declared.tbs_certificate.TbsCertificateInner.{TbsCertificateInner}

@@ -2,20 +2,22 @@
 //! certificate: a new one is made of a part that is laid bare and completed here.
 
 ghost use Rattle.std.specs.Prelude.{◌≡◌, pos};
-ghost use Rattle.der_core_head.specs.Grammar.{plain_option};
+ghost use Rattle.der_core.specs.Grammar.{plain_option};
 ghost use Rattle.x509_cert_names.specs.Views.{name_plain};
 ghost use Rattle.x509_cert_parts.specs.Views.{algorithm_plain, extensions_plain, key_plain};
 ghost use Rattle.x509_cert_parts.specs.Views.{validity_plain, version_number};
 ghost use Rattle.x509_cert_certificates.specs.Certificates.{tbs_inner_algorithm};
-ghost use Rattle.x509_cert_certificates.specs.Assembling.{bare_part, extensions_if_any, extensions_in};
-ghost use Rattle.x509_cert_certificates.specs.Assembling.{fields_of, has_any, signed_part, version_of};
+ghost use Rattle.x509_cert_certificates.specs.Assembling.{bare_part, extensions_if_any};
+ghost use Rattle.x509_cert_certificates.specs.Assembling.{extensions_in};
+ghost use Rattle.x509_cert_certificates.specs.Assembling.{fields_of, has_any, signed_part};
+ghost use Rattle.x509_cert_certificates.specs.Assembling.{version_of};
 ghost use Rattle.x509_cert_certificates.specs.Views.{certificate_plain, tbs_plain};
 
 use crate::certificate::CertificateInner;
 use crate::tbs_certificate::TbsCertificateInner;
-use der_types_values::BitString;
 use std::alloc::Global;
 use x509_cert_names::Name;
+use x509_cert_parts::types::BitString;
 use x509_cert_parts::{
     AlgorithmIdentifier, Extensions, SerialNumber, SubjectPublicKeyInfo, Validity, Version,
 };

@@ -1,11 +1,11 @@
 //! Certificates.
 
 ghost use Rattle.std.specs.Prelude.{◌≡◌, ◌≢◌, [], false, None, refl, IfOk, IfErr};
-ghost use Rattle.const_oid.specs.Bound.{Bound};
-ghost use Rattle.der_core_head.specs.Grammar.{read_whole};
-ghost use Rattle.der_core_head.specs.Reading.{Fails, Gives};
-ghost use Rattle.der_core_head.specs.Shapes.{octets_of, IsValid, Spells};
-ghost use Rattle.der_core_head.specs.Writing.{write};
+ghost use Rattle.der_core.specs.Oid.Bound.{Bound};
+ghost use Rattle.der_core.specs.Grammar.{read_whole};
+ghost use Rattle.der_core.specs.Reading.{Fails, Gives};
+ghost use Rattle.der_core.specs.Shapes.{octets_of, IsValid, Spells};
+ghost use Rattle.der_core.specs.Writing.{write};
 ghost use Rattle.x509_cert_parts.specs.Views.{algorithm_plain};
 ghost use Rattle.x509_cert_certificates.specs.Certificates.{PlainCertificate, certificate};
 ghost use Rattle.x509_cert_certificates.specs.Certificates.{certificate_fields, certificate_by};
@@ -16,8 +16,8 @@ use crate::cert_digest::CertDigest;
 use crate::tbs_certificate::TbsCertificateInner;
 use der_core::describing::{AsRecord, Described, RowUser, Rows};
 use der_core::{DecodeFields, Error, ErrorKind, Fields, FromDer, Reader, ToDer, lend, read_row};
-use der_types_values::BitString;
 use std::alloc::Global;
+use x509_cert_parts::types::BitString;
 use x509_cert_parts::{AlgorithmIdentifier, Profile, Rfc5280};
 
 /// A certificate (RFC 5280 4.1).
@@ -73,7 +73,7 @@ impl<P: Profile> Rows for CertificateInner<P> {
 impl<P: Profile> CertificateInner<P> {
     /// Reads a certificate, all of the octets.
     ///
-    /// As in `crates/subject_of_certificate/src/main.rt`:
+    /// As in `crates/example_subject_of_certificate/src/main.rt`:
     ///
     /// ```rust
     /// let certificate = CertificateInner::<Raw>::from_der(alloc, octets)?;

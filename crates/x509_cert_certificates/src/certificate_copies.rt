@@ -7,8 +7,8 @@ ghost use Rattle.x509_cert_certificates.specs.Views.{certificate_plain, tbs_plai
 use crate::certificate::CertificateInner;
 use crate::tbs_certificate::TbsCertificateInner;
 use der_core::making::{copies_of_option, copy_of_option};
-use der_types_values::BitString;
 use std::alloc::{AllocError, Global};
+use x509_cert_parts::types::BitString;
 use x509_cert_parts::{Extension, Validity};
 
 impl<P> CertificateInner<P> {

@@ -6,15 +6,15 @@
 
 ghost use Rattle.std.specs.Prelude.{◌≡◌, ◌⊎◌, ◌∷◌, ◌++◌, map, ◌≤◌, ◌↔◌, ℕ, List, [], Option, Bool};
 ghost use Rattle.std.specs.Prelude.{true, false, Ok, Err, take, drop};
-ghost use Rattle.const_oid.specs.Bound.{Bound};
+ghost use Rattle.der_core.specs.Oid.Bound.{Bound};
 ghost use Rattle.der_core.specs.Equality.{IsOfValues};
-ghost use Rattle.der_core_head.specs.declared.error.ErrorKind.{ErrorKind};
-ghost use Rattle.der_core_head.specs.Octets.{IsOctets};
-ghost use Rattle.der_core_head.specs.Heads.{Fits};
-ghost use Rattle.der_core_head.specs.Grammar.{read, read_whole};
-ghost use Rattle.der_core_head.specs.Bounds.{AreBelow, HoldsLarge};
-ghost use Rattle.der_core_head.specs.Shapes.{IsValid, Spells, octets_of};
-ghost use Rattle.der_core_head.specs.Spelling.{is_apart, are_enough};
+ghost use Rattle.der_core.specs.ErrorTypes.ErrorKind.{ErrorKind};
+ghost use Rattle.der_core.specs.Octets.{IsOctets};
+ghost use Rattle.der_core.specs.Heads.{Fits};
+ghost use Rattle.der_core.specs.Grammar.{read, read_whole};
+ghost use Rattle.der_core.specs.Bounds.{AreBelow, HoldsLarge};
+ghost use Rattle.der_core.specs.Shapes.{IsValid, Spells, octets_of};
+ghost use Rattle.der_core.specs.Spelling.{is_apart, are_enough};
 ghost use Rattle.x509_cert_parts.specs.Grammar.{not_before, not_after, algorithm_arcs};
 ghost use Rattle.x509_cert_parts.specs.Grammar.{key_algorithm, extension_arcs};
 ghost use Rattle.x509_cert_names.specs.Names.{type_of, all_of};

@@ -1,12 +1,12 @@
 //! The signed part of a certificate.
 
 ghost use Rattle.std.specs.Prelude.{◌≡◌, pos, refl};
-ghost use Rattle.const_oid.specs.Bound.{Bound};
-ghost use Rattle.der_core_head.specs.Grammar.{plain_option};
+ghost use Rattle.der_core.specs.Oid.Bound.{Bound};
+ghost use Rattle.der_core.specs.Grammar.{plain_option};
 ghost use Rattle.x509_cert_names.specs.Views.{name_plain};
 ghost use Rattle.x509_cert_parts.specs.Views.{version_number, validity_plain, algorithm_plain};
 ghost use Rattle.x509_cert_parts.specs.Views.{key_plain, extensions_plain};
-ghost use Rattle.der_core_head.specs.Reading.{Gives};
+ghost use Rattle.der_core.specs.Reading.{Gives};
 ghost use Rattle.x509_cert_parts.specs.ExtensionSearch.{only_value, extensions_in_field};
 ghost use Rattle.x509_cert_certificates.specs.Certificates.{tbs_fields, from_validity, tbs_by};
 ghost use Rattle.x509_cert_certificates.specs.Certificates.{tbs_version, tbs_from_validity};
@@ -16,17 +16,17 @@ ghost use Rattle.x509_cert_certificates.specs.Certificates.{tbs_public_key, tbs_
 ghost use Rattle.x509_cert_certificates.specs.Certificates.{tbs_subject_unique_id, tbs_extensions};
 ghost use Rattle.x509_cert_certificates.specs.Views.{tbs_plain};
 
-use const_oid::AssociatedOid;
 use der_core::describing::{AsRecord, DecodeRow, Described, FieldRow, RowUser, Rows};
 use der_core::making::{explicit_of, explicit_ref, implicit_of, implicit_ref};
+use der_core::oid::AssociatedOid;
 use der_core::{
     Decode, DecodeFields, EncodeFields, EncodeRef, Error, Explicit, Fields, FieldsOrd, Implicit,
     ImplicitRef, Length, Reader, SliceReader, Tag, WithDefault, Writer,
 };
-use der_types_values::BitString;
 use std::alloc::Global;
 use std::cmp::Ordering;
 use x509_cert_names::Name;
+use x509_cert_parts::types::BitString;
 use x509_cert_parts::{
     AlgorithmIdentifier, Extensions, ExtensionsOf, Profile, Rfc5280, SerialNumber,
     SubjectPublicKeyInfo, Validity, Version, filter_extensions, get_extension,
@@ -321,7 +321,7 @@ impl<P> TbsCertificateInner<P> {
     /// The value of the only extension of the identifier of `T`, and whether it is critical; none
     /// where no extension has the identifier.
     ///
-    /// As in `crates/extensions_of_certificate/src/main.rt`:
+    /// As in `crates/example_extensions_of_certificate/src/main.rt`:
     ///
     /// ```rust
     /// let usage = certificate.get_extension::<KeyUsage>(alloc)?;

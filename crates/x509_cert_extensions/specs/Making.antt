@@ -1,11 +1,11 @@
 -- The extensions that are made of values.
 use Rattle.std.specs.Prelude.{◌≡◌, ℕ, List, [], Bool, false, None}
-use Rattle.der_core_head.specs.declared.error.ErrorKind.{ErrorKind}
-use Rattle.der_core_head.specs.declared.error.ErrorKind.TheVariants.{OutOfMemory}
-use Rattle.der_core_head.specs.Reading.{Fails}
-use Rattle.der_core_head.specs.Shapes.{Shape, Value, IsValid, octets_of}
-use Rattle.der_core_head.specs.Writing.{write}
-use Rattle.x509_cert_parts.specs.Grammar.{PlainExtension}
+use Rattle.x509_cert_policies.specs.Der.ErrorTypes.ErrorKind.{ErrorKind}
+use Rattle.x509_cert_policies.specs.Der.ErrorTypes.ErrorKind.TheVariants.{OutOfMemory}
+use Rattle.x509_cert_policies.specs.Der.Reading.{Fails}
+use Rattle.x509_cert_policies.specs.Der.Shapes.{Shape, Value, IsValid, octets_of}
+use Rattle.x509_cert_policies.specs.Der.Writing.{write}
+use Rattle.x509_cert_policies.specs.CertParts.Grammar.{PlainExtension}
 
 -- the extension of an identifier whose content is the encoding of a value
 abbrev pub extension_of : List ℕ → Bool → (s : Shape) → Value s → PlainExtension

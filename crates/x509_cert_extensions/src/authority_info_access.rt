@@ -2,9 +2,9 @@
 
 ghost use Rattle.std.specs.Prelude.{◌≡◌, []};
 
-use der_core::describing::{AsField, Described, Ordered, Wraps};
 use std::alloc::Global;
 use x509_cert_general_names::AccessDescription;
+use x509_cert_policies::der::describing::{AsField, Described, Ordered, Wraps};
 
 /// Where services of an issuer are had (RFC 5280 4.2.2.1).
 ///
@@ -65,7 +65,7 @@ impl AsRef<Vec<AccessDescription>> for AuthorityInfoAccessSyntax {
 
 impl AsMut<Vec<AccessDescription>> for AuthorityInfoAccessSyntax {
     ghost use Rattle.std.specs.Borrow.{sem, Lends};
-    ghost use Rattle.der_core.specs.Rows.{list_row};
+    ghost use Rattle.x509_cert_policies.specs.Der.Rows.{list_row};
     ghost use Rattle.x509_cert_general_names.specs.contracts.access_description.AccessDescription.{the_row as member_row};
     ghost use Rattle.x509_cert_extensions.specs.contracts.authority_info_access.AuthorityInfoAccessSyntax.{the_row};
 

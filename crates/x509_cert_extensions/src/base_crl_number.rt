@@ -2,8 +2,8 @@
 
 ghost use Rattle.std.specs.Prelude.{◌≡◌};
 
-use der_core::describing::{AsField, Described, Ordered, Wraps};
-use der_types_numbers::Uint;
+use x509_cert_policies::der::describing::{AsField, Described, Ordered, Wraps};
+use x509_cert_policies::types::Uint;
 
 /// The number of the list that a list of changes begins from (RFC 5280 5.2.4).
 ///
@@ -55,7 +55,7 @@ impl AsRef<Uint> for BaseCrlNumber {
 
 impl AsMut<Uint> for BaseCrlNumber {
     ghost use Rattle.std.specs.Borrow.{sem, Lends};
-    ghost use Rattle.der_types_numbers.specs.contracts.uint.Uint.{the_row as inner_row};
+    ghost use Rattle.x509_cert_policies.specs.Types.UintContracts.Uint.{the_row as inner_row};
     ghost use Rattle.x509_cert_extensions.specs.contracts.base_crl_number.BaseCrlNumber.{the_row};
 
     fn as_mut(&mut self) -> &mut Uint

@@ -1,30 +1,30 @@
 //! Criticality.
 
-ghost use Rattle.x509_cert_parts.specs.ExtensionTypes as markings;
-ghost use Rattle.x509_cert_parts.specs.ExtensionTypes.{marks};
+ghost use Rattle.x509_cert_policies.specs.CertParts.ExtensionTypes as markings;
+ghost use Rattle.x509_cert_policies.specs.CertParts.ExtensionTypes.{marks};
 
 use crate::{
     AuthorityInfoAccessSyntax, BaseCrlNumber, CrlDistributionPoints, CrlNumber, CrlReason,
     ExtendedKeyUsage, FreshestCrl, IssuerAltName, KeyUsage, SubjectAltName,
     SubjectDirectoryAttributes, SubjectInfoAccessSyntax, SubjectKeyIdentifier,
 };
+use x509_cert_general_names::cert_names::Name;
 use x509_cert_general_names::{AuthorityKeyIdentifier, IssuingDistributionPoint, NameConstraints};
-use x509_cert_names::Name;
-use x509_cert_parts::Extension;
+use x509_cert_policies::cert_parts::Extension;
+use x509_cert_policies::timestamps::SignedCertificateTimestampList;
 use x509_cert_policies::{
     BasicConstraints, CertificatePolicies, InhibitAnyPolicy, PolicyConstraints, PolicyMappings,
     PrivateKeyUsagePeriod,
 };
-use x509_cert_timestamps::SignedCertificateTimestampList;
 
 /// Whether an extension is marked as critical where it is added to a certificate or to a list (RFC
 /// 5280 4.2).
 pub trait Criticality {
     ghost use Rattle.std.specs.Prelude.{◌≡◌, Bool, List};
-    ghost use Rattle.x509_cert_parts.specs.Grammar.{PlainExtension};
-    ghost use Rattle.x509_cert_names.specs.Names.{PlainName};
-    ghost use Rattle.x509_cert_parts.specs.Views.{extensions_plain};
-    ghost use Rattle.x509_cert_names.specs.Views.{name_plain};
+    ghost use Rattle.x509_cert_policies.specs.CertParts.Grammar.{PlainExtension};
+    ghost use Rattle.x509_cert_general_names.specs.CertNames.Names.{PlainName};
+    ghost use Rattle.x509_cert_policies.specs.CertParts.Views.{extensions_plain};
+    ghost use Rattle.x509_cert_general_names.specs.CertNames.Views.{name_plain};
 
     // Whether it is, of a subject and the extensions that are there.
     ghost is_critical: { Self → PlainName → List PlainExtension → Bool };
@@ -38,8 +38,8 @@ pub trait Criticality {
 /// When what is marked by its type is critical.
 pub trait Marking {
     ghost use Rattle.std.specs.Prelude.{◌≡◌};
-    ghost use Rattle.x509_cert_parts.specs.ExtensionTypes.{Marking, marks};
-    ghost use Rattle.x509_cert_names.specs.Views.{name_plain};
+    ghost use Rattle.x509_cert_policies.specs.CertParts.ExtensionTypes.{Marking, marks};
+    ghost use Rattle.x509_cert_general_names.specs.CertNames.Views.{name_plain};
 
     ghost marking: { Marking };
 

@@ -2,9 +2,9 @@
 
 ghost use Rattle.std.specs.Prelude.{◌≡◌, []};
 
-use der_core::describing::{AsField, Described, Ordered, Wraps};
 use std::alloc::Global;
 use x509_cert_general_names::DistributionPoint;
+use x509_cert_policies::der::describing::{AsField, Described, Ordered, Wraps};
 
 /// Where lists of revoked certificates are had (RFC 5280 4.2.1.13).
 ///
@@ -65,7 +65,7 @@ impl AsRef<Vec<DistributionPoint>> for CrlDistributionPoints {
 
 impl AsMut<Vec<DistributionPoint>> for CrlDistributionPoints {
     ghost use Rattle.std.specs.Borrow.{sem, Lends};
-    ghost use Rattle.der_core.specs.Rows.{list_row};
+    ghost use Rattle.x509_cert_policies.specs.Der.Rows.{list_row};
     ghost use Rattle.x509_cert_general_names.specs.contracts.distribution_point.DistributionPoint.{the_row as member_row};
     ghost use Rattle.x509_cert_extensions.specs.contracts.crl_distribution_points.CrlDistributionPoints.{the_row};
 

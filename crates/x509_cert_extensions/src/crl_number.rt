@@ -1,13 +1,13 @@
 //! CrlNumber.
 
 ghost use Rattle.std.specs.Prelude.{◌≡◌, pos, Ok};
-ghost use Rattle.der_core_head.specs.Reading.{Gives};
+ghost use Rattle.x509_cert_policies.specs.Der.Reading.{Gives};
 
-use der_core::describing::{AsField, Described, Ordered, Wraps};
-use der_core::making::integer_octets_of;
-use der_core::{Error, Leaf, Tag};
-use der_types_numbers::Uint;
 use std::alloc::Global;
+use x509_cert_policies::der::describing::{AsField, Described, Ordered, Wraps};
+use x509_cert_policies::der::making::integer_octets_of;
+use x509_cert_policies::der::{Error, Leaf, Tag};
+use x509_cert_policies::types::Uint;
 
 /// The number of a list of revoked certificates (RFC 5280 5.2.3).
 ///
@@ -74,7 +74,7 @@ impl AsRef<Uint> for CrlNumber {
 
 impl AsMut<Uint> for CrlNumber {
     ghost use Rattle.std.specs.Borrow.{sem, Lends};
-    ghost use Rattle.der_types_numbers.specs.contracts.uint.Uint.{the_row as inner_row};
+    ghost use Rattle.x509_cert_policies.specs.Types.UintContracts.Uint.{the_row as inner_row};
     ghost use Rattle.x509_cert_extensions.specs.contracts.crl_number.CrlNumber.{the_row};
 
     fn as_mut(&mut self) -> &mut Uint

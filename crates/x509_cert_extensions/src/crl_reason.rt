@@ -3,7 +3,7 @@
 ghost use Rattle.std.specs.Prelude.{◌≡◌, refl};
 ghost use Rattle.x509_cert_extensions.specs.Reasons.{reason_number, reason_numbers};
 
-use der_core::describing::{AsEnumerated, Described, Numbered, Ordered};
+use x509_cert_policies::der::describing::{AsEnumerated, Described, Numbered, Ordered};
 
 /// Why a certificate was revoked (RFC 5280 5.3.1). The number 7 isn't used.
 ///

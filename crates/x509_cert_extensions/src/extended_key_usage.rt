@@ -2,8 +2,8 @@
 
 ghost use Rattle.std.specs.Prelude.{◌≡◌};
 
-use const_oid::ObjectIdentifier;
-use der_core::describing::{AsField, Described, Ordered, Wraps};
+use x509_cert_policies::der::describing::{AsField, Described, Ordered, Wraps};
+use x509_cert_policies::oid::ObjectIdentifier;
 
 /// What a key is for, by identifiers (RFC 5280 4.2.1.12).
 ///
@@ -58,8 +58,8 @@ impl AsRef<Vec<ObjectIdentifier<39>>> for ExtendedKeyUsage {
 impl AsMut<Vec<ObjectIdentifier<39>>> for ExtendedKeyUsage {
     ghost use denote.Param.{number};
     ghost use Rattle.std.specs.Borrow.{sem, Lends};
-    ghost use Rattle.const_oid.specs.contracts.object_identifier.ObjectIdentifier.{the_row as member_row};
-    ghost use Rattle.der_core.specs.Rows.{list_row};
+    ghost use Rattle.x509_cert_policies.specs.Oid.contracts.object_identifier.ObjectIdentifier.{the_row as member_row};
+    ghost use Rattle.x509_cert_policies.specs.Der.Rows.{list_row};
     ghost use Rattle.x509_cert_extensions.specs.contracts.extended_key_usage.ExtendedKeyUsage.{the_row};
 
     fn as_mut(&mut self) -> &mut Vec<ObjectIdentifier<39>>

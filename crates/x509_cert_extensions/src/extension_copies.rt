@@ -1,20 +1,21 @@
 //! Copies of the contents of extensions.
 
-ghost use Rattle.der_core_head.specs.Grammar.{plain_list};
-ghost use Rattle.der_core.specs.Copies.{IsCopy};
+ghost use Rattle.x509_cert_policies.specs.Der.Grammar.{plain_list};
+ghost use Rattle.x509_cert_policies.specs.Der.Copies.{IsCopy};
 ghost use Rattle.x509_cert_general_names.specs.GeneralNameViews.{access_description_plain};
-ghost use Rattle.x509_cert_general_names.specs.GeneralNameViews.{distribution_point_plain, general_name_plain};
-ghost use Rattle.x509_cert_names.specs.Views.{attribute_plain};
+ghost use Rattle.x509_cert_general_names.specs.GeneralNameViews.{distribution_point_plain};
+ghost use Rattle.x509_cert_general_names.specs.GeneralNameViews.{general_name_plain};
+ghost use Rattle.x509_cert_general_names.specs.CertNames.Views.{attribute_plain};
 
 use crate::{
     AuthorityInfoAccessSyntax, BaseCrlNumber, CrlDistributionPoints, CrlNumber, ExtendedKeyUsage,
     FreshestCrl, IssuerAltName, SubjectAltName, SubjectDirectoryAttributes,
     SubjectInfoAccessSyntax, SubjectKeyIdentifier,
 };
-use der_core::making::copies_of;
 use std::alloc::{AllocError, Global};
+use x509_cert_general_names::cert_names::Attribute;
 use x509_cert_general_names::{AccessDescription, DistributionPoint, GeneralName};
-use x509_cert_names::Attribute;
+use x509_cert_policies::der::making::copies_of;
 
 impl AuthorityInfoAccessSyntax {
     /// A copy. Out of memory is the only error.

@@ -1,14 +1,14 @@
 //! The identifiers of extensions (RFC 5280 4.2, 5.2).
 
-ghost use Rattle.x509_cert_parts.specs.ExtensionTypes as types;
-ghost use Rattle.x509_cert_parts.specs.ExtensionTypes.{identifier_of};
+ghost use Rattle.x509_cert_policies.specs.CertParts.ExtensionTypes as types;
+ghost use Rattle.x509_cert_policies.specs.CertParts.ExtensionTypes.{identifier_of};
 
 use crate::{
     AuthorityInfoAccessSyntax, BaseCrlNumber, CrlDistributionPoints, CrlNumber, CrlReason,
     ExtendedKeyUsage, FreshestCrl, IssuerAltName, KeyUsage, SubjectAltName,
     SubjectDirectoryAttributes, SubjectInfoAccessSyntax, SubjectKeyIdentifier,
 };
-use const_oid::{AssociatedOid, ObjectIdentifier};
+use x509_cert_policies::oid::{AssociatedOid, ObjectIdentifier};
 
 impl AssociatedOid for AuthorityInfoAccessSyntax {
     ghost oid_arcs = { identifier_of types.authority_info_access };

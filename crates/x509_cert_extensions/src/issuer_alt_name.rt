@@ -2,9 +2,9 @@
 
 ghost use Rattle.std.specs.Prelude.{◌≡◌, []};
 
-use der_core::describing::{AsField, Described, Ordered, Wraps};
 use std::alloc::Global;
 use x509_cert_general_names::GeneralNames;
+use x509_cert_policies::der::describing::{AsField, Described, Ordered, Wraps};
 
 /// Other names of an issuer (RFC 5280 4.2.1.7).
 ///
@@ -65,7 +65,7 @@ impl AsRef<GeneralNames> for IssuerAltName {
 
 impl AsMut<GeneralNames> for IssuerAltName {
     ghost use Rattle.std.specs.Borrow.{sem, Lends};
-    ghost use Rattle.der_core.specs.Rows.{list_row};
+    ghost use Rattle.x509_cert_policies.specs.Der.Rows.{list_row};
     ghost use Rattle.x509_cert_general_names.specs.contracts.general_name.GeneralName.{the_row as member_row};
     ghost use Rattle.x509_cert_extensions.specs.contracts.issuer_alt_name.IssuerAltName.{the_row};
 

@@ -6,8 +6,8 @@ ghost use Rattle.x509_cert_extensions.specs.NamedBits as bits;
 ghost use Rattle.x509_cert_extensions.specs.NamedBits.{bit_of, has_bit, key_usage_flags};
 
 use bitflags::{Flag, Flags, bitflag_items};
-use der_core::describing::{AsField, Described, Ordered, Wraps};
-use der_types_values::{FlagSet, NamedBits};
+use x509_cert_policies::der::describing::{AsField, Described, Ordered, Wraps};
+use x509_cert_policies::types::{FlagSet, NamedBits};
 
 /// What a key is for, the first use the lowest bit (RFC 5280 4.2.1.3).
 #[derive(Clone, Copy, Debug, PartialEq, Eq)]
@@ -192,7 +192,7 @@ impl AsMut<FlagSet<KeyUsages>> for KeyUsage {
     ghost use Rattle.std.specs.contracts.prelude.U16Not.TheImpl.{ghosts as not_of};
     ghost use Rattle.std.specs.contracts.prelude.U16PartialEq.TheImpl.{ghosts as eq_of};
     ghost use Rattle.bitflags.specs.contracts.traits.U16Bits.TheImpl.{ghosts as bits_of};
-    ghost use Rattle.der_types_values.specs.contracts.flag_set.FlagSet.{the_row as set_row};
+    ghost use Rattle.x509_cert_policies.specs.Types.FlagSetContracts.FlagSet.{the_row as set_row};
     ghost use Rattle.x509_cert_extensions.specs.contracts.key_usage.KeyUsages.{the_row as usages_row};
     ghost use Rattle.x509_cert_extensions.specs.contracts.key_usage.KeyUsagesFlags.TheImpl.{ghosts as flags_of};
     ghost use Rattle.x509_cert_extensions.specs.contracts.key_usage.KeyUsagesNamedBits.TheImpl.{ghosts as names_of};

@@ -1,7 +1,7 @@
 //! The law of types of extensions: the contract of a function that does nothing.
 
-ghost use Rattle.x509_cert_parts.specs.ExtensionTypes as types;
-ghost use Rattle.x509_cert_parts.specs.ExtensionTypes.{IsOfType};
+ghost use Rattle.x509_cert_policies.specs.CertParts.ExtensionTypes as types;
+ghost use Rattle.x509_cert_policies.specs.CertParts.ExtensionTypes.{IsOfType};
 
 use crate::criticality::Criticality;
 use crate::{
@@ -9,13 +9,13 @@ use crate::{
     ExtendedKeyUsage, FreshestCrl, IssuerAltName, KeyUsage, SubjectAltName,
     SubjectDirectoryAttributes, SubjectInfoAccessSyntax, SubjectKeyIdentifier,
 };
-use const_oid::AssociatedOid;
 use x509_cert_general_names::{AuthorityKeyIdentifier, IssuingDistributionPoint, NameConstraints};
+use x509_cert_policies::oid::AssociatedOid;
+use x509_cert_policies::timestamps::SignedCertificateTimestampList;
 use x509_cert_policies::{
     BasicConstraints, CertificatePolicies, InhibitAnyPolicy, PolicyConstraints, PolicyMappings,
     PrivateKeyUsagePeriod,
 };
-use x509_cert_timestamps::SignedCertificateTimestampList;
 
 /// Each type has the identifier and the criticality that the table of types says.
 pub fn extensions_are_of_their_types()

@@ -35,3 +35,21 @@ pub use subject_directory_attributes::SubjectDirectoryAttributes;
 pub use subject_info_access::SubjectInfoAccessSyntax;
 pub use subject_key_identifier::SubjectKeyIdentifier;
 pub use to_extension::ToExtension;
+
+/// The names of `x509_cert_general_names` that the crates above use.
+pub mod cert_general_names {
+    pub use x509_cert_general_names::{
+        AccessDescription, AuthorityKeyIdentifier, DistributionPoint, DistributionPointName,
+        EdiPartyName, GeneralName, GeneralNames, GeneralSubtree, HardwareModuleName,
+        IssuingDistributionPoint, NameConstraints, OtherName, ReasonFlags, Reasons,
+    };
+}
+
+/// The names of `x509_cert_policies` that the crates above use.
+pub mod policy_types {
+    pub use x509_cert_policies::{
+        BasicConstraints, CertificatePolicies, InhibitAnyPolicy, PolicyConstraints,
+        PolicyInformation, PolicyMapping, PolicyMappings, PolicyQualifierInfo,
+        PrivateKeyUsagePeriod, timestamps,
+    };
+}

@@ -2,9 +2,9 @@
 
 ghost use Rattle.std.specs.Prelude.{◌≡◌, []};
 
-use der_core::describing::{AsField, Described, Ordered, Wraps};
 use std::alloc::Global;
-use x509_cert_names::Attribute;
+use x509_cert_general_names::cert_names::Attribute;
+use x509_cert_policies::der::describing::{AsField, Described, Ordered, Wraps};
 
 /// Attributes of a subject (RFC 5280 4.2.1.8).
 ///
@@ -65,8 +65,8 @@ impl AsRef<Vec<Attribute>> for SubjectDirectoryAttributes {
 
 impl AsMut<Vec<Attribute>> for SubjectDirectoryAttributes {
     ghost use Rattle.std.specs.Borrow.{sem, Lends};
-    ghost use Rattle.der_core.specs.Rows.{list_row};
-    ghost use Rattle.x509_cert_names.specs.contracts.attribute.Attribute.{the_row as member_row};
+    ghost use Rattle.x509_cert_policies.specs.Der.Rows.{list_row};
+    ghost use Rattle.x509_cert_general_names.specs.CertNames.contracts.attribute.Attribute.{the_row as member_row};
     ghost use Rattle.x509_cert_extensions.specs.contracts.subject_directory_attributes.SubjectDirectoryAttributes.{the_row};
 
     fn as_mut(&mut self) -> &mut Vec<Attribute>

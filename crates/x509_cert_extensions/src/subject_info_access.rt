@@ -2,9 +2,9 @@
 
 ghost use Rattle.std.specs.Prelude.{◌≡◌, []};
 
-use der_core::describing::{AsField, Described, Ordered, Wraps};
 use std::alloc::Global;
 use x509_cert_general_names::AccessDescription;
+use x509_cert_policies::der::describing::{AsField, Described, Ordered, Wraps};
 
 /// Where services of a subject are had (RFC 5280 4.2.2.2).
 ///
@@ -65,7 +65,7 @@ impl AsRef<Vec<AccessDescription>> for SubjectInfoAccessSyntax {
 
 impl AsMut<Vec<AccessDescription>> for SubjectInfoAccessSyntax {
     ghost use Rattle.std.specs.Borrow.{sem, Lends};
-    ghost use Rattle.der_core.specs.Rows.{list_row};
+    ghost use Rattle.x509_cert_policies.specs.Der.Rows.{list_row};
     ghost use Rattle.x509_cert_general_names.specs.contracts.access_description.AccessDescription.{the_row as member_row};
     ghost use Rattle.x509_cert_extensions.specs.contracts.subject_info_access.SubjectInfoAccessSyntax.{the_row};
 

@@ -2,14 +2,14 @@
 
 ghost use Rattle.std.specs.Prelude.{◌≡◌, IfOk, IfErr};
 ghost use Rattle.x509_cert_general_names.specs.KeyIdentifiers.{key_identifier};
-ghost use Rattle.x509_cert_parts.specs.Views.{key_lent};
+ghost use Rattle.x509_cert_policies.specs.CertParts.Views.{key_lent};
 
-use der_core::describing::{AsField, Described, Ordered, Wraps};
-use der_core::{Error, ErrorKind};
-use der_types_values::OctetString;
 use std::alloc::Global;
 use x509_cert_general_names::key_identifier_of;
-use x509_cert_parts::SubjectPublicKeyInfoRef;
+use x509_cert_policies::cert_parts::SubjectPublicKeyInfoRef;
+use x509_cert_policies::der::describing::{AsField, Described, Ordered, Wraps};
+use x509_cert_policies::der::{Error, ErrorKind};
+use x509_cert_policies::types::OctetString;
 
 /// The identifier of a subject's key (RFC 5280 4.2.1.2).
 ///
@@ -74,7 +74,7 @@ impl AsRef<OctetString> for SubjectKeyIdentifier {
 
 impl AsMut<OctetString> for SubjectKeyIdentifier {
     ghost use Rattle.std.specs.Borrow.{sem, Lends};
-    ghost use Rattle.der_types_values.specs.contracts.octet_string.OctetString.{the_row as inner_row};
+    ghost use Rattle.x509_cert_policies.specs.Types.OctetStringContracts.OctetString.{the_row as inner_row};
     ghost use Rattle.x509_cert_extensions.specs.contracts.subject_key_identifier.SubjectKeyIdentifier.{the_row};
 
     fn as_mut(&mut self) -> &mut OctetString

@@ -1,24 +1,24 @@
 //! ToExtension.
 
 ghost use Rattle.std.specs.Prelude.{◌≡◌, IfOk, IfErr};
-ghost use Rattle.x509_cert_parts.specs.Views.{extension_plain};
+ghost use Rattle.x509_cert_policies.specs.CertParts.Views.{extension_plain};
 ghost use Rattle.x509_cert_extensions.specs.Making.{extension_of, IsNotMade};
 
 use crate::criticality::Criticality;
-use const_oid::{AssociatedOid, ObjectIdentifier};
-use der_core::{Encode, Error, ToDer};
-use der_types_values::OctetString;
 use std::alloc::Global;
-use x509_cert_names::Name;
-use x509_cert_parts::Extension;
+use x509_cert_general_names::cert_names::Name;
+use x509_cert_policies::cert_parts::Extension;
+use x509_cert_policies::der::{Encode, Error, ToDer};
+use x509_cert_policies::oid::{AssociatedOid, ObjectIdentifier};
+use x509_cert_policies::types::OctetString;
 
 /// What is made into an extension of a certificate or of a list (RFC 5280 4.2).
 pub trait ToExtension {
     ghost use Rattle.std.specs.Prelude.{◌≡◌, List, IfOk, IfErr};
-    ghost use Rattle.x509_cert_parts.specs.Grammar.{PlainExtension};
-    ghost use Rattle.x509_cert_names.specs.Names.{PlainName};
-    ghost use Rattle.x509_cert_parts.specs.Views.{extension_plain, extensions_plain};
-    ghost use Rattle.x509_cert_names.specs.Views.{name_plain};
+    ghost use Rattle.x509_cert_policies.specs.CertParts.Grammar.{PlainExtension};
+    ghost use Rattle.x509_cert_general_names.specs.CertNames.Names.{PlainName};
+    ghost use Rattle.x509_cert_policies.specs.CertParts.Views.{extension_plain, extensions_plain};
+    ghost use Rattle.x509_cert_general_names.specs.CertNames.Views.{name_plain};
 
     /// Why no extension is made.
     type Error: From<Error>;

@@ -1,17 +1,22 @@
 -- What contracts see of the types: the plain values of their shapes.
 use Rattle.std.specs.Prelude.{pos}
 use Rattle.std.proofs.Common.{inl, inr}
-use Rattle.der_core_head.specs.Grammar.{plain_option, plain_list}
-use Rattle.der_core_head.specs.Shapes.{Value, BodyValue}
+use Rattle.der_core.specs.Grammar.{plain_option, plain_list}
+use Rattle.der_core.specs.Shapes.{Value, BodyValue}
 use Rattle.x509_cert_names.specs.DirectoryStrings.{directory_plain}
 use Rattle.x509_cert_names.specs.Views.{name_plain}
 use Rattle.x509_cert_names.specs.Pairs.{relative_plain}
-use Rattle.x509_cert_general_names.specs.GeneralNames.{other_name_fields, hardware_module_name_fields}
-use Rattle.x509_cert_general_names.specs.GeneralNames.{edi_party_name_fields, access_description_fields}
-use Rattle.x509_cert_general_names.specs.GeneralNames.{general_name, issuing_distribution_point_fields}
+use Rattle.x509_cert_general_names.specs.GeneralNames.{other_name_fields}
+use Rattle.x509_cert_general_names.specs.GeneralNames.{hardware_module_name_fields}
+use Rattle.x509_cert_general_names.specs.GeneralNames.{edi_party_name_fields}
+use Rattle.x509_cert_general_names.specs.GeneralNames.{access_description_fields}
+use Rattle.x509_cert_general_names.specs.GeneralNames.{general_name}
+use Rattle.x509_cert_general_names.specs.GeneralNames.{issuing_distribution_point_fields}
 use Rattle.x509_cert_general_names.specs.GeneralNames.{authority_key_identifier_fields}
-use Rattle.x509_cert_general_names.specs.GeneralNames.{general_subtree_fields, distribution_point_fields}
-use Rattle.x509_cert_general_names.specs.GeneralNames.{name_constraints_fields, distribution_point_name}
+use Rattle.x509_cert_general_names.specs.GeneralNames.{general_subtree_fields}
+use Rattle.x509_cert_general_names.specs.GeneralNames.{distribution_point_fields}
+use Rattle.x509_cert_general_names.specs.GeneralNames.{name_constraints_fields}
+use Rattle.x509_cert_general_names.specs.GeneralNames.{distribution_point_name}
 use Rattle.x509_cert_general_names.specs.declared.access_description.AccessDescription.{AccessDescription}
 use Rattle.x509_cert_general_names.specs.declared.authority_key_identifier.AuthorityKeyIdentifier.{AuthorityKeyIdentifier}
 use Rattle.x509_cert_general_names.specs.declared.distribution_point.DistributionPoint.{DistributionPoint}

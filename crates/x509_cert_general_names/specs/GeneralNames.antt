@@ -1,14 +1,14 @@
 -- General names and what holds them (RFC 5280 4.2, 5.2). A shape that holds an identifier takes the
 -- bound of arcs.
 use Rattle.std.specs.Prelude.{ℕ, ◌+◌, [], ◌∷◌, true}
-use Rattle.const_oid.specs.Bound.{max_size}
-use Rattle.der_core_head.specs.Integers.{within}
-use Rattle.der_core_head.specs.Leaves.{Leaf, boolean, integer, octets, identifier, text, named}
-use Rattle.der_core_head.specs.Shapes.{Shape, Body, tagged, any, either, optional, defaulted}
-use Rattle.der_core_head.specs.Shapes.{field, done, many, rising, nested, sequence, sequence_of}
-use Rattle.der_core_head.specs.Shapes.{explicit}
-use Rattle.der_core_head.specs.Tags.{context}
-use Rattle.der_core_head.specs.Texts.{ascii}
+use Rattle.der_core.specs.Oid.Bound.{max_size}
+use Rattle.der_core.specs.Integers.{within}
+use Rattle.der_core.specs.Leaves.{Leaf, boolean, integer, octets, identifier, text, named}
+use Rattle.der_core.specs.Shapes.{Shape, Body, tagged, any, either, optional, defaulted}
+use Rattle.der_core.specs.Shapes.{field, done, many, rising, nested, sequence, sequence_of}
+use Rattle.der_core.specs.Shapes.{explicit}
+use Rattle.der_core.specs.Tags.{context}
+use Rattle.der_core.specs.Texts.{ascii}
 use Rattle.x509_cert_names.specs.Names.{name, type_and_value, directory_string}
 use Rattle.x509_cert_parts.specs.Grammar.{object_identifier, octet_string}
 use Rattle.x509_cert_parts.specs.Grammar.{implicit_leaf, whole_number}

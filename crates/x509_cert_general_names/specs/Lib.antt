@@ -4,3 +4,4 @@ pub mod GeneralNames
 pub mod KeyIdentifiers
 pub mod Modules
 pub mod NamedBits
+pub use Rattle.x509_cert_names.specs as CertNames

@@ -1,12 +1,13 @@
 -- The name of a module of hardware, held as a name of a kind that an identifier tells (RFC 4108 5).
 use Rattle.std.specs.Prelude.{ℕ, List, [], ◌∷◌, Bool, Option, Some, Result, Ok}
-use Rattle.const_oid.specs.Comparing.{owned_eq}
-use Rattle.der_core_head.specs.declared.error.ErrorKind.{ErrorKind}
-use Rattle.der_core_head.specs.declared.tag.Tag.TheVariants.{Sequence}
-use Rattle.der_core_head.specs.Octets.{◌>>=◌}
-use Rattle.der_core_head.specs.Shapes.{BodyValue, any, nested, sequence, octets_of, IsValid, Spells}
-use Rattle.der_types_any.specs.Contents.{content_as, written_as}
-use Rattle.x509_cert_general_names.specs.GeneralNames.{other_name_fields, hardware_module_name_fields}
+use Rattle.der_core.specs.Oid.Comparing.{owned_eq}
+use Rattle.der_core.specs.ErrorTypes.ErrorKind.{ErrorKind}
+use Rattle.der_core.specs.TagTypes.Tag.TheVariants.{Sequence}
+use Rattle.der_core.specs.Octets.{◌>>=◌}
+use Rattle.der_core.specs.Shapes.{BodyValue, any, nested, sequence, octets_of, IsValid, Spells}
+use Rattle.x509_cert_parts.specs.Types.Contents.{content_as, written_as}
+use Rattle.x509_cert_general_names.specs.GeneralNames.{other_name_fields}
+use Rattle.x509_cert_general_names.specs.GeneralNames.{hardware_module_name_fields}
 
 -- what is held, and what holds it
 abbrev pub PlainModule : Type 0

@@ -1,13 +1,13 @@
 //! AccessDescription.
 
 ghost use Rattle.std.specs.Prelude.{◌≡◌, refl};
-ghost use Rattle.const_oid.specs.Bound.{Bound};
+ghost use Rattle.der_core.specs.Oid.Bound.{Bound};
 ghost use Rattle.x509_cert_general_names.specs.GeneralNames.{access_description_fields};
 ghost use Rattle.x509_cert_general_names.specs.GeneralNameViews.{access_description_plain};
 
 use crate::general_name::GeneralName;
-use const_oid::ObjectIdentifier;
 use der_core::describing::{AsRecord, Described, FieldsView, RowUser, Rows};
+use der_core::oid::ObjectIdentifier;
 use der_core::{DecodeFields, Error, Reader, lend, read_row};
 use std::alloc::Global;
 

@@ -1,7 +1,7 @@
 //! AuthorityKeyIdentifier, and identifiers of keys.
 
 ghost use Rattle.std.specs.Prelude.{◌≡◌, Some, None, IfOk, IfErr, refl};
-ghost use Rattle.const_oid.specs.Bound.{Bound};
+ghost use Rattle.der_core.specs.Oid.Bound.{Bound};
 ghost use Rattle.x509_cert_parts.specs.Views.{key_lent};
 ghost use Rattle.x509_cert_general_names.specs.GeneralNames.{authority_key_identifier_fields};
 ghost use Rattle.x509_cert_general_names.specs.KeyIdentifiers.{key_identifier};
@@ -10,9 +10,9 @@ ghost use Rattle.x509_cert_general_names.specs.GeneralNameViews.{authority_key_i
 use crate::general_name::GeneralNames;
 use der_core::describing::{AsRecord, Described, FieldsView, RowUser, Rows};
 use der_core::{DecodeFields, Error, ErrorKind, Reader, lend, read_row};
-use der_types_values::OctetString;
 use sha1::Sha1;
 use std::alloc::Global;
+use x509_cert_parts::types::OctetString;
 use x509_cert_parts::{SerialNumber, SubjectPublicKeyInfoRef};
 
 /// The key under which a certificate or a list is signed (RFC 5280 4.2.1.1).

@@ -7,7 +7,7 @@ ghost use Rattle.x509_cert_general_names.specs.Modules.{module_arcs};
 use crate::{
     AuthorityKeyIdentifier, HardwareModuleName, IssuingDistributionPoint, NameConstraints,
 };
-use const_oid::{AssociatedOid, ObjectIdentifier};
+use der_core::oid::{AssociatedOid, ObjectIdentifier};
 
 impl AssociatedOid for AuthorityKeyIdentifier {
     ghost oid_arcs = { identifier_of types.authority_key_identifier };

@@ -1,8 +1,8 @@
 //! GeneralName.
 
 ghost use Rattle.std.specs.Prelude.{◌≡◌, ◌≤◌, vec_len, refl, IfOk, IfErr};
-ghost use Rattle.const_oid.specs.Bound.{Bound};
-ghost use Rattle.der_core_head.specs.declared.error.ErrorKind.TheVariants.{OutOfMemory};
+ghost use Rattle.der_core.specs.Oid.Bound.{Bound};
+ghost use Rattle.der_core.specs.ErrorTypes.ErrorKind.TheVariants.{OutOfMemory};
 ghost use Rattle.x509_cert_general_names.specs.Addresses.{address_octets};
 ghost use Rattle.x509_cert_general_names.specs.GeneralNames.{general_name};
 ghost use Rattle.x509_cert_general_names.specs.GeneralNameViews.{general_name_plain};
@@ -11,17 +11,16 @@ ghost use Rattle.x509_cert_general_names.specs.declared.general_name.GeneralName
 
 use crate::edi_party_name::EdiPartyName;
 use crate::other_name::OtherName;
-use const_oid::ObjectIdentifier;
+use der_core::oid::ObjectIdentifier;
 use der_core::{
     AsRead, Choice, Decode, DerOrd, Element, Encode, EncodeRef, Error, Explicit, FirstTag,
     Implicit, ImplicitRef, Length, Member, OneOf8, Reader, Shaped, Tag, Writer, case,
 };
-use der_types_text::Ia5String;
-use der_types_values::OctetString;
 use std::alloc::{AllocError, Global};
 use std::cmp::Ordering;
 use std::net::IpAddr;
 use x509_cert_names::Name;
+use x509_cert_parts::types::{Ia5String, OctetString};
 
 /// A name of one of the kinds that a certificate can give (RFC 5280 4.2.1.6). An address of X.400
 /// isn't read.

@@ -9,10 +9,10 @@ use crate::{
     NameConstraints, OtherName,
 };
 use der_core::making::{copies_of, copies_of_option, copy_of_option};
-use der_types_values::OctetString;
 use std::alloc::{AllocError, Global};
 use x509_cert_names::DirectoryString;
 use x509_cert_parts::SerialNumber;
+use x509_cert_parts::types::OctetString;
 
 impl OtherName {
     /// A copy. Out of memory is the only error.

@@ -1,20 +1,21 @@
 //! HardwareModuleName.
 
 ghost use Rattle.std.specs.Prelude.{◌≡◌, true, false, Ok, Some, None, IsSome, IfOk, IfSome, refl};
-ghost use Rattle.const_oid.specs.Bound.{Bound};
-ghost use Rattle.der_core_head.specs.Grammar.{plain_option};
-ghost use Rattle.der_core_head.specs.Reading.{Gives};
+ghost use Rattle.der_core.specs.Oid.Bound.{Bound};
+ghost use Rattle.der_core.specs.Grammar.{plain_option};
+ghost use Rattle.der_core.specs.Reading.{Gives};
 ghost use Rattle.x509_cert_general_names.specs.GeneralNames.{hardware_module_name_fields};
 ghost use Rattle.x509_cert_general_names.specs.Modules.{PlainModule, is_of_module, HasEncoding};
 ghost use Rattle.x509_cert_general_names.specs.Modules.{HoldsModule, module_read};
-ghost use Rattle.x509_cert_general_names.specs.GeneralNameViews.{hardware_module_name_plain, other_name_plain};
+ghost use Rattle.x509_cert_general_names.specs.GeneralNameViews.{hardware_module_name_plain};
+ghost use Rattle.x509_cert_general_names.specs.GeneralNameViews.{other_name_plain};
 
 use crate::other_name::OtherName;
-use const_oid::{AssociatedOid, ObjectIdentifier};
 use der_core::describing::{AsRecord, Described, FieldsView, RowUser, Rows};
+use der_core::oid::{AssociatedOid, ObjectIdentifier};
 use der_core::{DecodeFields, Error, Reader, lend, read_row};
-use der_types_values::OctetString;
 use std::alloc::Global;
+use x509_cert_parts::types::OctetString;
 
 /// The name of a module of hardware (RFC 4108 5). It is held as `OtherName`.
 ///

@@ -29,3 +29,8 @@ pub use issuing_distribution_point::IssuingDistributionPoint;
 pub use name_constraints::NameConstraints;
 pub use other_name::OtherName;
 pub use reason_flags::{ReasonFlags, Reasons};
+
+/// The names of `x509_cert_names` that the crates above use.
+pub mod cert_names {
+    pub use x509_cert_names::{Attribute, Name};
+}

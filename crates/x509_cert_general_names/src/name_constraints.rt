@@ -1,7 +1,7 @@
 //! NameConstraints.
 
 ghost use Rattle.std.specs.Prelude.{◌≡◌, refl};
-ghost use Rattle.const_oid.specs.Bound.{Bound};
+ghost use Rattle.der_core.specs.Oid.Bound.{Bound};
 ghost use Rattle.x509_cert_general_names.specs.GeneralNames.{name_constraints_fields};
 ghost use Rattle.x509_cert_general_names.specs.GeneralNameViews.{name_constraints_plain};
 

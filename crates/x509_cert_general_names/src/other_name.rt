@@ -1,18 +1,19 @@
 //! OtherName.
 
 ghost use Rattle.std.specs.Prelude.{◌≡◌, refl};
-ghost use Rattle.const_oid.specs.Bound.{Bound};
-ghost use Rattle.der_core_head.specs.Reading.{Gives};
+ghost use Rattle.der_core.specs.Oid.Bound.{Bound};
+ghost use Rattle.der_core.specs.Reading.{Gives};
 ghost use Rattle.x509_cert_general_names.specs.GeneralNames.{other_name_fields};
 ghost use Rattle.x509_cert_general_names.specs.Modules.{module_held};
-ghost use Rattle.x509_cert_general_names.specs.GeneralNameViews.{hardware_module_name_plain, other_name_plain};
+ghost use Rattle.x509_cert_general_names.specs.GeneralNameViews.{hardware_module_name_plain};
+ghost use Rattle.x509_cert_general_names.specs.GeneralNameViews.{other_name_plain};
 
 use crate::hardware_module_name::HardwareModuleName;
-use const_oid::{AssociatedOid, ObjectIdentifier};
 use der_core::describing::{AsRecord, Described, FieldsView, RowUser, Rows};
+use der_core::oid::{AssociatedOid, ObjectIdentifier};
 use der_core::{DecodeFields, Error, Reader, lend, read_row};
-use der_types_any::Any;
 use std::alloc::Global;
+use x509_cert_parts::types::Any;
 
 /// A name of a kind that an identifier tells (RFC 5280 4.2.1.6).
 ///

@@ -5,7 +5,7 @@ ghost use Rattle.bitflags.specs.Sets.{known_from};
 ghost use Rattle.x509_cert_general_names.specs.NamedBits.{reason_flags};
 
 use bitflags::{Flag, Flags, bitflag_items};
-use der_types_values::{FlagSet, NamedBits};
+use x509_cert_parts::types::{FlagSet, NamedBits};
 
 /// Why certificates are revoked, the first bit the lowest (RFC 5280 4.2.1.13).
 #[derive(Clone, Copy, Debug, PartialEq, Eq)]

@@ -1,12 +1,12 @@
 -- Attributes of CSRs that hold one value (RFC 2986 4.1).
 use Rattle.std.specs.Prelude.{ℕ, List, [], ◌∷◌, Result, Ok, Err}
 use Rattle.std.proofs.Common.{inl, inr}
-use Rattle.der_core_head.specs.declared.error.ErrorKind.{ErrorKind}
-use Rattle.der_core_head.specs.declared.error.ErrorKind.TheVariants as kinds
-use Rattle.der_core_head.specs.Octets.{◌>>=◌}
-use Rattle.der_core_head.specs.Shapes.{Shape, Value, AnyValue, tagged, any, either, optional}
-use Rattle.der_core_head.specs.Shapes.{defaulted, nothing}
-use Rattle.der_types_any.specs.Contents.{written_as}
+use Rattle.der_core.specs.ErrorTypes.ErrorKind.{ErrorKind}
+use Rattle.der_core.specs.ErrorTypes.ErrorKind.TheVariants as kinds
+use Rattle.der_core.specs.Octets.{◌>>=◌}
+use Rattle.der_core.specs.Shapes.{Shape, Value, AnyValue, tagged, any, either, optional}
+use Rattle.der_core.specs.Shapes.{defaulted, nothing}
+use Rattle.x509_cert_parts.specs.Types.Contents.{written_as}
 use Rattle.x509_cert_names.specs.Names.{PlainAttribute}
 
 -- a value's tag and content, if a length can count its octets; a field that may be absent has none

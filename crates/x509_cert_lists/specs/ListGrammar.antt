@@ -2,15 +2,15 @@
 -- bound of arcs, and where a serial number stands in it the greatest number of its content octets,
 -- if there is such a number.
 use Rattle.std.specs.Prelude.{ℕ, List, [], ◌∷◌, true, Option, Result, Ok}
-use Rattle.der_core_head.specs.declared.error.ErrorKind.{ErrorKind}
-use Rattle.der_core_head.specs.declared.tag.Tag.TheVariants as tags
-use Rattle.der_core_head.specs.Integers.{among}
-use Rattle.der_core_head.specs.Leaves.{integer}
-use Rattle.der_core_head.specs.Octets.{◌>>=◌}
-use Rattle.der_core_head.specs.Shapes.{Shape, Body, Content, tagged, leaf, optional, field, done}
-use Rattle.der_core_head.specs.Shapes.{many, rising, nested, sequence, sequence_of, explicit}
-use Rattle.der_core_head.specs.Tags.{context}
-use Rattle.der_types_any.specs.Contents.{written_as}
+use Rattle.der_core.specs.ErrorTypes.ErrorKind.{ErrorKind}
+use Rattle.der_core.specs.TagTypes.Tag.TheVariants as tags
+use Rattle.der_core.specs.Integers.{among}
+use Rattle.der_core.specs.Leaves.{integer}
+use Rattle.der_core.specs.Octets.{◌>>=◌}
+use Rattle.der_core.specs.Shapes.{Shape, Body, Content, tagged, leaf, optional, field, done}
+use Rattle.der_core.specs.Shapes.{many, rising, nested, sequence, sequence_of, explicit}
+use Rattle.der_core.specs.Tags.{context}
+use Rattle.x509_cert_parts.specs.Types.Contents.{written_as}
 use Rattle.x509_cert_names.specs.Names.{PlainAttribute, name, attribute}
 use Rattle.x509_cert_parts.specs.Grammar.{PlainExtension, bit_string, algorithm_identifier}
 use Rattle.x509_cert_parts.specs.Grammar.{public_key_info, version, serial_number, time, extension}

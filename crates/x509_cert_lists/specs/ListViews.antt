@@ -1,7 +1,7 @@
 -- What contracts see of the types: the plain values of their shapes.
 use Rattle.std.specs.Prelude.{ℕ, pos, None}
-use Rattle.der_core_head.specs.Grammar.{plain_option, plain_list}
-use Rattle.der_core_head.specs.Shapes.{BodyValue}
+use Rattle.der_core.specs.Grammar.{plain_option, plain_list}
+use Rattle.der_core.specs.Shapes.{BodyValue}
 use Rattle.x509_cert_lists.specs.ListGrammar.{revoked_cert_fields, tbs_cert_list_fields}
 use Rattle.x509_cert_lists.specs.ListGrammar.{certificate_list_fields, cert_req_info_fields}
 use Rattle.x509_cert_lists.specs.ListGrammar.{cert_req_fields}

@@ -1,14 +1,14 @@
 //! Values of attributes.
 
-use const_oid::AssociatedOid;
+use der_core::oid::AssociatedOid;
 use der_core::{Encode, Error, StrictSetOf};
-use der_types_any::Any;
 use std::alloc::Global;
 use x509_cert_names::Attribute;
+use x509_cert_parts::types::Any;
 
 /// What an attribute of a CSR holds as its one value (RFC 2986 4.1).
 pub trait AsAttribute: AssociatedOid + Encode {
-    ghost use Rattle.der_core_head.specs.Reading.{Gives};
+    ghost use Rattle.der_core.specs.Reading.{Gives};
     ghost use Rattle.x509_cert_names.specs.Views.{attribute_plain};
     ghost use Rattle.x509_cert_lists.specs.Attributes.{any_of, attribute_of};
 

@@ -1,19 +1,19 @@
 //! Certification requests.
 
 ghost use Rattle.std.specs.Prelude.{◌≡◌, ◌≢◌, [], IfOk, IfErr, refl};
-ghost use Rattle.const_oid.specs.Bound.{Bound};
-ghost use Rattle.der_core_head.specs.Grammar.{read_whole};
-ghost use Rattle.der_core_head.specs.Reading.{Gives};
-ghost use Rattle.der_core_head.specs.Shapes.{Spells, Value};
+ghost use Rattle.der_core.specs.Oid.Bound.{Bound};
+ghost use Rattle.der_core.specs.Grammar.{read_whole};
+ghost use Rattle.der_core.specs.Reading.{Gives};
+ghost use Rattle.der_core.specs.Shapes.{Spells, Value};
 ghost use Rattle.x509_cert_lists.specs.ListGrammar.{cert_req, cert_req_fields};
 ghost use Rattle.x509_cert_lists.specs.ListViews.{cert_req_plain};
 
 use crate::cert_req_info::CertReqInfo;
 use der_core::describing::{AsRecord, Described, FieldsView, RowUser, Rows};
 use der_core::{DecodeFields, Error, ErrorKind, FromDer, Reader, lend, read_row};
-use der_types_values::BitString;
 use std::alloc::Global;
 use x509_cert_parts::AlgorithmIdentifier;
+use x509_cert_parts::types::BitString;
 
 /// A request for a certificate (RFC 2986 4.2).
 ///

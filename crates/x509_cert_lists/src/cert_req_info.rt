@@ -1,7 +1,7 @@
 //! The signed part of a CSR.
 
 ghost use Rattle.std.specs.Prelude.{◌≡◌, refl};
-ghost use Rattle.const_oid.specs.Bound.{Bound};
+ghost use Rattle.der_core.specs.Oid.Bound.{Bound};
 ghost use Rattle.x509_cert_lists.specs.ListGrammar.{cert_req_info_fields};
 ghost use Rattle.x509_cert_lists.specs.ListViews.{cert_req_info_plain};
 

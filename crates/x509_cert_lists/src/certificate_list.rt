@@ -1,15 +1,15 @@
 //! CRLs.
 
 ghost use Rattle.std.specs.Prelude.{◌≡◌, refl};
-ghost use Rattle.const_oid.specs.Bound.{Bound};
+ghost use Rattle.der_core.specs.Oid.Bound.{Bound};
 ghost use Rattle.x509_cert_lists.specs.ListGrammar.{certificate_list_fields};
 ghost use Rattle.x509_cert_lists.specs.ListViews.{certificate_list_plain};
 
 use crate::tbs_cert_list::TbsCertList;
 use der_core::describing::{AsRecord, Described, FieldsView, RowUser, Rows};
 use der_core::{DecodeFields, Error, Reader, lend, read_row};
-use der_types_values::BitString;
 use std::alloc::Global;
+use x509_cert_parts::types::BitString;
 use x509_cert_parts::{AlgorithmIdentifier, Profile, Rfc5280};
 
 /// A list of revoked certificates (RFC 5280 5.1).

@@ -3,11 +3,11 @@
 ghost use Rattle.x509_cert_lists.specs.Attributes.{challenge_password_arcs};
 
 use crate::as_attribute::AsAttribute;
-use const_oid::{AssociatedOid, ObjectIdentifier};
+use der_core::oid::{AssociatedOid, ObjectIdentifier};
 use der_core::{Encode, Error, Length, Shaped, Writer};
-use der_types_any::Any;
 use std::alloc::Global;
 use x509_cert_names::DirectoryString;
+use x509_cert_parts::types::Any;
 
 /// A password by which an entity may ask for its certificate to be revoked, as the value of an
 /// attribute of a CSR (RFC 2985 5.4.1).

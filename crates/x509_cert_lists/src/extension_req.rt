@@ -1,19 +1,19 @@
 //! Requests for extensions.
 
 ghost use Rattle.std.specs.Prelude.{◌≡◌, [], ◌∷◌};
-ghost use Rattle.const_oid.specs.Bound.{Bound};
-ghost use Rattle.der_core_head.specs.Reading.{Gives};
+ghost use Rattle.der_core.specs.Oid.Bound.{Bound};
+ghost use Rattle.der_core.specs.Reading.{Gives};
 ghost use Rattle.x509_cert_names.specs.Views.{attribute_plain};
 ghost use Rattle.x509_cert_parts.specs.Views.{extensions_plain};
 ghost use Rattle.x509_cert_lists.specs.ListGrammar.{extension_req_arcs, extension_req_attribute};
 
-use const_oid::{AssociatedOid, ObjectIdentifier};
 use der_core::describing::{AsField, Described, Ordered, Wraps};
+use der_core::oid::{AssociatedOid, ObjectIdentifier};
 use der_core::{Error, StrictSetOf};
-use der_types_any::Any;
 use std::alloc::Global;
 use x509_cert_names::Attribute;
 use x509_cert_parts::Extension;
+use x509_cert_parts::types::Any;
 
 /// The extensions that a CSR asks for, as the value of an attribute (RFC 2985
 /// 5.4.2). There may be none.

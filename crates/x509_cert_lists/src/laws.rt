@@ -3,9 +3,9 @@
 //! Each is the contract of a function that does nothing.
 
 ghost use Rattle.std.specs.Prelude.{◌≡◌, ℕ, Option};
-ghost use Rattle.const_oid.specs.Bound.{Bound};
+ghost use Rattle.der_core.specs.Oid.Bound.{Bound};
 ghost use Rattle.der_core.specs.Equality.{IsOfValues};
-ghost use Rattle.der_core_head.specs.Shapes.{octets_of, sequence};
+ghost use Rattle.der_core.specs.Shapes.{octets_of, sequence};
 ghost use Rattle.x509_cert_lists.specs.Attributes.{challenge_password_arcs};
 ghost use Rattle.x509_cert_lists.specs.ListGrammar as grammar;
 ghost use Rattle.x509_cert_parts.specs.Grammar.{extensions};
@@ -16,7 +16,7 @@ use crate::{
     CertReq, CertReqInfo, CertificateList, ChallengePassword, ExtensionReq, RevokedCert,
     TbsCertList,
 };
-use const_oid::AssociatedOid;
+use der_core::oid::AssociatedOid;
 use std::cmp::PartialEq;
 
 /// `==` of CRLs, of requests and of their parts is of their plain values, under every

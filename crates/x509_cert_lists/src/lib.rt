@@ -21,3 +21,42 @@ pub use challenge_password::ChallengePassword;
 pub use extension_req::{ExtensionReq, TryFromExtensionReq};
 pub use revoked_cert::RevokedCert;
 pub use tbs_cert_list::TbsCertList;
+
+/// The names of `x509_cert_names` that the crates above use.
+pub mod cert_names {
+    pub use x509_cert_names::{
+        Attribute, AttributeSet, AttributeType, AttributeTypeAndValue, AttributeValue, Attributes,
+        DirectoryString, DistinguishedName, FromAny, Name, NameIter, RdnSequence, RdnSequenceIter,
+        RelativeDistinguishedName, laws,
+    };
+}
+
+/// The names of `x509_cert_parts` that the crates above use.
+pub mod cert_parts {
+    pub use x509_cert_parts::{
+        AlgorithmIdentifier, AlgorithmIdentifierRef, Extension, Extensions, ExtensionsOf, Profile,
+        Raw, Rfc5280, SerialNumber, SubjectPublicKeyInfo, SubjectPublicKeyInfoRef, Time, Validity,
+        Version, filter_extensions, get_extension, laws,
+    };
+}
+
+/// The names of `der_core` that the crates above use.
+pub mod der {
+    pub use der_core::{
+        Decode, Error, ErrorKind, FixedTag, FromDer, InRange, Leaf, MAX_LEVELS, SliceReader, Tag,
+        ToDer, describing, header_of, making,
+    };
+}
+
+/// The names of `const_oid` that the crates above use.
+pub mod oid {
+    pub use der_core::oid::{AssociatedOid, Error, ObjectIdentifier};
+}
+
+/// The names of `der_types` that the crates above use.
+pub mod types {
+    pub use x509_cert_parts::types::{
+        Any, AnyRef, BitString, DateTime, FlagSet, GeneralizedTime, Ia5String, NamedBits,
+        OctetString, SetOfIter, SetOfVec, Uint, UtcTime,
+    };
+}

@@ -1,7 +1,7 @@
 //! Entries of CRLs.
 
 ghost use Rattle.std.specs.Prelude.{◌≡◌, refl};
-ghost use Rattle.const_oid.specs.Bound.{Bound};
+ghost use Rattle.der_core.specs.Oid.Bound.{Bound};
 ghost use Rattle.x509_cert_lists.specs.ListGrammar.{revoked_cert_fields};
 ghost use Rattle.x509_cert_lists.specs.ListViews.{revoked_cert_plain};
 

@@ -4,11 +4,11 @@ use Rattle.std.specs.Char.{to_ascii_uppercase}
 use Rattle.std.specs.List.{find, list_any}
 use Rattle.std.specs.Cmp.Lexicographic.{pointwise}
 use Rattle.std.proofs.lemmas.Bool.Decides.{nat_tests}
-use Rattle.const_oid.specs.Bound.{Bound}
-use Rattle.const_oid.specs.TextReading.{read_text}
-use Rattle.const_oid.specs.Comparing.{owned_eq}
-use Rattle.const_oid.specs.Digits.{digits, digits_within, marked}
-use Rattle.const_oid.specs.IdentifierOctets.{arc_octets, identifier_octets, read_identifier}
+use Rattle.der_core.specs.Oid.Bound.{Bound}
+use Rattle.der_core.specs.Oid.TextReading.{read_text}
+use Rattle.der_core.specs.Oid.Comparing.{owned_eq}
+use Rattle.der_core.specs.Oid.Digits.{digits, digits_within, marked}
+use Rattle.der_core.specs.Oid.IdentifierOctets.{arc_octets, identifier_octets, read_identifier}
 use Rattle.x509_cert_name_texts.specs.Keys as keys
 use Rattle.x509_cert_name_texts.specs.Keys.{is_name, type_named, named_types, shortest_name, dotted_arcs, arcs_or, key_arcs, printed_name, key_of}
 use Rattle.x509_cert_name_texts.specs.Rows.{Row, row, rows, is_called, has_octets}

@@ -6,14 +6,14 @@ use Rattle.std.specs.List.{AllByRecursion, list_all, list_any, flat_map, positio
 use Rattle.std.specs.Int.Digits.{AllBelowBase}
 use Rattle.std.proofs.lemmas.Bool.{and_parts, and_from, and_left, or_from, lt-ltb, ltb-true, true≢false}
 use Rattle.std.proofs.lemmas.Bool.Decides.{nat_tests}
-use Rattle.const_oid.specs.Comparing.{owned_eq}
-use Rattle.const_oid.specs.DottedText.{decimal, dot_decimal, dotted}
-use Rattle.const_oid.specs.Digits.{digits}
-use Rattle.const_oid.specs.IdentifierOctets.{IsIdentifier, identifier_octets}
-use Rattle.const_oid.proofs.BoundedLaws.{widen}
-use Rattle.const_oid.proofs.DigitLaws.{digits-Digits}
-use Rattle.const_oid.proofs.PrefixLaws.{same_octets}
-use Rattle.const_oid.proofs.TextFaultLaws.{dotted_read}
+use Rattle.der_core.specs.Oid.Comparing.{owned_eq}
+use Rattle.der_core.specs.Oid.DottedText.{decimal, dot_decimal, dotted}
+use Rattle.der_core.specs.Oid.Digits.{digits}
+use Rattle.der_core.specs.Oid.IdentifierOctets.{IsIdentifier, identifier_octets}
+use Rattle.der_core.proofs.Oid.BoundedLaws.{widen}
+use Rattle.der_core.proofs.DigitLaws.{digits-Digits}
+use Rattle.der_core.proofs.Oid.PrefixLaws.{same_octets}
+use Rattle.der_core.proofs.Oid.TextFaultLaws.{dotted_read}
 use Rattle.x509_cert_name_texts.specs.Keys.{Named, is_name, named_types, type_named, dotted_arcs, arcs_or, key_arcs, shortest_name, printed_name, key_of}
 use Rattle.x509_cert_name_texts.specs.Pieces.{halves_at, key_and_value}
 use Rattle.x509_cert_name_texts.proofs.PrintSteps.{IsPlain, is_paired}

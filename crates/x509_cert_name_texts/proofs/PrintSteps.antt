@@ -9,7 +9,7 @@ use Rattle.std.proofs.lemmas.Str.{char_from_byte, encode_ascii, encodes-chars, l
 use lib.Utf8.{encode, encodes}
 use Rattle.hex.specs.Hex.{hex_digit_value, lower_digits, encode_with, encode_lower, IsBytes}
 use Rattle.hex.proofs.HexLemmas.{decode_of-encode_lower}
-use Rattle.der_core_head.specs.Octets.{IsOctets}
+use Rattle.der_core.specs.Octets.{IsOctets}
 use Rattle.x509_cert_name_texts.specs.Escapes.{is_sign, is_escaped_sign, is_control, hex_digits, is_end, escaped_char, escaped_from, escaped, IsString, in_hex, of_hex, hex_octets, StandsFor}
 use Rattle.x509_cert_name_texts.specs.Pieces.{Counts, HasNone}
 use Rattle.x509_cert_name_texts.proofs.PieceSteps.{is_escaped, is_escaped-push, counts_where_closed, closed_where_counts}

@@ -1,8 +1,8 @@
 -- What a call answers, by a relation.
 use Rattle.std.specs.Prelude.{◌≢◌, Result, Ok, Err}
-use Rattle.der_core_head.specs.declared.error.Error.{Error}
-use Rattle.der_core_head.specs.declared.error.ErrorKind.{ErrorKind}
-use Rattle.der_core_head.specs.declared.error.ErrorKind.TheVariants as kinds
+use Rattle.der_core.specs.ErrorTypes.Error.{Error}
+use Rattle.der_core.specs.ErrorTypes.ErrorKind.{ErrorKind}
+use Rattle.der_core.specs.ErrorTypes.ErrorKind.TheVariants as kinds
 
 -- What was answered, seen by view, is one of the answers that are so related, unless memory ran
 -- out.

@@ -5,12 +5,12 @@ use Rattle.std.specs.Prelude.{length, map, nat_eq, nat_lt, if◌then◌else◌}
 use Rattle.std.specs.Char.{to_ascii_lowercase, to_ascii_uppercase}
 use Rattle.std.specs.Cmp.Lexicographic.{pointwise}
 use Rattle.std.specs.List.{find, list_any}
-use Rattle.const_oid.specs.Bound.{max_size}
-use Rattle.const_oid.specs.Comparing.{owned_eq}
-use Rattle.const_oid.specs.TextReading.{read_text}
-use Rattle.const_oid.specs.declared.error.Error.{Error}
-use Rattle.der_core_head.specs.declared.error.ErrorKind.{ErrorKind}
-use Rattle.der_core_head.specs.declared.error.ErrorKind.TheVariants as kinds
+use Rattle.der_core.specs.Oid.Bound.{max_size}
+use Rattle.der_core.specs.Oid.Comparing.{owned_eq}
+use Rattle.der_core.specs.Oid.TextReading.{read_text}
+use Rattle.der_core.specs.Oid.declared.error.Error.{Error}
+use Rattle.der_core.specs.ErrorTypes.ErrorKind.{ErrorKind}
+use Rattle.der_core.specs.ErrorTypes.ErrorKind.TheVariants as kinds
 
 -- the arcs of a type, and its names
 pub record Named : Type 0 where

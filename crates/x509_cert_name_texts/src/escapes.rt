@@ -1,12 +1,12 @@
 //! Escapes and hex digits in texts of names (RFC 4514 2.4, 3).
 
 ghost use Rattle.std.specs.Prelude.{◌≡◌, ◌<◌, length, IfOk};
-ghost use Rattle.der_core_head.specs.Reading.{Gives, GivesNow};
+ghost use Rattle.der_core.specs.Reading.{Gives, GivesNow};
 ghost use Rattle.hex.specs.Hex.{hex_digit_value};
 ghost use Rattle.x509_cert_name_texts.specs.Answers.{GivesBy};
 ghost use Rattle.x509_cert_name_texts.specs.Escapes.{is_sign, escape, ReadsOctets, hex_octets};
 
-use der_core_head::{Error, ErrorKind};
+use der_core::{Error, ErrorKind};
 use hex::FromHexError;
 use std::alloc::Global;
 

@@ -1,13 +1,13 @@
 //! The names of attribute types.
 
 ghost use Rattle.std.specs.Prelude.{◌≡◌, option_map, find};
-ghost use Rattle.const_oid.specs.Bound.{Bound};
-ghost use Rattle.der_core_head.specs.Reading.{GivesNow};
+ghost use Rattle.der_core.specs.Oid.Bound.{Bound};
+ghost use Rattle.der_core.specs.Reading.{GivesNow};
 ghost use Rattle.x509_cert_name_texts.specs.Keys.{key_arcs, key_of};
 ghost use Rattle.x509_cert_name_texts.specs.Rows.{row_of, rows, is_called, has_octets};
 
-use const_oid::ObjectIdentifier;
-use der_core_head::Error;
+use der_core::Error;
+use der_core::oid::ObjectIdentifier;
 
 /// A type that has a name: the octets of its identifier, its shortest name in capitals, and its
 /// other name. Where there is one name alone it stands twice.

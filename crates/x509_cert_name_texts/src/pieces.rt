@@ -6,13 +6,13 @@ ghost use Rattle.x509_cert_name_texts.specs.Pieces.{IsFirstPiece, HasNone, Count
 ghost use Rattle.x509_cert_name_texts.specs.Pieces.{key_and_value};
 ghost use Rattle.x509_cert_name_texts.specs.Answers.{GivesBy};
 
-use der_core_head::Error;
+use der_core::Error;
 use std::alloc::Global;
 
 /// A type that texts are read as, with memory for what they hold.
 pub trait FromText: Sized {
     ghost use Rattle.std.specs.Prelude.{Result, List, ℕ};
-    ghost use Rattle.der_core_head.specs.declared.error.ErrorKind.{ErrorKind};
+    ghost use Rattle.der_core.specs.ErrorTypes.ErrorKind.{ErrorKind};
     ghost use Rattle.x509_cert_name_texts.specs.Answers.{GivesBy};
 
     // What a text is read as, or why it is refused.

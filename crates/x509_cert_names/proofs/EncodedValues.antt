@@ -2,13 +2,13 @@
 use Rattle.std.proofs.Common.{◌≡◌, ℕ, List, [], ◌∷◌, length, take, drop, Bool, true, false, Result, Ok, Err, refl, sym, ap, nat_lt, arith, if◌then◌else◌}
 use Rattle.std.proofs.lemmas.Bool.Decides.{nat_tests}
 use Rattle.std.proofs.lemmas.List.{length-drop, take_all}
-use Rattle.der_core_head.specs.declared.error.ErrorKind.{ErrorKind}
-use Rattle.der_core_head.specs.declared.error.ErrorKind.TheVariants as kinds
-use Rattle.der_core_head.specs.Grammar.{read_whole, any_at, slice_at, whole}
-use Rattle.der_core_head.specs.Heads.{Head, head_at}
-use Rattle.der_core_head.specs.Limits.{length_max}
-use Rattle.der_core_head.specs.Octets.{◌>>=◌}
-use Rattle.der_core_head.specs.Shapes.{AnyValue, any}
+use Rattle.der_core.specs.ErrorTypes.ErrorKind.{ErrorKind}
+use Rattle.der_core.specs.ErrorTypes.ErrorKind.TheVariants as kinds
+use Rattle.der_core.specs.Grammar.{read_whole, any_at, slice_at, whole}
+use Rattle.der_core.specs.Heads.{Head, head_at}
+use Rattle.der_core.specs.Limits.{length_max}
+use Rattle.der_core.specs.Octets.{◌>>=◌}
+use Rattle.der_core.specs.Shapes.{AnyValue, any}
 use Rattle.x509_cert_name_texts.specs.Escapes.{hex_octets}
 use Rattle.x509_cert_names.specs.ValueTexts.{behind_head, encoded_value}
 

@@ -8,3 +8,4 @@ mod TextBounds
 mod PlainSpelled
 pub mod SameOctets
 mod ReadBack
+mod Cited

@@ -2,8 +2,8 @@
 use Rattle.std.proofs.Common.{◌≡◌, List, [], ◌∷◌, ◌++◌, reverse, refl, sym, ap, ◌∙◌, subst, flat_map}
 use Rattle.std.proofs.lemmas.List.{reverse-append}
 use Rattle.std.specs.List.{AllByRecursion}
-use Rattle.der_core_head.specs.Grammar.{plain_list}
-use Rattle.der_core_head.proofs.Results.{plain-append}
+use Rattle.der_core.specs.Grammar.{plain_list}
+use Rattle.der_core.proofs.Results.{plain-append}
 
 pub plain_all : {A B : Type 0} (f : A → B) (xs : List (List A)) → plain_list f (flat_map (λ r. r) xs) ≡ flat_map (λ r. r) (plain_list (plain_list f) xs)
 plain_all f [] = refl

@@ -1,11 +1,11 @@
 -- Names under two bounds of arcs.
 use Rattle.std.proofs.Common.{◌≡◌, ℕ, ◌≤◌, List, [], ◌∷◌, ◌++◌, Ok, refl, sym, ap, subst, ◌∙◌, ◌↔◌, flat_map, map}
 use Rattle.std.proofs.lemmas.List.{map-append}
-use Rattle.der_core_head.specs.Bounds.{IsValidUnder, identifiers_of, AreBelow}
-use Rattle.der_core_head.specs.Grammar.{read_whole}
-use Rattle.der_core_head.specs.Octets.{IsOctets}
-use Rattle.der_core_head.specs.Shapes.{IsValid, Spells, octets_of}
-use Rattle.der_core_head.proofs.BoundLaws.{Family, valid_wider, valid_narrow, spelled_exactly, whole_wider}
+use Rattle.der_core.specs.Bounds.{IsValidUnder, identifiers_of, AreBelow}
+use Rattle.der_core.specs.Grammar.{read_whole}
+use Rattle.der_core.specs.Octets.{IsOctets}
+use Rattle.der_core.specs.Shapes.{IsValid, Spells, octets_of}
+use Rattle.der_core.proofs.BoundLaws.{Family, valid_wider, valid_narrow, spelled_exactly, whole_wider}
 use Rattle.x509_cert_names.specs.Names.{PlainName, RelativeName, type_and_value, relative_name, name, type_of, all_of}
 
 -- the identifiers in a name are the types of its attributes

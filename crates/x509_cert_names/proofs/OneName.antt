@@ -4,15 +4,15 @@ use Rattle.std.specs.List.{AllByRecursion, IsDistinct}
 use Rattle.std.proofs.lemmas.List.{reverse-append}
 use Rattle.std.proofs.lemmas.List.Sorted.{IsPermutation-sym, IsPermutation-trans, length_permutation}
 use Rattle.std.proofs.lemmas.Map.Keys.{IsDistinct-IsPermutation}
-use Rattle.const_oid.specs.Bound.{Bound}
-use Rattle.der_core_head.specs.declared.error.ErrorKind.{ErrorKind}
-use Rattle.der_core_head.specs.Grammar.{plain_list}
-use Rattle.der_core_head.specs.Octets.{◌>>=◌}
-use Rattle.der_core_head.specs.Shapes.{AnyValue, IsValid}
-use Rattle.der_core_head.proofs.Results.{plain-append, plain_permutation}
+use Rattle.der_core.specs.Oid.Bound.{Bound}
+use Rattle.der_core.specs.ErrorTypes.ErrorKind.{ErrorKind}
+use Rattle.der_core.specs.Grammar.{plain_list}
+use Rattle.der_core.specs.Octets.{◌>>=◌}
+use Rattle.der_core.specs.Shapes.{AnyValue, IsValid}
+use Rattle.der_core.proofs.Results.{plain-append, plain_permutation}
 use Rattle.der_core.specs.Placed.{AllValid}
-use Rattle.der_types_sets.proofs.Arranged.{valid_moved}
-use Rattle.der_types_sets.proofs.AscendingSteps.{ascends-plain, one_set}
+use Rattle.der_types.proofs.Arranged.{valid_moved}
+use Rattle.der_types.proofs.AscendingSteps.{ascends-plain, one_set}
 use Rattle.x509_cert_name_texts.specs.Escapes.{ReadsOctets}
 use Rattle.x509_cert_name_texts.specs.Pieces.{ReadsPieces, Counts, HasNone, IsFirstPiece, in_front_of}
 use Rattle.x509_cert_names.specs.declared.attribute_type_and_value.AttributeTypeAndValue.{AttributeTypeAndValue}
@@ -25,7 +25,7 @@ use Rattle.x509_cert_name_texts.proofs.EscapeSteps.{stands_for_one}
 use Rattle.x509_cert_names.proofs.Lists.{all_turned}
 use Rattle.std.specs.Prelude.{⊤}
 use Rattle.std.proofs.lemmas.Bool.{cases_lt}
-use Rattle.const_oid.proofs.DigitLaws.{split-same_length}
+use Rattle.der_core.proofs.DigitLaws.{split-same_length}
 
 -- A text is one list of pieces.
 inside : (p r q w : List ℕ) (separator : ℕ) → p ++ (separator ∷ r) ≡ q ++ w → length p < length q → (get_or q (length p) 0 ≡ separator) × (take (length p) q ≡ p)

@@ -1,19 +1,19 @@
 -- Attributes whose headers have two octets each are spelled by their octets.
 use Rattle.std.proofs.Common.{Bool, Result, Err, lt-ltb, ◌≡◌, ℕ, zero, suc, ◌+◌, ◌-◌, ◌<◌, ◌≤◌, List, [], ◌∷◌, ◌++◌, length, Ok, refl, sym, ap, ◌∙◌, arith, append-nil, length-append, length-take-le, subst, take, take_all, take-append-drop, drop, get_or}
-use Rattle.const_oid.specs.Bound.{Bound}
-use Rattle.const_oid.specs.IdentifierOctets.{identifier_octets, IsIdentifier}
-use Rattle.der_core_head.specs.Heads.{tlv, head_octets, length_octets}
-use Rattle.der_core_head.specs.Octets.{◌>>=◌, IsOctets}
-use Rattle.der_core_head.specs.declared.error.Error.{Error}
-use Rattle.der_core_head.specs.declared.error.ErrorKind.{ErrorKind}
-use Rattle.der_core_head.specs.Shapes.{octets_of, contents, body_octets, Spells, IsValid}
-use Rattle.der_core_head.specs.Tags.{tag_octets, tag_at, leading_octet, number_of}
-use Rattle.der_core_head.specs.Writing.{Out, put, size, write, Writes}
-use Rattle.der_core_head.specs.declared.tag.Tag.{Tag}
-use Rattle.der_core_head.specs.declared.tag.Tag.TheVariants as tags
-use Rattle.der_core_head.proofs.Results.{IsBytes, bytes_drop}
-use Rattle.der_core_head.proofs.TagLaws.{tag_sound}
-use Rattle.der_core_head.proofs.Written.{sized, put-append, put_some, put_written}
+use Rattle.der_core.specs.Oid.Bound.{Bound}
+use Rattle.der_core.specs.Oid.IdentifierOctets.{identifier_octets, IsIdentifier}
+use Rattle.der_core.specs.Heads.{tlv, head_octets, length_octets}
+use Rattle.der_core.specs.Octets.{◌>>=◌, IsOctets}
+use Rattle.der_core.specs.ErrorTypes.Error.{Error}
+use Rattle.der_core.specs.ErrorTypes.ErrorKind.{ErrorKind}
+use Rattle.der_core.specs.Shapes.{octets_of, contents, body_octets, Spells, IsValid}
+use Rattle.der_core.specs.Tags.{tag_octets, tag_at, leading_octet, number_of}
+use Rattle.der_core.specs.Writing.{Out, put, size, write, Writes}
+use Rattle.der_core.specs.TagTypes.Tag.{Tag}
+use Rattle.der_core.specs.TagTypes.Tag.TheVariants as tags
+use Rattle.der_core.proofs.Results.{IsBytes, bytes_drop}
+use Rattle.der_core.proofs.TagLaws.{tag_sound}
+use Rattle.der_core.proofs.Written.{sized, put-append, put_some, put_written}
 use Rattle.x509_cert_names.specs.Names.{type_and_value}
 use Rattle.x509_cert_names.specs.Pairs.{pair}
 use Rattle.x509_cert_names.specs.PlainParts.{IsPlain}

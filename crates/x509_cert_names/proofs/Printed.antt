@@ -2,10 +2,10 @@
 use Rattle.std.proofs.Common.{◌≡◌, ℕ, List, [], ◌∷◌, ◌++◌, length, reverse, Option, Some, None, refl, sym, ap, ◌∙◌, arith, flat_map, chars}
 use Rattle.std.proofs.lemmas.List.{append-nil, reverse-append}
 use Rattle.std.proofs.lemmas.List.Concat.{flat_map-append}
-use Rattle.const_oid.specs.DottedText.{dotted}
-use Rattle.der_core_head.specs.Heads.{tlv, head_octets}
-use Rattle.der_core_head.specs.Shapes.{AnyValue}
-use Rattle.der_core_head.specs.declared.tag.Tag.{Tag}
+use Rattle.der_core.specs.Oid.DottedText.{dotted}
+use Rattle.der_core.specs.Heads.{tlv, head_octets}
+use Rattle.der_core.specs.Shapes.{AnyValue}
+use Rattle.der_core.specs.TagTypes.Tag.{Tag}
 use Rattle.x509_cert_name_texts.specs.Escapes.{escaped, hex_digits, in_hex}
 use Rattle.x509_cert_name_texts.specs.Keys.{key_of}
 use Rattle.x509_cert_names.specs.NameTexts.{printed_behind, joined_by, relative_printed, name_printed}

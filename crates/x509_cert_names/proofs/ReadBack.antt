@@ -9,27 +9,27 @@ use Rattle.std.proofs.lemmas.List.Sorted.{IsPermutation-map, IsPermutation-refl,
 use Rattle.std.proofs.lemmas.Bool.{eqb-false, ltb-true}
 use Rattle.std.proofs.lemmas.Str.{IsUtf8-from_is_utf8, IsUtf8-from_ascii}
 use Rattle.std.specs.Str.{is_utf8}
-use Rattle.const_oid.specs.Bound.{Bound}
-use Rattle.const_oid.specs.DottedText.{dotted}
-use Rattle.const_oid.specs.IdentifierOctets.{IsIdentifier, identifier_octets}
-use Rattle.der_core_head.specs.declared.error.ErrorKind.{ErrorKind}
-use Rattle.der_core_head.specs.declared.error.ErrorKind.TheVariants as kinds
-use Rattle.der_core_head.specs.declared.tag.Tag.{Tag}
-use Rattle.der_core_head.specs.declared.tag.Tag.TheVariants as tags
-use Rattle.der_core_head.specs.Grammar.{plain_list, read_whole}
-use Rattle.der_core_head.specs.Heads.{Fits}
-use Rattle.der_core_head.specs.Leaves.{Leaf, LeafValue, leaf_read, text, utf8}
-use Rattle.der_core_head.specs.Octets.{◌>>=◌, IsOctets}
-use Rattle.der_core_head.specs.Shapes.{AnyValue, AllRising, IsValid, IsContent, IsBody, Spells, any, octets_of}
-use Rattle.der_core_head.specs.Tags.{same_tag}
-use Rattle.der_core_head.specs.Texts.{Repertoire, printable, ascii, is_within, text_read, utf8_read}
-use Rattle.der_core_head.proofs.HeadLaws.{fits_contents}
-use Rattle.der_core_head.proofs.OneEncoding.{octets_below, whole_again}
-use Rattle.der_core_head.proofs.TextLaws.{all_ascii, printable_below}
+use Rattle.der_core.specs.Oid.Bound.{Bound}
+use Rattle.der_core.specs.Oid.DottedText.{dotted}
+use Rattle.der_core.specs.Oid.IdentifierOctets.{IsIdentifier, identifier_octets}
+use Rattle.der_core.specs.ErrorTypes.ErrorKind.{ErrorKind}
+use Rattle.der_core.specs.ErrorTypes.ErrorKind.TheVariants as kinds
+use Rattle.der_core.specs.TagTypes.Tag.{Tag}
+use Rattle.der_core.specs.TagTypes.Tag.TheVariants as tags
+use Rattle.der_core.specs.Grammar.{plain_list, read_whole}
+use Rattle.der_core.specs.Heads.{Fits}
+use Rattle.der_core.specs.Leaves.{Leaf, LeafValue, leaf_read, text, utf8}
+use Rattle.der_core.specs.Octets.{◌>>=◌, IsOctets}
+use Rattle.der_core.specs.Shapes.{AnyValue, AllRising, IsValid, IsContent, IsBody, Spells, any, octets_of}
+use Rattle.der_core.specs.Tags.{same_tag}
+use Rattle.der_core.specs.Texts.{Repertoire, printable, ascii, is_within, text_read, utf8_read}
+use Rattle.der_core.proofs.HeadLaws.{fits_contents}
+use Rattle.der_core.proofs.OneEncoding.{octets_below, whole_again}
+use Rattle.der_core.proofs.TextLaws.{all_ascii, printable_below}
 use Rattle.der_core.specs.Placed.{AllValid}
-use Rattle.der_types_any.specs.Contents.{leaf_as}
-use Rattle.der_types_sets.proofs.Arranged.{valid_moved}
-use Rattle.der_types_sets.proofs.AscendingSteps.{rising-ascends}
+use Rattle.der_types.specs.Contents.{leaf_as}
+use Rattle.der_types.proofs.Arranged.{valid_moved}
+use Rattle.der_types.proofs.AscendingSteps.{rising-ascends}
 use Rattle.x509_cert_name_texts.specs.Escapes.{escaped, in_hex}
 use Rattle.x509_cert_name_texts.specs.Keys.{key_of}
 use Rattle.x509_cert_name_texts.specs.Pieces.{HasNone, Counts, ReadsPieces}

@@ -1,9 +1,9 @@
 -- What holds of the fields that a record lends, or of the alternative that a choice lends, holds of its own.
 use Rattle.std.proofs.Common.{◌≡◌, Bool, Option, Result, Ok, subst, Ordering}
-use Rattle.der_core_head.specs.declared.error.Error.{Error}
-use Rattle.der_core_head.specs.declared.tag.Tag.{Tag}
-use Rattle.der_core_head.specs.Shapes.{Shape, Body, Value, BodyValue, nested, begins, octets_of, IsValid}
-use Rattle.der_core_head.specs.Writing.{Out, Writes, write_content}
+use Rattle.der_core.specs.ErrorTypes.Error.{Error}
+use Rattle.der_core.specs.TagTypes.Tag.{Tag}
+use Rattle.der_core.specs.Shapes.{Shape, Body, Value, BodyValue, nested, begins, octets_of, IsValid}
+use Rattle.der_core.specs.Writing.{Out, Writes, write_content}
 use Rattle.der_core.specs.Orders.{StartsWith, encodings_cmp}
 
 -- the writing of the fields

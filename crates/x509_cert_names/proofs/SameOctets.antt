@@ -1,11 +1,11 @@
 -- Names are equal, attribute by attribute, exactly where their plain values are, and where they have the same octets.
 use Rattle.std.proofs.Common.{◌≡◌, List, [], ◌∷◌, true, refl, ap, subst, ℕ, false, ◌∙◌, Less, Equal, ◌≢◌, ◌<◌, get_or, Ok, Err, length, ◌++◌, sym, arith, length-append, flat_map, Ordering, Greater}
 use Rattle.std.specs.Cmp.Lexicographic.{pointwise, bytes_decides, nat_list_cmp_total}
-use Rattle.const_oid.specs.Bound.{Bound}
+use Rattle.der_core.specs.Oid.Bound.{Bound}
 use Rattle.der_core.proofs.ValueEquality.{Alike, AlikeWithin, exact, leaves, behind, first, last, list, next, second, set}
-use Rattle.der_core_head.specs.Grammar.{plain_list}
-use Rattle.der_core_head.specs.Shapes.{AnyValue, any, rising, AllRising, octets_of, contents, body_octets, IsValid, IsContent, IsBody}
-use Rattle.der_types_any.proofs.AnyLaws.{same_values, values}
+use Rattle.der_core.specs.Grammar.{plain_list}
+use Rattle.der_core.specs.Shapes.{AnyValue, any, rising, AllRising, octets_of, contents, body_octets, IsValid, IsContent, IsBody}
+use Rattle.der_types.proofs.AnyLaws.{same_values, values}
 use Rattle.x509_cert_names.specs.DirectoryStrings.{directory_plain}
 use Rattle.x509_cert_names.specs.Names.{attribute, directory_string, type_and_value, relative_name, name, TypeAndValue, PlainName, name_octets}
 use Rattle.x509_cert_names.specs.Pairs.{pair_plain, relative_plain, same_pair, same_pair_equiv}
@@ -23,17 +23,17 @@ use Rattle.std.proofs.lemmas.Map.Keys.{IsDistinct-cons, IsDistinct-IsPermutation
 use Rattle.der_core.specs.Orders.{octets_cmp}
 use Rattle.der_core.proofs.OrderLaws.{octets_cmp-self, octets_cmp-equal}
 use Rattle.der_core.proofs.Sizes.{size_only}
-use Rattle.der_core_head.specs.Writing.{size}
-use Rattle.der_core_head.specs.declared.error.Error.{Error}
-use Rattle.der_core_head.proofs.Written.{counts_octets, sized}
-use Rattle.der_types_sets.proofs.SetSteps.{valid_at}
-use Rattle.der_core_head.specs.Heads.{Fits}
-use Rattle.der_core_head.specs.Ranges.{IsInRange}
-use Rattle.der_core_head.specs.declared.tag.Tag.TheVariants as tags
-use Rattle.der_core_head.proofs.OneEncoding.{one_value}
-use Rattle.der_core_head.proofs.HeadLaws.{fits_contents}
+use Rattle.der_core.specs.Writing.{size}
+use Rattle.der_core.specs.ErrorTypes.Error.{Error}
+use Rattle.der_core.proofs.Written.{counts_octets, sized}
+use Rattle.der_types.proofs.SetSteps.{valid_at}
+use Rattle.der_core.specs.Heads.{Fits}
+use Rattle.der_core.specs.Ranges.{IsInRange}
+use Rattle.der_core.specs.TagTypes.Tag.TheVariants as tags
+use Rattle.der_core.proofs.OneEncoding.{one_value}
+use Rattle.der_core.proofs.HeadLaws.{fits_contents}
 use Rattle.der_core.specs.Placed.{AllValid}
-use Rattle.der_types_sets.specs.Sets.{Ascends, TooLong}
+use Rattle.der_types.specs.Sets.{Ascends, TooLong}
 use Rattle.x509_cert_names.specs.Ordered.{DifferInTurn, IsOrdered}
 
 -- `==` of attributes and names is of their plain values: of identifiers by their octets, of any values by tag and content.

@@ -4,12 +4,12 @@ use Rattle.std.specs.Prelude.{⊤, map, IsPermutation}
 use Rattle.std.specs.List.{AllByRecursion, find, list_all}
 use Rattle.std.proofs.lemmas.List.Elements.{All-from_recursion, recursion_from_All}
 use Rattle.std.proofs.lemmas.List.Sorted.{All-permutation, IsPermutation-reverse, IsPermutation-sym}
-use Rattle.der_core_head.specs.Bounds.{IsValidUnder, identifiers_of, AreBelow, HoldsLarge}
-use Rattle.der_core_head.specs.Grammar.{plain_list}
-use Rattle.der_core_head.specs.Shapes.{IsValid, octets_of}
-use Rattle.der_core_head.proofs.BoundLaws.{below_or_large, Family, valid_narrow}
+use Rattle.der_core.specs.Bounds.{IsValidUnder, identifiers_of, AreBelow, HoldsLarge}
+use Rattle.der_core.specs.Grammar.{plain_list}
+use Rattle.der_core.specs.Shapes.{IsValid, octets_of}
+use Rattle.der_core.proofs.BoundLaws.{below_or_large, Family, valid_narrow}
 use Rattle.der_core.specs.Placed.{AllValid}
-use Rattle.der_types_sets.specs.Sets.{Ascends, NotAbove}
+use Rattle.der_types.specs.Sets.{Ascends, NotAbove}
 use Rattle.x509_cert_name_texts.specs.Keys.{key_arcs, Named, named_types, type_named, dotted_arcs, arcs_or}
 use Rattle.x509_cert_name_texts.specs.Pieces.{IsFirstPiece, ReadsPieces, in_front_of}
 use Rattle.x509_cert_names.specs.Names.{PlainName, TypeAndValue, type_and_value, name, type_of, all_of}
@@ -19,11 +19,11 @@ use Rattle.x509_cert_names.specs.PlainTexts.{SpellsName}
 use Rattle.x509_cert_names.specs.declared.attribute_type_and_value.AttributeTypeAndValue.{AttributeTypeAndValue}
 use Rattle.x509_cert_names.proofs.NameBounds.{names_alike}
 use Rattle.std.proofs.lemmas.Bool.{and_parts, cases_cond, ltb-true}
-use Rattle.const_oid.specs.IdentifierOctets.{IsIdentifier}
-use Rattle.const_oid.specs.TextReading.{read_text}
-use Rattle.const_oid.specs.declared.error.Error.{Error}
-use Rattle.const_oid.proofs.TextFaultLaws.{text_sound, text_read}
-use Rattle.const_oid.proofs.TextRoundLaws.{all_below}
+use Rattle.der_core.specs.Oid.IdentifierOctets.{IsIdentifier}
+use Rattle.der_core.specs.Oid.TextReading.{read_text}
+use Rattle.der_core.specs.Oid.declared.error.Error.{Error}
+use Rattle.der_core.proofs.Oid.TextFaultLaws.{text_sound, text_read}
+use Rattle.der_core.proofs.Oid.TextRoundLaws.{all_below}
 
 -- Keys of name texts under two bounds of arcs.
 -- every arc is below a bound

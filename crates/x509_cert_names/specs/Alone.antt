@@ -1,7 +1,7 @@
 -- An attribute that stands alone at a reader.
 use Rattle.std.specs.Prelude.{◌≡◌, ◌<◌, ◌≤◌, ℕ, length, take, false}
-use Rattle.der_core_head.specs.Reading.{State}
-use Rattle.der_core_head.specs.Shapes.{Spells}
+use Rattle.der_core.specs.Reading.{State}
+use Rattle.der_core.specs.Shapes.{Spells}
 use Rattle.x509_cert_names.specs.Names.{type_and_value}
 use Rattle.x509_cert_names.specs.Pairs.{pair_plain}
 use Rattle.x509_cert_names.specs.declared.attribute_type_and_value.AttributeTypeAndValue.{AttributeTypeAndValue}

@@ -1,9 +1,9 @@
 -- What a name has of a type.
 use Rattle.std.specs.Prelude.{◌≡◌, ℕ, List, [], ◌∷◌, Option, Some, None, Result, Ok, Err}
 use Rattle.std.specs.Prelude.{if◌then◌else◌}
-use Rattle.const_oid.specs.Comparing.{owned_eq}
-use Rattle.der_core_head.specs.declared.error.Error.{Error}
-use Rattle.der_core_head.specs.Shapes.{AnyValue}
+use Rattle.der_core.specs.Oid.Comparing.{owned_eq}
+use Rattle.der_core.specs.ErrorTypes.Error.{Error}
+use Rattle.der_core.specs.Shapes.{AnyValue}
 use Rattle.x509_cert_names.specs.Names.{TypeAndValue, type_of, value_of}
 
 -- the value of the first attribute of a type, in the order of the name

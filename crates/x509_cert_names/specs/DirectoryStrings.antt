@@ -1,15 +1,15 @@
 -- What contracts see of a DirectoryString.
 use Rattle.std.specs.Prelude.{ℕ, List, [], string_bytes, encode_utf8_all, Result, Ok, Err}
 use Rattle.std.proofs.Common.{inl, inr}
-use Rattle.der_core_head.specs.declared.error.ErrorKind.{ErrorKind}
-use Rattle.der_core_head.specs.declared.error.ErrorKind.TheVariants as kinds
-use Rattle.der_core_head.specs.declared.tag.Tag.{Tag}
-use Rattle.der_core_head.specs.declared.tag.Tag.TheVariants as tags
-use Rattle.der_core_head.specs.Octets.{◌>>=◌}
-use Rattle.der_core_head.specs.Leaves.{text, utf8, bmp}
-use Rattle.der_core_head.specs.Texts.{printable, ascii}
-use Rattle.der_core_head.specs.Shapes.{Value, AnyValue, leaf}
-use Rattle.der_types_any.specs.Contents.{content_as}
+use Rattle.der_core.specs.ErrorTypes.ErrorKind.{ErrorKind}
+use Rattle.der_core.specs.ErrorTypes.ErrorKind.TheVariants as kinds
+use Rattle.der_core.specs.TagTypes.Tag.{Tag}
+use Rattle.der_core.specs.TagTypes.Tag.TheVariants as tags
+use Rattle.der_core.specs.Octets.{◌>>=◌}
+use Rattle.der_core.specs.Leaves.{text, utf8, bmp}
+use Rattle.der_core.specs.Texts.{printable, ascii}
+use Rattle.der_core.specs.Shapes.{Value, AnyValue, leaf}
+use Rattle.der_types.specs.Contents.{content_as}
 use Rattle.x509_cert_names.specs.Names.{directory_string}
 use Rattle.x509_cert_names.specs.declared.directory_string.DirectoryString.{DirectoryString}
 use Rattle.x509_cert_names.specs.declared.directory_string.DirectoryString.TheVariants as strings

@@ -10,3 +10,5 @@ pub mod PlainTexts
 pub mod Stored
 pub mod Alone
 pub mod PlainParts
+pub mod Opened
+pub use Rattle.x509_cert_name_texts.specs as CertNameTexts

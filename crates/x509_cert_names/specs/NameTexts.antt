@@ -2,12 +2,12 @@
 use Rattle.std.specs.Prelude.{◌≡◌, ◌≢◌, ℕ, List, [], ◌∷◌, ◌++◌, reverse, Some, None, false}
 use Rattle.std.specs.Prelude.{Result, Ok, Err, IsPermutation}
 use Rattle.std.specs.List.{IsDistinct, flat_map}
-use Rattle.der_core_head.specs.declared.error.ErrorKind.{ErrorKind}
-use Rattle.der_core_head.specs.declared.error.ErrorKind.TheVariants as kinds
-use Rattle.der_core_head.specs.Shapes.{Shape, Value, octets_of}
-use Rattle.der_core_head.specs.Writing.{write}
+use Rattle.der_core.specs.ErrorTypes.ErrorKind.{ErrorKind}
+use Rattle.der_core.specs.ErrorTypes.ErrorKind.TheVariants as kinds
+use Rattle.der_core.specs.Shapes.{Shape, Value, octets_of}
+use Rattle.der_core.specs.Writing.{write}
 use Rattle.der_core.specs.Placed.{AllValid}
-use Rattle.der_types_sets.specs.Sets.{Ascends}
+use Rattle.der_types.specs.Sets.{Ascends}
 use Rattle.x509_cert_name_texts.specs.Keys.{key_arcs}
 use Rattle.x509_cert_name_texts.specs.Pieces.{ReadsPieces, key_and_value}
 use Rattle.x509_cert_names.specs.Names.{type_and_value}

@@ -1,12 +1,12 @@
 -- Names and attributes (RFC 5280 4.1.2.4, 4.1.2.6, appendix A.1; RFC 2986 4.1). Each shape takes
 -- the bound of arcs.
 use Rattle.std.specs.Prelude.{ℕ, List, flat_map}
-use Rattle.const_oid.specs.Bound.{max_size}
-use Rattle.der_core_head.specs.declared.tag.Tag.TheVariants as tags
-use Rattle.der_core_head.specs.Leaves.{identifier, text, utf8, bmp}
-use Rattle.der_core_head.specs.Texts.{printable, ascii}
-use Rattle.der_core_head.specs.Shapes.{Shape, Body, Value, AnyValue, tagged, any, leaf, either}
-use Rattle.der_core_head.specs.Shapes.{field, done, sequence, sequence_of, strict_set_of, octets_of}
+use Rattle.der_core.specs.Oid.Bound.{max_size}
+use Rattle.der_core.specs.TagTypes.Tag.TheVariants as tags
+use Rattle.der_core.specs.Leaves.{identifier, text, utf8, bmp}
+use Rattle.der_core.specs.Texts.{printable, ascii}
+use Rattle.der_core.specs.Shapes.{Shape, Body, Value, AnyValue, tagged, any, leaf, either}
+use Rattle.der_core.specs.Shapes.{field, done, sequence, sequence_of, strict_set_of, octets_of}
 
 -- AttributeType ::= OBJECT IDENTIFIER, of at most 39 octets
 abbrev pub attribute_type : ℕ → Shape

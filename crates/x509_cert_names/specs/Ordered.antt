@@ -1,7 +1,7 @@
 -- What holds of the attributes of every RDN.
 use Rattle.std.specs.Prelude.{◌≡◌, ℕ, List, [], ◌∷◌, ⊤, false}
 use Rattle.std.specs.List.{IsDistinct}
-use Rattle.der_types_sets.specs.Sets.{Ascends}
+use Rattle.der_types.specs.Sets.{Ascends}
 use Rattle.x509_cert_names.specs.Names.{type_and_value}
 use Rattle.x509_cert_names.specs.Pairs.{pair_plain, same_pair}
 use Rattle.x509_cert_names.specs.declared.attribute_type_and_value.AttributeTypeAndValue.{AttributeTypeAndValue}

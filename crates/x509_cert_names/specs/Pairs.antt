@@ -5,10 +5,10 @@ use Rattle.std.specs.Cmp.{IsEquivalence, and_equiv}
 use Rattle.std.specs.Cmp.{on_equiv, first_so, second_so}
 use Rattle.std.specs.Cmp.Lexicographic.{pointwise, bytes_decides, nat_list_eq_equiv}
 use Rattle.std.specs.Hash as fed
-use Rattle.const_oid.specs.IdentifierOctets.{identifier_octets}
-use Rattle.der_core_head.specs.Grammar.{plain_list}
-use Rattle.der_core_head.specs.Shapes.{AnyValue}
-use Rattle.der_types_any.specs.AnyOrders.{any_key, any_fed, any_fed_alike}
+use Rattle.der_core.specs.Oid.IdentifierOctets.{identifier_octets}
+use Rattle.der_core.specs.Grammar.{plain_list}
+use Rattle.der_core.specs.Shapes.{AnyValue}
+use Rattle.der_types.specs.AnyOrders.{any_key, any_fed, any_fed_alike}
 use Rattle.x509_cert_names.specs.Names.{TypeAndValue, RelativeName}
 use Rattle.x509_cert_names.specs.declared.attribute_type_and_value.AttributeTypeAndValue.{AttributeTypeAndValue}
 

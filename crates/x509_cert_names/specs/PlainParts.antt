@@ -1,10 +1,10 @@
 -- An attribute whose headers have two octets each.
 use Rattle.std.specs.Prelude.{◌≡◌, ℕ, ◌+◌, ◌<◌, List, [], ◌∷◌, ◌++◌, length, Result}
-use Rattle.der_core_head.specs.declared.error.ErrorKind.{ErrorKind}
-use Rattle.der_core_head.specs.Octets.{◌>>=◌, IsOctets}
-use Rattle.der_core_head.specs.Tags.{IsTag, tag_octets}
-use Rattle.der_core_head.specs.declared.tag.Tag.{Tag}
-use Rattle.der_core_head.specs.Writing.{Out, put}
+use Rattle.der_core.specs.ErrorTypes.ErrorKind.{ErrorKind}
+use Rattle.der_core.specs.Octets.{◌>>=◌, IsOctets}
+use Rattle.der_core.specs.Tags.{IsTag, tag_octets}
+use Rattle.der_core.specs.TagTypes.Tag.{Tag}
+use Rattle.der_core.specs.Writing.{Out, put}
 
 -- `octets` are a SEQUENCE (0x30) of an OBJECT IDENTIFIER (0x06), of which these are the octets,
 -- and of a value with this tag and this content, and each length takes one octet

@@ -2,7 +2,7 @@
 use Rattle.std.specs.Prelude.{◌≡◌, ◌≢◌, ℕ, List, [], ◌∷◌, map, Option, Some, Ok, ⊤, IsPermutation}
 use Rattle.std.specs.List.{AllByRecursion}
 use Rattle.x509_cert_name_texts.specs.Keys.{key_of}
-use Rattle.der_core_head.specs.Grammar.{plain_list}
+use Rattle.der_core.specs.Grammar.{plain_list}
 use Rattle.x509_cert_names.specs.Names.{PlainName, TypeAndValue, type_of, value_of}
 use Rattle.x509_cert_names.specs.Pairs.{pair, relative_plain}
 use Rattle.x509_cert_names.specs.declared.attribute_type_and_value.AttributeTypeAndValue.{AttributeTypeAndValue}

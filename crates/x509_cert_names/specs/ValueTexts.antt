@@ -2,19 +2,19 @@
 use Rattle.std.specs.Prelude.{◌≡◌, ◌≢◌, ℕ, ◌||◌, nat_lt, List, ◌∷◌, ◌++◌, length, Option, Some}
 use Rattle.std.specs.Prelude.{None, Result, Ok, Err, if◌then◌else◌, chars}
 use Rattle.std.specs.Result.{result_ok}
-use Rattle.const_oid.specs.Comparing.{owned_eq}
-use Rattle.const_oid.specs.DottedText.{dotted}
-use Rattle.der_core_head.specs.Limits.{length_max}
-use Rattle.der_core_head.specs.declared.error.ErrorKind.{ErrorKind}
-use Rattle.der_core_head.specs.declared.error.ErrorKind.TheVariants as kinds
-use Rattle.der_core_head.specs.declared.tag.Tag.{Tag}
-use Rattle.der_core_head.specs.declared.tag.Tag.TheVariants as tags
-use Rattle.der_core_head.specs.Heads.{Head, head_at, tlv}
-use Rattle.der_core_head.specs.Leaves.{text, utf8}
-use Rattle.der_core_head.specs.Octets.{◌>>=◌}
-use Rattle.der_core_head.specs.Shapes.{AnyValue}
-use Rattle.der_core_head.specs.Texts.{printable, ascii}
-use Rattle.der_types_any.specs.Contents.{leaf_as}
+use Rattle.der_core.specs.Oid.Comparing.{owned_eq}
+use Rattle.der_core.specs.Oid.DottedText.{dotted}
+use Rattle.der_core.specs.Limits.{length_max}
+use Rattle.der_core.specs.ErrorTypes.ErrorKind.{ErrorKind}
+use Rattle.der_core.specs.ErrorTypes.ErrorKind.TheVariants as kinds
+use Rattle.der_core.specs.TagTypes.Tag.{Tag}
+use Rattle.der_core.specs.TagTypes.Tag.TheVariants as tags
+use Rattle.der_core.specs.Heads.{Head, head_at, tlv}
+use Rattle.der_core.specs.Leaves.{text, utf8}
+use Rattle.der_core.specs.Octets.{◌>>=◌}
+use Rattle.der_core.specs.Shapes.{AnyValue}
+use Rattle.der_core.specs.Texts.{printable, ascii}
+use Rattle.der_types.specs.Contents.{leaf_as}
 use Rattle.x509_cert_name_texts.specs.Escapes.{ReadsOctets, hex_octets, escaped, in_hex}
 use Rattle.x509_cert_name_texts.specs.Keys.{x520, pilot, email_address, key_of}
 use Rattle.x509_cert_names.specs.declared.attribute_type_and_value.AttributeTypeAndValue.{AttributeTypeAndValue}

@@ -1,6 +1,6 @@
 -- What contracts see of the types: the plain values of their shapes.
 use Rattle.std.specs.Prelude.{List, ◌++◌, flat_map}
-use Rattle.der_core_head.specs.Grammar.{plain_list}
+use Rattle.der_core.specs.Grammar.{plain_list}
 use Rattle.x509_cert_names.specs.Names.{PlainAttribute, PlainName}
 use Rattle.x509_cert_names.specs.Pairs.{relative_plain}
 use Rattle.x509_cert_names.specs.declared.attribute.Attribute.{Attribute}

@@ -1,7 +1,7 @@
 //! Attribute.
 
 ghost use Rattle.std.specs.Prelude.{refl};
-ghost use Rattle.const_oid.specs.Bound.{Bound};
+ghost use Rattle.der_core.specs.Oid.Bound.{Bound};
 ghost use Rattle.der_core.specs.Copies.{IsCopy};
 ghost use Rattle.x509_cert_names.specs.Names.{attribute_fields};
 ghost use Rattle.x509_cert_names.specs.Views.{attribute_plain};

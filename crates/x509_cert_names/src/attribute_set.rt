@@ -1,8 +1,8 @@
 //! The attributes of an RDN, a single one in place.
 
 ghost use Rattle.std.specs.Prelude.{◌≡◌, ◌≤◌, [], ◌∷◌, length, IfOk, OnOk, OnErr, insert};
-ghost use Rattle.const_oid.specs.Bound.{Bound};
-ghost use Rattle.der_core_head.specs.Shapes.{nested, rising};
+ghost use Rattle.der_core.specs.Oid.Bound.{Bound};
+ghost use Rattle.der_core.specs.Shapes.{nested, rising};
 ghost use Rattle.x509_cert_names.specs.Names.{type_and_value};
 ghost use Rattle.x509_cert_names.specs.Pairs.{relative_plain};
 
@@ -139,7 +139,7 @@ impl EncodeValue for AttributeSet {
         }
     }
 
-    #[tactic(auto, using(der_core_octets::proofs::Added::first_added), unfolding(der_core_head::specs::Shapes::contents))]
+    #[tactic(auto, using(crate::proofs::Cited::first_added), unfolding(crate::specs::Opened::contents))]
     fn encode_value<W: Writer>(&self, writer: &mut W) -> Result<(), Error> {
         match &self.store {
             Store::One(one) => one.write_octets(writer),
@@ -159,7 +159,7 @@ impl InRangeValue for AttributeSet {
 
 /// The encodings of the attributes, one after the other.
 impl ValueOrd for AttributeSet {
-    #[tactic(auto, unfolding(der_core_head::specs::Shapes::contents, der_core_head::specs::Shapes::IsContent, der_core_head::specs::Shapes::body_octets, der_core_head::specs::Shapes::IsBody))]
+    #[tactic(auto, unfolding(crate::specs::Opened::contents, crate::specs::Opened::IsContent, crate::specs::Opened::body_octets, crate::specs::Opened::IsBody))]
     fn value_cmp(&self, other: &Self) -> Result<Ordering, Error> {
         elements_cmp(self.as_slice(), other.as_slice())
     }

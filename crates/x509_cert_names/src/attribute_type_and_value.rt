@@ -2,12 +2,12 @@
 
 ghost use Rattle.std.specs.Prelude.{◌≡◌, ◌∷◌, ◌++◌, refl, Ok, IfOk, chars, IfSome};
 ghost use Rattle.std.specs.Fmt.{WritesOnOk};
-ghost use Rattle.const_oid.specs.Bound.{Bound};
-ghost use Rattle.const_oid.specs.DottedText.{dotted};
-ghost use Rattle.der_core_head.specs.Reading.{GivesNow};
-ghost use Rattle.der_core_head.specs.Shapes.{Spells, octets_of};
-ghost use Rattle.der_core_head.specs.Writing.{size, write, Writes};
-ghost use Rattle.der_core_octets.specs.Outputs.{AddsFront, Continues};
+ghost use Rattle.der_core.specs.Oid.Bound.{Bound};
+ghost use Rattle.der_core.specs.Oid.DottedText.{dotted};
+ghost use Rattle.der_core.specs.Reading.{GivesNow};
+ghost use Rattle.der_core.specs.Shapes.{Spells, octets_of};
+ghost use Rattle.der_core.specs.Writing.{size, write, Writes};
+ghost use Rattle.der_core.specs.Outputs.{AddsFront, Continues};
 ghost use Rattle.x509_cert_name_texts.specs.Answers.{GivesBy};
 ghost use Rattle.x509_cert_name_texts.specs.Escapes.{escaped, in_hex};
 ghost use Rattle.x509_cert_names.specs.NameTexts.{ReadsAttribute, ReadsEncoding};
@@ -17,15 +17,14 @@ ghost use Rattle.x509_cert_names.specs.Pairs.{pair_plain};
 ghost use Rattle.x509_cert_names.specs.PlainParts.{IsPlain, put_in_turn};
 
 use crate::value_texts::{text_of, value_of, write_encoding};
-use const_oid::ObjectIdentifier;
 use der_core::describing::{AsRecord, Described, FieldsView, RowUser, Rows};
 use der_core::making::{leading_octet_of, number_of, octets_in_range};
+use der_core::oid::ObjectIdentifier;
 use der_core::{
     DecodeFields, Encode, Error, ErrorKind, InRange, InRangeValue, Length, Reader, Tag, ToDer,
-    Writer, lend, read_row,
+    Writer, lend, read_row, short_tag_of,
 };
-use der_core_head::short_tag_of;
-use der_types_any::{Any, AnyRef};
+use der_types::{Any, AnyRef};
 use std::alloc::{AllocError, Global};
 use std::fmt;
 use x509_cert_name_texts::{FromText, key_of, split_member, type_of_key, write_escaped};
@@ -185,7 +184,7 @@ impl AttributeTypeAndValue {
 /// Those of the writer.
 // Inlined, so that a known number of octets is copied without a call.
 #[inline(always)]
-#[tactic(auto, using(der_core_octets::proofs::Added::refused_adds))]
+#[tactic(auto, using(crate::proofs::Cited::refused_adds))]
 fn write_four<W: Writer>(
     writer: &mut W,
     first: &[u8],

@@ -3,7 +3,7 @@
 ghost use Rattle.std.specs.Prelude.{◌≡◌};
 ghost use Rattle.x509_cert_name_texts.specs.Keys.{x520, pilot, email_address};
 
-use const_oid::ObjectIdentifier;
+use der_core::oid::ObjectIdentifier;
 
 /// The type of a common name.
 pub fn common_name() -> ObjectIdentifier<39>

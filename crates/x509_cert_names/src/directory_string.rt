@@ -6,15 +6,14 @@ ghost use Rattle.der_core.specs.Copies.{IsCopy};
 ghost use Rattle.x509_cert_names.specs.Names.{directory_string};
 ghost use Rattle.x509_cert_names.specs.DirectoryStrings.{directory_plain, directory_text};
 ghost use Rattle.x509_cert_names.specs.DirectoryStrings.{directory_from, directory_utf8};
-ghost use Rattle.der_core_head.specs.Reading.{Gives};
+ghost use Rattle.der_core.specs.Reading.{Gives};
 
 use crate::from_any::FromAny;
 use der_core::{
     AsRead, Choice, Decode, DerOrd, Element, Encode, EncodeRef, Error, ErrorKind, FirstTag, Length,
     Member, OneOf4, Reader, Shaped, Tag, Writer,
 };
-use der_types_any::Any;
-use der_types_text::{BmpString, PrintableString, TeletexString};
+use der_types::{Any, BmpString, PrintableString, TeletexString};
 use std::alloc::{AllocError, Global};
 use std::borrow::CowStr;
 use std::cmp::Ordering;

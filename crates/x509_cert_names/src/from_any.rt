@@ -1,37 +1,36 @@
 //! Values that any value can be read as: most of them are lent, and all but sets take no memory.
 
 ghost use Rattle.std.specs.Prelude.{Ok, pos};
-ghost use Rattle.const_oid.specs.Bound.{Bound, max_size};
-ghost use Rattle.der_core_head.specs.declared.tag.Tag.TheVariants as tags;
-ghost use Rattle.der_core_head.specs.Integers.{every, natural};
-ghost use Rattle.der_core_head.specs.Leaves.{bits, boolean, identifier, integer, octets, text};
-ghost use Rattle.der_core_head.specs.Leaves.{utf8, generalized_time, utc_time};
-ghost use Rattle.der_core_head.specs.Reading.{Gives, GivesNow};
-ghost use Rattle.der_core_head.specs.Shapes.{ascending, nested};
-ghost use Rattle.der_core_head.specs.Texts.{any_octet};
-ghost use Rattle.der_types_numbers.specs.Ints.{integer_lent, natural_lent};
-ghost use Rattle.der_types_values.specs.BitStrings.{bits_lent};
-ghost use Rattle.der_types_values.specs.OctetStrings.{octets_lent};
-ghost use Rattle.der_types_values.specs.Sequences.{fields_lent};
-ghost use Rattle.der_types_sets.specs.Lent.{members_lent};
-ghost use Rattle.der_types_any.specs.Anys.{any_lent};
-ghost use Rattle.der_types_any.specs.Contents.{content_as, leaf_as};
+ghost use Rattle.der_core.specs.Oid.Bound.{Bound, max_size};
+ghost use Rattle.der_core.specs.TagTypes.Tag.TheVariants as tags;
+ghost use Rattle.der_core.specs.Integers.{every, natural};
+ghost use Rattle.der_core.specs.Leaves.{bits, boolean, identifier, integer, octets, text};
+ghost use Rattle.der_core.specs.Leaves.{utf8, generalized_time, utc_time};
+ghost use Rattle.der_core.specs.Reading.{Gives, GivesNow};
+ghost use Rattle.der_core.specs.Shapes.{ascending, nested};
+ghost use Rattle.der_core.specs.Texts.{any_octet};
+ghost use Rattle.der_types.specs.Ints.{integer_lent, natural_lent};
+ghost use Rattle.der_types.specs.BitStrings.{bits_lent};
+ghost use Rattle.der_types.specs.OctetStrings.{octets_lent};
+ghost use Rattle.der_types.specs.Sequences.{fields_lent};
+ghost use Rattle.der_types.specs.Lent.{members_lent};
+ghost use Rattle.der_types.specs.Anys.{any_lent};
+ghost use Rattle.der_types.specs.Contents.{content_as, leaf_as};
 
-use const_oid::ObjectIdentifier;
+use der_core::oid::ObjectIdentifier;
 use der_core::{Decode, Error, Member, SliceReader};
-use der_types_any::{Any, AnyRef};
-use der_types_numbers::{IntRef, UintRef};
-use der_types_sets::SetOfRef;
-use der_types_text::{AsciiStringRef, AsciiType, GeneralStringRef, Utf8StringRef};
-use der_types_time::{DateTime, GeneralizedTime, UtcTime};
-use der_types_values::{BitStringRef, OctetStringRef, SequenceRef};
+use der_types::{
+    Any, AnyRef, AsciiStringRef, AsciiType, BitStringRef, DateTime, GeneralStringRef,
+    GeneralizedTime, IntRef, OctetStringRef, SequenceRef, SetOfRef, UintRef, UtcTime,
+    Utf8StringRef,
+};
 use std::alloc::Global;
 
 /// A type that the value of an attribute can be read as.
 pub trait FromAny<'a>: Sized {
     ghost use Rattle.std.specs.Prelude.{Result};
-    ghost use Rattle.der_core_head.specs.declared.error.Error.{Error};
-    ghost use Rattle.der_core_head.specs.Shapes.{AnyValue};
+    ghost use Rattle.der_core.specs.ErrorTypes.Error.{Error};
+    ghost use Rattle.der_core.specs.Shapes.{AnyValue};
 
     // What reading a value may answer.
     ghost any_gives: { AnyValue → Result Self Error → Type 0 };

@@ -4,12 +4,12 @@
 
 ghost use Rattle.std.specs.Prelude.{◌≡◌, ◌≤◌, ◌<◌, ◌↔◌, ℕ, List, [], Ok, Err, map};
 ghost use Rattle.std.specs.Prelude.{IsUtf8, chars};
-ghost use Rattle.const_oid.specs.Bound.{Bound};
-ghost use Rattle.der_core_head.specs.Bounds.{AreBelow, HoldsLarge};
-ghost use Rattle.der_core_head.specs.declared.error.ErrorKind.{ErrorKind};
-ghost use Rattle.der_core_head.specs.Grammar.{read_whole};
-ghost use Rattle.der_core_head.specs.Octets.{IsOctets};
-ghost use Rattle.der_core_head.specs.Shapes.{IsValid, Spells};
+ghost use Rattle.der_core.specs.Oid.Bound.{Bound};
+ghost use Rattle.der_core.specs.Bounds.{AreBelow, HoldsLarge};
+ghost use Rattle.der_core.specs.ErrorTypes.ErrorKind.{ErrorKind};
+ghost use Rattle.der_core.specs.Grammar.{read_whole};
+ghost use Rattle.der_core.specs.Octets.{IsOctets};
+ghost use Rattle.der_core.specs.Shapes.{IsValid, Spells};
 ghost use Rattle.der_core.specs.Equality.{IsOfValues};
 ghost use Rattle.x509_cert_names.specs.Names.{PlainName, all_of, name, name_octets, type_of};
 ghost use Rattle.x509_cert_name_texts.specs.Escapes.{IsString, StandsFor, escaped};

@@ -1,13 +1,13 @@
 //! Lists of members that ascend by their encodings.
 
 ghost use Rattle.std.specs.Prelude.{◌≡◌, IfOk, IfErr, IsPermutation};
-ghost use Rattle.der_core_head.specs.Grammar.{plain_list, value_at};
-ghost use Rattle.der_core_head.specs.Reading.{Reads, read_content_at};
-ghost use Rattle.der_core_head.specs.Shapes.{nested, rising, octets_of, AllRising};
-ghost use Rattle.der_types_sets.specs.Sets.{Ascends, TooLong};
+ghost use Rattle.der_core.specs.Grammar.{plain_list, value_at};
+ghost use Rattle.der_core.specs.Reading.{Reads, read_content_at};
+ghost use Rattle.der_core.specs.Shapes.{nested, rising, octets_of, AllRising};
+ghost use Rattle.der_types.specs.Sets.{Ascends, TooLong};
 
 use der_core::{AsRead, Decode, DerOrd, Error, Header, Member, Reader};
-use der_types_sets::SetOfVec;
+use der_types::SetOfVec;
 use std::alloc::{AllocError, Global};
 
 /// The members of a content in which each encoding is above the one before (X.690 11.6), in

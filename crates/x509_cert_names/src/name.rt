@@ -4,15 +4,15 @@ ghost use Rattle.std.specs.Prelude.{◌≡◌, ◌==◌, [], length, refl, IfErr
 ghost use Rattle.std.specs.Prelude.{IsTrue};
 ghost use Rattle.std.specs.Slice.Iter.{iter_rest};
 ghost use Rattle.std.specs.List.{AllByRecursion};
-ghost use Rattle.const_oid.specs.Bound.{Bound};
-ghost use Rattle.der_core_head.specs.declared.tag.Tag.TheVariants.{Sequence};
-ghost use Rattle.der_core_head.specs.Shapes.{nested, many, IsValid};
-ghost use Rattle.der_core_head.specs.Grammar.{plain_list};
-ghost use Rattle.der_core_head.specs.Leaves.{text};
-ghost use Rattle.der_core_head.specs.Reading.{Gives, GivesNow};
-ghost use Rattle.der_core_head.specs.Texts.{printable, ascii};
+ghost use Rattle.der_core.specs.Oid.Bound.{Bound};
+ghost use Rattle.der_core.specs.TagTypes.Tag.TheVariants.{Sequence};
+ghost use Rattle.der_core.specs.Shapes.{nested, many, IsValid};
+ghost use Rattle.der_core.specs.Grammar.{plain_list};
+ghost use Rattle.der_core.specs.Leaves.{text};
+ghost use Rattle.der_core.specs.Reading.{Gives, GivesNow};
+ghost use Rattle.der_core.specs.Texts.{printable, ascii};
 ghost use Rattle.der_core.specs.Copies.{IsCopy};
-ghost use Rattle.der_types_any.specs.Contents.{leaf_as};
+ghost use Rattle.der_types.specs.Contents.{leaf_as};
 ghost use Rattle.x509_cert_name_texts.specs.Keys.{x520, email_address};
 ghost use Rattle.x509_cert_name_texts.specs.Answers.{GivesBy};
 ghost use Rattle.x509_cert_names.specs.NameTexts.{ReadsName};
@@ -30,12 +30,12 @@ use crate::from_any::FromAny;
 use crate::name_iter::{NameIter, RdnSequenceIter};
 use crate::rdn_sequence::RdnSequence;
 use crate::relative_distinguished_name::RelativeDistinguishedName;
-use const_oid::ObjectIdentifier;
+use der_core::oid::ObjectIdentifier;
 use der_core::{
     ApartValue, AsReadValue, DecodeValue, EncodeValue, Error, FixedTag, Header, InRange,
     InRangeValue, Length, Reader, ShapedValue, Tag, ValueOrd, Writer,
 };
-use der_types_text::{AsciiStringRef, AsciiType, Ia5StringRef, PrintableStringRef};
+use der_types::{AsciiStringRef, AsciiType, Ia5StringRef, PrintableStringRef};
 use std::alloc::{AllocError, Global};
 use std::cmp::Ordering;
 use std::fmt;
@@ -53,7 +53,7 @@ pub struct Name {
 impl Name {
     /// The name that a text spells (RFC 4514), as `RdnSequence::from_str` reads it.
     ///
-    /// As in `crates/build_certificates/src/main.rt`:
+    /// As in `crates/example_build_certificates/src/main.rt`:
     ///
     /// ```rust
     /// let subject = Name::from_str(alloc, "CN=Example Root,O=Example,C=US")?;

@@ -8,11 +8,11 @@ ghost use Rattle.std.specs.Hash as fed;
 ghost use Rattle.std.specs.Hash.{items_Alike};
 ghost use Rattle.std.specs.List.{IsDistinct, flat_map, list_any};
 ghost use Rattle.std.specs.Slice.Iter.{iter_rest};
-ghost use Rattle.const_oid.specs.Bound.{Bound};
-ghost use Rattle.der_core_head.specs.declared.tag.Tag.TheVariants.{Set};
-ghost use Rattle.der_core_head.specs.Shapes.{nested, rising};
+ghost use Rattle.der_core.specs.Oid.Bound.{Bound};
+ghost use Rattle.der_core.specs.TagTypes.Tag.TheVariants.{Set};
+ghost use Rattle.der_core.specs.Shapes.{nested, rising};
 ghost use Rattle.der_core.specs.Placed.{AllValid};
-ghost use Rattle.der_types_sets.specs.Sets.{Ascends, IsRefusal, TooLong};
+ghost use Rattle.der_types.specs.Sets.{Ascends, IsRefusal, TooLong};
 ghost use Rattle.x509_cert_name_texts.specs.Answers.{GivesBy};
 ghost use Rattle.x509_cert_names.specs.NameTexts.{ReadsRelative, relative_printed, printed_behind};
 ghost use Rattle.x509_cert_names.specs.ValueTexts.{attribute_printed};
@@ -31,8 +31,8 @@ use der_core::{
     ApartValue, AsReadValue, DecodeValue, Encode, EncodeValue, Error, ErrorKind, FixedTag, FromDer,
     Header, InRange, InRangeValue, Length, Reader, ShapedValue, Tag, ValueOrd, Writer,
 };
-use der_types_sets::SetOfIter;
-use der_types_sets::making::place_of;
+use der_types::SetOfIter;
+use der_types::making::place_of;
 use std::alloc::{AllocError, Global};
 use std::cmp::Ordering;
 use std::convert::AsSlice;
@@ -56,10 +56,10 @@ pub struct RelativeDistinguishedName {
 
 impl Model for RelativeDistinguishedName {
     ghost use Rattle.std.specs.Prelude.{List};
-    ghost use Rattle.const_oid.specs.Bound.{Bound};
+    ghost use Rattle.der_core.specs.Oid.Bound.{Bound};
     ghost use Rattle.x509_cert_names.specs.declared.attribute_type_and_value.AttributeTypeAndValue.{AttributeTypeAndValue};
     ghost use Rattle.std.specs.List.{IsDistinct};
-    ghost use Rattle.der_types_sets.specs.Sets.{Ascends};
+    ghost use Rattle.der_types.specs.Sets.{Ascends};
     ghost use Rattle.x509_cert_names.specs.Names.{type_and_value};
     ghost use Rattle.x509_cert_names.specs.Pairs.{pair_plain, same_pair};
 

@@ -2,8 +2,8 @@
 
 ghost use Rattle.std.specs.Prelude.{◌≡◌, option_map};
 ghost use Rattle.std.specs.Fmt.{WritesOnOk};
-ghost use Rattle.der_core_head.specs.Heads.{head_octets};
-ghost use Rattle.der_core_head.specs.Reading.{Gives, GivesNow};
+ghost use Rattle.der_core.specs.Heads.{head_octets};
+ghost use Rattle.der_core.specs.Reading.{Gives, GivesNow};
 ghost use Rattle.x509_cert_name_texts.specs.Answers.{GivesBy};
 ghost use Rattle.x509_cert_name_texts.specs.Escapes.{in_hex};
 ghost use Rattle.x509_cert_names.specs.ValueTexts.{tag_for, encoded_value};
@@ -14,8 +14,7 @@ use crate::attribute_type_and_value::{AttributeType, AttributeValue};
 use crate::attribute_types as types;
 use der_core::making::encode_header;
 use der_core::{Error, FromDer, Length, SliceWriter, Tag};
-use der_types_any::Any;
-use der_types_text::{Ia5StringRef, PrintableStringRef, TeletexStringRef};
+use der_types::{Any, Ia5StringRef, PrintableStringRef, TeletexStringRef};
 use std::alloc::Global;
 use std::fmt;
 use x509_cert_name_texts::{from_hex, undo_escapes, write_hex};

@@ -1,20 +1,20 @@
 -- Fields behind headers of two octets are spelled by their octets, and read.
 use Rattle.std.proofs.Common.{◌≡◌, ℕ, ◌-◌, ◌<◌, ◌≤◌, Bool, true, false, List, [], ◌∷◌, ◌++◌, length, get_or, take, drop, take_all, take-append-drop, length-take-le, append-nil, Option, Some, None, Ok, refl, sym, ap, ◌∙◌, arith}
 use Rattle.std.proofs.lemmas.List.{drop_all}
-use Rattle.const_oid.specs.Bound.{Bound}
-use Rattle.const_oid.specs.IdentifierOctets.{identifier_octets, IsIdentifier}
-use Rattle.der_core_head.specs.declared.encoding_rules.EncodingRules.{EncodingRules}
-use Rattle.der_core_head.specs.declared.tag.Tag.{Tag}
-use Rattle.der_core_head.specs.declared.tag.Tag.TheVariants as tags
-use Rattle.der_core_head.specs.Grammar.{read_body_by, read_body}
-use Rattle.der_core_head.specs.Heads.{tlv, head_octets}
-use Rattle.der_core_head.specs.Octets.{IsOctets}
-use Rattle.der_core_head.specs.Reading.{State, IsDer, read_body_at}
-use Rattle.der_core_head.specs.Shapes.{Body, BodyValue, AnyValue, optional, any, octets_of, contents, body_octets, unless, IsValid, IsContent, IsBody}
-use Rattle.der_core_head.specs.Spelling.{is_body_apart, are_body_enough}
-use Rattle.der_core_head.specs.Tags.{tag_octets}
-use Rattle.der_core_head.proofs.Complete.{complete_body}
-use Rattle.der_core_head.proofs.HeadLaws.{length-short}
+use Rattle.der_core.specs.Oid.Bound.{Bound}
+use Rattle.der_core.specs.Oid.IdentifierOctets.{identifier_octets, IsIdentifier}
+use Rattle.der_core.specs.EncodingRulesTypes.EncodingRules.{EncodingRules}
+use Rattle.der_core.specs.TagTypes.Tag.{Tag}
+use Rattle.der_core.specs.TagTypes.Tag.TheVariants as tags
+use Rattle.der_core.specs.Grammar.{read_body_by, read_body}
+use Rattle.der_core.specs.Heads.{tlv, head_octets}
+use Rattle.der_core.specs.Octets.{IsOctets}
+use Rattle.der_core.specs.Reading.{State, IsDer, read_body_at}
+use Rattle.der_core.specs.Shapes.{Body, BodyValue, AnyValue, optional, any, octets_of, contents, body_octets, unless, IsValid, IsContent, IsBody}
+use Rattle.der_core.specs.Spelling.{is_body_apart, are_body_enough}
+use Rattle.der_core.specs.Tags.{tag_octets}
+use Rattle.der_core.proofs.Complete.{complete_body}
+use Rattle.der_core.proofs.HeadLaws.{length-short}
 use Rattle.x509_cert_parts.specs.Grammar.{algorithm_fields, extension_fields, false_by_default, object_identifier, octet_string}
 
 -- A value behind a header of two octets

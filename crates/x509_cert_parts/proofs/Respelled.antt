@@ -1,16 +1,16 @@
 -- Respelled dates: they have an encoding, and which of them are the same.
 use Rattle.std.proofs.Common.{ℕ, ◌≤◌, List, length, length-append, ap, arith, inl, inr, ◌≡◌, ◌+◌, Bool, true, false, cond, [], ◌++◌, refl, nat_lt, ◌↔◌, ltb-false}
 use Rattle.std.proofs.lemmas.Bool.{cases_lt}
-use Rattle.const_oid.specs.Digits.{digits}
-use Rattle.const_oid.proofs.DigitLaws.{fewer_digits}
-use Rattle.der_core_head.specs.declared.tag.Tag.{Tag}
-use Rattle.der_core_head.specs.Heads.{Fits, tlv, head_octets, length_octets}
-use Rattle.der_core_head.specs.Shapes.{Shape, Body, Value, BodyValue, field, tagged, nested, octets_of, body_octets, IsValid, IsContent, IsBody, contents}
-use Rattle.der_core_head.specs.Tags.{tag_octets}
-use Rattle.der_core_head.proofs.HeadLaws.{length-short, length-long}
-use Rattle.der_core_head.specs.declared.tag.Tag.TheVariants as tags
-use Rattle.der_core_head.specs.Dates.{Civil, is_civil, IsUtc, utc_octets, generalized_octets}
-use Rattle.der_core_head.proofs.OneEncoding.{one_value}
+use Rattle.der_core.specs.Oid.Digits.{digits}
+use Rattle.der_core.proofs.DigitLaws.{fewer_digits}
+use Rattle.der_core.specs.TagTypes.Tag.{Tag}
+use Rattle.der_core.specs.Heads.{Fits, tlv, head_octets, length_octets}
+use Rattle.der_core.specs.Shapes.{Shape, Body, Value, BodyValue, field, tagged, nested, octets_of, body_octets, IsValid, IsContent, IsBody, contents}
+use Rattle.der_core.specs.Tags.{tag_octets}
+use Rattle.der_core.proofs.HeadLaws.{length-short, length-long}
+use Rattle.der_core.specs.TagTypes.Tag.TheVariants as tags
+use Rattle.der_core.specs.Dates.{Civil, is_civil, IsUtc, utc_octets, generalized_octets}
+use Rattle.der_core.proofs.OneEncoding.{one_value}
 use Rattle.x509_cert_parts.specs.Grammar.{time, validity, validity_fields, PlainTime, PlainValidity, not_before, not_after}
 use Rattle.x509_cert_parts.specs.Respelling.{respelled, spelled_by, validity_by, is_early_generalized}
 

@@ -1,6 +1,6 @@
 -- What is printed of a time is the text of its plain value; fills, one after the other.
 use Rattle.std.proofs.Common.{◌≡◌, ℕ, suc, ◌+◌, ◌-◌, ◌<◌, ◌≤◌, Some, None, refl, arith, if◌then◌else◌}
-use Rattle.der_types_time.specs.DateTexts.{date_text}
+use Rattle.der_types.specs.DateTexts.{date_text}
 use Rattle.x509_cert_parts.specs.Texts.{time_text}
 use Rattle.x509_cert_parts.specs.Views.{time_value, time_date}
 use Rattle.x509_cert_parts.specs.declared.time.Time.{Time}

@@ -2,10 +2,10 @@
 use Rattle.std.proofs.Common.{◌≡◌, List, Bool, true, refl, ap, subst, inl, inr, arith, pos, nat_eq, ◌&&◌, ℕ, Option, Some, None}
 use Rattle.std.specs.Cmp.{nat_eq_equiv}
 use Rattle.std.specs.Cmp.Lexicographic.{pointwise, bytes_decides}
-use Rattle.const_oid.specs.Bound.{Bound}
-use Rattle.der_core_head.specs.Dates.{Civil}
+use Rattle.der_core.specs.Oid.Bound.{Bound}
+use Rattle.der_core.specs.Dates.{Civil}
 use Rattle.der_core.proofs.ValueEquality.{Alike, default, exact, flags, last, leaves, list, marked, next, option, behind}
-use Rattle.der_types_any.proofs.AnyLaws.{values, one_value, same_values}
+use Rattle.der_types.proofs.AnyLaws.{values, one_value, same_values}
 use Rattle.x509_cert_parts.specs.Grammar.{algorithm_identifier, extension, extensions, public_key_info, time, validity, version, PublicKey}
 use Rattle.x509_cert_parts.specs.Views.{algorithm_plain, extension_plain, extensions_plain, key_plain, time_value, validity_plain, version_number}
 use Rattle.x509_cert_parts.specs.contracts.algorithm_identifier.AlgorithmIdentifierPartialEq.TheImpl.{eq-value as same_algorithm}
@@ -23,11 +23,11 @@ use Rattle.x509_cert_parts.specs.declared.version.Version.{Version}
 use Rattle.x509_cert_parts.specs.declared.version.Version.TheVariants as versions
 use Rattle.std.specs.Option.{option_eq}
 use Rattle.std.proofs.lemmas.Bool.{and_parts}
-use Rattle.const_oid.proofs.PrefixLaws.{same_octets}
-use Rattle.const_oid.specs.IdentifierOctets.{IsIdentifier, identifier_octets}
-use Rattle.der_core_head.specs.BitStrings.{Bits, bit_contents}
-use Rattle.der_core_head.specs.Grammar.{plain_option}
-use Rattle.der_core_head.specs.Shapes.{AnyValue}
+use Rattle.der_core.proofs.Oid.PrefixLaws.{same_octets}
+use Rattle.der_core.specs.Oid.IdentifierOctets.{IsIdentifier, identifier_octets}
+use Rattle.der_core.specs.BitStrings.{Bits, bit_contents}
+use Rattle.der_core.specs.Grammar.{plain_option}
+use Rattle.der_core.specs.Shapes.{AnyValue}
 
 pub algorithms : (x y : AlgorithmIdentifier) → Alike (algorithm_identifier Bound) (same_algorithm.it x y) (algorithm_plain x) (algorithm_plain y)
 algorithms x y = behind (next leaves (last (option values x.parameters y.parameters)))

@@ -2,8 +2,8 @@
 -- 7.1).
 use Rattle.std.specs.Prelude.{ℕ, zero, suc, ℤ, List, [], ◌∷◌, ◌+◌, ◌++◌, length, Bool, true, ◌==◌}
 use Rattle.std.specs.Prelude.{nat_lt, Option, Some, None, Result, Err, if◌then◌else◌}
-use Rattle.der_core_head.specs.declared.error.ErrorKind.{ErrorKind}
-use Rattle.der_core_head.specs.declared.error.ErrorKind.TheVariants as kinds
+use Rattle.der_core.specs.ErrorTypes.ErrorKind.{ErrorKind}
+use Rattle.der_core.specs.ErrorTypes.ErrorKind.TheVariants as kinds
 use Rattle.rand_core.specs.Stream.{Stream, fill_bytes}
 use Rattle.x509_cert_parts.specs.SerialNumbers.{new_serial}
 

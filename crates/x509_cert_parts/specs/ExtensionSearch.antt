@@ -1,14 +1,14 @@
 -- The extensions of an identifier, and the value of the only one.
 use Rattle.std.specs.Prelude.{ℕ, List, [], ◌∷◌, Bool, if◌then◌else◌, Option, Some, None, Result, Ok}
 use Rattle.std.specs.Prelude.{Err, ◌≡◌, MatchOption}
-use Rattle.const_oid.specs.Comparing.{owned_eq}
-use Rattle.der_core_head.specs.declared.error.Error.{Error}
-use Rattle.der_core_head.specs.declared.error.ErrorKind.{ErrorKind}
-use Rattle.der_core_head.specs.declared.error.ErrorKind.TheVariants as kinds
-use Rattle.der_core_head.specs.Grammar.{read_whole}
-use Rattle.der_core_head.specs.Octets.{◌>>=◌}
-use Rattle.der_core_head.specs.Reading.{Gives}
-use Rattle.der_core_head.specs.Shapes.{Shape, Value}
+use Rattle.der_core.specs.Oid.Comparing.{owned_eq}
+use Rattle.der_core.specs.ErrorTypes.Error.{Error}
+use Rattle.der_core.specs.ErrorTypes.ErrorKind.{ErrorKind}
+use Rattle.der_core.specs.ErrorTypes.ErrorKind.TheVariants as kinds
+use Rattle.der_core.specs.Grammar.{read_whole}
+use Rattle.der_core.specs.Octets.{◌>>=◌}
+use Rattle.der_core.specs.Reading.{Gives}
+use Rattle.der_core.specs.Shapes.{Shape, Value}
 use Rattle.x509_cert_parts.specs.Grammar.{PlainExtension, extension_arcs, is_critical}
 use Rattle.x509_cert_parts.specs.Grammar.{extension_octets}
 

@@ -4,17 +4,17 @@
 use Rattle.std.specs.Prelude.{ℕ, List, [], ◌∷◌, Bool, false, Option, None}
 use Rattle.std.specs.Option.{option_map_or}
 use Rattle.std.proofs.Common.{inl, inr}
-use Rattle.const_oid.specs.Bound.{max_size}
-use Rattle.der_core_head.specs.declared.tag.Tag.TheVariants as tags
-use Rattle.der_core_head.specs.BitStrings.{Bits}
-use Rattle.der_core_head.specs.Dates.{Civil}
-use Rattle.der_core_head.specs.Integers.{Numbers, every, within, among, unsigned}
-use Rattle.der_core_head.specs.Leaves.{boolean, integer, bits, octets, identifier, utc_time}
-use Rattle.der_core_head.specs.Leaves.{generalized_time, Leaf}
-use Rattle.der_core_head.specs.Shapes.{Shape, Body, Value, BodyValue, AnyValue, tagged, any, leaf}
-use Rattle.der_core_head.specs.Shapes.{either, optional, defaulted, field, done, sequence}
-use Rattle.der_core_head.specs.Shapes.{sequence_of, explicit}
-use Rattle.der_core_head.specs.Tags.{context}
+use Rattle.der_core.specs.Oid.Bound.{max_size}
+use Rattle.der_core.specs.TagTypes.Tag.TheVariants as tags
+use Rattle.der_core.specs.BitStrings.{Bits}
+use Rattle.der_core.specs.Dates.{Civil}
+use Rattle.der_core.specs.Integers.{Numbers, every, within, among, unsigned}
+use Rattle.der_core.specs.Leaves.{boolean, integer, bits, octets, identifier, utc_time}
+use Rattle.der_core.specs.Leaves.{generalized_time, Leaf}
+use Rattle.der_core.specs.Shapes.{Shape, Body, Value, BodyValue, AnyValue, tagged, any, leaf}
+use Rattle.der_core.specs.Shapes.{either, optional, defaulted, field, done, sequence}
+use Rattle.der_core.specs.Shapes.{sequence_of, explicit}
+use Rattle.der_core.specs.Tags.{context}
 
 -- OBJECT IDENTIFIER, of at most 39 octets
 abbrev pub object_identifier : ℕ → Shape

@@ -3,11 +3,11 @@
 use Rattle.std.specs.Prelude.{ℕ, ℤ, pos, ◌/◌, ◌%◌, List, [], ◌∷◌, ◌++◌, length, nat_lt, Result}
 use Rattle.std.specs.Prelude.{Ok, Err, true, if◌then◌else◌, flat_map}
 use Rattle.std.specs.Fmt.{digit_glyph}
-use Rattle.der_core_head.specs.declared.error.ErrorKind.{ErrorKind}
-use Rattle.der_core_head.specs.declared.error.ErrorKind.TheVariants as kinds
-use Rattle.der_core_head.specs.Integers.{integer_octets}
-use Rattle.der_core_head.specs.Octets.{◌>>=◌}
-use Rattle.der_types_numbers.specs.Numbers.{unsigned_number}
+use Rattle.der_core.specs.ErrorTypes.ErrorKind.{ErrorKind}
+use Rattle.der_core.specs.ErrorTypes.ErrorKind.TheVariants as kinds
+use Rattle.der_core.specs.Integers.{integer_octets}
+use Rattle.der_core.specs.Octets.{◌>>=◌}
+use Rattle.der_types.specs.Numbers.{unsigned_number}
 use Rattle.x509_cert_parts.specs.declared.serial_number.SerialNumber.TheInside.{Inside}
 
 abbrev pub serial_kept : {P : Type 0} → Inside P → ℤ

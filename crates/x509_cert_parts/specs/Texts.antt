@@ -1,10 +1,10 @@
 -- The texts of names, serial numbers and dates by their plain values.
 use Rattle.std.specs.Prelude.{ℕ, ℤ, List}
 use Rattle.std.proofs.Common.{inl, inr}
-use Rattle.der_core_head.specs.Integers.{integer_octets}
+use Rattle.der_core.specs.Integers.{integer_octets}
 use Rattle.x509_cert_parts.specs.Grammar.{PlainTime}
 use Rattle.x509_cert_parts.specs.SerialNumbers.{colon_pairs}
-use Rattle.der_types_time.specs.DateTexts.{date_text}
+use Rattle.der_types.specs.DateTexts.{date_text}
 
 -- the content octets of a serial number, as pairs of digits in base 16 with colons between them
 abbrev pub serial_text : ℤ → List ℕ

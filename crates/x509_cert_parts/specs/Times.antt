@@ -1,10 +1,10 @@
 -- The time of a date, and of a text.
 use Rattle.std.specs.Prelude.{◌≡◌, ◌≢◌, ℕ, List, true, Result, Ok, Err}
 use Rattle.std.proofs.Common.{inr}
-use Rattle.der_core_head.specs.declared.error.Error.{Error}
-use Rattle.der_core_head.specs.declared.error.ErrorKind.TheVariants as kinds
-use Rattle.der_core_head.specs.Dates.{Civil, is_civil}
-use Rattle.der_types_time.specs.DateTexts.{date_text}
+use Rattle.der_core.specs.ErrorTypes.Error.{Error}
+use Rattle.der_core.specs.ErrorTypes.ErrorKind.TheVariants as kinds
+use Rattle.der_core.specs.Dates.{Civil, is_civil}
+use Rattle.der_types.specs.DateTexts.{date_text}
 use Rattle.x509_cert_parts.specs.Grammar.{PlainTime}
 use Rattle.x509_cert_parts.specs.Respelling.{respelled}
 use Rattle.x509_cert_parts.specs.Views.{time_value, time_date}

@@ -1,10 +1,10 @@
 -- What contracts see of the types: the plain values of their shapes.
 use Rattle.std.specs.Prelude.{ℕ, List}
 use Rattle.std.proofs.Common.{inl, inr}
-use Rattle.der_core_head.specs.Dates.{Civil}
-use Rattle.der_core_head.specs.Grammar.{plain_option, plain_list}
-use Rattle.der_types_any.specs.Anys.{any_lent}
-use Rattle.der_types_values.specs.BitStrings.{bits_lent}
+use Rattle.der_core.specs.Dates.{Civil}
+use Rattle.der_core.specs.Grammar.{plain_option, plain_list}
+use Rattle.der_types.specs.Anys.{any_lent}
+use Rattle.der_types.specs.BitStrings.{bits_lent}
 use Rattle.x509_cert_parts.specs.Grammar.{Algorithm, PublicKey, PlainExtension, PlainTime}
 use Rattle.x509_cert_parts.specs.Grammar.{PlainValidity}
 use Rattle.x509_cert_parts.specs.declared.algorithm_identifier.AlgorithmIdentifier.{AlgorithmIdentifier}

@@ -1,20 +1,20 @@
 //! AlgorithmIdentifier.
 
 ghost use Rattle.std.specs.Prelude.{◌≡◌, true, refl, IsTrue, IfSome};
-ghost use Rattle.const_oid.specs.Bound.{Bound};
-ghost use Rattle.der_core_head.specs.Grammar.{plain_option};
-ghost use Rattle.der_core_head.specs.Shapes.{octets_of, optional, any, IsValid, IsBody, body_octets};
+ghost use Rattle.der_core.specs.Oid.Bound.{Bound};
+ghost use Rattle.der_core.specs.Grammar.{plain_option};
+ghost use Rattle.der_core.specs.Shapes.{octets_of, optional, any, IsValid, IsBody, body_octets};
 ghost use Rattle.der_core.specs.Copies.{IsCopy};
 ghost use Rattle.x509_cert_parts.specs.Grammar.{algorithm_fields, algorithm_identifier};
 ghost use Rattle.x509_cert_parts.specs.Views.{algorithm_plain, algorithm_lent};
 
 use crate::algorithm_identifier_ref::AlgorithmIdentifierRef;
 use crate::fronts::{identifier_front, reads_der};
-use const_oid::ObjectIdentifier;
 use der_core::describing::{AsRecord, Described, FieldsView, RowUser, Rows};
 use der_core::making::copy_of_option;
+use der_core::oid::ObjectIdentifier;
 use der_core::{DecodeFields, Error, Reader, lend, read_row};
-use der_types_any::Any;
+use der_types::Any;
 use std::alloc::{AllocError, Global};
 
 /// An algorithm and its parameters (RFC 5280 4.1.1.2).

@@ -1,15 +1,15 @@
 //! AlgorithmIdentifier, borrowed.
 
 ghost use Rattle.std.specs.Prelude.{◌≡◌, refl, IfOk};
-ghost use Rattle.const_oid.specs.Bound.{Bound};
+ghost use Rattle.der_core.specs.Oid.Bound.{Bound};
 ghost use Rattle.x509_cert_parts.specs.Grammar.{algorithm_fields};
 ghost use Rattle.x509_cert_parts.specs.Views.{algorithm_plain, algorithm_lent};
 
 use crate::algorithm_identifier::AlgorithmIdentifier;
-use const_oid::ObjectIdentifier;
 use der_core::describing::{AsRecord, DecodeRow, Described, FieldsView, RowUser, Rows};
+use der_core::oid::ObjectIdentifier;
 use der_core::{DecodeFields, Error, Reader, lend, row};
-use der_types_any::AnyRef;
+use der_types::AnyRef;
 use std::alloc::{AllocError, Global};
 
 /// An algorithm and its parameters (RFC 5280 4.1.1.2), lent.

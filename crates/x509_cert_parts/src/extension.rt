@@ -1,18 +1,18 @@
 //! Extension.
 
 ghost use Rattle.std.specs.Prelude.{◌≡◌, refl, IfSome};
-ghost use Rattle.const_oid.specs.Bound.{Bound};
-ghost use Rattle.der_core_head.specs.Shapes.{IsBody, body_octets};
+ghost use Rattle.der_core.specs.Oid.Bound.{Bound};
+ghost use Rattle.der_core.specs.Shapes.{IsBody, body_octets};
 ghost use Rattle.der_core.specs.Copies.{IsCopy};
 ghost use Rattle.x509_cert_parts.specs.Grammar.{extension_fields};
 ghost use Rattle.x509_cert_parts.specs.Views.{extension_plain};
 
 use crate::fronts::{identifier_front, reads_der, true_front};
-use const_oid::ObjectIdentifier;
 use der_core::describing::{AsRecord, Described, FieldsView, RowUser, Rows};
 use der_core::making::octets_in_range;
+use der_core::oid::ObjectIdentifier;
 use der_core::{DecodeFields, Error, Reader, lend, read_row};
-use der_types_values::OctetString;
+use der_types::OctetString;
 use std::alloc::{AllocError, Global};
 
 /// An extension of a certificate, whose content isn't looked into (RFC 5280 4.1, 4.2).

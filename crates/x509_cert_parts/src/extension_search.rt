@@ -1,13 +1,13 @@
 //! Extensions that are looked for by their identifiers.
 
 ghost use Rattle.std.specs.Prelude.{◌≡◌};
-ghost use Rattle.der_core_head.specs.Grammar.{plain_option};
-ghost use Rattle.der_core_head.specs.Reading.{Gives};
+ghost use Rattle.der_core.specs.Grammar.{plain_option};
+ghost use Rattle.der_core.specs.Reading.{Gives};
 ghost use Rattle.x509_cert_parts.specs.ExtensionSearch.{of_identifier, only_value, with_first};
 ghost use Rattle.x509_cert_parts.specs.Views.{extension_plain, extensions_plain};
 
 use crate::extension::Extension;
-use const_oid::{AssociatedOid, ObjectIdentifier};
+use der_core::oid::{AssociatedOid, ObjectIdentifier};
 use der_core::{Decode, Error, ErrorKind, FromDer, SliceReader};
 use std::alloc::Global;
 

@@ -6,7 +6,7 @@ ghost use Rattle.x509_cert_parts.specs.Views.{extensions_plain};
 
 use crate::extension::Extension;
 use crate::extension_search::next_of;
-use const_oid::AssociatedOid;
+use der_core::oid::AssociatedOid;
 use der_core::{Decode, Error, FromDer, SliceReader};
 use std::alloc::Global;
 use std::marker::PhantomData;

@@ -1,8 +1,8 @@
 //! What stands at the front of octets, behind a header of two octets.
 
 ghost use Rattle.std.specs.Prelude.{◌≡◌, ◌∷◌, ◌++◌, length, false, IfSome, IsTrue};
-ghost use Rattle.der_core_head.specs.Reading.{IsDer};
-ghost use Rattle.der_core_head.specs.Shapes.{octets_of};
+ghost use Rattle.der_core.specs.Reading.{IsDer};
+ghost use Rattle.der_core.specs.Shapes.{octets_of};
 ghost use Rattle.x509_cert_parts.specs.Grammar.{false_by_default};
 
 use der_core::Reader;

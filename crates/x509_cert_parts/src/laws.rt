@@ -5,11 +5,11 @@
 //! spelled.
 
 ghost use Rattle.std.specs.Prelude.{◌≡◌, ◌≤◌, ◌↔◌, ℕ, ℤ, pos, Option, Bool, true, false, length};
-ghost use Rattle.const_oid.specs.Bound.{Bound};
+ghost use Rattle.der_core.specs.Oid.Bound.{Bound};
 ghost use Rattle.der_core.specs.Equality.{IsOfValues};
-ghost use Rattle.der_core_head.specs.Integers.{integer_octets, IsNumber};
-ghost use Rattle.der_core_head.specs.Shapes.{IsValid, octets_of};
-ghost use Rattle.der_core_head.specs.Spelling.{is_apart, are_enough};
+ghost use Rattle.der_core.specs.Integers.{integer_octets, IsNumber};
+ghost use Rattle.der_core.specs.Shapes.{IsValid, octets_of};
+ghost use Rattle.der_core.specs.Spelling.{is_apart, are_enough};
 ghost use Rattle.x509_cert_parts.specs.Grammar.{algorithm_identifier, public_key_info, version};
 ghost use Rattle.x509_cert_parts.specs.Grammar.{version_field, serial_number, numbers_within, time};
 ghost use Rattle.x509_cert_parts.specs.Grammar.{validity, extension, extensions, PlainValidity};

@@ -30,3 +30,21 @@ pub use subject_public_key_info_ref::SubjectPublicKeyInfoRef;
 pub use time::Time;
 pub use validity::Validity;
 pub use version::Version;
+
+/// The names of `der_core` that the crates above use.
+pub mod der {
+    pub use der_core::{ErrorKind, FromDer, ToDer, making};
+}
+
+/// The names of `const_oid` that the crates above use.
+pub mod oid {
+    pub use der_core::oid::ObjectIdentifier;
+}
+
+/// The names of `der_types` that the crates above use.
+pub mod types {
+    pub use der_types::{
+        Any, AnyRef, BitString, DateTime, FlagSet, GeneralizedTime, Ia5String, Ia5StringRef,
+        NamedBits, OctetString, OctetStringRef, SetOfIter, SetOfVec, Uint, UtcTime,
+    };
+}

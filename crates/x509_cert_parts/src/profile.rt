@@ -1,8 +1,8 @@
 //! Profiles of certificates.
 
 ghost use Rattle.std.specs.Prelude.{◌≡◌, ℕ, Option, Some, None, Bool, true, false, IsOkAnd};
-ghost use Rattle.der_core_head.specs.Integers.{checked};
-ghost use Rattle.der_core_head.specs.Reading.{GivesNow};
+ghost use Rattle.der_core.specs.Integers.{checked};
+ghost use Rattle.der_core.specs.Reading.{GivesNow};
 ghost use Rattle.x509_cert_parts.specs.Grammar.{numbers_within};
 ghost use Rattle.x509_cert_parts.specs.Respelling.{spelled_by};
 ghost use Rattle.x509_cert_parts.specs.SerialNumbers.{serial_octets_max};
@@ -11,7 +11,7 @@ ghost use Rattle.x509_cert_parts.specs.Views.{time_value};
 use crate::serial_number::SerialNumber;
 use crate::time::Time;
 use der_core::{Error, ErrorKind, Tag};
-use der_types_time::UtcTime;
+use der_types::UtcTime;
 
 // The most content octets of a serial number that is read by RFC 5280.
 const MAX_SERIAL_OCTETS: usize = 21;

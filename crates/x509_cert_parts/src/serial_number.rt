@@ -3,10 +3,10 @@
 ghost use Rattle.std.specs.Prelude.{◌≡◌, ◌++◌, [], pos, Some, Ok, IfOk, flat_map, length, None};
 ghost use Rattle.std.specs.Prelude.{true, false};
 ghost use Rattle.std.specs.Fmt.{WritesOnOk};
-ghost use Rattle.der_core_head.specs.declared.tag.Tag.TheVariants.{Integer};
-ghost use Rattle.der_core_head.specs.Integers.{integer_of, integer_octets};
-ghost use Rattle.der_core_head.specs.Leaves.{integer};
-ghost use Rattle.der_core_head.specs.Reading.{Gives};
+ghost use Rattle.der_core.specs.TagTypes.Tag.TheVariants.{Integer};
+ghost use Rattle.der_core.specs.Integers.{integer_of, integer_octets};
+ghost use Rattle.der_core.specs.Leaves.{integer};
+ghost use Rattle.der_core.specs.Reading.{Gives};
 ghost use Rattle.x509_cert_parts.specs.Drawing.{drawn_serial, begins_with_zero, first_fill};
 ghost use Rattle.x509_cert_parts.specs.Grammar.{numbers_within};
 ghost use Rattle.x509_cert_parts.specs.SerialNumbers.{new_serial, hex_pair, colon_pair};
@@ -16,7 +16,7 @@ use crate::profile::{Profile, Rfc5280};
 use der_core::describing::{AsLeaf, Described, EncodeLeaf, Primitive};
 use der_core::making::{integer_octets_of, value_cmp_by_contents};
 use der_core::{EncodeValue, Error, ErrorKind, FixedTag, Leaf, Length, Tag, ValueOrd, Writer};
-use der_types_numbers::{Int, Uint};
+use der_types::{Int, Uint};
 use rand_core::CryptoRng;
 use std::alloc::{AllocError, Global};
 use std::cmp::Ordering;
@@ -220,7 +220,7 @@ impl<P: Profile> EncodeLeaf for SerialNumber<P> {
         self.inner.value_len()
     }
 
-    #[tactic(auto, unfolding(der_core_head::specs::Shapes::contents))]
+    #[tactic(auto, unfolding(crate::specs::Opened::contents))]
     fn encode_leaf<W: Writer>(&self, writer: &mut W) -> Result<(), Error> {
         self.inner.encode_value(writer)
     }

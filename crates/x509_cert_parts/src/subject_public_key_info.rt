@@ -1,7 +1,7 @@
 //! SubjectPublicKeyInfo.
 
 ghost use Rattle.std.specs.Prelude.{◌≡◌, refl};
-ghost use Rattle.const_oid.specs.Bound.{Bound};
+ghost use Rattle.der_core.specs.Oid.Bound.{Bound};
 ghost use Rattle.der_core.specs.Copies.{IsCopy};
 ghost use Rattle.x509_cert_parts.specs.Grammar.{public_key_fields};
 ghost use Rattle.x509_cert_parts.specs.Views.{key_plain, key_lent};
@@ -10,7 +10,7 @@ use crate::algorithm_identifier::AlgorithmIdentifier;
 use crate::subject_public_key_info_ref::SubjectPublicKeyInfoRef;
 use der_core::describing::{AsRecord, Described, FieldsView, RowUser, Rows};
 use der_core::{DecodeFields, Error, Reader, lend, read_row};
-use der_types_values::BitString;
+use der_types::BitString;
 use std::alloc::{AllocError, Global};
 
 /// A public key and its algorithm (RFC 5280 4.1.2.7).

@@ -1,7 +1,7 @@
 //! SubjectPublicKeyInfo, borrowed.
 
 ghost use Rattle.std.specs.Prelude.{◌≡◌, refl, IfOk};
-ghost use Rattle.const_oid.specs.Bound.{Bound};
+ghost use Rattle.der_core.specs.Oid.Bound.{Bound};
 ghost use Rattle.x509_cert_parts.specs.Grammar.{public_key_fields};
 ghost use Rattle.x509_cert_parts.specs.Views.{key_plain, key_lent};
 
@@ -9,7 +9,7 @@ use crate::algorithm_identifier_ref::AlgorithmIdentifierRef;
 use crate::subject_public_key_info::SubjectPublicKeyInfo;
 use der_core::describing::{AsRecord, DecodeRow, Described, FieldsView, RowUser, Rows};
 use der_core::{DecodeFields, Error, Reader, lend, row};
-use der_types_values::BitStringRef;
+use der_types::BitStringRef;
 use std::alloc::{AllocError, Global};
 
 /// A public key and its algorithm (RFC 5280 4.1.2.7), lent.

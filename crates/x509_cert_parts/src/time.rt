@@ -3,8 +3,8 @@
 ghost use Rattle.std.specs.Prelude.{◌≡◌, ◌*◌, Some, refl};
 ghost use Rattle.std.proofs.Common.{inl, inr};
 ghost use Rattle.std.specs.Duration.{as_nanos};
-ghost use Rattle.der_types_time.specs.DateTexts.{date_text};
-ghost use Rattle.der_types_time.specs.Seconds.{unix_seconds};
+ghost use Rattle.der_types.specs.DateTexts.{date_text};
+ghost use Rattle.der_types.specs.Seconds.{unix_seconds};
 ghost use Rattle.x509_cert_parts.specs.Grammar.{time};
 ghost use Rattle.x509_cert_parts.specs.Times.{ReadsTime, time_of};
 ghost use Rattle.x509_cert_parts.specs.Views.{time_value, time_date};
@@ -13,7 +13,7 @@ use der_core::{
     AsRead, Choice, Decode, DerOrd, Element, Encode, Error, FirstTag, Length, Member, OneOf2,
     Reader, Shaped, Tag, Writer,
 };
-use der_types_time::{DateTime, GeneralizedTime, UtcTime};
+use der_types::{DateTime, GeneralizedTime, UtcTime};
 use std::alloc::Global;
 use std::cmp::Ordering;
 use std::fmt;
@@ -102,7 +102,7 @@ impl Encode for Time {
 
     // Inlined, so that what is answered isn't moved.
     #[inline(always)]
-    #[tactic(auto, unfolding(der_core_head::specs::Shapes::octets_of))]
+    #[tactic(auto, unfolding(crate::specs::Opened::octets_of))]
     fn encode<W: Writer>(&self, writer: &mut W) -> Result<(), Error> {
         match self {
             Time::UtcTime(time) => time.encode(writer),

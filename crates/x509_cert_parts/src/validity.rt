@@ -2,9 +2,9 @@
 
 ghost use Rattle.std.specs.Prelude.{◌≡◌, ◌+◌, ◌/◌, ◌≤◌, ◌↔◌, refl, IsOk, IfOk, IfErr, IsOkAnd};
 ghost use Rattle.std.specs.Duration.{as_nanos};
-ghost use Rattle.der_core_head.specs.declared.tag.Tag.TheVariants.{Sequence};
-ghost use Rattle.der_core_head.specs.Shapes.{nested};
-ghost use Rattle.der_types_time.specs.Seconds.{last_second, unix_seconds};
+ghost use Rattle.der_core.specs.TagTypes.Tag.TheVariants.{Sequence};
+ghost use Rattle.der_core.specs.Shapes.{nested};
+ghost use Rattle.der_types.specs.Seconds.{last_second, unix_seconds};
 ghost use Rattle.x509_cert_parts.specs.Grammar.{validity_fields};
 ghost use Rattle.x509_cert_parts.specs.Respelling.{validity_by};
 ghost use Rattle.x509_cert_parts.specs.Times.{time_of, without_end};
@@ -18,7 +18,7 @@ use der_core::{
     ApartValue, DecodeFields, DecodeValue, EncodeFields, EncodeValue, Error, ErrorKind, Fields,
     FieldsOrd, FixedTag, Header, Length, Reader, ShapedValue, Tag, ValueOrd, Writer,
 };
-use der_types_time::DateTime;
+use der_types::DateTime;
 use std::alloc::Global;
 use std::cmp::Ordering;
 use std::marker::PhantomData;
@@ -138,7 +138,7 @@ impl<P: Profile> EncodeValue for Validity<P> {
         self.spelled()?.fields_len()
     }
 
-    #[tactic(auto, using(der_core_octets::proofs::Added::none_added), unfolding(der_core_head::specs::Shapes::contents))]
+    #[tactic(auto, using(crate::proofs::Cited::none_added), unfolding(crate::specs::Opened::contents))]
     fn encode_value<W: Writer>(&self, writer: &mut W) -> Result<(), Error> {
         self.spelled()?.encode_fields(writer)
     }
@@ -150,7 +150,7 @@ impl<P: Profile> ApartValue for Validity<P> {
 
 /// Date after date, as the profile spells them.
 impl<P: Profile> ValueOrd for Validity<P> {
-    #[tactic(auto, unfolding(der_core_head::specs::Shapes::contents, der_core_head::specs::Shapes::IsContent))]
+    #[tactic(auto, unfolding(crate::specs::Opened::contents, crate::specs::Opened::IsContent))]
     fn value_cmp(&self, other: &Self) -> Result<Ordering, Error> {
         self.spelled()?.fields_cmp(&other.spelled()?)
     }

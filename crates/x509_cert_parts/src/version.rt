@@ -60,14 +60,14 @@ impl DefaultContent for Version {
 
     ghost enough = { λ _. refl };
 
-    #[tactic(auto, unfolding(der_core_head::specs::Shapes::contents, der_core_head::specs::Shapes::IsContent))]
+    #[tactic(auto, unfolding(crate::specs::Opened::contents, crate::specs::Opened::IsContent))]
     fn default_content() -> Version {
         let version = Version::V1;
         let _zero = is_zero(&version.to_number());
         version
     }
 
-    #[tactic(auto, unfolding(der_core_head::specs::Shapes::contents, der_core_head::specs::Shapes::IsContent))]
+    #[tactic(auto, unfolding(crate::specs::Opened::contents, crate::specs::Opened::IsContent))]
     fn is_default_content(&self) -> bool {
         is_zero(&self.to_number())
     }

@@ -1,12 +1,12 @@
 -- Policies, constraints on paths and notices (RFC 5280 4.2). A shape that holds an identifier takes
 -- the bound of arcs.
 use Rattle.std.specs.Prelude.{ℕ}
-use Rattle.der_core_head.specs.declared.tag.Tag.TheVariants as tags
-use Rattle.der_core_head.specs.Integers.{natural}
-use Rattle.der_core_head.specs.Leaves.{integer, generalized_time, text, utf8}
-use Rattle.der_core_head.specs.Shapes.{Shape, Body, tagged, any, leaf, either, optional, field}
-use Rattle.der_core_head.specs.Shapes.{done, sequence, sequence_of}
-use Rattle.der_core_head.specs.Texts.{ascii}
+use Rattle.der_core.specs.TagTypes.Tag.TheVariants as tags
+use Rattle.der_core.specs.Integers.{natural}
+use Rattle.der_core.specs.Leaves.{integer, generalized_time, text, utf8}
+use Rattle.der_core.specs.Shapes.{Shape, Body, tagged, any, leaf, either, optional, field}
+use Rattle.der_core.specs.Shapes.{done, sequence, sequence_of}
+use Rattle.der_core.specs.Texts.{ascii}
 use Rattle.x509_cert_parts.specs.Grammar.{object_identifier, false_by_default}
 use Rattle.x509_cert_parts.specs.Grammar.{implicit_leaf, whole_number, number_of}
 

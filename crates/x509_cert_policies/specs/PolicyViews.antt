@@ -1,8 +1,8 @@
 -- What contracts see of the types: the plain values of their shapes.
 use Rattle.std.specs.Prelude.{pos, string_bytes}
 use Rattle.std.proofs.Common.{inl, inr}
-use Rattle.der_core_head.specs.Grammar.{plain_option, plain_list}
-use Rattle.der_core_head.specs.Shapes.{Value, BodyValue}
+use Rattle.der_core.specs.Grammar.{plain_option, plain_list}
+use Rattle.der_core.specs.Shapes.{Value, BodyValue}
 use Rattle.x509_cert_policies.specs.Policies.{basic_constraints_fields, policy_constraints_fields}
 use Rattle.x509_cert_policies.specs.Policies.{policy_mapping_fields, policy_qualifier_info_fields}
 use Rattle.x509_cert_policies.specs.Policies.{policy_information_fields, display_text}

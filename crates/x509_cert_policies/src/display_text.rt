@@ -8,9 +8,9 @@ use der_core::{
     AsRead, Choice, Decode, DerOrd, Element, Encode, EncodeRef, Error, FirstTag, Length, Member,
     OneOf2, Reader, Shaped, Tag, Writer,
 };
-use der_types_text::Ia5String;
 use std::alloc::Global;
 use std::cmp::Ordering;
+use x509_cert_parts::types::Ia5String;
 
 /// A text that is shown (RFC 5280 4.2.1.4). VisibleString and BMPString aren't read.
 ///

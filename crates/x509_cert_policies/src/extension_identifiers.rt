@@ -7,7 +7,7 @@ use crate::{
     BasicConstraints, CertificatePolicies, InhibitAnyPolicy, PolicyConstraints, PolicyMappings,
     PrivateKeyUsagePeriod,
 };
-use const_oid::{AssociatedOid, ObjectIdentifier};
+use der_core::oid::{AssociatedOid, ObjectIdentifier};
 
 impl AssociatedOid for BasicConstraints {
     ghost oid_arcs = { identifier_of types.basic_constraints };

@@ -7,8 +7,8 @@ ghost use Rattle.x509_cert_policies.specs.PolicyViews.{notice_reference_plain};
 use crate::display_text::DisplayText;
 use der_core::describing::{AsRecord, Described, FieldsView, RowUser, Rows};
 use der_core::{DecodeFields, Error, Reader, lend, read_row};
-use der_types_numbers::Uint;
 use std::alloc::Global;
+use x509_cert_parts::types::Uint;
 
 /// Where the text of a notice is found (RFC 5280 4.2.1.4).
 ///

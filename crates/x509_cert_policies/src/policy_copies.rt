@@ -1,6 +1,6 @@
 //! Copies of policies and of notices.
 
-ghost use Rattle.der_core_head.specs.Grammar.{plain_list};
+ghost use Rattle.der_core.specs.Grammar.{plain_list};
 ghost use Rattle.der_core.specs.Copies.{IsCopy};
 ghost use Rattle.x509_cert_policies.specs.PolicyViews as views;
 
@@ -9,9 +9,8 @@ use crate::{
     PolicyQualifierInfo, UserNotice,
 };
 use der_core::making::{copies_of, copies_of_option, copy_of_option};
-use der_types_any::Any;
-use der_types_numbers::Uint;
 use std::alloc::{AllocError, Global};
+use x509_cert_parts::types::{Any, Uint};
 
 impl PolicyQualifierInfo {
     /// A copy. Out of memory is the only error.

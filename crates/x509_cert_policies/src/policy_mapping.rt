@@ -1,12 +1,12 @@
 //! PolicyMapping.
 
 ghost use Rattle.std.specs.Prelude.{◌≡◌, refl};
-ghost use Rattle.const_oid.specs.Bound.{Bound};
+ghost use Rattle.der_core.specs.Oid.Bound.{Bound};
 ghost use Rattle.x509_cert_policies.specs.Policies.{policy_mapping_fields};
 ghost use Rattle.x509_cert_policies.specs.PolicyViews.{policy_mapping_plain};
 
-use const_oid::ObjectIdentifier;
 use der_core::describing::{AsRecord, Described, FieldsView, RowUser, Rows};
+use der_core::oid::ObjectIdentifier;
 use der_core::{DecodeFields, Error, Reader, lend, read_row};
 use std::alloc::Global;
 

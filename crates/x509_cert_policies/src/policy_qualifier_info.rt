@@ -1,16 +1,15 @@
 //! PolicyQualifierInfo.
 
 ghost use Rattle.std.specs.Prelude.{◌≡◌, refl};
-ghost use Rattle.const_oid.specs.Bound.{Bound};
+ghost use Rattle.der_core.specs.Oid.Bound.{Bound};
 ghost use Rattle.x509_cert_policies.specs.Policies.{policy_qualifier_info_fields};
 ghost use Rattle.x509_cert_policies.specs.PolicyViews.{policy_qualifier_info_plain};
 
-use const_oid::ObjectIdentifier;
 use der_core::describing::{AsRecord, Described, FieldsView, RowUser, Rows};
+use der_core::oid::ObjectIdentifier;
 use der_core::{DecodeFields, Error, Reader, lend, read_row};
-use der_types_any::Any;
-use der_types_text::Ia5String;
 use std::alloc::Global;
+use x509_cert_parts::types::{Any, Ia5String};
 
 /// A qualifier of a policy (RFC 5280 4.2.1.4).
 ///

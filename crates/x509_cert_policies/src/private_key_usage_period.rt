@@ -6,8 +6,8 @@ ghost use Rattle.x509_cert_policies.specs.PolicyViews.{private_key_usage_period_
 
 use der_core::describing::{AsRecord, Described, FieldsView, RowUser, Rows};
 use der_core::{DecodeFields, Error, Reader, lend, read_row};
-use der_types_time::GeneralizedTime;
 use std::alloc::Global;
+use x509_cert_parts::types::GeneralizedTime;
 
 /// From when until when a private key is used (RFC 3280 4.2.1.4).
 ///

@@ -1,8 +1,8 @@
 -- Words that are no command are told by the usage line.
 use Rattle.std.proofs.Common.{inr, refl, subst}
-use Rattle.cert_desk_io.specs.declared.exit_status.ExitStatus.TheVariants as statuses
-use Rattle.cert_desk_io.specs.Devices.{sink}
-use Rattle.cert_desk_io.specs.Telling.{IsComplaint}
+use Rattle.cert_desk_listing.specs.DeskIo.declared.exit_status.ExitStatus.TheVariants as statuses
+use Rattle.cert_desk_listing.specs.DeskIo.Devices.{sink}
+use Rattle.cert_desk_listing.specs.DeskIo.Telling.{IsComplaint}
 use Rattle.cert_desk.proofs.running.obey.Goals as goal
 
 pub returns-in-None : goal.returns-in-None

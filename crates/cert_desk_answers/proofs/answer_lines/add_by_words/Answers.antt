@@ -1,5 +1,5 @@
 use Rattle.std.proofs.Common.{rules, ◌≡◌, ℕ, List, Bor, map, Some}
-use Rattle.cert_desk_rules.specs.Answers.{answer_plain}
+use Rattle.cert_desk_checking.specs.DeskRules.Answers.{answer_plain}
 use Rattle.cert_desk_answers.specs.AnswerLines.{said, words_say}
 use Rattle.cert_desk_answers.specs.AnswerReading.{FailsBy, added_by}
 use Rattle.cert_desk_answers.proofs.WordsOfLine.{by_six}

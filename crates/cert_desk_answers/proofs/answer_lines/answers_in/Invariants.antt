@@ -1,6 +1,6 @@
 -- the answers so far, and what the lines left say, are what the file says
 use Rattle.std.proofs.Common.{◌≡◌, map, drop}
-use Rattle.cert_desk_rules.specs.Answers.{answer_plain}
+use Rattle.cert_desk_checking.specs.DeskRules.Answers.{answer_plain}
 use Rattle.cert_desk_answers.specs.AnswerLines.{answers_from, file_says}
 use Rattle.cert_desk_answers.proofs.AnswerFile.{behind}
 use Rattle.cert_desk_answers.proofs.answer_lines.answers_in.Given as goal

@@ -2,10 +2,10 @@ use Rattle.std.proofs.Common.{◌≡◌, ℕ, List, map, Ok, sym, ap, ◌∙◌}
 use Rattle.std.proofs.lemmas.Result.{err_from_is_err_and}
 use Rattle.cert_desk_checking.specs.declared.anchor_fault.AnchorFault.{AnchorFault}
 use Rattle.cert_desk_checking.specs.Anchors.{anchor_plain, purpose_plain}
-use Rattle.cert_desk_rules.specs.Answers.{answer_plain, only_yes_to}
-use Rattle.cert_desk_rules.specs.Judges.{judge_answers}
-use Rattle.cert_desk_rules.specs.Judging.{PlainAnchor}
-use Rattle.cert_desk_rules.specs.Questions.{Question}
+use Rattle.cert_desk_checking.specs.DeskRules.Answers.{answer_plain, only_yes_to}
+use Rattle.cert_desk_checking.specs.DeskRules.Judges.{judge_answers}
+use Rattle.cert_desk_checking.specs.DeskRules.Judging.{PlainAnchor}
+use Rattle.cert_desk_checking.specs.DeskRules.Questions.{Question}
 use Rattle.cert_desk_answers.specs.declared.line_fault.LineFault.{LineFault}
 use Rattle.cert_desk_answers.proofs.Judged.{ok_is, only_memory, trusted_by, unanswered_by}
 use Rattle.cert_desk_answers.proofs.judging.verdict_of.Goals as goal

@@ -1,8 +1,8 @@
 use Rattle.std.proofs.Common.{inl, refl, sym, ap, ◌∙◌}
-use Rattle.const_oid.specs.Bound.{Bound}
-use Rattle.x509_cert_certificates.specs.Certificates.{PlainCertificate, Tbs, raw_certificate, issuer, tbs_issuer}
-use Rattle.x509_cert_certificates.specs.Views.{certificate_plain}
-use Rattle.x509_cert_names.specs.PlainTexts.{name_text}
+use Rattle.cert_tool_describe.specs.Oid.Bound.{Bound}
+use Rattle.cert_tool_describe.specs.CertCertificates.Certificates.{PlainCertificate, Tbs, raw_certificate, issuer, tbs_issuer}
+use Rattle.cert_tool_describe.specs.CertCertificates.Views.{certificate_plain}
+use Rattle.cert_tool_describe.specs.CertNames.PlainTexts.{name_text}
 use Rattle.cert_desk_c.proofs.Told.{printed, unprinted}
 use Rattle.cert_desk_c.proofs.certificates.wd_issuer.Goals as goal
 

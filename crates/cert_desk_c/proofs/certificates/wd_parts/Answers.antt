@@ -1,8 +1,8 @@
-use Rattle.cert_desk_buffers.proofs.Returning.{found, lacking}
+use Rattle.cert_desk_answers.proofs.DeskRules.Returning.{found, lacking}
 use Rattle.cert_desk_c.specs.Values.{IsNoCertificate}
 use Rattle.cert_tool_describe.specs.Files.{IsCertificate}
 use Rattle.std.proofs.Common.{inl}
-use Rattle.x509_cert_certificates.specs.Views.{certificate_plain}
+use Rattle.cert_tool_describe.specs.CertCertificates.Views.{certificate_plain}
 use Rattle.cert_desk_c.proofs.certificates.wd_parts.Goals as goal
 
 pub returns-in-Err-clause-statuses : goal.returns-in-Err-clause-statuses

@@ -1,5 +1,5 @@
 use Rattle.std.proofs.Common.{◌≡◌, ℕ, List, inl, length, sym, ◌∙◌}
-use Rattle.cert_desk_buffers.proofs.Returning.{given}
+use Rattle.cert_desk_answers.proofs.DeskRules.Returning.{given}
 use Rattle.cert_desk_c.proofs.descriptions.give_lines.Goals as goal
 
 pub returns-clause-given : goal.returns-clause-given

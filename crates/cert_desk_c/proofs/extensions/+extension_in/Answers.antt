@@ -1,8 +1,8 @@
 use Rattle.std.proofs.Common.{◌-◌, ◌++◌, length, take, drop, refl, sym, ◌∙◌}
-use Rattle.const_oid.specs.Bound.{Bound}
-use Rattle.der_core_head.specs.Shapes.{many, body_octets}
-use Rattle.x509_cert_parts.specs.Grammar.{extension}
-use Rattle.x509_cert_parts.specs.Views.{extension_plain, extensions_plain}
+use Rattle.cert_tool_describe.specs.Oid.Bound.{Bound}
+use Rattle.cert_tool_describe.specs.Der.Shapes.{many, body_octets}
+use Rattle.cert_tool_describe.specs.CertParts.Grammar.{extension}
+use Rattle.cert_tool_describe.specs.CertParts.Views.{extension_plain, extensions_plain}
 use Rattle.cert_desk_c.proofs.PartPlaces.{rests}
 use Rattle.cert_desk_c.proofs.ExtensionPlaces.{cons_is, found_none, found_here, found_later, this_valid, this_is, left_valid, left_is}
 use Rattle.cert_desk_c.proofs.extensions.+extension_in.Goals as goal

@@ -1,4 +1,4 @@
-use Rattle.x509_cert_parts.specs.Grammar.{extension_octets}
+use Rattle.cert_tool_describe.specs.CertParts.Grammar.{extension_octets}
 use Rattle.cert_desk_c.proofs.ExtensionPlaces.{Inside, content_is, before_content}
 use Rattle.cert_desk_c.proofs.extensions.content_in.Goals as goal
 

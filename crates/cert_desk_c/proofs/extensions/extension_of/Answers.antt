@@ -1,8 +1,8 @@
 use Rattle.std.proofs.Common.{Some, is_some, sym, ap, ◌∙◌, List}
-use Rattle.x509_cert_certificates.specs.Certificates.{Tbs, tbs_extensions, tbs_issuer_unique_id, tbs_subject_unique_id}
-use Rattle.x509_cert_certificates.specs.Views.{certificate_plain}
-use Rattle.x509_cert_parts.specs.declared.extension.Extension.{Extension}
-use Rattle.x509_cert_parts.specs.Views.{extensions_plain}
+use Rattle.cert_tool_describe.specs.CertCertificates.Certificates.{Tbs, tbs_extensions, tbs_issuer_unique_id, tbs_subject_unique_id}
+use Rattle.cert_tool_describe.specs.CertCertificates.Views.{certificate_plain}
+use Rattle.cert_tool_describe.specs.CertParts.declared.extension.Extension.{Extension}
+use Rattle.cert_tool_describe.specs.CertParts.Views.{extensions_plain}
 use Rattle.cert_desk_c.proofs.ExtensionPlaces.{Behind, none_found, some_found, list_is, list_valid, before_list}
 use Rattle.cert_desk_c.proofs.extensions.extension_of.Goals as goal
 

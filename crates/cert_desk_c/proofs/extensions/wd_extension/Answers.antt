@@ -1,7 +1,7 @@
 use Rattle.std.proofs.Common.{Option, inl, is_some, sym, ap, ◌∙◌}
-use Rattle.x509_cert_certificates.specs.Certificates.{extensions_of}
-use Rattle.x509_cert_certificates.specs.Views.{certificate_plain}
-use Rattle.x509_cert_parts.specs.Grammar.{PlainExtension}
+use Rattle.cert_tool_describe.specs.CertCertificates.Certificates.{extensions_of}
+use Rattle.cert_tool_describe.specs.CertCertificates.Views.{certificate_plain}
+use Rattle.cert_tool_describe.specs.CertParts.Grammar.{PlainExtension}
 use Rattle.cert_desk_c.specs.Values.{first_extension}
 use Rattle.cert_desk_c.proofs.Extended.{extended, no_certificate, no_identifier, unextended}
 use Rattle.cert_desk_c.proofs.ExtensionPlaces.{is_found, is_absent}

@@ -1,9 +1,9 @@
 use Rattle.std.proofs.Common.{◌≡◌, ◌≤◌, ℕ, List, length, sym, ap, subst, ◌∙◌}
-use Rattle.const_oid.specs.Bound.{max_size}
-use Rattle.const_oid.specs.IdentifierOctets.{identifier_octets}
-use Rattle.cert_desk_io.specs.declared.exit_status.ExitStatus.{ExitStatus}
+use Rattle.cert_tool_describe.specs.Oid.Bound.{max_size}
+use Rattle.cert_tool_describe.specs.Oid.IdentifierOctets.{identifier_octets}
+use Rattle.cert_desk_listing.specs.DeskIo.declared.exit_status.ExitStatus.{ExitStatus}
 use Rattle.cert_desk_answers.proofs.Judged.{ok_is}
-use Rattle.cert_desk_buffers.proofs.Returning.{spelled}
+use Rattle.cert_desk_answers.proofs.DeskRules.Returning.{spelled}
 use Rattle.cert_desk_c.specs.Values.{IsIdentifierOf, IsNoDottedText}
 use Rattle.cert_desk_c.proofs.identifiers.wd_identifier_of_text.Goals as goal
 

@@ -1,10 +1,10 @@
 use Rattle.std.proofs.Common.{◌≡◌, ℕ, List, length, inl, inr, refl, sym, ap, subst, ◌∙◌}
-use Rattle.const_oid.specs.declared.error.Error.{Error}
-use Rattle.const_oid.specs.DottedText.{dotted}
-use Rattle.cert_desk_io.specs.declared.exit_status.ExitStatus.TheVariants.{Faulty}
+use Rattle.cert_tool_describe.specs.Oid.declared.error.Error.{Error}
+use Rattle.cert_tool_describe.specs.Oid.DottedText.{dotted}
+use Rattle.cert_desk_listing.specs.DeskIo.declared.exit_status.ExitStatus.TheVariants.{Faulty}
 use Rattle.cert_desk_answers.proofs.Judged.{ok_is}
-use Rattle.cert_desk_buffers.proofs.Returning.{spelled, unspelled}
-use Rattle.cert_desk_buffers.specs.Identifiers.{IsNoIdentifier}
+use Rattle.cert_desk_answers.proofs.DeskRules.Returning.{spelled, unspelled}
+use Rattle.cert_desk_answers.specs.DeskRules.Identifiers.{IsNoIdentifier}
 use Rattle.cert_desk_c.specs.Values.{IsDottedTextOf}
 use Rattle.cert_desk_c.proofs.identifiers.wd_identifier_text.Goals as goal
 

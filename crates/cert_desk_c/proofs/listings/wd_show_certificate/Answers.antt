@@ -1,8 +1,8 @@
 use Rattle.std.proofs.Common.{inl, refl, sym, ap, ◌∙◌}
-use Rattle.const_oid.specs.Bound.{Bound}
+use Rattle.cert_tool_describe.specs.Oid.Bound.{Bound}
 use Rattle.cert_desk_listing.specs.Listing.{certificate_lines}
-use Rattle.x509_cert_certificates.specs.Certificates.{raw_certificate}
-use Rattle.x509_cert_certificates.specs.Views.{certificate_plain}
+use Rattle.cert_tool_describe.specs.CertCertificates.Certificates.{raw_certificate}
+use Rattle.cert_tool_describe.specs.CertCertificates.Views.{certificate_plain}
 use Rattle.cert_desk_c.proofs.Told.{printed, unprinted}
 use Rattle.cert_desk_c.proofs.listings.wd_show_certificate.Goals as goal
 

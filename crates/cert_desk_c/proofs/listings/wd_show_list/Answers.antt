@@ -1,8 +1,8 @@
 use Rattle.std.proofs.Common.{inl, refl, sym, ap, ◌∙◌}
-use Rattle.const_oid.specs.Bound.{Bound}
+use Rattle.cert_tool_describe.specs.Oid.Bound.{Bound}
 use Rattle.cert_desk_listing.specs.Listing.{list_lines}
 use Rattle.cert_desk_listing.specs.Parts.{raw_certificate_list}
-use Rattle.x509_cert_lists.specs.ListViews.{certificate_list_plain}
+use Rattle.cert_tool_describe.specs.CertLists.ListViews.{certificate_list_plain}
 use Rattle.cert_desk_c.proofs.Told.{printed, unprinted}
 use Rattle.cert_desk_c.proofs.listings.wd_show_list.Goals as goal
 

@@ -1,8 +1,8 @@
 use Rattle.std.proofs.Common.{inl, refl, sym, ap, ◌∙◌}
-use Rattle.const_oid.specs.Bound.{Bound}
+use Rattle.cert_tool_describe.specs.Oid.Bound.{Bound}
 use Rattle.cert_desk_listing.specs.Listing.{request_lines}
-use Rattle.x509_cert_lists.specs.ListGrammar.{cert_req}
-use Rattle.x509_cert_lists.specs.ListViews.{cert_req_plain}
+use Rattle.cert_tool_describe.specs.CertLists.ListGrammar.{cert_req}
+use Rattle.cert_tool_describe.specs.CertLists.ListViews.{cert_req_plain}
 use Rattle.cert_desk_c.proofs.Told.{printed, unprinted}
 use Rattle.cert_desk_c.proofs.listings.wd_show_request.Goals as goal
 

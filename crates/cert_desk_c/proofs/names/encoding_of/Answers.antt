@@ -1,8 +1,8 @@
 use Rattle.std.proofs.Common.{ℕ, List, Ok, Err, inr, refl, subst}
-use Rattle.const_oid.specs.Bound.{Bound}
-use Rattle.der_core_head.specs.Grammar.{plain_list}
-use Rattle.x509_cert_names.specs.NameTexts.{ReadsEncoding, ReadsName}
-use Rattle.x509_cert_names.specs.Pairs.{relative_plain}
+use Rattle.cert_tool_describe.specs.Oid.Bound.{Bound}
+use Rattle.cert_tool_describe.specs.Der.Grammar.{plain_list}
+use Rattle.cert_tool_describe.specs.CertNames.NameTexts.{ReadsEncoding, ReadsName}
+use Rattle.cert_tool_describe.specs.CertNames.Pairs.{relative_plain}
 use Rattle.cert_desk_c.proofs.Named.{lacks}
 use Rattle.cert_desk_c.proofs.names.encoding_of.Goals as goal
 

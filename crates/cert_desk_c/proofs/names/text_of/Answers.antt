@@ -1,5 +1,5 @@
 use Rattle.std.proofs.Common.{◌≡◌, IfOk, string_bytes, sym, subst}
-use Rattle.x509_cert_names.proofs.OneName.{name_text_is}
+use Rattle.cert_tool_describe.proofs.CertNames.OneName.{name_text_is}
 use Rattle.cert_desk_c.proofs.names.text_of.Goals as goal
 
 pub returns : goal.returns

@@ -1,5 +1,5 @@
 use Rattle.std.proofs.Common.{ℕ, ◌<◌, List, inl, length, sym, ap, subst, ◌∙◌}
-use Rattle.cert_desk_buffers.proofs.Returning.{spelled, unspelled}
+use Rattle.cert_desk_answers.proofs.DeskRules.Returning.{spelled, unspelled}
 use Rattle.cert_desk_c.specs.Values.{IsEncodedName, IsNoNameText}
 use Rattle.cert_desk_c.proofs.Named.{not_both, one_encoding}
 use Rattle.cert_desk_c.proofs.names.wd_name_of_text.Goals as goal

@@ -1,8 +1,8 @@
 use Rattle.std.proofs.Common.{inl, refl, sym, ap, ◌∙◌}
-use Rattle.const_oid.specs.Bound.{Bound}
-use Rattle.x509_cert_names.specs.Names.{name}
-use Rattle.x509_cert_names.specs.PlainTexts.{name_text}
-use Rattle.x509_cert_names.specs.Views.{name_plain}
+use Rattle.cert_tool_describe.specs.Oid.Bound.{Bound}
+use Rattle.cert_tool_describe.specs.CertNames.Names.{name}
+use Rattle.cert_tool_describe.specs.CertNames.PlainTexts.{name_text}
+use Rattle.cert_tool_describe.specs.CertNames.Views.{name_plain}
 use Rattle.cert_desk_c.proofs.Told.{printed, unprinted}
 use Rattle.cert_desk_c.proofs.names.wd_name_text.Goals as goal
 

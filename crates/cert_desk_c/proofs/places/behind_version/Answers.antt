@@ -1,7 +1,7 @@
 use Rattle.std.proofs.Common.{[], true, refl}
-use Rattle.der_core_head.specs.Shapes.{nested, only}
-use Rattle.der_core_head.specs.Tags.{context}
-use Rattle.x509_cert_parts.specs.Grammar.{version}
+use Rattle.cert_tool_describe.specs.Der.Shapes.{nested, only}
+use Rattle.cert_tool_describe.specs.Der.Tags.{context}
+use Rattle.cert_tool_describe.specs.CertParts.Grammar.{version}
 use Rattle.cert_desk_c.specs.Places.{numbered_fields}
 use Rattle.cert_desk_c.proofs.PartPlaces.{versioned, valid_versioned, some_fields}
 use Rattle.cert_desk_c.proofs.places.behind_version.Goals as goal

@@ -1,9 +1,9 @@
-use Rattle.const_oid.specs.Bound.{Bound}
-use Rattle.der_core_head.specs.Integers.{integer_octets}
-use Rattle.der_core_head.specs.Shapes.{octets_of}
-use Rattle.x509_cert_names.specs.Names.{name}
-use Rattle.x509_cert_parts.specs.Grammar.{public_key_info}
-use Rattle.x509_cert_certificates.specs.Certificates.{raw_tbs_certificate, tbs, tbs_serial, issuer, subject, public_key}
+use Rattle.cert_tool_describe.specs.Oid.Bound.{Bound}
+use Rattle.cert_tool_describe.specs.Der.Integers.{integer_octets}
+use Rattle.cert_tool_describe.specs.Der.Shapes.{octets_of}
+use Rattle.cert_tool_describe.specs.CertNames.Names.{name}
+use Rattle.cert_tool_describe.specs.CertParts.Grammar.{public_key_info}
+use Rattle.cert_tool_describe.specs.CertCertificates.Certificates.{raw_tbs_certificate, tbs, tbs_serial, issuer, subject, public_key}
 use Rattle.cert_desk_c.proofs.PartPlaces.{Walk, signed_is, number_is, issuer_is, subject_is, key_is, before_number, before_issuer, before_subject, before_key, behind_is}
 use Rattle.cert_desk_c.proofs.places.parts_in.Goals as goal
 

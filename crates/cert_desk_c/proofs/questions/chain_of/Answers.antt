@@ -1,6 +1,6 @@
 use Rattle.std.proofs.Common.{ℕ, inl, sym, subst, ◌∙◌}
-use Rattle.const_oid.specs.Bound.{Bound}
-use Rattle.cert_desk_bundle.specs.Chains.{Chain}
+use Rattle.cert_tool_describe.specs.Oid.Bound.{Bound}
+use Rattle.cert_desk_answers.specs.DeskBundle.Chains.{Chain}
 use Rattle.cert_desk_c.proofs.AskedQuestions.{no_series}
 use Rattle.cert_desk_c.proofs.questions.chain_of.Goals as goal
 

@@ -1,6 +1,6 @@
 use Rattle.std.proofs.Common.{map}
 use Rattle.std.proofs.lemmas.Result.{err_from_is_err_and}
-use Rattle.cert_desk_checking.specs.Anchors.{anchor_plain}
+use Rattle.cert_desk_answers.specs.DeskChecking.Anchors.{anchor_plain}
 use Rattle.cert_desk_c.proofs.AskedQuestions.{no_anchors, no_questions}
 use Rattle.cert_desk_c.proofs.questions.questions_of.Goals as goal
 

@@ -1,5 +1,5 @@
 use Rattle.std.proofs.Common.{ℕ, List, inl, sym, subst, arith}
-use Rattle.cert_desk_io.specs.declared.exit_status.ExitStatus.TheVariants.{Arguments}
+use Rattle.cert_desk_listing.specs.DeskIo.declared.exit_status.ExitStatus.TheVariants.{Arguments}
 use Rattle.cert_desk_c.specs.Judged.{AreQuestions}
 use Rattle.cert_desk_c.proofs.AskedQuestions.{asked, unasked}
 use Rattle.cert_desk_c.proofs.questions.wd_questions.Goals as goal

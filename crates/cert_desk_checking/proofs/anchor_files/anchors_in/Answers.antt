@@ -5,7 +5,7 @@ use Rattle.cert_desk_checking.specs.Anchors.{anchor_plain, given_by}
 use Rattle.cert_desk_checking.specs.AnchorFiles.{raw_choice}
 use Rattle.cert_desk_checking.proofs.AnchorLaws.{choices_told}
 use Rattle.cert_desk_checking.proofs.FileReading.{stands-later, so_far-more}
-use Rattle.cert_desk_bundle.proofs.LocationLaws.{pushed}
+use Rattle.cert_desk_rules.proofs.DeskBundle.LocationLaws.{pushed}
 use Rattle.cert_desk_checking.proofs.anchor_files.anchors_in.Goals as goal
 
 pub loop-start-smaller : goal.loop-start-smaller

@@ -1,7 +1,7 @@
 -- What is read is spelled by the octets up to what is left behind it.
 use Rattle.std.proofs.Common.{◌≡◌, ◌++◌, drop, refl, arith}
 use Rattle.std.proofs.lemmas.List.{take_rest}
-use Rattle.der_core_head.specs.Shapes.{IsValid}
+use Rattle.x509_cert_anchors.specs.Der.Shapes.{IsValid}
 use Rattle.x509_cert_anchors.specs.AnchorViews.{trust_anchor_plain}
 use Rattle.cert_desk_checking.specs.AnchorFiles.{raw_choice, choice_octets}
 use Rattle.cert_desk_checking.proofs.FileReading.{stands_at}

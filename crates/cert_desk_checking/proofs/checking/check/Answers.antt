@@ -3,10 +3,10 @@ use Rattle.cert_desk_rules.specs.declared.checked.Verdict.TheVariants as verdict
 use Rattle.cert_desk_checking.specs.Anchors.{terms_of}
 use Rattle.cert_desk_rules.specs.Verdicts.{asked}
 use Rattle.cert_desk_checking.proofs.Counts.{Rises-by, Rises-none}
-use Rattle.cert_desk_bundle.proofs.OneChain.{fault_no_chain}
+use Rattle.cert_desk_rules.proofs.DeskBundle.OneChain.{fault_no_chain}
 use Rattle.cert_desk_checking.proofs.ChainLaws.{only_trusted, reads_chain, reads_fault, Asks-chain, Asks-fault, counted_by}
 use Rattle.cert_desk_checking.proofs.checking.check.Goals as goal
-use Rattle.const_oid.specs.Bound.{Bound}
+use Rattle.x509_cert_anchors.specs.Oid.Bound.{Bound}
 
 pub returns-in-Ok-clause-trusted : goal.returns-in-Ok-clause-trusted
 returns-in-Ok-clause-trusted g c = λ stream reads trusted.

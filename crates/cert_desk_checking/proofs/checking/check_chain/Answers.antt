@@ -1,10 +1,10 @@
 use Rattle.std.proofs.Common.{◌≡◌, ℕ, suc, ◌+◌, ◌<◌, length, true, refl, sym, ap, ◌∙◌, subst, arith}
-use Rattle.const_oid.specs.Bound.{Bound}
-use Rattle.x509_cert_certificates.specs.Views.{certificate_plain}
+use Rattle.x509_cert_anchors.specs.Oid.Bound.{Bound}
+use Rattle.x509_cert_anchors.specs.CertCertificates.Views.{certificate_plain}
 use Rattle.cert_desk_checking.specs.declared.issuer.Issuer.TheVariants as issuers
 use Rattle.cert_desk_rules.specs.declared.rule.Rule.TheVariants as rules
 use Rattle.cert_desk_checking.specs.Anchors.{terms_of}
-use Rattle.cert_desk_bundle.specs.Chains.{joined}
+use Rattle.cert_desk_rules.specs.DeskBundle.Chains.{joined}
 use Rattle.cert_desk_rules.specs.Judging.{Answers}
 use Rattle.cert_desk_checking.specs.Places.{IsFirstUnsigned, IsIssuer, asked_of}
 use Rattle.cert_desk_rules.specs.Verdicts.{all_kept_below, asked_below, asked_signature}
@@ -15,7 +15,7 @@ use Rattle.cert_desk_rules.proofs.MemoryLaws.{takes_at}
 use Rattle.cert_desk_checking.proofs.Outcomes.{asked-is, asked_signed, asked_unsigned}
 use Rattle.cert_desk_checking.proofs.Outcomes.{asks_signature, kept_below-more, refused_at}
 use Rattle.cert_desk_checking.proofs.Outcomes.{stops_at, trusted_by}
-use Rattle.cert_desk_io.proofs.Given.{OnErr-by}
+use Rattle.cert_desk_rules.proofs.DeskIo.Given.{OnErr-by}
 use Rattle.cert_desk_checking.proofs.PlaceLaws.{asked_at, entry_at, stands, told_at}
 use Rattle.cert_desk_checking.proofs.checking.check_chain.Goals as goal
 

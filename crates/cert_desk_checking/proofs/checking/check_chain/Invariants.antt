@@ -1,8 +1,8 @@
 -- Every place so far keeps all rules, and the questions are those about these places.
 use Rattle.std.proofs.Common.{◌≡◌, true}
-use Rattle.const_oid.specs.Bound.{Bound}
+use Rattle.x509_cert_anchors.specs.Oid.Bound.{Bound}
 use Rattle.cert_desk_checking.specs.Anchors.{terms_of}
-use Rattle.cert_desk_bundle.specs.Chains.{joined}
+use Rattle.cert_desk_rules.specs.DeskBundle.Chains.{joined}
 use Rattle.cert_desk_rules.specs.Findings.{IsRoom}
 use Rattle.cert_desk_checking.specs.Places.{IsIssuer, Rises}
 use Rattle.cert_desk_rules.specs.Verdicts.{all_kept_below, asked_below}

@@ -1,11 +1,11 @@
 use Rattle.std.proofs.Common.{◌≡◌, sym, ap, ◌∙◌}
-use Rattle.const_oid.specs.Bound.{Bound}
-use Rattle.der_core_head.specs.Shapes.{octets_of}
-use Rattle.x509_cert_parts.specs.Views.{algorithm_plain}
-use Rattle.x509_cert_parts.specs.Grammar.{Algorithm, algorithm_identifier}
-use Rattle.x509_cert_certificates.specs.Views.{certificate_plain}
-use Rattle.x509_cert_certificates.specs.Certificates.{inner_algorithm, outer_algorithm}
-use Rattle.x509_cert_certificates.specs.Certificates.{tbs_inner_algorithm}
+use Rattle.x509_cert_anchors.specs.Oid.Bound.{Bound}
+use Rattle.x509_cert_anchors.specs.Der.Shapes.{octets_of}
+use Rattle.x509_cert_anchors.specs.CertParts.Views.{algorithm_plain}
+use Rattle.x509_cert_anchors.specs.CertParts.Grammar.{Algorithm, algorithm_identifier}
+use Rattle.x509_cert_anchors.specs.CertCertificates.Views.{certificate_plain}
+use Rattle.x509_cert_anchors.specs.CertCertificates.Certificates.{inner_algorithm, outer_algorithm}
+use Rattle.x509_cert_anchors.specs.CertCertificates.Certificates.{tbs_inner_algorithm}
 use Rattle.cert_desk_checking.proofs.PlaceLaws.{one_algorithm_by}
 use Rattle.cert_desk_checking.proofs.checking.has_one_algorithm.Goals as goal
 

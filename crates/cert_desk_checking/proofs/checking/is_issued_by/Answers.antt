@@ -1,10 +1,10 @@
 use Rattle.std.proofs.Common.{◌≡◌, sym, ap, ◌∙◌, subst}
-use Rattle.const_oid.specs.Bound.{Bound}
-use Rattle.der_core_head.specs.Shapes.{IsValid}
-use Rattle.x509_cert_certificates.specs.Views.{certificate_plain}
-use Rattle.x509_cert_names.specs.Views.{name_plain}
-use Rattle.x509_cert_names.specs.Names.{PlainName, name, name_octets}
-use Rattle.x509_cert_certificates.specs.Certificates.{issuer, tbs_issuer}
+use Rattle.x509_cert_anchors.specs.Oid.Bound.{Bound}
+use Rattle.x509_cert_anchors.specs.Der.Shapes.{IsValid}
+use Rattle.x509_cert_anchors.specs.CertCertificates.Views.{certificate_plain}
+use Rattle.x509_cert_anchors.specs.CertNames.Views.{name_plain}
+use Rattle.x509_cert_anchors.specs.CertNames.Names.{PlainName, name, name_octets}
+use Rattle.x509_cert_anchors.specs.CertCertificates.Certificates.{issuer, tbs_issuer}
 use Rattle.cert_desk_checking.proofs.AnchorSteps.{same_name_by}
 use Rattle.cert_desk_checking.proofs.Encodings.{valid_issuer}
 use Rattle.cert_desk_checking.proofs.checking.is_issued_by.Goals as goal

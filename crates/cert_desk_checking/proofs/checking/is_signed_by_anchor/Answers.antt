@@ -1,6 +1,6 @@
 use Rattle.std.proofs.Common.{◌+◌, refl, sym, ◌∙◌, ap, arith}
-use Rattle.const_oid.specs.Bound.{Bound}
-use Rattle.x509_cert_certificates.specs.Views.{certificate_plain}
+use Rattle.x509_cert_anchors.specs.Oid.Bound.{Bound}
+use Rattle.x509_cert_anchors.specs.CertCertificates.Views.{certificate_plain}
 use Rattle.cert_desk_checking.specs.declared.anchor.Anchor.{Anchor}
 use Rattle.cert_desk_checking.specs.Anchors.{anchor_plain}
 use Rattle.cert_desk_rules.specs.Judging.{is_named}

@@ -1,8 +1,8 @@
 -- No anchor so far was answered yes: the answer, and the questions to come, are those of the anchors that are left.
 use Rattle.std.proofs.Common.{◌≡◌, ℕ, ◌+◌, map, drop}
 use Rattle.std.specs.List.{list_any}
-use Rattle.const_oid.specs.Bound.{Bound}
-use Rattle.x509_cert_certificates.specs.Views.{certificate_plain}
+use Rattle.x509_cert_anchors.specs.Oid.Bound.{Bound}
+use Rattle.x509_cert_anchors.specs.CertCertificates.Views.{certificate_plain}
 use Rattle.cert_desk_checking.specs.Anchors.{anchor_plain}
 use Rattle.cert_desk_checking.specs.Places.{signs, Rises}
 use Rattle.cert_desk_rules.specs.Verdicts.{asked_until}

@@ -1,8 +1,8 @@
 use Rattle.std.proofs.Common.{◌+◌, ◌&&◌, ◌||◌, not, List, refl, subst, sym, ◌∙◌, ap}
 use Rattle.std.specs.Option.{is_some}
-use Rattle.const_oid.specs.Bound.{Bound}
-use Rattle.x509_cert_parts.specs.Grammar.{PlainExtension}
-use Rattle.x509_cert_certificates.specs.Views.{certificate_plain}
+use Rattle.x509_cert_anchors.specs.Oid.Bound.{Bound}
+use Rattle.x509_cert_anchors.specs.CertParts.Grammar.{PlainExtension}
+use Rattle.x509_cert_anchors.specs.CertCertificates.Views.{certificate_plain}
 use Rattle.cert_desk_rules.specs.declared.rule.Rule.TheVariants as rules
 use Rattle.cert_desk_checking.specs.Anchors.{terms_of}
 use Rattle.cert_desk_rules.specs.Findings.{IsRoom, add_place, found}
@@ -11,7 +11,7 @@ use Rattle.cert_desk_rules.specs.Paths.{counts, is_self_issued, is_within}
 use Rattle.cert_desk_rules.specs.Weighing.{may_take_memory}
 use Rattle.cert_desk_rules.proofs.Folds.{not_twice}
 use Rattle.cert_desk_checking.proofs.KeptLaws.{counts-is, keeps_issuing, keeps_known, keeps_serving, keeps_well_formed, keeps_within, tests_say}
-use Rattle.cert_desk_io.proofs.Given.{OnErr-by}
+use Rattle.cert_desk_rules.proofs.DeskIo.Given.{OnErr-by}
 use Rattle.cert_desk_rules.proofs.PathLaws.{IsRoom-more, add_place_any, admits_any}
 use Rattle.cert_desk_checking.proofs.PlaceLaws.{keeps_at-is, linked_at}
 use Rattle.cert_desk_checking.proofs.checking.rules_kept.Goals as goal

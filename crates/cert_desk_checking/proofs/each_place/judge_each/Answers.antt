@@ -1,9 +1,9 @@
 use Rattle.std.proofs.Common.{◌≡◌, ℕ, suc, ◌+◌, ◌<◌, length, refl, sym, ap, ◌∙◌, subst, arith}
-use Rattle.const_oid.specs.Bound.{Bound}
-use Rattle.x509_cert_certificates.specs.Views.{certificate_plain}
+use Rattle.x509_cert_anchors.specs.Oid.Bound.{Bound}
+use Rattle.x509_cert_anchors.specs.CertCertificates.Views.{certificate_plain}
 use Rattle.cert_desk_checking.specs.declared.issuer.Issuer.TheVariants as issuers
 use Rattle.cert_desk_checking.specs.Anchors.{terms_of}
-use Rattle.cert_desk_bundle.specs.Chains.{joined}
+use Rattle.cert_desk_rules.specs.DeskBundle.Chains.{joined}
 use Rattle.cert_desk_rules.specs.Judging.{Answers}
 use Rattle.cert_desk_rules.specs.Verdicts.{raised}
 use Rattle.cert_desk_checking.specs.Places.{IsIssuer, asked_each, asked_of}
@@ -11,7 +11,7 @@ use Rattle.cert_desk_checking.proofs.EachPlace.{SaysBefore, all_said, counted-mo
 use Rattle.cert_desk_checking.proofs.Encodings.{signed_part-is}
 use Rattle.cert_desk_checking.proofs.KeptLaws.{all_say}
 use Rattle.cert_desk_checking.proofs.PlaceLaws.{asked_at, entry_at, stands, told_at}
-use Rattle.cert_desk_io.proofs.Given.{OnErr-by}
+use Rattle.cert_desk_rules.proofs.DeskIo.Given.{OnErr-by}
 use Rattle.cert_desk_checking.proofs.each_place.judge_each.Goals as goal
 
 pub loop-place-preserved : goal.loop-place-preserved

@@ -1,8 +1,8 @@
 -- Of every place so far is said which rules it keeps, the questions are those about these places, and the next one's issuer and room are known.
 use Rattle.std.proofs.Common.{◌≡◌}
-use Rattle.const_oid.specs.Bound.{Bound}
+use Rattle.x509_cert_anchors.specs.Oid.Bound.{Bound}
 use Rattle.cert_desk_checking.specs.Anchors.{terms_of}
-use Rattle.cert_desk_bundle.specs.Chains.{joined}
+use Rattle.cert_desk_rules.specs.DeskBundle.Chains.{joined}
 use Rattle.cert_desk_rules.specs.Findings.{IsRoom}
 use Rattle.cert_desk_checking.specs.Places.{IsIssuer, Rises, asked_each}
 use Rattle.cert_desk_checking.proofs.EachPlace.{SaysBefore}

@@ -1,4 +1,4 @@
-use Rattle.cert_desk_bundle.proofs.OneChain.{fault_no_chain}
+use Rattle.cert_desk_rules.proofs.DeskBundle.OneChain.{fault_no_chain}
 use Rattle.cert_desk_checking.proofs.laws.no_chain_with_a_fault.Goals as goal
 
 pub returns : goal.returns

@@ -1,4 +1,4 @@
-use Rattle.cert_desk_bundle.proofs.OneChain.{one_chain}
+use Rattle.cert_desk_rules.proofs.DeskBundle.OneChain.{one_chain}
 use Rattle.cert_desk_checking.proofs.laws.one_chain.Goals as goal
 
 pub returns : goal.returns

@@ -1,4 +1,4 @@
-use Rattle.cert_desk_bundle.proofs.OneChain.{one_fault}
+use Rattle.cert_desk_rules.proofs.DeskBundle.OneChain.{one_fault}
 use Rattle.cert_desk_checking.proofs.laws.one_fault.Goals as goal
 
 pub returns : goal.returns

@@ -1,4 +1,4 @@
-use Rattle.cert_desk_bundle.proofs.SeriesLaws.{one_series_fault}
+use Rattle.cert_desk_rules.proofs.DeskBundle.SeriesLaws.{one_series_fault}
 use Rattle.cert_desk_checking.proofs.laws.one_series_fault.Goals as goal
 
 pub returns : goal.returns

@@ -1,6 +1,6 @@
 use Rattle.std.proofs.Common.{◌≡◌, ◌++◌, string_bytes, subst, ap, ◌∙◌}
 use Rattle.std.specs.Prelude.{OnOk}
-use Rattle.x509_cert_certificates.specs.Certificates.{tbs_public_key}
+use Rattle.x509_cert_anchors.specs.CertCertificates.Certificates.{tbs_public_key}
 use Rattle.cert_desk_checking.proofs.PlaceLaws.{entry_at}
 use Rattle.cert_desk_checking.proofs.QuestionLaws.{lines_at-later}
 use Rattle.cert_desk_checking.proofs.question_lines.add_later.Goals as goal

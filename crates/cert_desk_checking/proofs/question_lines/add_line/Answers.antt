@@ -1,7 +1,7 @@
 use Rattle.std.proofs.Common.{◌++◌, string_bytes, ap, ◌∙◌}
-use Rattle.const_oid.specs.Bound.{Bound}
-use Rattle.x509_cert_parts.specs.Grammar.{algorithm_identifier, bit_string}
-use Rattle.x509_cert_parts.specs.Views.{key_plain}
+use Rattle.x509_cert_anchors.specs.Oid.Bound.{Bound}
+use Rattle.x509_cert_anchors.specs.CertParts.Grammar.{algorithm_identifier, bit_string}
+use Rattle.x509_cert_anchors.specs.CertParts.Views.{key_plain}
 use Rattle.cert_desk_checking.specs.QuestionLines.{hex_encoding}
 use Rattle.cert_desk_checking.specs.Questioning.{entry_question}
 use Rattle.cert_desk_checking.proofs.QuestionLaws.{line_is}

@@ -1,8 +1,8 @@
 use Rattle.std.proofs.Common.{◌≡◌, ◌++◌, string_bytes, map, subst, ap, sym, ◌∙◌}
 use Rattle.std.specs.Prelude.{OnOk}
 use Rattle.cert_desk_checking.specs.Anchors.{anchor_plain}
-use Rattle.const_oid.specs.Bound.{Bound}
-use Rattle.cert_desk_bundle.specs.Chains.{joined}
+use Rattle.x509_cert_anchors.specs.Oid.Bound.{Bound}
+use Rattle.cert_desk_rules.specs.DeskBundle.Chains.{joined}
 use Rattle.cert_desk_checking.proofs.PlaceLaws.{entry_at}
 use Rattle.cert_desk_checking.specs.QuestionLines.{lines_at, lines_octets}
 use Rattle.cert_desk_checking.proofs.QuestionLaws.{lines_at-first}

@@ -1,8 +1,8 @@
 use Rattle.std.proofs.Common.{◌≡◌, suc, ◌+◌, ◌++◌, map, arith, ap, sym, ◌∙◌}
 use Rattle.std.proofs.lemmas.List.Concat.{flat_map-append}
-use Rattle.const_oid.specs.Bound.{Bound}
+use Rattle.x509_cert_anchors.specs.Oid.Bound.{Bound}
 use Rattle.cert_desk_checking.specs.Anchors.{anchor_plain}
-use Rattle.cert_desk_bundle.specs.Chains.{joined}
+use Rattle.cert_desk_rules.specs.DeskBundle.Chains.{joined}
 use Rattle.cert_desk_checking.specs.QuestionLines.{line_octets, lines_at, lines_below, lines_octets}
 use Rattle.cert_desk_checking.proofs.question_lines.chain_lines.Goals as goal
 

@@ -1,8 +1,8 @@
 -- the lines of the places so far
 use Rattle.std.proofs.Common.{◌≡◌, string_bytes, map}
 use Rattle.cert_desk_checking.specs.Anchors.{anchor_plain}
-use Rattle.const_oid.specs.Bound.{Bound}
-use Rattle.cert_desk_bundle.specs.Chains.{joined}
+use Rattle.x509_cert_anchors.specs.Oid.Bound.{Bound}
+use Rattle.cert_desk_rules.specs.DeskBundle.Chains.{joined}
 use Rattle.cert_desk_checking.specs.QuestionLines.{lines_below, lines_octets}
 use Rattle.cert_desk_checking.proofs.question_lines.chain_lines.Given as goal
 

@@ -1,6 +1,6 @@
 -- The path limit is counted up to here.
 use Rattle.std.proofs.Common.{◌≡◌, ◌≤◌, ◌+◌, ◌-◌}
-use Rattle.const_oid.specs.Bound.{Bound}
+use Rattle.x509_cert_anchors.specs.Oid.Bound.{Bound}
 use Rattle.cert_desk_rules.specs.Paths.{used_up}
 use Rattle.cert_desk_checking.proofs.reasons.counted_behind.Given as goal
 

@@ -1,8 +1,8 @@
 use Rattle.std.proofs.Common.{◌≡◌, ℕ, Bool, ◌+◌, ◌-◌, suc, true, false, cond, not, ◌&&◌, ◌||◌, sym, ap, ◌∙◌, arith}
-use Rattle.const_oid.specs.Bound.{Bound}
+use Rattle.x509_cert_anchors.specs.Oid.Bound.{Bound}
 use Rattle.cert_desk_rules.specs.Paths.{counts, keep_lengths, keeps_length}
 use Rattle.cert_desk_rules.specs.Reasons.{SomeMayTakeMemory}
-use Rattle.cert_desk_io.proofs.Given.{OnErr-by}
+use Rattle.cert_desk_rules.proofs.DeskIo.Given.{OnErr-by}
 use Rattle.cert_desk_checking.proofs.ReasonLaws.{used_up_less, lengths-broken}
 use Rattle.cert_desk_checking.proofs.reasons.exceeded_length.Goals as goal
 use Rattle.cert_desk_checking.proofs.reasons.exceeded_length.Goals.{then-counts, else-counts}

@@ -1,6 +1,6 @@
 -- The path lengths of the places so far are kept, and so many places count from here on.
 use Rattle.std.proofs.Common.{◌≡◌, ◌+◌, ◌-◌, true}
-use Rattle.const_oid.specs.Bound.{Bound}
+use Rattle.x509_cert_anchors.specs.Oid.Bound.{Bound}
 use Rattle.cert_desk_rules.specs.Paths.{used_up, keep_lengths}
 use Rattle.cert_desk_checking.proofs.reasons.exceeded_length.Given as goal
 

@@ -1,12 +1,12 @@
 use Rattle.std.proofs.Common.{ap, refl, sym, ◌∙◌, arith}
-use Rattle.const_oid.specs.Bound.{Bound}
-use Rattle.x509_cert_parts.specs.Views.{extension_plain, extensions_plain}
+use Rattle.x509_cert_anchors.specs.Oid.Bound.{Bound}
+use Rattle.x509_cert_anchors.specs.CertParts.Views.{extension_plain, extensions_plain}
 use Rattle.cert_desk_rules.specs.Findings.{found}
 use Rattle.cert_desk_rules.specs.Reasons.{goes_against, is_against, is_at}
 use Rattle.cert_desk_rules.specs.Weighing.{may_take_memory}
 use Rattle.cert_desk_rules.proofs.ExtensionLaws.{none-more}
 use Rattle.cert_desk_rules.proofs.MemoryLaws.{alone_takes, one_takes}
-use Rattle.cert_desk_io.proofs.Given.{OnErr-by}
+use Rattle.cert_desk_rules.proofs.DeskIo.Given.{OnErr-by}
 use Rattle.cert_desk_checking.proofs.ReasonLaws.{against_alone, any-at, any-more, at-plain}
 use Rattle.cert_desk_checking.proofs.reasons.extension_against.Goals as goal
 

@@ -1,8 +1,8 @@
 -- No extension so far breaks the rule: the answer is that of those that are left.
 use Rattle.std.proofs.Common.{◌≡◌, ◌<◌, ℕ, drop, false}
 use Rattle.std.specs.List.{list_any}
-use Rattle.const_oid.specs.Bound.{Bound}
-use Rattle.x509_cert_parts.specs.Views.{extensions_plain}
+use Rattle.x509_cert_anchors.specs.Oid.Bound.{Bound}
+use Rattle.x509_cert_anchors.specs.CertParts.Views.{extensions_plain}
 use Rattle.cert_desk_rules.specs.Reasons.{is_against, is_at}
 use Rattle.cert_desk_checking.proofs.reasons.extension_against.Given as goal
 

@@ -1,10 +1,10 @@
 use Rattle.std.proofs.Common.{ap, sym, ◌∙◌}
-use Rattle.const_oid.specs.Bound.{Bound}
-use Rattle.x509_cert_certificates.specs.Views.{certificate_plain}
-use Rattle.x509_cert_parts.specs.Views.{extensions_plain}
+use Rattle.x509_cert_anchors.specs.Oid.Bound.{Bound}
+use Rattle.x509_cert_anchors.specs.CertCertificates.Views.{certificate_plain}
+use Rattle.x509_cert_anchors.specs.CertParts.Views.{extensions_plain}
 use Rattle.cert_desk_rules.specs.Paths.{is_within}
 use Rattle.cert_desk_rules.proofs.MemoryLaws.{takes_at}
-use Rattle.cert_desk_io.proofs.Given.{OnErr-by}
+use Rattle.cert_desk_rules.proofs.DeskIo.Given.{OnErr-by}
 use Rattle.cert_desk_checking.proofs.PlaceLaws.{entry_at}
 use Rattle.cert_desk_checking.proofs.ReasonLaws.{length-found}
 use Rattle.cert_desk_checking.proofs.reasons.keeps_length.Goals as goal

@@ -1,8 +1,8 @@
 use Rattle.std.proofs.Common.{◌||◌, ap, not, inl, inr, refl, sym, ◌∙◌}
 use Rattle.std.specs.List.{list_any}
 use Rattle.std.proofs.lemmas.Bool.{or_left}
-use Rattle.const_oid.specs.Bound.{Bound}
-use Rattle.x509_cert_parts.specs.Views.{extensions_plain}
+use Rattle.x509_cert_anchors.specs.Oid.Bound.{Bound}
+use Rattle.x509_cert_anchors.specs.CertParts.Views.{extensions_plain}
 use Rattle.cert_desk_rules.specs.declared.rule.Rule.TheVariants as rules
 use Rattle.cert_desk_rules.specs.Reasons.{is_against}
 use Rattle.cert_desk_rules.proofs.ExtensionLaws.{some-by}

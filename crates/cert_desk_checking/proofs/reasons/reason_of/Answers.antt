@@ -1,9 +1,9 @@
 use Rattle.std.proofs.Common.{ℕ, List, not, ◌&&◌, ◌||◌, ap, sym, ◌∙◌}
 use Rattle.std.specs.List.{list_any}
-use Rattle.const_oid.specs.Bound.{Bound}
-use Rattle.x509_cert_parts.specs.Grammar.{PlainExtension}
-use Rattle.x509_cert_parts.specs.Views.{extensions_plain}
-use Rattle.x509_cert_certificates.specs.Views.{certificate_plain}
+use Rattle.x509_cert_anchors.specs.Oid.Bound.{Bound}
+use Rattle.x509_cert_anchors.specs.CertParts.Grammar.{PlainExtension}
+use Rattle.x509_cert_anchors.specs.CertParts.Views.{extensions_plain}
+use Rattle.x509_cert_anchors.specs.CertCertificates.Views.{certificate_plain}
 use Rattle.cert_desk_rules.specs.declared.rule.Rule.{Rule}
 use Rattle.cert_desk_rules.specs.declared.rule.Rule.TheVariants as rules
 use Rattle.cert_desk_rules.specs.Judging.{keeps_at}

@@ -1,5 +1,5 @@
 use Rattle.std.proofs.Common.{◌≡◌, ◌<◌, ◌∙◌, length, false, not, sym, ap, arith}
-use Rattle.x509_cert_parts.specs.Views.{extension_plain, extensions_plain}
+use Rattle.x509_cert_anchors.specs.CertParts.Views.{extension_plain, extensions_plain}
 use Rattle.cert_desk_rules.specs.Reasons.{have_one_identifier, is_at}
 use Rattle.cert_desk_rules.proofs.ExtensionLaws.{none-more}
 use Rattle.cert_desk_checking.proofs.ReasonLaws.{any-more, at-plain}

@@ -1,6 +1,6 @@
 -- No extension so far has the identifier: the answer is that of those that are left.
 use Rattle.std.proofs.Common.{◌≡◌, ◌<◌, ℕ, drop, false}
-use Rattle.x509_cert_parts.specs.Views.{extension_plain, extensions_plain}
+use Rattle.x509_cert_anchors.specs.CertParts.Views.{extension_plain, extensions_plain}
 use Rattle.cert_desk_rules.specs.Judging.{is_alone}
 use Rattle.cert_desk_rules.specs.Reasons.{have_one_identifier, is_at}
 use Rattle.cert_desk_checking.proofs.reasons.twin_of.Given as goal

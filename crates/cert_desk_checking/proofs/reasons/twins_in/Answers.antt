@@ -1,7 +1,7 @@
 use Rattle.std.proofs.Common.{◌≡◌, ◌<◌, ◌+◌, ◌-◌, ◌∙◌, ℕ, IfSome, true, false, not, length, drop, take, refl, subst, sym, ap}
 use Rattle.std.proofs.lemmas.List.{take_rest}
 use Rattle.std.specs.Option.{is_some}
-use Rattle.x509_cert_parts.specs.Views.{extension_plain, extensions_plain}
+use Rattle.x509_cert_anchors.specs.CertParts.Views.{extension_plain, extensions_plain}
 use Rattle.cert_desk_rules.specs.Judging.{are_distinct, has_twin}
 use Rattle.cert_desk_rules.specs.Reasons.{IsFirstAt, have_one_identifier}
 use Rattle.cert_desk_rules.proofs.ExtensionLaws.{twin_at}

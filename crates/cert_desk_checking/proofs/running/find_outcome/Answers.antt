@@ -1,7 +1,7 @@
 use Rattle.std.proofs.Common.{◌≡◌, Err, inr, map, refl, sym, ◌∙◌, subst}
-use Rattle.cert_desk_io.specs.Devices.{source}
+use Rattle.cert_desk_rules.specs.DeskIo.Devices.{source}
 use Rattle.cert_desk_rules.specs.declared.checked.CheckError.TheVariants as errors
-use Rattle.cert_desk_bundle.specs.declared.standing.Standing.TheVariants as standings
+use Rattle.cert_desk_rules.specs.DeskBundle.declared.standing.Standing.TheVariants as standings
 use Rattle.cert_desk_checking.specs.Anchors.{anchor_plain, purpose_plain}
 use Rattle.cert_desk_checking.specs.Reading.{ReadFailed}
 use Rattle.cert_desk_checking.specs.Runs.{HasAnchors, IsReadFor, IsReadInVain, judging, run_terms}

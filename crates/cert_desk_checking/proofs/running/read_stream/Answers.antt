@@ -1,4 +1,4 @@
-use Rattle.cert_desk_io.specs.Devices.{source}
+use Rattle.cert_desk_rules.specs.DeskIo.Devices.{source}
 use Rattle.cert_desk_checking.proofs.RunLaws.{fed_by}
 use Rattle.cert_desk_checking.proofs.running.read_stream.Goals as goal
 

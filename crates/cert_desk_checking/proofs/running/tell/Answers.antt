@@ -1,7 +1,7 @@
 use Rattle.std.proofs.Common.{refl, inl, sym, ◌∙◌, subst}
-use Rattle.cert_desk_io.specs.declared.exit_status.ExitStatus.TheVariants as statuses
-use Rattle.cert_desk_io.specs.Devices.{sink}
-use Rattle.cert_desk_io.specs.Telling.{IsComplaint}
+use Rattle.cert_desk_rules.specs.DeskIo.declared.exit_status.ExitStatus.TheVariants as statuses
+use Rattle.cert_desk_rules.specs.DeskIo.Devices.{sink}
+use Rattle.cert_desk_rules.specs.DeskIo.Telling.{IsComplaint}
 use Rattle.cert_desk_checking.specs.Runs.{IsTold}
 use Rattle.cert_desk_checking.proofs.running.tell.Goals as goal
 

@@ -1,5 +1,5 @@
 use Rattle.std.proofs.Common.{inl, inr, sym, ◌∙◌}
-use Rattle.x509_cert_parts.specs.Views.{algorithm_plain}
+use Rattle.cert_desk_orders.specs.CertParts.Views.{algorithm_plain}
 use Rattle.cert_desk_issuing_c.proofs.Audits.{audited, faulty_argument, unaudited}
 use Rattle.cert_desk_issuing_c.proofs.auditing.audit_of.Goals as goal
 

@@ -1,4 +1,4 @@
-use Rattle.x509_cert_parts.specs.Views.{algorithm_plain}
+use Rattle.cert_desk_orders.specs.CertParts.Views.{algorithm_plain}
 use Rattle.cert_desk_issuing_c.proofs.Audits.{is_judged}
 use Rattle.cert_desk_issuing_c.proofs.auditing.verdict_of.Goals as goal
 

@@ -1,6 +1,6 @@
 use Rattle.std.proofs.Common.{inl, refl, ◌∙◌, arith}
 use Rattle.x509_cert_builders.specs.States.{as_written}
-use Rattle.x509_cert_certificates.specs.Views.{certificate_plain}
+use Rattle.x509_cert_builders.specs.CertCertificates.Views.{certificate_plain}
 use Rattle.cert_desk_issuing_c.proofs.GivenChains.{at_place, beyond, whole_octets}
 use Rattle.cert_desk_issuing_c.proofs.issuing.certificate_at.Goals as goal
 

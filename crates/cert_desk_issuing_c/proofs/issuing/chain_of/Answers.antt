@@ -1,7 +1,7 @@
 use Rattle.std.proofs.Common.{◌≡◌, List, inl, inr, subst}
 use Rattle.std.proofs.lemmas.Result.{err_from_is_err_and}
-use Rattle.der_core_head.specs.BitStrings.{Bits}
-use Rattle.x509_cert_parts.specs.Views.{algorithm_plain}
+use Rattle.cert_desk_orders.specs.Der.BitStrings.{Bits}
+use Rattle.cert_desk_orders.specs.CertParts.Views.{algorithm_plain}
 use Rattle.cert_desk_orders.specs.declared.order.Order.{Order}
 use Rattle.cert_desk_issuing_c.specs.Signing.{HoldEach}
 use Rattle.cert_desk_issuing_c.proofs.GivenChains.{fault_by, refused_by}

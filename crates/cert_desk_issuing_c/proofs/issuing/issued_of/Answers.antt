@@ -1,5 +1,5 @@
 use Rattle.std.proofs.Common.{map, inr, ap, ◌∙◌}
-use Rattle.x509_cert_parts.specs.Views.{algorithm_plain}
+use Rattle.cert_desk_orders.specs.CertParts.Views.{algorithm_plain}
 use Rattle.cert_desk_issuing_c.specs.Signing.{signer_plain}
 use Rattle.cert_desk_issuing_c.proofs.GivenChains.{hold_each}
 use Rattle.cert_desk_issuing_c.proofs.issuing.issued_of.Goals as goal

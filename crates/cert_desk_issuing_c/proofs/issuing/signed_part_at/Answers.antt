@@ -1,10 +1,10 @@
 use Rattle.std.proofs.Common.{[], true, Some, inl, refl, ap, ◌∙◌, arith}
-use Rattle.const_oid.specs.Bound.{Bound}
-use Rattle.der_core_head.specs.Shapes.{octets_of}
+use Rattle.cert_desk_orders.specs.Oid.Bound.{Bound}
+use Rattle.cert_desk_orders.specs.Der.Shapes.{octets_of}
 use Rattle.x509_cert_builders.specs.States.{as_written}
 use Rattle.x509_cert_builders.proofs.Encodable.{raw_octets}
-use Rattle.x509_cert_certificates.specs.Certificates.{Tbs, tbs, tbs_by, tbs_certificate}
-use Rattle.x509_cert_certificates.specs.Views.{certificate_plain}
+use Rattle.x509_cert_builders.specs.CertCertificates.Certificates.{Tbs, tbs, tbs_by, tbs_certificate}
+use Rattle.x509_cert_builders.specs.CertCertificates.Views.{certificate_plain}
 use Rattle.cert_desk_issuing_c.proofs.GivenChains.{at_place, beyond}
 use Rattle.cert_desk_issuing_c.proofs.issuing.signed_part_at.Goals as goal
 

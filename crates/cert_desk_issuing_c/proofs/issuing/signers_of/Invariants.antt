@@ -1,6 +1,6 @@
 -- The signers so far are those of as many orders.
 use Rattle.std.proofs.Common.{◌≡◌, map, take}
-use Rattle.x509_cert_parts.specs.Views.{algorithm_plain}
+use Rattle.cert_desk_orders.specs.CertParts.Views.{algorithm_plain}
 use Rattle.cert_desk_issuing_c.specs.Signing.{signer_for, signer_plain}
 use Rattle.cert_desk_issuing_c.proofs.issuing.signers_of.Given as goal
 

@@ -1,7 +1,7 @@
 use Rattle.std.proofs.Common.{[], ap, sym, ◌∙◌, append-nil, string_bytes}
 use Rattle.x509_cert_certificates.specs.Certificates.{tbs_issuer, tbs_subject, tbs_validity}
-use Rattle.x509_cert_names.specs.Views.{name_plain}
-use Rattle.x509_cert_parts.specs.Views.{extensions_plain, time_value}
+use Rattle.x509_cert_lists.specs.CertNames.Views.{name_plain}
+use Rattle.x509_cert_lists.specs.CertParts.Views.{extensions_plain, time_value}
 use Rattle.x509_cert_certificates.specs.Views.{certificate_plain}
 use Rattle.cert_desk_listing.specs.Parts.{members_in_field}
 use Rattle.cert_desk_listing.proofs.Gathered.{certificate_gathered}

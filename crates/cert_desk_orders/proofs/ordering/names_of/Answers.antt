@@ -1,5 +1,5 @@
 use Rattle.std.proofs.Common.{codes, map, string_bytes, ap, sym, ◌∙◌}
-use Rattle.der_core_head.specs.Grammar.{plain_option}
+use Rattle.x509_cert_parts.specs.Der.Grammar.{plain_option}
 use Rattle.cert_desk_orders.proofs.NamesOfLines.{map-pushed, values_of-more, values_of-other}
 use Rattle.cert_desk_orders.proofs.ordering.names_of.Goals as goal
 use Rattle.cert_desk_orders.proofs.ordering.names_of.Goals.{in-Some+in_ok-from_str+in_ok-push, in_default}

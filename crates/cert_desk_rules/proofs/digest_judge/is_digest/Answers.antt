@@ -1,10 +1,10 @@
 use Rattle.std.proofs.Common.{◌≡◌, Option, None, IsTrue, ◌↔◌, sym, ap, ◌∙◌}
 use Rattle.std.proofs.lemmas.Slice.Eq.{bytes_eq-Decides}
-use Rattle.const_oid.specs.IdentifierOctets.{identifier_octets}
-use Rattle.der_core_head.specs.Grammar.{plain_option}
-use Rattle.der_core_head.specs.Shapes.{AnyValue}
-use Rattle.x509_cert_parts.specs.Grammar.{algorithm_parameters}
-use Rattle.x509_cert_parts.specs.Views.{algorithm_plain}
+use Rattle.cert_desk_bundle.specs.Oid.IdentifierOctets.{identifier_octets}
+use Rattle.cert_desk_bundle.specs.Der.Grammar.{plain_option}
+use Rattle.cert_desk_bundle.specs.Der.Shapes.{AnyValue}
+use Rattle.cert_desk_bundle.specs.CertParts.Grammar.{algorithm_parameters}
+use Rattle.cert_desk_bundle.specs.CertParts.Views.{algorithm_plain}
 use Rattle.cert_desk_rules.specs.Digests.{digest_arcs}
 use Rattle.cert_desk_rules.proofs.DigestLaws.{digest_by, no_parameters}
 use Rattle.cert_desk_rules.proofs.DigestOctets.{digest_octets, is_identifier, digest_octets-is, same_arcs}

@@ -1,5 +1,5 @@
 use Rattle.std.proofs.Common.{◌≡◌, ◌<◌, ◌+◌, ◌∙◌, length, true, false, not, refl, sym, ap, arith}
-use Rattle.x509_cert_parts.specs.Views.{extension_plain, extensions_plain}
+use Rattle.cert_desk_bundle.specs.CertParts.Views.{extension_plain, extensions_plain}
 use Rattle.cert_desk_rules.specs.Judging.{has_twin}
 use Rattle.cert_desk_rules.proofs.ExtensionLaws.{distinct_here, none-more, twin_at, twin_is}
 use Rattle.cert_desk_rules.proofs.Folds.{not_twice}

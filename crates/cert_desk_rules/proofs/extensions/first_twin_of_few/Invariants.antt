@@ -1,6 +1,6 @@
 -- The extensions so far stand alone: the answer is that of those that are left.
 use Rattle.std.proofs.Common.{◌≡◌, ◌<◌, ℕ, drop, false}
-use Rattle.x509_cert_parts.specs.Views.{extensions_plain}
+use Rattle.cert_desk_bundle.specs.CertParts.Views.{extensions_plain}
 use Rattle.cert_desk_rules.specs.Judging.{are_distinct, has_twin}
 use Rattle.cert_desk_rules.proofs.extensions.first_twin_of_few.Given as goal
 

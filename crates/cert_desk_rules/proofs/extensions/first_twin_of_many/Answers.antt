@@ -1,5 +1,5 @@
 use Rattle.std.proofs.Common.{◌≡◌, ◌+◌, ◌-◌, ◌<◌, not, true, false, length, arith, sym, ap, ◌∙◌}
-use Rattle.x509_cert_parts.specs.Views.{extension_plain, extensions_plain}
+use Rattle.cert_desk_bundle.specs.CertParts.Views.{extension_plain, extensions_plain}
 use Rattle.cert_desk_rules.proofs.ExtensionLaws.{distinct_here, firsts-more, set_here, some-by, twin_is}
 use Rattle.cert_desk_rules.proofs.extensions.first_twin_of_many.Goals as goal
 

@@ -3,10 +3,10 @@ use Rattle.std.proofs.Common.{◌≡◌, ◌<◌, ◌≤◌, ℕ, List, length, 
 use Rattle.std.specs.BTreeSet.{contains}
 use Rattle.std.specs.List.{list_any}
 use Rattle.std.specs.Option.{is_some}
-use Rattle.const_oid.specs.Comparing.{owned_eq}
-use Rattle.const_oid.specs.Orders.{owned_cmp}
-use Rattle.x509_cert_parts.specs.Grammar.{extension_arcs}
-use Rattle.x509_cert_parts.specs.Views.{extensions_plain}
+use Rattle.cert_desk_bundle.specs.Oid.Comparing.{owned_eq}
+use Rattle.cert_desk_bundle.specs.Oid.Orders.{owned_cmp}
+use Rattle.cert_desk_bundle.specs.CertParts.Grammar.{extension_arcs}
+use Rattle.cert_desk_bundle.specs.CertParts.Views.{extensions_plain}
 use Rattle.cert_desk_rules.specs.Judging.{are_distinct, has_twin}
 use Rattle.cert_desk_rules.proofs.extensions.first_twin_of_many.Given as goal
 

@@ -2,9 +2,9 @@ use Rattle.std.proofs.Common.{rules, tests, ap, ◌∙◌}
 use Rattle.std.specs.Prelude.{Bool, not}
 use Rattle.std.proofs.lemmas.Iterator.{YieldsList-from_slice}
 use Rattle.std.proofs.lemmas.Iterator.Search.{any_from_yields_List}
-use Rattle.const_oid.specs.Comparing.{owned_eq}
-use Rattle.x509_cert_parts.specs.Grammar.{extension_arcs}
-use Rattle.x509_cert_parts.specs.Views.{extension_plain}
+use Rattle.cert_desk_bundle.specs.Oid.Comparing.{owned_eq}
+use Rattle.cert_desk_bundle.specs.CertParts.Grammar.{extension_arcs}
+use Rattle.cert_desk_bundle.specs.CertParts.Views.{extension_plain}
 use Rattle.cert_desk_rules.proofs.ExtensionLaws.{any_of_list}
 use Rattle.cert_desk_rules.proofs.extensions.is_alone.Goals as goal
 

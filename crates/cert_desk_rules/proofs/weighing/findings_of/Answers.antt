@@ -1,7 +1,7 @@
 use Rattle.std.proofs.Common.{arith}
-use Rattle.x509_cert_parts.specs.Views.{extension_plain}
+use Rattle.cert_desk_bundle.specs.CertParts.Views.{extension_plain}
 use Rattle.cert_desk_rules.proofs.MemoryLaws.{one_takes}
-use Rattle.cert_desk_io.proofs.Given.{OnErr-by}
+use Rattle.cert_desk_bundle.proofs.DeskIo.Given.{OnErr-by}
 use Rattle.cert_desk_rules.proofs.weighing.findings_of.Goals as goal
 
 pub returns-in_err-weight-clause-memory : goal.returns-in_err-weight-clause-memory

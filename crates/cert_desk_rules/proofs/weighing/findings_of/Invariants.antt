@@ -1,8 +1,8 @@
 -- What was found so far, with the extensions that are left, is what is found in all of them.
 use Rattle.std.proofs.Common.{◌≡◌, drop}
 use Rattle.std.specs.List.{fold}
-use Rattle.const_oid.specs.Bound.{Bound}
-use Rattle.x509_cert_parts.specs.Views.{extensions_plain}
+use Rattle.cert_desk_bundle.specs.Oid.Bound.{Bound}
+use Rattle.cert_desk_bundle.specs.CertParts.Views.{extensions_plain}
 use Rattle.cert_desk_rules.specs.Findings.{add_extension, found}
 use Rattle.cert_desk_rules.proofs.weighing.findings_of.Given as goal
 

@@ -1,6 +1,6 @@
 use Rattle.std.proofs.Common.{◌≡◌, List, ℕ, sym, ap, ◌∙◌}
 use Rattle.std.specs.Prelude.{bytes_eq}
-use Rattle.const_oid.specs.IdentifierOctets.{identifier_octets}
+use Rattle.cert_desk_bundle.specs.Oid.IdentifierOctets.{identifier_octets}
 use Rattle.cert_desk_rules.specs.Weighing.{any_purpose}
 use Rattle.cert_desk_rules.proofs.ExtensionLaws.{any_octets}
 use Rattle.cert_desk_rules.proofs.weighing.is_any.Goals as goal

@@ -1,7 +1,7 @@
 use Rattle.std.proofs.Common.{rules, tests, ◌||◌}
 use Rattle.std.proofs.lemmas.Iterator.{YieldsList-from_slice}
 use Rattle.std.proofs.lemmas.Iterator.Search.{any_from_yields_List}
-use Rattle.const_oid.specs.Comparing.{owned_eq}
+use Rattle.cert_desk_bundle.specs.Oid.Comparing.{owned_eq}
 use Rattle.cert_desk_rules.specs.Weighing.{any_purpose}
 use Rattle.cert_desk_rules.proofs.weighing.is_listed.Goals as goal
 

@@ -1,6 +1,6 @@
 -- Read or refused, the octets say what their encoding says.
 use Rattle.std.proofs.Common.{sym, ap, refl, arith}
-use Rattle.const_oid.specs.Bound.{Bound}
+use Rattle.cert_desk_bundle.specs.Oid.Bound.{Bound}
 use Rattle.cert_desk_rules.specs.Findings.{weight_of}
 use Rattle.cert_desk_rules.specs.Weighing.{other_names, subject_alt_name, subject_alt_name_in}
 use Rattle.cert_desk_rules.proofs.ExtensionLaws.{malformed_as}

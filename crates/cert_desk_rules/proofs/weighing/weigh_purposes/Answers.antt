@@ -1,7 +1,7 @@
 -- Read or refused, the octets say what their encoding says.
 use Rattle.std.proofs.Common.{◌≡◌, ℕ, List, ◌||◌, Result, Ok, Err, IfOk, sym, ap, refl, ◌∙◌, arith}
-use Rattle.const_oid.specs.Bound.{Bound}
-use Rattle.const_oid.specs.Comparing.{owned_eq}
+use Rattle.cert_desk_bundle.specs.Oid.Bound.{Bound}
+use Rattle.cert_desk_bundle.specs.Oid.Comparing.{owned_eq}
 use Rattle.cert_desk_rules.specs.declared.weight.Weight.{Weight}
 use Rattle.cert_desk_rules.specs.declared.weight.Weight.TheVariants as weights
 use Rattle.cert_desk_rules.specs.Findings.{weight_of}

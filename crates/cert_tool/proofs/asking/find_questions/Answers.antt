@@ -1,6 +1,6 @@
 use Rattle.std.proofs.Common.{map, inl, inr, sym, ◌∙◌, refl}
 use Rattle.std.proofs.lemmas.Result.{err_from_is_err_and}
-use Rattle.cert_desk_checking.specs.Anchors.{anchor_plain}
+use Rattle.cert_tool_explain.specs.DeskChecking.Anchors.{anchor_plain}
 use Rattle.cert_tool.proofs.asking.find_questions.Goals as goal
 
 pub returns-in_err-anchors-clause-stopped : goal.returns-in_err-anchors-clause-stopped

@@ -1,7 +1,7 @@
 use Rattle.std.proofs.Common.{Ok, Err, string_bytes, refl, subst}
-use Rattle.cert_desk_io.specs.declared.exit_status.ExitStatus.TheVariants as statuses
-use Rattle.cert_desk_io.specs.Devices.{sink}
-use Rattle.cert_desk_io.specs.Telling.{IsAnswer}
+use Rattle.cert_tool_explain.specs.DeskIo.declared.exit_status.ExitStatus.TheVariants as statuses
+use Rattle.cert_tool_explain.specs.DeskIo.Devices.{sink}
+use Rattle.cert_tool_explain.specs.DeskIo.Telling.{IsAnswer}
 use Rattle.cert_tool.proofs.asking.run_questions.Goals as goal
 
 pub returns-in-Ok : goal.returns-in-Ok

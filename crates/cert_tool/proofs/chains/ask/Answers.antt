@@ -1,6 +1,6 @@
 -- The anchors were opened, and the stream isn't.
 use Rattle.std.proofs.Common.{inl, inr, refl, subst}
-use Rattle.cert_desk_io.specs.Devices.{sink}
+use Rattle.cert_tool_explain.specs.DeskIo.Devices.{sink}
 use Rattle.cert_tool.specs.Stops.{IsReasonTold}
 use Rattle.cert_tool.proofs.chains.ask.Goals as goal
 

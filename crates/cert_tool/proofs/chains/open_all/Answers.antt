@@ -1,7 +1,7 @@
 -- Where an input isn't opened those before it were, and nothing was told of them.
 use Rattle.std.proofs.Common.{inl, inr, subst, ◌∙◌}
 use Rattle.std.proofs.lemmas.Result.{err_from_is_err_and}
-use Rattle.cert_desk_io.specs.Devices.{sink}
+use Rattle.cert_tool_explain.specs.DeskIo.Devices.{sink}
 use Rattle.cert_tool.specs.Stops.{IsReasonTold}
 use Rattle.cert_tool.proofs.chains.open_all.Goals as goal
 

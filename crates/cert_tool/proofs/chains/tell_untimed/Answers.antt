@@ -1,4 +1,4 @@
-use Rattle.cert_desk_io.specs.Devices.{sink}
+use Rattle.cert_tool_explain.specs.DeskIo.Devices.{sink}
 use Rattle.cert_tool.specs.TaskRuns.{clock_line}
 use Rattle.cert_tool.proofs.ToldLaws.{tried}
 use Rattle.cert_tool.proofs.chains.tell_untimed.Goals as goal

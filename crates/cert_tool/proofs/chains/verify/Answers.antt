@@ -1,5 +1,5 @@
 use Rattle.std.proofs.Common.{inl, inr, refl, subst}
-use Rattle.cert_desk_io.specs.Devices.{sink, source}
+use Rattle.cert_tool_explain.specs.DeskIo.Devices.{sink, source}
 use Rattle.cert_tool.specs.TaskRuns.{IsJudged}
 use Rattle.cert_tool.proofs.chains.verify.Goals as goal
 

@@ -1,6 +1,6 @@
 -- What a piece brings follows what was read and written before it.
 use Rattle.std.proofs.Common.{[], arith, ap, Ok, refl, subst, ◌∙◌}
-use Rattle.cert_desk_io.specs.Devices.{sink, source}
+use Rattle.cert_tool_explain.specs.DeskIo.Devices.{sink, source}
 use Rattle.cert_tool.specs.Passing.{HasTaken}
 use Rattle.cert_tool.proofs.PassedLaws.{at_end, begun, moved_on, no_memory, on, read_failed, refused, unwritten}
 use Rattle.cert_tool.proofs.each_certificate.write_each.Goals as goal

@@ -1,5 +1,5 @@
 -- The stream was read, and what is said of its certificates written, and no call failed.
-use Rattle.cert_desk_io.specs.Devices.{sink, source}
+use Rattle.cert_tool_explain.specs.DeskIo.Devices.{sink, source}
 use Rattle.cert_tool.specs.Passing.{HasMoved}
 use Rattle.cert_tool.proofs.PassedLaws.{SoFar}
 use Rattle.cert_tool.proofs.each_certificate.write_each.Given as goal

@@ -1,6 +1,6 @@
 -- The answers are read, and the chain is explained by them.
 use Rattle.std.proofs.Common.{inl, map}
-use Rattle.cert_desk_rules.specs.Answers.{answer_plain}
+use Rattle.cert_tool_explain.specs.DeskRules.Answers.{answer_plain}
 use Rattle.cert_tool.proofs.explaining.explain_chain.Goals as goal
 
 pub returns-in-Ok : goal.returns-in-Ok

@@ -1,6 +1,6 @@
 use Rattle.std.proofs.Common.{ap, sym}
-use Rattle.cert_desk_io.specs.Devices.{sink}
-use Rattle.cert_desk_io.specs.NamedInputs.{unopened_status}
+use Rattle.cert_tool_explain.specs.DeskIo.Devices.{sink}
+use Rattle.cert_tool_explain.specs.DeskIo.NamedInputs.{unopened_status}
 use Rattle.cert_tool.proofs.ToldLaws.{memory_reason}
 use Rattle.cert_tool.proofs.files.open.Goals as goal
 

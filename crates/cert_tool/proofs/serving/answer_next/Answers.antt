@@ -2,8 +2,8 @@
 use Rattle.std.proofs.Common.{ℕ, inr, refl, subst}
 use Rattle.std.specs.Global.{Vec}
 use Rattle.std.specs.Option.{option_map}
-use Rattle.cert_desk_io.specs.Devices.{IsCut, sink, source}
-use Rattle.cert_desk_frames.specs.Frames.{IsNext}
+use Rattle.cert_tool_explain.specs.DeskIo.Devices.{IsCut, sink, source}
+use Rattle.cert_tool_explain.specs.DeskIo.Frames.{IsNext}
 use Rattle.cert_tool.specs.Serving.{IsReply, request_limit}
 use Rattle.cert_tool.proofs.serving.answer_next.Goals as goal
 

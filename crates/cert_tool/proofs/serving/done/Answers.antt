@@ -1,6 +1,6 @@
 -- Octets whose text isn't UTF-8 are no request; of a text that is the lines are obeyed.
 use Rattle.std.proofs.Common.{List, ℕ, Bor, map, inl, inr, refl, ap, ◌∙◌}
-use Rattle.cert_desk_io.specs.Devices.{sink}
+use Rattle.cert_tool_explain.specs.DeskIo.Devices.{sink}
 use Rattle.cert_tool.specs.Serving.{sent_inputs, words_in}
 use Rattle.cert_tool.proofs.ServingLaws.{no_request, obeyed}
 use Rattle.cert_tool.proofs.serving.done.Goals as goal

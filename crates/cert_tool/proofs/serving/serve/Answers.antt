@@ -1,7 +1,7 @@
 -- The next reply goes out behind those so far, or what ends the run is told.
 use Rattle.std.proofs.Common.{[], inl, inr, refl, subst}
-use Rattle.cert_desk_io.specs.Devices.{sink}
-use Rattle.cert_desk_frames.specs.declared.frame_error.FrameError.TheVariants as errors
+use Rattle.cert_tool_explain.specs.DeskIo.Devices.{sink}
+use Rattle.cert_tool_explain.specs.DeskIo.declared.frame_error.FrameError.TheVariants as errors
 use Rattle.cert_tool.specs.Serving.{IsUnservedTold, none}
 use Rattle.cert_tool.proofs.ServingLaws.{ended, one_more}
 use Rattle.cert_tool.proofs.serving.serve.Goals as goal

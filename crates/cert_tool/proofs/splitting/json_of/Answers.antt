@@ -1,5 +1,5 @@
 use Rattle.std.proofs.Common.{◌≡◌, ℕ, suc, ◌+◌, List, ◌++◌, string_bytes, ap, sym, ◌∙◌, add-one, append_assoc}
-use Rattle.x509_cert_certificates.specs.Certificates.{PlainCertificate}
+use Rattle.cert_tool_explain.specs.CertCertificates.Certificates.{PlainCertificate}
 use Rattle.cert_tool.specs.Splitting.{comma_before, json_at, json_places_below}
 use Rattle.cert_tool.proofs.splitting.json_of.Goals as goal
 

@@ -1,5 +1,5 @@
 use Rattle.std.proofs.Common.{sym, ◌∙◌}
-use Rattle.x509_cert_names.proofs.OneName.{name_text_is}
+use Rattle.cert_tool_explain.proofs.CertNames.OneName.{name_text_is}
 use Rattle.cert_tool.proofs.splitting.name_text.Goals as goal
 
 pub returns : goal.returns

@@ -1,5 +1,5 @@
 use Rattle.std.proofs.Common.{rules, ◌∙◌}
-use Rattle.cert_desk_checking.proofs.PlaceLaws.{entry_at}
+use Rattle.cert_tool_explain.proofs.DeskChecking.PlaceLaws.{entry_at}
 use Rattle.cert_tool.proofs.SplitLaws.{reversed_more}
 use Rattle.cert_tool.proofs.splitting.reversed.Goals as goal
 

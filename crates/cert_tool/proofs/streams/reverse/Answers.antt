@@ -1,5 +1,5 @@
 use Rattle.std.proofs.Common.{inl, subst}
-use Rattle.cert_desk_io.specs.Devices.{sink}
+use Rattle.cert_tool_explain.specs.DeskIo.Devices.{sink}
 use Rattle.cert_tool.specs.Splitting.{IsReversed}
 use Rattle.cert_tool.proofs.streams.reverse.Goals as goal
 

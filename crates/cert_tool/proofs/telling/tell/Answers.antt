@@ -1,4 +1,4 @@
-use Rattle.cert_desk_io.specs.Devices.{sink}
+use Rattle.cert_tool_explain.specs.DeskIo.Devices.{sink}
 use Rattle.cert_tool.proofs.ToldLaws.{memory_reason}
 use Rattle.cert_tool.proofs.telling.tell.Goals as goal
 

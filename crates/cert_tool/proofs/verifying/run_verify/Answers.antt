@@ -1,5 +1,5 @@
 use Rattle.std.proofs.Common.{map}
-use Rattle.cert_desk_rules.specs.Answers.{answer_plain}
+use Rattle.cert_tool_explain.specs.DeskRules.Answers.{answer_plain}
 use Rattle.cert_tool.proofs.verifying.run_verify.Goals as goal
 
 pub returns-clause-judged : goal.returns-clause-judged

@@ -1,7 +1,7 @@
 use Rattle.std.proofs.Common.{inl, sym, ◌∙◌, subst}
-use Rattle.cert_desk_io.specs.declared.exit_status.ExitStatus.TheVariants as statuses
-use Rattle.cert_desk_io.specs.Devices.{sink}
-use Rattle.cert_desk_io.specs.Telling.{IsComplaint}
+use Rattle.cert_tool_explain.specs.DeskIo.declared.exit_status.ExitStatus.TheVariants as statuses
+use Rattle.cert_tool_explain.specs.DeskIo.Devices.{sink}
+use Rattle.cert_tool_explain.specs.DeskIo.Telling.{IsComplaint}
 use Rattle.cert_tool.specs.Verifying.{IsNoneTold}
 use Rattle.cert_tool.proofs.verifying.tell_none.Goals as goal
 

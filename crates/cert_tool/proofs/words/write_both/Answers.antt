@@ -1,4 +1,4 @@
-use Rattle.cert_desk_io.specs.Devices.{sink}
+use Rattle.cert_tool_explain.specs.DeskIo.Devices.{sink}
 use Rattle.cert_tool.proofs.ToldLaws.{OnErr-so, second_cut}
 use Rattle.cert_tool.proofs.words.write_both.Goals as goal
 

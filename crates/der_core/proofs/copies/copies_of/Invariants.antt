@@ -1,5 +1,5 @@
 use Rattle.std.proofs.Common.{◌≡◌, take}
-use Rattle.der_core_head.specs.Grammar.{plain_list}
+use Rattle.der_core_coding.specs.CoreHead.Grammar.{plain_list}
 use Rattle.der_core.proofs.copies.copies_of.Given as goal
 
 abbrev pub invariant-loop-member : goal.invariant-loop-member

@@ -1,6 +1,6 @@
 use Rattle.std.proofs.Common.{[], ◌++◌, ap, ◌∙◌, sym}
-use Rattle.der_core_head.specs.Shapes.{octets_of}
-use Rattle.der_core_head.proofs.OneEncoding.{one_value}
+use Rattle.der_core_coding.specs.CoreHead.Shapes.{octets_of}
+use Rattle.der_core_coding.proofs.CoreHead.OneEncoding.{one_value}
 use Rattle.der_core.specs.Orders.{encodings_cmp}
 use Rattle.der_core.proofs.OrderLaws.{octets_cmp-self, octets_cmp-equal}
 use Rattle.der_core.proofs.laws.equal_values_alone.Goals as goal

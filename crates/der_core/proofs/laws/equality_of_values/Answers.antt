@@ -1,5 +1,5 @@
 use Rattle.std.proofs.Common.{List, ℕ, [], ◌++◌, ap}
-use Rattle.der_core_head.proofs.OneEncoding.{one_value}
+use Rattle.der_core_coding.proofs.CoreHead.OneEncoding.{one_value}
 use Rattle.der_core.proofs.laws.equality_of_values.Goals as goal
 
 pub returns : goal.returns

@@ -1,4 +1,4 @@
-use Rattle.der_core_head.specs.Shapes.{octets_of}
+use Rattle.der_core_coding.specs.CoreHead.Shapes.{octets_of}
 use Rattle.der_core.proofs.OrderLaws.{octets_cmp-append}
 use Rattle.der_core.proofs.ShapeOrders.{element_splits}
 use Rattle.der_core.proofs.laws.first_encoding_decides.Goals as goal

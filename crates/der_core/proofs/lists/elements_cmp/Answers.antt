@@ -1,4 +1,4 @@
-use Rattle.der_core_head.specs.Grammar.{plain_list}
+use Rattle.der_core_coding.specs.CoreHead.Grammar.{plain_list}
 use Rattle.der_core.proofs.IterOrders.{slice_lends}
 use Rattle.der_core.proofs.lists.elements_cmp.Goals as goal
 

@@ -1,6 +1,6 @@
 use Rattle.std.proofs.Common.{List}
 use Rattle.std.specs.Iterator.{AlwaysYields}
-use Rattle.der_core_head.specs.Shapes.{Value}
+use Rattle.der_core_coding.specs.CoreHead.Shapes.{Value}
 use Rattle.der_core.proofs.IterOrders.{At}
 use Rattle.der_core.proofs.lists.iter_cmp_owned.Given as goal
 

@@ -1,4 +1,4 @@
-use Rattle.der_core_head.specs.Grammar.{plain_option}
+use Rattle.der_core_coding.specs.CoreHead.Grammar.{plain_option}
 use Rattle.der_core.proofs.IterOrders.{ComparedAlike}
 use Rattle.der_core.proofs.strict_set_of.check_rising.Given as goal
 

@@ -1,4 +1,4 @@
-use Rattle.der_core_head.specs.Shapes.{IsValid}
+use Rattle.der_core_coding.specs.CoreHead.Shapes.{IsValid}
 use Rattle.der_core.specs.Placed.{AllValid, is_below}
 use Rattle.der_core.proofs.IterOrders.{IsPast}
 use Rattle.der_core.proofs.strict_set_of.place_of.Given as goal

@@ -1,6 +1,6 @@
 use Rattle.std.proofs.Common.{◌≡◌, drop}
-use Rattle.der_core_head.specs.Grammar.{plain_list}
-use Rattle.der_core_head.specs.Shapes.{IsValid}
+use Rattle.der_core_coding.specs.CoreHead.Grammar.{plain_list}
+use Rattle.der_core_coding.specs.CoreHead.Shapes.{IsValid}
 use Rattle.der_core.specs.Placed.{AllValid, stands_among}
 use Rattle.der_core.proofs.strict_set_of.stands_among.Given as goal
 

@@ -1,6 +1,6 @@
 use Rattle.std.proofs.Common.{[], ◌∷◌, refl}
 use Rattle.std.proofs.lemmas.Result.{err_from_is_err_and}
-use Rattle.der_core_octets.proofs.Added.{put_then_added, write_adds}
+use Rattle.der_core_values.proofs.CoreOctets.Added.{put_then_added, write_adds}
 use Rattle.der_core_coding.proofs.Fronts.{first_refused, writes_both}
 use Rattle.der_core_coding.proofs.behind.encode_behind.Goals as goal
 

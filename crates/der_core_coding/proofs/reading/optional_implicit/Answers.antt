@@ -1,10 +1,10 @@
 use Rattle.std.proofs.Common.{◌≡◌, refl, Ok, Err, Some, true, sym, ap, subst, ◌∙◌}
 use Rattle.std.proofs.lemmas.Result.{err_from_is_err_and}
-use Rattle.der_core_head.specs.Shapes.{tagged, begins}
-use Rattle.der_core_head.specs.Tags.{same_tag}
-use Rattle.der_core_head.specs.Grammar.{peek_at, opt_at}
-use Rattle.der_core_head.specs.Reading.{State, Reads, read_at}
-use Rattle.der_core_octets.proofs.GoingOn.{opt_stops, broken_kept}
+use Rattle.der_core_values.specs.CoreHead.Shapes.{tagged, begins}
+use Rattle.der_core_values.specs.CoreHead.Tags.{same_tag}
+use Rattle.der_core_values.specs.CoreHead.Grammar.{peek_at, opt_at}
+use Rattle.der_core_values.specs.CoreHead.Reading.{State, Reads, read_at}
+use Rattle.der_core_values.proofs.CoreOctets.GoingOn.{opt_stops, broken_kept}
 use Rattle.der_core_coding.proofs.reading.optional_implicit.Goals as goal
 
 pub returns-in_err-read_implicit : goal.returns-in_err-read_implicit

@@ -1,6 +1,6 @@
 use Rattle.std.proofs.Common.{refl}
 use Rattle.std.proofs.lemmas.Result.{err_from_is_err_and}
-use Rattle.der_core_octets.specs.Headers.{head_of}
+use Rattle.der_core_values.specs.CoreOctets.Headers.{head_of}
 use Rattle.der_core_values.proofs.Headed.{head_refused, head_read}
 use Rattle.der_core_coding.proofs.reading.read_implicit.Goals as goal
 

@@ -1,8 +1,8 @@
 use Rattle.std.proofs.Common.{ap, subst, Ok, Err}
 use Rattle.std.proofs.lemmas.Result.{err_from_is_err_and}
-use Rattle.der_core_head.specs.Shapes.{only}
-use Rattle.der_core_head.specs.Reading.{State, Reads, read_body_at}
-use Rattle.der_core_octets.proofs.GoingOn.{refused, gives, trails, broken_kept}
+use Rattle.der_core_values.specs.CoreHead.Shapes.{only}
+use Rattle.der_core_values.specs.CoreHead.Reading.{State, Reads, read_body_at}
+use Rattle.der_core_values.proofs.CoreOctets.GoingOn.{refused, gives, trails, broken_kept}
 use Rattle.der_core_coding.proofs.reading.read_only.Goals as goal
 
 pub returns-in_err-behind : goal.returns-in_err-behind

@@ -1,11 +1,11 @@
 use Rattle.std.proofs.Common.{Global, subst, Vec, ◌≡◌, ℕ, List, drop, Result, Ok, Err, refl, sym, ap, ◌∙◌}
-use Rattle.der_core_head.specs.Shapes.{rising}
-use Rattle.der_core_head.specs.Grammar.{plain_list}
-use Rattle.der_core_head.specs.Reading.{State, Reads, read_body_at, Source, ruled}
-use Rattle.der_core_head.specs.declared.encoding_rules.EncodingRules.{EncodingRules}
-use Rattle.der_core_head.specs.declared.error.Error.{Error}
-use Rattle.der_core_head.specs.Octets.{Readings}
-use Rattle.der_core_head.specs.declared.encoding_rules.EncodingRules.TheVariants as encodings
+use Rattle.der_core_values.specs.CoreHead.Shapes.{rising}
+use Rattle.der_core_values.specs.CoreHead.Grammar.{plain_list}
+use Rattle.der_core_values.specs.CoreHead.Reading.{State, Reads, read_body_at, Source, ruled}
+use Rattle.der_core_values.specs.CoreHead.declared.encoding_rules.EncodingRules.{EncodingRules}
+use Rattle.der_core_values.specs.CoreHead.declared.error.Error.{Error}
+use Rattle.der_core_values.specs.CoreHead.Octets.{Readings}
+use Rattle.der_core_values.specs.CoreHead.declared.encoding_rules.EncodingRules.TheVariants as encodings
 use Rattle.der_core_coding.proofs.set_of.read_rising.Goals as goal
 
 -- A call between two settings of the rules reads as where these stand again.

@@ -1,8 +1,8 @@
 use Rattle.std.proofs.Common.{◌≤◌, ◌<◌, [], length, sym, ap, ◌∙◌, arith, false, ◌≢◌}
 use Rattle.std.proofs.lemmas.Result.{err_from_is_err_and}
-use Rattle.der_core_head.specs.Shapes.{above}
-use Rattle.der_core_head.specs.Reading.{State}
-use Rattle.der_core_octets.proofs.GoingOn.{kept_then, broken_kept}
+use Rattle.der_core_values.specs.CoreHead.Shapes.{above}
+use Rattle.der_core_values.specs.CoreHead.Reading.{State}
+use Rattle.der_core_values.proofs.CoreOctets.GoingOn.{kept_then, broken_kept}
 use Rattle.der_core_values.proofs.Lists.{reached_refused, none_in_turn, on_in_turn, stops_in_turn, falls_in_turn, done_in_turn, over_in_turn}
 use Rattle.der_core_coding.proofs.set_of.read_rising_by_der.Goals as goal
 use Rattle.der_core_coding.proofs.set_of.read_rising_by_der.Goals.{else-loop-test, then-loop-test+then-is_finished}

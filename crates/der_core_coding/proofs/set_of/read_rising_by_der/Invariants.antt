@@ -1,5 +1,5 @@
-use Rattle.der_core_head.specs.Shapes.{above}
-use Rattle.der_core_octets.specs.Fronts.{octets_at}
+use Rattle.der_core_values.specs.CoreHead.Shapes.{above}
+use Rattle.der_core_values.specs.CoreOctets.Fronts.{octets_at}
 use Rattle.der_core_values.proofs.Lists.{InTurn}
 use Rattle.der_core_coding.proofs.set_of.read_rising_by_der.Given as goal
 

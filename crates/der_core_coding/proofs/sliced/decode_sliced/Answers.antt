@@ -1,6 +1,6 @@
 use Rattle.std.proofs.Common.{◌≡◌, ◌++◌, ◌-◌, List, ℕ, Ok, length, take, drop, ap, sym, ◌∙◌, arith}
-use Rattle.der_core_head.specs.Grammar.{read, read_by}
-use Rattle.der_core_head.specs.Reading.{read_at}
+use Rattle.der_core_values.specs.CoreHead.Grammar.{read, read_by}
+use Rattle.der_core_values.specs.CoreHead.Reading.{read_at}
 use Rattle.der_core_coding.proofs.Fronts.{consumed, passed_over}
 use Rattle.der_core_coding.proofs.sliced.decode_sliced.Goals as goal
 

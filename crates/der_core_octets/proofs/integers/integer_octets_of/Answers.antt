@@ -1,6 +1,6 @@
 use Rattle.std.proofs.Common.{◌≡◌, ◌+◌, ◌-◌, ◌/◌, ◌<◌, ◌++◌, ◌∷◌, List, ℕ, length, drop, ap, ◌∙◌, arith, slice_set}
 use Rattle.std.proofs.lemmas.List.{drop-set, length-set}
-use Rattle.const_oid.specs.Digits.{digits}
+use Rattle.der_core_head.specs.Oid.Digits.{digits}
 use Rattle.der_core_octets.specs.Numbers.{turn, turned}
 use Rattle.der_core_octets.proofs.Magnitudes.{turned_digits-more, place_left, place_some, small_next, integer_low, integer_high}
 use Rattle.der_core_octets.proofs.integers.integer_octets_of.Goals as goal

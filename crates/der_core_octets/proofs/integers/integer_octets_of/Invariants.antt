@@ -1,5 +1,5 @@
 use Rattle.std.proofs.Common.{◌≡◌, ◌+◌, ◌<◌, ◌≤◌, ◌^◌, ◌++◌, length, drop}
-use Rattle.const_oid.specs.Digits.{digits}
+use Rattle.der_core_head.specs.Oid.Digits.{digits}
 use Rattle.der_core_octets.specs.Numbers.{turned}
 use Rattle.der_core_octets.proofs.integers.integer_octets_of.Given as goal
 

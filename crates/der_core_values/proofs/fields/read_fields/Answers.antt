@@ -1,6 +1,6 @@
 use Rattle.std.proofs.Common.{Bool, Ok, Err, ap, subst}
 use Rattle.std.proofs.lemmas.Result.{err_from_is_err_and}
-use Rattle.der_core_head.specs.Reading.{State, Reads, Closes, read_body_at}
+use Rattle.der_core_octets.specs.CoreHead.Reading.{State, Reads, Closes, read_body_at}
 use Rattle.der_core_octets.proofs.GoingOn.{refused, gives, trails, broken_kept}
 use Rattle.der_core_values.proofs.fields.read_fields.Goals as goal
 

@@ -1,5 +1,5 @@
 use Rattle.std.proofs.Common.{arith}
-use Rattle.der_core_head.proofs.Results.{octets_are}
+use Rattle.der_core_octets.proofs.CoreHead.Results.{octets_are}
 use Rattle.der_core_values.proofs.in_range.octets_in_range.Goals as goal
 
 pub returns : goal.returns

@@ -1,6 +1,6 @@
 use Rattle.std.proofs.Common.{subst}
-use Rattle.der_core_head.specs.Texts.{IsUtf8Text}
-use Rattle.der_core_head.proofs.TextLaws.{is_text}
+use Rattle.der_core_octets.specs.CoreHead.Texts.{IsUtf8Text}
+use Rattle.der_core_octets.proofs.CoreHead.TextLaws.{is_text}
 use Rattle.der_core_values.proofs.in_range.text_in_range.Goals as goal
 
 pub returns : goal.returns

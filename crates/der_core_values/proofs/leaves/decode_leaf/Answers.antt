@@ -1,6 +1,6 @@
 use Rattle.std.proofs.Common.{Ok, Err, ap}
 use Rattle.std.proofs.lemmas.Result.{err_from_is_err_and}
-use Rattle.der_core_head.specs.Reading.{State}
+use Rattle.der_core_octets.specs.CoreHead.Reading.{State}
 use Rattle.der_core_values.proofs.Headed.{leaf_reads, leaf_refuses, leaf_faulty, gives, gives_now}
 use Rattle.der_core_octets.proofs.GoingOn.{broken_kept}
 use Rattle.der_core_values.proofs.leaves.decode_leaf.Goals as goal

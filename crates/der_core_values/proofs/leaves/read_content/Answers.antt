@@ -1,9 +1,9 @@
 use Rattle.std.proofs.Common.{Ok, Err, Result, List, ℕ, arith, IfOk, Bor}
-use Rattle.der_core_head.specs.Limits.{IsLength}
-use Rattle.der_core_head.specs.Heads.{Fits}
-use Rattle.der_core_head.specs.declared.error.Error.{Error}
-use Rattle.der_core_head.specs.Reading.{State, ReadsNow, TakesContent}
-use Rattle.der_core_head.specs.Grammar.{slice_at}
+use Rattle.der_core_octets.specs.CoreHead.Limits.{IsLength}
+use Rattle.der_core_octets.specs.CoreHead.Heads.{Fits}
+use Rattle.der_core_octets.specs.CoreHead.declared.error.Error.{Error}
+use Rattle.der_core_octets.specs.CoreHead.Reading.{State, ReadsNow, TakesContent}
+use Rattle.der_core_octets.specs.CoreHead.Grammar.{slice_at}
 use Rattle.der_core_values.proofs.Headed.{content_ok, content_err}
 use Rattle.der_core_octets.proofs.Levels.{slice_few}
 use Rattle.der_core_values.proofs.leaves.read_content.Goals as goal

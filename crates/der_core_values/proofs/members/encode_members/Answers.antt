@@ -2,9 +2,9 @@ use Rattle.std.proofs.Common.{arith, ◌≡◌, ◌<◌, ℕ, ◌+◌, List, ◌
 use Rattle.std.proofs.lemmas.Grind.{common_steps}
 use Rattle.std.proofs.lemmas.List.{at_drop_more}
 use Rattle.std.specs.List.{flat_map}
-use Rattle.der_core_head.specs.Grammar.{plain_list}
-use Rattle.der_core_head.specs.Shapes.{Shape, Value, octets_of, body_octets}
-use Rattle.der_core_head.specs.Writing.{Out, write}
+use Rattle.der_core_octets.specs.CoreHead.Grammar.{plain_list}
+use Rattle.der_core_octets.specs.CoreHead.Shapes.{Shape, Value, octets_of, body_octets}
+use Rattle.der_core_octets.specs.CoreHead.Writing.{Out, write}
 use Rattle.der_core_octets.specs.Outputs.{AddsFront}
 use Rattle.der_core_octets.proofs.Added.{none_added, first_added, value_then_added}
 use Rattle.der_core_values.proofs.members.encode_members.Goals as goal

@@ -1,8 +1,8 @@
 use Rattle.std.proofs.Common.{◌≡◌, drop}
 use Rattle.std.specs.List.{flat_map}
-use Rattle.der_core_head.specs.Grammar.{plain_list}
-use Rattle.der_core_head.specs.Shapes.{octets_of}
-use Rattle.der_core_head.specs.Writing.{Out, write, write_many}
+use Rattle.der_core_octets.specs.CoreHead.Grammar.{plain_list}
+use Rattle.der_core_octets.specs.CoreHead.Shapes.{octets_of}
+use Rattle.der_core_octets.specs.CoreHead.Writing.{Out, write, write_many}
 use Rattle.der_core_octets.specs.Outputs.{AddsFront, Continues}
 use Rattle.der_core_values.proofs.members.encode_members.Given as goal
 

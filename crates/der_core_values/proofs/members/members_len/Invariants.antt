@@ -1,6 +1,6 @@
 use Rattle.std.proofs.Common.{◌≡◌, drop}
-use Rattle.der_core_head.specs.Grammar.{plain_list}
-use Rattle.der_core_head.specs.Writing.{size, many_len}
+use Rattle.der_core_octets.specs.CoreHead.Grammar.{plain_list}
+use Rattle.der_core_octets.specs.CoreHead.Writing.{size, many_len}
 use Rattle.der_core_values.proofs.members.members_len.Given as goal
 
 abbrev pub invariant-loop-member : goal.invariant-loop-member

@@ -1,10 +1,10 @@
 use Rattle.std.proofs.Common.{◌≡◌, false, Ok, Err, Result, ap, sym, ◌∙◌, IfErr}
 use Rattle.std.proofs.lemmas.Result.{err_from_is_err_and}
-use Rattle.der_core_head.specs.declared.error.Error.{Error}
-use Rattle.der_core_head.specs.declared.error.ErrorKind.{ErrorKind}
-use Rattle.der_core_head.specs.Shapes.{leaf}
-use Rattle.der_core_head.specs.Grammar.{value_at}
-use Rattle.der_core_head.specs.Reading.{State, read_content_at}
+use Rattle.der_core_octets.specs.CoreHead.declared.error.Error.{Error}
+use Rattle.der_core_octets.specs.CoreHead.declared.error.ErrorKind.{ErrorKind}
+use Rattle.der_core_octets.specs.CoreHead.Shapes.{leaf}
+use Rattle.der_core_octets.specs.CoreHead.Grammar.{value_at}
+use Rattle.der_core_octets.specs.CoreHead.Reading.{State, read_content_at}
 use Rattle.der_core_octets.specs.Headers.{head_of}
 use Rattle.der_core_values.proofs.Headed.{headed, head_refused, head_read}
 use Rattle.der_core_values.proofs.now.decode_leaf_of_tag.Goals as goal

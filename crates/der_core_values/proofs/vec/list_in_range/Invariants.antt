@@ -1,7 +1,7 @@
 use Rattle.std.proofs.Common.{drop}
 use Rattle.std.specs.List.{AllByRecursion}
-use Rattle.der_core_head.specs.Grammar.{plain_list}
-use Rattle.der_core_head.specs.Ranges.{IsInRange}
+use Rattle.der_core_octets.specs.CoreHead.Grammar.{plain_list}
+use Rattle.der_core_octets.specs.CoreHead.Ranges.{IsInRange}
 use Rattle.der_core_values.proofs.vec.list_in_range.Given as goal
 
 abbrev pub invariant-loop-value : goal.invariant-loop-value

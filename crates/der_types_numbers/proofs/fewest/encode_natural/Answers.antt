@@ -1,5 +1,5 @@
 use Rattle.std.proofs.Common.{sym, ◌∙◌}
-use Rattle.der_core_octets.proofs.Added.{write_adds}
+use Rattle.der_core.proofs.Added.{write_adds}
 use Rattle.der_types_numbers.proofs.Naturals.{content-set, content-clear}
 use Rattle.der_types_numbers.proofs.fewest.encode_natural.Goals as goal
 

@@ -1,7 +1,7 @@
 use Rattle.std.proofs.Common.{refl, sym, ap, ◌∙◌, arith}
-use Rattle.der_core_head.specs.Integers.{integer_octets}
-use Rattle.der_core_head.proofs.IntegerLaws.{integer_octets-of}
-use Rattle.der_core_head.proofs.Results.{bytes_drop}
+use Rattle.der_core.specs.Integers.{integer_octets}
+use Rattle.der_core.proofs.IntegerLaws.{integer_octets-of}
+use Rattle.der_core.proofs.Results.{bytes_drop}
 use Rattle.der_types_numbers.proofs.Naturals.{integer_of-shorter, redundant_some}
 use Rattle.der_types_numbers.proofs.fewest.fewest_signed.Goals as goal
 

@@ -1,6 +1,6 @@
 use Rattle.std.proofs.Common.{◌≡◌, ◌<◌, length}
-use Rattle.der_core_head.specs.Integers.{integer_of}
-use Rattle.der_core_head.proofs.Results.{IsBytes}
+use Rattle.der_core.specs.Integers.{integer_of}
+use Rattle.der_core.proofs.Results.{IsBytes}
 use Rattle.der_types_numbers.proofs.fewest.fewest_signed.Given as goal
 
 abbrev pub invariant-loop-rest : goal.invariant-loop-rest

@@ -1,7 +1,7 @@
 use Rattle.std.proofs.Common.{refl, sym, ap, ◌∙◌, arith}
-use Rattle.const_oid.specs.Digits.{digits}
+use Rattle.der_core.specs.Oid.Digits.{digits}
 use Rattle.der_types_numbers.proofs.Naturals.{digits-fewest, number-shorter, zero_some}
-use Rattle.der_core_head.proofs.Results.{bytes_drop}
+use Rattle.der_core.proofs.Results.{bytes_drop}
 use Rattle.der_types_numbers.proofs.fewest.fewest_unsigned.Goals as goal
 
 pub loop-rest-init : goal.loop-rest-init

@@ -1,6 +1,6 @@
 use Rattle.std.proofs.Common.{◌≡◌, ◌<◌, length}
 use Rattle.std.specs.Int.Digits.{number_from_digits}
-use Rattle.der_core_head.proofs.Results.{IsBytes}
+use Rattle.der_core.proofs.Results.{IsBytes}
 use Rattle.der_types_numbers.proofs.fewest.fewest_unsigned.Given as goal
 
 abbrev pub invariant-loop-rest : goal.invariant-loop-rest

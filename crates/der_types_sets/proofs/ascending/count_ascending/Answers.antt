@@ -1,6 +1,6 @@
 use Rattle.std.proofs.Common.{Err, refl, ap, sym, ◌∙◌, arith}
 use Rattle.std.proofs.lemmas.Result.{err_from_is_err_and}
-use Rattle.der_core_values.proofs.Lists.{stops_in_turn, falls_in_turn, over_in_turn}
+use Rattle.der_core.proofs.Lists.{stops_in_turn, falls_in_turn, over_in_turn}
 use Rattle.der_types_sets.proofs.AscendingSteps.{counted_none, counted_on, counted_done}
 use Rattle.der_types_sets.proofs.ascending.count_ascending.Goals as goal
 

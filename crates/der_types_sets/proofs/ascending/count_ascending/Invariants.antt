@@ -1,6 +1,6 @@
-use Rattle.der_core_head.specs.Reading.{unread}
-use Rattle.der_core_head.specs.declared.encoding_rules.EncodingRules.TheVariants.{Der}
-use Rattle.der_core_octets.specs.Fronts.{octets_at}
+use Rattle.der_core.specs.Reading.{unread}
+use Rattle.der_core.specs.EncodingRulesTypes.EncodingRules.TheVariants.{Der}
+use Rattle.der_core.specs.OctetsFronts.{octets_at}
 use Rattle.der_types_sets.proofs.AscendingSteps.{Counted}
 use Rattle.der_types_sets.proofs.ascending.count_ascending.Given as goal
 

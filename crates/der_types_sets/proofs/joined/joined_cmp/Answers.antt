@@ -1,7 +1,7 @@
 use Rattle.std.proofs.Common.{[], Ok, refl, ap, sym, ◌∙◌, eqb-true}
 use Rattle.std.proofs.lemmas.Result.{err_from_is_err_and}
 use Rattle.std.proofs.lemmas.List.{nil_from_length}
-use Rattle.der_core_head.specs.Shapes.{IsBody, body_octets}
+use Rattle.der_core.specs.Shapes.{IsBody, body_octets}
 use Rattle.der_core.specs.Orders.{octets_cmp}
 use Rattle.der_types_sets.proofs.SetSteps.{valid_at}
 use Rattle.der_types_sets.proofs.AscendingSteps.{valid-plain}

@@ -1,5 +1,5 @@
-use Rattle.der_core_head.specs.Shapes.{tagged}
-use Rattle.der_core_head.proofs.Written.{is_written}
+use Rattle.der_core.specs.Shapes.{tagged}
+use Rattle.der_core.proofs.Written.{is_written}
 use Rattle.der_types_tagged.proofs.fields.der_behind.Goals as goal
 
 pub returns-clause-spelled : goal.returns-clause-spelled

@@ -1,11 +1,11 @@
 use Rattle.std.proofs.Common.{◌≡◌, ℕ, ◌/◌, true, ap, subst, ◌∙◌}
-use Rattle.der_core_head.specs.declared.tag.Tag.{Tag}
-use Rattle.der_core_head.specs.declared.tag_mode.TagMode.{TagMode}
-use Rattle.der_core_head.specs.declared.tag_mode.TagMode.TheVariants as modes
-use Rattle.der_core_head.specs.Tags.{class_tag}
-use Rattle.der_core_head.specs.Shapes.{nested, octets_of, only, tagged}
-use Rattle.der_core_head.specs.Writing.{Writes, write}
-use Rattle.der_core_octets.specs.Outputs.{AddsFront}
+use Rattle.der_core.specs.TagTypes.Tag.{Tag}
+use Rattle.der_core.specs.TagModeTypes.TagMode.{TagMode}
+use Rattle.der_core.specs.TagModeTypes.TagMode.TheVariants as modes
+use Rattle.der_core.specs.Tags.{class_tag}
+use Rattle.der_core.specs.Shapes.{nested, octets_of, only, tagged}
+use Rattle.der_core.specs.Writing.{Writes, write}
+use Rattle.der_core.specs.Outputs.{AddsFront}
 use Rattle.der_types_tagged.specs.Fields.{field_tag}
 use Rattle.der_types_tagged.proofs.fields.encode_field.Goals as goal
 

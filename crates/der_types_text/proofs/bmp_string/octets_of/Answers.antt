@@ -1,8 +1,8 @@
 use Rattle.std.proofs.Common.{◌≡◌, Err, refl, sym, ap, ◌∙◌, chars, map-id}
 use Rattle.std.proofs.lemmas.Iterator.{YieldsList-from_chars}
 use Rattle.std.proofs.lemmas.Iterator.Consumers.{YieldsList-turn, YieldsList-end}
-use Rattle.der_core_head.specs.BmpStrings.{is_unit, bmp_octets, units}
-use Rattle.der_core_head.proofs.TextLaws.{units-octets}
+use Rattle.der_core.specs.BmpStrings.{is_unit, bmp_octets, units}
+use Rattle.der_core.proofs.TextLaws.{units-octets}
 use Rattle.der_types_text.proofs.BmpTexts.{bmp_octets-push, list_all-push, list_all-refused, bmp_from-ok, bmp_from-refused}
 use Rattle.der_types_text.proofs.bmp_string.octets_of.Goals as goal
 

@@ -1,6 +1,6 @@
 use Rattle.std.proofs.Common.{◌≡◌, true}
 use Rattle.std.specs.List.{list_all}
-use Rattle.der_core_head.specs.BmpStrings.{is_unit, bmp_octets}
+use Rattle.der_core.specs.BmpStrings.{is_unit, bmp_octets}
 use Rattle.der_types_text.proofs.bmp_string.octets_of.Given as goal
 
 abbrev pub invariant-loop-character : goal.invariant-loop-character

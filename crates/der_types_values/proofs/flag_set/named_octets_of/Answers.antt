@@ -1,5 +1,5 @@
 use Rattle.std.proofs.Common.{◌≡◌, ◌+◌, ◌-◌, ◌<◌, ◌^◌, ◌/◌, ◌++◌, take, ℕ, ap, subst, ◌∙◌, arith, slice_set, length-set}
-use Rattle.der_core_head.specs.NamedBits.{set_octets}
+use Rattle.der_core.specs.NamedBits.{set_octets}
 use Rattle.der_types_values.proofs.NamedSteps.{left_some, left_next, set_octets-more, named_some, named_none}
 use Rattle.der_types_values.proofs.flag_set.named_octets_of.Goals as goal
 

@@ -1,5 +1,5 @@
 use Rattle.std.proofs.Common.{◌≡◌, ◌-◌, ◌<◌, ◌≤◌, ◌^◌, ◌∷◌, ◌++◌, length, take}
-use Rattle.der_core_head.specs.NamedBits.{set_octets}
+use Rattle.der_core.specs.NamedBits.{set_octets}
 use Rattle.der_types_values.proofs.flag_set.named_octets_of.Given as goal
 
 abbrev pub invariant-loop-left : goal.invariant-loop-left

@@ -1,6 +1,6 @@
 use Rattle.std.proofs.Common.{◌≡◌, ◌+◌, ◌-◌, length, drop, ap, sym, ◌∙◌, arith}
 use Rattle.std.proofs.lemmas.List.{drop_all}
-use Rattle.der_core_head.specs.NamedBits.{spelled_set}
+use Rattle.der_core.specs.NamedBits.{spelled_set}
 use Rattle.der_types_values.proofs.NamedSteps.{spelled_set-none, spelled_set-before, room_more, number_more}
 use Rattle.der_types_values.proofs.flag_set.number_of.Goals as goal
 

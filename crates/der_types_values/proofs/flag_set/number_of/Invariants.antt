@@ -1,5 +1,5 @@
 use Rattle.std.proofs.Common.{◌≡◌, ◌-◌, ◌<◌, ◌^◌, length, drop}
-use Rattle.der_core_head.specs.NamedBits.{spelled_set}
+use Rattle.der_core.specs.NamedBits.{spelled_set}
 use Rattle.der_types_values.proofs.flag_set.number_of.Given as goal
 
 abbrev pub invariant-loop-count : goal.invariant-loop-count

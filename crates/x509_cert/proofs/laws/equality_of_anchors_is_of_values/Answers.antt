@@ -1,8 +1,8 @@
-use Rattle.const_oid.specs.Bound.{Bound}
-use Rattle.der_core.proofs.ValueEquality.{alone, behind, default, each, last, leaves, list, named_bits, next, numbers, option}
-use Rattle.x509_cert_certificates.specs.Certificates.{certificate, tbs_certificate}
-use Rattle.x509_cert_names.proofs.SameOctets.{names}
-use Rattle.x509_cert_parts.proofs.ValueEquality.{algorithms, all_extensions, keys}
+use Rattle.x509_cert_anchors.specs.Oid.Bound.{Bound}
+use Rattle.x509_cert_anchors.proofs.Der.ValueEquality.{alone, behind, default, each, last, leaves, list, named_bits, next, numbers, option}
+use Rattle.x509_cert_builders.specs.CertCertificates.Certificates.{certificate, tbs_certificate}
+use Rattle.x509_cert_lists.proofs.CertNames.SameOctets.{names}
+use Rattle.x509_cert_lists.proofs.CertParts.ValueEquality.{algorithms, all_extensions, keys}
 use Rattle.x509_cert.proofs.ValueEquality.{choices, of, versions, whole}
 use Rattle.x509_cert.proofs.laws.equality_of_anchors_is_of_values.Goals as goal
 

@@ -1,7 +1,7 @@
-use Rattle.der_core.proofs.ValueEquality.{alone, behind, default, exact, flags, last, leaves, list, named_bits, next, numbers, option, option_itself}
-use Rattle.x509_cert_names.proofs.SameOctets.{attributes, directories}
-use Rattle.der_types_any.proofs.AnyLaws.{values}
-use Rattle.x509_cert_parts.proofs.ValueEquality.{date_alike, one_date}
+use Rattle.x509_cert_anchors.proofs.Der.ValueEquality.{alone, behind, default, exact, flags, last, leaves, list, named_bits, next, numbers, option, option_itself}
+use Rattle.x509_cert_lists.proofs.CertNames.SameOctets.{attributes, directories}
+use Rattle.x509_cert_lists.proofs.Types.AnyLaws.{values}
+use Rattle.x509_cert_lists.proofs.CertParts.ValueEquality.{date_alike, one_date}
 use Rattle.x509_cert.proofs.ValueEquality.{crl_reasons, digits_alike, display_texts, general_names, of, point_names, whole}
 use Rattle.x509_cert.proofs.laws.equality_of_extensions_is_of_values.Goals as goal
 

@@ -1,7 +1,7 @@
 use Rattle.std.specs.Prelude.{refl}
-use Rattle.der_core_head.specs.Bounds.{IsValidUnder, identifiers_of}
-use Rattle.der_core_head.specs.Shapes.{IsValid, octets_of, sequence}
-use Rattle.der_core_head.proofs.BoundLaws.{spelled_exactly}
+use Rattle.x509_cert_anchors.specs.Der.Bounds.{IsValidUnder, identifiers_of}
+use Rattle.x509_cert_anchors.specs.Der.Shapes.{IsValid, octets_of, sequence}
+use Rattle.x509_cert_anchors.proofs.Der.BoundLaws.{spelled_exactly}
 use Rattle.x509_cert_anchors.specs.Anchors.{trust_anchor_choice}
 use Rattle.x509_cert_lists.specs.ListGrammar.{certificate_list_fields, cert_req}
 use Rattle.x509_cert.proofs.laws.wider_bounds_keep_types.Goals as goal

@@ -1,15 +1,15 @@
 use Rattle.std.proofs.Common.{ℕ, ◌≤◌, length, Bool, true, Option, Some, None, inl, inr, arith}
-use Rattle.der_core_head.specs.declared.tag.Tag.TheVariants.{Sequence}
-use Rattle.der_core_head.specs.Grammar.{plain_option}
-use Rattle.der_core_head.specs.Leaves.{utf8}
-use Rattle.der_core_head.specs.Shapes.{Shape, Body, optional, defaulted, field, done, only, sequence, explicit, octets_of, body_octets, IsValid, IsContent, IsBody}
-use Rattle.der_core_head.specs.Tags.{context}
-use Rattle.x509_cert_parts.proofs.Respelled.{nested_shorter, nested_valid, behind_same, before_same}
+use Rattle.der_core.specs.TagTypes.Tag.TheVariants.{Sequence}
+use Rattle.der_core.specs.Grammar.{plain_option}
+use Rattle.der_core.specs.Leaves.{utf8}
+use Rattle.der_core.specs.Shapes.{Shape, Body, optional, defaulted, field, done, only, sequence, explicit, octets_of, body_octets, IsValid, IsContent, IsBody}
+use Rattle.der_core.specs.Tags.{context}
+use Rattle.x509_cert_policies.proofs.CertParts.Respelled.{nested_shorter, nested_valid, behind_same, before_same}
 use Rattle.x509_cert_certificates.proofs.Respelled.{tbs_shorter, tbs_valid, certificate_fields_shorter, certificate_valid}
 use Rattle.x509_cert_certificates.specs.Certificates.{PlainCertificate, certificate_fields, certificate, tbs_certificate, tbs, tbs_by, certificate_by}
 use Rattle.x509_cert_general_names.specs.GeneralNames.{inside}
-use Rattle.x509_cert_parts.specs.Grammar.{implicit_leaf, public_key_info, octet_string, extensions}
-use Rattle.x509_cert_names.specs.Names.{name}
+use Rattle.x509_cert_policies.specs.CertParts.Grammar.{implicit_leaf, public_key_info, octet_string, extensions}
+use Rattle.x509_cert_general_names.specs.CertNames.Names.{name}
 use Rattle.x509_cert_anchors.specs.Anchors.{constraint_fields, cert_path_controls_fields, trust_anchor_info_fields, title_fields, trust_anchor_choice, anchor_version, first_anchor_version_octets, utf8_string, PlainControls, PlainInfo, PlainAnchor, cert_path_controls_by, trust_anchor_info_by, trust_anchor_by}
 use Rattle.x509_cert_anchors.proofs.laws.respelled_anchors_are_spelled.Goals as goal
 

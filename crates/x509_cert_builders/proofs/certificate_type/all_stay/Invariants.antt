@@ -1,6 +1,6 @@
 use Rattle.std.proofs.Common.{◌≡◌, drop}
 use Rattle.std.specs.List.{list_all}
-use Rattle.x509_cert_names.specs.Pairs.{relative_plain}
+use Rattle.x509_cert_certificates.specs.CertNames.Pairs.{relative_plain}
 use Rattle.x509_cert_builders.specs.Subscribers.{may_stay}
 use Rattle.x509_cert_builders.proofs.certificate_type.all_stay.Given as goal
 

@@ -1,7 +1,7 @@
 use Rattle.std.proofs.Common.{List, ◌++◌, sym, ap, ◌∙◌, subst}
 use Rattle.std.specs.Slice.Iter.{iter_rest}
-use Rattle.x509_cert_names.specs.declared.attribute_type_and_value.AttributeTypeAndValue.{AttributeTypeAndValue}
-use Rattle.x509_cert_names.specs.Pairs.{relative_plain}
+use Rattle.x509_cert_certificates.specs.CertNames.declared.attribute_type_and_value.AttributeTypeAndValue.{AttributeTypeAndValue}
+use Rattle.x509_cert_certificates.specs.CertNames.Pairs.{relative_plain}
 use Rattle.x509_cert_builders.specs.Subscribers.{KeepsDistinct, left_of}
 use Rattle.x509_cert_builders.proofs.Subjects.{distinct_same, left_same}
 use Rattle.x509_cert_builders.proofs.certificate_type.attributes_left.Goals as goal

@@ -1,6 +1,6 @@
 use Rattle.std.proofs.Common.{◌≡◌, ◌++◌}
 use Rattle.std.specs.Slice.Iter.{iter_rest}
-use Rattle.x509_cert_names.specs.Pairs.{relative_plain}
+use Rattle.x509_cert_certificates.specs.CertNames.Pairs.{relative_plain}
 use Rattle.x509_cert_builders.specs.Subscribers.{KeepsDistinct, left_of}
 use Rattle.x509_cert_builders.proofs.certificate_type.attributes_left.Given as goal
 

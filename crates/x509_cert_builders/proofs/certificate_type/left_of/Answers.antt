@@ -1,7 +1,7 @@
 use Rattle.std.proofs.Common.{inr, subst}
 use Rattle.std.specs.List.{IsDistinct}
 use Rattle.std.proofs.lemmas.Result.{err_from_is_err_and}
-use Rattle.x509_cert_names.specs.Pairs.{pair_plain, same_pair}
+use Rattle.x509_cert_certificates.specs.CertNames.Pairs.{pair_plain, same_pair}
 use Rattle.x509_cert_builders.proofs.Subjects.{too_long}
 use Rattle.x509_cert_builders.proofs.certificate_type.left_of.Goals as goal
 

@@ -1,10 +1,10 @@
 use Rattle.std.proofs.Common.{sym, ap, ◌∙◌, subst, rules}
 use Rattle.std.proofs.lemmas.Result.{err_from_is_err_and}
 use Rattle.std.specs.Slice.Iter.{iter_rest}
-use Rattle.der_core_head.specs.Grammar.{plain_list}
-use Rattle.x509_cert_names.specs.Names.{PlainName}
-use Rattle.x509_cert_names.specs.Views.{name_plain}
-use Rattle.x509_cert_names.specs.Pairs.{relative_plain}
+use Rattle.x509_cert_certificates.specs.Der.Grammar.{plain_list}
+use Rattle.x509_cert_certificates.specs.CertNames.Names.{PlainName}
+use Rattle.x509_cert_certificates.specs.CertNames.Views.{name_plain}
+use Rattle.x509_cert_certificates.specs.CertNames.Pairs.{relative_plain}
 use Rattle.x509_cert_builders.proofs.Subjects.{plain_pushed, IsLeft, left_in, left_out, long_there, next_stays, no_values, some_values}
 use Rattle.x509_cert_builders.proofs.certificate_type.name_left.Goals as goal
 

@@ -1,7 +1,7 @@
 -- No name so far is that of a module: the first one is among those that are left.
 use Rattle.std.proofs.Common.{◌≡◌, drop}
-use Rattle.der_core_head.specs.Grammar.{plain_list}
-use Rattle.x509_cert_general_names.specs.GeneralNameViews.{general_name_plain}
+use Rattle.x509_cert_certificates.specs.Der.Grammar.{plain_list}
+use Rattle.x509_cert_extensions.specs.CertGeneralNames.GeneralNameViews.{general_name_plain}
 use Rattle.x509_cert_builders.specs.Devices.{first_module}
 use Rattle.x509_cert_builders.proofs.dev_id.check_module.Given as goal
 

@@ -1,5 +1,5 @@
 use Rattle.std.proofs.Common.{◌≡◌, ℕ, List, false, None, sym, ap, ◌∙◌, not, find}
-use Rattle.x509_cert_names.specs.Views.{name_plain}
+use Rattle.x509_cert_certificates.specs.CertNames.Views.{name_plain}
 use Rattle.x509_cert_builders.specs.Naming.{foreign_type, has_required, is_among, name_types}
 use Rattle.x509_cert_builders.proofs.Subjects.{lacking}
 use Rattle.x509_cert_builders.proofs.naming.ca_certificate_naming.Goals as goal

@@ -2,9 +2,9 @@ use Rattle.std.proofs.Common.{◌≡◌, [], ◌∷◌, Err, sym, ap, ◌∙◌,
 use Rattle.std.proofs.lemmas.List.{nil_from_length}
 use Rattle.std.proofs.lemmas.Result.{err_from_is_err_and}
 use Rattle.std.specs.Slice.Iter.{iter_rest}
-use Rattle.der_core_head.specs.Grammar.{plain_list}
-use Rattle.x509_cert_names.specs.Views.{name_plain}
-use Rattle.x509_cert_names.specs.Pairs.{relative_plain}
+use Rattle.x509_cert_certificates.specs.Der.Grammar.{plain_list}
+use Rattle.x509_cert_certificates.specs.CertNames.Views.{name_plain}
+use Rattle.x509_cert_certificates.specs.CertNames.Pairs.{relative_plain}
 use Rattle.x509_cert_builders.specs.Naming.{type_behind}
 use Rattle.x509_cert_builders.proofs.Subjects.{IsChecked, checked_all, checked_fault}
 use Rattle.x509_cert_builders.proofs.naming.types_of.Goals as goal

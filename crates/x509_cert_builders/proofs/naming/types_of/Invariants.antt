@@ -1,7 +1,7 @@
 use Rattle.std.specs.Slice.Iter.{iter_rest}
-use Rattle.der_core_head.specs.Grammar.{plain_list}
-use Rattle.x509_cert_names.specs.Views.{name_plain}
-use Rattle.x509_cert_names.specs.Pairs.{relative_plain}
+use Rattle.x509_cert_certificates.specs.Der.Grammar.{plain_list}
+use Rattle.x509_cert_certificates.specs.CertNames.Views.{name_plain}
+use Rattle.x509_cert_certificates.specs.CertNames.Pairs.{relative_plain}
 use Rattle.x509_cert_builders.proofs.Subjects.{IsChecked}
 use Rattle.x509_cert_builders.proofs.naming.types_of.Given as goal
 

@@ -1,7 +1,7 @@
 use Rattle.std.proofs.Common.{Some, ◌∙◌}
 use Rattle.std.proofs.lemmas.Result.{err_from_is_err_and}
-use Rattle.const_oid.specs.Bound.{Bound}
-use Rattle.der_core_head.proofs.Written.{written_valid}
+use Rattle.x509_cert_certificates.specs.Oid.Bound.{Bound}
+use Rattle.x509_cert_certificates.proofs.Der.Written.{written_valid}
 use Rattle.x509_cert_certificates.specs.Certificates.{tbs_certificate}
 use Rattle.x509_cert_certificates.specs.Views.{tbs_plain}
 use Rattle.x509_cert_builders.specs.SignedParts.{part_shape, written_part}

@@ -1,6 +1,6 @@
 use Rattle.std.proofs.Common.{◌≡◌, ◌+◌, drop}
 use Rattle.std.specs.List.{position_or_len}
-use Rattle.const_oid.specs.Comparing.{owned_eq}
+use Rattle.x509_cert_certificates.specs.Oid.Comparing.{owned_eq}
 use Rattle.x509_cert_builders.proofs.types_before.rank_among.Given as goal
 
 abbrev pub invariant-loop-place : goal.invariant-loop-place

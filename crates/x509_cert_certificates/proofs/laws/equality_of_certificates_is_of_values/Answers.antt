@@ -1,4 +1,4 @@
-use Rattle.const_oid.specs.Bound.{Bound}
+use Rattle.der_core.specs.Oid.Bound.{Bound}
 use Rattle.der_core.proofs.ValueEquality.{all_alike, alone, behind, default, each, last, leaves, next, option, option_itself}
 use Rattle.x509_cert_names.proofs.SameOctets.{names}
 use Rattle.x509_cert_parts.proofs.ValueEquality.{algorithms, all_extensions, each_version, keys, validities}

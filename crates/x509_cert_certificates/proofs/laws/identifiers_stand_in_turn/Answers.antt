@@ -1,9 +1,9 @@
 use Rattle.std.proofs.Common.{◌≡◌, ℕ, List, [], ◌∷◌, ◌++◌, Option, Some, None, refl, ap, ◌∙◌, append_assoc, append-nil, inl, inr, flat_map, map}
 use Rattle.std.specs.Option.{option_map_or}
-use Rattle.der_core_head.specs.BitStrings.{Bits}
-use Rattle.der_core_head.specs.Leaves.{bits}
-use Rattle.der_core_head.specs.Shapes.{AnyValue, any, optional, explicit}
-use Rattle.der_core_head.specs.Bounds.{identifiers_of}
+use Rattle.der_core.specs.BitStrings.{Bits}
+use Rattle.der_core.specs.Leaves.{bits}
+use Rattle.der_core.specs.Shapes.{AnyValue, any, optional, explicit}
+use Rattle.der_core.specs.Bounds.{identifiers_of}
 use Rattle.x509_cert_names.specs.Names.{name}
 use Rattle.x509_cert_parts.specs.Grammar.{Algorithm, PublicKey, PlainTime, PlainValidity, PlainExtension, algorithm_identifier, algorithm_arcs, public_key_info, key_algorithm, extension, extension_arcs, extensions, implicit_leaf, time, validity}
 use Rattle.x509_cert_certificates.specs.Bounds.{certificate_identifiers}

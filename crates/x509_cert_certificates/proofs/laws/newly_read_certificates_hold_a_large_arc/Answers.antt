@@ -1,5 +1,5 @@
-use Rattle.der_core_head.proofs.BoundLaws.{front_new, new_spelled, spelled_exactly, spelled_narrow, whole_new}
-use Rattle.der_core_head.specs.Bounds.{identifiers_of}
+use Rattle.der_core.proofs.BoundLaws.{front_new, new_spelled, spelled_exactly, spelled_narrow, whole_new}
+use Rattle.der_core.specs.Bounds.{identifiers_of}
 use Rattle.x509_cert_certificates.specs.Bounds.{certificate_identifiers}
 use Rattle.x509_cert_certificates.proofs.Respelled.{certificates}
 use Rattle.x509_cert_certificates.proofs.laws.newly_read_certificates_hold_a_large_arc.Goals as goal

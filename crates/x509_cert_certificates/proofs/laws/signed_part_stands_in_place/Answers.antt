@@ -1,4 +1,4 @@
-use Rattle.der_core_head.specs.Shapes.{field, done}
+use Rattle.der_core.specs.Shapes.{field, done}
 use Rattle.x509_cert_parts.specs.Grammar.{algorithm_identifier, bit_string}
 use Rattle.x509_cert_certificates.specs.Certificates.{raw_tbs_certificate, signed_start, signed_length}
 use Rattle.x509_cert_certificates.proofs.Places.{first_in_place}

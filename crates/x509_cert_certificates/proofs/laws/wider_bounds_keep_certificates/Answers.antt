@@ -1,4 +1,4 @@
-use Rattle.der_core_head.proofs.BoundLaws.{same_octets, spelled_wider}
+use Rattle.der_core.proofs.BoundLaws.{same_octets, spelled_wider}
 use Rattle.x509_cert_certificates.proofs.Respelled.{certificates}
 use Rattle.x509_cert_certificates.proofs.laws.wider_bounds_keep_certificates.Goals as goal
 

@@ -1,6 +1,6 @@
 use Rattle.std.proofs.Common.{refl}
-use Rattle.const_oid.specs.Bound.{Bound}
-use Rattle.der_core_head.specs.Shapes.{sequence}
+use Rattle.der_core.specs.Oid.Bound.{Bound}
+use Rattle.der_core.specs.Shapes.{sequence}
 use Rattle.x509_cert_lists.specs.ListGrammar.{cert_req, cert_req_info_fields, certificate_list_fields, revoked_cert_fields, tbs_cert_list_fields}
 use Rattle.der_core.proofs.ValueEquality.{all_alike, alone, behind, each, exact, last, leaves, list, next, option, set}
 use Rattle.x509_cert_names.proofs.SameOctets.{attributes, names}

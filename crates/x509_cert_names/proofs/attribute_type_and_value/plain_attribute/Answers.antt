@@ -1,6 +1,6 @@
 use Rattle.std.proofs.Common.{sym, subst, ◌∙◌}
-use Rattle.const_oid.specs.Bound.{Bound}
-use Rattle.der_core_head.specs.Shapes.{AnyValue, Spells}
+use Rattle.der_core.specs.Oid.Bound.{Bound}
+use Rattle.der_core.specs.Shapes.{AnyValue, Spells}
 use Rattle.x509_cert_names.specs.Names.{type_and_value}
 use Rattle.x509_cert_names.specs.Pairs.{pair}
 use Rattle.x509_cert_names.proofs.PlainSpelled.{plain_spells}

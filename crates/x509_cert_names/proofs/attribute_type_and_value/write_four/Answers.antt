@@ -1,5 +1,5 @@
 use Rattle.std.proofs.Common.{◌++◌, refl}
-use Rattle.der_core_octets.proofs.Added.{put_then_added, refused_adds, write_adds}
+use Rattle.der_core.proofs.Added.{put_then_added, refused_adds, write_adds}
 use Rattle.x509_cert_names.proofs.attribute_type_and_value.write_four.Goals as goal
 
 pub returns-in_err-write-2-clause-front : goal.returns-in_err-write-2-clause-front

@@ -1,6 +1,6 @@
 use Rattle.std.proofs.Common.{drop}
 use Rattle.std.specs.List.{AllByRecursion}
-use Rattle.const_oid.specs.Bound.{Bound}
+use Rattle.der_core.specs.Oid.Bound.{Bound}
 use Rattle.x509_cert_names.specs.Ordered.{IsOrdered}
 use Rattle.x509_cert_names.proofs.name.in_order.Given as goal
 

@@ -1,11 +1,11 @@
 use Rattle.std.proofs.Common.{◌+◌, ◌<◌, List, ◌∷◌, length, drop, Result, subst, sym, arith}
 use Rattle.std.proofs.lemmas.List.{drop_more}
 use Rattle.std.proofs.lemmas.Result.{err_from_is_err_and}
-use Rattle.const_oid.specs.Bound.{Bound}
-use Rattle.der_core_head.specs.Reading.{GivesNow}
-use Rattle.der_core_head.specs.Writing.{size}
-use Rattle.der_core_head.specs.declared.error.Error.{Error}
-use Rattle.der_core_head.specs.declared.length.Length.{Length}
+use Rattle.der_core.specs.Oid.Bound.{Bound}
+use Rattle.der_core.specs.Reading.{GivesNow}
+use Rattle.der_core.specs.Writing.{size}
+use Rattle.der_core.specs.ErrorTypes.Error.{Error}
+use Rattle.der_core.specs.LengthTypes.Length.{Length}
 use Rattle.der_core.specs.Placed.{AllValid}
 use Rattle.x509_cert_names.specs.Names.{type_and_value}
 use Rattle.x509_cert_names.specs.Pairs.{pair_plain}

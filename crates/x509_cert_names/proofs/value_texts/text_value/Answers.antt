@@ -1,11 +1,11 @@
 use Rattle.std.proofs.Common.{◌≡◌, ◌<◌, ◌≤◌, ℕ, List, length, Ok, Err, refl, arith}
 use Rattle.std.proofs.lemmas.Bool.Decides.{nat_tests}
 use Rattle.std.proofs.lemmas.Result.{err_from_is_err_and}
-use Rattle.der_core_head.specs.Limits.{length_max}
-use Rattle.der_core_head.specs.Shapes.{AnyValue}
-use Rattle.der_core_head.specs.declared.error.ErrorKind.{ErrorKind}
-use Rattle.der_core_head.specs.declared.error.ErrorKind.TheVariants as kinds
-use Rattle.der_core_head.specs.declared.tag.Tag.{Tag}
+use Rattle.der_core.specs.Limits.{length_max}
+use Rattle.der_core.specs.Shapes.{AnyValue}
+use Rattle.der_core.specs.ErrorTypes.ErrorKind.{ErrorKind}
+use Rattle.der_core.specs.ErrorTypes.ErrorKind.TheVariants as kinds
+use Rattle.der_core.specs.TagTypes.Tag.{Tag}
 use Rattle.x509_cert_names.specs.ValueTexts.{of_content}
 use Rattle.x509_cert_names.proofs.value_texts.text_value.Goals as goal
 

@@ -1,8 +1,8 @@
 use Rattle.std.proofs.Common.{◌≡◌, Result, Ok, Err, sym, rules}
 use Rattle.std.proofs.lemmas.Grind.{common_steps}
-use Rattle.der_core_head.specs.Reading.{Gives}
-use Rattle.der_core_head.specs.declared.error.Error.{Error}
-use Rattle.der_core_head.specs.declared.error.ErrorKind.{ErrorKind}
+use Rattle.der_core.specs.Reading.{Gives}
+use Rattle.der_core.specs.ErrorTypes.Error.{Error}
+use Rattle.der_core.specs.ErrorTypes.ErrorKind.{ErrorKind}
 use Rattle.x509_cert_name_texts.specs.Answers.{GivesBy}
 use Rattle.x509_cert_names.specs.ValueTexts.{ReadsValue}
 use Rattle.x509_cert_names.proofs.value_texts.value_of.Goals as goal

@@ -1,13 +1,13 @@
 use Rattle.std.proofs.Common.{◌≡◌, List, ℕ, ◌++◌, ap, ◌∙◌, length, false, if◌then◌else◌, Ok, Err, sym, append_assoc}
 use Rattle.std.proofs.Output.{has_written_of_eq}
-use Rattle.der_core_head.specs.Heads.{head_octets, length_octets}
-use Rattle.der_core_head.specs.Writing.{Out, lacks, less, put, put_head, sum_len}
+use Rattle.der_core.specs.Heads.{head_octets, length_octets}
+use Rattle.der_core.specs.Writing.{Out, lacks, less, put, put_head, sum_len}
 use Rattle.x509_cert_name_texts.specs.Escapes.{in_hex}
-use Rattle.der_core_head.specs.declared.tag.Tag.{Tag}
-use Rattle.der_core_head.specs.Octets.{◌>>=◌}
-use Rattle.der_core_head.specs.Tags.{tag_octets}
-use Rattle.der_core_head.proofs.Results.{ok_is, bind_ok, unless_ok}
-use Rattle.der_core_head.specs.declared.error.ErrorKind.TheVariants as kinds
+use Rattle.der_core.specs.TagTypes.Tag.{Tag}
+use Rattle.der_core.specs.Octets.{◌>>=◌}
+use Rattle.der_core.specs.Tags.{tag_octets}
+use Rattle.der_core.proofs.Results.{ok_is, bind_ok, unless_ok}
+use Rattle.der_core.specs.ErrorTypes.ErrorKind.TheVariants as kinds
 use Rattle.x509_cert_names.proofs.value_texts.write_head.Goals as goal
 
 -- What a header that was written left behind.

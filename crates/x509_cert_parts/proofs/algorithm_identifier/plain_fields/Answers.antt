@@ -1,4 +1,4 @@
-use Rattle.der_core_head.specs.Grammar.{plain_option}
+use Rattle.der_core.specs.Grammar.{plain_option}
 use Rattle.x509_cert_parts.proofs.PlainFields.{algorithm_body}
 use Rattle.x509_cert_parts.proofs.algorithm_identifier.plain_fields.Goals as goal
 

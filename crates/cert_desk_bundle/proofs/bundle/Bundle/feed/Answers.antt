@@ -1,6 +1,6 @@
 -- A piece that is kept leaves more to wait for.
 use Rattle.std.proofs.Common.{◌++◌, ◌<◌, length, refl, subst, arith, length-append}
-use Rattle.const_oid.specs.Bound.{Bound}
+use Rattle.x509_cert_certificates.specs.Oid.Bound.{Bound}
 use Rattle.cert_desk_bundle.specs.Locations.{kept_of}
 use Rattle.cert_desk_bundle.specs.Steps.{ReadsExtended}
 use Rattle.cert_desk_bundle.specs.Streams.{Kept}

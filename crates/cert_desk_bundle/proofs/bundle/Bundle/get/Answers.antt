@@ -2,7 +2,7 @@
 use Rattle.std.proofs.Common.{◌≡◌, ℕ, ◌+◌, ◌-◌, ◌<◌, List, length, get_or, take, drop, Some, slice_get, sym, ap, ◌∙◌, arith}
 use Rattle.std.proofs.lemmas.Option.{slice_get-get_or, slice_get-map}
 use Rattle.std.specs.Option.{option_map}
-use Rattle.const_oid.specs.Bound.{Bound}
+use Rattle.x509_cert_certificates.specs.Oid.Bound.{Bound}
 use Rattle.x509_cert_certificates.specs.Certificates.{PlainCertificate, certificate_octets}
 use Rattle.x509_cert_certificates.specs.Certificates.{signed_length}
 use Rattle.cert_desk_bundle.specs.declared.located.Located.{Located}

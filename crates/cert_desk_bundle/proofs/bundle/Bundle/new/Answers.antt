@@ -1,6 +1,6 @@
 -- Nothing is kept, and nothing was read.
 use Rattle.std.proofs.Common.{arith}
-use Rattle.const_oid.specs.Bound.{Bound}
+use Rattle.x509_cert_certificates.specs.Oid.Bound.{Bound}
 use Rattle.cert_desk_bundle.proofs.LocationLaws.{kept-none}
 use Rattle.cert_desk_bundle.proofs.Readings.{Reads-nil}
 use Rattle.cert_desk_bundle.proofs.Scans.{awaits_new}

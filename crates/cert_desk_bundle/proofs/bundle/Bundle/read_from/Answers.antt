@@ -4,7 +4,7 @@ use Rattle.std.proofs.lemmas.Result.{err_from_is_err_and}
 use Rattle.cert_desk_bundle.proofs.Inputs.{Takes-more, Takes-still, device_fails, end-refused, piece-refused, short_piece}
 use Rattle.cert_desk_bundle.proofs.Readings.{Grows-trans}
 use Rattle.cert_desk_bundle.proofs.bundle.Bundle.read_from.Goals as goal
-use Rattle.const_oid.specs.Bound.{Bound}
+use Rattle.x509_cert_certificates.specs.Oid.Bound.{Bound}
 
 pub returns-in_default-clause-refused : goal.returns-in_default-clause-refused
 returns-in_default-clause-refused g c =

@@ -1,6 +1,6 @@
 -- What was taken is left behind the certificates, or is one more.
 use Rattle.std.proofs.Common.{◌≡◌, ◌+◌, ◌++◌, length, ap, subst, ◌∙◌, arith}
-use Rattle.const_oid.specs.Bound.{Bound}
+use Rattle.x509_cert_certificates.specs.Oid.Bound.{Bound}
 use Rattle.cert_desk_bundle.specs.Locations.{certificates_of, kept_of}
 use Rattle.cert_desk_bundle.specs.Steps.{TakesFront, Stops}
 use Rattle.cert_desk_bundle.specs.Streams.{Kept}

@@ -1,7 +1,7 @@
 -- Each front that is taken leaves less; where none is, the piece is refused.
 use Rattle.std.proofs.Common.{◌≡◌, ap, subst, ◌∙◌}
 use Rattle.std.proofs.lemmas.List.{take_rest}
-use Rattle.const_oid.specs.Bound.{Bound}
+use Rattle.x509_cert_certificates.specs.Oid.Bound.{Bound}
 use Rattle.cert_desk_bundle.specs.Steps.{error_of}
 use Rattle.cert_desk_bundle.specs.Streams.{Kept}
 use Rattle.cert_desk_bundle.proofs.BundleSteps.{feeding-start}

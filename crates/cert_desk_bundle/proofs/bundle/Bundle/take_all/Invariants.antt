@@ -1,6 +1,6 @@
 -- A front of the piece was taken, and what is left is shorter each time.
 use Rattle.std.proofs.Common.{length}
-use Rattle.const_oid.specs.Bound.{Bound}
+use Rattle.x509_cert_certificates.specs.Oid.Bound.{Bound}
 use Rattle.cert_desk_bundle.proofs.Readings.{Feeding}
 use Rattle.cert_desk_bundle.proofs.bundle.Bundle.take_all.Given as goal
 

@@ -1,11 +1,11 @@
 -- Fields that are read make a certificate, and where one isn't read no certificate has the octets.
 use Rattle.std.proofs.Common.{◌≡◌, ℕ, List, [], ◌++◌, length, drop, refl, sym, ap, ◌∙◌, arith, append-nil, length-append}
 use Rattle.std.proofs.lemmas.List.{take_rest}
-use Rattle.const_oid.specs.Bound.{Bound}
-use Rattle.der_core_head.proofs.Results.{ok_is}
-use Rattle.der_core_head.specs.Shapes.{Value, octets_of}
-use Rattle.x509_cert_parts.specs.Grammar.{algorithm_identifier, bit_string}
-use Rattle.x509_cert_parts.specs.Views.{algorithm_plain}
+use Rattle.x509_cert_certificates.specs.Oid.Bound.{Bound}
+use Rattle.x509_cert_certificates.proofs.Der.Results.{ok_is}
+use Rattle.x509_cert_certificates.specs.Der.Shapes.{Value, octets_of}
+use Rattle.x509_cert_certificates.specs.CertParts.Grammar.{algorithm_identifier, bit_string}
+use Rattle.x509_cert_certificates.specs.CertParts.Views.{algorithm_plain}
 use Rattle.x509_cert_certificates.specs.Certificates.{PlainCertificate, Tbs, raw_tbs_certificate, tbs}
 use Rattle.x509_cert_certificates.specs.Views.{tbs_plain}
 use Rattle.cert_desk_bundle.specs.Headers.{IsContentAt}

@@ -1,8 +1,8 @@
 -- what was gathered, and what is left to gather, are all
 use Rattle.std.proofs.Common.{◌≡◌, ◌++◌, string_bytes, drop}
 use Rattle.std.specs.List.{flat_map}
-use Rattle.der_core_head.specs.Grammar.{plain_list}
-use Rattle.x509_cert_names.specs.Views.{attribute_plain}
+use Rattle.x509_cert_lists.specs.Der.Grammar.{plain_list}
+use Rattle.x509_cert_lists.specs.CertNames.Views.{attribute_plain}
 use Rattle.cert_desk_listing.specs.Listing.{attribute_lines}
 use Rattle.cert_desk_listing.proofs.lines.Lines.attributes.Given as goal
 

@@ -1,6 +1,6 @@
 use Rattle.std.proofs.Common.{◌++◌, string_bytes, ap, sym, ◌∙◌}
 use Rattle.cert_desk_listing.specs.Listing.{labelled}
-use Rattle.x509_cert_parts.proofs.Texts.{time_text_is}
+use Rattle.x509_cert_lists.proofs.CertParts.Texts.{time_text_is}
 use Rattle.cert_desk_listing.proofs.lines.Lines.date.Goals as goal
 
 pub returns : goal.returns

@@ -1,6 +1,6 @@
 -- what was gathered, and what is left to gather, are all
 use Rattle.std.proofs.Common.{◌≡◌, ◌++◌, string_bytes, drop}
-use Rattle.der_core_head.specs.Grammar.{plain_list}
+use Rattle.x509_cert_lists.specs.Der.Grammar.{plain_list}
 use Rattle.x509_cert_lists.specs.ListViews.{revoked_cert_plain}
 use Rattle.cert_desk_listing.specs.Listing.{revoked_lines}
 use Rattle.cert_desk_listing.proofs.lines.Lines.entries.Given as goal

@@ -1,8 +1,8 @@
 use Rattle.std.proofs.Common.{◌++◌, codes, string_bytes, ap, sym, ◌∙◌}
-use Rattle.x509_cert_parts.specs.Views.{time_date}
-use Rattle.x509_cert_parts.specs.Texts.{serial_text}
-use Rattle.der_types_time.specs.DateTexts.{date_text}
-use Rattle.x509_cert_parts.proofs.Texts.{time_text_is}
+use Rattle.x509_cert_lists.specs.CertParts.Views.{time_date}
+use Rattle.x509_cert_lists.specs.CertParts.Texts.{serial_text}
+use Rattle.x509_cert_lists.specs.Types.DateTexts.{date_text}
+use Rattle.x509_cert_lists.proofs.CertParts.Texts.{time_text_is}
 use Rattle.cert_desk_listing.specs.Listing.{labelled}
 use Rattle.cert_desk_listing.proofs.Texts.{entry_text}
 use Rattle.cert_desk_listing.proofs.lines.Lines.entry.Goals as goal

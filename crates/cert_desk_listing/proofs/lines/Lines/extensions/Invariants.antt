@@ -1,6 +1,6 @@
 -- what was gathered, and what is left to gather, are all
 use Rattle.std.proofs.Common.{◌≡◌, ◌++◌, string_bytes, drop}
-use Rattle.x509_cert_parts.specs.Views.{extensions_plain}
+use Rattle.x509_cert_lists.specs.CertParts.Views.{extensions_plain}
 use Rattle.cert_desk_listing.specs.Listing.{extension_lines}
 use Rattle.cert_desk_listing.proofs.lines.Lines.extensions.Given as goal
 

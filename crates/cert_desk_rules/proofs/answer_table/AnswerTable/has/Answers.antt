@@ -3,7 +3,7 @@ use Rattle.std.specs.List.{list_any}
 use Rattle.std.specs.List.Sorted.{IsPartitionedBy, IsSortedByKey}
 use Rattle.std.specs.Ordering.{is_le, is_lt}
 use Rattle.std.proofs.lemmas.List.Sorted.{IsPartitionPoint-from_clause}
-use Rattle.x509_cert_parts.specs.Views.{algorithm_plain, key_plain}
+use Rattle.cert_desk_bundle.specs.CertParts.Views.{algorithm_plain, key_plain}
 use Rattle.cert_desk_rules.specs.Answers.{answer_plain, answer_rank, is_about, rank_cmp}
 use Rattle.cert_desk_rules.proofs.AnswerOrder.{any_map, at, found, parted_less, parted_most}
 use Rattle.cert_desk_rules.proofs.answer_table.AnswerTable.has.Goals as goal

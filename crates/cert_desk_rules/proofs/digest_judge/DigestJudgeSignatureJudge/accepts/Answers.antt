@@ -1,7 +1,7 @@
 use Rattle.std.proofs.Common.{◌≡◌, [], ◌++◌, bytes_eq, sym, ap, ◌∙◌}
 use Rattle.sha2.specs.Sha256.{sha256}
-use Rattle.x509_cert_parts.specs.Grammar.{key_bits}
-use Rattle.x509_cert_parts.specs.Views.{key_plain}
+use Rattle.cert_desk_bundle.specs.CertParts.Grammar.{key_bits}
+use Rattle.cert_desk_bundle.specs.CertParts.Views.{key_plain}
 use Rattle.cert_desk_rules.proofs.DigestLaws.{no_by_algorithm, no_by_unused, yes_by_digest}
 use Rattle.cert_desk_rules.proofs.digest_judge.DigestJudgeSignatureJudge.accepts.Goals as goal
 

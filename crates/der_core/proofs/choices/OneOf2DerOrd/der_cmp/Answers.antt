@@ -1,5 +1,5 @@
 use Rattle.std.proofs.Common.{Ok, ap, ◌∙◌}
-use Rattle.der_core_values.specs.Choices.{plain_of_two}
+use Rattle.der_core_coding.specs.CoreValues.Choices.{plain_of_two}
 use Rattle.der_core.proofs.ShapeOrders.{both_first, both_second, mixed, mixed_turned}
 use Rattle.der_core.proofs.choices.OneOf2DerOrd.der_cmp.Goals as goal
 

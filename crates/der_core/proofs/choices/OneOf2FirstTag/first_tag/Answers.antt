@@ -1,5 +1,5 @@
 use Rattle.std.proofs.Common.{ap}
-use Rattle.der_core_values.specs.Choices.{plain_of_two}
+use Rattle.der_core_coding.specs.CoreValues.Choices.{plain_of_two}
 use Rattle.der_core.proofs.ShapeOrders.{left_starts, right_starts}
 use Rattle.der_core.proofs.choices.OneOf2FirstTag.first_tag.Goals as goal
 

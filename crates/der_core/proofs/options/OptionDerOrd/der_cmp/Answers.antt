@@ -1,5 +1,5 @@
 use Rattle.std.proofs.Common.{ap}
-use Rattle.der_core_head.specs.Grammar.{plain_option}
+use Rattle.der_core_coding.specs.CoreHead.Grammar.{plain_option}
 use Rattle.der_core.proofs.ShapeOrders.{some_order}
 use Rattle.der_core.proofs.options.OptionDerOrd.der_cmp.Goals as goal
 

@@ -1,7 +1,7 @@
 use Rattle.std.proofs.Common.{inl, inr, ap, sym, ◌∙◌}
 use Rattle.std.proofs.lemmas.List.Sorted.{IsPermutation-insert}
 use Rattle.std.proofs.lemmas.Result.{err_from_is_err_and}
-use Rattle.der_core_head.specs.Grammar.{plain_list}
+use Rattle.der_core_coding.specs.CoreHead.Grammar.{plain_list}
 use Rattle.der_core.proofs.IterOrders.{still_rises}
 use Rattle.der_core.proofs.strict_set_of.StrictSetOf.insert.Goals as goal
 

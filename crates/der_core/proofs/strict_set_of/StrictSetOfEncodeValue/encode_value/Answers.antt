@@ -1,5 +1,5 @@
-use Rattle.der_core_head.specs.Grammar.{plain_list}
-use Rattle.der_core_head.proofs.Written.{list_valid}
+use Rattle.der_core_coding.specs.CoreHead.Grammar.{plain_list}
+use Rattle.der_core_coding.proofs.CoreHead.Written.{list_valid}
 use Rattle.der_core.proofs.strict_set_of.StrictSetOfEncodeValue.encode_value.Goals as goal
 
 pub check_rising-requires : goal.check_rising-requires

@@ -1,5 +1,5 @@
 use Rattle.std.proofs.Common.{subst}
-use Rattle.der_core_head.specs.Shapes.{Value, IsValid, octets_of, begins}
+use Rattle.der_core_coding.specs.CoreHead.Shapes.{Value, IsValid, octets_of, begins}
 use Rattle.der_core.specs.Orders.{StartsWith}
 use Rattle.der_core.proofs.ShapeOrders.{default_absent, default_starts}
 use Rattle.der_core.proofs.with_default.WithDefaultFirstTag.first_tag.Goals as goal

@@ -1,14 +1,14 @@
 use Rattle.der_core_coding.proofs.Fronts.{appended_in_range}
 use Rattle.std.proofs.Common.{◌≡◌, ℕ, List, ◌++◌, length, None, false, Result, Ok, Err, refl, sym, ap, ◌∙◌, IfOk, IfErr}
-use Rattle.der_core_head.specs.declared.error.Error.{Error}
-use Rattle.der_core_head.specs.declared.length.Length.{Length}
-use Rattle.der_core_head.specs.Octets.{◌>>=◌}
-use Rattle.der_core_head.specs.Shapes.{Shape, Value, IsValid, octets_of}
-use Rattle.der_core_head.specs.Reading.{Fails, Gives}
-use Rattle.der_core_head.specs.Writing.{Out, size, write}
-use Rattle.der_core_head.proofs.Results.{ok_is, bind_ok}
-use Rattle.der_core_head.proofs.Written.{sized, written, counts_octets, writes_octets}
-use Rattle.der_core_octets.specs.Outputs.{appended}
+use Rattle.der_core_values.specs.CoreHead.declared.error.Error.{Error}
+use Rattle.der_core_values.specs.CoreHead.declared.length.Length.{Length}
+use Rattle.der_core_values.specs.CoreHead.Octets.{◌>>=◌}
+use Rattle.der_core_values.specs.CoreHead.Shapes.{Shape, Value, IsValid, octets_of}
+use Rattle.der_core_values.specs.CoreHead.Reading.{Fails, Gives}
+use Rattle.der_core_values.specs.CoreHead.Writing.{Out, size, write}
+use Rattle.der_core_values.proofs.CoreHead.Results.{ok_is, bind_ok}
+use Rattle.der_core_values.proofs.CoreHead.Written.{sized, written, counts_octets, writes_octets}
+use Rattle.der_core_values.specs.CoreOctets.Outputs.{appended}
 use Rattle.der_core_coding.proofs.encode.ToDer.encode_to_vec.Goals as goal
 
 -- A value behind other octets.

@@ -1,5 +1,5 @@
 use Rattle.std.proofs.Common.{arith, subst}
-use Rattle.der_core_head.specs.Tags.{IsTag}
+use Rattle.der_core_values.specs.CoreHead.Tags.{IsTag}
 use Rattle.der_core_coding.proofs.Defaults.{tagged_read}
 use Rattle.der_core_coding.proofs.kinds.AnyDefaultValue.default_value.Goals as goal
 

@@ -1,5 +1,5 @@
 use Rattle.std.proofs.Common.{arith, subst}
-use Rattle.der_core_head.specs.Tags.{IsTag}
+use Rattle.der_core_values.specs.CoreHead.Tags.{IsTag}
 use Rattle.der_core_coding.proofs.Defaults.{tagged_same, tagged_valid}
 use Rattle.der_core_coding.proofs.kinds.AnyDefaultValue.is_default.Goals as goal
 

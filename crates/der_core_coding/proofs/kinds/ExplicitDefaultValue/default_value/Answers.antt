@@ -1,5 +1,5 @@
 use Rattle.std.proofs.Common.{true, arith, subst}
-use Rattle.der_core_head.specs.Tags.{IsTag, context}
+use Rattle.der_core_values.specs.CoreHead.Tags.{IsTag, context}
 use Rattle.der_core_coding.proofs.Defaults.{explicit_read}
 use Rattle.der_core_coding.proofs.kinds.ExplicitDefaultValue.default_value.Goals as goal
 

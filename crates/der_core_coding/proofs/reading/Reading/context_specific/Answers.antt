@@ -1,9 +1,9 @@
 use Rattle.std.proofs.Common.{◌≡◌, ap, subst, ◌∙◌}
-use Rattle.der_core_head.specs.declared.tag.Tag.{Tag}
-use Rattle.der_core_head.specs.Tags.{context, is_constructed, implicit_tag}
-use Rattle.der_core_head.specs.Shapes.{tagged, optional}
-use Rattle.der_core_head.specs.Grammar.{plain_option}
-use Rattle.der_core_head.specs.Reading.{Reads, read_at}
+use Rattle.der_core_values.specs.CoreHead.declared.tag.Tag.{Tag}
+use Rattle.der_core_values.specs.CoreHead.Tags.{context, is_constructed, implicit_tag}
+use Rattle.der_core_values.specs.CoreHead.Shapes.{tagged, optional}
+use Rattle.der_core_values.specs.CoreHead.Grammar.{plain_option}
+use Rattle.der_core_values.specs.CoreHead.Reading.{Reads, read_at}
 use Rattle.der_core_coding.proofs.reading.Reading.context_specific.Goals as goal
 
 pub returns-in-Implicit-clause-implicit : goal.returns-in-Implicit-clause-implicit

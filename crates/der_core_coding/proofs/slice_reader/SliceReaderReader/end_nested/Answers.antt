@@ -1,9 +1,9 @@
 use mathlib.Core.Bool.{◌||◌}
 use Rattle.std.proofs.Common.{◌≡◌, ◌≤◌, ◌<◌, ◌-◌, length, take, drop, arith, sym, ap, subst, ◌∙◌, true}
-use Rattle.der_core_head.specs.declared.error.Error.{Error}
-use Rattle.der_core_head.specs.Reading.{State, restored}
+use Rattle.der_core_values.specs.CoreHead.declared.error.Error.{Error}
+use Rattle.der_core_values.specs.CoreHead.Reading.{State, restored}
 use Rattle.der_core_coding.proofs.Windows.{closed, window_length}
-use Rattle.der_core_octets.proofs.Levels.{or_true, or_false}
+use Rattle.der_core_values.proofs.CoreOctets.Levels.{or_true, or_false}
 use Rattle.der_core_coding.proofs.slice_reader.SliceReaderReader.end_nested.Goals as goal
 
 pub overflow_sub-self : goal.overflow_sub-self

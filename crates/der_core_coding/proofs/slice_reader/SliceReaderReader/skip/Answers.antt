@@ -1,5 +1,5 @@
 use Rattle.std.proofs.Common.{◌≤◌, length, arith, sym, ap, subst, ◌∙◌}
-use Rattle.der_core_head.specs.Reading.{State, past}
+use Rattle.der_core_values.specs.CoreHead.Reading.{State, past}
 use Rattle.der_core_coding.proofs.Windows.{passed, window_length}
 use Rattle.der_core_coding.proofs.slice_reader.SliceReaderReader.skip.Goals as goal
 

@@ -1,7 +1,7 @@
 use Rattle.std.proofs.Common.{arith}
-use Rattle.der_core_head.specs.Shapes.{Value, Spells}
-use Rattle.der_core_head.proofs.OneEncoding.{is_spelled, is_read}
-use Rattle.der_core_head.proofs.Results.{memory_alone}
+use Rattle.der_core_values.specs.CoreHead.Shapes.{Value, Spells}
+use Rattle.der_core_values.proofs.CoreHead.OneEncoding.{is_spelled, is_read}
+use Rattle.der_core_values.proofs.CoreHead.Results.{memory_alone}
 use Rattle.der_core_coding.proofs.whole.FromDer.from_der.Goals as goal
 
 pub returns-clause-spelled : goal.returns-clause-spelled

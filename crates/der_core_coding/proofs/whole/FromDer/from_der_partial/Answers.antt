@@ -1,5 +1,5 @@
 use Rattle.std.proofs.Common.{Ok, arith}
-use Rattle.der_core_octets.specs.Fronts.{read_front}
+use Rattle.der_core_values.specs.CoreOctets.Fronts.{read_front}
 use Rattle.der_core_coding.proofs.Fronts.{front_spelled, front_again, gives_so}
 use Rattle.der_core_coding.proofs.whole.FromDer.from_der_partial.Goals as goal
 

@@ -1,8 +1,8 @@
 use Rattle.std.proofs.Common.{refl, ap}
 use Rattle.std.proofs.lemmas.Result.{err_from_is_err_and}
-use Rattle.der_core_head.specs.Grammar.{default_at}
-use Rattle.der_core_head.specs.Reading.{State}
-use Rattle.der_core_octets.proofs.GoingOn.{broken_kept}
+use Rattle.der_core_values.specs.CoreHead.Grammar.{default_at}
+use Rattle.der_core_values.specs.CoreHead.Reading.{State}
+use Rattle.der_core_values.proofs.CoreOctets.GoingOn.{broken_kept}
 use Rattle.der_core_coding.proofs.with_default.WithDefaultDecode.decode.Goals as goal
 
 pub returns-in_err-tag : goal.returns-in_err-tag

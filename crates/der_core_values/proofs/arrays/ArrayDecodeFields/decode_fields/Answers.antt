@@ -1,7 +1,7 @@
 use Rattle.std.proofs.Common.{◌≡◌, ◌-◌, rules, sym, ap, ◌∙◌, arith}
 use Rattle.std.proofs.lemmas.Result.{err_from_is_err_and}
-use Rattle.der_core_head.specs.Grammar.{read_exactly}
-use Rattle.der_core_head.specs.Reading.{State, read_at}
+use Rattle.der_core_octets.specs.CoreHead.Grammar.{read_exactly}
+use Rattle.der_core_octets.specs.CoreHead.Reading.{State, read_at}
 use Rattle.der_core_values.proofs.Lists.{reached_none, reads_alike, reached_on, reached_fault, reached_end, reached_refused, exactly_on, exactly_fault, exactly_end}
 use Rattle.der_core_values.proofs.arrays.ArrayDecodeFields.decode_fields.Goals as goal
 

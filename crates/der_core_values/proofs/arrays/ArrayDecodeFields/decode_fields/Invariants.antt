@@ -1,6 +1,6 @@
 use Rattle.std.specs.Prelude.{◌≡◌, ◌-◌, vec_len}
-use Rattle.der_core_head.specs.Grammar.{read_exactly}
-use Rattle.der_core_head.specs.Reading.{read_at}
+use Rattle.der_core_octets.specs.CoreHead.Grammar.{read_exactly}
+use Rattle.der_core_octets.specs.CoreHead.Reading.{read_at}
 use Rattle.der_core_values.proofs.Lists.{Reached}
 use Rattle.der_core_values.proofs.arrays.ArrayDecodeFields.decode_fields.Given as goal
 

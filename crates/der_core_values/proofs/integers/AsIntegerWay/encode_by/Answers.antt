@@ -1,6 +1,6 @@
 use Rattle.std.proofs.Common.{rules, arith}
 use Rattle.std.proofs.lemmas.Grind.{common_steps}
-use Rattle.der_core_head.specs.Shapes.{contents}
+use Rattle.der_core_octets.specs.CoreHead.Shapes.{contents}
 use Rattle.der_core_octets.proofs.Added.{write_adds}
 use Rattle.der_core_values.proofs.integers.AsIntegerWay.encode_by.Goals as goal
 

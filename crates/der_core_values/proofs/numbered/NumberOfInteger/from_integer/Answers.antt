@@ -1,6 +1,6 @@
 use Rattle.std.proofs.Common.{◌≡◌, ap, ◌∙◌, Ok, Err, length, rules, tests, arith, true, false, pos}
-use Rattle.der_core_head.specs.declared.error.ErrorKind.{ErrorKind}
-use Rattle.der_core_head.specs.Integers.{among}
+use Rattle.der_core_octets.specs.CoreHead.declared.error.ErrorKind.{ErrorKind}
+use Rattle.der_core_octets.specs.CoreHead.Integers.{among}
 use Rattle.der_core_values.proofs.NamedNumbers.{empty, past, octets_alone, known, unlisted}
 use Rattle.der_core_values.proofs.numbered.NumberOfInteger.from_integer.Goals as goal
 

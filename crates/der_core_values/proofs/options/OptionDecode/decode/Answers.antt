@@ -1,7 +1,7 @@
 use Rattle.std.proofs.Common.{refl, ap}
 use Rattle.std.proofs.lemmas.Result.{err_from_is_err_and}
-use Rattle.der_core_head.specs.Grammar.{opt_at}
-use Rattle.der_core_head.specs.Reading.{State}
+use Rattle.der_core_octets.specs.CoreHead.Grammar.{opt_at}
+use Rattle.der_core_octets.specs.CoreHead.Reading.{State}
 use Rattle.der_core_octets.proofs.GoingOn.{broken_kept}
 use Rattle.der_core_values.proofs.options.OptionDecode.decode.Goals as goal
 

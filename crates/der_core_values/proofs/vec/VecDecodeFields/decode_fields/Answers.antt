@@ -1,8 +1,8 @@
 use Rattle.std.proofs.Common.{◌≡◌, ◌≤◌, ◌<◌, ◌-◌, [], length, sym, ap, ◌∙◌, arith, ◌≢◌}
 use Rattle.std.proofs.lemmas.Result.{err_from_is_err_and}
-use Rattle.der_core_head.specs.declared.error.ErrorKind.TheVariants as kinds
-use Rattle.der_core_head.specs.Grammar.{read_many}
-use Rattle.der_core_head.specs.Reading.{State, read_at}
+use Rattle.der_core_octets.specs.CoreHead.declared.error.ErrorKind.TheVariants as kinds
+use Rattle.der_core_octets.specs.CoreHead.Grammar.{read_many}
+use Rattle.der_core_octets.specs.CoreHead.Reading.{State, read_at}
 use Rattle.der_core_octets.proofs.GoingOn.{broken_kept}
 use Rattle.der_core_values.proofs.Lists.{reached_none, reads_alike, reached_on, reached_fault, reached_end, reached_refused, many_on, many_fault, many_end, many_over}
 use Rattle.der_core_values.proofs.vec.VecDecodeFields.decode_fields.Goals as goal

@@ -1,7 +1,7 @@
 use Rattle.std.proofs.Common.{◌-◌, length}
-use Rattle.der_core_head.specs.declared.error.ErrorKind.TheVariants as kinds
-use Rattle.der_core_head.specs.Grammar.{read_many}
-use Rattle.der_core_head.specs.Reading.{read_at}
+use Rattle.der_core_octets.specs.CoreHead.declared.error.ErrorKind.TheVariants as kinds
+use Rattle.der_core_octets.specs.CoreHead.Grammar.{read_many}
+use Rattle.der_core_octets.specs.CoreHead.Reading.{read_at}
 use Rattle.der_core_values.proofs.Lists.{Reached}
 use Rattle.der_core_values.proofs.vec.VecDecodeFields.decode_fields.Given as goal
 

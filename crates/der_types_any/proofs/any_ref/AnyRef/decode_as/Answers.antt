@@ -1,20 +1,20 @@
 use Rattle.der_types_any.specs.Anys.{any_lent}
 use Rattle.std.proofs.Common.{◌≡◌, ℕ, List, [], length, Bool, true, false, Result, Ok, Err, refl, sym, ap, ◌∙◌, arith, IfOk, le-ltb}
-use Rattle.der_core_head.specs.Limits.{length_max, levels_max}
-use Rattle.der_core_head.specs.declared.error.Error.{Error}
-use Rattle.der_core_head.specs.declared.error.ErrorKind.{ErrorKind}
-use Rattle.der_core_head.specs.declared.tag.Tag.{Tag}
-use Rattle.der_core_head.specs.Octets.{◌>>=◌}
-use Rattle.der_core_head.specs.Tags.{IsTag, same_tag}
-use Rattle.der_core_head.specs.Heads.{tlv, Fits}
-use Rattle.der_core_head.specs.Shapes.{AnyValue, Content, ContentValue, tagged, any, IsValid, octets_of, Spells}
-use Rattle.der_core_head.specs.Spelling.{is_apart, are_enough}
-use Rattle.der_core_head.specs.Grammar.{read, read_content, whole, read_whole, value_at, tlv_at, kept}
-use Rattle.der_core_head.specs.Reading.{Gives}
-use Rattle.der_core_head.specs.Fronts.{alone}
-use Rattle.der_core_head.proofs.HeadLaws.{fits_contents, head_again}
-use Rattle.der_core_head.proofs.TagLaws.{same_tags}
-use Rattle.der_core_head.proofs.OneEncoding.{bytes_are, octets_below, is_spelled, is_read}
+use Rattle.der_types_text.specs.Der.Limits.{length_max, levels_max}
+use Rattle.der_types_text.specs.Der.ErrorTypes.Error.{Error}
+use Rattle.der_types_text.specs.Der.ErrorTypes.ErrorKind.{ErrorKind}
+use Rattle.der_types_text.specs.Der.TagTypes.Tag.{Tag}
+use Rattle.der_types_text.specs.Der.Octets.{◌>>=◌}
+use Rattle.der_types_text.specs.Der.Tags.{IsTag, same_tag}
+use Rattle.der_types_text.specs.Der.Heads.{tlv, Fits}
+use Rattle.der_types_text.specs.Der.Shapes.{AnyValue, Content, ContentValue, tagged, any, IsValid, octets_of, Spells}
+use Rattle.der_types_text.specs.Der.Spelling.{is_apart, are_enough}
+use Rattle.der_types_text.specs.Der.Grammar.{read, read_content, whole, read_whole, value_at, tlv_at, kept}
+use Rattle.der_types_text.specs.Der.Reading.{Gives}
+use Rattle.der_types_text.specs.Der.Fronts.{alone}
+use Rattle.der_types_text.proofs.Der.HeadLaws.{fits_contents, head_again}
+use Rattle.der_types_text.proofs.Der.TagLaws.{same_tags}
+use Rattle.der_types_text.proofs.Der.OneEncoding.{bytes_are, octets_below, is_spelled, is_read}
 use Rattle.der_types_any.specs.Contents.{content_as, content_by}
 use Rattle.der_types_any.proofs.AnyLaws.{value_whole}
 use Rattle.der_types_any.proofs.any_ref.AnyRef.decode_as.Goals as goal

@@ -1,7 +1,7 @@
 use Rattle.std.proofs.Common.{◌≡◌, true, false, ap, rules}
 use Rattle.std.proofs.lemmas.Result.{err_from_is_err_and}
-use Rattle.der_core_head.specs.Tags.{same_tag}
-use Rattle.der_core_head.specs.Reading.{State}
+use Rattle.der_types_text.specs.Der.Tags.{same_tag}
+use Rattle.der_types_text.specs.Der.Reading.{State}
 use Rattle.der_types_any.specs.Anys.{any_lent}
 use Rattle.der_types_any.proofs.AnyLaws.{read_ok, read_err}
 use Rattle.der_types_any.proofs.any_ref.AnyRef.decode_as_encoding.Goals as goal

@@ -1,10 +1,10 @@
 use Rattle.std.proofs.Common.{◌≡◌, ◌∙◌, true, ap, sym, rules}
 use Rattle.std.proofs.lemmas.Result.{err_from_is_err_and}
-use Rattle.der_core_head.specs.declared.encoding_rules.EncodingRules.TheVariants as encodings
-use Rattle.der_core_head.specs.declared.tag.Tag.TheVariants.{Sequence}
-use Rattle.der_core_head.specs.Tags.{same_tag}
-use Rattle.der_core_head.specs.Shapes.{nested}
-use Rattle.der_core_head.specs.Reading.{State}
+use Rattle.der_types_text.specs.Der.EncodingRulesTypes.EncodingRules.TheVariants as encodings
+use Rattle.der_types_text.specs.Der.TagTypes.Tag.TheVariants.{Sequence}
+use Rattle.der_types_text.specs.Der.Tags.{same_tag}
+use Rattle.der_types_text.specs.Der.Shapes.{nested}
+use Rattle.der_types_text.specs.Der.Reading.{State}
 use Rattle.der_types_any.specs.Anys.{any_lent}
 use Rattle.der_types_any.proofs.AnyLaws.{as_other, read_ok, read_err}
 use Rattle.der_types_any.proofs.any_ref.AnyRef.sequence.Goals as goal

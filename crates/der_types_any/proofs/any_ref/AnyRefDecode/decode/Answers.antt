@@ -1,5 +1,5 @@
 use Rattle.std.proofs.Common.{arith}
-use Rattle.der_core_octets.proofs.Levels.{slice_few}
+use Rattle.der_types_text.proofs.Der.Levels.{slice_few}
 use Rattle.der_types_any.proofs.any_ref.AnyRefDecode.decode.Goals as goal
 
 pub invariant_of-result : goal.invariant_of-result

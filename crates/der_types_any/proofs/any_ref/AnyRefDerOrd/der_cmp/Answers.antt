@@ -1,5 +1,5 @@
 use Rattle.std.proofs.Common.{refl}
-use Rattle.der_core_head.specs.Shapes.{IsValid, octets_of, contents}
+use Rattle.der_types_text.specs.Der.Shapes.{IsValid, octets_of, contents}
 use Rattle.der_types_any.proofs.any_ref.AnyRefDerOrd.der_cmp.Goals as goal
 
 pub returns-clause-order : goal.returns-clause-order

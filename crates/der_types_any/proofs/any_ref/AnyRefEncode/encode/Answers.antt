@@ -1,7 +1,7 @@
 use Rattle.std.proofs.Common.{refl}
-use Rattle.der_core_head.specs.Leaves.{octets}
-use Rattle.der_core_head.specs.Shapes.{leaf, octets_of, contents}
-use Rattle.der_core_octets.proofs.Added.{header_adds, content_adds, write_adds}
+use Rattle.der_types_text.specs.Der.Leaves.{octets}
+use Rattle.der_types_text.specs.Der.Shapes.{leaf, octets_of, contents}
+use Rattle.der_types_text.proofs.Der.Added.{header_adds, content_adds, write_adds}
 use Rattle.der_types_any.proofs.any_ref.AnyRefEncode.encode.Goals as goal
 
 pub returns-in_err-encode_header-clause-front : goal.returns-in_err-encode_header-clause-front

@@ -1,5 +1,5 @@
 use Rattle.std.proofs.Common.{◌<◌, length, sym, ◌∙◌, arith}
-use Rattle.der_core_head.proofs.IntegerLaws.{integer_octets-of}
+use Rattle.der_core.proofs.IntegerLaws.{integer_octets-of}
 use Rattle.std.proofs.lemmas.Bool.{eqb-false}
 use Rattle.der_types_numbers.proofs.int_ref.IntRef.of_content.Goals as goal
 

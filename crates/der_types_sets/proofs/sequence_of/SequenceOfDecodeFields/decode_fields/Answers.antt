@@ -1,10 +1,10 @@
 use Rattle.std.proofs.Common.{◌≡◌, ◌≤◌, ◌-◌, [], ◌∷◌, refl, sym, ap, ◌∙◌, arith, ◌≢◌, length-append}
 use Rattle.std.proofs.lemmas.Result.{err_from_is_err_and}
-use Rattle.der_core_head.specs.declared.error.ErrorKind.TheVariants as kinds
-use Rattle.der_core_head.specs.Grammar.{read_many}
-use Rattle.der_core_head.specs.Reading.{State, read_at}
-use Rattle.der_core_octets.proofs.GoingOn.{broken_kept}
-use Rattle.der_core_values.proofs.Lists.{reached_none, reads_alike, reached_on, reached_fault, reached_end, reached_refused, many_on, many_fault, many_end, many_over}
+use Rattle.der_core.specs.ErrorTypes.ErrorKind.TheVariants as kinds
+use Rattle.der_core.specs.Grammar.{read_many}
+use Rattle.der_core.specs.Reading.{State, read_at}
+use Rattle.der_core.proofs.GoingOn.{broken_kept}
+use Rattle.der_core.proofs.Lists.{reached_none, reads_alike, reached_on, reached_fault, reached_end, reached_refused, many_on, many_fault, many_end, many_over}
 use Rattle.der_types_sets.proofs.sequence_of.SequenceOfDecodeFields.decode_fields.Goals as goal
 use Rattle.der_types_sets.proofs.sequence_of.SequenceOfDecodeFields.decode_fields.Goals.{else-loop-test, then-loop-test+then-is_finished}
 

@@ -1,8 +1,8 @@
 use Rattle.std.proofs.Common.{◌≡◌, ◌-◌, length}
-use Rattle.der_core_head.specs.declared.error.ErrorKind.TheVariants as kinds
-use Rattle.der_core_head.specs.Grammar.{read_many}
-use Rattle.der_core_head.specs.Reading.{read_at}
-use Rattle.der_core_values.proofs.Lists.{Reached}
+use Rattle.der_core.specs.ErrorTypes.ErrorKind.TheVariants as kinds
+use Rattle.der_core.specs.Grammar.{read_many}
+use Rattle.der_core.specs.Reading.{read_at}
+use Rattle.der_core.proofs.Lists.{Reached}
 use Rattle.der_types_sets.proofs.sequence_of.SequenceOfDecodeFields.decode_fields.Given as goal
 
 abbrev pub invariant-loop : goal.invariant-loop

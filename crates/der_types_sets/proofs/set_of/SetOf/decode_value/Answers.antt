@@ -1,10 +1,10 @@
 use Rattle.std.proofs.Common.{List, [], Ok, subst, ap, arith, inl}
 use Rattle.std.proofs.lemmas.Result.{err_from_is_err_and}
-use Rattle.der_core_head.specs.Heads.{Fits}
-use Rattle.der_core_head.specs.Reading.{State, IsDer}
-use Rattle.der_core_head.specs.Shapes.{Value}
-use Rattle.der_core_head.proofs.Results.{IsBytes}
-use Rattle.der_core_octets.proofs.GoingOn.{broken_kept, kept_then}
+use Rattle.der_core.specs.Heads.{Fits}
+use Rattle.der_core.specs.Reading.{State, IsDer}
+use Rattle.der_core.specs.Shapes.{Value}
+use Rattle.der_core.proofs.Results.{IsBytes}
+use Rattle.der_core.proofs.GoingOn.{broken_kept, kept_then}
 use Rattle.der_types_sets.proofs.AscendingSteps.{few_joins, few_again, by_ber, not_too_long, loose, only_loose}
 use Rattle.der_types_sets.proofs.set_of.SetOf.decode_value.Goals as goal
 

@@ -1,11 +1,11 @@
 use Rattle.std.proofs.Common.{◌≡◌, List, [], length, drop, Ok, refl, ap, sym, subst, ◌∙◌, arith}
 use Rattle.std.proofs.lemmas.List.{drop_all}
-use Rattle.der_core_head.specs.Limits.{levels_max}
-use Rattle.der_core_head.specs.Shapes.{Value}
-use Rattle.der_core_head.specs.Grammar.{read}
-use Rattle.der_core_head.specs.Reading.{State}
-use Rattle.der_core_head.proofs.Results.{ok_is}
-use Rattle.der_core_octets.proofs.GoingOn.{broken_kept}
+use Rattle.der_core.specs.Limits.{levels_max}
+use Rattle.der_core.specs.Shapes.{Value}
+use Rattle.der_core.specs.Grammar.{read}
+use Rattle.der_core.specs.Reading.{State}
+use Rattle.der_core.proofs.Results.{ok_is}
+use Rattle.der_core.proofs.GoingOn.{broken_kept}
 use Rattle.der_types_sets.specs.Ascending.{JoinsAscending, values_at}
 use Rattle.der_types_sets.proofs.AscendingSteps.{counts, content_ascends}
 use Rattle.der_types_sets.proofs.set_of_ref.SetOfRef.decode_members.Goals as goal

@@ -1,8 +1,8 @@
 use Rattle.std.proofs.Common.{Ok, ap, subst, inr, sym, ◌∙◌, Ordering}
 use Rattle.std.proofs.lemmas.Result.{err_from_is_err_and, IfErr-weaker}
-use Rattle.der_core_head.specs.declared.tag.Tag.TheVariants as tags
-use Rattle.der_core_head.specs.Shapes.{nested, many}
-use Rattle.der_core_head.specs.Reading.{Gives}
+use Rattle.der_core.specs.TagTypes.Tag.TheVariants as tags
+use Rattle.der_core.specs.Shapes.{nested, many}
+use Rattle.der_core.specs.Reading.{Gives}
 use Rattle.der_core.proofs.OrderLaws.{tagged_content, never_long, first_long, second_long, headers_decide, contents_decide, one_tag}
 use Rattle.der_types_sets.specs.Lent.{members_lent}
 use Rattle.der_types_sets.proofs.LentOrders.{inside_long}

@@ -1,5 +1,5 @@
 use Rattle.std.proofs.Common.{◌≡◌, ◌++◌}
-use Rattle.der_core_head.specs.Grammar.{plain_list}
+use Rattle.der_core.specs.Grammar.{plain_list}
 use Rattle.der_types_sets.specs.Lent.{members_lent}
 use Rattle.der_types_sets.proofs.set_of_ref.SetOfRef.ref_to_owned.Given as goal
 

@@ -1,8 +1,8 @@
 use Rattle.std.proofs.Common.{Ok, ap, sym, ◌∙◌, inl, inr, eqb-true}
 use Rattle.std.proofs.lemmas.Result.{err_from_is_err_and, IfErr-weaker}
-use Rattle.der_core_head.specs.Shapes.{many, contents, body_octets, IsContent}
-use Rattle.der_core_head.specs.Grammar.{plain_list}
-use Rattle.der_core_head.proofs.Results.{ok_is}
+use Rattle.der_core.specs.Shapes.{many, contents, body_octets, IsContent}
+use Rattle.der_core.specs.Grammar.{plain_list}
+use Rattle.der_core.proofs.Results.{ok_is}
 use Rattle.der_types_sets.proofs.Arranged.{turned}
 use Rattle.der_types_sets.proofs.LentOrders.{some_at, of_values, of_octets, spelled_contents, answered, first_unwritten, second_unwritten}
 use Rattle.der_types_sets.proofs.set_of_ref.SetOfRef.value_cmp.Goals as goal

@@ -1,5 +1,5 @@
 use Rattle.std.proofs.Common.{sym, ◌∙◌, eqb-true}
-use Rattle.der_core_octets.proofs.Added.{write_adds}
+use Rattle.der_core.proofs.Added.{write_adds}
 use Rattle.der_types_sets.proofs.LentOrders.{some_at, values_written, octets_lent, octets_written}
 use Rattle.der_types_sets.proofs.set_of_ref.SetOfRefEncodeValue.encode_value.Goals as goal
 

@@ -1,5 +1,5 @@
 use Rattle.std.proofs.Common.{List, length, ap, arith}
-use Rattle.der_core_head.specs.Shapes.{Value}
+use Rattle.der_core.specs.Shapes.{Value}
 use Rattle.der_types_sets.proofs.SetSteps.{front_lent}
 use Rattle.der_types_sets.proofs.set_of_ref_iter.SetOfRefIterIterator.next.Goals as goal
 

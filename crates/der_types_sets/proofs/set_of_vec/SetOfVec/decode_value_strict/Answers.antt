@@ -1,6 +1,6 @@
 use Rattle.std.proofs.Common.{subst, sym}
-use Rattle.der_core_head.specs.Shapes.{Value}
-use Rattle.der_core_head.specs.Grammar.{plain_list}
+use Rattle.der_core.specs.Shapes.{Value}
+use Rattle.der_core.specs.Grammar.{plain_list}
 use Rattle.der_types_sets.specs.Sets.{Ascends}
 use Rattle.der_types_sets.proofs.AscendingSteps.{content_rises, rising-ascends, views}
 use Rattle.der_types_sets.proofs.set_of_vec.SetOfVec.decode_value_strict.Goals as goal

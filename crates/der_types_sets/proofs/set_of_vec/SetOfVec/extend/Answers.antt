@@ -1,10 +1,10 @@
 use Rattle.std.proofs.Common.{◌∙◌, ◌≡◌, List, [], ◌∷◌, ◌++◌, Option, Some, None, Result, Ok, Err, refl, subst, inl, OnOk, IfErr}
 use Rattle.std.proofs.lemmas.Result.{err_from_is_err_and}
 use Rattle.std.specs.Iterator.{Yields, YieldsThen, ExtendsWithItems}
-use Rattle.der_core_head.specs.declared.error.Error.{Error}
-use Rattle.der_core_head.specs.Shapes.{Shape, Value}
+use Rattle.der_core.specs.ErrorTypes.Error.{Error}
+use Rattle.der_core.specs.Shapes.{Shape, Value}
 use Rattle.der_types_sets.specs.Sets.{StopsAt, StopsIn, Gains}
-use Rattle.der_core_head.specs.declared.error.ErrorKind.TheVariants as kinds
+use Rattle.der_core.specs.ErrorTypes.ErrorKind.TheVariants as kinds
 use Rattle.der_types_sets.proofs.set_of_vec.SetOfVec.extend.Goals as goal
 
 -- Items that were taken, of which one is refused.

@@ -1,10 +1,10 @@
 use Rattle.std.proofs.Common.{◌≡◌, true, List, Ok, ap}
 use Rattle.std.proofs.lemmas.Result.{err_from_is_err_and}
-use Rattle.der_core_head.specs.Shapes.{Value}
-use Rattle.der_core_head.specs.Spelling.{is_element}
-use Rattle.der_core_head.specs.Grammar.{plain_list}
-use Rattle.der_core_head.proofs.Results.{ok_is}
-use Rattle.der_core_values.specs.Both.{both_true}
+use Rattle.der_core.specs.Shapes.{Value}
+use Rattle.der_core.specs.Spelling.{is_element}
+use Rattle.der_core.specs.Grammar.{plain_list}
+use Rattle.der_core.proofs.Results.{ok_is}
+use Rattle.der_core.specs.Both.{both_true}
 use Rattle.der_types_sets.proofs.AscendingSteps.{members_valid, not_too_long, spells_loosely, only_whole}
 use Rattle.der_types_sets.proofs.set_of_vec.SetOfVec.from_der.Goals as goal
 

@@ -1,17 +1,17 @@
 use Rattle.std.proofs.Common.{◌≡◌, ◌/◌, true, Err, ap, subst, ◌∙◌, ℕ, List, Result, Ok, refl}
 use Rattle.std.proofs.lemmas.Result.{err_from_is_err_and}
-use Rattle.der_core_head.specs.declared.tag.Tag.{Tag}
-use Rattle.der_core_head.specs.Tags.{class_tag, number_of}
-use Rattle.der_core_head.specs.Shapes.{nested, only, tagged, Shape}
-use Rattle.der_core_head.specs.Reading.{Reads, read_at}
-use Rattle.der_core_octets.specs.Headers.{head_of}
-use Rattle.der_core_head.specs.declared.error.ErrorKind.{ErrorKind}
-use Rattle.der_core_head.specs.declared.encoding_rules.EncodingRules.{EncodingRules}
-use Rattle.der_core_head.specs.Heads.{Head}
-use Rattle.der_core_head.specs.Bodies.{head_by}
-use Rattle.der_core_head.specs.Grammar.{read_by}
-use Rattle.der_core_head.proofs.Results.{ok_is}
-use Rattle.der_core_head.specs.Fronts.{alone}
+use Rattle.der_core.specs.TagTypes.Tag.{Tag}
+use Rattle.der_core.specs.Tags.{class_tag, number_of}
+use Rattle.der_core.specs.Shapes.{nested, only, tagged, Shape}
+use Rattle.der_core.specs.Reading.{Reads, read_at}
+use Rattle.der_core.specs.Headers.{head_of}
+use Rattle.der_core.specs.ErrorTypes.ErrorKind.{ErrorKind}
+use Rattle.der_core.specs.EncodingRulesTypes.EncodingRules.{EncodingRules}
+use Rattle.der_core.specs.Heads.{Head}
+use Rattle.der_core.specs.Bodies.{head_by}
+use Rattle.der_core.specs.Grammar.{read_by}
+use Rattle.der_core.proofs.Results.{ok_is}
+use Rattle.der_core.specs.Fronts.{alone}
 use Rattle.der_types_tagged.specs.Fields.{explicit_field, numbered_at}
 use Rattle.der_types_tagged.proofs.class_field.ClassField.decode.Goals as goal
 

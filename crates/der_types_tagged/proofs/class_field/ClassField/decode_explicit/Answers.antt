@@ -1,9 +1,9 @@
 use Rattle.std.proofs.Common.{Err, subst}
 use Rattle.std.proofs.lemmas.Result.{err_from_is_err_and}
-use Rattle.der_core_head.specs.declared.tag.Tag.{Tag}
-use Rattle.der_core_head.specs.Shapes.{nested, only, optional, tagged}
-use Rattle.der_core_head.specs.Grammar.{plain_option}
-use Rattle.der_core_head.specs.Reading.{Reads, read_at}
+use Rattle.der_core.specs.TagTypes.Tag.{Tag}
+use Rattle.der_core.specs.Shapes.{nested, only, optional, tagged}
+use Rattle.der_core.specs.Grammar.{plain_option}
+use Rattle.der_core.specs.Reading.{Reads, read_at}
 use Rattle.der_types_tagged.proofs.class_field.ClassField.decode_explicit.Goals as goal
 
 pub returns-in_err-value-clause-reads : goal.returns-in_err-value-clause-reads

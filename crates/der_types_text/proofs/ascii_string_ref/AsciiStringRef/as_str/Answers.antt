@@ -1,4 +1,4 @@
-use Rattle.der_core_head.specs.Texts.{is_within}
+use Rattle.der_core.specs.Texts.{is_within}
 use Rattle.der_types_text.proofs.BmpTexts.{ascii_octets}
 use Rattle.der_types_text.proofs.ascii_string_ref.AsciiStringRef.as_str.Goals as goal
 

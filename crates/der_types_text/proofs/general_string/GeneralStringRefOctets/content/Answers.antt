@@ -1,5 +1,5 @@
 use Rattle.std.proofs.Common.{subst}
-use Rattle.der_core_head.specs.Octets.{IsOctets}
+use Rattle.der_core.specs.Octets.{IsOctets}
 use Rattle.der_types_text.proofs.BmpTexts.{all_within}
 use Rattle.der_types_text.proofs.general_string.GeneralStringRefOctets.content.Goals as goal
 

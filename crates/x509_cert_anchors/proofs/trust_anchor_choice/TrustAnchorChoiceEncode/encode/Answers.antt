@@ -1,7 +1,7 @@
 use Rattle.std.proofs.Common.{subst}
-use Rattle.const_oid.specs.Bound.{Bound}
-use Rattle.der_core_head.specs.Shapes.{Value, octets_of}
-use Rattle.der_core_octets.specs.Outputs.{AddsFront}
+use Rattle.der_core.specs.Oid.Bound.{Bound}
+use Rattle.der_core.specs.Shapes.{Value, octets_of}
+use Rattle.der_core.specs.Outputs.{AddsFront}
 use Rattle.x509_cert_anchors.specs.Anchors.{trust_anchor_choice}
 use Rattle.x509_cert_anchors.proofs.trust_anchor_choice.TrustAnchorChoiceEncode.encode.Goals as goal
 

@@ -1,5 +1,5 @@
 use Rattle.std.proofs.Common.{◌∙◌, Some, sym, ap}
-use Rattle.const_oid.specs.Bound.{Bound}
+use Rattle.x509_cert_certificates.specs.Oid.Bound.{Bound}
 use Rattle.x509_cert_certificates.specs.Views.{certificate_plain, tbs_plain}
 use Rattle.x509_cert_certificates.specs.Assembling.{fields_of}
 use Rattle.x509_cert_builders.specs.SignedParts.{written_part}

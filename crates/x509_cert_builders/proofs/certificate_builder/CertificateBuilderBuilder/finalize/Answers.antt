@@ -1,7 +1,7 @@
 use Rattle.std.proofs.Common.{◌++◌, List, ap, ◌∙◌}
 use Rattle.x509_cert_certificates.specs.Views.{tbs_plain}
-use Rattle.x509_cert_parts.specs.Grammar.{PlainExtension}
-use Rattle.x509_cert_parts.specs.Views.{extensions_plain}
+use Rattle.x509_cert_certificates.specs.CertParts.Grammar.{PlainExtension}
+use Rattle.x509_cert_certificates.specs.CertParts.Views.{extensions_plain}
 use Rattle.x509_cert_certificates.specs.Assembling.{bare_part, fields_of, signed_part}
 use Rattle.x509_cert_builders.proofs.Encodable.{made_valid}
 use Rattle.x509_cert_builders.proofs.certificate_builder.CertificateBuilderBuilder.finalize.Goals as goal

@@ -1,7 +1,7 @@
 use Rattle.std.proofs.Common.{◌≡◌, Err, Ok, Some, [], ◌∷◌, ap, inl, rules}
-use Rattle.der_core_head.specs.Reading.{Fails}
-use Rattle.der_core_head.specs.Grammar.{plain_list}
-use Rattle.x509_cert_general_names.specs.GeneralNameViews.{general_name_plain, other_name_plain}
+use Rattle.x509_cert_certificates.specs.Der.Reading.{Fails}
+use Rattle.x509_cert_certificates.specs.Der.Grammar.{plain_list}
+use Rattle.x509_cert_extensions.specs.CertGeneralNames.GeneralNameViews.{general_name_plain, other_name_plain}
 use Rattle.x509_cert_builders.specs.Devices.{PlainGeneralName, module_name, version_arcs}
 use Rattle.x509_cert_builders.proofs.Faults.{module_named}
 use Rattle.x509_cert_builders.proofs.dev_id.DevId.idevid_tpm.Goals as goal

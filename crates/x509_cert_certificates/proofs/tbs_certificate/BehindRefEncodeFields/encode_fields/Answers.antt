@@ -1,7 +1,7 @@
 use Rattle.std.proofs.Common.{subst}
-use Rattle.const_oid.specs.Bound.{Bound}
-use Rattle.der_core_head.specs.Shapes.{BodyValue, body_octets}
-use Rattle.der_core_octets.specs.Outputs.{AddsFront}
+use Rattle.der_core.specs.Oid.Bound.{Bound}
+use Rattle.der_core.specs.Shapes.{BodyValue, body_octets}
+use Rattle.der_core.specs.Outputs.{AddsFront}
 use Rattle.x509_cert_certificates.specs.Certificates.{from_validity}
 use Rattle.x509_cert_names.proofs.Rows.{written}
 use Rattle.x509_cert_certificates.proofs.tbs_certificate.BehindRefEncodeFields.encode_fields.Goals as goal

@@ -1,4 +1,4 @@
-use Rattle.const_oid.specs.Bound.{Bound}
+use Rattle.der_core.specs.Oid.Bound.{Bound}
 use Rattle.x509_cert_certificates.specs.Certificates.{from_validity}
 use Rattle.x509_cert_certificates.proofs.RowOrders.{started}
 use Rattle.x509_cert_certificates.proofs.tbs_certificate.BehindRefFieldsOrd.fields_tag.Goals as goal

@@ -1,8 +1,8 @@
 use Rattle.std.proofs.Common.{◌≡◌, ℕ, ◌-◌, List, Ok, ap, ◌∙◌, rules, pos, take, drop}
 use Rattle.std.proofs.lemmas.List.{take_rest}
-use Rattle.der_core_head.specs.declared.tag.Tag.TheVariants.{Integer}
-use Rattle.der_core_head.specs.Integers.{natural, integer_octets, integer_read}
-use Rattle.der_core_head.proofs.IntegerLaws.{integer_again}
+use Rattle.x509_cert_policies.specs.Der.TagTypes.Tag.TheVariants.{Integer}
+use Rattle.x509_cert_policies.specs.Der.Integers.{natural, integer_octets, integer_read}
+use Rattle.x509_cert_policies.proofs.Der.IntegerLaws.{integer_again}
 use Rattle.x509_cert_extensions.proofs.crl_number.CrlNumber.try_from_u128.Goals as goal
 
 pub returns-in_err-inner : goal.returns-in_err-inner

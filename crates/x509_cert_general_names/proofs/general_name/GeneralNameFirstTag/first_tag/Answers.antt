@@ -1,4 +1,4 @@
-use Rattle.const_oid.specs.Bound.{Bound}
+use Rattle.der_core.specs.Oid.Bound.{Bound}
 use Rattle.x509_cert_general_names.specs.GeneralNames.{general_name}
 use Rattle.x509_cert_general_names.specs.GeneralNameViews.{general_name_plain}
 use Rattle.x509_cert_names.proofs.Rows.{started}

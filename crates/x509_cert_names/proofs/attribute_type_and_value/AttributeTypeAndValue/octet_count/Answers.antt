@@ -1,6 +1,6 @@
 use Rattle.std.proofs.Common.{ℕ, ◌+◌, ◌<◌, Ok, length, ap, subst, ◌∙◌, arith}
-use Rattle.der_core_head.specs.Octets.{IsOctets}
-use Rattle.der_core_head.specs.Tags.{number_of}
+use Rattle.der_core.specs.Octets.{IsOctets}
+use Rattle.der_core.specs.Tags.{number_of}
 use Rattle.x509_cert_names.proofs.PlainSpelled.{plain_size}
 use Rattle.x509_cert_names.proofs.attribute_type_and_value.AttributeTypeAndValue.octet_count.Goals as goal
 

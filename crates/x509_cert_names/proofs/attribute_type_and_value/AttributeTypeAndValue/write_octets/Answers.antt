@@ -1,6 +1,6 @@
 use Rattle.std.proofs.Common.{◌<◌, ap, subst, ◌∙◌, arith}
-use Rattle.der_core_head.specs.Tags.{leading_octet, number_of}
-use Rattle.der_core_octets.specs.Outputs.{AddsFront}
+use Rattle.der_core.specs.Tags.{leading_octet, number_of}
+use Rattle.der_core.specs.Outputs.{AddsFront}
 use Rattle.x509_cert_names.proofs.PlainSpelled.{pieces_octets, pieces_written, writes_alike}
 use Rattle.x509_cert_names.proofs.attribute_type_and_value.AttributeTypeAndValue.write_octets.Goals as goal
 

@@ -1,5 +1,5 @@
 use Rattle.std.proofs.Common.{◌≡◌}
-use Rattle.der_core_head.specs.Grammar.{plain_list}
+use Rattle.der_core.specs.Grammar.{plain_list}
 use Rattle.x509_cert_names.specs.AttributeTypes.{first_value}
 use Rattle.x509_cert_names.specs.Names.{all_of}
 use Rattle.x509_cert_names.specs.Pairs.{pair_plain}

@@ -1,5 +1,5 @@
 use Rattle.std.proofs.Common.{sym, ap, ◌∙◌}
-use Rattle.der_core_head.specs.Grammar.{plain_list}
+use Rattle.der_core.specs.Grammar.{plain_list}
 use Rattle.x509_cert_names.specs.Pairs.{relative_plain}
 use Rattle.x509_cert_names.proofs.SameOctets.{names_apart, names}
 use Rattle.x509_cert_names.proofs.name.Name.has_octets_of.Goals as goal

@@ -2,7 +2,7 @@ use Rattle.std.proofs.Common.{length, Ok, sym, ap, subst, ◌∙◌}
 use Rattle.std.proofs.lemmas.Bool.{eqb-true, eqb-false}
 use Rattle.std.proofs.lemmas.List.{nil_from_length}
 use Rattle.std.proofs.lemmas.Result.{err_from_is_err_and}
-use Rattle.const_oid.specs.Bound.{Bound}
+use Rattle.der_core.specs.Oid.Bound.{Bound}
 use Rattle.x509_cert_names.specs.NameTexts.{ReadsName}
 use Rattle.x509_cert_names.proofs.rdn_sequence.RdnSequence.from_str.Goals as goal
 

@@ -1,6 +1,6 @@
 use Rattle.std.proofs.Common.{Err, inl, inr, sym, subst}
 use Rattle.std.proofs.lemmas.Result.{err_from_is_err_and}
-use Rattle.const_oid.specs.Bound.{Bound}
+use Rattle.der_core.specs.Oid.Bound.{Bound}
 use Rattle.x509_cert_names.specs.NameTexts.{ReadsRelative}
 use Rattle.x509_cert_names.proofs.relative_distinguished_name.RelativeDistinguishedName.from_str.Goals as goal
 

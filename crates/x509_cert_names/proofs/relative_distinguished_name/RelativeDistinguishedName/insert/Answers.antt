@@ -1,9 +1,9 @@
 use Rattle.std.proofs.Common.{◌≡◌, List, true, false, inl, sym, subst, ◌∙◌}
 use Rattle.std.specs.List.{list_any}
 use Rattle.std.proofs.lemmas.List.Sorted.{IsPermutation-insert}
-use Rattle.const_oid.specs.Bound.{Bound}
-use Rattle.der_types_sets.specs.Sets.{IsPlace}
-use Rattle.der_types_sets.proofs.SetSteps.{placed}
+use Rattle.der_core.specs.Oid.Bound.{Bound}
+use Rattle.der_types.specs.Sets.{IsPlace}
+use Rattle.der_types.proofs.SetSteps.{placed}
 use Rattle.x509_cert_names.specs.Names.{type_and_value}
 use Rattle.x509_cert_names.specs.Pairs.{pair_plain, same_pair}
 use Rattle.x509_cert_names.specs.declared.attribute_type_and_value.AttributeTypeAndValue.{AttributeTypeAndValue}

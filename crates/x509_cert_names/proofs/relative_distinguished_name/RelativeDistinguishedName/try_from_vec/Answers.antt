@@ -1,8 +1,8 @@
 use Rattle.std.proofs.Common.{◌≡◌, List, true, inl, sym, subst}
 use Rattle.std.proofs.lemmas.Map.Keys.{IsDistinct-IsPermutation}
-use Rattle.const_oid.specs.Bound.{Bound}
+use Rattle.der_core.specs.Oid.Bound.{Bound}
 use Rattle.der_core.specs.Placed.{AllValid}
-use Rattle.der_types_sets.specs.Sets.{Ascends}
+use Rattle.der_types.specs.Sets.{Ascends}
 use Rattle.x509_cert_names.specs.Names.{type_and_value}
 use Rattle.x509_cert_names.specs.Ordered.{DifferInTurn, IsOrdered}
 use Rattle.x509_cert_names.specs.Pairs.{pair_plain, same_pair, same_pair_equiv}

@@ -1,13 +1,13 @@
 use Rattle.std.proofs.Common.{[], ◌∷◌, refl, ◌≡◌, ℕ, zero, suc, ◌<◌, ◌≤◌, List, length, take, drop, Ok, sym, ap, ◌∙◌, arith, append-nil, le-ltb}
 use Rattle.x509_cert_names.specs.Pairs.{pair_plain}
 use Rattle.x509_cert_names.proofs.SameOctets.{rising_distinct}
-use Rattle.const_oid.specs.Bound.{Bound}
-use Rattle.der_core_head.specs.Grammar.{read_body, read_content_by, value_at, whole}
-use Rattle.der_core_head.specs.Octets.{◌>>=◌}
-use Rattle.der_core_head.specs.Shapes.{nested, rising, octets_of, body_octets, Spells, IsBody}
-use Rattle.der_core_head.specs.declared.encoding_rules.EncodingRules.{EncodingRules}
-use Rattle.der_core_head.specs.declared.tag.Tag.{Tag}
-use Rattle.der_core_head.proofs.Complete.{complete_body}
+use Rattle.der_core.specs.Oid.Bound.{Bound}
+use Rattle.der_core.specs.Grammar.{read_body, read_content_by, value_at, whole}
+use Rattle.der_core.specs.Octets.{◌>>=◌}
+use Rattle.der_core.specs.Shapes.{nested, rising, octets_of, body_octets, Spells, IsBody}
+use Rattle.der_core.specs.EncodingRulesTypes.EncodingRules.{EncodingRules}
+use Rattle.der_core.specs.TagTypes.Tag.{Tag}
+use Rattle.der_core.proofs.Complete.{complete_body}
 use Rattle.x509_cert_names.specs.Names.{type_and_value, TypeAndValue}
 use Rattle.x509_cert_names.proofs.relative_distinguished_name.RelativeDistinguishedNameDecodeValue.decode_value.Goals as goal
 

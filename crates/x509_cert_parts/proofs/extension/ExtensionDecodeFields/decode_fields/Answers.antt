@@ -1,5 +1,5 @@
 use Rattle.std.proofs.Common.{length, refl, ap, ◌∙◌, arith}
-use Rattle.const_oid.specs.Bound.{Bound}
+use Rattle.der_core.specs.Oid.Bound.{Bound}
 use Rattle.x509_cert_parts.specs.Grammar.{extension_fields}
 use Rattle.x509_cert_parts.specs.Views.{extension_plain}
 use Rattle.x509_cert_parts.proofs.PlainFields.{all_read}

@@ -1,8 +1,8 @@
 use Rattle.std.proofs.Common.{◌≡◌, ℕ, ◌-◌, List, Ok, ap, ◌∙◌, rules, pos, take, drop}
 use Rattle.std.proofs.lemmas.List.{take_rest}
-use Rattle.der_core_head.specs.declared.tag.Tag.TheVariants.{Integer}
-use Rattle.der_core_head.specs.Integers.{every, integer_octets, integer_read}
-use Rattle.der_core_head.proofs.IntegerLaws.{integer_again}
+use Rattle.der_core.specs.TagTypes.Tag.TheVariants.{Integer}
+use Rattle.der_core.specs.Integers.{every, integer_octets, integer_read}
+use Rattle.der_core.proofs.IntegerLaws.{integer_again}
 use Rattle.x509_cert_parts.proofs.serial_number.SerialNumber.from_u64.Goals as goal
 
 pub returns-in_err-inner : goal.returns-in_err-inner

@@ -1,6 +1,6 @@
 use Rattle.std.proofs.Common.{subst}
-use Rattle.der_core_head.specs.Shapes.{BodyValue}
-use Rattle.der_core_head.specs.Writing.{Writes, write_body}
+use Rattle.der_core.specs.Shapes.{BodyValue}
+use Rattle.der_core.specs.Writing.{Writes, write_body}
 use Rattle.x509_cert_parts.specs.Grammar.{validity_fields}
 use Rattle.x509_cert_parts.proofs.validity.ValidityEncodeValue.encode_value.Goals as goal
 

@@ -1,0 +1,5 @@
+use Rattle.cert_desk.proofs.Trusting.{held_is_refused_for}
+use Rattle.cert_desk.proofs.issuing_laws.held_is_refused_for.Goals as goal
+
+pub returns : goal.returns
+returns c = held_is_refused_for

@@ -1,0 +1,5 @@
+use Rattle.cert_desk.proofs.Trusting.{trusted_is_permitted}
+use Rattle.cert_desk.proofs.issuing_laws.trusted_is_permitted.Goals as goal
+
+pub returns : goal.returns
+returns c = trusted_is_permitted

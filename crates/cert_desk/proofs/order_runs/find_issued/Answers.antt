@@ -1,0 +1,19 @@
+use Rattle.std.proofs.Common.{◌≡◌, ◌≢◌, map, true, ap, ◌∙◌}
+use Rattle.cert_desk.specs.declared.issue_error.IssueError.TheVariants as errors
+use Rattle.cert_desk.specs.Runs.{signer_key}
+use Rattle.cert_desk.proofs.order_runs.find_issued.Goals as goal
+
+pub returns-in-Ok-issue : goal.returns-in-Ok-issue
+returns-in-Ok-issue c = (c.as_slice.result.now, ap (map signer_key) c.as_slice.ensures.value ∙ c.in-Ok.ensures, c.in-Ok-issue.ensures.issued)
+
+pub returns : goal.returns
+returns c =
+    let told : c.in-Err.error ≢ errors.OutOfMemory = λ wanting.
+    (let yes : c.is_want_of_memory.result ≡ true = c.is_want_of_memory.ensures.1 wanting in
+    cc (yes, c.if-is_want_of_memory.false)) in (
+      c.as_slice.result.now,
+      ap (map signer_key) c.as_slice.ensures.value ∙ c.in-Ok.ensures,
+      c.in-Err.ensures.refused,
+      told,
+      λ issuable. told (c.in-Err.ensures.complete issuable),
+    )

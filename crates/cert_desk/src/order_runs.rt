@@ -1,0 +1,157 @@
+//! Whole runs of `issue`, over any input and outputs.
+ghost use Rattle.std.specs.Prelude.{◌≡◌, ◌↔◌, length, map, take, IfOk, IsTrue};
+ghost use Rattle.cert_desk_listing.specs.DeskIo.Devices.{sink, source};
+ghost use Rattle.cert_desk.specs.declared.outcome.Outcome.{Outcome};
+ghost use Rattle.cert_desk.specs.Roles.{signers_for};
+ghost use Rattle.cert_desk.specs.Runs.{signer_key, signing_keys, OrdersBecome, FileBecomes};
+ghost use Rattle.cert_desk.specs.Runs.{IsTold};
+
+use crate::digest_signer::DigestSigner;
+use crate::issue_error::IssueError;
+use crate::issue_lines::{fault_line, refusal_line};
+use crate::issuing::issue;
+use crate::outcome::Outcome;
+use cert_desk_listing::desk_io::{
+    ExitStatus, Input, Output, ReadAllError, answer, complain, read_all, tell_device, tell_memory,
+};
+use cert_desk_orders::{Order, OrdersError, orders_in};
+use std::alloc::{AllocError, AllocFailed, Global};
+
+/// The orders whose keys sign: all but the last of two or more.
+fn signing(orders: &[Order]) -> &[Order]
+    ensures { result.now ≡ take (signers_for (length orders.now)) orders.now }
+{
+    if orders.len() < 2 {
+        return orders;
+    }
+    &orders[..orders.len() - 1]
+}
+
+/// Signers of digests, of the keys that sign.
+fn signers_of(alloc: Global, orders: &[Order]) -> Result<Vec<DigestSigner>, AllocError>
+    ensures { IfOk result (λ signers. map signer_key signers.items ≡ signing_keys orders.now) }
+{
+    let signing = signing(orders);
+    let mut signers = Vec::new(alloc);
+    for order in signing {
+        let key = order.key.clone(alloc)?;
+        signers.push(DigestSigner::new(key))?;
+    }
+    Ok(signers)
+}
+
+/// Whether an error says out of memory.
+fn is_want_of_memory(error: &IssueError) -> bool
+    ensures { IsTrue result ↔ (error.now ≡ IssueError.OutOfMemory) }
+{
+    match error {
+        IssueError::OutOfMemory => true,
+        _ => false,
+    }
+}
+
+/// What becomes of orders, signed by digests of their own keys.
+fn find_issued(alloc: Global, orders: &[Order]) -> Outcome
+    ensures { OrdersBecome orders.now result }
+{
+    let Ok(signers) = signers_of(alloc, orders) else {
+        return Outcome::OutOfMemory;
+    };
+    match issue(alloc, orders, signers.as_slice()) {
+        Ok(issued) => Outcome::Issued(issued),
+        Err(error) => {
+            if is_want_of_memory(&error) {
+                return Outcome::OutOfMemory;
+            }
+            Outcome::Refused(error)
+        }
+    }
+}
+
+/// What is found in an orders file.
+fn find<I: Input>(alloc: Global, input: &mut I) -> Outcome
+    ensures { FileBecomes (source I.takes I.is_ended I.failures input.old input.new) result }
+{
+    let octets = match read_all(alloc, input, u32::MAX) {
+        Ok(octets) => octets,
+        Err(ReadAllError::TooMuch) => return Outcome::BadLine(1),
+        Err(ReadAllError::Device) => return Outcome::Device,
+        Err(ReadAllError::OutOfMemory) => return Outcome::OutOfMemory,
+    };
+    match orders_in(alloc, octets.as_slice()) {
+        Ok(orders) => find_issued(alloc, orders.as_slice()),
+        Err(OrdersError::Line(line)) => Outcome::BadLine(line),
+        Err(OrdersError::OutOfMemory) => Outcome::OutOfMemory,
+    }
+}
+
+/// Tells what was found.
+fn tell<O: Output, E: Output>(
+    alloc: Global,
+    outcome: &Outcome,
+    out: &mut O,
+    err: &mut E,
+) -> ExitStatus
+    ensures { IsTold (sink O.gives O.failures out.old out.new)
+        (sink E.gives E.failures err.old err.new) outcome.now result }
+{
+    match outcome {
+        Outcome::Issued(issued) => answer(out, err, issued.stream(), ExitStatus::Done),
+        Outcome::Refused(error) => match refusal_line(alloc, error) {
+            Ok(line) => complain(err, line.as_bytes(), ExitStatus::Refused),
+            Err(_) => tell_memory(err),
+        },
+        Outcome::BadLine(line) => match fault_line(alloc, *line) {
+            Ok(line) => complain(err, line.as_bytes(), ExitStatus::Arguments),
+            Err(_) => tell_memory(err),
+        },
+        Outcome::Device => tell_device(err),
+        Outcome::OutOfMemory => tell_memory(err),
+    }
+}
+
+/// Issues the chain that orders ask for, writes it, and answers the exit status.
+///
+/// Each certificate is signed by a `DigestSigner` of the key of the order above it, the first one
+/// of its own.
+///
+/// To `out` go the certificates, one after the other, to `err` go `order PLACE REASON`, `orders
+/// REASON`, `device` and `memory`, each a line, where REASON is the name of an `IssueError` and
+/// PLACE counts orders from 0. What can't be written is `ExitStatus::Device`, whose word is tried
+/// once.
+pub fn run_issue<O: Output, E: Output>(
+    alloc: Global,
+    orders: &[Order],
+    out: &mut O,
+    err: &mut E,
+) -> ExitStatus
+    // What is told, and the status, are those of what becomes of the orders.
+    ensures { (outcome : Outcome)
+        × OrdersBecome orders.now outcome
+        × IsTold (sink O.gives O.failures out.old out.new)
+        (sink E.gives E.failures err.old err.new) outcome result }
+{
+    let outcome = find_issued(alloc, orders);
+    tell(alloc, &outcome, out, err)
+}
+
+/// Issues the chain that an orders file asks for, as `run_issue` does.
+///
+/// The file is read to its end, and its orders are those of `orders_in`. A faulty one is told as
+/// `orders: line N`, with its first faulty line. Of one with more than 2^32 - 1 octets one octet
+/// more than these is taken, and its first line is told.
+pub fn run_orders<I: Input, O: Output, E: Output>(
+    alloc: Global,
+    input: &mut I,
+    out: &mut O,
+    err: &mut E,
+) -> ExitStatus
+    // What is told, and the status, are those of what is found in the octets that were taken.
+    ensures { (outcome : Outcome)
+        × FileBecomes (source I.takes I.is_ended I.failures input.old input.new) outcome
+        × IsTold (sink O.gives O.failures out.old out.new)
+        (sink E.gives E.failures err.old err.new) outcome result }
+{
+    let outcome = find(alloc, input);
+    tell(alloc, &outcome, out, err)
+}

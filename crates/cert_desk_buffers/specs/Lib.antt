@@ -1,3 +1,0 @@
-pub mod Identifiers
-pub mod Rooms
-pub mod Returned

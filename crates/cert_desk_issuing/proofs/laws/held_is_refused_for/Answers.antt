@@ -1,5 +1,0 @@
-use Rattle.cert_desk_issuing.proofs.Trusting.{held_is_refused_for}
-use Rattle.cert_desk_issuing.proofs.laws.held_is_refused_for.Goals as goal
-
-pub returns : goal.returns
-returns c = held_is_refused_for

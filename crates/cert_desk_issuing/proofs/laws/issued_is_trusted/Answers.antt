@@ -1,5 +1,0 @@
-use Rattle.cert_desk_issuing.proofs.Trusting.{issued_is_trusted}
-use Rattle.cert_desk_issuing.proofs.laws.issued_is_trusted.Goals as goal
-
-pub returns : goal.returns
-returns g c = issued_is_trusted g.S.Signer.public_key g.S.Signer.signs_by g.S.Signer.signs

@@ -1,7 +1,0 @@
--- The signers so far have the keys of as many orders.
-use Rattle.std.proofs.Common.{◌≡◌, map, take}
-use Rattle.cert_desk_issuing.specs.Runs.{key_of, signer_key}
-use Rattle.cert_desk_issuing.proofs.running.signers_of.Given as goal
-
-abbrev pub invariant-loop-order : goal.invariant-loop-order
-invariant-loop-order l = map signer_key l.signers.items ≡ map key_of (take l.order-index l.signing)

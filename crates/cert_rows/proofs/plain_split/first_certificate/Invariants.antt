@@ -1,9 +1,0 @@
--- No front that was tried spells a certificate.
-use Rattle.std.proofs.Common.{ℕ, ◌<◌, take}
-use Rattle.const_oid.specs.Bound.{Bound}
-use Rattle.der_core_head.specs.Shapes.{Spells}
-use Rattle.x509_cert_certificates.specs.Certificates.{PlainCertificate, raw_certificate}
-use Rattle.cert_rows.proofs.plain_split.first_certificate.Given as goal
-
-abbrev pub invariant-loop-len : goal.invariant-loop-len
-invariant-loop-len l = (k : ℕ) → k < l.len → (c : PlainCertificate) → Spells (raw_certificate Bound) c (take k l.octets) → ⊥

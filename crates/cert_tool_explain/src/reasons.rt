@@ -1,0 +1,203 @@
+//! Why a certificate breaks a rule of its extensions, or of path lengths.
+
+use crate::chain_place::ChainPlace;
+use crate::{add_content_fault, end_remark};
+use cert_desk_checking::desk_bundle::Bundle;
+use cert_desk_checking::desk_rules::{KeptRules, Reason, Rule};
+use cert_desk_checking::reason_of;
+use cert_tool_describe::cert_parts::Extension;
+use cert_tool_describe::content_fault;
+use cert_tool_describe::oid::ObjectIdentifier;
+use cert_tool_describe::tool_lines::Lines;
+
+// Begins a rule that is broken, and the reason.
+pub(crate) fn begin_breach(lines: &mut Lines, rule: Rule) {
+    lines.entry("");
+    lines.key("rule");
+    lines.value(rule);
+    lines.tail(": ");
+    lines.key("reason");
+    lines.begin();
+}
+
+// Begins a text more about it, in an array of such.
+pub(crate) fn begin_detail(lines: &mut Lines) {
+    lines.item("");
+    lines.begin();
+}
+
+// Adds how an extension breaks a rule by itself; answers the section that says so.
+fn add_against(
+    lines: &mut Lines,
+    rule: Rule,
+    extension: &Extension,
+    purpose: &ObjectIdentifier<39>,
+) -> &'static str {
+    let kind = &extension.extn_id;
+    match rule {
+        Rule::MalformedExtension => match content_fault(lines.alloc, extension) {
+            Some(error) => add_content_fault(lines, extension, &error),
+            None => {
+                lines.identifier("", kind, " isn't one value of its kind");
+                ""
+            }
+        },
+        Rule::UnweighedCritical => {
+            lines.identifier("", kind, " is critical, and isn't processed here");
+            "RFC 5280 4.2"
+        }
+        Rule::AgainstPurpose => {
+            lines.identifier("", kind, " lacks ");
+            lines.identifier("", purpose, "");
+            "RFC 5280 4.2.1.12"
+        }
+        Rule::NotAuthority => {
+            lines.identifier("", kind, " lacks keyCertSign");
+            "RFC 5280 6.1.4 (n)"
+        }
+        // Of these no extension is the reason.
+        Rule::AlgorithmsDiffer
+        | Rule::DuplicateExtension
+        | Rule::WrongIssuer
+        | Rule::NotYetValid
+        | Rule::Expired
+        | Rule::PathTooLong
+        | Rule::WrongSignature => "",
+    }
+}
+
+// Adds which extensions are of one kind; answers the section that says so.
+fn add_twins(
+    lines: &mut Lines,
+    place: &ChainPlace<'_>,
+    first: usize,
+    second: usize,
+) -> &'static str {
+    if let Some(extension) = place.extensions().get(first) {
+        lines.show("extensions ", first as u64, " and ");
+        lines.show("", second as u64, " are both ");
+        lines.identifier("", &extension.extn_id, "");
+    }
+    "RFC 5280 4.2"
+}
+
+// Adds a reason; answers the section that says so.
+fn add_reason(
+    lines: &mut Lines,
+    place: &ChainPlace<'_>,
+    rule: Rule,
+    reason: Reason,
+    purpose: &ObjectIdentifier<39>,
+) -> &'static str {
+    match reason {
+        Reason::Extension(number) => match place.extensions().get(number) {
+            Some(extension) => add_against(lines, rule, extension, purpose),
+            None => "",
+        },
+        Reason::Twins { first, second } => add_twins(lines, place, first, second),
+        Reason::NoConstraints => {
+            lines.push("no basicConstraints make it a CA");
+            "RFC 5280 6.1.4 (k)"
+        }
+        Reason::PathLength { place } => {
+            let number = place as u64;
+            lines.show("more CAs follow than certificate ", number, " allows");
+            "RFC 5280 4.2.1.9"
+        }
+    }
+}
+
+// Adds the line of a rule that is broken.
+fn add_broken(
+    lines: &mut Lines,
+    place: &ChainPlace<'_>,
+    rule: Rule,
+    reason: Reason,
+    purpose: &ObjectIdentifier<39>,
+) {
+    begin_breach(lines, rule);
+    let section = add_reason(lines, place, rule, reason, purpose);
+    end_remark(lines, section);
+}
+
+// The first reason why the certificate at a place breaks a rule.
+fn first_reason(
+    lines: &mut Lines,
+    bundle: &Bundle,
+    number: usize,
+    rule: Rule,
+    purpose: &ObjectIdentifier<39>,
+) -> Option<Reason> {
+    match reason_of(lines.alloc, bundle, number, rule, purpose) {
+        Ok(reason) => reason,
+        Err(_) => {
+            lines.fail();
+            None
+        }
+    }
+}
+
+// Adds that the certificate at a place breaks a rule, with its first reason.
+pub(crate) fn add_reason_of(
+    lines: &mut Lines,
+    place: &ChainPlace<'_>,
+    rule: Rule,
+    purpose: &ObjectIdentifier<39>,
+) {
+    if let Some(reason) = first_reason(lines, place.bundle, place.number, rule, purpose) {
+        add_broken(lines, place, rule, reason, purpose);
+    }
+}
+
+// Why paths are too long. The further on a place stands, the further before stands the first one
+// whose path length it exceeds. So from the place on that has the reason of the last one, all have
+// it; and since a path length is at most 255, at most so many stand before that.
+#[derive(Drop)]
+pub(crate) struct LengthReasons {
+    last: Option<Reason>,
+    // Whether that of a place was the last one's.
+    is_settled: bool,
+}
+
+impl LengthReasons {
+    // With that of the last place whose path is too long.
+    pub(crate) fn of(
+        lines: &mut Lines,
+        bundle: &Bundle,
+        judged: &[KeptRules],
+        purpose: &ObjectIdentifier<39>,
+    ) -> LengthReasons {
+        let mut last = None;
+        for (number, kept) in judged.iter().enumerate() {
+            if !kept.keeps(Rule::PathTooLong) {
+                last = Some(number);
+            }
+        }
+        LengthReasons {
+            last: match last {
+                Some(number) => first_reason(lines, bundle, number, Rule::PathTooLong, purpose),
+                None => None,
+            },
+            is_settled: false,
+        }
+    }
+
+    // Adds that the path to a place is too long, with its first reason.
+    pub(crate) fn add(
+        &mut self,
+        lines: &mut Lines,
+        place: &ChainPlace<'_>,
+        purpose: &ObjectIdentifier<39>,
+    ) {
+        let rule = Rule::PathTooLong;
+        let reason = if self.is_settled {
+            self.last
+        } else {
+            first_reason(lines, place.bundle, place.number, rule, purpose)
+        };
+        self.is_settled = reason == self.last;
+        if let Some(reason) = reason {
+            add_broken(lines, place, rule, reason, purpose);
+        }
+    }
+}

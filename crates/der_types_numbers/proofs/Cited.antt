@@ -1,0 +1,2 @@
+-- Lemmas of other crates that attributes of this one cite.
+pub use Rattle.der_core.proofs.Added.{write_adds}

@@ -1,0 +1,293 @@
+//! Civil dates.
+
+ghost use Rattle.std.specs.Prelude.{◌≡◌, ◌↔◌, ◌*◌, ◌/◌, ◌≤◌, ◌<◌, true, IsTrue, IsOk, IfOk, IfErr};
+ghost use Rattle.std.specs.Prelude.{pos, ◌+◌, ◌≤ℤ◌};
+ghost use Rattle.std.specs.Duration.{as_nanos};
+ghost use Rattle.der_core.specs.Dates.{Civil, days_in_month, is_civil};
+ghost use Rattle.der_types_numbers.specs.Seconds.{unix_days, unix_seconds, last_second};
+ghost use Rattle.jiff_core.specs.Date.{epoch_day};
+
+use crate::date_text::{date_of_text, text_of_date};
+use der_core::{Error, ErrorKind};
+use jiff_core::civil::Date;
+use std::fmt;
+use std::marker::Model;
+use std::str::FromStr;
+use std::time::Duration;
+
+/// The last second of the year 9999, counted from 1970-01-01T00:00:00Z.
+const LAST_SECOND: u64 = 253_402_300_799;
+
+/// A date to the second in universal time, from 1970-01-01T00:00:00Z to 9999-12-31T23:59:59Z.
+///
+/// Contracts see its year, month, day, hour, minute and second. Dates are in the order of time. As
+/// a value of DER a date is a GeneralizedTime (X.690 11.7).
+#[derive(Clone, Copy, Debug, PartialEq, Eq, PartialOrd, Ord, Hash)]
+pub struct DateTime {
+    year: u16,
+    month: u8,
+    day: u8,
+    hour: u8,
+    minutes: u8,
+    seconds: u8,
+}
+
+impl Model for DateTime {
+    ghost use Rattle.der_core.specs.Dates.{Civil};
+
+    ghost Value = { Civil };
+
+    ghost use Rattle.der_types_numbers.specs.DateTimes.{civil_of, IsDate, inside_of};
+
+    ghost view = { civil_of };
+
+    ghost invariant = { IsDate };
+
+    ghost inverse = { inside_of };
+}
+
+/// How many days a month has, from 1 for January.
+fn month_length(year: u16, month: u8) -> u8
+    ensures { result ≡ days_in_month year month }
+{
+    match month {
+        2 if year % 4 == 0 && (year % 100 != 0 || year % 400 == 0) => 29,
+        2 => 28,
+        4 | 6 | 9 | 11 => 30,
+        _ => 31,
+    }
+}
+
+/// The year of a day of the calendar from 1970 on.
+fn unsigned_year(date: Date) -> u16
+    requires { pos 0 ≤ℤ epoch_day date }
+    ensures { pos result ≡ date.year }
+{
+    date.year as u16
+}
+
+impl DateTime {
+    /// 9999-12-31T23:59:59Z, the last date, which RFC 5280 4.1.2.5 takes for a certificate without
+    /// an end.
+    pub const INFINITY: DateTime = DateTime {
+        year: 9999,
+        month: 12,
+        day: 31,
+        hour: 23,
+        minutes: 59,
+        seconds: 59,
+    };
+
+    /// The date of a day of the calendar from 1970 to 9999, and of a second of it.
+    ///
+    /// # Errors
+    /// `DateTime` for what is no date, or lies outside these years. A second 60 is none.
+    pub fn new(
+        year: u16,
+        month: u8,
+        day: u8,
+        hour: u8,
+        minutes: u8,
+        seconds: u8,
+    ) -> Result<DateTime, Error>
+        ensures dates { IsOk result
+            ↔
+            (is_civil
+            (record {
+              year = year;
+              month = month;
+              day = day;
+              hour = hour;
+              minute = minutes;
+              second = seconds;
+            }) ≡ true) }
+        ensures ok { IfOk result
+            (λ d. d ≡ record {
+              year = year;
+              month = month;
+              day = day;
+              hour = hour;
+              minute = minutes;
+              second = seconds;
+            }) }
+        ensures err { IfErr result (λ e. e.kind ≡ ErrorKind.DateTime) }
+    {
+        let in_range = (1970..=9999).contains(&year) && (1..=12).contains(&month);
+        if in_range
+            && 1 <= day
+            && day <= month_length(year, month)
+            && hour < 24
+            && minutes < 60
+            && seconds < 60
+        {
+            Ok(DateTime {
+                year,
+                month,
+                day,
+                hour,
+                minutes,
+                seconds,
+            })
+        } else {
+            Err(Error::from(ErrorKind::DateTime))
+        }
+    }
+
+    /// The year, from 1970 to 9999.
+    pub fn year(&self) -> u16
+        ensures value { result ≡ self.now.year }
+        ensures bound { result ≤ 9999 }
+    {
+        self.year
+    }
+
+    /// The month, from 1 for January to 12.
+    pub fn month(&self) -> u8
+        ensures value { result ≡ self.now.month }
+        ensures bound { result ≤ 12 }
+    {
+        self.month
+    }
+
+    /// The day of the month, from 1.
+    pub fn day(&self) -> u8
+        ensures value { result ≡ self.now.day }
+        ensures bound { result ≤ 31 }
+    {
+        self.day
+    }
+
+    /// The hour, from 0 to 23.
+    pub fn hour(&self) -> u8
+        ensures value { result ≡ self.now.hour }
+        ensures bound { result ≤ 23 }
+    {
+        self.hour
+    }
+
+    /// The minute, from 0 to 59.
+    pub fn minutes(&self) -> u8
+        ensures value { result ≡ self.now.minute }
+        ensures bound { result ≤ 59 }
+    {
+        self.minutes
+    }
+
+    /// The second, from 0 to 59.
+    pub fn seconds(&self) -> u8
+        ensures value { result ≡ self.now.second }
+        ensures bound { result ≤ 59 }
+    {
+        self.seconds
+    }
+
+    /// The day of the calendar.
+    fn date(&self) -> Date
+        ensures { epoch_day result ≡ pos (unix_days self.now) }
+    {
+        Date {
+            year: self.year as i16,
+            month: self.month,
+            day: self.day,
+        }
+    }
+
+    /// Whether the date lies in the years that UTCTime spells, which end with 2049.
+    pub(crate) fn is_before_2050(&self) -> bool
+        ensures year { IsTrue result ↔ (self.now.year ≤ 2049) }
+        ensures seconds { IsTrue result ↔ (unix_seconds self.now < 2_524_608_000) }
+    {
+        self.year < 2050
+    }
+
+    /// The seconds since 1970-01-01T00:00:00Z, leap seconds left out, from 0 to 253402300799.
+    #[tactic(auto, unfolding(crate::specs::Seconds::unix_seconds))]
+    pub fn unix_seconds(&self) -> u64
+        ensures value { result ≡ unix_seconds self.now }
+        ensures bound { result ≤ last_second }
+    {
+        let days = self.date().to_unix_epoch_day() as u64;
+        86400 * days
+            + 3600 * u64::from(self.hour)
+            + 60 * u64::from(self.minutes)
+            + u64::from(self.seconds)
+    }
+
+    /// The time since 1970-01-01T00:00:00Z, leap seconds left out.
+    pub fn unix_duration(&self) -> Duration
+        ensures { as_nanos result ≡ unix_seconds self.now * 1_000_000_000 }
+    {
+        Duration::from_secs(self.unix_seconds())
+    }
+
+    /// The date so many seconds after 1970-01-01T00:00:00Z, leap seconds left out.
+    ///
+    /// # Errors
+    /// `DateTime` after 253402300799 seconds, which is 9999-12-31T23:59:59Z.
+    pub fn from_unix_seconds(seconds: u64) -> Result<DateTime, Error>
+        ensures range { IsOk result ↔ (seconds ≤ last_second) }
+        ensures ok { IfOk result (λ d. unix_seconds d ≡ seconds) }
+        ensures err { IfErr result (λ e. e.kind ≡ ErrorKind.DateTime) }
+    {
+        if seconds > LAST_SECOND {
+            return Err(Error::from(ErrorKind::DateTime));
+        }
+        let Ok(date) = Date::from_unix_epoch_day((seconds / 86400) as i64) else {
+            return Err(Error::from(ErrorKind::DateTime));
+        };
+        let second = seconds % 86400;
+        DateTime::new(
+            unsigned_year(date),
+            date.month,
+            date.day,
+            (second / 3600) as u8,
+            (second / 60 % 60) as u8,
+            (second % 60) as u8,
+        )
+    }
+
+    /// The date so long after 1970-01-01T00:00:00Z, leap seconds and fractions of a second left
+    /// out.
+    ///
+    /// # Errors
+    /// `DateTime` after 9999-12-31T23:59:59Z.
+    pub fn from_unix_duration(duration: Duration) -> Result<DateTime, Error>
+        ensures range { IsOk result ↔ (as_nanos duration < (last_second + 1) * 1_000_000_000) }
+        ensures ok { IfOk result (λ d. unix_seconds d ≡ as_nanos duration / 1_000_000_000) }
+        ensures err { IfErr result (λ e. e.kind ≡ ErrorKind.DateTime) }
+    {
+        DateTime::from_unix_seconds(duration.as_secs())
+    }
+}
+
+/// Reads a text `YYYY-MM-DDTHH:MM:SSZ`, exactly (RFC 3339 5.6, without fractions and other zones).
+impl FromStr for DateTime {
+    ghost use Rattle.der_types_numbers.specs.DateTexts.{ReadsDate};
+
+    type Err = Error;
+
+    ghost from_str_gives = { ReadsDate };
+
+    fn from_str(text: &str) -> Result<DateTime, Error> {
+        match date_of_text(text.as_bytes()) {
+            Some(date) => Ok(date),
+            None => Err(Error::from(ErrorKind::DateTime)),
+        }
+    }
+}
+
+/// Writes the text `YYYY-MM-DDTHH:MM:SSZ`.
+impl fmt::Display for DateTime {
+    ghost use Rattle.std.specs.Prelude.{Some};
+    ghost use Rattle.der_types_numbers.specs.DateTexts.{date_text};
+
+    ghost output = { λ date. Some (date_text date) };
+
+    fn fmt<W: fmt::Write>(&self, f: &mut fmt::Formatter<W>) -> fmt::Result {
+        let octets = text_of_date(*self);
+        match str::from_utf8(&octets) {
+            Ok(text) => f.write_str(text),
+            Err(_) => Err(fmt::Error),
+        }
+    }
+}

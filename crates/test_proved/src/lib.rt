@@ -1,0 +1,19 @@
+//! Tests that need code: of identifiers, of the coding core and of typed values (states after
+//! refusals, closures and iterators), and of readers and writers that fail. What is a table, and
+//! out of memory, stands in `test_der_rows` and `test_cert_rows`.
+#![tactic(auto)]
+
+#[cfg(test)]
+mod coding_core;
+#[cfg(test)]
+mod devices;
+#[cfg(test)]
+mod members;
+#[cfg(test)]
+mod sets;
+#[cfg(test)]
+mod strings;
+#[cfg(test)]
+mod tagged_fields;
+#[cfg(test)]
+mod values;

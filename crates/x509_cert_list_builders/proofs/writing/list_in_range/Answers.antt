@@ -1,6 +1,0 @@
-use Rattle.std.proofs.Common.{arith}
-use Rattle.x509_cert_list_builders.proofs.writing.list_in_range.Goals as goal
-
-pub returns : goal.returns
-returns g c =
-    ((c.in_range.ensures, (c.in_range-2.ensures, (c.in_range-3.ensures, (c.in_range-4.ensures, (c.in_range-5.ensures, (c.revoked_in_range.ensures, (c.field_in_range.ensures, tt))))))), omega arith)

@@ -1,4 +1,0 @@
-pub mod Lists
-pub mod Requests
-pub mod Signed
-pub mod States
