@@ -9,9 +9,10 @@ use Rattle.cert_desk_rules.specs.DeskBundle.declared.fault_kind.FaultKind.{Fault
 use Rattle.cert_desk_rules.specs.declared.rule.Rule.{Rule}
 use Rattle.cert_desk_rules.specs.declared.rule.Rule.TheVariants as rules
 use Rattle.cert_desk_rules.specs.DeskBundle.Chains.{Chain}
-use Rattle.cert_desk_rules.specs.Judging.{Terms, before_signature, keeps_at, may_ask}
+use Rattle.cert_desk_rules.specs.Judging.{Terms, before_signature, in_order, keeps_at, may_ask}
 use Rattle.cert_desk_rules.specs.Verdicts.{Faulty, IsVerdict, all_kept_below, asked, asked_below, asked_signature}
 use Rattle.cert_desk_rules.proofs.Asking.{asked_anchors, keeps_all}
+use Rattle.cert_desk_rules.proofs.RuleList.{find_same}
 
 pub list_all-same : {A : Type 0} (test other : A → Bool) → ((x : A) → test x ≡ other x) → (xs : List A) → list_all test xs ≡ list_all other xs
 list_all-same test other same [] = refl
@@ -46,7 +47,7 @@ module _ (t u : Terms) (cs : List PlainCertificate) (stream : List ℕ) (alike :
   signature_alike zero = alike.first
   signature_alike (suc place) = refl
 
-  asked_below_alike : (place : ℕ) → asked_below t cs stream place ≡ asked_below u cs stream place
+  pub asked_below_alike : (place : ℕ) → asked_below t cs stream place ≡ asked_below u cs stream place
   asked_below_alike zero = refl
   asked_below_alike (suc place) =
       ap (λ n. n + cond (all_kept_below t cs stream place && may_ask t cs stream place) (asked_signature t cs stream place) 0) (asked_below_alike place)
@@ -74,6 +75,8 @@ module _ (t u : Terms) (limit : ℕ) (stream : List ℕ) (there : (cs : List Pla
     certificates = v.certificates;
     within = v.within;
     chain = there v.certificates v.chain;
-    broken = sym ((alike v.certificates v.chain).keep rule place) ∙ v.broken;
-    least = λ other_place other lt before. sym ((alike v.certificates v.chain).keep other other_place) ∙ v.least other_place other lt before;
+    kept = sym (below_alike t u v.certificates stream (alike v.certificates v.chain) place) ∙ v.kept;
+    first =
+        sym (find_same (λ other. keeps_at other t v.certificates stream place) (λ other. keeps_at other u v.certificates stream place) (λ other. (alike v.certificates v.chain).keep other place) in_order)
+        ∙ v.first;
   }

@@ -8,7 +8,8 @@ use Rattle.x509_cert_anchors.specs.CertCertificates.Certificates.{PlainCertifica
 use Rattle.x509_cert_anchors.specs.CertNames.Names.{PlainName, name_octets}
 use Rattle.cert_desk_checking.specs.declared.anchor.Anchor.{Anchor}
 use Rattle.cert_desk_checking.specs.Anchors.{anchor_plain}
-use Rattle.cert_desk_rules.specs.Judging.{Answers, PlainAnchor, same_name}
+use Rattle.cert_desk_rules.specs.Judging.{Answers, PlainAnchor}
+use Rattle.cert_desk_rules.specs.Paths.{same_name}
 use Rattle.cert_desk_rules.specs.Verdicts.{asked_until}
 use Rattle.cert_desk_checking.specs.Places.{signs, asked_once}
 

@@ -9,13 +9,14 @@ use Rattle.cert_desk_rules.specs.declared.checked.Verdict.TheVariants as verdict
 use Rattle.cert_desk_rules.specs.DeskBundle.declared.fault_kind.FaultKind.{FaultKind}
 use Rattle.cert_desk_rules.specs.DeskBundle.Chains.{Chain, joined}
 use Rattle.cert_desk_rules.specs.DeskBundle.Faults.{StreamFault}
-use Rattle.cert_desk_rules.specs.Judging.{Terms, keeps_at}
+use Rattle.cert_desk_rules.specs.Judging.{Terms, in_order, keeps_at}
 use Rattle.cert_desk_rules.specs.Verdicts.{IsVerdict, Trusted, Asks, IsCounted, asked}
 use Rattle.cert_desk_rules.specs.DeskBundle.Streams.{Kept, Reads}
 use Rattle.cert_desk_checking.specs.Places.{Rises}
 use Rattle.cert_desk_rules.proofs.DeskBundle.OneChain.{one_chain, fault_no_chain}
 use Rattle.cert_desk_checking.proofs.Encodings.{certificate_octets-first}
 use Rattle.cert_desk_rules.proofs.DeskBundle.Readings.{ReadsUnder}
+use Rattle.cert_desk_rules.proofs.RuleList.{broken_is}
 
 -- an encoding isn't empty
 pub encoding_is_some : (bound : ℕ) (c : PlainCertificate) (w : List ℕ) → [] ≡ certificate_octets bound c ++ w → ⊥
@@ -36,10 +37,12 @@ only_trusted t limit stream verdicts.Trusted v k = refl
 only_trusted t limit stream (verdicts.Refused place rule) v k =
     let same = one_chain t.bound limit v.certificates k.certificates stream v.chain k.chain in
     let within = subst (λ cs. place < length cs) same v.within in
-    absurd (both_ways _ v.broken (subst (λ cs. keeps_at rule t cs stream place ≡ true) (sym same) (k.kept place rule within)))
+    let broken = broken_is (λ other. keeps_at other t v.certificates stream place) in_order rule v.first in
+    absurd (both_ways _ broken (subst (λ cs. keeps_at rule t cs stream place ≡ true) (sym same) (k.kept place rule within)))
 
 -- the questions about a chain, and about a stream with a fault
 pub Asks-chain : (t : Terms) (limit : ℕ) (cs : List PlainCertificate) (stream : List ℕ) → Chain t.bound limit cs stream → Asks t limit stream (asked t cs stream)
+unfolding asked
 Asks-chain t limit cs stream h = record {
   chain = λ ds k. ap (λ xs. asked t xs stream) (one_chain t.bound limit cs ds stream h k);
   fault = λ none. absurd (none cs h);

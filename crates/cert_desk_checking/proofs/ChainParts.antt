@@ -10,7 +10,8 @@ use Rattle.cert_desk_rules.specs.declared.rule.Rule.{Rule}
 use Rattle.cert_desk_rules.specs.declared.rule.Rule.TheVariants as rules
 use Rattle.cert_desk_rules.specs.DeskBundle.Chains.{Chain, Stands, joined}
 use Rattle.cert_desk_checking.specs.Issuers.{among, as_anchor}
-use Rattle.cert_desk_rules.specs.Judging.{Terms, is_named, keeps, keeps_at, same_name, signed_part}
+use Rattle.cert_desk_rules.specs.Judging.{Terms, is_named, keeps, keeps_at, signed_part}
+use Rattle.cert_desk_rules.specs.Paths.{same_name}
 use Rattle.cert_desk_rules.specs.Verdicts.{Trusted}
 use Rattle.cert_desk_rules.proofs.Asking.{says_yes}
 use Rattle.cert_desk_rules.proofs.DeskBundle.OneChain.{one_chain}

@@ -12,9 +12,11 @@ use Rattle.cert_desk_rules.specs.KeptRules.{AreJudged, IsFirstBreach, kept_at, k
 use Rattle.cert_desk_checking.specs.Laws.{RefusedAtFirstBreach, TrustedWithoutBreach}
 use Rattle.cert_desk_rules.specs.Verdicts.{IsVerdict, Refused, Trusted, asked_signature}
 use Rattle.cert_desk_checking.specs.Places.{Rises, asked_each}
-use Rattle.cert_desk_checking.proofs.Counts.{Rises-by, Rises-more}
+use Rattle.cert_desk_checking.proofs.Counts.{Rises-more}
 use Rattle.cert_desk_rules.proofs.DeskBundle.OneChain.{one_chain}
+use Rattle.cert_desk_rules.proofs.RuleList.{first_broken, is_first}
 use Rattle.cert_desk_checking.proofs.OneVerdict.{one_verdict}
+use Rattle.cert_desk_checking.proofs.Outcomes.{kept_below-at, kept_below-from}
 
 -- behind the last place nothing is broken
 past : (judged : List KeptRules) (place : ℕ) (rule : Rule) → length judged ≤ place → kept_at judged place rule ≡ true
@@ -33,13 +35,15 @@ refused_at_first t limit cs stream judged verdict place rule chain says v = (the
     there : verdict ≡ verdicts.Refused place rule → IsFirstBreach judged place rule
     there e =
         let r : Refused t limit stream place rule = subst (IsVerdict t limit stream) e v in
-        let same = one_chain t.bound limit r.certificates cs stream r.chain chain in (
-          says.kept place rule ∙ subst (λ ds. keeps_at rule t ds stream place ≡ false) same r.broken,
-          λ other_place other before. elim (cases_lt other_place (length judged)) [
-            | inl lt ↦ says.kept other_place other ∙ subst (λ ds. keeps_at other t ds stream other_place ≡ true) same
-                (r.least other_place other (omega (arith, lt, says.each, ap (λ (ds : List PlainCertificate). length ds) same)) before)
-            | inr ge ↦ past judged other_place other (omega (arith, ge))
-          ],
+        let same = one_chain t.bound limit r.certificates cs stream r.chain chain in
+        let first = first_broken (λ x. keeps_at x t r.certificates stream place) rule r.first in (
+          says.kept place rule ∙ subst (λ ds. keeps_at rule t ds stream place ≡ false) same first.0,
+          λ other_place other before.
+              says.kept other_place other ∙ subst (λ ds. keeps_at other t ds stream other_place ≡ true) same
+              (elim before [
+                | inl below ↦ kept_below-at t r.certificates stream place other_place r.kept below other
+                | inr (at, less) ↦ subst (λ n. keeps_at other t r.certificates stream n ≡ true) (sym at) (first.1 other less)
+              ]),
         )
 
     back : IsFirstBreach judged place rule → verdict ≡ verdicts.Refused place rule
@@ -47,8 +51,10 @@ refused_at_first t limit cs stream judged verdict place rule chain says v = (the
       certificates = cs;
       within = omega (arith, within_at judged place rule first.0, says.each);
       chain = chain;
-      broken = sym (says.kept place rule) ∙ first.0;
-      least = λ other_place other inside before. sym (says.kept other_place other) ∙ first.1 other_place other before;
+      kept = kept_below-from t cs stream place (λ other_place below other. sym (says.kept other_place other) ∙ first.1 other_place other (inl below));
+      first =
+          is_first (λ x. keeps_at x t cs stream place) rule (sym (says.kept place rule) ∙ first.0)
+          (λ other less. sym (says.kept place other) ∙ first.1 place other (inr (refl, less)));
     })
 
 pub trusted_without : TrustedWithoutBreach
@@ -118,8 +124,8 @@ each_more : (t : Terms) (cs : List PlainCertificate) (stream : List ℕ) (place 
 each_more t cs stream zero = omega arith
 each_more t cs stream (suc before) = omega arith
 
-pub counted-more : (t : Terms) (cs : List PlainCertificate) (stream : List ℕ) (place n q c r d u v : ℕ) → n ≡ asked_signature t cs stream place → Rises (asked_each t cs stream place) q c r d → Rises n r d u v
+pub counted-more : (t : Terms) (cs : List PlainCertificate) (stream : List ℕ) (place q c r d u v : ℕ) → Rises (asked_each t cs stream place) q c r d → Rises (asked_signature t cs stream place) r d u v
     → Rises (asked_each t cs stream (place + 1)) q c u v
-counted-more t cs stream place n q c r d u v here before this =
+counted-more t cs stream place q c r d u v before this =
     let next : suc place ≡ place + 1 = omega arith in
-    Rises-more _ _ _ _ _ _ _ _ _ (each_more t cs stream place ∙ ap (asked_each t cs stream) next) before (Rises-by _ _ _ _ _ _ here this)
+    Rises-more _ _ _ _ _ _ _ _ _ (each_more t cs stream place ∙ ap (asked_each t cs stream) next) before this

@@ -2,7 +2,7 @@
 use Rattle.std.proofs.Common.{◌≡◌, ℕ, ◌+◌, ◌-◌, ◌<◌, ◌≤◌, List, [], ◌∷◌, ◌++◌, length, map, drop, Result, Ok, refl, sym, ap, ◌∙◌, arith, append_assoc, append-nil, length-append, length-drop}
 use Rattle.std.proofs.lemmas.List.{map-append, drop_at, drop-drop}
 use Rattle.x509_cert_anchors.specs.Der.Shapes.{Shape, Value, octets_of, IsValid}
-use Rattle.cert_desk_rules.specs.DeskBundle.Series.{IsUnambiguous, BeginsWith, encodings}
+use Rattle.cert_desk_rules.specs.DeskBundle.Series.{IsUnambiguous, encodings}
 use Rattle.cert_desk_checking.specs.Files.{GiveAll, StandsAt, GivesAt}
 use Rattle.cert_desk_rules.proofs.DeskBundle.SeriesLaws.{each-more, encodings-more, value_some}
 
@@ -26,9 +26,6 @@ module _ (s : Shape) (octets : List ℕ) (start : ℕ) where
         later : (w : List ℕ) → octets_of s v ≡ w → start < end
         later [] e = absurd (value_some s u v [] h.valid (sym e ∙ sym (append-nil (octets_of s v))))
         later (b ∷ w) e = omega (arith, h.end_is, ap length e)
-
-    pub begins_with : BeginsWith s v (drop start octets)
-    begins_with = record { valid = h.valid; more = drop end octets; whole = h.whole }
 
 -- what was given so far is that of the values up to the start
 pub record SoFar (s : Shape) {A E : Type 0} (gives : Value s → Result A E) (octets : List ℕ) (xs : List A) (start : ℕ) : Type 0 where

@@ -1,5 +1,5 @@
 -- Judges that answer alike on what a chain may ask.
-use Rattle.std.proofs.Common.{◌≡◌, ℕ, zero, suc, ◌+◌, List, [], ◌∷◌, Bool, true, false, ◌&&◌, ◌||◌, cond, Option, Some, None, slice_get, refl, ap, ◌∙◌}
+use Rattle.std.proofs.Common.{◌≡◌, ℕ, zero, suc, ◌+◌, List, [], ◌∷◌, length, Bool, true, false, ◌&&◌, ◌||◌, cond, Option, Some, None, slice_get, refl, ap, ◌∙◌}
 use Rattle.std.specs.List.{list_any, AllByRecursion}
 use Rattle.std.specs.Option.{option_map_or}
 use Rattle.x509_cert_anchors.specs.CertCertificates.Certificates.{PlainCertificate, public_key}
@@ -11,7 +11,7 @@ use Rattle.cert_desk_rules.specs.Judging.{Answers, Terms, PlainAnchor, is_named,
 use Rattle.cert_desk_rules.specs.Questions.{Question, question, anchor_questions, questions_of, answer_on, AnswerAlike, under}
 use Rattle.cert_desk_rules.specs.Verdicts.{IsVerdict, Asks}
 use Rattle.cert_desk_rules.proofs.Asking.{asked_anchors, says_yes}
-use Rattle.cert_desk_checking.proofs.AlikeTerms.{Alike, asked_alike, verdict_alike}
+use Rattle.cert_desk_checking.proofs.AlikeTerms.{Alike, asked_below_alike, verdict_alike}
 
 -- of a list that begins with a question only where a test holds
 listed_where : (P : Question → Type 0) (b : Bool) (q : Question) (rest : List Question) → AllByRecursion P (cond b (q ∷ rest) rest)
@@ -63,18 +63,10 @@ module _ (t : Terms) (other : Answers) (cs : List PlainCertificate) (stream : Li
 
   keeps_alike : (rule : Rule) (place : ℕ) (c : PlainCertificate) → AllByRecursion Same (questions_of t.bound t.anchors cs stream place c)
       → keeps rule t cs stream place c ≡ keeps rule (under t other) cs stream place c
-  keeps_alike rules.AlgorithmsDiffer place c h = refl
-  keeps_alike rules.DuplicateExtension place c h = refl
-  keeps_alike rules.MalformedExtension place c h = refl
-  keeps_alike rules.UnweighedCritical place c h = refl
   keeps_alike rules.WrongIssuer zero c h = refl
   keeps_alike rules.WrongIssuer (suc before) c h = refl
-  keeps_alike rules.NotYetValid place c h = refl
-  keeps_alike rules.Expired place c h = refl
-  keeps_alike rules.AgainstPurpose place c h = refl
-  keeps_alike rules.NotAuthority place c h = refl
-  keeps_alike rules.PathTooLong place c h = refl
   keeps_alike rules.WrongSignature place c h = signs_alike place c h
+  keeps_alike _ place c h = refl
 
   kept_alike : (rule : Rule) (place : ℕ) (o : Option PlainCertificate) → AllByRecursion Same (option_map_or (questions_of t.bound t.anchors cs stream place) o [])
       → option_map_or (keeps rule t cs stream place) o true ≡ option_map_or (keeps rule (under t other) cs stream place) o true
@@ -100,5 +92,5 @@ judged_alike t other limit stream verdict n agree =
     let alike : (cs : List PlainCertificate) → Chain t.bound limit cs stream → Alike t (under t other) cs stream = λ cs chain. judge_alike t other cs stream (agree cs chain) in (
       verdict_alike t (under t other) limit stream (λ cs chain. chain) alike
           (λ place offset kind v. record { certificates = v.certificates; found = v.found; place_is = v.place_is; offset_is = v.offset_is }) verdict,
-      λ a. record { chain = λ cs chain. a.chain cs chain ∙ asked_alike t (under t other) cs stream (alike cs chain); fault = a.fault },
+      λ a. record { chain = λ cs chain. a.chain cs chain ∙ asked_below_alike t (under t other) cs stream (alike cs chain) (length cs); fault = a.fault },
     )

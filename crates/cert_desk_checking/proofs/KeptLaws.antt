@@ -1,7 +1,6 @@
 -- The rules that a certificate keeps, by what was found in it and in the places before.
-use Rattle.std.proofs.Common.{◌≡◌, ℕ, ◌<◌, List, Bool, true, false, not, ◌&&◌, ◌||◌, Option, Some, None, slice_get, sym, ap, ◌∙◌, arith}
+use Rattle.std.proofs.Common.{◌≡◌, ℕ, ◌<◌, List, Bool, true, false, not, ◌&&◌, ◌||◌, Option, Some, None, slice_get, refl, sym, ap, ◌∙◌, arith}
 use Rattle.std.specs.List.{list_any}
-use Rattle.std.proofs.lemmas.Bool.{both_ways}
 use Rattle.std.specs.Option.{option_map_or}
 use Rattle.x509_cert_anchors.specs.CertCertificates.Certificates.{PlainCertificate, extensions_of}
 use Rattle.cert_desk_rules.specs.declared.findings.Findings.{Findings}
@@ -11,7 +10,7 @@ use Rattle.cert_desk_rules.specs.declared.rule.Rule.{Rule}
 use Rattle.cert_desk_rules.specs.declared.rule.Rule.TheVariants as rules
 use Rattle.cert_desk_rules.specs.Findings.{IsRoom, found}
 use Rattle.cert_desk_rules.specs.Judging.{Terms, keeps_at, number}
-use Rattle.cert_desk_rules.specs.KeptRules.{IsFirstOf, kept_by}
+use Rattle.cert_desk_rules.specs.KeptRules.{IsFirstUnsignedOf, kept_by}
 use Rattle.cert_desk_rules.specs.Paths.{counts, is_last, is_self_issued, is_within}
 use Rattle.cert_desk_checking.specs.Places.{IsFirstUnsigned}
 use Rattle.cert_desk_rules.specs.Weighing.{is_authority, weigh}
@@ -22,36 +21,21 @@ use Rattle.cert_desk_rules.proofs.RuleList.{or_signature}
 
 -- what was tested is what the rules say, the signature aside
 pub first_unsigned_by : (k : KeptRules) (t : Terms) (cs : List PlainCertificate) (stream : List ℕ) (place : ℕ) (broken : Option Rule)
-    → ((rule : Rule) → number rule < 11 → kept_by k rule ≡ keeps_at rule t cs stream place) → k.signed ≡ true → IsFirstOf k broken → IsFirstUnsigned t cs stream place broken
-first_unsigned_by k t cs stream place None says signed kept = λ rule before. sym (says rule before) ∙ kept rule
-first_unsigned_by k t cs stream place (Some rule) says signed first =
-    let unsigned = or_signature (λ r. kept_by k r ≡ false → number r < 11) (λ r before broken. before) (λ broken. absurd (both_ways _ broken signed)) rule first.0 in
-    (unsigned, sym (says rule unsigned) ∙ first.0, λ other before. sym (says other (omega (arith, before, unsigned))) ∙ first.1 other before)
+    → ((rule : Rule) → number rule < number rules.WrongSignature → kept_by k rule ≡ keeps_at rule t cs stream place) → IsFirstUnsignedOf k broken → IsFirstUnsigned t cs stream place broken
+first_unsigned_by k t cs stream place None says kept = λ rule before. sym (says rule before) ∙ kept rule before
+first_unsigned_by k t cs stream place (Some rule) says first =
+    (first.0, sym (says rule first.0) ∙ first.1, λ other before. sym (says other (omega (arith, before, first.0))) ∙ first.2 other before)
 
--- of the signature, too
+-- of the signature, too, once the verifier was asked
+same_before : (k : KeptRules) (signed : Bool) (rule : Rule) → number rule < number rules.WrongSignature → kept_by (record k { signed = signed }) rule ≡ kept_by k rule
+same_before k signed rules.WrongSignature before = absurd (omega (arith, before))
+same_before k signed _ before = refl
+
 pub all_say : (k : KeptRules) (t : Terms) (cs : List PlainCertificate) (stream : List ℕ) (place : ℕ) (signed : Bool)
-    → ((rule : Rule) → number rule < 11 → kept_by k rule ≡ keeps_at rule t cs stream place) → k.signed ≡ signed → signed ≡ keeps_at rules.WrongSignature t cs stream place
-    → (rule : Rule) → kept_by k rule ≡ keeps_at rule t cs stream place
-all_say k t cs stream place signed says is so = or_signature (λ rule. kept_by k rule ≡ keeps_at rule t cs stream place) says (is ∙ so)
-
-pub tests_say : (k : KeptRules) (t : Terms) (cs : List PlainCertificate) (stream : List ℕ) (place : ℕ)
-    → k.one_algorithm ≡ keeps_at rules.AlgorithmsDiffer t cs stream place → k.distinct ≡ keeps_at rules.DuplicateExtension t cs stream place
-    → k.well_formed ≡ keeps_at rules.MalformedExtension t cs stream place → k.known ≡ keeps_at rules.UnweighedCritical t cs stream place
-    → k.linked ≡ keeps_at rules.WrongIssuer t cs stream place → k.begun ≡ keeps_at rules.NotYetValid t cs stream place
-    → k.lasting ≡ keeps_at rules.Expired t cs stream place → k.serving ≡ keeps_at rules.AgainstPurpose t cs stream place
-    → k.issuing ≡ keeps_at rules.NotAuthority t cs stream place → k.within_lengths ≡ keeps_at rules.PathTooLong t cs stream place
-    → (rule : Rule) → number rule < 11 → kept_by k rule ≡ keeps_at rule t cs stream place
-tests_say k t cs stream place one two three four five six seven eight nine ten rules.AlgorithmsDiffer before = one
-tests_say k t cs stream place one two three four five six seven eight nine ten rules.DuplicateExtension before = two
-tests_say k t cs stream place one two three four five six seven eight nine ten rules.MalformedExtension before = three
-tests_say k t cs stream place one two three four five six seven eight nine ten rules.UnweighedCritical before = four
-tests_say k t cs stream place one two three four five six seven eight nine ten rules.WrongIssuer before = five
-tests_say k t cs stream place one two three four five six seven eight nine ten rules.NotYetValid before = six
-tests_say k t cs stream place one two three four five six seven eight nine ten rules.Expired before = seven
-tests_say k t cs stream place one two three four five six seven eight nine ten rules.AgainstPurpose before = eight
-tests_say k t cs stream place one two three four five six seven eight nine ten rules.NotAuthority before = nine
-tests_say k t cs stream place one two three four five six seven eight nine ten rules.PathTooLong before = ten
-tests_say k t cs stream place one two three four five six seven eight nine ten rules.WrongSignature before = absurd (omega (arith, before))
+    → ((rule : Rule) → number rule < number rules.WrongSignature → kept_by k rule ≡ keeps_at rule t cs stream place) → signed ≡ keeps_at rules.WrongSignature t cs stream place
+    → (rule : Rule) → kept_by (record k { signed = signed }) rule ≡ keeps_at rule t cs stream place
+all_say k t cs stream place signed says so =
+    or_signature (λ rule. kept_by (record k { signed = signed }) rule ≡ keeps_at rule t cs stream place) (λ rule before. same_before k signed rule before ∙ says rule before) so
 
 -- whether a place counts
 pub counts-is : (bound : ℕ) (cs : List PlainCertificate) (place : ℕ) (c : PlainCertificate) → slice_get cs place ≡ Some c

@@ -10,7 +10,6 @@ pub mod PlaceLaws
 pub mod KeptLaws
 pub mod Outcomes
 pub mod EachPlace
-pub mod ArgumentLaws
 pub mod RunLaws
 pub mod ReasonLaws
 pub mod AnchorLaws

@@ -1,13 +1,17 @@
 -- A file of anchors says one thing.
 use Rattle.std.proofs.Common.{◌≡◌, ℕ, List, [], Result, Ok, Err, refl, ap, ◌∙◌}
+use Rattle.x509_cert_anchors.specs.Der.Limits.{levels_max}
 use Rattle.cert_desk_checking.specs.declared.anchor_error.AnchorError.TheVariants as errors
 use Rattle.cert_desk_checking.specs.declared.anchor_fault.AnchorFault.{AnchorFault}
 use Rattle.cert_desk_checking.specs.declared.anchor_fault.AnchorFault.TheVariants as faults
 use Rattle.cert_desk_checking.specs.Anchors.{given_by}
 use Rattle.cert_desk_checking.specs.AnchorFiles.{raw_choice, IsAnchorFile, IsFaulty, HasFirstFault, SaysAsFile}
 use Rattle.cert_desk_rules.specs.Judging.{PlainAnchor}
-use Rattle.cert_desk_checking.proofs.AnchorLaws.{choices_told}
+use Rattle.cert_desk_rules.specs.DeskBundle.Series.{IsUnambiguous}
 use Rattle.cert_desk_checking.proofs.FileLaws.{Ends, ends_none, ends_refused, one_reason, refused_some, one_file, not_both, one_place}
+
+pub choices_told : IsUnambiguous raw_choice
+choices_told = record { room = levels_max; element = refl; apart = refl; enough = refl }
 
 -- no anchor is given where something is faulty
 faulty_ends : (fault : AnchorFault) (rest : List ℕ) → IsFaulty fault rest → Ends raw_choice choices_told given_by rest
@@ -32,7 +36,7 @@ fault_there rest faults.PathControls faults.Malformed p q = absurd (q.1 p.value 
 fault_there rest faults.PathControls faults.NoName p q = let wrong = one_reason raw_choice choices_told given_by errors.PathControls errors.NoName rest p q in absurd cc
 fault_there rest faults.PathControls faults.PathControls p q = refl
 
-not_whole : (octets : List ℕ) (anchors : List PlainAnchor) (offset : ℕ) (fault : AnchorFault) → IsAnchorFile octets anchors → HasFirstFault octets offset fault → ⊥
+pub not_whole : (octets : List ℕ) (anchors : List PlainAnchor) (offset : ℕ) (fault : AnchorFault) → IsAnchorFile octets anchors → HasFirstFault octets offset fault → ⊥
 not_whole octets anchors offset fault p q = not_both raw_choice choices_told given_by octets anchors (IsFaulty fault) offset (faulty_ends fault) (no_fault_at_end fault) p q
 
 pub one_anchor_file : (octets : List ℕ) (said other : Result (List PlainAnchor) (ℕ × AnchorFault)) → SaysAsFile octets said → SaysAsFile octets other → said ≡ other

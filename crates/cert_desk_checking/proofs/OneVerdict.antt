@@ -1,45 +1,40 @@
 -- A stream has one verdict.
-use Rattle.std.proofs.Common.{◌≡◌, ℕ, ◌<◌, ◌^◌, List, [], length, true, refl, sym, ap, ◌∙◌, subst, arith, ◌⊎◌, inl, inr}
+use Rattle.std.proofs.Common.{◌≡◌, ℕ, ◌<◌, ◌^◌, List, [], length, true, not, Some, refl, sym, ap, ◌∙◌, subst, arith, inl, inr}
+use Rattle.std.specs.List.{find}
 use Rattle.std.proofs.lemmas.Bool.{both_ways, cases_order}
+use Rattle.std.proofs.lemmas.Option.{same_Some}
 use Rattle.x509_cert_anchors.specs.CertCertificates.Certificates.{PlainCertificate}
 use Rattle.cert_desk_rules.specs.declared.checked.Verdict.{Verdict}
 use Rattle.cert_desk_rules.specs.declared.checked.Verdict.TheVariants as verdicts
 use Rattle.cert_desk_rules.specs.DeskBundle.declared.fault_kind.FaultKind.{FaultKind}
 use Rattle.cert_desk_rules.specs.declared.rule.Rule.{Rule}
 use Rattle.cert_desk_rules.specs.DeskBundle.Chains.{Chain, joined}
-use Rattle.cert_desk_rules.specs.Judging.{Terms, keeps_at, number}
-use Rattle.cert_desk_rules.specs.Verdicts.{IsVerdict, Faulty, Refused, Before}
-use Rattle.cert_desk_rules.proofs.RuleList.{one_number}
+use Rattle.cert_desk_rules.specs.Judging.{Terms, in_order, keeps_at}
+use Rattle.cert_desk_rules.specs.Verdicts.{IsVerdict, Faulty, Refused}
+use Rattle.cert_desk_rules.proofs.RuleList.{broken_is}
 use Rattle.cert_desk_rules.proofs.DeskBundle.OneChain.{one_chain, one_fault, fault_no_chain}
 use Rattle.cert_desk_checking.proofs.ChainLaws.{chain_is_some, only_trusted}
-
--- one is at the other's place, or one comes before
-in_order : (p q : ℕ) (rule other : Rule) → ((p ≡ q) × (rule ≡ other)) ⊎ (Before p rule q other ⊎ Before q other p rule)
-in_order p q rule other =
-    elim (cases_order p q) [
-      | inr (inl below) ↦ inr (inl (inl below))
-      | inr (inr above) ↦ inr (inr (inl above))
-      | inl same ↦ elim (cases_order (number rule) (number other)) [
-        | inl e ↦ inl (same, one_number rule other e)
-        | inr (inl less) ↦ inr (inl (inr (same, less)))
-        | inr (inr more) ↦ inr (inr (inr (sym same, more)))
-      ]
-    ]
+use Rattle.cert_desk_checking.proofs.Outcomes.{kept_below-at}
 
 module _ (t : Terms) (limit : ℕ) (stream : List ℕ) where
-  -- of two broken rules neither comes before the other
-  none_before : (p q : ℕ) (rule other : Rule) → Refused t limit stream p rule → Refused t limit stream q other → Before p rule q other → ⊥
-  none_before p q rule other f g before =
+  -- of two places with broken rules neither comes before the other
+  none_before : (p q : ℕ) (rule other : Rule) → Refused t limit stream p rule → Refused t limit stream q other → p < q → ⊥
+  none_before p q rule other f g below =
       let same = one_chain t.bound limit f.certificates g.certificates stream f.chain g.chain in
-      let kept = g.least p rule (subst (λ (cs : List PlainCertificate). p < length cs) same f.within) before in
-      both_ways _ f.broken (subst (λ (cs : List PlainCertificate). keeps_at rule t cs stream p ≡ true) (sym same) kept)
+      let kept = kept_below-at t g.certificates stream q p g.kept below rule in
+      both_ways _ (broken_is (λ x. keeps_at x t f.certificates stream p) in_order rule f.first)
+      (subst (λ (cs : List PlainCertificate). keeps_at rule t cs stream p ≡ true) (sym same) kept)
 
   one_refusal : (p q : ℕ) (rule other : Rule) → Refused t limit stream p rule → Refused t limit stream q other → verdicts.Refused p rule ≡ verdicts.Refused q other
   one_refusal p q rule other f g =
-      elim (in_order p q rule other) [
-        | inl (e, r) ↦ ap (λ n. verdicts.Refused n rule) e ∙ ap (λ x. verdicts.Refused q x) r
-        | inr (inl before) ↦ absurd (none_before p q rule other f g before)
-        | inr (inr before) ↦ absurd (none_before q p other rule g f before)
+      elim (cases_order p q) [
+        | inl e ↦
+            (let same = one_chain t.bound limit f.certificates g.certificates stream f.chain g.chain in
+            let here = subst (λ (n : ℕ). find (λ x. not (keeps_at x t g.certificates stream n)) in_order ≡ Some other) (sym e) g.first in
+            let first = subst (λ (cs : List PlainCertificate). find (λ x. not (keeps_at x t cs stream p)) in_order ≡ Some other) (sym same) here in
+            ap (λ n. verdicts.Refused n rule) e ∙ ap (λ x. verdicts.Refused q x) (same_Some rule other (sym f.first ∙ first)))
+        | inr (inl below) ↦ absurd (none_before p q rule other f g below)
+        | inr (inr below) ↦ absurd (none_before q p other rule g f below)
       ]
 
   one_faulty : (p o q n : ℕ) (kind other : FaultKind) → Faulty t limit stream p o kind → Faulty t limit stream q n other

@@ -1,12 +1,14 @@
 -- From what was found at each place to what is said of the stream.
-use Rattle.std.proofs.Common.{◌≡◌, ℕ, zero, suc, ◌+◌, ◌<◌, List, length, true, false, cond, ◌&&◌, Some, None, inl, inr, refl, sym, subst, arith}
+use Rattle.std.proofs.Common.{◌≡◌, ℕ, zero, suc, ◌+◌, ◌<◌, List, length, true, false, not, cond, ◌&&◌, Some, None, inl, inr, refl, sym, subst, arith}
+use Rattle.std.specs.List.{find}
 use Rattle.std.proofs.lemmas.Bool.{and_parts, and_from, and_left, and_right, both_ways, false_from_ne_true, cond-true, cond-false, cases_order}
 use Rattle.x509_cert_anchors.specs.CertCertificates.Certificates.{PlainCertificate}
 use Rattle.cert_desk_rules.specs.declared.rule.Rule.{Rule}
 use Rattle.cert_desk_rules.specs.declared.rule.Rule.TheVariants as rules
 use Rattle.cert_desk_rules.specs.DeskBundle.Chains.{Chain, joined}
-use Rattle.cert_desk_rules.specs.Judging.{Terms, keeps_at, may_ask, number}
+use Rattle.cert_desk_rules.specs.Judging.{Terms, in_order, keeps_at, may_ask, number}
 use Rattle.cert_desk_rules.proofs.Asking.{keeps_all}
+use Rattle.cert_desk_rules.proofs.RuleList.{is_first}
 use Rattle.cert_desk_rules.specs.Paths.{extensions_at}
 use Rattle.cert_desk_rules.specs.Weighing.{may_take_memory}
 use Rattle.cert_desk_rules.specs.Verdicts.{Trusted, Refused, StopsAsking, all_kept_below, asked, asked_below, asked_signature, raised}
@@ -36,6 +38,13 @@ kept_below-at t cs stream (suc n) k h lt =
       | inr (inr above) ↦ absurd (omega arith)
     ]
 
+pub kept_below-from : (t : Terms) (cs : List PlainCertificate) (stream : List ℕ) (n : ℕ)
+    → ((k : ℕ) → k < n → (rule : Rule) → keeps_at rule t cs stream k ≡ true) → all_kept_below t cs stream n ≡ true
+kept_below-from t cs stream zero each = refl
+kept_below-from t cs stream (suc n) each =
+    and_from (all_kept_below t cs stream n) (keeps_all t cs stream n) (kept_below-from t cs stream n (λ k lt. each k (omega (arith, lt))))
+    (and_from (may_ask t cs stream n) _ (may_ask-true t cs stream n (λ rule before. each n (omega arith) rule)) (each n (omega arith) rules.WrongSignature))
+
 pub kept_below-more : (t : Terms) (cs : List PlainCertificate) (stream : List ℕ) (n : ℕ) → all_kept_below t cs stream n ≡ true
     → IsFirstUnsigned t cs stream n None → keeps_at rules.WrongSignature t cs stream n ≡ true → all_kept_below t cs stream (suc n) ≡ true
 kept_below-more t cs stream n h kept signed = and_from _ (keeps_all t cs stream n) h (and_from (may_ask t cs stream n) _ (may_ask-true t cs stream n kept) signed)
@@ -48,13 +57,10 @@ refused_at t limit cs place rule stream chain within kept broken first = record 
   certificates = cs;
   within = within;
   chain = chain;
-  broken = subst (λ s. keeps_at rule t cs s place ≡ false) (sym chain.joins) broken;
-  least = λ other_place other inside before.
-      subst (λ s. keeps_at other t cs s other_place ≡ true) (sym chain.joins)
-      (elim before [
-        | inl below ↦ kept_below-at t cs (joined t.bound cs) place other_place kept below other
-        | inr (same, less) ↦ subst (λ n. keeps_at other t cs (joined t.bound cs) n ≡ true) (sym same) (first other less)
-      ]);
+  kept = subst (λ s. all_kept_below t cs s place ≡ true) (sym chain.joins) kept;
+  first =
+      subst (λ s. find (λ other. not (keeps_at other t cs s place)) in_order ≡ Some rule) (sym chain.joins)
+      (is_first (λ other. keeps_at other t cs (joined t.bound cs) place) rule broken first);
 }
 
 -- the chain is trusted where every place keeps all rules

@@ -21,15 +21,18 @@ use Rattle.cert_desk_rules.specs.declared.path_room.PathRoom.{PathRoom}
 use Rattle.cert_desk_rules.specs.declared.rule.Rule.{Rule}
 use Rattle.cert_desk_rules.specs.declared.rule.Rule.TheVariants as rules
 use Rattle.cert_desk_checking.specs.Anchors.{anchor_plain, terms_of}
+use Rattle.cert_desk_rules.specs.DeskBundle.Chains.{joined}
 use Rattle.cert_desk_rules.specs.DeskBundle.Entries.{IsEntry}
 use Rattle.cert_desk_rules.specs.Findings.{IsRoom}
-use Rattle.cert_desk_rules.specs.Judging.{accepted, Answers, Terms, has_one_algorithm, keeps, keeps_at, number, may_ask, is_named, same_name, signed_part}
-use Rattle.cert_desk_checking.specs.Places.{IsIssuer, StandsAt, asked_of, linked_to, signed_by, signs}
+use Rattle.cert_desk_rules.specs.Judging.{accepted, Answers, Terms, has_one_algorithm, keeps, keeps_at, number, may_ask, is_named, signed_part}
+use Rattle.cert_desk_rules.specs.Paths.{same_name}
+use Rattle.cert_desk_checking.specs.Places.{IsIssuer, Rises, StandsAt, asked_of, linked_to, signed_by, signs}
 use Rattle.cert_desk_rules.specs.Verdicts.{asked_signature, asked_until}
 use Rattle.cert_desk_checking.proofs.OneEncoding.{one_algorithm}
 use Rattle.cert_desk_rules.proofs.RuleList.{test_of_all, all_of_tests, or_signature}
 use Rattle.cert_desk_rules.proofs.Asking.{asked_anchors}
-use Rattle.cert_desk_checking.proofs.Encodings.{valid_algorithms}
+use Rattle.cert_desk_checking.proofs.Counts.{Rises-by}
+use Rattle.cert_desk_checking.proofs.Encodings.{signed_part-is, valid_algorithms}
 
 pub entry_at : (bound : ℕ) (cs : List PlainCertificate) (place : ℕ) (o : Option Entry) (e : Entry) → IfSome o (λ e. IsEntry bound cs place e) → o ≡ Some e → IsEntry bound cs place e
 entry_at bound cs place o e h is = subst (λ o. IfSome o (λ e. IsEntry bound cs place e)) is h
@@ -75,11 +78,21 @@ module _ (anchors : List Anchor) (moment : ℕ) (purpose : List ℕ) (answers : 
   asked_at (suc n) (issuers.Anchors those) signed h is e = absurd h
   asked_at (suc n) (issuers.Before b) signed h is e = refl
 
-  -- what a judge that answers the same said
-  pub told_at : (place : ℕ) (i : Issuer) (signed : List ℕ) (now : Answers) (said is_so : Bool) → IsIssuer cs anchors place i → slice_get cs place ≡ Some c
-      → signed ≡ signed_part Bound cs stream place c → now ≡ answers → said ≡ signed_by Bound now signed c i → said ≡ is_so → keeps_at rules.WrongSignature terms cs stream place ≡ is_so
-  told_at place i signed now said is_so h is e same told what =
-      sym (signed_at place i signed h is e) ∙ ap (λ (a : Answers). signed_by Bound a signed c i) (sym same) ∙ sym told ∙ what
+-- What a judge that answers the same said of the signature at a place, and how often it was asked.
+pub signature_at : (anchors : List Anchor) (moment : ℕ) (purpose : List ℕ) (answers : Answers) (cs : List PlainCertificate) (place : ℕ) (e : Entry) (i : Issuer) (now : Answers) (said : Bool) (q k r l : ℕ)
+    → IsEntry Bound cs place e → IsIssuer cs anchors place i → now ≡ answers
+    → said ≡ signed_by Bound now e.signed.now (certificate_plain e.certificate.now) i → Rises (asked_of Bound now e.signed.now (certificate_plain e.certificate.now) i) q k r l
+    → (keeps_at rules.WrongSignature (terms_of anchors moment purpose answers) cs (joined Bound cs) place ≡ said)
+    × Rises (asked_signature (terms_of anchors moment purpose answers) cs (joined Bound cs) place) q k r l
+signature_at anchors moment purpose answers cs place e i now said q k r l entry issuer same told rose =
+    let s = joined Bound cs in
+    let this = certificate_plain e.certificate.now in
+    let octets = entry.signed ∙ sym (signed_part-is Bound cs place this entry.certificate) in (
+      sym (signed_at anchors moment purpose answers cs s this place i e.signed.now issuer entry.certificate octets)
+          ∙ ap (λ (a : Answers). signed_by Bound a e.signed.now this i) (sym same) ∙ sym told,
+      Rises-by _ _ q k r l
+          (ap (λ (a : Answers). asked_of Bound a e.signed.now this i) same ∙ asked_at anchors moment purpose answers cs s this place i e.signed.now issuer entry.certificate octets) rose,
+    )
 
 -- what is known of a place
 pub stands : (cs : List PlainCertificate) (anchors : List Anchor) (place : ℕ) (e : Entry) (n : ℕ) (i : Issuer) (r : PathRoom) → IsEntry Bound cs place e → n ≡ length cs
@@ -97,19 +110,19 @@ one_algorithm_by bound r c h same differ =
 
 -- what may be asked about keeps every rule before the signature
 pub may_ask-kept : (t : Terms) (cs : List PlainCertificate) (stream : List ℕ) (place : ℕ) → may_ask t cs stream place ≡ true
-    → (rule : Rule) → number rule < 11 → keeps_at rule t cs stream place ≡ true
+    → (rule : Rule) → number rule < number rules.WrongSignature → keeps_at rule t cs stream place ≡ true
 may_ask-kept t cs stream place h rule lt = test_of_all (λ rule. keeps_at rule t cs stream place) h rule lt
 
-pub may_ask-true : (t : Terms) (cs : List PlainCertificate) (stream : List ℕ) (place : ℕ) → ((rule : Rule) → number rule < 11 → keeps_at rule t cs stream place ≡ true)
+pub may_ask-true : (t : Terms) (cs : List PlainCertificate) (stream : List ℕ) (place : ℕ) → ((rule : Rule) → number rule < number rules.WrongSignature → keeps_at rule t cs stream place ≡ true)
     → may_ask t cs stream place ≡ true
 may_ask-true t cs stream place kept = all_of_tests (λ rule. keeps_at rule t cs stream place) kept
 
-pub may_ask-false : (t : Terms) (cs : List PlainCertificate) (stream : List ℕ) (place : ℕ) (rule : Rule) → number rule < 11 → keeps_at rule t cs stream place ≡ false
+pub may_ask-false : (t : Terms) (cs : List PlainCertificate) (stream : List ℕ) (place : ℕ) (rule : Rule) → number rule < number rules.WrongSignature → keeps_at rule t cs stream place ≡ false
     → may_ask t cs stream place ≡ false
 may_ask-false t cs stream place rule h broken =
     false_from_ne_true _ (λ e. both_ways _ broken (may_ask-kept t cs stream place e rule h))
 
 -- the rules before the signature, and the signature
-pub all_kept : (t : Terms) (cs : List PlainCertificate) (stream : List ℕ) (place : ℕ) → ((rule : Rule) → number rule < 11 → keeps_at rule t cs stream place ≡ true)
+pub all_kept : (t : Terms) (cs : List PlainCertificate) (stream : List ℕ) (place : ℕ) → ((rule : Rule) → number rule < number rules.WrongSignature → keeps_at rule t cs stream place ≡ true)
     → keeps_at rules.WrongSignature t cs stream place ≡ true → (rule : Rule) → keeps_at rule t cs stream place ≡ true
 all_kept t cs stream place kept signed = or_signature (λ rule. keeps_at rule t cs stream place ≡ true) kept signed

@@ -50,17 +50,11 @@ any-more {A} plain test xs i x lt is fails =
 
 -- what is found in one extension alone is what that extension says
 pub against_alone : (bound : ℕ) (purpose : List ℕ) (rule : Rule) (e : PlainExtension) → goes_against (found bound purpose (e ∷ [])) rule ≡ is_against bound purpose rule e
-against_alone bound purpose rules.AlgorithmsDiffer e = refl
-against_alone bound purpose rules.DuplicateExtension e = refl
 against_alone bound purpose rules.MalformedExtension e = found_malformed bound purpose (e ∷ []) ∙ sym (or_no _)
 against_alone bound purpose rules.UnweighedCritical e = found_unweighed bound purpose (e ∷ []) ∙ sym (or_no _)
-against_alone bound purpose rules.WrongIssuer e = refl
-against_alone bound purpose rules.NotYetValid e = refl
-against_alone bound purpose rules.Expired e = refl
 against_alone bound purpose rules.AgainstPurpose e = ap not (found_serves bound purpose (e ∷ []) ∙ sym (and_yes _))
 against_alone bound purpose rules.NotAuthority e = ap not (found_certifies bound purpose (e ∷ []) ∙ sym (and_yes _))
-against_alone bound purpose rules.PathTooLong e = refl
-against_alone bound purpose rules.WrongSignature e = refl
+against_alone bound purpose _ e = refl
 
 -- one that is so
 pub any-at : {A : Type 0} (test : A → Bool) (xs : List A) (i : ℕ) → is_at test xs i ≡ true → list_any test xs ≡ true

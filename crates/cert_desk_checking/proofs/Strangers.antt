@@ -87,34 +87,17 @@ few_questions t c cs stream =
 module _ (t : Terms) (others : List PlainAnchor) (stream : List ℕ) (c : PlainCertificate) (cs : List PlainCertificate)
     (same : anchors_named t.bound c t.anchors ≡ anchors_named t.bound c others) where
   keeps_first : (rule : Rule) → keeps rule t (c ∷ cs) stream 0 c ≡ keeps rule (among t others) (c ∷ cs) stream 0 c
-  keeps_first rules.AlgorithmsDiffer = refl
-  keeps_first rules.DuplicateExtension = refl
-  keeps_first rules.MalformedExtension = refl
-  keeps_first rules.UnweighedCritical = refl
   keeps_first rules.WrongIssuer = any_same (is_named t.bound c) (is_named t.bound c) (λ a e. e) t.anchors others same
-  keeps_first rules.NotYetValid = refl
-  keeps_first rules.Expired = refl
-  keeps_first rules.AgainstPurpose = refl
-  keeps_first rules.NotAuthority = refl
-  keeps_first rules.PathTooLong = refl
   keeps_first rules.WrongSignature =
       any_same (is_named t.bound c) (λ a. is_named t.bound c a && says_yes t (c ∷ cs) stream 0 c a.key)
       (λ a e. ap (λ b. b && says_yes t (c ∷ cs) stream 0 c a.key) e) t.anchors others same
+  keeps_first _ = refl
 
   keeps_later : (rule : Rule) (before : ℕ) (o : Option PlainCertificate)
       → option_map_or (keeps rule t (c ∷ cs) stream (suc before)) o true ≡ option_map_or (keeps rule (among t others) (c ∷ cs) stream (suc before)) o true
   keeps_later rule before None = refl
   keeps_later rules.AlgorithmsDiffer before (Some d) = refl
-  keeps_later rules.DuplicateExtension before (Some d) = refl
-  keeps_later rules.MalformedExtension before (Some d) = refl
-  keeps_later rules.UnweighedCritical before (Some d) = refl
-  keeps_later rules.WrongIssuer before (Some d) = refl
-  keeps_later rules.NotYetValid before (Some d) = refl
-  keeps_later rules.Expired before (Some d) = refl
-  keeps_later rules.AgainstPurpose before (Some d) = refl
-  keeps_later rules.NotAuthority before (Some d) = refl
-  keeps_later rules.PathTooLong before (Some d) = refl
-  keeps_later rules.WrongSignature before (Some d) = refl
+  keeps_later _ before (Some d) = refl
 
   keep_same : (rule : Rule) (place : ℕ) → keeps_at rule t (c ∷ cs) stream place ≡ keeps_at rule (among t others) (c ∷ cs) stream place
   keep_same rule zero = keeps_first rule

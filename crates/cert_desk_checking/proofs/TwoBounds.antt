@@ -1,9 +1,8 @@
 -- Certificates, and the contents of extensions, under two bounds of arcs.
-use Rattle.std.proofs.Common.{◌≡◌, ℕ, zero, suc, ◌≤◌, ◌⊎◌, inl, inr, List, [], ◌∷◌, ◌++◌, length, Bool, true, false, cond, Option, Some, None, Result, Ok, Err, ltb, refl, sym, ap, ◌∙◌, subst, arith}
+use Rattle.std.proofs.Common.{◌≡◌, ℕ, zero, suc, ◌≤◌, ◌⊎◌, inl, inr, List, [], ◌∷◌, ◌++◌, length, Bool, true, false, Option, Some, None, Result, Ok, Err, ltb, refl, sym, ap, ◌∙◌, subst, arith}
 use Rattle.std.specs.Prelude.{Contains}
 use Rattle.std.specs.List.{AllByRecursion}
 use Rattle.std.specs.Option.{option_map_or}
-use Rattle.x509_cert_anchors.specs.Oid.Comparing.{owned_eq}
 use Rattle.x509_cert_anchors.specs.Der.ErrorTypes.ErrorKind.{ErrorKind}
 use Rattle.x509_cert_anchors.specs.Der.ErrorTypes.ErrorKind.TheVariants as kinds
 use Rattle.x509_cert_anchors.specs.Der.Bounds.{IsValidUnder, HoldsLarge}
@@ -17,12 +16,14 @@ use Rattle.x509_cert_anchors.proofs.Der.OneEncoding.{bytes_are}
 use Rattle.x509_cert_anchors.proofs.Der.BoundLaws.{below_or_large, Family, same_octets, valid_wider, valid_narrow, whole_wider, whole_new}
 use Rattle.x509_cert_anchors.specs.CertCertificates.Certificates.{PlainCertificate, extensions_of}
 use Rattle.x509_cert_anchors.specs.CertCertificates.Certificates.{raw_certificate}
-use Rattle.x509_cert_anchors.specs.CertParts.Grammar.{PlainExtension, extension_arcs, extension_octets}
+use Rattle.x509_cert_anchors.specs.CertParts.Grammar.{PlainExtension, extension_octets}
 use Rattle.x509_cert_anchors.specs.CertParts.Grammar.{object_identifier, false_by_default}
+use Rattle.x509_cert_anchors.specs.CertGeneralNames.GeneralNames.{general_names}
 use Rattle.x509_cert_anchors.proofs.Der.Results.{bind_ok, unless_ok, whole_ok}
 use Rattle.cert_desk_checking.specs.Bounded.{BecomesReadable, OneBecomesReadable, OneHoldsLarge, identifiers_in, identifiers_said}
 use Rattle.cert_desk_rules.specs.DeskBundle.Chains.{Chain, Stands, joined}
-use Rattle.cert_desk_rules.specs.Weighing.{Meaning, basic_constraints_in, constraints_of, extended_key_usage, extended_key_usage_in, is_ce, is_malformed, key_usage_in, malformed, meaning_of, other_names, purposes, subject_alt_name, subject_alt_name_in, unweighed, uses, weigh}
+use Rattle.cert_desk_rules.specs.Weighing.{Meaning, extended_key_usage_in, is_ce, is_malformed, malformed, meaning_of, other_names, purposes, subject_alt_name_in, weigh}
+use Rattle.cert_desk_rules.proofs.ExtensionLaws.{by_kind}
 use Rattle.cert_desk_rules.proofs.Meanings.{meaning_read, read_meaning}
 use Rattle.cert_desk_rules.proofs.DeskBundle.SeriesLaws.{each-so}
 
@@ -123,19 +124,19 @@ octets_in : (bound : ℕ) (c : PlainCertificate) → IsValid (raw_certificate bo
 unfolding IsValid IsContent IsBody
 octets_in bound c h = octets_listed bound c.0.1.1.1.1.1.1.1.1.1.0 h.0.0.0.1.1.1.1.1.1.1.1.1.0
 
-names_same : (bound : ℕ) (v : Value (subject_alt_name 0)) → octets_of (subject_alt_name bound) v ≡ octets_of (subject_alt_name 0) v
+names_same : (bound : ℕ) (v : Value (general_names 0)) → octets_of (general_names bound) v ≡ octets_of (general_names 0) v
 unfolding octets_of
 names_same bound v = refl
 
-names_to : (bound : ℕ) (v : Value (subject_alt_name 0)) → IsValid (subject_alt_name bound) v → IsValidUnder bound (subject_alt_name 0) v
+names_to : (bound : ℕ) (v : Value (general_names 0)) → IsValid (general_names bound) v → IsValidUnder bound (general_names 0) v
 unfolding IsValid IsValidUnder octets_of
 names_to bound v h = h
 
-names_from : (bound : ℕ) (v : Value (subject_alt_name 0)) → IsValidUnder bound (subject_alt_name 0) v → IsValid (subject_alt_name bound) v
+names_from : (bound : ℕ) (v : Value (general_names 0)) → IsValidUnder bound (general_names 0) v → IsValid (general_names bound) v
 unfolding IsValid IsValidUnder octets_of
 names_from bound v h = h
 
-abbrev names : Family (subject_alt_name 0) (λ bound. subject_alt_name bound)
+abbrev names : Family (general_names 0) (λ bound. general_names bound)
 names = record {
   at = λ b v. v;
   judged = λ b v. (names_to b v, names_from b v);
@@ -145,19 +146,23 @@ names = record {
   enough = λ b. refl;
 }
 
-usages_same : (bound : ℕ) (v : Value (extended_key_usage 0)) → octets_of (extended_key_usage bound) v ≡ octets_of (extended_key_usage 0) v
+-- ExtKeyUsageSyntax (RFC 5280 4.2.1.12)
+abbrev purposes_shape : ℕ → Shape
+purposes_shape bound = sequence_of (object_identifier bound)
+
+usages_same : (bound : ℕ) (v : Value (purposes_shape 0)) → octets_of (purposes_shape bound) v ≡ octets_of (purposes_shape 0) v
 unfolding octets_of
 usages_same bound v = refl
 
-usages_to : (bound : ℕ) (v : Value (extended_key_usage 0)) → IsValid (extended_key_usage bound) v → IsValidUnder bound (extended_key_usage 0) v
+usages_to : (bound : ℕ) (v : Value (purposes_shape 0)) → IsValid (purposes_shape bound) v → IsValidUnder bound (purposes_shape 0) v
 unfolding IsValid IsValidUnder octets_of
 usages_to bound v h = h
 
-usages_from : (bound : ℕ) (v : Value (extended_key_usage 0)) → IsValidUnder bound (extended_key_usage 0) v → IsValid (extended_key_usage bound) v
+usages_from : (bound : ℕ) (v : Value (purposes_shape 0)) → IsValidUnder bound (purposes_shape 0) v → IsValid (purposes_shape bound) v
 unfolding IsValid IsValidUnder octets_of
 usages_from bound v h = h
 
-abbrev usages : Family (extended_key_usage 0) (λ bound. extended_key_usage bound)
+abbrev usages : Family (purposes_shape 0) (λ bound. purposes_shape bound)
 usages = record {
   at = λ b v. v;
   judged = λ b v. (usages_to b v, usages_from b v);
@@ -197,26 +202,20 @@ module _ (small large : ℕ) (le : small ≤ large) where
   names_weighed : (w : List ℕ) → IsOctets w → Weighed small (meaning_of other_names (subject_alt_name_in small w)) (meaning_of other_names (subject_alt_name_in large w))
   names_weighed w o =
       weighed_as small _ _ _ _
-      (meaning_read (subject_alt_name small) other_names w refl refl (bytes_are w o) (read_whole (subject_alt_name small) w) refl (subject_alt_name_in small w))
-      (meaning_read (subject_alt_name large) other_names w refl refl (bytes_are w o) (read_whole (subject_alt_name large) w) refl (subject_alt_name_in large w))
-      (weighed_by other_names (λ v. refl) small (read_whole (subject_alt_name small) w) (read_whole (subject_alt_name large) w)
-      (λ v x e. whole_wider (subject_alt_name 0) (λ b. subject_alt_name b) names small large v w le o (leaves_none (subject_alt_name small) w v x e))
-      (λ v x d e r. whole_new (subject_alt_name 0) (λ b. subject_alt_name b) names small large v w d o (leaves_none (subject_alt_name large) w v x e) r))
+      (meaning_read (general_names small) other_names w refl refl (bytes_are w o) (read_whole (general_names small) w) refl (subject_alt_name_in small w))
+      (meaning_read (general_names large) other_names w refl refl (bytes_are w o) (read_whole (general_names large) w) refl (subject_alt_name_in large w))
+      (weighed_by other_names (λ v. refl) small (read_whole (general_names small) w) (read_whole (general_names large) w)
+      (λ v x e. whole_wider (general_names 0) (λ b. general_names b) names small large v w le o (leaves_none (general_names small) w v x e))
+      (λ v x d e r. whole_new (general_names 0) (λ b. general_names b) names small large v w d o (leaves_none (general_names large) w v x e) r))
 
   usages_weighed : (w : List ℕ) → IsOctets w → Weighed small (meaning_of purposes (extended_key_usage_in small w)) (meaning_of purposes (extended_key_usage_in large w))
   usages_weighed w o =
       weighed_as small _ _ _ _
-      (meaning_read (extended_key_usage small) purposes w refl refl (bytes_are w o) (read_whole (extended_key_usage small) w) refl (extended_key_usage_in small w))
-      (meaning_read (extended_key_usage large) purposes w refl refl (bytes_are w o) (read_whole (extended_key_usage large) w) refl (extended_key_usage_in large w))
-      (weighed_by purposes (λ v. refl) small (read_whole (extended_key_usage small) w) (read_whole (extended_key_usage large) w)
-      (λ v x e. whole_wider (extended_key_usage 0) (λ b. extended_key_usage b) usages small large v w le o (leaves_none (extended_key_usage small) w v x e))
-      (λ v x d e r. whole_new (extended_key_usage 0) (λ b. extended_key_usage b) usages small large v w d o (leaves_none (extended_key_usage large) w v x e) r))
-
-  abbrev by_kind : ℕ → Bool → Bool → Bool → Bool → List ℕ → Meaning
-  by_kind bound a b c d w =
-      cond a (meaning_of uses (key_usage_in w))
-      (cond b (meaning_of other_names (subject_alt_name_in bound w))
-      (cond c (meaning_of constraints_of (basic_constraints_in w)) (cond d (meaning_of purposes (extended_key_usage_in bound w)) unweighed)))
+      (meaning_read (purposes_shape small) purposes w refl refl (bytes_are w o) (read_whole (purposes_shape small) w) refl (extended_key_usage_in small w))
+      (meaning_read (purposes_shape large) purposes w refl refl (bytes_are w o) (read_whole (purposes_shape large) w) refl (extended_key_usage_in large w))
+      (weighed_by purposes (λ v. refl) small (read_whole (purposes_shape small) w) (read_whole (purposes_shape large) w)
+      (λ v x e. whole_wider (purposes_shape 0) (λ b. purposes_shape b) usages small large v w le o (leaves_none (purposes_shape small) w v x e))
+      (λ v x d e r. whole_new (purposes_shape 0) (λ b. purposes_shape b) usages small large v w d o (leaves_none (purposes_shape large) w v x e) r))
 
   kind_weighed : (a b c d : Bool) (w : List ℕ) → IsOctets w → Weighed small (by_kind small a b c d w) (by_kind large a b c d w)
   kind_weighed true b c d w o = inl refl

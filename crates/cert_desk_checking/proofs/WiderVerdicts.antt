@@ -108,18 +108,16 @@ module _ (t : Terms) (wide : ℕ) (cs : List PlainCertificate) (stream : List �
 
     keeps_same : (rule : Rule) → keeps rule t cs stream place c ≡ keeps rule (bounded t wide) cs stream place c
     keeps_same rules.AlgorithmsDiffer = algorithms_same c
-    keeps_same rules.DuplicateExtension = refl
     keeps_same rules.MalformedExtension = ap (λ b. not b) (say_any t.bound wide is_malformed (extensions_of c) says)
     keeps_same rules.UnweighedCritical = ap (λ b. not b) (say_critical t.bound wide (extensions_of c) says)
     keeps_same rules.WrongIssuer = linked_same place c
-    keeps_same rules.NotYetValid = refl
-    keeps_same rules.Expired = refl
     keeps_same rules.AgainstPurpose = say_all t.bound wide (λ m. serves t.purpose m) (extensions_of c) says
     keeps_same rules.NotAuthority =
         ap (λ b. is_last cs place || (b && list_all (λ e. may_certify (weigh t.bound e)) (extensions_of c))) (say_any t.bound wide is_authority (extensions_of c) says)
         ∙ ap (λ b. is_last cs place || (list_any (λ e. is_authority (weigh wide e)) (extensions_of c) && b)) (say_all t.bound wide may_certify (extensions_of c) says)
     keeps_same rules.PathTooLong = within_same place
     keeps_same rules.WrongSignature = signed_same place c
+    keeps_same _ = refl
 
   keep_same : (rule : Rule) (place : ℕ) → keeps_at rule t cs stream place ≡ keeps_at rule (bounded t wide) cs stream place
   keep_same rule place = by (slice_get cs place) refl

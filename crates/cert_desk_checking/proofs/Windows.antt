@@ -12,8 +12,8 @@ use Rattle.cert_desk_rules.specs.declared.rule.Rule.{Rule}
 use Rattle.cert_desk_rules.specs.declared.rule.Rule.TheVariants as rules
 use Rattle.cert_desk_rules.specs.DeskBundle.Chains.{Stands, joined}
 use Rattle.cert_desk_checking.specs.Issuers.{among}
-use Rattle.cert_desk_rules.specs.Judging.{PlainAnchor, Terms, has_authority, is_linked, is_signed, keeps, keeps_at, same_name, signed_part}
-use Rattle.cert_desk_rules.specs.Paths.{used_up, counts, extensions_at, is_last, is_self_issued, is_within, is_within_lengths, keep_lengths, keeps_length}
+use Rattle.cert_desk_rules.specs.Judging.{PlainAnchor, Terms, has_authority, is_linked, is_signed, keeps, keeps_at, signed_part}
+use Rattle.cert_desk_rules.specs.Paths.{used_up, counts, extensions_at, is_last, is_self_issued, is_within, is_within_lengths, keep_lengths, keeps_length, same_name}
 use Rattle.cert_desk_rules.specs.Verdicts.{Trusted}
 use Rattle.cert_desk_rules.specs.Weighing.{path_length, weigh}
 use Rattle.cert_desk_checking.proofs.Encodings.{signed_part-is}
@@ -114,17 +114,11 @@ module _ (t : Terms) (anchors : List PlainAnchor) (ds cs : List PlainCertificate
   -- what is kept in the longer list is kept here, names and signatures aside
   kept_in : (place : ℕ) (c : PlainCertificate) → place < length cs → is_linked (among t anchors) cs place c ≡ true → is_signed (among t anchors) cs (joined t.bound cs) place c ≡ true
       → ((rule : Rule) → keeps rule t ds (joined t.bound ds) (from + place) c ≡ true) → (rule : Rule) → keeps rule (among t anchors) cs (joined t.bound cs) place c ≡ true
-  kept_in place c lt linked signed kept rules.AlgorithmsDiffer = kept rules.AlgorithmsDiffer
-  kept_in place c lt linked signed kept rules.DuplicateExtension = kept rules.DuplicateExtension
-  kept_in place c lt linked signed kept rules.MalformedExtension = kept rules.MalformedExtension
-  kept_in place c lt linked signed kept rules.UnweighedCritical = kept rules.UnweighedCritical
   kept_in place c lt linked signed kept rules.WrongIssuer = linked
-  kept_in place c lt linked signed kept rules.NotYetValid = kept rules.NotYetValid
-  kept_in place c lt linked signed kept rules.Expired = kept rules.Expired
-  kept_in place c lt linked signed kept rules.AgainstPurpose = kept rules.AgainstPurpose
   kept_in place c lt linked signed kept rules.NotAuthority = authority_at t.bound ds cs from w place (has_authority t.bound c) lt (kept rules.NotAuthority)
   kept_in place c lt linked signed kept rules.PathTooLong = within_at t.bound ds cs from w place lt (kept rules.PathTooLong)
   kept_in place c lt linked signed kept rules.WrongSignature = signed
+  kept_in place c lt linked signed kept rule = kept rule
 
   module _ (p : ℕ) (c : PlainCertificate) (is : slice_get cs (suc p) ≡ Some c) (lt : suc p < length cs) where
     linked_later : is_linked t ds (suc (from + p)) c ≡ true → is_linked (among t anchors) cs (suc p) c ≡ true

@@ -2,13 +2,14 @@
 -- chain is judged under any bound.
 use Rattle.std.specs.Prelude.{◌≡◌, ℕ, List, [], false, Contains}
 use Rattle.x509_cert_anchors.specs.Der.Bounds.{identifiers_of, HoldsLarge}
+use Rattle.x509_cert_anchors.specs.Der.Shapes.{sequence_of}
 use Rattle.x509_cert_anchors.specs.CertCertificates.Certificates.{PlainCertificate, extensions_of}
 use Rattle.x509_cert_anchors.specs.CertCertificates.Certificates.{raw_certificate}
-use Rattle.x509_cert_anchors.specs.CertParts.Grammar.{PlainExtension}
+use Rattle.x509_cert_anchors.specs.CertParts.Grammar.{PlainExtension, object_identifier}
+use Rattle.x509_cert_anchors.specs.CertGeneralNames.GeneralNames.{general_names}
 use Rattle.cert_desk_rules.specs.Judging.{Terms}
 use Rattle.cert_desk_rules.specs.Weighing.{Meaning, uses, other_names, constraints, purposes}
-use Rattle.cert_desk_rules.specs.Weighing.{malformed, unweighed, extended_key_usage}
-use Rattle.cert_desk_rules.specs.Weighing.{is_malformed, subject_alt_name, weigh}
+use Rattle.cert_desk_rules.specs.Weighing.{malformed, unweighed, is_malformed, weigh}
 
 -- terms under another bound of arcs, all else alike
 abbrev pub bounded : Terms → ℕ → Terms
@@ -26,9 +27,9 @@ OneHoldsLarge bound cs = (c : PlainCertificate) × Contains cs c
 -- the identifiers in what an extension says (RFC 5280 4.2.1.6, 4.2.1.12)
 abbrev pub identifiers_said : Meaning → List (List ℕ)
 identifiers_said (uses set) = []
-identifiers_said (other_names names) = identifiers_of (subject_alt_name 0) names
+identifiers_said (other_names names) = identifiers_of (general_names 0) names
 identifiers_said (constraints ca path_length) = []
-identifiers_said (purposes listed) = identifiers_of (extended_key_usage 0) listed
+identifiers_said (purposes listed) = identifiers_of (sequence_of (object_identifier 0)) listed
 identifiers_said malformed = []
 identifiers_said unweighed = []
 

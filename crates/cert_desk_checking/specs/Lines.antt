@@ -5,7 +5,7 @@ use Rattle.cert_desk_rules.specs.declared.checked.Verdict.TheVariants as verdict
 use Rattle.cert_desk_rules.specs.DeskBundle.FaultNames.{kind_name}
 use Rattle.cert_desk_checking.specs.declared.anchor_fault.AnchorFault.{AnchorFault}
 use Rattle.cert_desk_checking.specs.declared.anchor_fault.AnchorFault.TheVariants as faults
-use Rattle.cert_desk_rules.specs.RuleNames.{rule_name}
+use Rattle.cert_desk_rules.specs.Judging.{rule_name}
 
 -- what is said of a stream, and how often the judge was asked
 abbrev pub line_of : Verdict → ℕ → List ℕ

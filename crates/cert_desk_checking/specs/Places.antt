@@ -15,8 +15,8 @@ use Rattle.cert_desk_rules.specs.declared.rule.Rule.TheVariants as rules
 use Rattle.cert_desk_checking.specs.Anchors.{anchor_plain}
 use Rattle.cert_desk_rules.specs.Findings.{IsRoom}
 use Rattle.cert_desk_rules.specs.Judging.{Answers, Terms, PlainAnchor, keeps_at, number}
-use Rattle.cert_desk_rules.specs.Judging.{accepted, is_named, same_name}
-use Rattle.cert_desk_rules.specs.Paths.{is_last}
+use Rattle.cert_desk_rules.specs.Judging.{accepted, is_named}
+use Rattle.cert_desk_rules.specs.Paths.{is_last, same_name}
 use Rattle.cert_desk_rules.specs.Verdicts.{asked_signature, asked_until, raised}
 
 -- the first rule before the signature that the certificate at a place breaks, or none

@@ -15,7 +15,8 @@ use Rattle.cert_desk_rules.specs.declared.checked.Verdict.TheVariants as verdict
 use Rattle.cert_desk_rules.specs.DeskBundle.declared.fault_kind.FaultKind.TheVariants as kinds
 use Rattle.cert_desk_checking.specs.declared.outcome.Outcome.{Outcome}
 use Rattle.cert_desk_checking.specs.declared.outcome.Outcome.TheVariants as outcomes
-use Rattle.cert_desk_checking.specs.AnchorFiles.{IsAnchorFile, HasFirstFault}
+use Rattle.cert_desk_checking.specs.AnchorFiles.{IsAnchorFile}
+use Rattle.cert_desk_checking.specs.AnchorReading.{IsNoAnchorFile}
 use Rattle.cert_desk_rules.specs.Judging.{PlainAnchor, Answers, Terms}
 use Rattle.cert_desk_checking.specs.Lines.{line_of, anchors_line}
 use Rattle.cert_desk_checking.specs.Reading.{AsksNoMore, ReadFailed}
@@ -26,15 +27,18 @@ abbrev pub HasAnchors : Device → List PlainAnchor → Type 0
 HasAnchors input anchors = (octets : List ℕ) × IsWhole input most_octets octets
     × IsAnchorFile octets anchors
 
--- Why an input gave no anchors: one of them is faulty, the first one where there are too many
--- octets; or why it wasn't read, or found no memory.
+-- why an input of anchors wasn't read; where there are too many octets the first one is told
+abbrev pub IsUnreadFor : Device → AnchorsError → Type 0
+IsUnreadFor input (errors.BadAnchors offset fault) =
+    IsUnread input most_octets reasons.TooMuch × (offset ≡ 0) × (fault ≡ faults.Malformed)
+IsUnreadFor input errors.Device = IsUnread input most_octets reasons.Device
+IsUnreadFor input errors.OutOfMemory = IsUnread input most_octets reasons.OutOfMemory
+
+-- Why an input gave no anchors: its octets give none, or it wasn't read.
 abbrev pub HasNoAnchors : Device → AnchorsError → Type 0
-HasNoAnchors input (errors.BadAnchors offset fault) =
-    ((octets : List ℕ) × IsWhole input most_octets octets × HasFirstFault octets offset fault)
-    ⊎ (IsUnread input most_octets reasons.TooMuch × (offset ≡ 0) × (fault ≡ faults.Malformed))
-HasNoAnchors input errors.Device = IsUnread input most_octets reasons.Device
-HasNoAnchors input errors.OutOfMemory = ((octets : List ℕ) × IsWhole input most_octets octets)
-    ⊎ IsUnread input most_octets reasons.OutOfMemory
+HasNoAnchors input error =
+    ((octets : List ℕ) × IsWhole input most_octets octets × IsNoAnchorFile octets error)
+    ⊎ IsUnreadFor input error
 
 -- what a run comes to that gets no anchors
 abbrev pub outcome_of : AnchorsError → Outcome

@@ -3,38 +3,25 @@ ghost use Rattle.std.specs.Prelude.{◌≡◌, ◌<◌, ◌^◌, length, map, If
 ghost use Rattle.x509_cert_anchors.specs.Der.Heads.{Fits};
 ghost use Rattle.x509_cert_anchors.specs.AnchorViews.{trust_anchor_plain};
 ghost use Rattle.cert_desk_checking.specs.Anchors.{anchor_plain, given_by};
-ghost use Rattle.cert_desk_checking.specs.AnchorFiles.{IsAnchorFile};
-ghost use Rattle.cert_desk_checking.specs.AnchorReading.{StandsAt, GivesAt, IsUngiven, GivesNone};
-ghost use Rattle.cert_desk_checking.specs.AnchorReading.{IsNoAnchorFile};
+ghost use Rattle.cert_desk_checking.specs.AnchorFiles.{IsAnchorFile, raw_choice};
+ghost use Rattle.cert_desk_checking.specs.AnchorReading.{GivesNone, IsNoAnchorFile, IsUngiven};
+ghost use Rattle.cert_desk_checking.specs.Files.{GivesAt, StandsAt};
 
 use crate::anchor::Anchor;
 use crate::anchor_error::AnchorError;
 use crate::anchor_fault::AnchorFault;
+use crate::anchors_error::AnchorsError;
 use std::alloc::Global;
 use x509_cert_anchors::TrustAnchorChoice;
 use x509_cert_anchors::cert_parts::Raw;
 use x509_cert_anchors::der::FromDer;
 use x509_cert_anchors::der::making::is_want_of_memory;
 
-/// Why octets give no anchors.
-#[derive(Clone, Copy)]
-pub(crate) enum NoAnchors {
-    /// The trust anchor that begins at this offset is faulty.
-    Faulty {
-        /// Where it begins.
-        offset: u64,
-        /// What is wrong with it.
-        fault: AnchorFault,
-    },
-    /// Out of memory.
-    OutOfMemory,
-}
-
 // That the trust anchor that begins at the start is faulty.
-fn faulty(start: usize, fault: AnchorFault) -> NoAnchors
-    ensures { result ≡ NoAnchors.Faulty start fault }
+fn faulty(start: usize, fault: AnchorFault) -> AnchorsError
+    ensures { result ≡ AnchorsError.BadAnchors start fault }
 {
-    NoAnchors::Faulty {
+    AnchorsError::BadAnchors {
         offset: start as u64,
         fault,
     }
@@ -45,17 +32,18 @@ fn choice_at(
     alloc: Global,
     octets: &[u8],
     start: usize,
-) -> Result<(TrustAnchorChoice<Raw>, usize), NoAnchors>
+) -> Result<(TrustAnchorChoice<Raw>, usize), AnchorsError>
     requires some { start < length octets.now }
     requires short { Fits octets.now }
-    ensures stands { IfOk result (λ p. StandsAt octets.now start p.1 (trust_anchor_plain p.0)) }
+    ensures stands { IfOk result
+        (λ p. StandsAt raw_choice octets.now start p.1 (trust_anchor_plain p.0)) }
     ensures none { IfErr result (GivesNone octets.now start) }
 {
     match TrustAnchorChoice::<Raw>::from_der_partial(alloc, &octets[start..]) {
         Ok((choice, behind)) => Ok((choice, octets.len() - behind.len())),
         Err(error) => {
             if is_want_of_memory(&error) {
-                return Err(NoAnchors::OutOfMemory);
+                return Err(AnchorsError::OutOfMemory);
             }
             Err(faulty(start, AnchorFault::Malformed))
         }
@@ -68,7 +56,7 @@ fn given(
     choice: &TrustAnchorChoice<Raw>,
     start: usize,
     end: usize,
-) -> Result<(Anchor, usize), NoAnchors>
+) -> Result<(Anchor, usize), AnchorsError>
     ensures given { IfOk result (λ p. given_by (trust_anchor_plain choice.now)
         ≡ Ok (anchor_plain p.0)) }
     ensures end { IfOk result (λ p. p.1 ≡ end) }
@@ -78,23 +66,29 @@ fn given(
         Ok(anchor) => Ok((anchor, end)),
         Err(AnchorError::NoName) => Err(faulty(start, AnchorFault::NoName)),
         Err(AnchorError::PathControls) => Err(faulty(start, AnchorFault::PathControls)),
-        Err(AnchorError::OutOfMemory) => Err(NoAnchors::OutOfMemory),
+        Err(AnchorError::OutOfMemory) => Err(AnchorsError::OutOfMemory),
     }
 }
 
 // The anchor that is given at the start, and where the next one begins.
-fn anchor_at(alloc: Global, octets: &[u8], start: usize) -> Result<(Anchor, usize), NoAnchors>
+fn anchor_at(alloc: Global, octets: &[u8], start: usize) -> Result<(Anchor, usize), AnchorsError>
     requires some { start < length octets.now }
     requires short { Fits octets.now }
-    ensures given { IfOk result (λ p. GivesAt octets.now start p.1 (anchor_plain p.0)) }
+    ensures given { IfOk result
+        (λ p. GivesAt raw_choice given_by octets.now start p.1 (anchor_plain p.0)) }
     ensures none { IfErr result (GivesNone octets.now start) }
 {
     let (choice, end) = choice_at(alloc, octets, start)?;
     given(alloc, &choice, start, end)
 }
 
-// The anchors that the trust anchors of a file give, or why there are none.
-pub(crate) fn anchors_in(alloc: Global, octets: &[u8]) -> Result<Vec<Anchor>, NoAnchors>
+/// Returns the anchors that a file of concatenated trust anchors (RFC 5914 2) gives.
+///
+/// # Errors
+///
+/// - `BadAnchors`: the first trust anchor that gives no anchor, and why.
+/// - `OutOfMemory`: an allocation failed.
+pub fn anchors_in(alloc: Global, octets: &[u8]) -> Result<Vec<Anchor>, AnchorsError>
     requires { Fits octets.now }
     ensures read { IfOk result
         (λ anchors. IsAnchorFile octets.now (map anchor_plain anchors.items)) }
@@ -105,7 +99,7 @@ pub(crate) fn anchors_in(alloc: Global, octets: &[u8]) -> Result<Vec<Anchor>, No
     while start < octets.len() {
         let (anchor, end) = anchor_at(alloc, octets, start)?;
         if anchors.push(anchor).is_err() {
-            return Err(NoAnchors::OutOfMemory);
+            return Err(AnchorsError::OutOfMemory);
         }
         start = end;
     }

@@ -1,6 +1,6 @@
 //! Streams are judged: certification path validation (RFC 5280 6.1, in part).
 ghost use Rattle.std.specs.Prelude.{◌≡◌, ◌≢◌, ℕ, ◌+◌, ◌<◌, ◌↔◌, ◌⊎◌, List, length, map};
-ghost use Rattle.std.specs.Prelude.{IfOk, OnErr, IsTrue, nat_le, not, true, ◌&&◌};
+ghost use Rattle.std.specs.Prelude.{IfOk, OnErr, IsTrue, nat_le, not, true, false, ◌&&◌};
 ghost use Rattle.std.specs.List.{list_any};
 ghost use Rattle.std.specs.Option.{is_some};
 ghost use Rattle.x509_cert_anchors.specs.Oid.Bound.{Bound};
@@ -18,10 +18,10 @@ ghost use Rattle.cert_desk_rules.specs.DeskBundle.declared.fault_kind.FaultKind.
 ghost use Rattle.cert_desk_checking.specs.Anchors.{anchor_plain, terms_of};
 ghost use Rattle.cert_desk_rules.specs.DeskBundle.Chains.{Chain, joined};
 ghost use Rattle.cert_desk_rules.specs.Findings.{IsRoom};
-ghost use Rattle.cert_desk_rules.specs.Paths.{is_self_issued};
+ghost use Rattle.cert_desk_rules.specs.Paths.{is_self_issued, same_name};
 ghost use Rattle.cert_desk_rules.specs.KeptRules.{kept_by};
 ghost use Rattle.cert_desk_rules.specs.Judging.{Answers, has_one_algorithm, is_named, keeps_at};
-ghost use Rattle.cert_desk_rules.specs.Judging.{accepted, number, same_name};
+ghost use Rattle.cert_desk_rules.specs.Judging.{accepted, number};
 ghost use Rattle.cert_desk_rules.specs.DeskBundle.Streams.{Reads};
 ghost use Rattle.cert_desk_rules.specs.Verdicts.{IsVerdict, Trusted, IsCounted, StopsAsking};
 ghost use Rattle.cert_desk_rules.specs.Verdicts.{asked, asked_until};
@@ -332,8 +332,8 @@ fn takes_room(certificate: &CertificateInner<Raw>, is_last: bool, room: &PathRoo
     room.is_limited() && (!is_last && !is_self_issued(certificate))
 }
 
-// Which rules a certificate keeps, that of its signature by what is said of it. The room that path
-// lengths leave becomes what is left behind it.
+// Which rules a certificate keeps. That of its signature isn't, since nobody was asked. The room
+// that path lengths leave becomes what is left behind it.
 pub(crate) fn rules_kept(
     alloc: Global,
     certificate: &CertificateInner<Raw>,
@@ -341,7 +341,6 @@ pub(crate) fn rules_kept(
     issuer: &Issuer<'_>,
     moment: u64,
     purpose: &ObjectIdentifier<39>,
-    signed: bool,
     room: &mut PathRoom,
 ) -> Result<KeptRules, AllocError>
     requires { IsValid (raw_certificate Bound) (certificate_plain certificate.now) }
@@ -353,7 +352,7 @@ pub(crate) fn rules_kept(
         ≡ keeps_at rule (terms_of anchors moment purpose.now answers) cs stream place) }
     ensures linked { IfOk result
         (λ kept. kept.linked ≡ linked_to Bound issuer.now (certificate_plain certificate.now)) }
-    ensures signed { IfOk result (λ kept. kept_by kept Rule.WrongSignature ≡ signed) }
+    ensures signed { IfOk result (λ kept. kept_by kept Rule.WrongSignature ≡ false) }
     ensures room { IfOk result
         (λ kept. (cs : List PlainCertificate) (anchors : List Anchor) (place : ℕ)
         → StandsAt cs anchors place (certificate_plain certificate.now) is_last issuer.now room.old
@@ -376,7 +375,7 @@ pub(crate) fn rules_kept(
         serving: findings.serves,
         issuing: findings.may_issue(is_last),
         within_lengths: room.admits(counts),
-        signed,
+        signed: false,
     };
     room.add(counts, findings.path_len);
     Ok(kept)
@@ -422,10 +421,9 @@ fn check_chain<J: SignatureJudge>(
             &issuer,
             moment,
             purpose,
-            true,
             &mut room,
         )?;
-        if let Some(rule) = kept.first_broken() {
+        if let Some(rule) = kept.first_before_signature() {
             let verdict = Verdict::Refused { place, rule };
             return Ok(Checked { verdict, calls });
         }

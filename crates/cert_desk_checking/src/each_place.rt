@@ -59,16 +59,16 @@ pub fn judge_each<J: SignatureJudge>(
         let certificate = entry.certificate;
         let is_last = place + 1 == len;
         let signed = is_signed(&entry, &issuer, false, judge, &mut calls);
-        let kept = rules_kept(
+        let mut kept = rules_kept(
             alloc,
             certificate,
             is_last,
             &issuer,
             moment,
             purpose,
-            signed,
             &mut room,
         )?;
+        kept.signed = signed;
         judged.push(kept)?;
         issuer = Issuer::Before(certificate);
     }

@@ -21,8 +21,9 @@ mod verdict_lines;
 pub use anchor::Anchor;
 pub use anchor_error::AnchorError;
 pub use anchor_fault::AnchorFault;
+pub use anchor_files::anchors_in;
 pub use anchors_error::AnchorsError;
-pub use arguments::{Arguments, USAGE, limit_in, number_in};
+pub use arguments::{limit_in, number_in};
 pub use checking::{check, is_issued_by};
 pub use each_place::judge_each;
 pub use outcome::Outcome;
@@ -70,7 +71,7 @@ pub mod desk_io {
 /// The names of `cert_desk_rules` that the crates above use.
 pub mod desk_rules {
     pub use cert_desk_rules::{
-        Answer, AnswersJudge, CheckError, Checked, DigestJudge, KeptRules, Reason, Rule,
+        Answer, AnswersJudge, CheckError, Checked, DigestJudge, KeptRules, RULES, Reason, Rule,
         Sha256Digest, SignatureJudge, Verdict, code, give, rule_number,
     };
 }

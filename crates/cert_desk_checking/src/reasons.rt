@@ -62,11 +62,7 @@ pub fn reason_of(
             lack_of_authority(alloc, extensions, purpose)
         }
         Rule::PathTooLong => exceeded_length(alloc, bundle, place, purpose),
-        Rule::AlgorithmsDiffer
-        | Rule::WrongIssuer
-        | Rule::NotYetValid
-        | Rule::Expired
-        | Rule::WrongSignature => Ok(None),
+        _ => Ok(None),
     }
 }
 
@@ -103,13 +99,7 @@ fn goes_against(findings: &Findings, rule: Rule) -> bool
         Rule::UnweighedCritical => findings.unweighed_critical,
         Rule::AgainstPurpose => !findings.serves,
         Rule::NotAuthority => !findings.certifies,
-        Rule::AlgorithmsDiffer
-        | Rule::DuplicateExtension
-        | Rule::WrongIssuer
-        | Rule::NotYetValid
-        | Rule::Expired
-        | Rule::PathTooLong
-        | Rule::WrongSignature => false,
+        _ => false,
     }
 }
 

@@ -10,7 +10,7 @@ ghost use Rattle.cert_desk_checking.specs.Runs.{judging, status_of};
 
 use crate::anchor::Anchor;
 use crate::anchor_fault::AnchorFault;
-use crate::anchor_files::{NoAnchors, anchors_in};
+use crate::anchor_files::anchors_in;
 use crate::anchors_error::AnchorsError;
 use crate::checking::check;
 use crate::outcome::Outcome;
@@ -60,11 +60,8 @@ pub fn read_anchors<A: Input>(alloc: Global, input: &mut A) -> Result<Vec<Anchor
         Err(ReadAllError::Device) => return Err(AnchorsError::Device),
         Err(ReadAllError::OutOfMemory) => return Err(AnchorsError::OutOfMemory),
     };
-    match anchors_in(alloc, octets.as_slice()) {
-        Ok(anchors) => Ok(anchors),
-        Err(NoAnchors::Faulty { offset, fault }) => Err(AnchorsError::BadAnchors { offset, fault }),
-        Err(NoAnchors::OutOfMemory) => Err(AnchorsError::OutOfMemory),
-    }
+    let anchors = anchors_in(alloc, octets.as_slice())?;
+    Ok(anchors)
 }
 
 /// What is found in inputs of anchors and of a stream. The stream isn't read where the anchors are

@@ -1,52 +1,79 @@
 -- Extensions that are looked for by their identifiers.
-use Rattle.std.proofs.Common.{◌≡◌, ℕ, zero, suc, ◌+◌, ◌-◌, ◌<◌, ◌≤◌, List, [], ◌∷◌, ◌++◌, Bool, true, false, cond, not, ◌&&◌, ◌||◌, Option, Some, None, IfSome, Result, Ok, Err, inl, inr, subst, length, get_or, slice_index_or, drop, take, refl, sym, ap, ◌∙◌, arith}
+use Rattle.std.proofs.Common.{◌≡◌, ◌≢◌, ℕ, zero, suc, ◌+◌, ◌-◌, ◌<◌, ◌≤◌, List, [], ◌∷◌, Bool, true, false, cond, not, ◌&&◌, ◌||◌, Option, Some, None, IfSome, Result, Ok, Err, inl, inr, subst, length, get_or, drop, take, refl, sym, ap, ◌∙◌, arith}
 use Rattle.std.specs.BTreeSet.{BTreeSet, Updates, contains}
 use Rattle.std.specs.Cmp.Lexicographic.{bytes_decides, nat_list_eq_equiv}
 use Rattle.std.specs.List.{list_any}
-use Rattle.std.specs.Prelude.{nat_eq, bytes_eq, IfOk}
+use Rattle.std.specs.Prelude.{bytes_eq, IfOk}
 use Rattle.cert_desk_bundle.specs.Oid.Comparing.{owned_eq}
 use Rattle.std.proofs.lemmas.List.{at_drop_more, take_rest}
-use Rattle.std.proofs.lemmas.Bool.{cases_order, false_from_ne_true}
+use Rattle.std.proofs.lemmas.Bool.{cases_order}
 use Rattle.cert_desk_bundle.specs.Oid.IdentifierOctets.{arc_octets, identifier_octets}
 use Rattle.cert_desk_bundle.specs.Oid.Orders.{owned_cmp, owned_cmp_ties}
-use Rattle.cert_desk_bundle.proofs.Oid.EncodingLaws.{arc_octets-one}
 use Rattle.cert_desk_bundle.specs.Der.Grammar.{plain_list}
-use Rattle.cert_desk_bundle.specs.CertParts.ExtensionTypes.{id_ce}
-use Rattle.cert_desk_bundle.specs.CertParts.Grammar.{PlainExtension, extension_arcs}
+use Rattle.cert_desk_bundle.specs.Oid.Digits.{digits, digits_within, marked}
+use Rattle.cert_desk_bundle.specs.CertParts.Grammar.{PlainExtension, extension_arcs, extension_octets}
+use Rattle.x509_cert_kinds.specs.declared.extension_kind.ExtensionKind.{ExtensionKind}
+use Rattle.x509_cert_kinds.specs.declared.extension_kind.ExtensionKind.TheVariants as kinds
+use Rattle.x509_cert_kinds.specs.Kinds.{arcs_of}
 use Rattle.cert_desk_rules.specs.declared.weight.Weight.{Weight}
 use Rattle.cert_desk_rules.specs.declared.weight.Weight.TheVariants as weights
 use Rattle.cert_desk_rules.specs.Findings.{weight_of}
 use Rattle.cert_desk_rules.specs.Judging.{are_distinct, has_twin, is_alone}
-use Rattle.cert_desk_rules.specs.Weighing.{Meaning, any_purpose, malformed}
-use Rattle.cert_desk_rules.proofs.Folds.{and_yes}
+use Rattle.cert_desk_rules.specs.Weighing.{Meaning, any_purpose, basic_constraints_in, constraints_of, extended_key_usage_in, key_usage_in, malformed, meaning_of}
+use Rattle.cert_desk_rules.specs.Weighing.{other_names, purposes, subject_alt_name_in, unweighed, uses, weigh}
 
--- a number of less than 128 below 2.5.29
-pub numbered_octets : (n : ℕ) → n < 128 → identifier_octets (id_ce n) ≡ 0x55 ∷ 0x1d ∷ n ∷ []
-unfolding identifier_octets
-numbered_octets n h =
-    ap (λ (w : List ℕ). 0x55 ∷ (w ++ (arc_octets n ++ []))) (arc_octets-one 29 (omega arith))
-    ∙ ap (λ (w : List ℕ). 0x55 ∷ 0x1d ∷ (w ++ [])) (arc_octets-one n h)
+-- by which of the weighed kinds its identifier is, what an extension says
+abbrev pub by_kind : ℕ → Bool → Bool → Bool → Bool → List ℕ → Meaning
+by_kind bound a b c d w =
+    cond a (meaning_of uses (key_usage_in w))
+    (cond b (meaning_of other_names (subject_alt_name_in bound w))
+    (cond c (meaning_of constraints_of (basic_constraints_in w)) (cond d (meaning_of purposes (extended_key_usage_in bound w)) unweighed)))
 
--- an identifier, known by its octets
-by_octets : (arcs w : List ℕ) (n : ℕ) → w ≡ identifier_octets arcs → n < 128 → owned_eq arcs (id_ce n) ≡ bytes_eq w (0x55 ∷ 0x1d ∷ n ∷ [])
-by_octets arcs w n is h = ap (λ (v : List ℕ). bytes_eq v (identifier_octets (id_ce n))) (sym is) ∙ ap (bytes_eq w) (numbered_octets n h)
+abbrev pub says_as : ℕ → ExtensionKind → List ℕ → Meaning
+says_as bound kinds.KeyUsage w = meaning_of uses (key_usage_in w)
+says_as bound kinds.SubjectAltName w = meaning_of other_names (subject_alt_name_in bound w)
+says_as bound kinds.BasicConstraints w = meaning_of constraints_of (basic_constraints_in w)
+says_as bound kinds.ExtKeyUsage w = meaning_of purposes (extended_key_usage_in bound w)
+says_as bound _ w = unweighed
 
-third : (w : List ℕ) (n : ℕ) → length w ≡ 3 → slice_index_or w 0 0 ≡ 0x55 → slice_index_or w 1 0 ≡ 0x1d → bytes_eq w (0x55 ∷ 0x1d ∷ n ∷ []) ≡ nat_eq (slice_index_or w 2 0) n
-third [] n l a b = absurd (omega (arith, l))
-third (x ∷ []) n l a b = absurd (omega (arith, l))
-third (x ∷ y ∷ []) n l a b = absurd (omega (arith, l))
-third (x ∷ y ∷ z ∷ []) n l a b =
-    ap (λ m. nat_eq m 0x55 && (nat_eq y 0x1d && (nat_eq z n && true))) a ∙ ap (λ m. nat_eq m 0x1d && (nat_eq z n && true)) b ∙ sym (and_yes (nat_eq z n))
-third (x ∷ y ∷ z ∷ t ∷ w) n l a b = absurd (omega (arith, l))
+-- the identifier is that of a kind
+abbrev pub is_kind : ExtensionKind → PlainExtension → Bool
+is_kind kind e = owned_eq (extension_arcs e) (arcs_of kind)
 
--- an identifier of three octets below 2.5.29 is told by its third octet
-pub numbered_by : (arcs w : List ℕ) (n : ℕ) → w ≡ identifier_octets arcs → n < 128 → length w ≡ 3 → slice_index_or w 0 0 ≡ 0x55 → slice_index_or w 1 0 ≡ 0x1d
-    → owned_eq arcs (id_ce n) ≡ nat_eq (slice_index_or w 2 0) n
-numbered_by arcs w n is h l a b = by_octets arcs w n is h ∙ third w n l a b
+abbrev is_of : List ℕ → ExtensionKind → Bool
+is_of octets kind = bytes_eq octets (identifier_octets (arcs_of kind))
 
--- an identifier of other octets is none below 2.5.29 of that number
-pub not_numbered : (arcs w : List ℕ) (n : ℕ) → w ≡ identifier_octets arcs → n < 128 → (w ≡ 0x55 ∷ 0x1d ∷ n ∷ [] → ⊥) → owned_eq arcs (id_ce n) ≡ false
-not_numbered arcs w n is h other = by_octets arcs w n is h ∙ false_from_ne_true (bytes_eq w (0x55 ∷ 0x1d ∷ n ∷ [])) (λ e. other ((bytes_decides w (0x55 ∷ 0x1d ∷ n ∷ [])).0 e))
+abbrev by_identifier : ℕ → List ℕ → List ℕ → Meaning
+by_identifier bound octets w =
+    by_kind bound (is_of octets kinds.KeyUsage) (is_of octets kinds.SubjectAltName) (is_of octets kinds.BasicConstraints) (is_of octets kinds.ExtKeyUsage) w
+
+by_identifier-is : (bound : ℕ) (kind : ExtensionKind) (w : List ℕ) → by_identifier bound (identifier_octets (arcs_of kind)) w ≡ says_as bound kind w
+unfolding identifier_octets arc_octets digits digits_within marked
+by_identifier-is bound kinds.KeyUsage w = refl
+by_identifier-is bound _ w = refl
+
+pub weighed_as : (bound : ℕ) (kind found : ExtensionKind) (e : PlainExtension) (w : List ℕ) → is_kind found e ≡ true → found ≡ kind → w ≡ extension_octets e → weigh bound e ≡ says_as bound kind w
+weighed_as bound kind found e w known same octets =
+    ap (λ (v : List ℕ). by_identifier bound v (extension_octets e)) ((bytes_decides (identifier_octets (extension_arcs e)) (identifier_octets (arcs_of found))).0 known)
+    ∙ by_identifier-is bound found (extension_octets e)
+    ∙ ap (λ (k : ExtensionKind). says_as bound k (extension_octets e)) same
+    ∙ ap (says_as bound kind) (sym octets)
+
+pub other_as : (bound : ℕ) (kind : ExtensionKind) (w : List ℕ) → kind ≢ kinds.KeyUsage → kind ≢ kinds.SubjectAltName → kind ≢ kinds.BasicConstraints → kind ≢ kinds.ExtKeyUsage
+    → says_as bound kind w ≡ unweighed
+other_as bound kinds.KeyUsage w a b c d = absurd (a refl)
+other_as bound kinds.SubjectAltName w a b c d = absurd (b refl)
+other_as bound kinds.BasicConstraints w a b c d = absurd (c refl)
+other_as bound kinds.ExtKeyUsage w a b c d = absurd (d refl)
+other_as bound _ w a b c d = refl
+
+pub unweighed_as : (bound : ℕ) (e : PlainExtension) → ((kind : ExtensionKind) → is_kind kind e ≡ false) → weigh bound e ≡ unweighed
+unweighed_as bound e none =
+    let w = extension_octets e in
+    ap (λ a. by_kind bound a (is_kind kinds.SubjectAltName e) (is_kind kinds.BasicConstraints e) (is_kind kinds.ExtKeyUsage e) w) (none kinds.KeyUsage)
+    ∙ ap (λ b. by_kind bound false b (is_kind kinds.BasicConstraints e) (is_kind kinds.ExtKeyUsage e) w) (none kinds.SubjectAltName)
+    ∙ ap (λ c. by_kind bound false false c (is_kind kinds.ExtKeyUsage e) w) (none kinds.BasicConstraints)
+    ∙ ap (λ d. by_kind bound false false false d w) (none kinds.ExtKeyUsage)
 
 -- the weight of what was refused
 pub malformed_as : {E P : Type 0} (r : Result Weight E) (m : Meaning) → IfOk r (λ weight. (weight ≡ weights.Malformed) × P) → (P → m ≡ malformed)
@@ -56,11 +83,8 @@ malformed_as (Err fault) m h k = h
 
 -- the purpose that stands for any
 pub any_octets : identifier_octets any_purpose ≡ 0x55 ∷ 0x1d ∷ 0x25 ∷ 0x00 ∷ []
-unfolding identifier_octets
-any_octets =
-    ap (λ (w : List ℕ). 0x55 ∷ (w ++ (arc_octets 37 ++ (arc_octets 0 ++ [])))) (arc_octets-one 29 (omega arith))
-    ∙ ap (λ (w : List ℕ). 0x55 ∷ 0x1d ∷ (w ++ (arc_octets 0 ++ []))) (arc_octets-one 37 (omega arith))
-    ∙ ap (λ (w : List ℕ). 0x55 ∷ 0x1d ∷ 0x25 ∷ (w ++ [])) (arc_octets-one 0 (omega arith))
+unfolding identifier_octets arc_octets digits digits_within marked
+any_octets = refl
 
 -- One of a list, seen by its plain values.
 pub any_of_list : {A B : Type 0} (plain : A → B) (test : B → Bool) (xs : List A) → list_any (λ x. test (plain x)) xs ≡ list_any test (plain_list plain xs)

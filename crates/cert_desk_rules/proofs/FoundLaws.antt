@@ -5,7 +5,7 @@ use Rattle.cert_desk_bundle.specs.CertParts.Grammar.{PlainExtension, is_critical
 use Rattle.cert_desk_rules.specs.declared.findings.Findings.{Findings}
 use Rattle.cert_desk_rules.specs.Findings.{add, add_extension, found, no_findings, shorter, weight_of}
 use Rattle.cert_desk_rules.specs.Paths.{is_within}
-use Rattle.cert_desk_rules.specs.Weighing.{Meaning, uses, other_names, constraints, purposes, malformed, unweighed, is_authority, is_malformed, is_unweighed, is_unweighed_critical, may_certify, path_length, serves, weigh}
+use Rattle.cert_desk_rules.specs.Weighing.{Meaning, uses, other_names, constraints, purposes, malformed, unweighed, is_authority, is_malformed, is_unweighed, may_certify, path_length, serves, weigh}
 use Rattle.cert_desk_rules.proofs.Folds.{and_no, and_yes, fold_and, fold_or, le_min, or_no, or_yes}
 
 -- what one extension more adds
@@ -70,9 +70,9 @@ module _ (bound : ℕ) (purpose : List ℕ) (es : List PlainExtension) where
   found_malformed =
       fold_or (λ f. f.malformed) (λ e. is_malformed (weigh bound e)) (add_extension bound purpose) (λ f e. adds_malformed purpose f (is_critical e) (weigh bound e)) no_findings es
 
-  pub found_unweighed : (found bound purpose es).unweighed_critical ≡ list_any (is_unweighed_critical bound) es
+  pub found_unweighed : (found bound purpose es).unweighed_critical ≡ list_any (λ e. is_critical e && is_unweighed (weigh bound e)) es
   found_unweighed =
-      fold_or (λ f. f.unweighed_critical) (is_unweighed_critical bound) (add_extension bound purpose) (λ f e. adds_unweighed purpose f (is_critical e) (weigh bound e)) no_findings es
+      fold_or (λ f. f.unweighed_critical) (λ e. is_critical e && is_unweighed (weigh bound e)) (add_extension bound purpose) (λ f e. adds_unweighed purpose f (is_critical e) (weigh bound e)) no_findings es
 
   pub found_serves : (found bound purpose es).serves ≡ list_all (λ e. serves purpose (weigh bound e)) es
   found_serves =

@@ -1,6 +1,6 @@
--- The rules of a chain, each by itself (RFC 5280 6.1).
-use Rattle.std.specs.Prelude.{ℕ, zero, suc, ◌+◌, List, [], ◌∷◌, take, drop, Bool, true, false, not}
-use Rattle.std.specs.Prelude.{nat_le, ◌&&◌, ◌||◌, bytes_eq, slice_get}
+-- The rules that each certificate of a chain has to keep (RFC 5280 6.1).
+use Rattle.std.specs.Prelude.{ℕ, zero, suc, ◌+◌, List, [], ◌∷◌, ◌++◌, take, drop, Bool, true}
+use Rattle.std.specs.Prelude.{false, not, nat_le, ◌&&◌, ◌||◌, bytes_eq, codes, slice_get}
 use Rattle.std.specs.List.{list_any, list_all}
 use Rattle.std.specs.Option.{option_map_or}
 use Rattle.cert_desk_bundle.specs.Oid.Comparing.{owned_eq}
@@ -10,26 +10,27 @@ use Rattle.cert_desk_bundle.specs.CertCertificates.Certificates.{PlainCertificat
 use Rattle.cert_desk_bundle.specs.CertCertificates.Certificates.{signed_length}
 use Rattle.cert_desk_bundle.specs.CertParts.Grammar.{PlainExtension, PublicKey, Algorithm}
 use Rattle.cert_desk_bundle.specs.CertParts.Grammar.{algorithm_identifier, extension_arcs}
-use Rattle.cert_desk_bundle.specs.CertNames.Names.{PlainName, name_octets}
+use Rattle.cert_desk_bundle.specs.CertParts.Grammar.{is_critical}
+use Rattle.cert_desk_bundle.specs.CertNames.Names.{PlainName}
 use Rattle.cert_desk_bundle.specs.Types.Seconds.{unix_seconds}
 use Rattle.cert_desk_rules.specs.declared.rule.Rule.{Rule}
 use Rattle.cert_desk_rules.specs.declared.rule.Rule.TheVariants as rules
 use Rattle.cert_desk_bundle.specs.Chains.{offset_at}
 use Rattle.cert_desk_rules.specs.CertificateFields.{fields}
-use Rattle.cert_desk_rules.specs.Paths.{is_last, is_within_lengths}
-use Rattle.cert_desk_rules.specs.Weighing.{is_authority, is_malformed, is_unweighed_critical}
+use Rattle.cert_desk_rules.specs.Paths.{is_last, is_within_lengths, same_name}
+use Rattle.cert_desk_rules.specs.Weighing.{is_authority, is_malformed, is_unweighed}
 use Rattle.cert_desk_rules.specs.Weighing.{may_certify, serves, weigh}
 
--- a name and a key that are trusted
+-- a trust anchor: a name and a key (RFC 5280 6.1.1 (d))
 pub record PlainAnchor : Type 0 where
   pub name : PlainName
   pub key : PublicKey
 
--- the judge's answer on a key, an algorithm, signed octets and a signature's bits
+-- the signature verifier's answer for a key, an algorithm, signed bytes and a signature
 abbrev pub Answers : Type 0
 Answers = PublicKey → Algorithm → List ℕ → Bits → Bool
 
--- what a chain is judged under
+-- what a chain is validated against
 pub record Terms : Type 0 where
   pub bound : ℕ
   pub anchors : List PlainAnchor
@@ -37,36 +38,33 @@ pub record Terms : Type 0 where
   pub purpose : List ℕ
   pub answers : Answers
 
-abbrev pub same_name : ℕ → PlainName → PlainName → Bool
-same_name bound a b = bytes_eq (name_octets bound a) (name_octets bound b)
-
--- the algorithm outside is the one that is signed (RFC 5280 4.1.1.2)
+-- the outer signature algorithm is the one that is signed (RFC 5280 4.1.1.2)
 abbrev pub has_one_algorithm : ℕ → PlainCertificate → Bool
 has_one_algorithm bound c = bytes_eq (octets_of (algorithm_identifier bound) (fields c).signature)
     (octets_of (algorithm_identifier bound) (fields c).signature_algorithm)
 
--- the place's part of the stream that is signed
+-- the signed bytes of the certificate at a place, as they stand in the stream
 abbrev pub signed_part : ℕ → List PlainCertificate → List ℕ → ℕ → PlainCertificate → List ℕ
 signed_part bound cs stream place c =
     take (signed_length bound c) (drop (offset_at bound cs place + signed_start bound c) stream)
 
--- the judge's answer on a certificate whose signed octets are these, under a key
+-- the verifier's answer for a certificate with these signed bytes, under a key
 abbrev pub accepted : Answers → List ℕ → PlainCertificate → PublicKey → Bool
 accepted answers signed c key = answers key (fields c).signature_algorithm signed
     (fields c).signature_value
 
--- the anchors of the issuer's name
+-- the anchor has the name of the certificate's issuer
 abbrev pub is_named : ℕ → PlainCertificate → PlainAnchor → Bool
 is_named bound c a = same_name bound (fields c).issuer a.name
 
--- the first certificate's issuer is an anchor, another's is the certificate before
+-- the issuer is an anchor for the first certificate, else the certificate before (6.1.3 (a)(4))
 abbrev pub is_linked : Terms → List PlainCertificate → ℕ → PlainCertificate → Bool
 is_linked t cs zero c = list_any (is_named t.bound c) t.anchors
 is_linked t cs (suc before) c =
     option_map_or (λ b. same_name t.bound (fields c).issuer (fields b).subject)
     (slice_get cs before) false
 
--- the judge says yes under the key of an anchor of the issuer's name, or of the certificate before
+-- the verifier accepts the key of an anchor of the issuer's name, or of the certificate before
 abbrev pub is_signed : Terms → List PlainCertificate → List ℕ → ℕ → PlainCertificate → Bool
 is_signed t cs stream zero c = list_any
     (λ a. is_named t.bound c a && accepted t.answers (signed_part t.bound cs stream 0 c) c a.key)
@@ -75,35 +73,35 @@ is_signed t cs stream (suc before) c = option_map_or
     (λ b. accepted t.answers (signed_part t.bound cs stream (suc before) c) c (fields b).public_key)
     (slice_get cs before) false
 
--- the extension has the identifier of no other
+-- no other extension has this one's identifier
 abbrev pub is_alone : PlainExtension → List PlainExtension → Bool
 is_alone e others =
     not (list_any (λ other. owned_eq (extension_arcs e) (extension_arcs other)) others)
 
--- no two extensions have one identifier
+-- no two extensions have the same identifier (4.2)
 abbrev pub are_distinct : List PlainExtension → Bool
 are_distinct [] = true
 are_distinct (e ∷ others) = is_alone e others && are_distinct others
 
--- the extension at a place has the identifier of one behind it
+-- the extension at a place has the same identifier as a later one
 abbrev pub has_twin : List PlainExtension → ℕ → Bool
 has_twin [] place = false
 has_twin (e ∷ others) zero = not (is_alone e others)
 has_twin (e ∷ others) (suc place) = has_twin others place
 
--- each certificate but the last is an authority's, whose key may sign certificates (6.1.4 (k), (n))
+-- the certificate is that of a CA whose key may sign certificates (6.1.4 (k), (n))
 abbrev pub has_authority : ℕ → PlainCertificate → Bool
 has_authority bound c = list_any (λ e. is_authority (weigh bound e)) (fields c).extensions
     && list_all (λ e. may_certify (weigh bound e)) (fields c).extensions
 
--- Whether the certificate c at a place keeps a rule.
+-- Whether the certificate `c` at a place keeps a rule.
 abbrev pub keeps : Rule → Terms → List PlainCertificate → List ℕ → ℕ → PlainCertificate → Bool
 keeps rules.AlgorithmsDiffer t cs stream place c = has_one_algorithm t.bound c
 keeps rules.DuplicateExtension t cs stream place c = are_distinct (fields c).extensions
 keeps rules.MalformedExtension t cs stream place c =
     not (list_any (λ e. is_malformed (weigh t.bound e)) (fields c).extensions)
 keeps rules.UnweighedCritical t cs stream place c =
-    not (list_any (is_unweighed_critical t.bound) (fields c).extensions)
+    not (list_any (λ e. is_critical e && is_unweighed (weigh t.bound e)) (fields c).extensions)
 keeps rules.WrongIssuer t cs stream place c = is_linked t cs place c
 keeps rules.NotYetValid t cs stream place c = nat_le (unix_seconds (fields c).not_before) t.moment
 keeps rules.Expired t cs stream place c = nat_le t.moment (unix_seconds (fields c).not_after)
@@ -113,12 +111,26 @@ keeps rules.NotAuthority t cs stream place c = is_last cs place || has_authority
 keeps rules.PathTooLong t cs stream place c = is_within_lengths t.bound cs place
 keeps rules.WrongSignature t cs stream place c = is_signed t cs stream place c
 
--- the certificate at a place keeps a rule
+-- whether the certificate at a place, if there is one, keeps a rule
 abbrev pub keeps_at : Rule → Terms → List PlainCertificate → List ℕ → ℕ → Bool
 keeps_at rule t cs stream place = option_map_or (keeps rule t cs stream place) (slice_get cs place)
     true
 
--- the order of the rules
+-- the rules before that of the signature, in the order in which they are checked
+abbrev pub before_signature : List Rule
+before_signature = rules.AlgorithmsDiffer ∷ rules.DuplicateExtension ∷ rules.MalformedExtension
+    ∷ rules.UnweighedCritical ∷ rules.WrongIssuer ∷ rules.NotYetValid ∷ rules.Expired
+    ∷ rules.AgainstPurpose ∷ rules.NotAuthority ∷ rules.PathTooLong ∷ []
+
+-- all rules in that order: the signature is checked last, since it alone asks the verifier
+abbrev pub in_order : List Rule
+in_order = before_signature ++ rules.WrongSignature ∷ []
+
+-- the verifier may be asked where all rules before the signature are kept
+abbrev pub may_ask : Terms → List PlainCertificate → List ℕ → ℕ → Bool
+may_ask t cs stream place = list_all (λ rule. keeps_at rule t cs stream place) before_signature
+
+-- the number of a rule in that order, from 1
 abbrev pub number : Rule → ℕ
 number rules.AlgorithmsDiffer = 1
 number rules.DuplicateExtension = 2
@@ -132,12 +144,16 @@ number rules.NotAuthority = 9
 number rules.PathTooLong = 10
 number rules.WrongSignature = 11
 
--- the rules before the signature, which alone asks the judge, in the order in which they are judged
-abbrev pub before_signature : List Rule
-before_signature = rules.AlgorithmsDiffer ∷ rules.DuplicateExtension ∷ rules.MalformedExtension
-    ∷ rules.UnweighedCritical ∷ rules.WrongIssuer ∷ rules.NotYetValid ∷ rules.Expired
-    ∷ rules.AgainstPurpose ∷ rules.NotAuthority ∷ rules.PathTooLong ∷ []
-
--- the judge may be asked where all of them are kept
-abbrev pub may_ask : Terms → List PlainCertificate → List ℕ → ℕ → Bool
-may_ask t cs stream place = list_all (λ rule. keeps_at rule t cs stream place) before_signature
+-- what is printed of a rule
+abbrev pub rule_name : Rule → List ℕ
+rule_name rules.AlgorithmsDiffer = codes "AlgorithmsDiffer"
+rule_name rules.DuplicateExtension = codes "DuplicateExtension"
+rule_name rules.MalformedExtension = codes "MalformedExtension"
+rule_name rules.UnweighedCritical = codes "UnweighedCritical"
+rule_name rules.WrongIssuer = codes "WrongIssuer"
+rule_name rules.NotYetValid = codes "NotYetValid"
+rule_name rules.Expired = codes "Expired"
+rule_name rules.AgainstPurpose = codes "AgainstPurpose"
+rule_name rules.NotAuthority = codes "NotAuthority"
+rule_name rules.PathTooLong = codes "PathTooLong"
+rule_name rules.WrongSignature = codes "WrongSignature"

@@ -1,13 +1,12 @@
 -- The rules that certificates keep, each at its place.
-use Rattle.std.specs.Prelude.{◌≡◌, ◌<◌, ℕ, List, length, Bool, true, false, Option, Some, None}
-use Rattle.std.specs.Prelude.{slice_get}
+use Rattle.std.specs.Prelude.{◌≡◌, ◌<◌, ◌⊎◌, ℕ, List, length, Bool, true, false, Option, Some}
+use Rattle.std.specs.Prelude.{None, slice_get}
 use Rattle.std.specs.Option.{option_map_or}
 use Rattle.cert_desk_bundle.specs.CertCertificates.Certificates.{PlainCertificate}
 use Rattle.cert_desk_rules.specs.declared.kept_rules.KeptRules.{KeptRules}
 use Rattle.cert_desk_rules.specs.declared.rule.Rule.{Rule}
 use Rattle.cert_desk_rules.specs.declared.rule.Rule.TheVariants as rules
 use Rattle.cert_desk_rules.specs.Judging.{Terms, keeps_at, number}
-use Rattle.cert_desk_rules.specs.Verdicts.{Before}
 
 -- a new rule adds a line
 abbrev pub kept_by : KeptRules → Rule → Bool
@@ -29,6 +28,14 @@ IsFirstOf k None = (rule : Rule) → kept_by k rule ≡ true
 IsFirstOf k (Some rule) = (kept_by k rule ≡ false)
     × ((other : Rule) → number other < number rule → kept_by k other ≡ true)
 
+-- the first one before the signature's that isn't kept
+abbrev pub IsFirstUnsignedOf : KeptRules → Option Rule → Type 0
+IsFirstUnsignedOf k None =
+    (rule : Rule) → number rule < number rules.WrongSignature → kept_by k rule ≡ true
+IsFirstUnsignedOf k (Some rule) =
+    (number rule < number rules.WrongSignature) × (kept_by k rule ≡ false)
+    × ((other : Rule) → number other < number rule → kept_by k other ≡ true)
+
 -- the certificate at a place keeps a rule, as it was judged
 abbrev pub kept_at : List KeptRules → ℕ → Rule → Bool
 kept_at judged place rule = option_map_or (λ k. kept_by k rule) (slice_get judged place) true
@@ -38,6 +45,11 @@ pub record AreJudged (t : Terms) (cs : List PlainCertificate) (stream : List ℕ
     (judged : List KeptRules) : Type 0 where
   pub each : length judged ≡ length cs
   pub kept : (place : ℕ) (rule : Rule) → kept_at judged place rule ≡ keeps_at rule t cs stream place
+
+-- the place comes first, then the rule
+abbrev pub Before : ℕ → Rule → ℕ → Rule → Type 0
+Before place rule other_place other = (place < other_place)
+    ⊎ ((place ≡ other_place) × (number rule < number other))
 
 -- This rule is broken at this place, and no rule before.
 abbrev pub IsFirstBreach : List KeptRules → ℕ → Rule → Type 0

@@ -10,7 +10,6 @@ pub mod Digests
 pub mod Questions
 pub mod Answers
 pub mod Judges
-pub mod RuleNames
 pub mod Identifiers
 pub mod Rooms
 pub mod Returned

@@ -1,5 +1,4 @@
--- Self-issued certificates, places that count, and how long paths are (RFC 5280 3.2, 4.2.1.9, 6.1.4
--- (l), (m)).
+-- Self-issued certificates, and how long a path may be (RFC 5280 3.2, 4.2.1.9, 6.1.4 (l), (m)).
 use Rattle.std.specs.Prelude.{ℕ, zero, suc, ◌+◌, ◌-◌, List, [], length, Bool, true, false, not}
 use Rattle.std.specs.Prelude.{Option, Some, None, nat_le, ◌==◌, ◌&&◌, ◌||◌, if◌then◌else◌, bytes_eq}
 use Rattle.std.specs.Prelude.{slice_get}
@@ -7,30 +6,32 @@ use Rattle.std.specs.List.{list_all}
 use Rattle.std.specs.Option.{option_map_or}
 use Rattle.cert_desk_bundle.specs.CertCertificates.Certificates.{PlainCertificate}
 use Rattle.cert_desk_bundle.specs.CertParts.Grammar.{PlainExtension}
-use Rattle.cert_desk_bundle.specs.CertNames.Names.{name_octets}
+use Rattle.cert_desk_bundle.specs.CertNames.Names.{PlainName, name_octets}
 use Rattle.cert_desk_rules.specs.CertificateFields.{fields}
 use Rattle.cert_desk_rules.specs.Weighing.{path_length, weigh}
 
--- issuer and subject have the same octets
+abbrev pub same_name : ℕ → PlainName → PlainName → Bool
+same_name bound a b = bytes_eq (name_octets bound a) (name_octets bound b)
+
+-- the issuer and the subject have the same encoding
 abbrev pub is_self_issued : ℕ → PlainCertificate → Bool
-is_self_issued bound c = bytes_eq (name_octets bound (fields c).issuer)
-    (name_octets bound (fields c).subject)
+is_self_issued bound c = same_name bound (fields c).issuer (fields c).subject
 
 abbrev pub is_last : List PlainCertificate → ℕ → Bool
 is_last cs place = (place + 1) == length cs
 
--- a place counts where it isn't last and isn't self-issued
+-- the certificate at a place counts for path lengths: it is neither the last nor self-issued
 abbrev pub counts : ℕ → List PlainCertificate → ℕ → Bool
 counts bound cs place = not (is_last cs place) && option_map_or (λ c. not (is_self_issued bound c))
     (slice_get cs place) false
 
--- how much of a path length n places use up, from this one on: how many of them count
+-- how many of the n certificates from a place on count
 abbrev pub used_up : ℕ → List PlainCertificate → ℕ → ℕ → ℕ
 used_up bound cs from zero = 0
 used_up bound cs from (suc n) =
     used_up bound cs from n + (if counts bound cs (from + n) then 1 else 0)
 
--- so many counted places are within a path length, if there is one
+-- n is within a path length constraint, if there is one
 abbrev pub is_within : ℕ → Option ℕ → Bool
 is_within n None = true
 is_within n (Some most) = nat_le n most
@@ -38,18 +39,18 @@ is_within n (Some most) = nat_le n most
 abbrev pub extensions_at : List PlainCertificate → ℕ → List PlainExtension
 extensions_at cs place = option_map_or (λ c. (fields c).extensions) (slice_get cs place) []
 
--- at a place: no more places count behind it, up to another one, than its path length allows
+-- the certificates after a place, up to another one, are within the path length at that place
 abbrev pub keeps_length : ℕ → List PlainCertificate → ℕ → ℕ → Bool
 keeps_length bound cs place other = list_all
     (λ e. is_within (used_up bound cs (place + 1) (other - place)) (path_length (weigh bound e)))
     (extensions_at cs place)
 
--- at each of the first places
+-- the same for each of the first places
 abbrev pub keep_lengths : ℕ → List PlainCertificate → ℕ → ℕ → Bool
 keep_lengths bound cs zero other = true
 keep_lengths bound cs (suc place) other = keep_lengths bound cs place other
     && keeps_length bound cs place other
 
--- a place that counts is within the path length of each place before
+-- a certificate that counts is within the path length of each certificate before it
 abbrev pub is_within_lengths : ℕ → List PlainCertificate → ℕ → Bool
 is_within_lengths bound cs place = not (counts bound cs place) || keep_lengths bound cs place place

@@ -1,47 +1,36 @@
 -- Why a certificate breaks a rule, where the rule alone leaves it open.
-use Rattle.std.specs.Prelude.{◌≡◌, ℕ, ◌<◌, ◌≤◌, ◌⊎◌, List, Bool, true, false, not, slice_get}
+use Rattle.std.specs.Prelude.{◌≡◌, ℕ, ◌<◌, ◌≤◌, ◌⊎◌, List, Bool, true, false, not, ◌&&◌}
+use Rattle.std.specs.Prelude.{slice_get}
 use Rattle.std.specs.Bool.{⊤}
 use Rattle.std.specs.List.{list_any}
 use Rattle.std.specs.Option.{option_map_or}
 use Rattle.cert_desk_bundle.specs.Oid.Comparing.{owned_eq}
 use Rattle.cert_desk_bundle.specs.CertCertificates.Certificates.{PlainCertificate}
-use Rattle.cert_desk_bundle.specs.CertParts.Grammar.{PlainExtension, extension_arcs}
+use Rattle.cert_desk_bundle.specs.CertParts.Grammar.{PlainExtension, extension_arcs, is_critical}
 use Rattle.cert_desk_rules.specs.declared.findings.Findings.{Findings}
 use Rattle.cert_desk_rules.specs.declared.reason.Reason.{Reason}
 use Rattle.cert_desk_rules.specs.declared.reason.Reason.TheVariants as reasons
 use Rattle.cert_desk_rules.specs.declared.rule.Rule.{Rule}
 use Rattle.cert_desk_rules.specs.declared.rule.Rule.TheVariants as rules
 use Rattle.cert_desk_rules.specs.Paths.{extensions_at, keeps_length}
-use Rattle.cert_desk_rules.specs.Weighing.{is_authority, is_malformed, is_unweighed_critical}
+use Rattle.cert_desk_rules.specs.Weighing.{is_authority, is_malformed, is_unweighed}
 use Rattle.cert_desk_rules.specs.Weighing.{may_certify, may_take_memory, serves, weigh}
 
 -- an extension breaks a rule by itself
 abbrev pub is_against : ℕ → List ℕ → Rule → PlainExtension → Bool
-is_against bound purpose rules.AlgorithmsDiffer e = false
-is_against bound purpose rules.DuplicateExtension e = false
 is_against bound purpose rules.MalformedExtension e = is_malformed (weigh bound e)
-is_against bound purpose rules.UnweighedCritical e = is_unweighed_critical bound e
-is_against bound purpose rules.WrongIssuer e = false
-is_against bound purpose rules.NotYetValid e = false
-is_against bound purpose rules.Expired e = false
+is_against bound purpose rules.UnweighedCritical e = is_critical e && is_unweighed (weigh bound e)
 is_against bound purpose rules.AgainstPurpose e = not (serves purpose (weigh bound e))
 is_against bound purpose rules.NotAuthority e = not (may_certify (weigh bound e))
-is_against bound purpose rules.PathTooLong e = false
-is_against bound purpose rules.WrongSignature e = false
+is_against bound purpose _ e = false
 
 -- whether an extension goes against a rule, by what was found in it
 abbrev pub goes_against : Findings → Rule → Bool
-goes_against f rules.AlgorithmsDiffer = false
-goes_against f rules.DuplicateExtension = false
 goes_against f rules.MalformedExtension = f.malformed
 goes_against f rules.UnweighedCritical = f.unweighed_critical
-goes_against f rules.WrongIssuer = false
-goes_against f rules.NotYetValid = false
-goes_against f rules.Expired = false
 goes_against f rules.AgainstPurpose = not f.serves
 goes_against f rules.NotAuthority = not f.certifies
-goes_against f rules.PathTooLong = false
-goes_against f rules.WrongSignature = false
+goes_against f _ = false
 
 -- what stands at a number, counted from 0, is so
 abbrev pub is_at : {A : Type 0} → (A → Bool) → List A → ℕ → Bool
@@ -100,17 +89,13 @@ ExplainsFirst bound purpose cs place rule reason =
 
 -- the rules of whose breach a reason can be told
 abbrev pub is_explained : Rule → Bool
-is_explained rules.AlgorithmsDiffer = false
 is_explained rules.DuplicateExtension = true
 is_explained rules.MalformedExtension = true
 is_explained rules.UnweighedCritical = true
-is_explained rules.WrongIssuer = false
-is_explained rules.NotYetValid = false
-is_explained rules.Expired = false
 is_explained rules.AgainstPurpose = true
 is_explained rules.NotAuthority = true
 is_explained rules.PathTooLong = true
-is_explained rules.WrongSignature = false
+is_explained _ = false
 
 -- judging the extensions of a place, no later than this one, may take memory
 abbrev pub SomeMayTakeMemory : List PlainCertificate → ℕ → Type 0

@@ -1,33 +1,18 @@
-//! The extensions of a certificate, and their identifiers (RFC 5280 4.2).
+//! The extensions of a certificate, and which of them have one identifier (RFC 5280 4.2).
 
-ghost use Rattle.std.specs.Prelude.{◌≡◌, ◌<◌, ℕ, length, true, false, not, nat_eq};
+ghost use Rattle.std.specs.Prelude.{◌≡◌, ◌<◌, ℕ, length, true, false, not};
 ghost use Rattle.std.specs.Prelude.{IfOk, IfSome, OnErr};
-ghost use Rattle.std.specs.Option.{is_some, option_map_or};
-ghost use Rattle.cert_desk_bundle.specs.Oid.Comparing.{owned_eq};
+ghost use Rattle.std.specs.Option.{is_some};
 ghost use Rattle.cert_desk_bundle.specs.CertCertificates.Certificates.{extensions_of};
 ghost use Rattle.cert_desk_bundle.specs.CertCertificates.Views.{certificate_plain};
-ghost use Rattle.cert_desk_bundle.specs.CertParts.ExtensionTypes.{id_ce};
 ghost use Rattle.cert_desk_bundle.specs.CertParts.Views.{extension_plain, extensions_plain};
 ghost use Rattle.cert_desk_rules.specs.Judging.{are_distinct, has_twin, is_alone};
 ghost use Rattle.cert_desk_rules.specs.Weighing.{may_take_memory};
 
 use cert_desk_bundle::cert_certificates::CertificateInner;
 use cert_desk_bundle::cert_parts::{Extension, Raw};
-use cert_desk_bundle::oid::ObjectIdentifier;
 use std::alloc::{AllocError, Global};
 use std::collections::BTreeSet;
-
-/// The last arc of keyUsage, below 2.5.29 (RFC 5280 4.2.1.3).
-pub const KEY_USAGE: u8 = 15;
-
-/// The last arc of subjectAltName (RFC 5280 4.2.1.6).
-pub const SUBJECT_ALT_NAME: u8 = 17;
-
-/// The last arc of basicConstraints (RFC 5280 4.2.1.9).
-pub const BASIC_CONSTRAINTS: u8 = 19;
-
-/// The last arc of extKeyUsage (RFC 5280 4.2.1.12).
-pub const EXT_KEY_USAGE: u8 = 37;
 
 // Up to so many extensions each is compared with each.
 const FEW: usize = 16;
@@ -105,16 +90,4 @@ fn is_alone(extension: &Extension, others: &[Extension]) -> bool
     !others
         .iter()
         .any(|other| extension.extn_id == other.extn_id)
-}
-
-// The number of an identifier below 2.5.29, where that is one octet.
-pub fn number_of(identifier: &ObjectIdentifier<39>) -> Option<u8>
-    ensures { (n : ℕ) → n < 128 → owned_eq identifier.now (id_ce n)
-        ≡ option_map_or (λ number. nat_eq number n) result false }
-{
-    let octets = identifier.as_bytes();
-    if octets.len() != 3 || octets[0] != 0x55 || octets[1] != 0x1d {
-        return None;
-    }
-    Some(octets[2])
 }

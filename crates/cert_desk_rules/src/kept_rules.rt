@@ -1,6 +1,6 @@
 //! Which rules a certificate keeps.
 ghost use Rattle.std.specs.Prelude.{◌≡◌};
-ghost use Rattle.cert_desk_rules.specs.KeptRules.{IsFirstOf, kept_by};
+ghost use Rattle.cert_desk_rules.specs.KeptRules.{IsFirstOf, IsFirstUnsignedOf, kept_by};
 
 use crate::rule::Rule;
 
@@ -55,6 +55,19 @@ impl KeptRules {
     pub fn first_broken(&self) -> Option<Rule>
         ensures { IsFirstOf self.now result }
     {
+        if let Some(rule) = self.first_before_signature() {
+            return Some(rule);
+        }
+        if !self.signed {
+            return Some(Rule::WrongSignature);
+        }
+        None
+    }
+
+    /// The first rule that it breaks of those before the signature, which needs no verifier.
+    pub fn first_before_signature(&self) -> Option<Rule>
+        ensures { IsFirstUnsignedOf self.now result }
+    {
         if !self.one_algorithm {
             return Some(Rule::AlgorithmsDiffer);
         }
@@ -84,9 +97,6 @@ impl KeptRules {
         }
         if !self.within_lengths {
             return Some(Rule::PathTooLong);
-        }
-        if !self.signed {
-            return Some(Rule::WrongSignature);
         }
         None
     }

@@ -1,6 +1,6 @@
 //! The rules of a chain, a certification path (RFC 5280 6.1).
-ghost use Rattle.std.specs.Prelude.{Some};
-ghost use Rattle.cert_desk_rules.specs.RuleNames.{rule_name};
+ghost use Rattle.std.specs.Prelude.{◌≡◌, Some};
+ghost use Rattle.cert_desk_rules.specs.Judging.{number, rule_name};
 
 use std::fmt;
 
@@ -33,6 +33,21 @@ pub enum Rule {
     WrongSignature,
 }
 
+/// All rules, in the order in which they are judged.
+pub const RULES: [Rule; 11] = [
+    Rule::AlgorithmsDiffer,
+    Rule::DuplicateExtension,
+    Rule::MalformedExtension,
+    Rule::UnweighedCritical,
+    Rule::WrongIssuer,
+    Rule::NotYetValid,
+    Rule::Expired,
+    Rule::AgainstPurpose,
+    Rule::NotAuthority,
+    Rule::PathTooLong,
+    Rule::WrongSignature,
+];
+
 impl fmt::Display for Rule {
     ghost output = { λ rule. Some (rule_name rule) };
 
@@ -51,5 +66,24 @@ impl fmt::Display for Rule {
             Rule::WrongSignature => "WrongSignature",
         };
         f.write_str(name)
+    }
+}
+
+/// Returns the number of a rule.
+pub fn rule_number(rule: Rule) -> u64
+    ensures { result ≡ number rule }
+{
+    match rule {
+        Rule::AlgorithmsDiffer => 1,
+        Rule::DuplicateExtension => 2,
+        Rule::MalformedExtension => 3,
+        Rule::UnweighedCritical => 4,
+        Rule::WrongIssuer => 5,
+        Rule::NotYetValid => 6,
+        Rule::Expired => 7,
+        Rule::AgainstPurpose => 8,
+        Rule::NotAuthority => 9,
+        Rule::PathTooLong => 10,
+        Rule::WrongSignature => 11,
     }
 }

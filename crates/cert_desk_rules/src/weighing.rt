@@ -14,7 +14,6 @@ ghost use Rattle.cert_desk_rules.specs.Weighing.{other_names, purposes, serves};
 ghost use Rattle.cert_desk_rules.specs.Weighing.{subject_alt_name_in, uses, weigh};
 
 use crate::constraints::weigh_constraints;
-use crate::extensions::{BASIC_CONSTRAINTS, EXT_KEY_USAGE, KEY_USAGE, SUBJECT_ALT_NAME, number_of};
 use crate::findings::Findings;
 use crate::weight::Weight;
 use cert_desk_bundle::cert_names::Name;
@@ -26,6 +25,7 @@ use cert_desk_bundle::types::{FlagSet, Ia5StringRef, OctetStringRef};
 use std::alloc::{AllocError, Global};
 use x509_cert_extensions::cert_general_names::{EdiPartyName, OtherName};
 use x509_cert_extensions::{KeyUsage, KeyUsages};
+use x509_cert_kinds::ExtensionKind;
 
 // A name that the octets lend where it is a text or octets.
 type NameLent<'a> = OneOf8<
@@ -72,22 +72,16 @@ fn weigh(
         || is_ce 37 (extension_plain extension.now)) ≡ true) }
 {
     let octets = extension.extn_value.as_bytes();
-    let Some(number) = number_of(&extension.extn_id) else {
+    let Some(kind) = ExtensionKind::of(&extension.extn_id) else {
         return Ok(Weight::Unweighed);
     };
-    if number == KEY_USAGE {
-        return Ok(weigh_key_usage(alloc, octets));
+    match kind {
+        ExtensionKind::KeyUsage => Ok(weigh_key_usage(alloc, octets)),
+        ExtensionKind::SubjectAltName => weigh_names(alloc, octets),
+        ExtensionKind::BasicConstraints => Ok(weigh_constraints(alloc, octets)),
+        ExtensionKind::ExtKeyUsage => weigh_purposes(alloc, octets, purpose),
+        _ => Ok(Weight::Unweighed),
     }
-    if number == SUBJECT_ALT_NAME {
-        return weigh_names(alloc, octets);
-    }
-    if number == BASIC_CONSTRAINTS {
-        return Ok(weigh_constraints(alloc, octets));
-    }
-    if number == EXT_KEY_USAGE {
-        return weigh_purposes(alloc, octets, purpose);
-    }
-    Ok(Weight::Unweighed)
 }
 
 // What a key usage weighs. It takes no memory.

@@ -3,7 +3,7 @@ use Rattle.std.proofs.Common.{◌≡◌, map, [], ◌∷◌, ◌++◌, ap, ◌�
 use Rattle.std.proofs.lemmas.List.{map-append}
 use Rattle.cert_desk_checking.specs.Anchors.{anchor_plain, given_by}
 use Rattle.cert_desk_checking.specs.AnchorFiles.{raw_choice}
-use Rattle.cert_desk_checking.proofs.AnchorLaws.{choices_told}
+use Rattle.cert_desk_checking.proofs.OneAnchorFile.{choices_told}
 use Rattle.cert_desk_checking.proofs.FileReading.{stands-later, so_far-more}
 use Rattle.cert_desk_rules.proofs.DeskBundle.LocationLaws.{pushed}
 use Rattle.cert_desk_checking.proofs.anchor_files.anchors_in.Goals as goal

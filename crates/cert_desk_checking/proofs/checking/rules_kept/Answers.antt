@@ -1,20 +1,44 @@
-use Rattle.std.proofs.Common.{◌+◌, ◌&&◌, ◌||◌, not, List, refl, subst, sym, ◌∙◌, ap}
+use Rattle.std.proofs.Common.{◌≡◌, ℕ, ◌+◌, ◌<◌, ◌&&◌, ◌||◌, not, List, refl, subst, sym, ◌∙◌, ap, arith}
 use Rattle.std.specs.Option.{is_some}
 use Rattle.x509_cert_anchors.specs.Oid.Bound.{Bound}
 use Rattle.x509_cert_anchors.specs.CertParts.Grammar.{PlainExtension}
+use Rattle.x509_cert_anchors.specs.CertCertificates.Certificates.{PlainCertificate}
 use Rattle.x509_cert_anchors.specs.CertCertificates.Views.{certificate_plain}
+use Rattle.cert_desk_rules.specs.declared.kept_rules.KeptRules.{KeptRules}
+use Rattle.cert_desk_rules.specs.declared.rule.Rule.{Rule}
 use Rattle.cert_desk_rules.specs.declared.rule.Rule.TheVariants as rules
 use Rattle.cert_desk_checking.specs.Anchors.{terms_of}
 use Rattle.cert_desk_rules.specs.Findings.{IsRoom, add_place, found}
-use Rattle.cert_desk_rules.specs.Judging.{are_distinct}
+use Rattle.cert_desk_rules.specs.Judging.{Terms, are_distinct, keeps_at, number}
+use Rattle.cert_desk_rules.specs.KeptRules.{kept_by}
 use Rattle.cert_desk_rules.specs.Paths.{counts, is_self_issued, is_within}
 use Rattle.cert_desk_rules.specs.Weighing.{may_take_memory}
 use Rattle.cert_desk_rules.proofs.Folds.{not_twice}
-use Rattle.cert_desk_checking.proofs.KeptLaws.{counts-is, keeps_issuing, keeps_known, keeps_serving, keeps_well_formed, keeps_within, tests_say}
+use Rattle.cert_desk_checking.proofs.KeptLaws.{counts-is, keeps_issuing, keeps_known, keeps_serving, keeps_well_formed, keeps_within}
 use Rattle.cert_desk_rules.proofs.DeskIo.Given.{OnErr-by}
 use Rattle.cert_desk_rules.proofs.PathLaws.{IsRoom-more, add_place_any, admits_any}
 use Rattle.cert_desk_checking.proofs.PlaceLaws.{keeps_at-is, linked_at}
 use Rattle.cert_desk_checking.proofs.checking.rules_kept.Goals as goal
+
+-- a new rule adds a line
+tests_say : (k : KeptRules) (t : Terms) (cs : List PlainCertificate) (stream : List ℕ) (place : ℕ)
+    → k.one_algorithm ≡ keeps_at rules.AlgorithmsDiffer t cs stream place → k.distinct ≡ keeps_at rules.DuplicateExtension t cs stream place
+    → k.well_formed ≡ keeps_at rules.MalformedExtension t cs stream place → k.known ≡ keeps_at rules.UnweighedCritical t cs stream place
+    → k.linked ≡ keeps_at rules.WrongIssuer t cs stream place → k.begun ≡ keeps_at rules.NotYetValid t cs stream place
+    → k.lasting ≡ keeps_at rules.Expired t cs stream place → k.serving ≡ keeps_at rules.AgainstPurpose t cs stream place
+    → k.issuing ≡ keeps_at rules.NotAuthority t cs stream place → k.within_lengths ≡ keeps_at rules.PathTooLong t cs stream place
+    → (rule : Rule) → number rule < number rules.WrongSignature → kept_by k rule ≡ keeps_at rule t cs stream place
+tests_say k t cs stream place one two three four five six seven eight nine ten rules.AlgorithmsDiffer before = one
+tests_say k t cs stream place one two three four five six seven eight nine ten rules.DuplicateExtension before = two
+tests_say k t cs stream place one two three four five six seven eight nine ten rules.MalformedExtension before = three
+tests_say k t cs stream place one two three four five six seven eight nine ten rules.UnweighedCritical before = four
+tests_say k t cs stream place one two three four five six seven eight nine ten rules.WrongIssuer before = five
+tests_say k t cs stream place one two three four five six seven eight nine ten rules.NotYetValid before = six
+tests_say k t cs stream place one two three four five six seven eight nine ten rules.Expired before = seven
+tests_say k t cs stream place one two three four five six seven eight nine ten rules.AgainstPurpose before = eight
+tests_say k t cs stream place one two three four five six seven eight nine ten rules.NotAuthority before = nine
+tests_say k t cs stream place one two three four five six seven eight nine ten rules.PathTooLong before = ten
+tests_say k t cs stream place one two three four five six seven eight nine ten rules.WrongSignature before = absurd (omega (arith, before))
 
 pub returns-clause-judged : goal.returns-clause-judged
 returns-clause-judged c = λ cs anchors place answers stream at.
