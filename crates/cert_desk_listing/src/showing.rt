@@ -1,11 +1,5 @@
 //! A whole run of `show`, over any input and outputs.
-ghost use Rattle.std.specs.Prelude.{◌≡◌, ◌≢◌, IfOk, IfErr};
-ghost use Rattle.x509_cert_lists.specs.Oid.Bound.{Bound};
-ghost use Rattle.x509_cert_lists.specs.Der.ErrorTypes.ErrorKind.TheVariants.{OutOfMemory};
-ghost use Rattle.x509_cert_lists.specs.Der.Shapes.{Spells};
-ghost use Rattle.x509_cert_lists.specs.ListViews.{certificate_list_plain};
 ghost use Rattle.cert_desk_io.specs.Devices.{sink, source};
-ghost use Rattle.cert_desk_listing.specs.Parts.{PlainList, raw_certificate_list};
 ghost use Rattle.cert_desk_listing.specs.declared.finding.Finding.{Finding};
 ghost use Rattle.cert_desk_listing.specs.declared.file_kind.FileKind.TheVariants as kinds;
 ghost use Rattle.cert_desk_listing.specs.Shown.{IsRead, IsFinding, IsTold};
@@ -20,7 +14,6 @@ use std::alloc::Global;
 use x509_cert_certificates::CertificateInner;
 use x509_cert_lists::cert_parts::Raw;
 use x509_cert_lists::der::making::is_want_of_memory;
-use x509_cert_lists::der::{Error, FromDer};
 use x509_cert_lists::{CertReq, CertificateList};
 
 // The certificate that these octets spell.
@@ -41,21 +34,11 @@ fn certificate_in(alloc: Global, octets: &[u8]) -> Finding
     }
 }
 
-// Reads a CRL, all of the octets.
-fn list_of(alloc: Global, octets: &[u8]) -> Result<CertificateList<Raw>, Error>
-    ensures spelled { IfOk result
-        (λ l. Spells (raw_certificate_list Bound) (certificate_list_plain l) octets.now) }
-    ensures refused { IfErr result (λ e. e.kind ≢ OutOfMemory → (l : PlainList)
-        → Spells (raw_certificate_list Bound) l octets.now → ⊥) }
-{
-    CertificateList::<Raw>::from_der(alloc, octets)
-}
-
 // The CRL that these octets spell.
 fn list_in(alloc: Global, octets: &[u8]) -> Finding
     ensures { IsRead kinds.List octets.now result }
 {
-    match list_of(alloc, octets) {
+    match CertificateList::<Raw>::from_der(alloc, octets) {
         Ok(list) => match of_list(alloc, &list) {
             Ok(lines) => Finding::Listed(lines),
             Err(_) => Finding::OutOfMemory,

@@ -7,9 +7,23 @@ use std::alloc::Global;
 use x509_cert_lists::der::{Error, ErrorKind};
 
 /// The content of an extension, or a key.
-pub trait Describe {
+pub trait Describe: Sized {
+    /// The content that octets spell. Each type's reading is checked here alone.
+    fn read_content(alloc: Global, octets: &[u8]) -> Result<Self, Error>;
+
     // Adds its lines.
     fn describe(&self, lines: &mut Lines);
+}
+
+// Adds the lines of a content; answers why octets spell none, if they don't.
+pub fn add_content<T: Describe + Drop>(lines: &mut Lines, octets: &[u8]) -> Option<Error> {
+    match T::read_content(lines.alloc, octets) {
+        Ok(content) => {
+            content.describe(lines);
+            None
+        }
+        Err(error) => Some(error),
+    }
 }
 
 /// What fills a file: a certificate, a CRL or a CSR.

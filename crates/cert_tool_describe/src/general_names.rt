@@ -2,13 +2,15 @@
 
 ghost use Rattle.std.specs.Prelude.{◌≡◌, length};
 
-use crate::values::{add_name_members, add_value, read_list};
+use crate::described::Describe;
+use crate::values::{add_name_members, add_value};
 use cert_tool_lines::Lines;
 use std::alloc::Global;
 use std::net::{Ipv4Addr, Ipv6Addr};
 use x509_cert_extensions::cert_general_names::{EdiPartyName, GeneralName};
 use x509_cert_lists::cert_names::DirectoryString;
 use x509_cert_lists::der::Error;
+use x509_cert_lists::der::making::read_whole;
 
 // Adds an address of four octets.
 fn add_short(lines: &mut Lines, octets: &[u8], behind: &str)
@@ -129,7 +131,12 @@ pub fn add_general_names(lines: &mut Lines, word: &str, key: &str, listed: &[Gen
     lines.end_list();
 }
 
-// The names that octets list.
-pub fn names_in(alloc: Global, octets: &[u8]) -> Result<Vec<GeneralName>, Error> {
-    read_list(alloc, octets)
+impl Describe for Vec<GeneralName> {
+    fn read_content(alloc: Global, octets: &[u8]) -> Result<Vec<GeneralName>, Error> {
+        read_whole(alloc, octets)
+    }
+
+    fn describe(&self, lines: &mut Lines) {
+        add_general_names(lines, "", "names", self.as_slice());
+    }
 }

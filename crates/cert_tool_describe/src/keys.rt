@@ -1,16 +1,17 @@
 //! Keys, and digests.
 
 use crate::algorithms::add_members as add_algorithm;
-use crate::contents::{add_malformed, add_members};
-use crate::described::Describe;
-use crate::values::{add_value, list_in, values_in};
+use crate::contents::add_malformed;
+use crate::described::{Describe, add_content};
+use crate::values::{add_value, list_in, read_members, values_in};
 use cert_tool_lines::cert_parts::SubjectPublicKeyInfo;
 use cert_tool_lines::types::{Any, Uint};
 use cert_tool_lines::{Lines, known_name};
 use sha1::Sha1;
 use sha2::{Digest, Sha256};
+use std::alloc::Global;
 use x509_cert_lists::der::making::leaf_from_der;
-use x509_cert_lists::der::{ErrorKind, Tag, ToDer};
+use x509_cert_lists::der::{Error, ErrorKind, Tag, ToDer};
 use x509_cert_lists::oid::ObjectIdentifier;
 
 // How many bits a number has, of its octets with the most significant first.
@@ -43,6 +44,10 @@ fn add_octets(lines: &mut Lines, name: &str, octets: &[u8]) {
 
 // An RSA key is the SEQUENCE of its modulus and its exponent (RFC 3279 2.3.1).
 impl Describe for Vec<Uint> {
+    fn read_content(alloc: Global, octets: &[u8]) -> Result<Vec<Uint>, Error> {
+        read_members(alloc, octets)
+    }
+
     fn describe(&self, lines: &mut Lines) {
         match self.as_slice() {
             [modulus, exponent] => {
@@ -186,7 +191,7 @@ fn add_dsa(lines: &mut Lines, key: &SubjectPublicKeyInfo) {
 
 // Adds the lines of an RSA key, or that octets aren't one.
 fn add_rsa(lines: &mut Lines, octets: &[u8]) {
-    if let Some(error) = add_members::<Uint, Vec<Uint>>(lines, octets) {
+    if let Some(error) = add_content::<Vec<Uint>>(lines, octets) {
         add_malformed(lines, octets, error.kind);
     }
 }

@@ -15,8 +15,8 @@ mod timestamps;
 mod uses;
 mod values;
 
-pub use contents::{content_fault, number_of};
-pub use described::DescribeFile;
+pub use contents::content_fault;
+pub use described::{Describe, DescribeFile};
 pub use description::add_certificate;
 pub use general_names::add_general_name;
 pub use lists::add_list;
@@ -29,15 +29,20 @@ pub mod cert_certificates {
 
 /// The names of `x509_cert_extensions` that the crates above use.
 pub mod cert_extensions {
-    pub use x509_cert_extensions::KeyUsages;
+    pub use x509_cert_extensions::{CrlDistributionPoints, KeyUsages};
 }
 
 /// The names of `x509_cert_general_names` that the crates above use.
 pub mod cert_general_names {
     pub use x509_cert_extensions::cert_general_names::{
-        AuthorityKeyIdentifier, DistributionPoint, GeneralName, GeneralSubtree,
-        IssuingDistributionPoint, NameConstraints,
+        AuthorityKeyIdentifier, GeneralName, GeneralSubtree, IssuingDistributionPoint,
+        NameConstraints,
     };
+}
+
+/// The names of `x509_cert_kinds` that the crates above use.
+pub mod cert_kinds {
+    pub use x509_cert_kinds::ExtensionKind;
 }
 
 /// The names of `x509_cert_lists` that the crates above use.
@@ -58,8 +63,7 @@ pub mod cert_parts {
 /// The names of `der_core` that the crates above use.
 pub mod der {
     pub use x509_cert_lists::der::{
-        Decode, Error, ErrorKind, FixedTag, FromDer, MAX_LEVELS, SliceReader, Tag, ToDer,
-        describing, header_of, making,
+        Decode, Error, ErrorKind, FromDer, MAX_LEVELS, SliceReader, Tag, ToDer, header_of, making,
     };
 }
 
@@ -71,13 +75,13 @@ pub mod oid {
 /// The names of `x509_cert_policies` that the crates above use.
 pub mod policy_types {
     pub use x509_cert_extensions::policy_types::{
-        BasicConstraints, PolicyConstraints, PolicyInformation, PolicyMapping,
+        BasicConstraints, CertificatePolicies, PolicyConstraints, PolicyMappings,
     };
 }
 
 /// The names of `cert_tool_lines` that the crates above use.
 pub mod tool_lines {
-    pub use cert_tool_lines::Lines;
+    pub use cert_tool_lines::{Lines, known_name};
 }
 
 /// The names of `der_types` that the crates above use.

@@ -1,25 +1,27 @@
 //! CRLs (RFC 5280 5): their descriptions.
-ghost use Rattle.std.specs.Prelude.{◌≢◌, IfErr, IfNone, IfOk, IfSome};
-ghost use Rattle.x509_cert_lists.specs.Oid.Bound.{Bound};
+ghost use Rattle.std.specs.Prelude.{◌≢◌, IfNone, IfSome};
 ghost use Rattle.x509_cert_lists.specs.Der.ErrorTypes.ErrorKind.TheVariants.{OutOfMemory};
-ghost use Rattle.x509_cert_lists.specs.Der.Shapes.{Spells};
-ghost use Rattle.x509_cert_lists.specs.ListViews.{certificate_list_plain};
-ghost use Rattle.cert_tool_describe.specs.Files.{IsList, PlainList, certificate_list};
+ghost use Rattle.cert_tool_describe.specs.Files.{IsList};
 
 use crate::algorithms::{add_algorithm, add_signature};
 use crate::contents::add_extensions;
 use crate::described::{Describe, DescribeFile, add_file};
 use crate::description::add_kind;
 use crate::keys::add_digests;
-use crate::values::add_name;
+use crate::values::{add_name, read};
 use cert_tool_lines::Lines;
 use cert_tool_lines::cert_parts::Raw;
 use std::alloc::Global;
 use x509_cert_extensions::{CrlNumber, CrlReason};
-use x509_cert_lists::der::{Error, ErrorKind, FromDer};
+use x509_cert_lists::der::making::leaf_from_der;
+use x509_cert_lists::der::{Error, ErrorKind};
 use x509_cert_lists::{CertificateList, RevokedCert, TbsCertList};
 
 impl Describe for CrlNumber {
+    fn read_content(alloc: Global, octets: &[u8]) -> Result<CrlNumber, Error> {
+        Ok(CrlNumber(leaf_from_der(alloc, octets)?))
+    }
+
     fn describe(&self, lines: &mut Lines) {
         lines.row("number", "number");
         lines.natural(self.0.as_bytes());
@@ -43,6 +45,10 @@ fn reason_name(reason: CrlReason) -> &'static str {
 }
 
 impl Describe for CrlReason {
+    fn read_content(alloc: Global, octets: &[u8]) -> Result<CrlReason, Error> {
+        read(alloc, octets)
+    }
+
     fn describe(&self, lines: &mut Lines) {
         lines.text_row("", "reason", reason_name(*self));
     }
@@ -87,21 +93,11 @@ fn add_signed(lines: &mut Lines, signed: &TbsCertList<Raw>) {
     }
 }
 
-// Reads a CRL, all of the octets.
-fn read_list(alloc: Global, octets: &[u8]) -> Result<CertificateList<Raw>, Error>
-    ensures spelled { IfOk result
-        (λ l. Spells (certificate_list Bound) (certificate_list_plain l) octets.now) }
-    ensures refused { IfErr result (λ e. e.kind ≢ OutOfMemory → (l : PlainList)
-        → Spells (certificate_list Bound) l octets.now → ⊥) }
-{
-    CertificateList::<Raw>::from_der(alloc, octets)
-}
-
 impl DescribeFile for CertificateList<Raw> {
     ghost is_spelled = { IsList };
 
     fn read_file(alloc: Global, octets: &[u8]) -> Result<CertificateList<Raw>, Error> {
-        read_list(alloc, octets)
+        CertificateList::<Raw>::from_der(alloc, octets)
     }
 
     fn describe_file(&self, lines: &mut Lines, octets: &[u8]) {

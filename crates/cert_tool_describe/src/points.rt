@@ -4,12 +4,15 @@
 use crate::described::Describe;
 use crate::general_names::{add_general_name, add_general_names};
 use crate::uses::add_flags;
+use crate::values::{read, read_members};
 use cert_tool_lines::Lines;
+use std::alloc::Global;
 use x509_cert_extensions::cert_general_names::{
-    AuthorityKeyIdentifier, DistributionPoint, DistributionPointName, GeneralSubtree,
-    IssuingDistributionPoint, NameConstraints, ReasonFlags, Reasons,
+    AccessDescription, AuthorityKeyIdentifier, DistributionPoint, DistributionPointName,
+    GeneralSubtree, IssuingDistributionPoint, NameConstraints, ReasonFlags, Reasons,
 };
 use x509_cert_extensions::{AuthorityInfoAccessSyntax, CrlDistributionPoints};
+use x509_cert_lists::der::Error;
 
 // Adds the lines of a point's name.
 fn add_point_name(lines: &mut Lines, name: &DistributionPointName) {
@@ -58,6 +61,10 @@ fn add_point(lines: &mut Lines, point: &DistributionPoint) {
 }
 
 impl Describe for CrlDistributionPoints {
+    fn read_content(alloc: Global, octets: &[u8]) -> Result<CrlDistributionPoints, Error> {
+        Ok(CrlDistributionPoints(read_members(alloc, octets)?))
+    }
+
     fn describe(&self, lines: &mut Lines) {
         lines.list("points");
         for point in &self.0 {
@@ -76,6 +83,10 @@ fn add_scope(lines: &mut Lines, words: &str, key: &str, holds: bool) {
 }
 
 impl Describe for IssuingDistributionPoint {
+    fn read_content(alloc: Global, octets: &[u8]) -> Result<IssuingDistributionPoint, Error> {
+        read(alloc, octets)
+    }
+
     fn describe(&self, lines: &mut Lines) {
         if let Some(name) = &self.distribution_point {
             add_point_name(lines, name);
@@ -111,6 +122,10 @@ impl Describe for IssuingDistributionPoint {
 }
 
 impl Describe for AuthorityInfoAccessSyntax {
+    fn read_content(alloc: Global, octets: &[u8]) -> Result<AuthorityInfoAccessSyntax, Error> {
+        Ok(AuthorityInfoAccessSyntax(read_members::<AccessDescription>(alloc, octets)?))
+    }
+
     fn describe(&self, lines: &mut Lines) {
         lines.list("accesses");
         for access in &self.0 {
@@ -128,6 +143,10 @@ impl Describe for AuthorityInfoAccessSyntax {
 }
 
 impl Describe for AuthorityKeyIdentifier {
+    fn read_content(alloc: Global, octets: &[u8]) -> Result<AuthorityKeyIdentifier, Error> {
+        read(alloc, octets)
+    }
+
     fn describe(&self, lines: &mut Lines) {
         if let Some(identifier) = &self.key_identifier {
             lines.octets_row("key", "keyIdentifier", identifier.as_bytes());
@@ -167,6 +186,10 @@ fn add_subtrees(lines: &mut Lines, word: &str, key: &str, trees: &Option<Vec<Gen
 }
 
 impl Describe for NameConstraints {
+    fn read_content(alloc: Global, octets: &[u8]) -> Result<NameConstraints, Error> {
+        read(alloc, octets)
+    }
+
     fn describe(&self, lines: &mut Lines) {
         let (permitted, excluded) = (&self.permitted_subtrees, &self.excluded_subtrees);
         add_subtrees(lines, "permitted", "permittedSubtrees", permitted);

@@ -1,14 +1,16 @@
 //! Policies (RFC 5280 4.2.1.4, 4.2.1.5, 4.2.1.11, 4.2.1.14).
 
 use crate::described::Describe;
-use crate::values::{add_value, list_in, values_in};
+use crate::values::{add_value, list_in, read, read_members, values_in};
 use cert_tool_lines::Lines;
 use cert_tool_lines::types::{Any, Uint};
+use std::alloc::Global;
 use x509_cert_extensions::policy_types::{
-    CertificatePolicies, InhibitAnyPolicy, PolicyConstraints, PolicyInformation, PolicyMappings,
-    PolicyQualifierInfo,
+    CertificatePolicies, InhibitAnyPolicy, PolicyConstraints, PolicyInformation, PolicyMapping,
+    PolicyMappings, PolicyQualifierInfo,
 };
-use x509_cert_lists::der::{ErrorKind, Tag};
+use x509_cert_lists::der::making::leaf_from_der;
+use x509_cert_lists::der::{Error, ErrorKind, Tag};
 use x509_cert_lists::oid::ObjectIdentifier;
 
 // Adds the lines of the numbers of notices.
@@ -123,6 +125,10 @@ fn add_policy(lines: &mut Lines, policy: &PolicyInformation) {
 }
 
 impl Describe for CertificatePolicies {
+    fn read_content(alloc: Global, octets: &[u8]) -> Result<CertificatePolicies, Error> {
+        Ok(CertificatePolicies(read_members(alloc, octets)?))
+    }
+
     fn describe(&self, lines: &mut Lines) {
         lines.list("policies");
         for policy in &self.0 {
@@ -141,6 +147,10 @@ fn add_mapped(lines: &mut Lines, key: &str, policy: &ObjectIdentifier<39>) {
 }
 
 impl Describe for PolicyMappings {
+    fn read_content(alloc: Global, octets: &[u8]) -> Result<PolicyMappings, Error> {
+        Ok(PolicyMappings(read_members::<PolicyMapping>(alloc, octets)?))
+    }
+
     fn describe(&self, lines: &mut Lines) {
         lines.list("mappings");
         for mapping in &self.0 {
@@ -155,6 +165,10 @@ impl Describe for PolicyMappings {
 }
 
 impl Describe for PolicyConstraints {
+    fn read_content(alloc: Global, octets: &[u8]) -> Result<PolicyConstraints, Error> {
+        read(alloc, octets)
+    }
+
     fn describe(&self, lines: &mut Lines) {
         if let Some(skipped) = self.require_explicit_policy {
             let skipped = u64::from(skipped);
@@ -171,6 +185,10 @@ impl Describe for PolicyConstraints {
 }
 
 impl Describe for InhibitAnyPolicy {
+    fn read_content(alloc: Global, octets: &[u8]) -> Result<InhibitAnyPolicy, Error> {
+        Ok(InhibitAnyPolicy(leaf_from_der(alloc, octets)?))
+    }
+
     fn describe(&self, lines: &mut Lines) {
         lines.count_row("not anyPolicy after", "skipCerts", u64::from(self.0));
     }

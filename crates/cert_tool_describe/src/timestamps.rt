@@ -101,6 +101,13 @@ fn add_written(lines: &mut Lines, written: &SerializedSct) {
 }
 
 impl Describe for SignedCertificateTimestampList {
+    fn read_content(
+        alloc: Global,
+        octets: &[u8],
+    ) -> Result<SignedCertificateTimestampList, DerError> {
+        Ok(SignedCertificateTimestampList::from(leaf_from_der::<OctetString>(alloc, octets)?))
+    }
+
     fn describe(&self, lines: &mut Lines) {
         match self.parse_timestamps(lines.alloc) {
             Ok(listed) => {
@@ -138,8 +145,8 @@ fn timestamp_fault(alloc: Global, listed: &[SerializedSct]) -> Option<DerError> 
 
 // Why octets aren't a list of timestamps, if they aren't.
 pub fn timestamps_fault(alloc: Global, octets: &[u8]) -> Option<DerError> {
-    let list = match leaf_from_der::<OctetString>(alloc, octets) {
-        Ok(list) => SignedCertificateTimestampList::from(list),
+    let list = match SignedCertificateTimestampList::read_content(alloc, octets) {
+        Ok(list) => list,
         Err(error) => return Some(error),
     };
     match list.parse_timestamps(alloc) {

@@ -2,12 +2,20 @@
 //! 4.2.1.12, 5.3.2, RFC 3280 4.2.1.4, RFC 7633).
 
 use crate::described::Describe;
+use crate::values::{read, read_members};
 use cert_tool_lines::Lines;
 use cert_tool_lines::types::{FlagSet, GeneralizedTime, NamedBits};
+use std::alloc::Global;
 use x509_cert_extensions::policy_types::{BasicConstraints, PrivateKeyUsagePeriod};
 use x509_cert_extensions::{ExtendedKeyUsage, KeyUsage, KeyUsages, SubjectKeyIdentifier};
+use x509_cert_lists::der::Error;
+use x509_cert_lists::der::making::leaf_from_der;
 
 impl Describe for SubjectKeyIdentifier {
+    fn read_content(alloc: Global, octets: &[u8]) -> Result<SubjectKeyIdentifier, Error> {
+        Ok(SubjectKeyIdentifier(leaf_from_der(alloc, octets)?))
+    }
+
     fn describe(&self, lines: &mut Lines) {
         lines.octets_row("key", "keyIdentifier", self.0.as_bytes());
     }
@@ -46,12 +54,20 @@ const USES: [(KeyUsages, &str); 9] = [
 ];
 
 impl Describe for KeyUsage {
+    fn read_content(alloc: Global, octets: &[u8]) -> Result<KeyUsage, Error> {
+        Ok(KeyUsage(leaf_from_der(alloc, octets)?))
+    }
+
     fn describe(&self, lines: &mut Lines) {
         add_flags(lines, "", "uses", &self.0, &USES);
     }
 }
 
 impl Describe for ExtendedKeyUsage {
+    fn read_content(alloc: Global, octets: &[u8]) -> Result<ExtendedKeyUsage, Error> {
+        Ok(ExtendedKeyUsage(read_members(alloc, octets)?))
+    }
+
     fn describe(&self, lines: &mut Lines) {
         lines.list("purposes");
         for purpose in &self.0 {
@@ -64,6 +80,10 @@ impl Describe for ExtendedKeyUsage {
 }
 
 impl Describe for BasicConstraints {
+    fn read_content(alloc: Global, octets: &[u8]) -> Result<BasicConstraints, Error> {
+        read(alloc, octets)
+    }
+
     fn describe(&self, lines: &mut Lines) {
         lines.row("authority", "cA");
         lines.truth(self.ca);
@@ -81,12 +101,20 @@ fn add_date(lines: &mut Lines, word: &str, key: &str, date: &GeneralizedTime) {
 
 // Since when a key may have been in other hands.
 impl Describe for GeneralizedTime {
+    fn read_content(alloc: Global, octets: &[u8]) -> Result<GeneralizedTime, Error> {
+        leaf_from_der(alloc, octets)
+    }
+
     fn describe(&self, lines: &mut Lines) {
         add_date(lines, "", "date", self);
     }
 }
 
 impl Describe for PrivateKeyUsagePeriod {
+    fn read_content(alloc: Global, octets: &[u8]) -> Result<PrivateKeyUsagePeriod, Error> {
+        read(alloc, octets)
+    }
+
     fn describe(&self, lines: &mut Lines) {
         if let Some(date) = &self.not_before {
             add_date(lines, "not-before", "notBefore", date);
@@ -108,6 +136,10 @@ fn feature_name(feature: u16) -> &'static str {
 
 // The numbers of such extensions.
 impl Describe for Vec<u16> {
+    fn read_content(alloc: Global, octets: &[u8]) -> Result<Vec<u16>, Error> {
+        read_members(alloc, octets)
+    }
+
     fn describe(&self, lines: &mut Lines) {
         lines.list("features");
         for feature in self {

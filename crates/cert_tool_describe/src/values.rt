@@ -7,7 +7,7 @@ use std::str;
 use x509_cert_lists::cert_names::{AttributeTypeAndValue, Name};
 use x509_cert_lists::der::describing::{DecodeWay, Described};
 use x509_cert_lists::der::making::read_whole;
-use x509_cert_lists::der::{Decode, Error, FixedTag, FromDer, SliceReader, Tag};
+use x509_cert_lists::der::{Error, FixedTag, SliceReader, Tag};
 use x509_cert_lists::oid::ObjectIdentifier;
 
 // The character of two octets, if they are one (X.690 8.23.8).
@@ -114,7 +114,7 @@ fn add_plain_value(lines: &mut Lines, value: &Any) {
 
 // Adds the line of the text or the identifier that octets spell, if they spell one alone.
 pub fn add_value_of(lines: &mut Lines, octets: &[u8]) {
-    match Any::from_der(lines.alloc, octets) {
+    match read_whole::<Any>(lines.alloc, octets) {
         Ok(value) => add_plain_value(lines, &value),
         Err(error) => lines.note(error.kind),
     }
@@ -129,11 +129,14 @@ where
     read_whole(alloc, octets)
 }
 
-// The values that octets list. They are any here, so that the list is checked here alone.
-pub fn read_list<'a, T: Decode<'a, SliceReader<'a>>>(
+// The values of a type that names its way, which octets list.
+pub fn read_members<'a, T: Described + FixedTag + Drop>(
     alloc: Global,
     octets: &'a [u8],
-) -> Result<Vec<T>, Error> {
+) -> Result<Vec<T>, Error>
+where
+    T::By: DecodeWay<'a, SliceReader<'a>, T>,
+{
     read_whole(alloc, octets)
 }
 

@@ -11,26 +11,11 @@ use crate::serial_numbers::SerialNumbers;
 use crate::stream_refusal::{LEAF_FIRST, is_leaf_first};
 use cert_desk_checking::Anchor;
 use cert_desk_checking::desk_bundle::Bundle;
-use cert_desk_checking::desk_rules::{KeptRules, Rule};
+use cert_desk_checking::desk_rules::{KeptRules, RULES, Rule};
 use cert_tool_describe::cert_names::Name;
 use cert_tool_describe::cert_parts::Time;
 use cert_tool_describe::oid::ObjectIdentifier;
 use cert_tool_describe::tool_lines::Lines;
-
-// All rules, in the order in which they are judged.
-const RULES: [Rule; 11] = [
-    Rule::AlgorithmsDiffer,
-    Rule::DuplicateExtension,
-    Rule::MalformedExtension,
-    Rule::UnweighedCritical,
-    Rule::WrongIssuer,
-    Rule::NotYetValid,
-    Rule::Expired,
-    Rule::AgainstPurpose,
-    Rule::NotAuthority,
-    Rule::PathTooLong,
-    Rule::WrongSignature,
-];
 
 /// How a chain was judged.
 #[derive(Clone, Copy)]

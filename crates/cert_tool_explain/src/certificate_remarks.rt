@@ -3,19 +3,20 @@
 use crate::attribute_remarks::add_attribute_remarks;
 use crate::content_faults::add_content_fault;
 use crate::extension_remarks::{
-    OF_CERTIFICATES, add_content_remarks, add_mark_remarks, issuer_key_in, value_in,
+    OF_CERTIFICATES, add_content_remarks, add_mark_remarks, content_in, issuer_key_in,
 };
 use crate::remark_lines::{
     add_each, add_serial_remarks, begin_remark, end_remark, has_twins, is_long_for_its_year,
 };
 use cert_tool_describe::cert_certificates::{CertificateInner, TbsCertificateInner};
 use cert_tool_describe::cert_extensions::KeyUsages;
+use cert_tool_describe::cert_kinds::ExtensionKind as Kind;
 use cert_tool_describe::cert_parts::{Extension, Raw, Version};
+use cert_tool_describe::content_fault;
 use cert_tool_describe::der::making::leaf_from_der;
 use cert_tool_describe::policy_types::BasicConstraints;
 use cert_tool_describe::tool_lines::Lines;
 use cert_tool_describe::types::FlagSet;
-use cert_tool_describe::{content_fault, number_of};
 
 // What the extensions of a certificate say of its key and of its names.
 #[derive(Clone, Copy)]
@@ -54,20 +55,20 @@ impl Facts {
     // Takes one extension more.
     fn take(&mut self, lines: &mut Lines, extension: &Extension) {
         let octets = extension.extn_value.as_bytes();
-        match number_of(extension) {
-            14 => self.has_key_identifier = true,
-            15 => {
+        match Kind::of(&extension.extn_id) {
+            Some(Kind::SubjectKeyIdentifier) => self.has_key_identifier = true,
+            Some(Kind::KeyUsage) => {
                 self.has_key_usage = true;
                 self.uses = leaf_from_der(lines.alloc, octets).ok();
             }
-            17 => self.has_critical_names = extension.critical,
-            19 => {
-                self.constraints = value_in::<BasicConstraints>(lines, octets);
+            Some(Kind::SubjectAltName) => self.has_critical_names = extension.critical,
+            Some(Kind::BasicConstraints) => {
+                self.constraints = content_in::<BasicConstraints>(lines, octets);
                 self.are_constraints_unread = self.constraints.is_none();
                 self.are_constraints_critical = extension.critical;
             }
-            30 => self.constrains_names = true,
-            35 => {
+            Some(Kind::NameConstraints) => self.constrains_names = true,
+            Some(Kind::AuthorityKeyIdentifier) => {
                 // of one that isn't read nothing is said
                 self.has_issuer_key = match issuer_key_in(lines, octets) {
                     Some(key) => key.has_identifier,
@@ -271,7 +272,8 @@ pub fn add_certificate_remarks(lines: &mut Lines, signed: &TbsCertificateInner<R
     for extension in extensions_of(signed) {
         add_mark_remarks(lines, extension, &OF_CERTIFICATES);
         add_content_remarks(lines, extension);
-        if let (15, [3, 1, 0]) = (number_of(extension), extension.extn_value.as_bytes()) {
+        let kind = Kind::of(&extension.extn_id);
+        if let (Some(Kind::KeyUsage), [3, 1, 0]) = (kind, extension.extn_value.as_bytes()) {
             add_each(lines, &[(true, "keyUsage has no use", "RFC 5280 4.2.1.3")]);
         }
     }

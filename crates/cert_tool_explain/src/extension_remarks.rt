@@ -3,78 +3,75 @@
 
 use crate::name_remarks::add_name_remarks;
 use crate::remark_lines::{Seen, add_each, begin_remark, end_remark};
+use cert_tool_describe::Describe;
+use cert_tool_describe::cert_extensions::CrlDistributionPoints;
 use cert_tool_describe::cert_general_names::{
-    AuthorityKeyIdentifier, DistributionPoint, GeneralName, GeneralSubtree,
-    IssuingDistributionPoint, NameConstraints,
+    AuthorityKeyIdentifier, GeneralName, GeneralSubtree, IssuingDistributionPoint, NameConstraints,
 };
+use cert_tool_describe::cert_kinds::ExtensionKind as Kind;
 use cert_tool_describe::cert_parts::Extension;
-use cert_tool_describe::der::describing::{DecodeWay, Described};
-use cert_tool_describe::der::making::read_whole;
-use cert_tool_describe::der::{Decode, FixedTag, SliceReader};
-use cert_tool_describe::number_of;
 use cert_tool_describe::oid::ObjectIdentifier;
-use cert_tool_describe::policy_types::{PolicyConstraints, PolicyInformation, PolicyMapping};
-use cert_tool_describe::tool_lines::Lines;
+use cert_tool_describe::policy_types::{CertificatePolicies, PolicyConstraints, PolicyMappings};
+use cert_tool_describe::tool_lines::{Lines, known_name};
 
-/// The number of a kind, whether it is to be critical, its name, and the section.
-pub type Mark = (u16, bool, &'static str, &'static str);
+/// A kind, whether it is to be critical, and the section.
+pub type Mark = (Kind, bool, &'static str);
 
 /// The kinds in certificates (RFC 5280 4.2).
 pub const OF_CERTIFICATES: [Mark; 9] = [
-    (9, false, "subjectDirectoryAttributes", "RFC 5280 4.2.1.8"),
-    (14, false, "subjectKeyIdentifier", "RFC 5280 4.2.1.2"),
-    (30, true, "nameConstraints", "RFC 5280 4.2.1.10"),
-    (35, false, "authorityKeyIdentifier", "RFC 5280 4.2.1.1"),
-    (36, true, "policyConstraints", "RFC 5280 4.2.1.11"),
-    (46, false, "freshestCRL", "RFC 5280 4.2.1.15"),
-    (54, true, "inhibitAnyPolicy", "RFC 5280 4.2.1.14"),
-    (257, false, "authorityInfoAccess", "RFC 5280 4.2.2.1"),
-    (267, false, "subjectInfoAccess", "RFC 5280 4.2.2.2"),
+    (Kind::SubjectDirectoryAttributes, false, "RFC 5280 4.2.1.8"),
+    (Kind::SubjectKeyIdentifier, false, "RFC 5280 4.2.1.2"),
+    (Kind::NameConstraints, true, "RFC 5280 4.2.1.10"),
+    (Kind::AuthorityKeyIdentifier, false, "RFC 5280 4.2.1.1"),
+    (Kind::PolicyConstraints, true, "RFC 5280 4.2.1.11"),
+    (Kind::FreshestCrl, false, "RFC 5280 4.2.1.15"),
+    (Kind::InhibitAnyPolicy, true, "RFC 5280 4.2.1.14"),
+    (Kind::AuthorityInfoAccess, false, "RFC 5280 4.2.2.1"),
+    (Kind::SubjectInfoAccess, false, "RFC 5280 4.2.2.2"),
 ];
 
 /// The kinds in lists (RFC 5280 5.2).
 pub const OF_LISTS: [Mark; 6] = [
-    (20, false, "cRLNumber", "RFC 5280 5.2.3"),
-    (27, true, "deltaCRLIndicator", "RFC 5280 5.2.4"),
-    (28, true, "issuingDistributionPoint", "RFC 5280 5.2.5"),
-    (35, false, "authorityKeyIdentifier", "RFC 5280 4.2.1.1"),
-    (46, false, "freshestCRL", "RFC 5280 5.2.6"),
-    (257, false, "authorityInfoAccess", "RFC 5280 5.2.7"),
+    (Kind::CrlNumber, false, "RFC 5280 5.2.3"),
+    (Kind::DeltaCrlIndicator, true, "RFC 5280 5.2.4"),
+    (Kind::IssuingDistributionPoint, true, "RFC 5280 5.2.5"),
+    (Kind::AuthorityKeyIdentifier, false, "RFC 5280 4.2.1.1"),
+    (Kind::FreshestCrl, false, "RFC 5280 5.2.6"),
+    (Kind::AuthorityInfoAccess, false, "RFC 5280 5.2.7"),
 ];
 
-// The number of a kind whose content must not be an empty sequence, its name, and the section.
-type Filled = (u16, &'static str, &'static str);
-
-const FILLED: [Filled; 10] = [
-    (17, "subjectAltName", "RFC 5280 4.2.1.6"),
-    (18, "issuerAltName", "RFC 5280 4.2.1.7"),
-    (28, "issuingDistributionPoint", "RFC 5280 5.2.5"),
-    (30, "nameConstraints", "RFC 5280 4.2.1.10"),
-    (31, "cRLDistributionPoints", "RFC 5280 4.2.1.13"),
-    (32, "certificatePolicies", "RFC 5280 4.2.1.4"),
-    (33, "policyMappings", "RFC 5280 4.2.1.5"),
-    (36, "policyConstraints", "RFC 5280 4.2.1.11"),
-    (37, "extKeyUsage", "RFC 5280 4.2.1.12"),
-    (46, "freshestCRL", "RFC 5280 4.2.1.15"),
+// The kinds whose content must not be an empty sequence, each with the section.
+const FILLED: [(Kind, &str); 10] = [
+    (Kind::SubjectAltName, "RFC 5280 4.2.1.6"),
+    (Kind::IssuerAltName, "RFC 5280 4.2.1.7"),
+    (Kind::IssuingDistributionPoint, "RFC 5280 5.2.5"),
+    (Kind::NameConstraints, "RFC 5280 4.2.1.10"),
+    (Kind::CrlDistributionPoints, "RFC 5280 4.2.1.13"),
+    (Kind::CertificatePolicies, "RFC 5280 4.2.1.4"),
+    (Kind::PolicyMappings, "RFC 5280 4.2.1.5"),
+    (Kind::PolicyConstraints, "RFC 5280 4.2.1.11"),
+    (Kind::ExtKeyUsage, "RFC 5280 4.2.1.12"),
+    (Kind::FreshestCrl, "RFC 5280 4.2.1.15"),
 ];
 
-// Adds a remark of an extension, and its section.
-fn add_of(lines: &mut Lines, parts: [&str; 3]) {
-    let [name, text, section] = parts;
+// Adds a remark of an extension by the name of its kind, and the section.
+fn add_of(lines: &mut Lines, extension: &Extension, text: &str, section: &str) {
     begin_remark(lines);
-    lines.push(name);
+    lines.push(known_name(extension.extn_id.as_bytes()).unwrap_or(""));
     lines.push(text);
     end_remark(lines, section);
 }
 
 // Adds that the content of an extension is an empty sequence, which must not be one.
 fn add_empty_remark(lines: &mut Lines, extension: &Extension) {
-    let kind = number_of(extension);
+    let Some(kind) = Kind::of(&extension.extn_id) else {
+        return;
+    };
     if let [0x30, 0] = extension.extn_value.as_bytes() {
         for row in &FILLED {
-            let (number, name, section) = *row;
-            if number == kind {
-                add_of(lines, [name, " is an empty sequence", section]);
+            let (filled, section) = *row;
+            if filled == kind {
+                add_of(lines, extension, " is an empty sequence", section);
             }
         }
     }
@@ -82,61 +79,31 @@ fn add_empty_remark(lines: &mut Lines, extension: &Extension) {
 
 // Adds whether extensions are critical that must not be, or the other way round.
 pub fn add_mark_remarks(lines: &mut Lines, extension: &Extension, marks: &[Mark]) {
-    let kind = number_of(extension);
+    let Some(kind) = Kind::of(&extension.extn_id) else {
+        return;
+    };
     for row in marks {
-        let (number, is_critical, name, section) = *row;
-        if number == kind && is_critical != extension.critical {
+        let (marked, is_critical, section) = *row;
+        if marked == kind && is_critical != extension.critical {
             let text = if is_critical {
                 " isn't critical"
             } else {
                 " is critical"
             };
-            add_of(lines, [name, text, section]);
+            add_of(lines, extension, text, section);
         }
     }
 }
 
-// The value that a content is, if it is one. What the way of its type gives is checked here, and
-// not where the type is named.
-pub fn value_in<'a, T: Described + FixedTag + Drop>(
-    lines: &mut Lines,
-    octets: &'a [u8],
-) -> Option<T>
-where
-    T::By: DecodeWay<'a, SliceReader<'a>, T>,
-{
-    match read_whole::<T>(lines.alloc, octets) {
-        Ok(value) => Some(value),
+// The content that octets spell, if they spell one.
+pub fn content_in<T: Describe + Drop>(lines: &mut Lines, octets: &[u8]) -> Option<T> {
+    match T::read_content(lines.alloc, octets) {
+        Ok(content) => Some(content),
         Err(error) => {
             lines.note(error.kind);
             None
         }
     }
-}
-
-// The values that a content lists, if it is a list of any such.
-fn any_list_in<'a, T: Decode<'a, SliceReader<'a>>>(
-    lines: &mut Lines,
-    octets: &'a [u8],
-) -> Option<Vec<T>> {
-    match read_whole::<Vec<T>>(lines.alloc, octets) {
-        Ok(list) => Some(list),
-        Err(error) => {
-            lines.note(error.kind);
-            None
-        }
-    }
-}
-
-// The values that a content lists, if it is a list of those of a type that names its way.
-fn list_in<'a, T: Described + FixedTag + Drop>(
-    lines: &mut Lines,
-    octets: &'a [u8],
-) -> Option<Vec<T>>
-where
-    T::By: DecodeWay<'a, SliceReader<'a>, T>,
-{
-    any_list_in(lines, octets)
 }
 
 // How the key of the issuer is named.
@@ -149,7 +116,7 @@ pub struct IssuerKey {
 
 // How a content names the key of the issuer, if it is read.
 pub fn issuer_key_in(lines: &mut Lines, octets: &[u8]) -> Option<IssuerKey> {
-    match value_in::<AuthorityKeyIdentifier>(lines, octets) {
+    match content_in::<AuthorityKeyIdentifier>(lines, octets) {
         Some(key) => Some(IssuerKey {
             has_identifier: key.key_identifier.is_some(),
             is_half: key.authority_cert_issuer.is_some()
@@ -161,7 +128,7 @@ pub fn issuer_key_in(lines: &mut Lines, octets: &[u8]) -> Option<IssuerKey> {
 
 // Of other names.
 fn add_names_remarks(lines: &mut Lines, octets: &[u8]) {
-    if let Some(listed) = any_list_in::<GeneralName>(lines, octets) {
+    if let Some(listed) = content_in::<Vec<GeneralName>>(lines, octets) {
         add_name_remarks(lines, listed.as_slice());
     }
 }
@@ -204,7 +171,7 @@ fn add_subtree_remarks(lines: &mut Lines, subtrees: &[GeneralSubtree]) {
 
 // Of constraints on names.
 fn add_constraint_remarks(lines: &mut Lines, octets: &[u8]) {
-    let Some(constraints) = value_in::<NameConstraints>(lines, octets) else {
+    let Some(constraints) = content_in::<NameConstraints>(lines, octets) else {
         return;
     };
     for subtrees in [
@@ -219,11 +186,11 @@ fn add_constraint_remarks(lines: &mut Lines, octets: &[u8]) {
 
 // Of points where lists stand.
 fn add_point_remarks(lines: &mut Lines, octets: &[u8]) {
-    let Some(points) = list_in::<DistributionPoint>(lines, octets) else {
+    let Some(points) = content_in::<CrlDistributionPoints>(lines, octets) else {
         return;
     };
     let mut is_bare = false;
-    for point in &points {
+    for point in &points.0 {
         is_bare = is_bare || (point.distribution_point.is_none() && point.crl_issuer.is_none());
     }
     let text = "a distribution point has neither a name nor an issuer";
@@ -232,7 +199,7 @@ fn add_point_remarks(lines: &mut Lines, octets: &[u8]) {
 
 // Of the certificates that a list has (RFC 5280 5.2.5).
 fn add_scope_remarks(lines: &mut Lines, octets: &[u8]) {
-    let Some(point) = value_in::<IssuingDistributionPoint>(lines, octets) else {
+    let Some(point) = content_in::<IssuingDistributionPoint>(lines, octets) else {
         return;
     };
     add_each(
@@ -254,12 +221,12 @@ fn add_scope_remarks(lines: &mut Lines, octets: &[u8]) {
 
 // Of policies.
 fn add_policy_remarks(lines: &mut Lines, octets: &[u8]) {
-    let Some(policies) = list_in::<PolicyInformation>(lines, octets) else {
+    let Some(policies) = content_in::<CertificatePolicies>(lines, octets) else {
         return;
     };
     let mut seen = Seen::new(lines.alloc);
     let mut has_twins = false;
-    for policy in &policies {
+    for policy in &policies.0 {
         has_twins = seen.take(lines, policy.policy_identifier.as_bytes()) || has_twins;
     }
     add_each(
@@ -275,11 +242,11 @@ fn is_any_policy(identifier: &ObjectIdentifier<39>) -> bool {
 
 // Of policies that stand for others.
 fn add_mapping_remarks(lines: &mut Lines, octets: &[u8]) {
-    let Some(mappings) = list_in::<PolicyMapping>(lines, octets) else {
+    let Some(mappings) = content_in::<PolicyMappings>(lines, octets) else {
         return;
     };
     let mut has_any = false;
-    for mapping in &mappings {
+    for mapping in &mappings.0 {
         has_any = has_any
             || is_any_policy(&mapping.issuer_domain_policy)
             || is_any_policy(&mapping.subject_domain_policy);
@@ -302,14 +269,16 @@ fn add_issuer_key_remarks(lines: &mut Lines, octets: &[u8]) {
 pub fn add_content_remarks(lines: &mut Lines, extension: &Extension) {
     let octets = extension.extn_value.as_bytes();
     add_empty_remark(lines, extension);
-    match number_of(extension) {
-        17 | 18 => add_names_remarks(lines, octets),
-        28 => add_scope_remarks(lines, octets),
-        30 => add_constraint_remarks(lines, octets),
-        31 | 46 => add_point_remarks(lines, octets),
-        32 => add_policy_remarks(lines, octets),
-        33 => add_mapping_remarks(lines, octets),
-        35 => add_issuer_key_remarks(lines, octets),
+    match Kind::of(&extension.extn_id) {
+        Some(Kind::SubjectAltName) | Some(Kind::IssuerAltName) => add_names_remarks(lines, octets),
+        Some(Kind::IssuingDistributionPoint) => add_scope_remarks(lines, octets),
+        Some(Kind::NameConstraints) => add_constraint_remarks(lines, octets),
+        Some(Kind::CrlDistributionPoints) | Some(Kind::FreshestCrl) => add_point_remarks(
+            lines, octets,
+        ),
+        Some(Kind::CertificatePolicies) => add_policy_remarks(lines, octets),
+        Some(Kind::PolicyMappings) => add_mapping_remarks(lines, octets),
+        Some(Kind::AuthorityKeyIdentifier) => add_issuer_key_remarks(lines, octets),
         _ => {}
     }
 }

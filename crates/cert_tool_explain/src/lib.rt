@@ -63,8 +63,8 @@ pub mod desk_bundle {
 /// The names of `cert_desk_checking` that the crates above use.
 pub mod desk_checking {
     pub use cert_desk_checking::{
-        Anchor, AnchorsError, Outcome, anchors_line, chain_lines, find_outcome, judge_each,
-        limit_in, number_in, read_anchors, read_stream, status_of, verdict_line,
+        Anchor, AnchorsError, Outcome, anchors_in, anchors_line, chain_lines, find_outcome,
+        judge_each, limit_in, number_in, read_anchors, read_stream, status_of, verdict_line,
     };
 }
 

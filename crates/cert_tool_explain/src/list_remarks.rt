@@ -7,12 +7,13 @@ use crate::extension_remarks::{OF_LISTS, add_content_remarks, add_mark_remarks, 
 use crate::remark_lines::{
     add_each, begin_remark, end_remark, has_twins, is_long_for_its_year, is_wrong_serial,
 };
+use cert_tool_describe::cert_kinds::ExtensionKind as Kind;
 use cert_tool_describe::cert_lists::{CertificateList, RevokedCert, TbsCertList};
 use cert_tool_describe::cert_parts::{Extension, Extensions, Raw, Version};
+use cert_tool_describe::content_fault;
 use cert_tool_describe::der::making::leaf_from_der;
 use cert_tool_describe::tool_lines::Lines;
 use cert_tool_describe::types::Uint;
-use cert_tool_describe::{content_fault, number_of};
 
 // What the extensions of a list say.
 #[derive(Clone, Copy)]
@@ -41,20 +42,20 @@ impl Facts {
     // Takes one extension more.
     fn take(&mut self, lines: &mut Lines, extension: &Extension) {
         let octets = extension.extn_value.as_bytes();
-        match number_of(extension) {
-            20 => {
+        match Kind::of(&extension.extn_id) {
+            Some(Kind::CrlNumber) => {
                 self.has_number = true;
                 if let Ok(number) = leaf_from_der::<Uint>(lines.alloc, octets) {
                     self.has_long_number = number.as_bytes().len() > 20;
                 }
             }
-            27 => self.is_delta = true,
-            35 => {
+            Some(Kind::DeltaCrlIndicator) => self.is_delta = true,
+            Some(Kind::AuthorityKeyIdentifier) => {
                 if let Some(key) = issuer_key_in(lines, octets) {
                     self.has_issuer_key = key.has_identifier;
                 }
             }
-            46 => self.has_freshest = true,
+            Some(Kind::FreshestCrl) => self.has_freshest = true,
             _ => {}
         }
     }
@@ -109,10 +110,10 @@ impl EntryFacts {
             }
         }
         for extension in listed(&entry.crl_entry_extensions) {
-            match (number_of(extension), extension.critical) {
-                (21, true) => self.has_critical_reason = true,
-                (24, true) => self.has_critical_date = true,
-                (29, false) => self.has_issuer_at_will = true,
+            match (Kind::of(&extension.extn_id), extension.critical) {
+                (Some(Kind::CrlReason), true) => self.has_critical_reason = true,
+                (Some(Kind::InvalidityDate), true) => self.has_critical_date = true,
+                (Some(Kind::CertificateIssuer), false) => self.has_issuer_at_will = true,
                 _ => {}
             }
         }

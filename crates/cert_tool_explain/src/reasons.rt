@@ -56,13 +56,7 @@ fn add_against(
             "RFC 5280 6.1.4 (n)"
         }
         // Of these no extension is the reason.
-        Rule::AlgorithmsDiffer
-        | Rule::DuplicateExtension
-        | Rule::WrongIssuer
-        | Rule::NotYetValid
-        | Rule::Expired
-        | Rule::PathTooLong
-        | Rule::WrongSignature => "",
+        _ => "",
     }
 }
 

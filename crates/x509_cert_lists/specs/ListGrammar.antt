@@ -1,14 +1,14 @@
 -- CRLs (RFC 5280 5.1) and CSRs (RFC 2986 4). Each shape takes the
 -- bound of arcs, and where a serial number stands in it the greatest number of its content octets,
 -- if there is such a number.
-use Rattle.std.specs.Prelude.{ℕ, List, [], ◌∷◌, true, Option, Result, Ok}
+use Rattle.std.specs.Prelude.{ℕ, List, [], ◌∷◌, true, Option, None, Result, Ok}
 use Rattle.der_core.specs.ErrorTypes.ErrorKind.{ErrorKind}
 use Rattle.der_core.specs.TagTypes.Tag.TheVariants as tags
 use Rattle.der_core.specs.Integers.{among}
 use Rattle.der_core.specs.Leaves.{integer}
 use Rattle.der_core.specs.Octets.{◌>>=◌}
-use Rattle.der_core.specs.Shapes.{Shape, Body, Content, tagged, leaf, optional, field, done}
-use Rattle.der_core.specs.Shapes.{many, rising, nested, sequence, sequence_of, explicit}
+use Rattle.der_core.specs.Shapes.{Shape, Body, BodyValue, Content, tagged, leaf, optional, field}
+use Rattle.der_core.specs.Shapes.{done, many, rising, nested, sequence, sequence_of, explicit}
 use Rattle.der_core.specs.Tags.{context}
 use Rattle.x509_cert_parts.specs.Types.Contents.{written_as}
 use Rattle.x509_cert_names.specs.Names.{PlainAttribute, name, attribute}
@@ -44,6 +44,12 @@ abbrev pub certificate_list_fields : ℕ → Option ℕ → Body
 certificate_list_fields bound limit =
     field (sequence (tbs_cert_list_fields bound limit))
     (field (algorithm_identifier bound) (field bit_string done))
+
+abbrev pub certificate_list : ℕ → Option ℕ → Shape
+certificate_list bound limit = sequence (certificate_list_fields bound limit)
+
+abbrev pub PlainList : Type 0
+PlainList = BodyValue (certificate_list_fields 0 None)
 
 -- The version of a request: INTEGER { v1(0) }
 abbrev pub request_numbers : List ℕ

@@ -2,9 +2,8 @@
 use Rattle.std.specs.Prelude.{ℕ, pos, None}
 use Rattle.der_core.specs.Grammar.{plain_option, plain_list}
 use Rattle.der_core.specs.Shapes.{BodyValue}
+use Rattle.x509_cert_lists.specs.ListGrammar.{PlainList, cert_req_fields, cert_req_info_fields}
 use Rattle.x509_cert_lists.specs.ListGrammar.{revoked_cert_fields, tbs_cert_list_fields}
-use Rattle.x509_cert_lists.specs.ListGrammar.{certificate_list_fields, cert_req_info_fields}
-use Rattle.x509_cert_lists.specs.ListGrammar.{cert_req_fields}
 use Rattle.x509_cert_lists.specs.declared.cert_req.CertReq.{CertReq}
 use Rattle.x509_cert_lists.specs.declared.cert_req_info.CertReqInfo.{CertReqInfo}
 use Rattle.x509_cert_lists.specs.declared.certificate_list.CertificateList.{CertificateList}
@@ -47,8 +46,7 @@ tbs_cert_list_plain t = (
   ),
 )
 
-abbrev pub certificate_list_plain : {P : Type 0} → CertificateList P
-    → BodyValue (certificate_list_fields 0 None)
+abbrev pub certificate_list_plain : {P : Type 0} → CertificateList P → PlainList
 certificate_list_plain c = (
   tbs_cert_list_plain c.tbs_cert_list,
   (algorithm_plain c.signature_algorithm, (c.signature, tt)),

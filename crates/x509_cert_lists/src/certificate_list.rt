@@ -1,13 +1,17 @@
 //! CRLs.
 
-ghost use Rattle.std.specs.Prelude.{◌≡◌, refl};
+ghost use Rattle.std.specs.Prelude.{◌≡◌, ◌≢◌, [], IfOk, IfErr, refl};
 ghost use Rattle.der_core.specs.Oid.Bound.{Bound};
+ghost use Rattle.der_core.specs.Grammar.{read_whole};
+ghost use Rattle.der_core.specs.Reading.{Gives};
+ghost use Rattle.der_core.specs.Shapes.{Spells};
+ghost use Rattle.x509_cert_lists.specs.ListGrammar.{PlainList, certificate_list};
 ghost use Rattle.x509_cert_lists.specs.ListGrammar.{certificate_list_fields};
 ghost use Rattle.x509_cert_lists.specs.ListViews.{certificate_list_plain};
 
 use crate::tbs_cert_list::TbsCertList;
 use der_core::describing::{AsRecord, Described, FieldsView, RowUser, Rows};
-use der_core::{DecodeFields, Error, Reader, lend, read_row};
+use der_core::{DecodeFields, Error, ErrorKind, FromDer, Reader, lend, read_row};
 use std::alloc::Global;
 use x509_cert_parts::types::BitString;
 use x509_cert_parts::{AlgorithmIdentifier, Profile, Rfc5280};
@@ -53,4 +57,25 @@ impl<P: Profile> Rows for CertificateList<P> {
     }
 
     ghost apart = { refl };
+}
+
+impl<P: Profile> CertificateList<P> {
+    /// Reads a list, all of the octets.
+    ///
+    /// # Errors
+    /// The first error met in reading, or `OutOfMemory`.
+    pub fn from_der(alloc: Global, bytes: &[u8]) -> Result<CertificateList<P>, Error>
+        // What is read is spelled so.
+        ensures spelled { IfOk result
+            (λ l. Spells (certificate_list Bound P.serial_limit) (certificate_list_plain l)
+            bytes.now) }
+        // What is refused for another reason than out of memory is spelled by no list.
+        ensures refused { IfErr result (λ e. e.kind ≢ ErrorKind.OutOfMemory → (l : PlainList)
+            → Spells (certificate_list Bound P.serial_limit) l bytes.now → ⊥) }
+        // Which fault it is.
+        ensures exact { Gives (λ l. (certificate_list_plain l, [])) result
+            (read_whole (certificate_list Bound P.serial_limit) bytes.now) }
+    {
+        FromDer::from_der(alloc, bytes)
+    }
 }

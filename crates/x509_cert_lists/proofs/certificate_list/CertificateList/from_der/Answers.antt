@@ -1,0 +1,5 @@
+use Rattle.std.proofs.Common.{refl}
+use Rattle.x509_cert_lists.proofs.certificate_list.CertificateList.from_der.Goals as goal
+
+pub returns-clause-refused : goal.returns-clause-refused
+returns-clause-refused g c = c.from_der.ensures.refused refl refl
