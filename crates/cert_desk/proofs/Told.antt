@@ -11,18 +11,19 @@ use Rattle.cert_desk_checking.specs.DeskBundle.Decoding.{Decoding}
 use Rattle.cert_desk_listing.proofs.Der.HeadLaws.{fits_front, fits_rest, fits_contents}
 use Rattle.cert_desk_listing.specs.Der.Grammar.{plain_option}
 use Rattle.cert_desk_listing.specs.Der.Heads.{Fits, tlv}
+use Rattle.cert_desk_listing.specs.Der.Leaves.{named}
 use Rattle.cert_desk_listing.specs.Der.Limits.{levels_max}
 use Rattle.cert_desk_listing.specs.Der.Octets.{IsOctets}
-use Rattle.cert_desk_listing.specs.Der.Shapes.{octets_of, Shape, Value, IsValid, IsContent, IsBody, contents, body_octets}
+use Rattle.cert_desk_listing.specs.Der.Shapes.{octets_of, Shape, Value, IsValid, IsContent, IsBody, contents, body_octets, leaf, sequence_of, tagged}
 use Rattle.cert_desk_listing.specs.Der.Spelling.{is_apart, are_enough}
 use Rattle.cert_desk_listing.specs.Der.Tags.{context}
 use Rattle.x509_cert_builders.specs.Profiles.{authority_uses, authority_key_extension, constraints_extension, digital_signature, purposes_extension, subject_key_extension, usage_extension}
-use Rattle.cert_desk_orders.specs.CertParts.Grammar.{PlainExtension, PublicKey}
+use Rattle.cert_desk_orders.specs.CertParts.Grammar.{PlainExtension, PublicKey, is_critical, object_identifier}
 use Rattle.cert_desk_listing.specs.CertNames.Names.{PlainName}
 use Rattle.cert_desk_checking.specs.CertGeneralNames.GeneralNames.{general_names, general_name}
 use Rattle.cert_desk_checking.specs.DeskRules.Judging.{are_distinct}
 use Rattle.cert_desk_checking.specs.DeskRules.Paths.{is_within}
-use Rattle.cert_desk_checking.specs.DeskRules.Weighing.{Meaning, uses, purposes, is_authority, is_malformed, is_unweighed, is_unweighed_critical, may_certify, path_length, serves, weigh, constraints, other_names, unweighed, basic_constraints_in, constraints_of, key_usage, key_usage_in, extended_key_usage, extended_key_usage_in, subject_alt_name_in, meaning_of}
+use Rattle.cert_desk_checking.specs.DeskRules.Weighing.{Meaning, uses, purposes, is_authority, is_malformed, is_unweighed, may_certify, path_length, serves, weigh, constraints, other_names, unweighed, basic_constraints_in, constraints_of, key_usage_in, extended_key_usage_in, subject_alt_name_in, meaning_of}
 use Rattle.cert_desk_checking.proofs.DeskRules.Meanings.{basic_constraints, meaning_once}
 use Rattle.cert_desk_checking.proofs.DeskRules.Folds.{and_yes}
 use Rattle.x509_cert_builders.proofs.Encodable.{constraints_valid, purposes_valid, use_valid}
@@ -43,7 +44,7 @@ said s says v apart enough valid d = meaning_once s says (octets_of s v) apart e
 
 usage_says : (n : ℕ) → n < 2 ^ 9 → weigh Bound (usage_extension n) ≡ uses n
 unfolding identifier_octets arc_octets digits digits_within marked
-usage_says n h = said key_usage uses n refl refl (use_valid n h) (key_usage_in _)
+usage_says n h = said (tagged tags.BitString (leaf (named 9))) uses n refl refl (use_valid n h) (key_usage_in _)
 
 authority_says : (answers : Bool) → weigh Bound (usage_extension (authority_uses answers)) ≡ uses (authority_uses answers)
 authority_says true = usage_says (authority_uses true) (lit< tt)
@@ -72,7 +73,7 @@ constraints_say ca (Some n) h = said basic_constraints constraints_of (ca, (Some
 
 purposes_say : (clients : Bool) → weigh Bound (purposes_extension clients) ≡ purposes (profiles.purposes clients)
 unfolding identifier_octets arc_octets digits digits_within marked
-purposes_say clients = said (extended_key_usage Bound) purposes (profiles.purposes clients) refl refl (purposes_valid clients) (extended_key_usage_in Bound _)
+purposes_say clients = said (sequence_of (object_identifier Bound)) purposes (profiles.purposes clients) refl refl (purposes_valid clients) (extended_key_usage_in Bound _)
 
 -- SubjectAltName
 
@@ -176,7 +177,7 @@ module _ (role : Role) (p : PlainOrder) (k : PublicKey) (right : IsRight role p)
   none_unweighed roles.Subordinate = refl
   none_unweighed roles.Subscriber = ap (λ b. b || false) (no_and (length p.subject == 0))
 
-  pub all_weighed : list_any (is_unweighed_critical Bound) (extensions_for role p k) ≡ false
+  pub all_weighed : list_any (λ e. is_critical e && is_unweighed (weigh Bound e)) (extensions_for role p k) ≡ false
   all_weighed = any_is (λ t. t.0 && is_unweighed t.1) ∙ none_unweighed role
 
   certifying : (answers : Bool) → may_certify (uses (authority_uses answers)) ≡ true

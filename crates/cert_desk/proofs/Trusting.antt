@@ -17,18 +17,19 @@ use Rattle.cert_desk_listing.specs.CertCertificates.Certificates.{inner_algorith
 use Rattle.cert_desk_listing.specs.CertCertificates.Certificates.{not_before, outer_algorithm, public_key}
 use Rattle.cert_desk_listing.specs.CertCertificates.Certificates.{raw_certificate, raw_tbs_certificate, subject}
 use Rattle.cert_desk_listing.specs.CertCertificates.Certificates.{tbs, certificate_octets, signature_bits}
-use Rattle.cert_desk_orders.specs.CertParts.Grammar.{Algorithm, algorithm_identifier, PublicKey, civil_of}
+use Rattle.cert_desk_orders.specs.CertParts.Grammar.{Algorithm, algorithm_identifier, PublicKey, civil_of, is_critical}
 use Rattle.cert_desk_listing.specs.CertNames.Names.{name_octets}
 use Rattle.cert_desk_checking.specs.DeskBundle.Chains.{Chain, Stands}
 use Rattle.cert_desk_checking.specs.CertGeneralNames.GeneralNames.{general_names}
-use Rattle.cert_desk_checking.specs.DeskRules.Judging.{same_name, Answers, are_distinct, has_authority, keeps, keeps_at, signed_part}
+use Rattle.cert_desk_checking.specs.DeskRules.Judging.{Answers, are_distinct, has_authority, in_order, keeps, keeps_at, signed_part}
 use Rattle.cert_desk_orders.specs.Types.Seconds.{unix_seconds}
-use Rattle.cert_desk_checking.specs.DeskRules.Paths.{used_up, counts, is_last, is_self_issued, is_within, is_within_lengths, keep_lengths, keeps_length}
+use Rattle.cert_desk_checking.specs.DeskRules.Paths.{used_up, counts, is_last, is_self_issued, is_within, is_within_lengths, keep_lengths, keeps_length, same_name}
 use Rattle.cert_desk_checking.specs.DeskRules.Verdicts.{Trusted}
-use Rattle.cert_desk_checking.specs.DeskRules.Weighing.{path_length, weigh, is_authority, is_malformed, is_unweighed_critical, may_certify, serves}
+use Rattle.cert_desk_checking.specs.DeskRules.Weighing.{path_length, weigh, is_authority, is_malformed, is_unweighed, may_certify, serves}
 use Rattle.cert_desk_checking.specs.DeskRules.declared.rule.Rule.{Rule}
 use Rattle.cert_desk_checking.proofs.Encodings.{Stands-at, signed_part-is}
 use Rattle.cert_desk_checking.proofs.DeskRules.Folds.{or_yes}
+use Rattle.cert_desk_checking.proofs.DeskRules.RuleList.{broken_is}
 use Rattle.cert_desk_checking.proofs.DeskBundle.OneChain.{one_chain}
 use Rattle.cert_desk.specs.Allowances.{counted_orders, counts_order, path_in, subject_at, suffices_at, Suffices, allows, allows_one}
 use Rattle.cert_desk.specs.Chains.{HoldFront, HoldsOrders, AreSigned}
@@ -334,7 +335,7 @@ module _ (root : PlainOrder) (below : List PlainOrder) (cs : List PlainCertifica
     pub all_known : (place : ℕ) → (lt : place < length cs) → keeps_at rules.UnweighedCritical (terms_for root moment purpose answers) cs stream place ≡ true
     all_known place lt =
         let that = here place lt in
-        at_place rules.UnweighedCritical place lt ∙ ap (λ es. not (list_any (is_unweighed_critical Bound) es)) (extensions_are (root ∷ below) cs place that)
+        at_place rules.UnweighedCritical place lt ∙ ap (λ es. not (list_any (λ e. is_critical e && is_unweighed (weigh Bound e)) es)) (extensions_are (root ∷ below) cs place that)
         ∙ ap not (all_weighed (role_at (length (root ∷ below)) place) that.order that.above.key that.right (fits_at place lt))
 
     above_first : (lt : 0 < length cs) → (here 0 lt).above ≡ root
@@ -544,7 +545,8 @@ held_is_refused_for root below cs stream limit moment purpose answers place rule
     let same = one_chain Bound most r.certificates cs stream (wider_chain limit most r.certificates stream (omega arith) r.chain) (wider_chain length_max most cs stream (omega arith) h.chain) in
     breaks root below cs stream h moment purpose answers rule place
     (subst (λ ds. place < length ds) same r.within)
-    (subst (λ ds. keeps_at rule (terms_for root moment purpose answers) ds stream place ≡ false) same r.broken)
+    (subst (λ ds. keeps_at rule (terms_for root moment purpose answers) ds stream place ≡ false) same
+    (broken_is (λ other. keeps_at other (terms_for root moment purpose answers) r.certificates stream place) in_order rule r.first))
 
 pub signed_is_sliced : SignedIsSliced
 signed_is_sliced ps cs stream place c h c_is = ap (λ s. signed_part Bound cs s place c) h.chain.joins ∙ signed_part-is Bound cs place c c_is

@@ -8,8 +8,7 @@ use Rattle.cert_desk_listing.specs.Oid.Comparing.{owned_eq}
 use Rattle.cert_desk_orders.specs.Types.Seconds.{unix_seconds}
 use Rattle.x509_cert_builders.specs.Profiles.{id_kp}
 use Rattle.cert_desk_listing.specs.CertNames.Names.{PlainName}
-use Rattle.cert_desk_checking.specs.DeskRules.Judging.{same_name}
-use Rattle.cert_desk_checking.specs.DeskRules.Paths.{is_within}
+use Rattle.cert_desk_checking.specs.DeskRules.Paths.{is_within, same_name}
 use Rattle.cert_desk.specs.declared.role.Role.{Role}
 use Rattle.cert_desk.specs.declared.role.Role.TheVariants as roles
 use Rattle.cert_desk.specs.PlainOrders.{PlainOrder, begins, ends}

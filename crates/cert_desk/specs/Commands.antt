@@ -1,10 +1,33 @@
 -- What the program's words ask for.
-use Rattle.std.specs.Prelude.{◌≡◌, ℕ, ◌≤◌, List, [], ◌∷◌, codes}
-use Rattle.cert_desk_checking.specs.Arguments.{AskCheck}
+use Rattle.std.specs.Prelude.{◌≡◌, ℕ, ◌≤◌, ◌<◌, ◌^◌, List, [], ◌∷◌, length, codes}
+use Rattle.cert_desk_checking.specs.Arguments.{IsNumber}
+use Rattle.cert_desk_checking.specs.Oid.Bound.{Bound, max_size}
+use Rattle.cert_desk_checking.specs.Oid.IdentifierOctets.{identifier_octets, IsIdentifier}
+use Rattle.cert_desk_checking.specs.Oid.TextFaults.{IsDottedText}
 use Rattle.cert_desk_listing.specs.declared.file_kind.FileKind.{FileKind}
 use Rattle.cert_desk_listing.specs.Kinds.{kind_word}
 use Rattle.cert_desk.specs.declared.command.Command.{Command}
 use Rattle.cert_desk.specs.declared.command.Command.TheVariants as commands
+
+-- The words, behind the program's name, ask for a check: of this stream under these anchors, at a
+-- moment below 2^64, for the purpose of an identifier in dotted arcs, with a limit from 6 to 2^32 -
+-- 1.
+pub record AskCheck (words : List (List ℕ)) (anchors stream : List ℕ) (moment : ℕ)
+    (purpose : List ℕ) (limit : ℕ) : Type 0 where
+  pub name : List ℕ
+  pub moment_text : List ℕ
+  pub purpose_text : List ℕ
+  pub limit_text : List ℕ
+  pub are : words ≡ name ∷ codes "check" ∷ anchors ∷ stream ∷ moment_text ∷ purpose_text
+      ∷ limit_text ∷ []
+  pub moment_is : IsNumber moment moment_text
+  pub moment_fits : moment < 2 ^ 64
+  pub purpose_is : IsDottedText purpose purpose_text
+  pub purpose_valid : IsIdentifier Bound purpose
+  pub purpose_fits : length (identifier_octets purpose) ≤ max_size
+  pub limit_is : IsNumber limit limit_text
+  pub limit_least : 6 ≤ limit
+  pub limit_fits : limit < 2 ^ 32
 
 -- The words, behind the program's name, ask for the listing of a file of this kind.
 pub record AskShow (words : List (List ℕ)) (kind : FileKind) (file : List ℕ) : Type 0 where
@@ -15,6 +38,12 @@ pub record AskShow (words : List (List ℕ)) (kind : FileKind) (file : List ℕ)
 pub record AskIssue (words : List (List ℕ)) (orders : List ℕ) : Type 0 where
   pub name : List ℕ
   pub are : words ≡ name ∷ codes "issue" ∷ orders ∷ []
+
+-- the words ask for no check
+abbrev pub AskNoCheck : List (List ℕ) → Type 0
+AskNoCheck words =
+    (anchors stream : List ℕ) (moment : ℕ) (purpose : List ℕ) (limit : ℕ)
+    → AskCheck words anchors stream moment purpose limit → ⊥
 
 -- the words ask for no listing
 abbrev pub AskNoListing : List (List ℕ) → Type 0

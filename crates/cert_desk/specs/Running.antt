@@ -7,17 +7,16 @@ use Rattle.cert_desk_listing.specs.DeskIo.Devices.{Device, Untouched}
 use Rattle.cert_desk_listing.specs.DeskIo.NamedInputs.{AreUnopened, Inputs, IsUnopenedTold}
 use Rattle.cert_desk_listing.specs.DeskIo.NamedInputs.{OfOpened}
 use Rattle.cert_desk_listing.specs.DeskIo.Telling.{IsComplaint}
-use Rattle.cert_desk_checking.specs.declared.arguments.Arguments.{Arguments}
 use Rattle.cert_desk_checking.specs.declared.outcome.Outcome.{Outcome}
 use Rattle.cert_desk_checking.specs.Anchors.{purpose_plain}
-use Rattle.cert_desk_checking.specs.Arguments.{AskNoCheck}
 use Rattle.cert_desk_checking.specs.Runs.{IsOutcome, IsTold, IsUnasked, Judge}
 use Rattle.cert_desk.specs.Runs as issued
 use Rattle.cert_desk_listing.specs.declared.file_kind.FileKind.{FileKind}
 use Rattle.cert_desk_listing.specs.Shown as shown
+use Rattle.cert_desk.specs.declared.command.Arguments.{Arguments}
 use Rattle.cert_desk.specs.declared.command.Command.{Command}
 use Rattle.cert_desk.specs.declared.command.Command.TheVariants as commands
-use Rattle.cert_desk.specs.Commands.{AsksFor, AskNoChain, AskNoListing}
+use Rattle.cert_desk.specs.Commands.{AsksFor, AskNoChain, AskNoCheck, AskNoListing}
 
 -- Of the inputs of these names, which are opened in turn, one isn't, which is told.
 abbrev pub IsUnopened : Inputs → List (List ℕ) → Device → Device → ExitStatus → Type 0

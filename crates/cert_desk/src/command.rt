@@ -1,11 +1,67 @@
 //! What the program is asked for.
-ghost use Rattle.std.specs.Prelude.{map, IfSome, IfNone, string_bytes};
-ghost use Rattle.cert_desk_checking.specs.Arguments.{AskNoCheck};
-ghost use Rattle.cert_desk.specs.Commands.{AsksFor, AskShow, AskIssue, AskNoListing, AskNoChain};
-ghost use Rattle.cert_desk.specs.Commands.{HasLimit};
+ghost use Rattle.std.specs.Prelude.{◌≤◌, map, IfSome, IfNone, string_bytes};
+ghost use Rattle.cert_desk.specs.Commands.{AskCheck, AskIssue, AskNoChain, AskNoCheck};
+ghost use Rattle.cert_desk.specs.Commands.{AskNoListing, AskShow, AsksFor, HasLimit};
 
-use cert_desk_checking::Arguments;
+use cert_desk_checking::{limit_in, number_in};
 use cert_desk_listing::FileKind;
+use cert_desk_listing::oid::ObjectIdentifier;
+
+/// How the program is called, in one line.
+pub const USAGE: &str =
+    "usage: cert_desk check ANCHORS STREAM MOMENT PURPOSE LIMIT | show KIND FILE | issue ORDERS\n";
+
+/// The arguments of `check`.
+#[derive(Clone, Copy)]
+pub struct Arguments<'a> {
+    /// The file of the anchors: concatenated trust anchors (RFC 5914).
+    pub anchors: &'a str,
+    /// The file of the stream.
+    pub stream: &'a str,
+    /// The validation time: seconds since 1970-01-01T00:00:00Z.
+    pub moment: u64,
+    /// The key purpose that the chain is wanted for, as dotted arcs.
+    pub purpose: ObjectIdentifier<39>,
+    /// The greatest number of octets of a certificate of the stream.
+    pub limit: u32,
+}
+
+impl<'a> Arguments<'a> {
+    /// The arguments in these words, of which the first is the program's name.
+    ///
+    /// The validation time and the limit are one or more decimal digits, the time below 2^64, the
+    /// limit from 6 to 2^32 - 1. Leading zeros are read, and no sign.
+    pub fn parse(words: &'a [String]) -> Option<Arguments<'a>>
+        ensures read { IfSome result
+            (λ a. AskCheck (map string_bytes words.now) a.anchors.now a.stream.now
+            a.moment a.purpose a.limit) }
+        ensures limit { IfSome result (λ arguments. 6 ≤ arguments.limit) }
+        ensures refused { IfNone result (AskNoCheck (map string_bytes words.now)) }
+    {
+        let [_, command, anchors, stream, moment, purpose, limit] = words else {
+            return None;
+        };
+        if command.as_str() != "check" {
+            return None;
+        }
+        let Some(moment) = number_in(moment.as_str()) else {
+            return None;
+        };
+        let Ok(purpose) = ObjectIdentifier::<39>::new(purpose.as_str()) else {
+            return None;
+        };
+        let Some(limit) = limit_in(limit.as_str()) else {
+            return None;
+        };
+        Some(Arguments {
+            anchors: anchors.as_str(),
+            stream: stream.as_str(),
+            moment,
+            purpose,
+            limit,
+        })
+    }
+}
 
 /// What the program is asked for.
 #[derive(Clone, Copy)]

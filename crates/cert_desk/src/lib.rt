@@ -36,9 +36,8 @@ pub use cert_desk_checking::desk_rules::{
     SignatureJudge, Verdict,
 };
 pub use cert_desk_checking::{
-    Anchor, AnchorError, AnchorFault, AnchorsError, Arguments, Outcome, USAGE, anchors_line,
-    chain_lines, check, judge_each, read_anchors, read_stream, reason_of, run_check, status_of,
-    verdict_line,
+    Anchor, AnchorError, AnchorFault, AnchorsError, Outcome, anchors_line, chain_lines, check,
+    judge_each, read_anchors, read_stream, reason_of, run_check, status_of, verdict_line,
 };
 pub use cert_desk_listing::cert_certificates::{CertDigest, Certificate, CertificateInner};
 pub use cert_desk_listing::cert_lists::{CertReq, CertificateList};
@@ -56,6 +55,6 @@ pub use cert_desk_listing::{
 pub use cert_desk_orders::cert_parts::{AlgorithmIdentifier, Raw, SubjectPublicKeyInfo, Time};
 pub use cert_desk_orders::types::BitString;
 pub use cert_desk_orders::{Order, OrdersError, orders_in};
-pub use command::Command;
+pub use command::{Arguments, Command, USAGE};
 pub use running::obey;
 pub use x509_cert_builders::{SignError, Signer};

@@ -6,10 +6,10 @@ ghost use Rattle.cert_desk_checking.specs.Runs.{judging};
 ghost use Rattle.cert_desk.specs.Commands.{HasLimit};
 ghost use Rattle.cert_desk.specs.Running.{IsChecked, IsShown, IsIssued, IsRun, IsObeyed};
 
-use crate::command::Command;
+use crate::command::{Arguments, Command, USAGE};
 use crate::order_runs::run_orders;
 use cert_desk_checking::desk_rules::SignatureJudge;
-use cert_desk_checking::{Arguments, USAGE, run_check};
+use cert_desk_checking::run_check;
 use cert_desk_listing::desk_io::{ExitStatus, Input, NamedInputs, Output, complain, tell_unopened};
 use cert_desk_listing::{FileKind, run_show};
 use std::alloc::Global;

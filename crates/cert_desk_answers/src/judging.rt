@@ -20,11 +20,11 @@ ghost use Rattle.cert_desk_answers.specs.Judged.{AreGiven, IsUnanswered, SaysTru
 use crate::answer_lines::answers_in;
 use crate::no_answers::NoAnswers;
 use cert_desk_checking::desk_bundle::{Bundle, BundleError};
-use cert_desk_checking::desk_io::{ExitStatus, MemoryInput};
+use cert_desk_checking::desk_io::ExitStatus;
 use cert_desk_checking::desk_rules::{AnswersJudge, Verdict};
 use cert_desk_checking::laws::one_anchor_file;
 use cert_desk_checking::oid::ObjectIdentifier;
-use cert_desk_checking::{Anchor, AnchorsError, check, read_anchors};
+use cert_desk_checking::{Anchor, AnchorsError, anchors_in, check};
 use std::alloc::Global;
 
 /// The anchors that octets give (RFC 5914 2), or the status.
@@ -36,9 +36,7 @@ pub fn anchors_of(alloc: Global, octets: &[u8]) -> Result<Vec<Anchor>, ExitStatu
     ensures none { IfErr result
         (IsUnanswered ((given : List PlainAnchor) → IsAnchorFile octets.now given → ⊥)) }
 {
-    one_anchor_file();
-    let mut input = MemoryInput::new(octets, &[], None);
-    match read_anchors(alloc, &mut input) {
+    match anchors_in(alloc, octets) {
         Ok(anchors) => Ok(anchors),
         Err(AnchorsError::BadAnchors { .. }) => Err(ExitStatus::Arguments),
         Err(_) => Err(ExitStatus::Memory),

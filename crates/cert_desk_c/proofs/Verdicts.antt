@@ -1,5 +1,5 @@
 -- What is told of a chain that is judged.
-use Rattle.std.proofs.Common.{◌≡◌, ◌≤◌, ◌<◌, ◌^◌, ◌⊎◌, inl, inr, ℕ, List, [], length, Ok, refl, sym, ap, subst, ◌∙◌}
+use Rattle.std.proofs.Common.{◌≡◌, ◌≤◌, ◌<◌, ◌^◌, ◌⊎◌, inl, inr, ℕ, List, [], length, Ok, refl, sym, ap, subst, ◌∙◌, arith}
 use Rattle.cert_desk_listing.specs.DeskIo.declared.exit_status.ExitStatus.{ExitStatus}
 use Rattle.cert_desk_listing.specs.DeskIo.declared.exit_status.ExitStatus.TheVariants as statuses
 use Rattle.cert_desk_listing.specs.DeskIo.Statuses.{code_of}
@@ -10,7 +10,7 @@ use Rattle.cert_desk_answers.specs.DeskRules.declared.rule.Rule.{Rule}
 use Rattle.cert_desk_answers.specs.DeskRules.declared.checked.Verdict.{Verdict}
 use Rattle.cert_desk_answers.specs.DeskRules.declared.checked.Verdict.TheVariants as verdicts
 use Rattle.cert_desk_answers.specs.DeskRules.Answers.{only_yes_to}
-use Rattle.cert_desk_answers.specs.DeskRules.Judging.{PlainAnchor, Terms}
+use Rattle.cert_desk_answers.specs.DeskRules.Judging.{PlainAnchor, Terms, number}
 use Rattle.cert_desk_answers.specs.DeskRules.Questions.{Question}
 use Rattle.cert_desk_answers.specs.DeskRules.Verdicts.{Faulty, IsVerdict, Refused, Trusted}
 use Rattle.cert_desk_answers.specs.DeskChecking.declared.anchor_fault.AnchorFault.{AnchorFault}
@@ -22,7 +22,8 @@ use Rattle.cert_desk_answers.specs.declared.line_fault.LineFault.{LineFault}
 use Rattle.cert_desk_answers.specs.AnswerLines.{file_says}
 use Rattle.cert_desk_answers.specs.Judged.{AreGiven, IsUnanswered, UnderGiven}
 use Rattle.cert_desk_answers.proofs.Judged.{ok_is}
-use Rattle.cert_desk_c.specs.Judged.{IsVerdictStatus, UnderArguments}
+use Rattle.cert_desk_c.specs.Judged.{IsVerdictStatus, Tells, UnderArguments, UnderTerms}
+use Rattle.cert_desk_c.specs.declared.numbers.WdPlace.{WdPlace}
 use Rattle.cert_desk_c.proofs.Told.{one_identifier}
 
 -- Octets are anchors of one file.
@@ -100,3 +101,13 @@ module _ (answers anchors chain : List ℕ) (moment : ℕ) (purpose : List ℕ) 
   pub trusted_is_told : (n : ℕ) → IsTold n → IsSo statuses.Done → (n ≡ code_of statuses.Done) ⊎ (n ≡ code_of statuses.Memory)
   trusted_is_told n (inl told) h = inl ((told.exact statuses.Done).1 h)
   trusted_is_told n (inr memory) h = inr memory
+
+  -- what is told of a refused chain are the place and the rule of its verdict
+  pub refused_is_told : (verdict : Verdict) (old new : WdPlace) (n : ℕ) → n ≡ code_of (status_of verdict) → Tells verdict old new → IsJudged verdict → n ≡ code_of statuses.Refused → UnderTerms anchors answers moment purpose (λ t. (rule : Rule) × (new.number ≡ number rule) × Refused t limit chain new.place rule)
+  refused_is_told verdicts.Trusted old new n e tells so refused = absurd (omega (arith, e, refused))
+  refused_is_told (verdicts.StreamFault place offset kind) old new n e tells so refused = absurd (omega (arith, e, refused))
+  refused_is_told verdicts.Empty old new n e tells so refused = absurd (omega (arith, e, refused))
+  refused_is_told (verdicts.Refused place rule) old new n e tells so refused =
+      let it = so.1.2 in
+      let there = subst (λ (x : ℕ). Refused (run_terms it.0 moment so.1.0 (only_yes_to it.1)) limit chain x rule) (sym tells.0) it.4 in
+      (so.1.0, so.1.1, (it.0, it.1, it.2, it.3, (rule, tells.2, there)))

@@ -15,11 +15,10 @@ ghost use Rattle.cert_desk_listing.specs.Parts.{PlainList, PlainRequest, raw_cer
 ghost use Rattle.cert_desk_c.specs.FaultNumbers.{IsTold, fault_number};
 ghost use Rattle.cert_desk_c.specs.Values.{IsNoCertificate, IsNoList, IsNoRequest};
 
-use crate::reading::read_list;
 use cert_desk_answers::desk_rules::code;
 use cert_desk_listing::desk_io::ExitStatus;
 use cert_tool_describe::cert_certificates::CertificateInner;
-use cert_tool_describe::cert_lists::CertReq;
+use cert_tool_describe::cert_lists::{CertReq, CertificateList};
 use cert_tool_describe::cert_parts::Raw;
 use cert_tool_describe::der::making::is_want_of_memory;
 use cert_tool_describe::der::{Error, ErrorKind};
@@ -115,7 +114,7 @@ pub extern "C" fn wd_is_list(alloc: Global, octets: &[u8], fault: &mut WdFault) 
         ⊎ (result ≡ code_of Memory)) }
     ensures untouched { result ≢ code_of Faulty → fault.new ≡ fault.old }
 {
-    let _list = match read_list(alloc, octets) {
+    let _list = match CertificateList::<Raw>::from_der(alloc, octets) {
         Ok(list) => list,
         Err(error) => return tell(error, fault),
     };

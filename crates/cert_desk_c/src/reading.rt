@@ -1,9 +1,7 @@
 //! Decoding of values.
-ghost use Rattle.std.specs.Prelude.{◌≢◌, [], IfOk, IfErr};
+ghost use Rattle.std.specs.Prelude.{◌≢◌, IfOk, IfErr};
 ghost use Rattle.cert_tool_describe.specs.Oid.Bound.{Bound};
 ghost use Rattle.cert_tool_describe.specs.Der.ErrorTypes.ErrorKind.TheVariants.{OutOfMemory};
-ghost use Rattle.cert_tool_describe.specs.Der.Grammar.{read_whole};
-ghost use Rattle.cert_tool_describe.specs.Der.Reading.{Gives};
 ghost use Rattle.cert_tool_describe.specs.Der.Shapes.{Spells};
 ghost use Rattle.cert_tool_describe.specs.CertNames.Names.{name};
 ghost use Rattle.cert_tool_describe.specs.CertNames.Views.{name_plain};
@@ -50,27 +48,13 @@ pub(crate) fn certificate_of(
     }
 }
 
-/// Decodes a CRL.
-pub(crate) fn read_list(alloc: Global, octets: &[u8]) -> Result<CertificateList<Raw>, Error>
-    ensures spelled { IfOk result
-        (λ l. Spells (raw_certificate_list Bound) (certificate_list_plain l) octets.now) }
-    ensures refused { IfErr result (λ e. e.kind ≢ OutOfMemory → IsNoList octets.now) }
-    ensures exact { Gives (λ l. (certificate_list_plain l, [])) result
-        (read_whole (raw_certificate_list Bound) octets.now) }
-{
-    CertificateList::<Raw>::from_der(alloc, octets)
-}
-
 /// Decodes a CRL, or returns the status.
 pub(crate) fn list_of(alloc: Global, octets: &[u8]) -> Result<CertificateList<Raw>, ExitStatus>
     ensures spelled { IfOk result
         (λ l. Spells (raw_certificate_list Bound) (certificate_list_plain l) octets.now) }
     ensures refused { IfErr result (IsLack (IsNoList octets.now)) }
 {
-    match read_list(alloc, octets) {
-        Ok(list) => Ok(list),
-        Err(error) => Err(lack(&error)),
-    }
+    CertificateList::<Raw>::from_der(alloc, octets).map_err(|error| lack(&error))
 }
 
 /// Decodes a CSR, or returns the status.
@@ -78,10 +62,7 @@ pub(crate) fn request_of(alloc: Global, octets: &[u8]) -> Result<CertReq, ExitSt
     ensures spelled { IfOk result (λ r. Spells (cert_req Bound) (cert_req_plain r) octets.now) }
     ensures refused { IfErr result (IsLack (IsNoRequest octets.now)) }
 {
-    match CertReq::try_from_bytes(alloc, octets) {
-        Ok(request) => Ok(request),
-        Err(error) => Err(lack(&error)),
-    }
+    CertReq::try_from_bytes(alloc, octets).map_err(|error| lack(&error))
 }
 
 /// Decodes a name, or returns the status.
@@ -89,8 +70,5 @@ pub(crate) fn name_of(alloc: Global, octets: &[u8]) -> Result<Name, ExitStatus>
     ensures spelled { IfOk result (λ n. Spells (name Bound) (name_plain n) octets.now) }
     ensures refused { IfErr result (IsLack (IsNoName octets.now)) }
 {
-    match Name::from_der(alloc, octets) {
-        Ok(name) => Ok(name),
-        Err(error) => Err(lack(&error)),
-    }
+    Name::from_der(alloc, octets).map_err(|error| lack(&error))
 }

@@ -10,10 +10,11 @@ use Rattle.cert_tool_explain.specs.DeskIo.Telling.{IsAnswer, IsComplaint, IsDevi
 use Rattle.cert_tool_explain.specs.DeskIo.Telling.{IsMemoryTold}
 use Rattle.cert_tool_explain.specs.DeskIo.Whole.{IsUnread, IsWhole, most_octets}
 use Rattle.cert_tool_explain.specs.DeskRules.Questions.{Question}
+use Rattle.cert_tool_explain.specs.DeskChecking.declared.anchors_error.AnchorsError.{AnchorsError}
 use Rattle.cert_tool_explain.specs.DeskChecking.declared.outcome.Outcome.{Outcome}
 use Rattle.cert_tool_explain.specs.DeskChecking.declared.outcome.Outcome.TheVariants as outcomes
-use Rattle.cert_tool_explain.specs.DeskChecking.AnchorFiles.{HasFirstFault}
-use Rattle.cert_tool_explain.specs.DeskChecking.Runs.{status_of}
+use Rattle.cert_tool_explain.specs.DeskChecking.AnchorReading.{IsNoAnchorFile}
+use Rattle.cert_tool_explain.specs.DeskChecking.Runs.{outcome_of, status_of}
 use Rattle.cert_tool_explain.specs.DeskBundle.Streams.{Kept}
 use Rattle.cert_desk_answers.specs.declared.no_answers.NoAnswers.{NoAnswers}
 use Rattle.cert_tool.specs.Stops.{FedWithin, stop_of}
@@ -59,18 +60,12 @@ abbrev pub IsStreamSaid : Device → Device → Device → ℕ → ExitStatus �
 IsStreamSaid stream out err limit answer =
     (kept : Kept) × FedWithin stream limit kept × IsChainSaid (stop_of kept) out err answer
 
--- Why octets give no anchors: one of them is faulty, or there is no memory.
-abbrev pub AreNoAnchors : List ℕ → Outcome → Type 0
-AreNoAnchors octets (outcomes.BadAnchors offset fault) = HasFirstFault octets offset fault
-AreNoAnchors octets outcomes.OutOfMemory = Unit {0}
-AreNoAnchors octets _ = ⊥
-
 -- What is said under the anchors that octets give, or of octets that give none.
 abbrev pub IsSaidOf : List ℕ → Device → Device → Device → ℕ → ExitStatus → Type 0
 IsSaidOf octets stream out err limit answer =
     IsStreamSaid stream out err limit answer
-    ⊎ ((outcome : Outcome) × AreNoAnchors octets outcome × Untouched stream × Untouched out
-    × IsStopSaid err outcome answer)
+    ⊎ ((error : AnchorsError) × IsNoAnchorFile octets error × Untouched stream × Untouched out
+    × IsStopSaid err (outcome_of error) answer)
 
 -- The anchors are read whole, and then the stream; or what is told ends the run before.
 abbrev pub IsSaidUnder : Device → Device → Device → Device → ℕ → ExitStatus → Type 0

@@ -90,16 +90,17 @@ OfJudged tells i out err task answer Holds =
     ⊎ (IsUntimed tells task.moment × Untouched out × IsTried err clock_line
     × (answer ≡ statuses.Device))
 
--- A chain is judged by answers, at these seconds: the answers are read, and the run is as `check`
--- says under a judge that says yes to these alone; or there are none, which is told.
-abbrev pub IsJudged : Device → Device → Device → Device → Device → ℕ → Task → ExitStatus → Type 0
-IsJudged answers anchors stream out err seconds task answer =
+-- A chain is judged by answers: the answers are read, and the run is as `check` says under a judge
+-- that says yes to these alone; or there are none, which is told.
+abbrev pub IsJudged : Device → Device → Device → Device → Device → ℕ → List ℕ → ℕ → Bool
+    → ExitStatus → Type 0
+IsJudged answers anchors stream out err moment purpose limit json answer =
     ((listing : List Question) × (old_judge : AnswersJudge) × (new_judge : AnswersJudge)
     × (outcome : Outcome) × AreAnswers answers (Ok listing)
     × (judge_answers old_judge ≡ only_yes_to listing) × (judge_questions old_judge ≡ 0)
     × IsOutcome anchors stream (judging judge_answers judge_questions old_judge new_judge)
-    seconds (purpose_plain task.purpose) task.limit outcome
-    × IsToldAs task.json out err outcome answer)
+    moment (purpose_plain purpose) limit outcome
+    × IsToldAs json out err outcome answer)
     ⊎ ((none : NoAnswers) × AreAnswers answers (Err none) × Untouched anchors × Untouched stream
     × Untouched out × IsNoneTold err none answer)
 
@@ -107,7 +108,8 @@ IsJudged answers anchors stream out err seconds task answer =
 abbrev pub IsVerified : Clock → Inputs → Device → Device → Task → ExitStatus → Type 0
 IsVerified tells i out err task answer =
     OfJudged tells i out err task answer (λ answers anchors stream seconds.
-    ToldFirst err (λ told. IsJudged answers anchors stream out told seconds task answer))
+    ToldFirst err (λ told. IsJudged answers anchors stream out told seconds task.purpose task.limit
+    task.json answer))
 
 -- `explain chain`
 abbrev pub IsChainExplained : Clock → Inputs → Device → Device → Task → ExitStatus

@@ -14,7 +14,7 @@ use Rattle.cert_tool_explain.specs.DeskRules.declared.checked.Verdict.TheVariant
 use Rattle.cert_tool_explain.specs.DeskChecking.declared.outcome.Outcome.{Outcome}
 use Rattle.cert_tool_explain.specs.DeskChecking.declared.outcome.Outcome.TheVariants as outcomes
 use Rattle.cert_tool_explain.specs.DeskBundle.FaultNames.{kind_name}
-use Rattle.cert_tool_explain.specs.DeskRules.RuleNames.{rule_name}
+use Rattle.cert_tool_explain.specs.DeskRules.Judging.{rule_name}
 use Rattle.cert_tool_explain.specs.DeskChecking.Lines.{line_of}
 use Rattle.cert_tool_explain.specs.DeskRules.Questions.{Question}
 use Rattle.cert_tool_explain.specs.DeskChecking.Runs.{status_of}

@@ -22,17 +22,17 @@ pub enum Moment {
     Seconds(u64),
 }
 
-// What a chain is judged under, but for its anchors.
+/// What a chain is judged under, but for its anchors.
 #[derive(Clone, Copy)]
-pub(crate) struct Terms {
-    // Seconds since 1970-01-01T00:00:00Z.
-    pub(crate) moment: u64,
-    // What the chain is wanted for.
-    pub(crate) purpose: ObjectIdentifier<39>,
-    // The most octets that a certificate may have.
-    pub(crate) limit: u32,
-    // Whether JSON is written.
-    pub(crate) is_json: bool,
+pub struct Terms {
+    /// Seconds since 1970-01-01T00:00:00Z.
+    pub moment: u64,
+    /// What the chain is wanted for.
+    pub purpose: ObjectIdentifier<39>,
+    /// The most octets that a certificate may have.
+    pub limit: u32,
+    /// Whether JSON is written.
+    pub is_json: bool,
 }
 
 // The seconds of a moment that isn't `now`: a date, or a number of seconds.

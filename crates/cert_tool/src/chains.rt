@@ -5,7 +5,7 @@ ghost use Rattle.cert_tool_explain.specs.DeskIo.Devices.{sink, source};
 ghost use Rattle.cert_tool_explain.specs.DeskIo.NamedInputs.{inputs};
 ghost use Rattle.cert_tool.specs.Stops.{IsTried};
 ghost use Rattle.cert_tool.specs.TaskRuns.{IsMeant, IsUntimed, IsUnopened, judged_names};
-ghost use Rattle.cert_tool.specs.TaskRuns.{IsJudged, IsVerified, IsChainExplained, IsListedFor};
+ghost use Rattle.cert_tool.specs.TaskRuns.{IsVerified, IsChainExplained, IsListedFor};
 ghost use Rattle.cert_tool.specs.TaskRuns.{clock_line};
 
 use crate::arguments::{Moment, Terms};
@@ -15,17 +15,9 @@ use crate::explaining::explain_chain;
 use crate::files::{open, tell_failure};
 use crate::tasks::Task;
 use crate::telling::tell_more;
-use crate::verifying::{run_verify, tell_none};
+use crate::verifying::{Opened, run_verify};
 use cert_tool_explain::desk_io::{ExitStatus, Input, NamedInputs, Output, write_all};
 use std::alloc::Global;
-
-// The inputs of a chain that is judged.
-#[derive(Drop)]
-struct Opened<I> {
-    answers: I,
-    anchors: I,
-    stream: I,
-}
 
 // The seconds that are meant, if the clock tells the present.
 fn seconds_of<C: UnixClock>(clock: &C, moment: Moment) -> Option<u64>
@@ -75,46 +67,6 @@ fn open_all<I: Input + Drop, F: NamedInputs<I>, E: Output>(
     })
 }
 
-// Judges a chain by answers, whether there are any or none, and notes which.
-fn judged<I: Input, O: Output, E: Output>(
-    alloc: Global,
-    answers: &mut I,
-    anchors: &mut I,
-    stream: &mut I,
-    out: &mut O,
-    err: &mut E,
-    seconds: u64,
-    task: &Task<'_>,
-    are_read: &mut bool,
-) -> ExitStatus
-    requires { 6 ≤ task.now.limit }
-    ensures { IsJudged (source I.takes I.is_ended I.failures answers.old answers.new)
-        (source I.takes I.is_ended I.failures anchors.old anchors.new)
-        (source I.takes I.is_ended I.failures stream.old stream.new)
-        (sink O.gives O.failures out.old out.new) (sink E.gives E.failures err.old err.new)
-        seconds task.now result }
-{
-    let verified = run_verify(
-        alloc,
-        answers,
-        anchors,
-        stream,
-        out,
-        err,
-        seconds,
-        &task.purpose,
-        task.limit,
-        task.json,
-    );
-    match verified {
-        Ok(status) => status,
-        Err(none) => {
-            *are_read = false;
-            tell_none(alloc, none, err)
-        }
-    }
-}
-
 // `verify`.
 pub(crate) fn verify<C: UnixClock, I: Input + Drop, F: NamedInputs<I>, O: Output, E: Output>(
     alloc: Global,
@@ -133,29 +85,21 @@ pub(crate) fn verify<C: UnixClock, I: Input + Drop, F: NamedInputs<I>, O: Output
     let Some(seconds) = seconds_of(clock, task.moment) else {
         return tell_untimed(err);
     };
-    let Opened {
-        mut answers,
-        mut anchors,
-        mut stream,
-    } = match open_all(alloc, files, task, err) {
+    let mut opened = match open_all(alloc, files, task, err) {
         Ok(opened) => opened,
         Err(status) => return status,
     };
+    let terms = Terms {
+        moment: seconds,
+        purpose: task.purpose,
+        limit: task.limit,
+        is_json: task.json,
+    };
     let mut are_read = true;
-    let status = judged(
-        alloc,
-        &mut answers,
-        &mut anchors,
-        &mut stream,
-        out,
-        err,
-        seconds,
-        task,
-        &mut are_read,
-    );
-    tell_failure(alloc, files, &answers, task.answers, err);
-    tell_failure(alloc, files, &anchors, task.anchors, err);
-    tell_failure(alloc, files, &stream, task.file, err);
+    let status = run_verify(alloc, &mut opened, out, err, terms, &mut are_read);
+    tell_failure(alloc, files, &opened.answers, task.answers, err);
+    tell_failure(alloc, files, &opened.anchors, task.anchors, err);
+    tell_failure(alloc, files, &opened.stream, task.file, err);
     tell_more(alloc, task, are_read, status, err);
     status
 }
@@ -178,11 +122,7 @@ pub(crate) fn explain<C: UnixClock, I: Input + Drop, F: NamedInputs<I>, O: Outpu
     let Some(moment) = seconds_of(clock, task.moment) else {
         return tell_untimed(err);
     };
-    let Opened {
-        mut answers,
-        mut anchors,
-        mut stream,
-    } = match open_all(alloc, files, task, err) {
+    let mut opened = match open_all(alloc, files, task, err) {
         Ok(opened) => opened,
         Err(status) => return status,
     };
@@ -192,18 +132,10 @@ pub(crate) fn explain<C: UnixClock, I: Input + Drop, F: NamedInputs<I>, O: Outpu
         limit: task.limit,
         is_json: task.json,
     };
-    let status = explain_chain(
-        alloc,
-        &mut answers,
-        &mut anchors,
-        &mut stream,
-        out,
-        err,
-        terms,
-    );
-    tell_failure(alloc, files, &answers, task.answers, err);
-    tell_failure(alloc, files, &anchors, task.anchors, err);
-    tell_failure(alloc, files, &stream, task.file, err);
+    let status = explain_chain(alloc, &mut opened, out, err, terms);
+    tell_failure(alloc, files, &opened.answers, task.answers, err);
+    tell_failure(alloc, files, &opened.anchors, task.anchors, err);
+    tell_failure(alloc, files, &opened.stream, task.file, err);
     status
 }
 

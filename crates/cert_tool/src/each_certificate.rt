@@ -79,11 +79,11 @@ fn told(verdict: Verdict) -> Outcome
 // How certificates are described: as lines or as lines of JSON, with digests or without; and
 // whether a line on the error output counts them.
 #[derive(Drop)]
-struct Form {
-    alloc: Global,
-    is_json: bool,
-    has_digests: bool,
-    is_watched: bool,
+pub(crate) struct Form {
+    pub(crate) alloc: Global,
+    pub(crate) is_json: bool,
+    pub(crate) has_digests: bool,
+    pub(crate) is_watched: bool,
 }
 
 // After how many certificates that line is told again.
@@ -305,16 +305,14 @@ fn write_each<S: Input, O: Output, E: Output>(
 }
 
 // Writes what each certificate of a stream says, in turn, and then tells what ended the stream
-// early, if something did. Where `is_watched`, a line on the error output counts them meanwhile.
+// early, if something did. Where the form is watched, a line on the error output counts them
+// meanwhile.
 pub(crate) fn run_describe<S: Input, O: Output, E: Output>(
-    alloc: Global,
+    form: &Form,
     stream: &mut S,
     out: &mut O,
     err: &mut E,
     limit: u32,
-    is_json: bool,
-    has_digests: bool,
-    is_watched: bool,
 ) -> ExitStatus
     requires { 6 ≤ limit }
     ensures told { (ended : Option Outcome)
@@ -323,17 +321,11 @@ pub(crate) fn run_describe<S: Input, O: Output, E: Output>(
         × ToldLast (sink E.gives E.failures err.old err.new)
         (λ last. IsEndTold last ended result) }
 {
-    let form = Form {
-        alloc,
-        is_json,
-        has_digests,
-        is_watched,
-    };
-    let mut ahead = Ahead::new(alloc, limit);
-    let ended = write_each(&form, &mut ahead, stream, out, err, limit);
+    let mut ahead = Ahead::new(form.alloc, limit);
+    let ended = write_each(form, &mut ahead, stream, out, err, limit);
     form.erase_count(err);
     match ended {
         None => ExitStatus::Done,
-        Some(outcome) => tell_stop(alloc, outcome, err),
+        Some(outcome) => tell_stop(form.alloc, outcome, err),
     }
 }

@@ -1,22 +1,20 @@
 //! Why chains are refused.
 
-ghost use Rattle.std.specs.Prelude.{◌≤◌, length, IfErr};
+ghost use Rattle.std.specs.Prelude.{◌≤◌, length};
 ghost use Rattle.cert_tool_explain.specs.DeskIo.Devices.{sink, source};
 ghost use Rattle.cert_tool_explain.specs.DeskIo.Whole.{most_octets};
-ghost use Rattle.cert_tool.specs.Explaining.{AreNoAnchors, IsExplained, IsSaidOf};
+ghost use Rattle.cert_tool.specs.Explaining.{IsExplained, IsSaidOf};
 ghost use Rattle.cert_tool.specs.Explaining.{IsSaidUnder, IsStopSaid, IsStreamSaid};
 
 use crate::arguments::Terms;
 use crate::reading::{read_input, tell_text};
 use crate::stream_fault::stop_of;
-use crate::verifying::{read_answers, tell_none};
+use crate::verifying::{Opened, read_answers, tell_none};
 use cert_tool_explain::desk_bundle::Bundle;
 use cert_tool_explain::desk_checking::{
-    Anchor, AnchorsError, Outcome, judge_each, read_anchors, read_stream, status_of,
+    Anchor, Outcome, anchors_in, judge_each, read_stream, status_of,
 };
-use cert_tool_explain::desk_io::{
-    ExitStatus, FromRead, Input, Output, complain, tell_device, tell_memory,
-};
+use cert_tool_explain::desk_io::{ExitStatus, Input, Output, complain, tell_device, tell_memory};
 use cert_tool_explain::desk_rules::{Answer, AnswersJudge, KeptRules, Verdict};
 use cert_tool_explain::tool_lines::Lines;
 use cert_tool_explain::{Heard, Judged, add_chain};
@@ -75,21 +73,6 @@ fn explained(
         purpose: &terms.purpose,
     };
     told(alloc, bundle, &judged, terms.is_json)
-}
-
-// The anchors that octets give, or why they give none.
-fn anchors_in(alloc: Global, octets: &[u8]) -> Result<Vec<Anchor>, Outcome>
-    requires { length octets.now ≤ most_octets }
-    ensures { IfErr result (AreNoAnchors octets.now) }
-{
-    match read_anchors(alloc, &mut FromRead::new(octets)) {
-        Ok(anchors) => Ok(anchors),
-        Err(AnchorsError::BadAnchors { offset, fault }) => {
-            Err(Outcome::BadAnchors { offset, fault })
-        }
-        // No read of octets in memory fails.
-        Err(AnchorsError::Device | AnchorsError::OutOfMemory) => Err(Outcome::OutOfMemory),
-    }
 }
 
 // Tells why there is no chain to explain, and answers the status.
@@ -167,7 +150,7 @@ fn explain_under<I: Input, O: Output, E: Output>(
             err,
             terms,
         ),
-        Err(outcome) => tell_no_chain(err, outcome),
+        Err(error) => tell_no_chain(err, Outcome::from(error)),
     }
 }
 
@@ -203,23 +186,29 @@ fn explain_by<I: Input, O: Output, E: Output>(
 // The answers are read first, and told as `run_verify` tells them where there are none.
 pub(crate) fn explain_chain<I: Input, O: Output, E: Output>(
     alloc: Global,
-    answers: &mut I,
-    anchors: &mut I,
-    stream: &mut I,
+    inputs: &mut Opened<I>,
     out: &mut O,
     err: &mut E,
     terms: Terms,
 ) -> ExitStatus
     requires { 6 ≤ terms.limit }
     ensures explained { IsExplained
-        (source I.takes I.is_ended I.failures answers.old answers.new)
-        (source I.takes I.is_ended I.failures anchors.old anchors.new)
-        (source I.takes I.is_ended I.failures stream.old stream.new)
+        (source I.takes I.is_ended I.failures inputs.old.answers inputs.new.answers)
+        (source I.takes I.is_ended I.failures inputs.old.anchors inputs.new.anchors)
+        (source I.takes I.is_ended I.failures inputs.old.stream inputs.new.stream)
         (sink O.gives O.failures out.old out.new) (sink E.gives E.failures err.old err.new)
         terms.limit result }
 {
-    match read_answers(alloc, answers) {
-        Ok(answers) => explain_by(alloc, answers, anchors, stream, out, err, terms),
+    match read_answers(alloc, &mut inputs.answers) {
+        Ok(answers) => explain_by(
+            alloc,
+            answers,
+            &mut inputs.anchors,
+            &mut inputs.stream,
+            out,
+            err,
+            terms,
+        ),
         Err(none) => tell_none(alloc, none, err),
     }
 }

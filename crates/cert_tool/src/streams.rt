@@ -7,7 +7,7 @@ ghost use Rattle.cert_tool_explain.specs.DeskBundle.Streams.{Kept};
 ghost use Rattle.cert_tool.specs.Stops.{FedWithin};
 ghost use Rattle.cert_tool.specs.TaskRuns.{IsEachDescribed, IsSplitAt, IsSplit, IsTurned};
 
-use crate::each_certificate::run_describe;
+use crate::each_certificate::{Form, run_describe};
 use crate::files::{open, tell_failure};
 use crate::splitting::{run_list, run_reverse, run_take};
 use crate::tasks::Task;
@@ -117,16 +117,13 @@ pub(crate) fn describe_each<I: Input + Drop, F: NamedInputs<I>, O: Output, E: Ou
         Ok(stream) => stream,
         Err(status) => return status,
     };
-    let status = run_describe(
+    let form = Form {
         alloc,
-        &mut stream,
-        out,
-        err,
-        task.limit,
-        task.json,
-        task.digests,
+        is_json: task.json,
+        has_digests: task.digests,
         is_watched,
-    );
+    };
+    let status = run_describe(&form, &mut stream, out, err, task.limit);
     tell_behind(alloc, files, &stream, task, status, err);
     status
 }

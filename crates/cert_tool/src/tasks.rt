@@ -271,10 +271,8 @@ impl Command {
         let [key, rest @ ..] = keys else {
             return Ok(());
         };
-        match self.keeps(file, given, *key) {
-            Ok(()) => self.keeps_each(file, given, rest),
-            Err(misuse) => Err(misuse),
-        }
+        self.keeps(file, given, *key)?;
+        self.keeps_each(file, given, rest)
     }
 
     // Whether that is so of all options.
@@ -332,10 +330,7 @@ fn moment_of<'a>(given: &Given<'a>) -> Result<Moment, &'a str>
     ensures amiss { IfErr result (λ text. IsNoValue Key.At text.now (given_plain given.now)) }
 {
     let text = text_of(given, Key::At, "now");
-    match moment_in(text) {
-        Some(moment) => Ok(moment),
-        None => Err(text),
-    }
+    moment_in(text).ok_or(text)
 }
 
 // The key purpose that is asked for; the text that is none is the error.
@@ -345,10 +340,7 @@ fn purpose_of<'a>(given: &Given<'a>) -> Result<ObjectIdentifier<39>, &'a str>
     ensures amiss { IfErr result (λ text. IsNoValue Key.Purpose text.now (given_plain given.now)) }
 {
     let text = text_of(given, Key::Purpose, "serverAuth");
-    match purpose_in(text) {
-        Ok(purpose) => Ok(purpose),
-        Err(_) => Err(text),
-    }
+    purpose_in(text).map_err(|_| text)
 }
 
 // The most octets that are asked for; the text that is no such number is the error.
@@ -357,10 +349,7 @@ fn limit_of<'a>(given: &Given<'a>) -> Result<u32, &'a str>
     ensures amiss { IfErr result (λ text. IsNoValue Key.Limit text.now (given_plain given.now)) }
 {
     let text = text_of(given, Key::Limit, "65536");
-    match limit_in(text) {
-        Some(limit) => Ok(limit),
-        None => Err(text),
-    }
+    limit_in(text).ok_or(text)
 }
 
 // The place that is asked for, if one is; the text that is none is the error.
@@ -408,22 +397,10 @@ fn task_of<'a>(command: Command, file: &'a str, given: &Given<'a>) -> Result<Tas
     if is_octets_in_json(given) {
         return Err(Misuse::OctetsInJson);
     }
-    let moment = match moment_of(given) {
-        Ok(moment) => moment,
-        Err(text) => return Err(Misuse::Wrong(Key::At, text)),
-    };
-    let purpose = match purpose_of(given) {
-        Ok(purpose) => purpose,
-        Err(text) => return Err(Misuse::Wrong(Key::Purpose, text)),
-    };
-    let limit = match limit_of(given) {
-        Ok(limit) => limit,
-        Err(text) => return Err(Misuse::Wrong(Key::Limit, text)),
-    };
-    let place = match place_in(given) {
-        Ok(place) => place,
-        Err(text) => return Err(Misuse::Wrong(Key::Place, text)),
-    };
+    let moment = moment_of(given).map_err(|text| Misuse::Wrong(Key::At, text))?;
+    let purpose = purpose_of(given).map_err(|text| Misuse::Wrong(Key::Purpose, text))?;
+    let limit = limit_of(given).map_err(|text| Misuse::Wrong(Key::Limit, text))?;
+    let place = place_in(given).map_err(|text| Misuse::Wrong(Key::Place, text))?;
     Ok(Task {
         command,
         file,

@@ -1,17 +1,13 @@
 //! Runs that judge a chain by answers.
 
-ghost use Rattle.std.specs.Prelude.{◌≡◌, ◌≤◌, List, map, IfOk, IfErr, OnErr, Ok, Err, string_bytes};
+ghost use Rattle.std.specs.Prelude.{◌≡◌, ◌≤◌, map, IfOk, IfErr, Ok, Err, string_bytes};
 ghost use Rattle.cert_tool_explain.specs.DeskIo.Devices.{sink, source};
-ghost use Rattle.cert_tool_explain.specs.DeskChecking.declared.outcome.Outcome.{Outcome};
-ghost use Rattle.cert_tool_explain.specs.DeskChecking.Anchors.{purpose_plain};
-ghost use Rattle.cert_tool_explain.specs.DeskRules.Questions.{Question};
-ghost use Rattle.cert_tool_explain.specs.DeskChecking.Runs.{IsOutcome, judging};
-ghost use Rattle.cert_tool_explain.specs.DeskRules.declared.answers_judge.AnswersJudge.{AnswersJudge};
-ghost use Rattle.cert_tool_explain.specs.DeskRules.Answers.{answer_plain, only_yes_to};
-ghost use Rattle.cert_tool_explain.specs.DeskRules.Judges.{judge_answers, judge_questions};
+ghost use Rattle.cert_tool_explain.specs.DeskRules.Answers.{answer_plain};
+ghost use Rattle.cert_tool.specs.TaskRuns.{IsJudged};
 ghost use Rattle.cert_tool.specs.Verifying.{AreAnswers, IsNoneTold, IsToldAs, wrong_line};
 ghost use Rattle.cert_tool.specs.Verifying.{verdict_json, verdict_text};
 
+use crate::arguments::Terms;
 use crate::stopping::tell_stop;
 use cert_desk_answers::{LineFault, NoAnswers, answers_in};
 use cert_tool_explain::desk_checking::{Outcome, find_outcome, status_of, verdict_line};
@@ -19,8 +15,15 @@ use cert_tool_explain::desk_io::{
     ExitStatus, Input, Output, ReadAllError, answer, complain, read_all, tell_device, tell_memory,
 };
 use cert_tool_explain::desk_rules::{Answer, AnswersJudge, Checked, Verdict};
-use cert_tool_explain::oid::ObjectIdentifier;
 use std::alloc::{AllocError, Global};
+
+/// The inputs of a chain that is judged.
+#[derive(Drop)]
+pub struct Opened<I> {
+    pub answers: I,
+    pub anchors: I,
+    pub stream: I,
+}
 
 /// The answers that an input gives, to its end, as `answers_in` reads them.
 ///
@@ -131,45 +134,40 @@ fn tell_outcome<O: Output, E: Output>(
 /// JSON: an object with the members `verdict`, `place`, `rule`, `offset`, `kind` and `calls`, of
 /// which it has those that its line has.
 ///
-/// The answers are read first, as `read_answers` reads them.
-///
-/// # Errors
-///
-/// Those of `read_answers`. Nothing else is read then, and nothing told.
-pub fn run_verify<N: Input, A: Input, S: Input, O: Output, E: Output>(
+/// The answers are read first, as `read_answers` reads them. Where there are none, that is told,
+/// `are_read` becomes false, and nothing else is touched.
+pub fn run_verify<I: Input, O: Output, E: Output>(
     alloc: Global,
-    answers: &mut N,
-    anchors: &mut A,
-    stream: &mut S,
+    inputs: &mut Opened<I>,
     out: &mut O,
     err: &mut E,
-    moment: u64,
-    purpose: &ObjectIdentifier<39>,
-    limit: u32,
-    json: bool,
-) -> Result<ExitStatus, NoAnswers>
-    requires { 6 ≤ limit }
-    // The file says these answers, and what is found and told is what `run_check` finds under a
-    // judge that says yes to these alone.
-    ensures judged { IfOk result (λ status. (listing : List Question) × (old_judge : AnswersJudge)
-        × (new_judge : AnswersJudge) × (outcome : Outcome)
-        × AreAnswers (source N.takes N.is_ended N.failures answers.old answers.new) (Ok listing)
-        × (judge_answers old_judge ≡ only_yes_to listing)
-        × (judge_questions old_judge ≡ 0)
-        × IsOutcome (source A.takes A.is_ended A.failures anchors.old anchors.new)
-        (source S.takes S.is_ended S.failures stream.old stream.new)
-        (judging judge_answers judge_questions old_judge new_judge)
-        moment (purpose_plain purpose.now) limit outcome
-        × IsToldAs json (sink O.gives O.failures out.old out.new)
-        (sink E.gives E.failures err.old err.new) outcome status) }
-    // The file says no answers, and nothing else is touched.
-    ensures none { IfErr result (λ none. AreAnswers
-        (source N.takes N.is_ended N.failures answers.old answers.new) (Err none)) }
-    ensures untouched { OnErr result ((anchors.new ≡ anchors.old) × (stream.new ≡ stream.old)
-        × (out.new ≡ out.old) × (err.new ≡ err.old)) }
+    terms: Terms,
+    are_read: &mut bool,
+) -> ExitStatus
+    requires { 6 ≤ terms.limit }
+    ensures judged { IsJudged
+        (source I.takes I.is_ended I.failures inputs.old.answers inputs.new.answers)
+        (source I.takes I.is_ended I.failures inputs.old.anchors inputs.new.anchors)
+        (source I.takes I.is_ended I.failures inputs.old.stream inputs.new.stream)
+        (sink O.gives O.failures out.old out.new) (sink E.gives E.failures err.old err.new)
+        terms.moment terms.purpose terms.limit terms.is_json result }
 {
-    let answers = read_answers(alloc, answers)?;
+    let answers = match read_answers(alloc, &mut inputs.answers) {
+        Ok(answers) => answers,
+        Err(none) => {
+            *are_read = false;
+            return tell_none(alloc, none, err);
+        }
+    };
     let mut judge = AnswersJudge::new(answers);
-    let outcome = find_outcome(alloc, anchors, stream, moment, purpose, limit, &mut judge);
-    Ok(tell_outcome(alloc, outcome, json, out, err))
+    let outcome = find_outcome(
+        alloc,
+        &mut inputs.anchors,
+        &mut inputs.stream,
+        terms.moment,
+        &terms.purpose,
+        terms.limit,
+        &mut judge,
+    );
+    tell_outcome(alloc, outcome, terms.is_json, out, err)
 }

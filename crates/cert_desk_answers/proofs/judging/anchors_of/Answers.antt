@@ -1,11 +1,8 @@
-use Rattle.std.proofs.Common.{inl, refl, subst}
-use Rattle.cert_desk_checking.specs.Runs.{HasNoAnchors}
-use Rattle.cert_desk_answers.proofs.Judged.{memory, no_anchors}
+use Rattle.std.proofs.Common.{inl, refl}
+use Rattle.cert_desk_checking.proofs.OneAnchorFile.{not_whole}
 use Rattle.cert_desk_answers.proofs.judging.anchors_of.Goals as goal
 
 pub returns-in-Err-BadAnchors-clause-none : goal.returns-in-Err-BadAnchors-clause-none
 returns-in-Err-BadAnchors-clause-none c =
-    let before = c.new-input.result in
-    let behind = c.read_anchors.new.input in
-    let bad = subst (λ o. HasNoAnchors (memory before behind) o) c.in-Err-BadAnchors.field-0-is c.in-Err-BadAnchors.ensures.stopped in
-    inl (refl, no_anchors before behind c.args.octets.now c.in-Err-BadAnchors.field-0-0 c.in-Err-BadAnchors.field-0-1 c.one_anchor_file.ensures c.new-input.ensures.octets c.requires bad)
+    let wrong = rw c.in-Err-BadAnchors.field-0-is at c.in-Err-BadAnchors.ensures.refused in
+    inl (refl, λ given is. not_whole c.args.octets.now given c.in-Err-BadAnchors.field-0-0 c.in-Err-BadAnchors.field-0-1 is wrong)

@@ -1,5 +1,5 @@
 use Rattle.std.proofs.Common.{inl, sym, ◌∙◌, arith}
-use Rattle.cert_desk_c.proofs.Verdicts.{judged, misasked, trusted_is_told, unanswered}
+use Rattle.cert_desk_c.proofs.Verdicts.{judged, misasked, refused_is_told, trusted_is_told, unanswered}
 use Rattle.cert_desk_c.proofs.judging.wd_verify.Goals as goal
 use Rattle.cert_desk_c.proofs.judging.wd_verify.Goals.{then-limit-lt6-via-then-limit-lt6, then-limit-lt6-via-else-limit-lt6+then-anchors}
 
@@ -23,6 +23,11 @@ pub returns-clause-statuses : goal.returns-clause-statuses
 returns-clause-statuses c =
     inl (judged c.args.answers.now c.args.anchors.now c.args.chain.now c.args.moment c.args.purpose.now c.args.limit c.in-Ok-verdict_of.verdict c.tell.result c.tell.ensures.status
     ((omega arith, omega arith), (c.in-Ok.purpose, c.in-Ok.ensures.ok, c.in-Ok-verdict_of.ensures.judged)))
+
+pub returns-clause-refused : goal.returns-clause-refused
+returns-clause-refused c =
+    refused_is_told c.args.answers.now c.args.anchors.now c.args.chain.now c.args.moment c.args.purpose.now c.args.limit c.in-Ok-verdict_of.verdict c.args.told.now c.tell.new.told c.tell.result c.tell.ensures.status c.tell.ensures.tells
+    ((omega arith, omega arith), (c.in-Ok.purpose, c.in-Ok.ensures.ok, c.in-Ok-verdict_of.ensures.judged))
 
 pub returns-in-Err-clause-only : goal.returns-in-Err-clause-only
 returns-in-Err-clause-only c = λ given listing arcs l s a f p i n t.

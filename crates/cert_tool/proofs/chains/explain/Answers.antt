@@ -9,9 +9,9 @@ returns-in_default g c =
 
 pub returns : goal.returns
 returns g c =
-    let answers = source g.I.Input.takes g.I.Input.is_ended g.I.Input.failures c.in-Ok.opened.answers c.explain_chain-status.new.answers in
-    let anchors = source g.I.Input.takes g.I.Input.is_ended g.I.Input.failures c.in-Ok.opened.anchors c.explain_chain-status.new.anchors in
-    let stream = source g.I.Input.takes g.I.Input.is_ended g.I.Input.failures c.in-Ok.opened.stream c.explain_chain-status.new.stream in
+    let answers = source g.I.Input.takes g.I.Input.is_ended g.I.Input.failures c.in-Ok.opened.answers c.explain_chain-status.new.inputs.answers in
+    let anchors = source g.I.Input.takes g.I.Input.is_ended g.I.Input.failures c.in-Ok.opened.anchors c.explain_chain-status.new.inputs.anchors in
+    let stream = source g.I.Input.takes g.I.Input.is_ended g.I.Input.failures c.in-Ok.opened.stream c.explain_chain-status.new.inputs.stream in
     let out = sink g.O.Output.gives g.O.Output.failures c.args.out.now c.explain_chain-status.new.out in
     let opened = c.in-Ok.ensures in
     let told =
@@ -22,9 +22,9 @@ returns g c =
         c.in-Some.ensures.meant,
         inl (
           c.in-Ok.opened.answers,
-          c.explain_chain-status.new.answers,
+          c.explain_chain-status.new.inputs.answers,
           opened.answers,
-          (c.in-Ok.opened.anchors, c.explain_chain-status.new.anchors, opened.anchors, (c.in-Ok.opened.stream, c.explain_chain-status.new.stream, opened.stream, (c.explain_chain-status.new.err, told))),
+          (c.in-Ok.opened.anchors, c.explain_chain-status.new.inputs.anchors, opened.anchors, (c.in-Ok.opened.stream, c.explain_chain-status.new.inputs.stream, opened.stream, (c.explain_chain-status.new.err, told))),
         ),
       );
     }

@@ -9,22 +9,22 @@ returns-in_default g c =
 
 pub returns : goal.returns
 returns g c =
-    let answers = source g.I.Input.takes g.I.Input.is_ended g.I.Input.failures c.in-Ok.opened.answers c.judged-status.new.answers in
-    let anchors = source g.I.Input.takes g.I.Input.is_ended g.I.Input.failures c.in-Ok.opened.anchors c.judged-status.new.anchors in
-    let stream = source g.I.Input.takes g.I.Input.is_ended g.I.Input.failures c.in-Ok.opened.stream c.judged-status.new.stream in
-    let out = sink g.O.Output.gives g.O.Output.failures c.args.out.now c.judged-status.new.out in
+    let answers = source g.I.Input.takes g.I.Input.is_ended g.I.Input.failures c.in-Ok.opened.answers c.run_verify-status.new.inputs.answers in
+    let anchors = source g.I.Input.takes g.I.Input.is_ended g.I.Input.failures c.in-Ok.opened.anchors c.run_verify-status.new.inputs.anchors in
+    let stream = source g.I.Input.takes g.I.Input.is_ended g.I.Input.failures c.in-Ok.opened.stream c.run_verify-status.new.inputs.stream in
+    let out = sink g.O.Output.gives g.O.Output.failures c.args.out.now c.run_verify-status.new.out in
     let opened = c.in-Ok.ensures in
     let told =
-    subst (λ before. IsJudged answers anchors stream out (sink g.E.Output.gives g.E.Output.failures before c.judged-status.new.err) c.in-Some.seconds c.args.task.now c.judged-status.result) opened.untold c.judged-status.ensures in
+    subst (λ before. IsJudged answers anchors stream out (sink g.E.Output.gives g.E.Output.failures before c.run_verify-status.new.err) c.in-Some.seconds c.args.task.now.purpose c.args.task.now.limit c.args.task.now.json c.run_verify-status.result) opened.untold c.run_verify-status.ensures.judged in
     record {
       told = inl (
         c.in-Some.seconds,
         c.in-Some.ensures.meant,
         inl (
           c.in-Ok.opened.answers,
-          c.judged-status.new.answers,
+          c.run_verify-status.new.inputs.answers,
           opened.answers,
-          (c.in-Ok.opened.anchors, c.judged-status.new.anchors, opened.anchors, (c.in-Ok.opened.stream, c.judged-status.new.stream, opened.stream, (c.judged-status.new.err, told))),
+          (c.in-Ok.opened.anchors, c.run_verify-status.new.inputs.anchors, opened.anchors, (c.in-Ok.opened.stream, c.run_verify-status.new.inputs.stream, opened.stream, (c.run_verify-status.new.err, told))),
         ),
       );
     }

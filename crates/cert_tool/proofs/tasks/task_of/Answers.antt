@@ -1,4 +1,4 @@
-use Rattle.std.proofs.Common.{refl, sym}
+use Rattle.std.proofs.Common.{rules, refl, sym}
 use Rattle.cert_tool.proofs.tasks.task_of.Goals as goal
 
 -- part by part
@@ -9,10 +9,10 @@ returns-clause-read c = (
   refl,
   c.text_of-anchors.ensures,
   c.text_of-answers.ensures,
-  c.in-Ok.ensures.read,
-  c.in-Ok-purpose_of.ensures.read,
-  c.in-Ok-limit_of.ensures.read,
-  c.in-Ok-place_in.ensures.read,
+  search rules,
+  search rules,
+  search rules,
+  search rules,
   c.is_given.ensures,
   c.is_given-2.ensures,
   sym c.if-is_octets_in_json.ensures,
