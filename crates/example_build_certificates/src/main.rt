@@ -1,8 +1,10 @@
-//! Makes certificates. A line of standard input each, a line of standard output for each, but for
-//! `chain`, which has six.
+//! Makes and reads certificates. A line of standard input each, a line of standard output for each,
+//! but for `chain`, which has six.
 //!
 //! | Question | Answer |
 //! |---|---|
+//! | `serial HEX` | the serial number of a certificate, as a profile of one's own reads it |
+//! | `badge LEVEL` | the octets to be signed of the certificate of a badge, by a profile of one's own, in hex |
 //! | `chain` | a root, an authority below it, a server's certificate, a list of what the authority revoked, a request of the server and the certificate that is issued for it, in hex |
 //! | `WHAT KIND ROOT_KEY SERVER_KEY` | the octets that the root's key has to sign outside, in another program or in a device, in hex |
 //! | `WHAT KIND ROOT_KEY SERVER_KEY BITS` | the certificate with this signature, in hex |
@@ -15,14 +17,19 @@
 #![tactic(auto)]
 
 mod answering;
+mod badge;
+mod badges;
+mod clearance;
 mod digest_signer;
 mod outside;
 mod outside_key;
+mod short_serials;
 
 use answering::issued;
 use der_core::{Encode, FromDer, ToDer};
 use digest_signer::DigestSigner;
 use std::alloc::Global;
+use std::fmt::Display;
 use std::io;
 use std::str::FromStr;
 use x509_cert::builder::{
@@ -35,7 +42,7 @@ use x509_cert::{
 };
 
 /// The key of the root, on P-256: the encoding of its `SubjectPublicKeyInfo`.
-const ROOT: &[u8] =
+pub(crate) const ROOT: &[u8] =
     b"\x30\x59\x30\x13\x06\x07\x2a\x86\x48\xce\x3d\x02\x01\x06\x08\x2a\x86\x48\xce\x3d\x03\x01\
     \x07\x03\x42\x00\x04\x8a\x10\x7c\x7d\xbd\x6a\x77\x06\xcf\x1e\xfa\x09\x7e\xe9\x97\xa4\x21\
     \x3e\x15\xa8\x4e\xd7\x4f\x5e\x3d\xc8\x62\xc4\xf6\x97\xba\x6f\x6c\x54\x09\x9c\x74\x62\x54\
@@ -60,20 +67,28 @@ const SERVER: &[u8] =
 
 fn main(rt: HostRuntime) -> io::Result<()> {
     for line in rt.lines(rt.alloc()) {
-        match answer(&rt, line?.as_str()) {
-            Some(Ok(text)) => print!(rt; "{text}")?,
-            Some(Err(error)) => println!(rt; "refused: {error}")?,
-            None => println!(rt; "?")?,
-        }
+        answer(&rt, line?.as_str())?;
     }
     Ok(())
 }
 
-/// The answer of a question, if it is one.
-fn answer(rt: &HostRuntime, line: &str) -> Option<Result<String, Error>> {
-    match line {
-        "chain" => Some(chain(rt.alloc())),
-        _ => outside::answer(rt, line),
+/// Prints the answer to a question.
+fn answer(rt: &HostRuntime, line: &str) -> io::Result<()> {
+    let (what, words) = line.split_once(' ').unwrap_or((line, ""));
+    match what {
+        "chain" => tell(rt, Some(chain(rt.alloc()))),
+        "badge" => tell(rt, badges::answer(rt.alloc(), words)),
+        "serial" => tell(rt, badges::serial_number(rt.alloc(), words)),
+        _ => tell(rt, outside::answer(rt, line)),
+    }
+}
+
+/// Prints an answer, or why there is none.
+fn tell<E: Display + Drop>(rt: &HostRuntime, answer: Option<Result<String, E>>) -> io::Result<()> {
+    match answer {
+        Some(Ok(text)) => print!(rt; "{text}"),
+        Some(Err(error)) => println!(rt; "refused: {error}"),
+        None => println!(rt; "?"),
     }
 }
 

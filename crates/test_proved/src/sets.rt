@@ -1,8 +1,8 @@
 //! Sets and lists of bounded room: states after refusals, and iterators.
 //!
 //! A test calls functions that borrow its values, so that a value that has to be dropped is held by
-//! a function that seldom returns early. The rows of `test_der_rows` (`again`, `copy`, `member`) run
-//! out of memory: `tests/rows/memory.py` lets each of their allocations fail in turn.
+//! a function that seldom returns early. The rows `again`, `copy` and `member` of `test_der_rows`
+//! run out of memory: `tests/rows/memory.py` lets each of their allocations fail in turn.
 
 use der_core::{Decode, Encode, EncodeValue, Error, ErrorKind, FromDer, Member, SliceReader};
 use der_types::{SequenceOf, SetOf, SetOfRef, SetOfVec};

@@ -12,7 +12,7 @@ use crate::requests_and_names::{value_placed, values_of};
 use crate::shown::octets_of;
 use crate::tls_values::rewritten;
 use crate::whole_extensions::{certificate_of, usages_of};
-use crate::{distinguished_names, extensions, name_texts};
+use crate::{building, distinguished_names, extensions, name_texts};
 use std::alloc::Global;
 use std::io;
 use std::io::Write;
@@ -26,7 +26,11 @@ pub fn answer<W: Write>(alloc: Global, line: &str, out: &mut W) -> io::Result<()
     if line.is_empty() || line.starts_with('#') {
         return writeln!(out, "{line}");
     }
-    match answer_to(alloc, line) {
+    let (word, rest) = line.split_once(' ').unwrap_or((line, ""));
+    if building::is_asked(word, rest) {
+        return building::answer(alloc, word, rest, out);
+    }
+    match answer_to(alloc, word, rest) {
         Ok(text) if text.is_empty() => out.write_all(b"ok\n"),
         Ok(text) => writeln!(out, "ok {text}"),
         Err(refusal) => writeln!(out, "{refusal}"),
@@ -34,8 +38,7 @@ pub fn answer<W: Write>(alloc: Global, line: &str, out: &mut W) -> io::Result<()
 }
 
 /// What is answered after `ok`.
-fn answer_to(alloc: Global, line: &str) -> Result<String, Refusal> {
-    let (word, rest) = line.split_once(' ').unwrap_or((line, ""));
+fn answer_to(alloc: Global, word: &str, rest: &str) -> Result<String, Refusal> {
     match word {
         "usages" => usages_of(alloc, rest),
         _ => distinguished_names::answer(alloc, word, rest),

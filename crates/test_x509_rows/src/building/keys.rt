@@ -1,7 +1,7 @@
 //! Keys, and what tells them.
 
-use crate::refusals::Refusal;
-use crate::words::{key_of, written};
+use crate::building::refusals::Refusal;
+use crate::building::words::{key_of, written};
 use std::alloc::Global;
 use x509_cert::{
     AlgorithmIdentifierRef, AuthorityKeyIdentifier, SubjectKeyIdentifier, SubjectPublicKeyInfo,

@@ -1,8 +1,9 @@
 //! Lists.
 
-use crate::builders::{Asked, Change, Manner, part_of, whole_of};
-use crate::refusals::Refusal;
-use crate::words::{Words, octets_of, read, time_of, written_in};
+use crate::building::builders::{Asked, Change, Manner, part_of, whole_of};
+use crate::building::refusals::Refusal;
+use crate::building::words::{Words, octets_of, time_of, written_in};
+use crate::shown::read;
 use std::alloc::Global;
 use std::str::FromStr;
 use x509_cert::builder::CrlBuilder;
@@ -11,7 +12,7 @@ use x509_cert::{Certificate, CertificateList, CrlNumber, RevokedCert, Time};
 /// The entry of a list that is the encoding of these octets.
 fn entry_of(alloc: Global, word: &str) -> Result<RevokedCert, Refusal> {
     let octets = octets_of(alloc, word)?;
-    read(alloc, octets.as_slice())
+    Ok(read(alloc, octets.as_slice())?)
 }
 
 impl Change for CrlBuilder {

@@ -1,8 +1,8 @@
 //! Requests.
 
-use crate::builders::{Asked, Change, Manner, part_of, whole_of};
-use crate::refusals::Refusal;
-use crate::words::{Words, extension_of, octets_of, written_in};
+use crate::building::builders::{Asked, Change, Manner, part_of, whole_of};
+use crate::building::refusals::Refusal;
+use crate::building::words::{Words, extension_of, octets_of, written_in};
 use der_core::FromDer;
 use std::alloc::Global;
 use x509_cert::builder::RequestBuilder;

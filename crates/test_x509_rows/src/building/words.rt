@@ -1,8 +1,9 @@
 //! Words of a line.
 
-use crate::refusals::Refusal;
-use der_core::describing::{DecodeWay, Described};
-use der_core::{Decode, FixedTag, FromDer, SliceReader, ToDer};
+use crate::building::refusals::Refusal;
+use crate::shown::read;
+use der_core::describing::Described;
+use der_core::{FixedTag, ToDer};
 use std::alloc::Global;
 use std::str::FromStr;
 use x509_cert::{DateTime, Extension, GeneralizedTime, Name, SubjectPublicKeyInfo, Time};
@@ -36,28 +37,7 @@ pub fn octets_of(alloc: Global, word: &str) -> Result<Vec<u8>, Refusal> {
     Ok(octets)
 }
 
-/// The value of a type that names its way, which octets spell. What the way gives is then checked
-/// here, and not where the type is named.
-pub fn read<'a, T: Described + FixedTag + Drop>(
-    alloc: Global,
-    octets: &'a [u8],
-) -> Result<T, Refusal>
-where
-    T::By: DecodeWay<'a, SliceReader<'a>, T>,
-{
-    Ok(T::from_der(alloc, octets)?)
-}
-
-/// The values of the list that octets spell. They are any here, so that the list is checked here
-/// alone.
-pub fn list_of<'a, T: Decode<'a, SliceReader<'a>>>(
-    alloc: Global,
-    octets: &'a [u8],
-) -> Result<Vec<T>, Refusal> {
-    Ok(Vec::from_der(alloc, octets)?)
-}
-
-/// The octets of a value of such a type.
+/// The octets of a value of a type that names its way.
 pub fn written<T: Described + FixedTag>(alloc: Global, value: &T) -> Result<Vec<u8>, Refusal> {
     Ok(value.to_der(alloc)?)
 }
@@ -84,11 +64,11 @@ pub fn time_of(word: &str) -> Result<Time, Refusal> {
 /// The key that is the encoding of these octets.
 pub fn key_of(alloc: Global, word: &str) -> Result<SubjectPublicKeyInfo, Refusal> {
     let octets = octets_of(alloc, word)?;
-    read(alloc, octets.as_slice())
+    Ok(read(alloc, octets.as_slice())?)
 }
 
 /// The extension that is.
 pub fn extension_of(alloc: Global, word: &str) -> Result<Extension, Refusal> {
     let octets = octets_of(alloc, word)?;
-    read(alloc, octets.as_slice())
+    Ok(read(alloc, octets.as_slice())?)
 }

@@ -1,7 +1,7 @@
 //! How builders are used.
 
-use crate::digest_signer::DigestSigner;
-use crate::refusals::Refusal;
+use crate::building::digest_signer::DigestSigner;
+use crate::building::refusals::Refusal;
 use rand_chacha::ChaCha20Rng;
 use rand_core::SeedableRng;
 use std::alloc::Global;

@@ -1,7 +1,7 @@
 //! A signer of digests.
 
-use crate::refusals::Refusal;
-use crate::words::key_of;
+use crate::building::refusals::Refusal;
+use crate::building::words::key_of;
 use const_oid::ObjectIdentifier;
 use sha2::{Digest, Sha256};
 use std::alloc::Global;

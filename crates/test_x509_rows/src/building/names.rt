@@ -1,6 +1,6 @@
 //! Names, and the rules that they keep.
 
-use crate::refusals::Refusal;
+use crate::building::refusals::Refusal;
 use std::alloc::Global;
 use x509_cert::Name;
 use x509_cert::builder::{ca_certificate_naming, check_names_encoding};

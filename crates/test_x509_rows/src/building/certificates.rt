@@ -6,9 +6,10 @@ ghost use Rattle.x509_cert_builders.specs.SignedParts.{part_shape};
 ghost use Rattle.x509_cert_builders.specs.States.{part_for};
 ghost use Rattle.x509_cert_builders.specs.CertParts.Views.{extension_plain};
 
-use crate::builders::{Asked, Change, Manner, part_of, whole_of};
-use crate::refusals::Refusal;
-use crate::words::{Words, extension_of, key_of, list_of, octets_of, time_of, written_in};
+use crate::building::builders::{Asked, Change, Manner, part_of, whole_of};
+use crate::building::refusals::Refusal;
+use crate::building::words::{Words, extension_of, key_of, octets_of, time_of, written_in};
+use crate::shown::list_in;
 use const_oid::ObjectIdentifier;
 use std::alloc::Global;
 use std::str::FromStr;
@@ -127,6 +128,14 @@ fn made_by<P: BuilderProfile + Drop>(
 fn serial_of(alloc: Global, word: &str) -> Result<SerialNumber, Refusal> {
     let octets = octets_of(alloc, word)?;
     Ok(SerialNumber::new(alloc, octets.as_slice())?)
+}
+
+/// Whether a word names a profile.
+pub fn is_profile(kind: &str) -> bool {
+    match kind {
+        "root" | "subordinate" | "subscriber" | "device" | "module" => true,
+        _ => false,
+    }
 }
 
 /// What is made of the profile that the first word names.
@@ -253,7 +262,7 @@ fn names_of(alloc: Global, word: &str) -> Result<Option<GeneralNames>, Refusal> 
         return Ok(None);
     }
     let octets = octets_of(alloc, word)?;
-    let names = list_of::<GeneralName>(alloc, octets.as_slice())?;
+    let names = list_in::<GeneralName>(alloc, octets.as_slice())?;
     Ok(Some(names))
 }
 
