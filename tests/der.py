@@ -1,8 +1,9 @@
-"""A writer of DER (X.690), with which tests put encodings together, and the headers within them."""
+"""Writes encodings in DER (X.690), and parses the headers within encodings."""
 
 import base64
 import json
 import pathlib
+import re
 
 import reader
 
@@ -10,7 +11,7 @@ NULL = b"\x05\x00"
 
 
 def length(size):
-    """The shortest octets of a length (10.1)."""
+    """Encodes a length in as few bytes as possible (10.1)."""
     if size < 128:
         return bytes([size])
     digits = size.to_bytes((size.bit_length() + 7) // 8, "big")
@@ -18,7 +19,7 @@ def length(size):
 
 
 def long_length(size):
-    """Octets of a length that are one more than it needs."""
+    """Encodes a length in one byte more than it needs."""
     digits = size.to_bytes((size.bit_length() + 7) // 8 or 1, "big")
     digits = digits if size < 128 else b"\x00" + digits
     return bytes([0x80 + len(digits)]) + digits
@@ -43,7 +44,7 @@ def bits(octets, unused=0):
 
 
 def base128(arc):
-    """An arc of an identifier (8.19.2)."""
+    """Encodes an arc of an object identifier (8.19.2)."""
     octets = [arc % 128]
     while arc := arc // 128:
         octets.append(128 + arc % 128)
@@ -55,8 +56,62 @@ def identifier(dotted):
     return tlv(0x06, *map(base128, [40 * first + second, *others]))
 
 
+# Parts of certificates (RFC 5280 4.1).
+
+
+def explicit(number, *contents):
+    """Encodes a value with an explicit tag."""
+    return tlv(0xA0 + number, *contents)
+
+
+def algorithm(dotted, *parameters):
+    return sequence(identifier(dotted), *parameters)
+
+
+def extension(dotted, content, critical=False):
+    mark = tlv(0x01, b"\xff") if critical else b""
+    return sequence(identifier(dotted), mark, tlv(0x04, content))
+
+
+def pss(digest=None, mask=None, salt=None, trailer=None, mask_by="1.2.840.113549.1.1.8"):
+    """Encodes RSASSA-PSS-params (RFC 4055 3.1), without the fields that are None."""
+    fields = [
+        digest,
+        None if mask is None else algorithm(mask_by, mask),
+        None if salt is None else integer(salt),
+        None if trailer is None else integer(trailer),
+    ]
+    return sequence(*(explicit(at, each) for at, each in enumerate(fields) if each is not None))
+
+
+def text(words, tag=0x0C):
+    return tlv(tag, words.encode("utf-16-be" if tag == 0x1E else "utf-8"))
+
+
+def name(*attributes):
+    """Encodes a name with one attribute in each RDN: its type, its text, and the tag of the text
+    if it isn't a UTF8String."""
+    attributes = (sequence(identifier(kind), text(*value)) for kind, *value in attributes)
+    return sequence(*(tlv(0x31, each) for each in attributes))
+
+
+def date(text):
+    """Encodes a UTCTime, or a GeneralizedTime if the year has four digits."""
+    return tlv(0x17 if len(text) == 13 else 0x18, text.encode())
+
+
+def certificate_part(serial, by, issuer, dates, subject, key, *, ids=(), extensions=()):
+    """Encodes a TBSCertificate: version 3, or version 1 if it has neither of the last two."""
+    version = [explicit(0, integer(2))] if ids or extensions else []
+    others = [explicit(3, sequence(*extensions))] if extensions else []
+    return sequence(*version, integer(serial), by, issuer, dates, subject, key, *ids, *others)
+
+
+# Reading.
+
+
 def values(octets):
-    """The values that stand one after the other: tag, contents, all octets."""
+    """Yields the values in these bytes: the tag, the content, and the whole encoding of each."""
     place = 0
     while place < len(octets):
         length, start = octets[place + 1] if place + 1 < len(octets) else 0, place + 2
@@ -71,7 +126,7 @@ def values(octets):
 
 
 def dotted(content):
-    """The text of an identifier's contents."""
+    """Returns the text of an object identifier, by its content."""
     arcs, arc = [], 0
     for octet in content:
         arc = arc << 7 | octet & 0x7F
@@ -82,18 +137,20 @@ def dotted(content):
     return ".".join(map(str, [first, arcs[0] - 40 * first, *arcs[1:]]))
 
 
-def octets_of(path):
-    """The octets of a file in DER, or of the first certificate of one in PEM."""
+def encodings_of(path):
+    """Returns the bytes of a file in DER, or of each block of a file in PEM."""
     found = pathlib.Path(path).read_bytes()
-    if b"-----BEGIN" not in found:
-        return found
-    lines = found.split(b"-----BEGIN CERTIFICATE-----")[1].split(b"-----END")[0]
-    return base64.b64decode(lines)
+    bodies = re.findall(rb"-----BEGIN [^-]*-----([^-]*)-----END", found)
+    return [base64.b64decode(body) for body in bodies] or [found]
+
+
+def octets_of(path):
+    return encodings_of(path)[0]
 
 
 def files_in(path):
-    """The names and octets of files that stand in a text, a line each: a name, `hex` or `text`, and
-    the octets in base 16 or as a string of JSON."""
+    """Yields the names and bytes of the files that a text has in its lines: a name, `hex` or
+    `text`, and the bytes in base 16 or as a JSON string."""
     for line in path.read_text().splitlines():
         name, kind, content = line.split(" ", 2)
         if kind in ("hex", "text"):
@@ -101,8 +158,8 @@ def files_in(path):
 
 
 def headers(octets, at=0, end=None, around=()):
-    """Each header: its place, the size of its tag, where its content begins and ends, and the
-    headers around it."""
+    """Yields each header: its offset, the size of its tag, where its content begins and ends, and
+    the headers around it."""
     end = len(octets) if end is None else end
     while at < end:
         tag, start, stop = reader.header(octets, at, end)
@@ -113,7 +170,7 @@ def headers(octets, at=0, end=None, around=()):
 
 
 def mended(octets, around, change):
-    """The octets, with the lengths around a place grown by so many."""
+    """Changes the lengths in the headers around a value whose size changed."""
     for at, tag, start, stop in reversed(around):
         new = length(stop - start + change)
         octets = octets[: at + tag] + new + octets[start:]

@@ -1,27 +1,24 @@
-"""A reader of its own, to compare with: which octets spell a certificate, a revocation list, a
-request or a key, and which lines of an orders file are faulty.
+"""An independent reader to compare with: which bytes encode a certificate, a CRL, a CSR or a key,
+and which lines of an orders file are faulty.
 
-It is written from X.690, RFC 5280 4.1 and 5.1, RFC 2986 4 and what docs/ENCODING.md and
-docs/CLI.md say, in plain Python, and knows nothing of the crates."""
+It is written from X.690, RFC 5280 4.1 and 5.1, RFC 2986 4, docs/ENCODING.md and docs/CLI.md, in
+plain Python, and shares no code with the crates."""
 
+import contextlib
 import datetime
 
 
 class Refused(Exception):
-    """The octets spell no such value."""
+    """Raised where the bytes encode no such value."""
 
 
 UNIVERSAL = {*range(0x01, 0x07), 0x09, 0x0A, 0x0C, 0x0D, *range(0x12, 0x19), 0x1A, 0x1B, 0x1E}
 UNIVERSAL |= {0x30, 0x31}
 
 
-def header(octets, at, end):
-    """The tag's octets, where the content begins and where it ends."""
-    start = at
-    if at >= end:
-        raise Refused
-    first = octets[at]
-    at += 1
+def tag_end(octets, at, end):
+    """Returns where the tag ends that begins at an offset."""
+    first, at = octets[at], at + 1
     if first < 0x40:
         if first not in UNIVERSAL:
             raise Refused
@@ -36,11 +33,18 @@ def header(octets, at, end):
                 break
         if not 31 <= number < 2**32:
             raise Refused
+    return at
+
+
+def header(octets, at, end):
+    """Parses a header: the bytes of the tag, and where the content begins and ends."""
+    if at >= end:
+        raise Refused
+    start, at = at, tag_end(octets, at, end)
     tag = octets[start:at]
     if at >= end:
         raise Refused
-    size = octets[at]
-    at += 1
+    size, at = octets[at], at + 1
     if size >= 0x80:
         count = size - 0x80
         if not 1 <= count <= 4 or at + count > end:
@@ -55,23 +59,14 @@ def header(octets, at, end):
 
 
 class Fields:
-    """Values in turn, from a place to an end."""
+    """Reads values one after the other, from an offset to an end."""
 
     def __init__(self, octets, at=0, end=None):
         self.octets, self.at = octets, at
         self.end = len(octets) if end is None else end
 
-    def is_at(self, *tags):
-        return self.at < self.end and self.octets[self.at] in tags
-
-    def any(self):
-        """The octets of whatever stands there."""
-        start = self.at
-        self.at = header(self.octets, start, self.end)[2]
-        return self.octets[start : self.at]
-
-    def behind(self, tag):
-        """The fields within what stands there behind a tag of one octet."""
+    def inner(self, tag):
+        """Returns the fields within the next value, whose tag has one byte."""
         found, at, end = header(self.octets, self.at, self.end)
         if found != bytes([tag]):
             raise Refused
@@ -79,28 +74,105 @@ class Fields:
         return Fields(self.octets, at, end)
 
     def content(self, tag):
-        fields = self.behind(tag)
+        fields = self.inner(tag)
         return self.octets[fields.at : fields.end]
 
     def done(self):
         if self.at != self.end:
             raise Refused
 
-    def many(self, tag, read):
-        fields = self.behind(tag)
-        while fields.at < fields.end:
-            read(fields)
 
-    def rising(self, tag, read):
-        """A set: each member's octets are above those of the member before."""
-        fields, before = self.behind(tag), b""
-        while fields.at < fields.end:
-            start = fields.at
-            read(fields)
-            member = self.octets[start : fields.at]
+# Each reader below takes fields, and reads the value that it is named after.
+
+
+def anything(fields):
+    fields.at = header(fields.octets, fields.at, fields.end)[2]
+
+
+def value(tag, *known):
+    """Returns a reader of a value with this tag and, if any are given, one of these contents."""
+
+    def read(fields):
+        content = fields.content(tag)
+        if known and content not in known:
+            raise Refused
+
+    return read
+
+
+def sequence(*readers, tag=0x30):
+    """Returns a reader of a value with this tag that contains what these readers read."""
+
+    def read(fields):
+        inner = fields.inner(tag)
+        for each in readers:
+            each(inner)
+        inner.done()
+
+    return read
+
+
+def many(read, tag=0x30):
+    """Returns a reader of a value with this tag that contains any number of such values."""
+
+    def read_all(fields):
+        inner = fields.inner(tag)
+        while inner.at < inner.end:
+            read(inner)
+
+    return read_all
+
+
+def rising(read, tag=0x31):
+    """Returns a reader of a set: the encodings of its members ascend."""
+
+    def read_all(fields):
+        inner, before = fields.inner(tag), b""
+        while inner.at < inner.end:
+            start = inner.at
+            read(inner)
+            member = inner.octets[start : inner.at]
             if member <= before:
                 raise Refused
             before = member
+
+    return read_all
+
+
+def optional(read, *tags):
+    """Returns a reader of a value that may be absent. If tags are given, it has one of them."""
+
+    def read_if_there(fields):
+        if fields.at < fields.end and (not tags or fields.octets[fields.at] in tags):
+            read(fields)
+
+    return read_if_there
+
+
+def explicit(read, tag):
+    """Returns a reader of a value with an explicit tag, which may be absent."""
+    return optional(sequence(read, tag=tag), tag)
+
+
+class Arcs:
+    """The bound of the arcs of object identifiers, and the greatest arc that was read."""
+
+    def __init__(self, bound):
+        self.bound, self.greatest = bound, 0
+
+
+arcs = Arcs(2**128)
+
+
+@contextlib.contextmanager
+def bounded(bound):
+    """Reads object identifiers under another bound within a `with` block."""
+    global arcs
+    kept, arcs = arcs, Arcs(bound)
+    try:
+        yield arcs
+    finally:
+        arcs = kept
 
 
 def identifier(fields):
@@ -112,20 +184,32 @@ def identifier(fields):
         if starts and octet == 0x80:
             raise Refused
         arc = arc * 128 + octet % 128
-        if arc >= 2**128:
+        if arc >= arcs.bound:
             raise Refused
         starts = octet < 0x80
         if starts:
+            arcs.greatest = max(arcs.greatest, arc)
             arc = 0
 
 
-def integer(fields):
+def number_of(fields):
     octets = fields.content(0x02)
     if not octets:
         raise Refused
     if len(octets) > 1 and (octets[0], octets[1] >= 0x80) in ((0x00, False), (0xFF, True)):
         raise Refused
     return int.from_bytes(octets, "big", signed=True)
+
+
+def integer(*known):
+    """Returns a reader of an INTEGER: if numbers are given, it is one of them."""
+
+    def read(fields):
+        number = number_of(fields)
+        if known and number not in known:
+            raise Refused
+
+    return read
 
 
 def bits(fields, tag=0x03):
@@ -137,34 +221,12 @@ def bits(fields, tag=0x03):
         raise Refused
 
 
-def algorithm(fields):
-    inner = fields.behind(0x30)
-    identifier(inner)
-    if inner.at < inner.end:
-        inner.any()
-    inner.done()
-
-
-def key(fields):
-    inner = fields.behind(0x30)
-    algorithm(inner)
-    bits(inner)
-    inner.done()
-
-
-def type_and_value(fields):
-    inner = fields.behind(0x30)
-    identifier(inner)
-    inner.any()
-    inner.done()
-
-
-def name(fields):
-    fields.many(0x30, lambda inner: inner.rising(0x31, type_and_value))
+def unique_identifier(tag):
+    return optional(lambda fields: bits(fields, tag), tag)
 
 
 def time(fields):
-    is_long = fields.is_at(0x18)
+    is_long = fields.octets[fields.at : fields.at + 1] == b"\x18"
     text = fields.content(0x18 if is_long else 0x17)
     digits = text[:-1]
     if len(text) != (15 if is_long else 13) or text[-1:] != b"Z" or not digits.isdigit():
@@ -174,7 +236,7 @@ def time(fields):
         if 50 <= year < 70:
             raise Refused
         year += 2000 if year < 50 else 1900
-    rest = (int(digits[at : at + 2] or b"99") for at in range(len(digits) - 10, len(digits), 2))
+    rest = (int(digits[at : at + 2]) for at in range(len(digits) - 10, len(digits), 2))
     try:
         if year < 1970:
             raise Refused
@@ -183,101 +245,29 @@ def time(fields):
         raise Refused from None
 
 
-def validity(fields):
-    inner = fields.behind(0x30)
-    time(inner)
-    time(inner)
-    inner.done()
+algorithm = sequence(identifier, optional(anything))
+key = sequence(algorithm, bits)
+name = many(rising(sequence(identifier, anything)))
+extensions = many(sequence(identifier, optional(value(0x01, b"\xff"), 0x01), value(0x04)))
+revoked = sequence(integer(), time, optional(extensions, 0x30))
+attribute = sequence(identifier, rising(anything))
+
+# The readers of the signed parts.
+SIGNED = {
+    "certificate": sequence(
+        explicit(integer(1, 2), 0xA0), integer(), algorithm, name, sequence(time, time), name, key,
+        unique_identifier(0x81), unique_identifier(0x82), explicit(extensions, 0xA3),
+    ),
+    "list": sequence(
+        integer(0, 1, 2), algorithm, name, time, optional(time, 0x17, 0x18),
+        optional(many(revoked), 0x30), explicit(extensions, 0xA0),
+    ),
+    "request": sequence(integer(0), name, key, rising(attribute, 0xA0)),
+}
 
 
-def extension(fields):
-    inner = fields.behind(0x30)
-    identifier(inner)
-    if inner.is_at(0x01) and inner.content(0x01) != b"\xff":
-        raise Refused
-    inner.content(0x04)
-    inner.done()
-
-
-def extensions(fields):
-    fields.many(0x30, extension)
-
-
-def explicit(fields, tag, read):
-    """What stands behind an explicit tag, if it does."""
-    if fields.is_at(tag):
-        inner = fields.behind(tag)
-        read(inner)
-        inner.done()
-
-
-def version(fields):
-    if integer(fields) not in (1, 2):
-        raise Refused
-
-
-def signed_certificate(fields):
-    inner = fields.behind(0x30)
-    explicit(inner, 0xA0, version)
-    integer(inner)
-    algorithm(inner)
-    name(inner)
-    validity(inner)
-    name(inner)
-    key(inner)
-    for tag in 0x81, 0x82:
-        if inner.is_at(tag):
-            bits(inner, tag)
-    explicit(inner, 0xA3, extensions)
-    inner.done()
-
-
-def revoked(fields):
-    inner = fields.behind(0x30)
-    integer(inner)
-    time(inner)
-    if inner.is_at(0x30):
-        extensions(inner)
-    inner.done()
-
-
-def signed_list(fields):
-    inner = fields.behind(0x30)
-    if integer(inner) not in (0, 1, 2):
-        raise Refused
-    algorithm(inner)
-    name(inner)
-    time(inner)
-    if inner.is_at(0x17, 0x18):
-        time(inner)
-    if inner.is_at(0x30):
-        inner.many(0x30, revoked)
-    explicit(inner, 0xA0, extensions)
-    inner.done()
-
-
-def attribute(fields):
-    inner = fields.behind(0x30)
-    identifier(inner)
-    inner.rising(0x31, lambda values: values.any())
-    inner.done()
-
-
-def signed_request(fields):
-    inner = fields.behind(0x30)
-    if integer(inner) != 0:
-        raise Refused
-    name(inner)
-    key(inner)
-    inner.rising(0xA0, attribute)
-    inner.done()
-
-
-SIGNED = {"certificate": signed_certificate, "list": signed_list, "request": signed_request}
-
-
-def whole(octets, read):
-    """Whether the octets are one value that this reads."""
+def is_whole(octets, read):
+    """Returns whether the bytes are exactly one value that this reader reads."""
     fields = Fields(octets)
     try:
         read(fields)
@@ -288,20 +278,12 @@ def whole(octets, read):
 
 
 def spells(kind, octets):
-    """Whether the octets spell a value of a kind: what is signed, an algorithm, bits."""
-
-    def read(fields):
-        inner = fields.behind(0x30)
-        SIGNED[kind](inner)
-        algorithm(inner)
-        bits(inner)
-        inner.done()
-
-    return whole(octets, read)
+    """Returns whether the bytes encode a value of a kind: a signed part, an algorithm, bits."""
+    return is_whole(octets, sequence(SIGNED[kind], algorithm, bits))
 
 
 def split(octets, limit):
-    """How many certificates of up to so many octets begin the stream, and their octets."""
+    """Returns how many certificates of at most `limit` bytes begin the stream, and their size."""
     count = at = 0
     while at < len(octets):
         try:
@@ -316,53 +298,51 @@ def split(octets, limit):
 
 # Orders files.
 
-ONCE = {"name", "from", "until", "serial", "key", "path", "client", "ocsp"}
-ALONE = {"client", "ocsp"}
 NEEDED = {"name", "from", "until", "serial", "key"}
+ALONE = {"client", "ocsp"}
+ONCE = NEEDED | ALONE | {"path"}
 
 
 def is_value(word, value):
+    """Returns whether a word that takes a value may have this one."""
     if word == "path":
         return value.isascii() and value.isdigit() and int(value) <= 255
     if word in ("serial", "key"):
         digits = set("0123456789abcdefABCDEF")
         if len(value) % 2 or not set(value) <= digits:
             return False
-        return word == "serial" or whole(bytes.fromhex(value), key)
-    return word in ("name", "from", "until", "dns")
+        return word == "serial" or is_whole(bytes.fromhex(value), key)
+    return True
+
+
+def is_right(word, blank, value, order):
+    """Returns whether a line may be added to an order: the word, and its value if it has one."""
+    if word not in ONCE | {"dns"} or word in ONCE and word in order:
+        return False
+    return not blank if word in ALONE else bool(blank) and is_value(word, value)
 
 
 def orders(file):
-    """How many orders a file has; or the number of its first faulty line, below zero."""
-    lines = file.split(b"\n")
-    faulty, count, begun, words = [], 0, None, set()
-
-    def close():
-        if begun is not None and not NEEDED <= words:
-            faulty.append(begun)
-
-    for number, line in enumerate(lines, 1):
-        if not line:
-            continue
+    """Returns the orders of a file, each with the values of its words, and the number of the first
+    faulty line, or 0. The first line of an order that lacks a word is faulty."""
+    found, begun, faulty = [], [], []
+    for number, line in enumerate(file.split(b"\n"), 1):
         try:
             word, blank, value = line.decode().partition(" ")
         except UnicodeDecodeError:
             faulty.append(number)
             continue
         if word == "order":
-            close()
-            count, begun, words = count + 1, number, set()
-            if blank:
-                faulty.append(number)
-        elif begun is None or word not in ONCE | {"dns"}:
+            found.append({"dns": []})
+            begun.append(number)
+            faulty += [number] * bool(blank)
+        elif line and (not found or not is_right(word, blank, value, found[-1])):
             faulty.append(number)
-        elif word in words and word in ONCE:
-            faulty.append(number)
-        else:
-            words.add(word)
-            if word in ALONE and blank or word not in ALONE and not blank:
-                faulty.append(number)
-            elif word not in ALONE and not is_value(word, value):
-                faulty.append(number)
-    close()
-    return -min(faulty) if faulty else count
+            if found and word in ONCE:
+                found[-1].setdefault(word, value)
+        elif word == "dns":
+            found[-1]["dns"].append(value)
+        elif line:
+            found[-1][word] = value
+    faulty += [number for number, order in zip(begun, found) if not NEEDED <= order.keys()]
+    return found, min(faulty, default=0)

@@ -1,17 +1,17 @@
 #!/usr/bin/env python3
 """Compares `examples/answer.py` with `openssl verify`.
 
-Signatures are right, or their algorithm, parameters or key say something else than how they were
-made.
+Signatures are right, or they were made in another way than their algorithm, parameters or key say.
 
-    answers.py                  a line for each case, and a count; the status is 1 where two differ
-    answers.py --mutate N       N mutations of the questions too: answer.py ends well at each, and
-                                says yes to none
+    answers.py                  prints a line for each case, and counts them; the status is 1 if
+                                the two programs differ
+    answers.py --mutate N       also makes N changes to the questions: answer.py has to say no
 
-Each case is a root and a certificate that it signs, put together here in DER (RFC 5280 4.1) and
-signed by Python's `cryptography`.
+Each case is a root and a certificate below it. This script builds both (RFC 5280 4.1), and Python's
+`cryptography` signs them.
 """
 
+import argparse
 import pathlib
 import random
 import subprocess
@@ -30,9 +30,8 @@ from cryptography.hazmat.primitives import hashes
 from cryptography.hazmat.primitives.asymmetric import ec, ed448, ed25519, padding, rsa
 from cryptography.hazmat.primitives.serialization import Encoding, PublicFormat
 
-from der import NULL, bits, integer, sequence, tlv
-from der import identifier as oid
-
+import der
+from der import NULL, algorithm, bits, extension, integer, sequence, tlv
 
 DIGESTS = {
     "sha1": ("1.3.14.3.2.26", hashes.SHA1),
@@ -43,26 +42,6 @@ DIGESTS = {
     "sha3-256": ("2.16.840.1.101.3.4.2.8", hashes.SHA3_256),
     "unknown": ("2.16.840.1.101.3.4.2.99", hashes.SHA1),
 }
-
-
-def digest(name, parameters=NULL):
-    return sequence(oid(DIGESTS[name][0]), parameters)
-
-
-def pss(hashed=None, mask=None, salt=None, trailer=None, mask_by="1.2.840.113549.1.1.8"):
-    """RSASSA-PSS-params (RFC 4055 3.1): what is None is left out."""
-    fields = []
-    if hashed:
-        fields.append(tlv(0xA0, digest(hashed)))
-    if mask:
-        fields.append(tlv(0xA1, sequence(oid(mask_by), digest(mask))))
-    if salt is not None:
-        fields.append(tlv(0xA2, integer(salt)))
-    if trailer is not None:
-        fields.append(tlv(0xA3, integer(trailer)))
-    return sequence(*fields)
-
-
 RSA_KEY = rsa.generate_private_key(65537, 2048)
 P256_KEY = ec.generate_private_key(ec.SECP256R1())
 ED25519_KEY = ed25519.Ed25519PrivateKey.generate()
@@ -74,17 +53,13 @@ def public(key):
 
 
 def rsa_key(name="1.2.840.113549.1.1.1", parameters=NULL):
-    """The RSA key under an algorithm."""
+    """Returns the RSA key with an algorithm."""
     octets = RSA_KEY.public_key().public_bytes(Encoding.DER, PublicFormat.PKCS1)
-    return sequence(sequence(oid(name), parameters), bits(octets))
-
-
-def pss_key(parameters=b""):
-    return rsa_key("1.2.840.113549.1.1.10", parameters)
+    return sequence(algorithm(name, parameters), bits(octets))
 
 
 def explicit_p256():
-    """The key on P-256 with its curve spelled out (X9.62, SpecifiedECDomain)."""
+    """Returns the key on P-256 with explicit parameters of the curve (X9.62)."""
     prime = 2**256 - 2**224 + 2**192 + 2**96 - 1
     b = 0x5AC635D8AA3A93E7B3EBBD55769886BC651D06B0CC53B0F63BCE3C3E27D2604B
     order = 0xFFFFFFFF00000000FFFFFFFFFFFFFFFFBCE6FAADA7179E84F3B9CAC2FC632551
@@ -92,13 +67,20 @@ def explicit_p256():
         "046B17D1F2E12C4247F8BCE6E563A440F277037D812DEB33A0F4A13945D898C296"
         "4FE342E2FE1A7F9B8EE7EB4A7C0F9E162BCE33576B315ECECBB6406837BF51F5"
     )
-    field = sequence(oid("1.2.840.10045.1.1"), integer(prime))
-    curve = sequence(
-        tlv(0x04, (prime - 3).to_bytes(32, "big")), tlv(0x04, b.to_bytes(32, "big"))
-    )
+    field = algorithm("1.2.840.10045.1.1", integer(prime))
+    curve = sequence(*(tlv(0x04, it.to_bytes(32, "big")) for it in (prime - 3, b)))
     domain = sequence(integer(1), field, curve, tlv(0x04, base), integer(order), integer(1))
     point = P256_KEY.public_key().public_bytes(Encoding.X962, PublicFormat.UncompressedPoint)
-    return sequence(sequence(oid("1.2.840.10045.2.1"), domain), bits(point))
+    return sequence(algorithm("1.2.840.10045.2.1", domain), bits(point))
+
+
+def digest(name):
+    return name and algorithm(DIGESTS[name][0], NULL)
+
+
+def pss(hashed=None, mask=None, salt=None, trailer=None, **more):
+    """Encodes RSASSA-PSS-params, given the names of digests, without what is None."""
+    return der.pss(digest(hashed), digest(mask), salt, trailer, **more)
 
 
 def by_pss(hashed, mask, salt):
@@ -114,142 +96,95 @@ def by_ecdsa(hashed):
     return lambda signed: P256_KEY.sign(signed, ec.ECDSA(DIGESTS[hashed][1]()))
 
 
-def algorithm(name, parameters=b""):
-    return sequence(oid(name), parameters)
-
-
 PSS = "1.2.840.113549.1.1.10"
-SHA256_RSA = "1.2.840.113549.1.1.11"
-ECDSA_SHA256 = "1.2.840.10045.4.3.2"
-
-
-def pss_case(what, parameters, made, key=None):
-    return what, key or rsa_key(), algorithm(PSS, parameters), made
-
-
+RSA_SHA256 = algorithm("1.2.840.113549.1.1.11", NULL)
+ECDSA_SHA256 = algorithm("1.2.840.10045.4.3.2")
+ED25519, ED448 = algorithm("1.3.101.112"), algorithm("1.3.101.113")
+RSA, P256 = rsa_key(), public(P256_KEY)
+ANY_PSS, ONLY_SHA256 = rsa_key(PSS, b""), rsa_key(PSS, pss("sha256", "sha256", 32))
 LONG = 2048 // 8 - 32 - 2  # the longest salt under SHA-256 (RFC 8017 9.1.1)
-SHA256_KEY = pss_key(pss("sha256", "sha256", 32))
+
+# A case: what it is, the key, the algorithm, and the function that signs.
 RIGHT = [
-    ("PKCS #1, SHA-256", rsa_key(), algorithm(SHA256_RSA, NULL), by_pkcs1("sha256")),
-    ("ECDSA, SHA-256", public(P256_KEY), algorithm(ECDSA_SHA256), by_ecdsa("sha256")),
-    ("Ed25519", public(ED25519_KEY), algorithm("1.3.101.112"), ED25519_KEY.sign),
-    ("Ed448", public(ED448_KEY), algorithm("1.3.101.113"), ED448_KEY.sign),
-    pss_case("PSS, SHA-256, salt 32", pss("sha256", "sha256", 32), by_pss("sha256", "sha256", 32)),
-    pss_case("PSS, SHA-224", pss("sha224", "sha224", 28), by_pss("sha224", "sha224", 28)),
-    pss_case("PSS, SHA-512", pss("sha512", "sha512", 64), by_pss("sha512", "sha512", 64)),
-    pss_case("PSS, all defaults", pss(), by_pss("sha1", "sha1", 20)),
-    pss_case("PSS, salt 128", pss("sha256", "sha256", 128), by_pss("sha256", "sha256", 128)),
-    pss_case("PSS, longest salt", pss("sha256", "sha256", LONG), by_pss("sha256", "sha256", LONG)),
-    pss_case("PSS, no salt", pss("sha256", "sha256", 0), by_pss("sha256", "sha256", 0)),
-    pss_case("PSS, MGF1 by SHA-1", pss("sha256", None, 32), by_pss("sha256", "sha1", 32)),
-    pss_case("PSS, trailer 1", pss("sha256", "sha256", 32, 1), by_pss("sha256", "sha256", 32)),
-    pss_case("PSS, default salt", pss("sha256", "sha256"), by_pss("sha256", "sha256", 20)),
-    pss_case(
-        "PSS key that permits all",
-        pss("sha384", "sha384", 48),
-        by_pss("sha384", "sha384", 48),
-        pss_key(),
-    ),
-    pss_case(
-        "PSS key, as it permits",
-        pss("sha256", "sha256", 32),
-        by_pss("sha256", "sha256", 32),
-        SHA256_KEY,
-    ),
-    pss_case(
-        "PSS key, a longer salt",
-        pss("sha256", "sha256", 40),
-        by_pss("sha256", "sha256", 40),
-        SHA256_KEY,
-    ),
+    ("PKCS #1, SHA-256", RSA, RSA_SHA256, by_pkcs1("sha256")),
+    ("ECDSA, SHA-256", P256, ECDSA_SHA256, by_ecdsa("sha256")),
+    ("Ed25519", public(ED25519_KEY), ED25519, ED25519_KEY.sign),
+    ("Ed448", public(ED448_KEY), ED448, ED448_KEY.sign),
+]
+# A case of PSS: what it is, the key, the parameters, and how it is signed: digest, digest of the
+# mask, size of the salt.
+RIGHT_PSS = [
+    ("PSS, SHA-256, salt 32", RSA, pss("sha256", "sha256", 32), "sha256", "sha256", 32),
+    ("PSS, SHA-224", RSA, pss("sha224", "sha224", 28), "sha224", "sha224", 28),
+    ("PSS, SHA-512", RSA, pss("sha512", "sha512", 64), "sha512", "sha512", 64),
+    ("PSS, all defaults", RSA, pss(), "sha1", "sha1", 20),
+    ("PSS, salt 128", RSA, pss("sha256", "sha256", 128), "sha256", "sha256", 128),
+    ("PSS, longest salt", RSA, pss("sha256", "sha256", LONG), "sha256", "sha256", LONG),
+    ("PSS, no salt", RSA, pss("sha256", "sha256", 0), "sha256", "sha256", 0),
+    ("PSS, MGF1 by SHA-1", RSA, pss("sha256", None, 32), "sha256", "sha1", 32),
+    ("PSS, trailer 1", RSA, pss("sha256", "sha256", 32, 1), "sha256", "sha256", 32),
+    ("PSS, default salt", RSA, pss("sha256", "sha256"), "sha256", "sha256", 20),
+    ("PSS key that permits all", ANY_PSS, pss("sha384", "sha384", 48), "sha384", "sha384", 48),
+    ("PSS key, as it permits", ONLY_SHA256, pss("sha256", "sha256", 32), "sha256", "sha256", 32),
+    ("PSS key, a longer salt", ONLY_SHA256, pss("sha256", "sha256", 40), "sha256", "sha256", 40),
 ]
 LYING = [
-    ("PKCS #1, made by SHA-1", rsa_key(), algorithm(SHA256_RSA, NULL), by_pkcs1("sha1")),
-    ("PKCS #1 under a PSS key", SHA256_KEY, algorithm(SHA256_RSA, NULL), by_pkcs1("sha256")),
-    ("ECDSA, made by SHA-1", public(P256_KEY), algorithm(ECDSA_SHA256), by_ecdsa("sha1")),
-    ("ECDSA under an RSA key", rsa_key(), algorithm(ECDSA_SHA256), by_ecdsa("sha256")),
-    ("ECDSA, explicit curve", explicit_p256(), algorithm(ECDSA_SHA256), by_ecdsa("sha256")),
-    ("Ed25519 under an Ed448 key", public(ED448_KEY), algorithm("1.3.101.112"), ED448_KEY.sign),
-    pss_case("PSS, no parameters", b"", by_pss("sha1", "sha1", 20)),
-    pss_case("PSS, NULL", NULL, by_pss("sha1", "sha1", 20)),
-    pss_case("PSS, unknown digest", pss("unknown", None, 20), by_pss("sha1", "sha1", 20)),
-    pss_case("PSS, SHA3-256 for SHA-1", pss("sha3-256", None, 20), by_pss("sha1", "sha1", 20)),
-    pss_case("PSS, SHA-384 for 256", pss("sha384", "sha256", 32), by_pss("sha256", "sha256", 32)),
-    pss_case("PSS, another MGF1", pss("sha256", "sha1", 32), by_pss("sha256", "sha256", 32)),
-    pss_case("PSS, digest of MGF1", pss(None, "sha256", 20), by_pss("sha256", "sha256", 20)),
-    pss_case(
-        "PSS, a mask that isn't MGF1",
-        pss("sha256", "sha256", 32, mask_by="1.2.840.113549.1.1.9"),
-        by_pss("sha256", "sha256", 32),
-    ),
-    pss_case("PSS, trailer 2", pss("sha256", "sha256", 32, 2), by_pss("sha256", "sha256", 32)),
-    pss_case("PSS, another salt", pss("sha256", "sha256", 20), by_pss("sha256", "sha256", 32)),
-    pss_case("PSS, salt -1", pss("sha256", "sha256", -1), by_pss("sha256", "sha256", 32)),
-    pss_case("PSS, salt 2^40", pss("sha256", "sha256", 2**40), by_pss("sha256", "sha256", 32)),
-    pss_case("PSS key, SHA-1", pss(), by_pss("sha1", "sha1", 20), SHA256_KEY),
-    pss_case(
-        "PSS key, a shorter salt",
-        pss("sha256", "sha256", 31),
-        by_pss("sha256", "sha256", 31),
-        SHA256_KEY,
-    ),
-    pss_case(
-        "PSS key, another mask",
-        pss("sha256", "sha1", 32),
-        by_pss("sha256", "sha1", 32),
-        SHA256_KEY,
-    ),
+    ("PKCS #1, made by SHA-1", RSA, RSA_SHA256, by_pkcs1("sha1")),
+    ("PKCS #1 under a PSS key", ONLY_SHA256, RSA_SHA256, by_pkcs1("sha256")),
+    ("ECDSA, made by SHA-1", P256, ECDSA_SHA256, by_ecdsa("sha1")),
+    ("ECDSA under an RSA key", RSA, ECDSA_SHA256, by_ecdsa("sha256")),
+    ("ECDSA, explicit curve", explicit_p256(), ECDSA_SHA256, by_ecdsa("sha256")),
+    ("Ed25519 under an Ed448 key", public(ED448_KEY), ED25519, ED448_KEY.sign),
 ]
-
-
-def name(text):
-    return sequence(tlv(0x31, sequence(oid("2.5.4.3"), tlv(0x0C, text.encode()))))
-
-
-VALIDITY = sequence(tlv(0x17, b"200101000000Z"), tlv(0x17, b"490101000000Z"))
-
-
-def extension(identifier, value):
-    return sequence(oid(identifier), tlv(0x01, b"\xff"), tlv(0x04, value))
+OTHER_MASK = pss("sha256", "sha256", 32, mask_by="1.2.840.113549.1.1.9")
+LYING_PSS = [
+    ("PSS, no parameters", RSA, b"", "sha1", "sha1", 20),
+    ("PSS, NULL", RSA, NULL, "sha1", "sha1", 20),
+    ("PSS, unknown digest", RSA, pss("unknown", None, 20), "sha1", "sha1", 20),
+    ("PSS, SHA3-256 for SHA-1", RSA, pss("sha3-256", None, 20), "sha1", "sha1", 20),
+    ("PSS, SHA-384 for 256", RSA, pss("sha384", "sha256", 32), "sha256", "sha256", 32),
+    ("PSS, another MGF1", RSA, pss("sha256", "sha1", 32), "sha256", "sha256", 32),
+    ("PSS, digest of MGF1", RSA, pss(None, "sha256", 20), "sha256", "sha256", 20),
+    ("PSS, a mask that isn't MGF1", RSA, OTHER_MASK, "sha256", "sha256", 32),
+    ("PSS, trailer 2", RSA, pss("sha256", "sha256", 32, 2), "sha256", "sha256", 32),
+    ("PSS, another salt", RSA, pss("sha256", "sha256", 20), "sha256", "sha256", 32),
+    ("PSS, salt -1", RSA, pss("sha256", "sha256", -1), "sha256", "sha256", 32),
+    ("PSS, salt 2^40", RSA, pss("sha256", "sha256", 2**40), "sha256", "sha256", 32),
+    ("PSS key, SHA-1", ONLY_SHA256, pss(), "sha1", "sha1", 20),
+    ("PSS key, a shorter salt", ONLY_SHA256, pss("sha256", "sha256", 31), "sha256", "sha256", 31),
+    ("PSS key, another mask", ONLY_SHA256, pss("sha256", "sha1", 32), "sha256", "sha1", 32),
+]
+RIGHT += [(*case[:2], algorithm(PSS, case[2]), by_pss(*case[3:])) for case in RIGHT_PSS]
+LYING += [(*case[:2], algorithm(PSS, case[2]), by_pss(*case[3:])) for case in LYING_PSS]
 
 
 def certificate(serial, subject, key, signed_by, sign, authority):
-    """A certificate under the root's name, and its three parts."""
+    """Returns a certificate whose issuer is the root, its signed part, and its signature."""
     constraints = sequence(tlv(0x01, b"\xff")) if authority else sequence()
-    extensions = [extension("2.5.29.19", constraints)]
+    extensions = [extension("2.5.29.19", constraints, True)]
     if authority:
-        extensions.append(extension("2.5.29.15", tlv(0x03, b"\x01\x06")))
-    part = sequence(
-        tlv(0xA0, integer(2)),
-        integer(serial),
-        signed_by,
-        name("root"),
-        VALIDITY,
-        name(subject),
-        key,
-        tlv(0xA3, sequence(*extensions)),
-    )
+        extensions.append(extension("2.5.29.15", bits(b"\x06", 1), True))
+    issuer, subject = (der.name(("2.5.4.3", text)) for text in ("root", subject))
+    dates = sequence(der.date("200101000000Z"), der.date("490101000000Z"))
+    fields = [serial, signed_by, issuer, dates, subject, key]
+    part = der.certificate_part(*fields, extensions=extensions)
     signature = bits(sign(part))
     return sequence(part, signed_by, signature), part, signature
 
 
 def openssl_says(folder, root, leaf):
-    """Whether OpenSSL trusts the certificate under the root, whose own bits aren't looked at."""
+    """Returns whether OpenSSL trusts the certificate below the root."""
     for file, octets in (("root", root), ("leaf", leaf)):
         (folder / f"{file}.der").write_bytes(octets)
-        said = subprocess.run(
-            ["openssl", "x509", "-inform", "DER", "-in", f"{file}.der", "-out", f"{file}.pem"],
-            cwd=folder,
-            capture_output=True,
-        )
-        if said.returncode:
+        words = ["openssl", "x509", "-inform", "DER", "-in", f"{file}.der", "-out", f"{file}.pem"]
+        if subprocess.run(words, cwd=folder, capture_output=True).returncode:
             return False
     words = ["openssl", "verify", "-no-CApath", "-no-CAstore", "-trusted", "root.pem", "leaf.pem"]
     return subprocess.run(words, cwd=folder, capture_output=True).returncode == 0
 
 
 def answered(questions):
-    """The lines that answer.py writes, and what it says of the others."""
+    """Returns the lines that answer.py writes, and its reasons for the others."""
     said = subprocess.run([sys.executable, ANSWER], input=questions, capture_output=True)
     if said.returncode:
         sys.exit(f"answer.py ended with {said.returncode}: {said.stderr.decode()[-400:]}")
@@ -257,14 +192,14 @@ def answered(questions):
 
 
 def compare(folder):
-    """A line for each case. Answers how many differ, and the questions whose answer is yes."""
+    """Prints a line for each case. Returns how many differ, and the questions whose answer is
+    yes."""
     differ, questions = 0, []
     for what, key, signed_by, sign in RIGHT + LYING:
-        # the root is trusted as it stands, so any bits serve
-        root = certificate(1, "root", key, signed_by, lambda part: bytes(64), True)[0]
+        # The root's own signature isn't verified.
+        root, _, _ = certificate(1, "root", key, signed_by, lambda part: bytes(64), True)
         leaf, part, signature = certificate(2, "leaf", key, signed_by, sign, False)
-        words = (it.hex().encode() for it in (key, signed_by, part, signature))
-        question = b"0 0 " + b" ".join(words)
+        question = f"0 0 {key.hex()} {signed_by.hex()} {part.hex()} {signature.hex()}".encode()
         lines, why = answered(question + b"\n")
         ours, theirs = lines == [question], openssl_says(folder, root, leaf)
         verdict = "yes" if ours else "no"
@@ -273,13 +208,13 @@ def compare(folder):
         if ours != theirs:
             differ += 1
             verdict += f", and OpenSSL {'yes' if theirs else 'no'}"
-        print(f"{what}: {verdict}{''.join(' (' + it + ')' for it in why)}")
+        print(f"{what}: {verdict}{''.join(f' ({it})' for it in why)}")
     return differ, questions
 
 
 def mutate(questions, count):
-    """The mutations of questions that are answered though one octet of the key, the algorithm, the
-    signed octets or the signature is another, or octets are gone."""
+    """Changes or truncates the key, the algorithm, the signed part or the signature of questions.
+    Returns those that are answered with yes."""
     random.seed(20261127)
     lines = []
     for _ in range(count):
@@ -291,23 +226,26 @@ def mutate(questions, count):
             del octets[at:]
         else:
             octets[at] ^= 1 << random.randrange(8)
-        words[field] = bytes(octets).hex().encode()
+        words[field] = octets.hex().encode()
         lines.append(b" ".join(words))
     return answered(b"\n".join(lines) + b"\n")[0]
 
 
-def main(words):
+def main():
+    parser = argparse.ArgumentParser(description=__doc__.splitlines()[0])
+    parser.add_argument("--mutate", type=int, metavar="N", help="mutations of the questions")
+    count = parser.parse_args().mutate
     with tempfile.TemporaryDirectory() as folder:
         differ, questions = compare(pathlib.Path(folder))
     print(f"{len(RIGHT)} right cases, {len(LYING)} that lie, {differ} differ from OpenSSL")
-    if words[:1] == ["--mutate"]:
-        yes = mutate(questions, int(words[1]))
+    if count is not None:
+        yes = mutate(questions, count)
         for line in yes:
             print("answered:", line.decode()[:300])
-        print(f"{words[1]} mutations, {len(yes)} answered")
+        print(f"{count} mutations, {len(yes)} answered")
         differ += len(yes)
     return 1 if differ else 0
 
 
 if __name__ == "__main__":
-    sys.exit(main(sys.argv[1:]))
+    sys.exit(main())

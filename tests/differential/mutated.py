@@ -1,35 +1,34 @@
 #!/usr/bin/env python3
-"""Changes encodings, and compares what a program of rows answers with a reader of its own.
+"""Changes encodings, and compares the answers of a program of test vectors with reader.py.
 
     tests/differential/mutated.py PROGRAM [RUNS [SEED]]              values with changes
-    tests/differential/mutated.py spellings PROGRAM [CERTIFICATE..]  headers, each spelled anew
-    tests/differential/mutated.py bounds PROGRAM [RUNS [SEED]]       identifiers with wider arcs
+    tests/differential/mutated.py spellings PROGRAM [CERTIFICATE..]  other encodings of each header
+    tests/differential/mutated.py bounds PROGRAM [RUNS [SEED]]       OIDs with larger arcs
 
-PROGRAM is the program of rows test_cert_rows, built (crates/test_cert_rows/out/test_cert_rows). The reader
-(tests/reader.py) knows nothing of the crates. Each answer that differs is printed, and counts; the
-status is 0 where none differs. None of it is part of CI.
+PROGRAM is test_cert_rows, built (crates/test_cert_rows/out/test_cert_rows). The reader
+(tests/reader.py) shares no code with the crates. Each answer that differs is printed and counted;
+the status is 0 if none differs. None of it is part of CI.
 
-What is changed are the certificates, lists, requests and orders files of the program's table and
-of examples/, and the roots of Debian's ca-certificates of up to 1,000 octets where they are
-installed. A change is made at a place of the structure, and mostly with the lengths around it
-mended: a header spelled otherwise, a tag or an octet of content changed, a value taken out, written
-twice, exchanged with its neighbour or replaced by one from elsewhere, octets cut off or put behind.
-One to three changes are made at once; an orders file loses, repeats or exchanges lines and octets.
-The program has to say whether it is such a value; of a stream how many certificates begin it, and
-where its fault is; of an orders file which line is faulty. 1,000 runs are asked at once, of a
-program that gets no more than 20 seconds of a processor and 64 MiB of address space.
+It changes the certificates, CRLs, CSRs and orders files of the test vectors and of examples/, and
+the roots of Debian's ca-certificates of at most 1,000 bytes if they are installed. A change is made
+at one place of the structure, and mostly the lengths around it are corrected: it encodes a header
+in another way, changes a tag or a byte of content, removes a value, repeats it, replaces it by
+another one, truncates it, or adds bytes. A value gets one to three changes. Of an orders file,
+lines and bytes are removed, repeated, exchanged or changed. The program has to say whether the
+result is such a value; of a stream, how many certificates it begins with, and where its fault is;
+of an orders file, which line is faulty. It is asked 1,000 questions at once, and gets at most 20
+seconds of processor time and 64 MiB of address space.
 
-`spellings`: each header of the certificates, those of ca-certificates where none is named, is in
-turn spelled with a length of one octet more than it needs, cut by one, and grown by one, with no
-other octet changed, and then so with the lengths around it mended; and the first octet of its
-content is changed in each of its bits. What is taken and OpenSSL (libcrypto.so.3) refuses is
-counted, by OpenSSL's reason.
+`spellings` encodes the length of each header of the certificates (those of ca-certificates by
+default) in one byte more than it needs, makes it one smaller and one larger, without and with the
+lengths around it corrected; and it changes each bit of the first byte of the content. It counts
+what the program accepts and OpenSSL (libcrypto.so.3) rejects, by OpenSSL's reason.
 
-`bounds`: streams of one to three certificates are changed likewise, and mostly one or two of their
-identifiers get arcs of up to 130 bits. The reader splits each under arcs below 2^32 and below
-2^128. What it reads under the narrow bound it has to read alike under the wide one; where it reads
-more there, the first certificate that the narrow bound refuses has to hold an arc from 2^32 on; and
-under the wide bound the program has to split as it does.
+`bounds` changes streams of one to three certificates in the same way, and gives most of them one or
+two object identifiers with arcs of up to 130 bits. The reader splits each stream with arcs below
+2^32 and with arcs below 2^128. What it reads with the smaller bound, it has to read with the larger
+one. Where it reads more, the first certificate that the smaller bound rejects has to have an arc of
+2^32 or more. The program has to split each stream as the larger bound does.
 """
 
 import collections
@@ -49,7 +48,7 @@ from der import base128, headers, length, long_length, mended, octets_of
 
 ROOTS = pathlib.Path("/usr/share/ca-certificates/mozilla")
 BATCH = 1000
-# The bounds of arcs, and the most octets of a certificate.
+# The bounds of arcs, and the maximum size of a certificate.
 NARROW, WIDE, LIMIT = 2**32, 2**128, 5000
 ANCHOR = (
     "30423037020101300306012a3000301e170d3032303130313132303130305a170d3330313233313038333030305a"
@@ -58,7 +57,7 @@ ANCHOR = (
 
 
 def bases():
-    """What is changed, by its kind."""
+    """Returns the values to change, by their kind."""
     found = collections.defaultdict(set)
     table = (TOP / "crates/test_cert_rows/stdin").read_text().split("\n")
     for line in table:
@@ -87,7 +86,7 @@ def bases():
 
 
 def changed(draw, octets, places, others):
-    """The octets with a change at a place of their structure."""
+    """Makes a change at one place of the structure."""
     at, tag, start, stop, around = draw.choice(places)
     whole, content = octets[at:stop], octets[start:stop]
     head = octets[at : at + tag]
@@ -137,7 +136,7 @@ def places_of(octets):
 
 
 def mutated(draw, octets, kind, values):
-    """A value with one to three changes."""
+    """Makes one to three changes to a value."""
     for _ in range(draw.choice((1, 1, 1, 2, 3))):
         places = places_of(octets)
         if not places:
@@ -157,7 +156,7 @@ def cut(draw, octets):
 
 
 def orders(draw, file):
-    """An orders file with one to three changes of its lines or octets."""
+    """Makes one to three changes to the lines or bytes of an orders file."""
     words = "order", "name CN=a", "path 256", "path 007", "client", "ocsp ", "serial 0g", "dns"
     for _ in range(draw.choice((1, 1, 2, 3))):
         lines = file.split(b"\n")
@@ -182,13 +181,13 @@ def orders(draw, file):
 
 
 def runs(draw, values):
-    """A question, its kind, the answer's pattern, and whether that takes the value."""
+    """Returns a question, its kind, the pattern of the answer, and whether that is acceptance."""
     kind = draw.choice(("certificate",) * 4 + ("list", "request", "stream", "chain", "orders"))
     if kind == "orders":
         file = orders(draw, draw.choice(values["orders"]))
-        count = reader.orders(file)
-        told = rf"ok {count}(;.*)?" if count >= 0 else rf".*line {-count}\D*"
-        return f"issue read 0x{file.hex()}", kind, told, count >= 0
+        found, faulty = reader.orders(file)
+        told = rf".*line {faulty}\D*" if faulty else rf"ok {len(found)}(;.*)?"
+        return f"issue read 0x{file.hex()}", kind, told, not faulty
     if kind in ("stream", "chain"):
         stream = b"".join(
             mutated(draw, it, "certificate", values) if draw.random() < 0.3 else it
@@ -196,14 +195,15 @@ def runs(draw, values):
         )
         limit = draw.choice((6, 68, 100, 500, 4096))
         count, end = reader.split(stream, limit)
+        is_whole = end == len(stream)
         if kind == "stream":
             told = f"{count} {end}, {count} {end}"
-            return f"split {limit} {stream.hex()}", kind, told, end == len(stream)
+            return f"split {limit} {stream.hex()}", kind, told, is_whole
         told = rf'2 "fault {count} {end} \w+\\n" "" asked=0'
-        if end == len(stream):
+        if is_whole:
             told = r'[013] "(trusted|refused \d+ \w+) calls=(\d+)\\n" "" asked=\2|3 "empty.*'
         question = f"yes check {ANCHOR} {stream.hex()} 1009886460 1.3.6.1.5.5.7.3.1 {limit}"
-        return question, kind, told, end == len(stream)
+        return question, kind, told, is_whole
     octets = mutated(draw, draw.choice(values[kind]), kind, values)
     takes = reader.spells(kind, octets)
     if kind == "certificate":
@@ -218,36 +218,38 @@ def limited():
     resource.setrlimit(resource.RLIMIT_CPU, (20, 20))
 
 
-def changes(program, count="100000", seed="1"):
-    draw, values = random.Random(int(seed)), bases()
+def answers(program, questions):
+    """Returns the answers of the program, a line for each question."""
+    text = "".join(f"{it}\n" for it in questions)
+    done = subprocess.run([program], input=text, capture_output=True, text=True, preexec_fn=limited)
+    lines = done.stdout.split("\n")[:-1]
+    assert (done.returncode, len(lines)) == (0, len(questions)), (done.returncode, done.stderr)
+    return lines
+
+
+def changes(program, count, seed):
+    draw, values = random.Random(seed), bases()
     print(", ".join(f"{len(them)} {kind}" for kind, them in values.items()), "to begin with")
     tried, taken, wrong = collections.Counter(), collections.Counter(), 0
-    for _ in range(int(count) // BATCH):
+    for _ in range(count // BATCH):
         asked = [runs(draw, values) for _ in range(BATCH)]
-        text = "".join(f"{it[0]}\n" for it in asked)
-        done = subprocess.run(
-            [program], input=text, capture_output=True, text=True, preexec_fn=limited
-        )
-        assert done.returncode == 0, (done.returncode, done.stderr[:300])
-        answers = done.stdout.split("\n")[:-1]
-        assert len(answers) == BATCH
-        for (question, kind, told, takes), answer in zip(asked, answers):
+        lines = answers(program, [it[0] for it in asked])
+        for (question, kind, told, takes), line in zip(asked, lines):
             tried[kind] += 1
             taken[kind] += takes
-            if not re.fullmatch(told, answer):
+            if not re.fullmatch(told, line):
                 wrong += 1
-                print(f"{question}\n    wanted {told}\n    got {answer[:300]}")
+                print(f"{question}\n    wanted {told}\n    got {line[:300]}")
     for kind, number in sorted(tried.items()):
         print(f"{kind}: {number} runs, {taken[kind]} taken")
     print(f"{wrong} answers that differ")
-    return bool(wrong)
+    return wrong
 
 
 def spelled(octets):
-    """Each other spelling, by its kind."""
+    """Yields each other encoding, with its kind."""
     for at, tag, start, stop, around in headers(octets):
-        size = stop - start
-        content = octets[start:stop]
+        size, content = stop - start, octets[start:stop]
         kinds = {"long": long_length(size), "grown": length(size + 1)}
         if size:
             kinds["cut"] = length(size - 1)
@@ -273,7 +275,7 @@ def openssl():
 
 
 def refusal_of_openssl(crypto, octets):
-    """Why OpenSSL refuses these octets, if it does."""
+    """Returns the reason why OpenSSL rejects these bytes, or None."""
     place = ctypes.c_char_p(octets)
     begin = ctypes.cast(place, ctypes.c_void_p).value
     found = crypto.d2i_X509(None, ctypes.byref(place), ctypes.c_long(len(octets)))
@@ -286,21 +288,14 @@ def refusal_of_openssl(crypto, octets):
     return None if whole else "octets behind it"
 
 
-def answers(program, streams):
-    text = "".join(f"certificate {stream.hex()}\n" for stream in streams)
-    told = subprocess.run([program], input=text, capture_output=True, text=True, timeout=600)
-    assert told.returncode == 0, told
-    lines = told.stdout.split("\n")[:-1]
-    assert len(lines) == len(streams)
-    return [line.startswith("ok ") for line in lines]
-
-
-def spellings(program, *paths):
+def spellings(program, paths):
     crypto, paths = openssl(), paths or sorted(ROOTS.glob("*.crt"))
     tried, taken, reasons, wrong = (collections.Counter() for _ in range(4))
     for path in paths:
         found = list(spelled(octets_of(path)))
-        for (kind, octets), takes in zip(found, answers(program, [it[1] for it in found])):
+        lines = answers(program, [f"certificate {octets.hex()}" for _, octets in found])
+        for (kind, octets), line in zip(found, lines):
+            takes = line.startswith("ok ")
             tried[kind] += 1
             taken[kind] += takes
             if takes != reader.spells("certificate", octets):
@@ -315,11 +310,11 @@ def spellings(program, *paths):
         print(f"{kind}: {count} tried, {taken[kind]} taken, {differ}")
     for (kind, reason), count in reasons.items():
         print(f"{kind}: {count} of the taken are refused by OpenSSL: {reason}")
-    return bool(wrong)
+    return wrong.total()
 
 
 def with_arcs(draw, octets):
-    """One identifier gets one to three arcs of up to 130 bits at its end."""
+    """Adds one to three arcs of up to 130 bits to an object identifier."""
     places = [it for it in places_of(octets) if octets[it[0]] == 0x06]
     if not places:
         return octets
@@ -331,90 +326,64 @@ def with_arcs(draw, octets):
     return mended(octets[:at] + new + octets[stop:], around, len(new) - (stop - at))
 
 
-class Arcs:
-    """The arcs of the identifiers that are read, under a bound."""
-
-    def __init__(self, bound):
-        self.bound, self.greatest = bound, 0
-
-    def identifier(self, fields):
-        octets = fields.content(0x06)
-        if not 1 <= len(octets) <= 39 or octets[0] >= 120 or octets[-1] >= 0x80:
-            raise reader.Refused
-        arc, starts = 0, True
-        for octet in octets[1:]:
-            if starts and octet == 0x80:
-                raise reader.Refused
-            arc = arc * 128 + octet % 128
-            if arc >= self.bound:
-                raise reader.Refused
-            starts = octet < 0x80
-            if starts:
-                self.greatest = max(self.greatest, arc)
-                arc = 0
+def stream_with_arcs(draw, values):
+    """Returns one to three certificates with changes and larger arcs."""
+    parts = []
+    for _ in range(draw.randrange(1, 4)):
+        octets = draw.choice(values["certificate"])
+        if draw.random() < 0.3:
+            octets = mutated(draw, octets, "certificate", values)
+        for _ in range(draw.choice((0, 1, 1, 2))):
+            octets = with_arcs(draw, octets)
+        parts.append(octets)
+    return b"".join(parts)
 
 
 def split(octets, bound):
-    """How many certificates begin the stream under a bound, and how many octets they are."""
-    kept, reader.identifier = reader.identifier, Arcs(bound).identifier
-    try:
+    """Returns how many certificates the stream begins with under a bound, and their size."""
+    with reader.bounded(bound):
         return reader.split(octets, LIMIT)
-    finally:
-        reader.identifier = kept
 
 
 def greatest(octets):
-    """The greatest arc in the certificate that begins the octets, under the wide bound."""
-    arcs = Arcs(WIDE)
-    kept, reader.identifier = reader.identifier, arcs.identifier
-    try:
+    """Returns the greatest arc in the certificate that the bytes begin with."""
+    with reader.bounded(WIDE) as arcs:
         _, _, end = reader.header(octets, 0, len(octets))
         return arcs.greatest if reader.spells("certificate", octets[:end]) else 0
-    finally:
-        reader.identifier = kept
 
 
-def bounds(program, count="100000", seed="1"):
-    draw = random.Random(int(seed))
+def bounds(program, count, seed):
+    draw = random.Random(seed)
     values = {"certificate": bases()["certificate"]}
-    told, faults, streams = 0, [], []
-    for _ in range(int(count)):
-        parts = []
-        for _ in range(draw.randrange(1, 4)):
-            octets = draw.choice(values["certificate"])
-            if draw.random() < 0.3:
-                octets = mutated(draw, octets, "certificate", values)
-            for _ in range(draw.choice((0, 1, 1, 2))):
-                octets = with_arcs(draw, octets)
-            parts.append(octets)
-        stream = b"".join(parts)
-        narrow, wide = split(stream, NARROW), split(stream, WIDE)
-        streams.append((stream, wide))
-        if narrow == wide:
-            continue
-        told += 1
-        if narrow[0] >= wide[0] or greatest(stream[narrow[1] :]) < NARROW:
-            faults.append(stream.hex())
-    for first in range(0, len(streams), 1000):
-        batch = [it for it in streams[first : first + 1000] if it[0]]
-        asked = "".join(f"split {LIMIT} {stream.hex()}\n" for stream, _ in batch)
-        done = subprocess.run([program], input=asked, capture_output=True, text=True)
-        answers = done.stdout.split("\n")
-        for (stream, wide), answer in zip(batch, answers):
-            if answer != f"{wide[0]} {wide[1]}, {wide[0]} {wide[1]}":
-                faults.append(f"{stream.hex()}: {answer}")
+    told, faults = 0, []
+    streams = [stream_with_arcs(draw, values) for _ in range(count)]
+    for first in range(0, count, BATCH):
+        batch = [it for it in streams[first : first + BATCH] if it]
+        lines = answers(program, [f"split {LIMIT} {stream.hex()}" for stream in batch])
+        for stream, line in zip(batch, lines):
+            narrow, wide = split(stream, NARROW), split(stream, WIDE)
+            told += narrow != wide
+            if narrow != wide and (
+                narrow[0] >= wide[0] or greatest(stream[narrow[1] :]) < NARROW
+            ):
+                faults.append(stream.hex())
+            if line != f"{wide[0]} {wide[1]}, {wide[0]} {wide[1]}":
+                faults.append(f"{stream.hex()}: {line}")
     print(f"{len(streams)} streams, the bound tells in {told}, {len(faults)} against the law")
     print("\n".join(faults[:20]), end="")
-    return bool(faults)
+    return len(faults)
 
 
 def main(words):
-    how = {"spellings": spellings, "bounds": bounds}.get(words[0] if words else "")
-    words = words[1:] if how else words
-    if not words or words[0].startswith("-"):
+    how = {"spellings": spellings, "bounds": bounds}.get(words[0] if words else "", changes)
+    program, *words = words[how is not changes :] or ["-"]
+    if program.startswith("-"):
         print(__doc__, file=sys.stderr)
         return 2
-    return (how or changes)(*words)
+    if how is spellings:
+        return bool(spellings(program, words))
+    count, seed, *_ = [int(word) for word in words] + [100000, 1][len(words) :]
+    return bool(how(program, count, seed))
 
 
 if __name__ == "__main__":

@@ -1,39 +1,38 @@
 #!/usr/bin/env python3
-"""Compares the remarks of `cert_tool explain` with a reader of its own.
+"""Compares the remarks of `cert_tool explain` with those of an independent reader.
 
 The reader is written from the text of RFC 5280.
 
-    remarks.py CERT_TOOL FILE..         certificates and revocation lists in DER or PEM; a line for
-                                        each difference, and counts; the status is 1 where two
-                                        differ
+    remarks.py CERT_TOOL FILE..         reads certificates and CRLs in DER or PEM; prints a line for
+                                        each difference, and counts; the status is 1 if any differs
 
-Of contents that aren't one value of their kind it says nothing, and the line that names one isn't
-compared. Files that aren't read, or are neither certificates nor lists, are counted: of what this
-reader takes for neither the program may read none.
+It makes no remarks on the content of an extension that isn't a value of its type, and doesn't
+compare the line that reports one. It counts the files that `cert_tool` can't read, and those that
+are neither a certificate nor a CRL; of the latter `cert_tool` must not read any.
 """
 
-import base64
+import argparse
 import collections
 import pathlib
 import re
-import subprocess
 import sys
-import tempfile
 
 sys.path.insert(0, str(pathlib.Path(__file__).resolve().parents[1]))
 
+from der import dotted, encodings_of
 from der import values as encodings
+from tool import Tool
 
 
 def inside(octets):
-    """The encodings in the contents of the first one."""
+    """Returns the encodings within the first one."""
     for _, contents, _ in encodings(octets):
         return list(encodings(contents))
     raise ValueError("no octets")
 
 
 def value_in(content):
-    """The contents of the one value that a content is, if it is there and is one."""
+    """Returns the content of the only value in these bytes, or None if there isn't exactly one."""
     try:
         [(_, contents, _)] = encodings(content or b"")
     except ValueError:
@@ -42,7 +41,7 @@ def value_in(content):
 
 
 def extensions_in(octets):
-    """Kind (the contents octets of the identifier), criticality and content of each extension."""
+    """Yields the encoded OID, the criticality and the content of each extension."""
     for _, _, extension in encodings(octets):
         first, *flags, content = inside(extension)
         yield first[1], any(flag[1] == b"\xff" for flag in flags), content[1]
@@ -57,7 +56,7 @@ def private(number):
 
 
 def moment(tag, contents):
-    """A date in the form of GeneralizedTime (RFC 5280 4.1.2.5.1)."""
+    """Returns a date in the form of GeneralizedTime (RFC 5280 4.1.2.5.1)."""
     text = contents.decode("ascii")
     return text if tag == 0x18 else ("20" if text < "5" else "19") + text
 
@@ -77,7 +76,7 @@ FORMS = {
 
 
 def shown(octets):
-    """As the program shows texts: what isn't printable in ASCII, and a backslash, in base 16."""
+    """Escapes a text as `cert_tool` does: backslashes, and what isn't printable in ASCII."""
     return "".join(chr(octet) if 0x20 <= octet < 0x7F and octet != 0x5C else f"\\{octet:02X}"
                    for octet in octets)
 
@@ -145,7 +144,7 @@ CONTENTS = {17: malformed_names, 18: malformed_names, 28: scope, 30: constraints
             32: policies, 33: mappings, 35: issuer_key, 46: points}
 CONTENTS = {standard(number): looks for number, looks in CONTENTS.items()}
 
-# Whether critical, name, section: RFC 5280 4.2, 5.2.
+# Of extensions (RFC 5280 4.2, 5.2): whether they are critical, their name, the section.
 OF_CERTIFICATES = {
     standard(9): (False, "subjectDirectoryAttributes", "4.2.1.8"),
     standard(14): (False, "subjectKeyIdentifier", "4.2.1.2"),
@@ -194,36 +193,26 @@ def of_extensions(extensions, marks):
 
 
 def members_of(content):
-    """The encodings in the one value that a content is; nothing where they aren't such."""
+    """Returns the encodings within the only value in these bytes, or nothing if they aren't one."""
     try:
         return list(encodings(value_in(content) or b""))
     except ValueError:
         return []
 
 
-# Characters of an attribute's text, at least and at most: RFC 5280 A.1.
+# How many characters the text of an attribute has, minimum and maximum (RFC 5280 A.1).
 SIZES = {bytes([0x55, 4, number]): sizes for numbers, sizes in [
     ((6,), (2, 2)), ((3, 5, 10, 11, 12), (1, 64)), ((7, 8, 65), (1, 128)),
     ((4, 41, 42, 43, 44), (1, 32768)),
 ] for number in numbers}
 SIZES[bytes.fromhex("2a864886f70d010901")] = (1, 255)
-# Of a tag, the name of the type, and how its octets are read: X.680 41.
+# The type of a tag, and the encoding of its text (X.680 41).
 STRINGS = {0x0C: ("UTF8String", "utf-8"), 0x13: ("PrintableString", "ascii"),
            0x16: ("IA5String", "ascii"), 0x1E: ("BMPString", "utf-16-be")}
 
 
-def dotted(identifier):
-    arcs = [0]
-    for octet in identifier:
-        arcs[-1] = arcs[-1] << 7 | octet & 0x7F
-        if octet < 0x80:
-            arcs.append(0)
-    first = min(arcs[0] // 40, 2)
-    return ".".join(map(str, [first, arcs[0] - 40 * first, *arcs[1:-1]]))
-
-
 def of_name(name):
-    """The remarks of the attributes of a name: their texts, and how long these are."""
+    """Yields the remarks on the texts of a name's attributes."""
     for _, _, relative in encodings(name):
         for _, _, attribute in inside(relative):
             (_, kind, _), (tag, octets, _) = inside(attribute)
@@ -257,7 +246,7 @@ def of_serial(serial):
 
 
 def of_certificate(octets):
-    """The remarks of a certificate (RFC 5280 4.1, 4.2)."""
+    """Yields the remarks on a certificate (RFC 5280 4.1, 4.2)."""
     signed, outside, _ = inside(octets)
     fields = list(encodings(signed[1]))
     version = fields.pop(0)[1][2] + 1 if fields[0][0] == 0xA0 else 1
@@ -276,39 +265,33 @@ def of_certificate(octets):
     signs = uses is not None and len(uses) > 1 and uses[1] & 0x04 != 0
     unnamed = subject[1] == b""
     self_issued = issuer[2] == subject[2]
-    yield from (text for holds, text in [
-        (within[2] != outside[2],
-         "signature and signatureAlgorithm differ (RFC 5280 4.1.1.2)"),
-        (listed and version != 3,
-         "extensions stand in a certificate that isn't of version 3 (RFC 5280 4.1.2.1)"),
-        (listed and not extensions, "the list of extensions is empty (RFC 5280 4.1.2.9)"),
-        (ids and version == 1,
-         "unique identifiers stand in a certificate of version 1 (RFC 5280 4.1.2.8)"),
-        (ids, "unique identifiers are not to be made (RFC 5280 4.1.2.8)"),
-        (issuer[1] == b"", "the issuer is an empty name (RFC 5280 4.1.2.4)"),
-        (is_long(first), "notBefore is a GeneralizedTime before 2050 (RFC 5280 4.1.2.5)"),
-        (is_long(last), "notAfter is a GeneralizedTime before 2050 (RFC 5280 4.1.2.5)"),
-        (moment(*last[:2]) < moment(*first[:2]),
-         "notAfter is before notBefore (RFC 5280 4.1.2.5)"),
-        (unnamed and authority,
-         "the subject of a CA is an empty name (RFC 5280 4.1.2.6)"),
-        (unnamed and not critical.get(standard(17)),
-         "the subject is empty, and no critical subjectAltName names it (RFC 5280 4.1.2.6)"),
-        (not self_issued and not has_key(contents.get(standard(35))),
-         "no authorityKeyIdentifier has a key's identifier (RFC 5280 4.2.1.1)"),
-        (authority and standard(14) not in contents,
-         "a CA has no subjectKeyIdentifier (RFC 5280 4.2.1.2)"),
-        (authority and standard(15) not in contents,
-         "a CA has no keyUsage (RFC 5280 4.2.1.3)"),
-        (signs and not authority, "keyCertSign stands without cA (RFC 5280 4.2.1.3)"),
-        (authority and not critical[standard(19)],
-         "basicConstraints of a CA aren't critical (RFC 5280 4.2.1.9)"),
-        (length and not authority, "a path length stands without cA (RFC 5280 4.2.1.9)"),
-        (length and uses is not None and not signs,
-         "a path length stands without keyCertSign (RFC 5280 4.2.1.9)"),
-        (standard(30) in contents and not authority,
-         "nameConstraints stand without cA (RFC 5280 4.2.1.10)"),
-        (uses == b"\0", "keyUsage has no use (RFC 5280 4.2.1.3)"),
+    yield from (f"{text} (RFC 5280 {section})" for holds, section, text in [
+        (within[2] != outside[2], "4.1.1.2", "signature and signatureAlgorithm differ"),
+        (listed and version != 3, "4.1.2.1",
+         "extensions stand in a certificate that isn't of version 3"),
+        (listed and not extensions, "4.1.2.9", "the list of extensions is empty"),
+        (ids and version == 1, "4.1.2.8", "unique identifiers stand in a certificate of version 1"),
+        (ids, "4.1.2.8", "unique identifiers are not to be made"),
+        (issuer[1] == b"", "4.1.2.4", "the issuer is an empty name"),
+        (is_long(first), "4.1.2.5", "notBefore is a GeneralizedTime before 2050"),
+        (is_long(last), "4.1.2.5", "notAfter is a GeneralizedTime before 2050"),
+        (moment(*last[:2]) < moment(*first[:2]), "4.1.2.5", "notAfter is before notBefore"),
+        (unnamed and authority, "4.1.2.6", "the subject of a CA is an empty name"),
+        (unnamed and not critical.get(standard(17)), "4.1.2.6",
+         "the subject is empty, and no critical subjectAltName names it"),
+        (not self_issued and not has_key(contents.get(standard(35))), "4.2.1.1",
+         "no authorityKeyIdentifier has a key's identifier"),
+        (authority and standard(14) not in contents, "4.2.1.2", "a CA has no subjectKeyIdentifier"),
+        (authority and standard(15) not in contents, "4.2.1.3", "a CA has no keyUsage"),
+        (signs and not authority, "4.2.1.3", "keyCertSign stands without cA"),
+        (authority and not critical[standard(19)], "4.2.1.9",
+         "basicConstraints of a CA aren't critical"),
+        (length and not authority, "4.2.1.9", "a path length stands without cA"),
+        (length and uses is not None and not signs, "4.2.1.9",
+         "a path length stands without keyCertSign"),
+        (standard(30) in contents and not authority, "4.2.1.10",
+         "nameConstraints stand without cA"),
+        (uses == b"\0", "4.2.1.3", "keyUsage has no use"),
     ] if holds)
     yield from of_serial(serial[1])
     yield from of_name(issuer[1])
@@ -317,7 +300,7 @@ def of_certificate(octets):
 
 
 def of_list(octets):
-    """The remarks of a revocation list (RFC 5280 5.1 to 5.3)."""
+    """Yields the remarks on a CRL (RFC 5280 5.1 to 5.3)."""
     signed, outside, _ = inside(octets)
     fields = list(encodings(signed[1]))
     version = fields.pop(0)[1][0] + 1 if fields[0][0] == 2 else 1
@@ -332,43 +315,41 @@ def of_list(octets):
     marks = {(kind[-1], flag) for listed in of_entries for kind, flag, _ in listed
              if kind == standard(kind[-1])}
     number = contents.get(standard(20))
-    yield from (text for holds, text in [
-        (within[2] != outside[2],
-         "signature and signatureAlgorithm differ (RFC 5280 5.1.1.2)"),
-        ((listed or of_entries) and version != 2,
-         "extensions stand in a CRL that isn't of version 2 (RFC 5280 5.1.2.1)"),
-        (issuer[1] == b"", "the issuer is an empty name (RFC 5280 5.1.2.3)"),
-        (0x30 in rest and not entries, "the list of entries is empty (RFC 5280 5.1.2.6)"),
-        (listed and not extensions, "the list of extensions is empty (RFC 5280 5.1.2.7)"),
-        (is_long(this), "thisUpdate is a GeneralizedTime before 2050 (RFC 5280 5.1.2.4)"),
-        (following and is_long(following),
-         "nextUpdate is a GeneralizedTime before 2050 (RFC 5280 5.1.2.5)"),
-        (following and moment(*following[:2]) < moment(*this[:2]),
-         "nextUpdate is before thisUpdate (RFC 5280 5.1.2.5)"),
-        (not following, "there is no nextUpdate (RFC 5280 5.1.2.5)"),
-        (any(list(of_serial(entry[0][1])) for entry in entries),
-         "a serial number of an entry isn't above zero, or has more than 20 octets"
-         " (RFC 5280 4.1.2.2)"),
-        (any(is_long(entry[1]) for entry in entries),
-         "the date of an entry is a GeneralizedTime before 2050 (RFC 5280 5.1.2.6)"),
-        ([] in of_entries, "the list of an entry's extensions is empty (RFC 5280 5.1)"),
-        ((21, True) in marks, "reasonCode of an entry is critical (RFC 5280 5.3.1)"),
-        ((24, True) in marks, "invalidityDate of an entry is critical (RFC 5280 5.3.2)"),
-        ((29, False) in marks, "certificateIssuer of an entry isn't critical (RFC 5280 5.3.3)"),
-        (not has_key(contents.get(standard(35))),
-         "no authorityKeyIdentifier has a key's identifier (RFC 5280 5.2.1)"),
-        (number is None, "there is no cRLNumber (RFC 5280 5.2.3)"),
-        (len((value_in(number) or b"").removeprefix(b"\0")) > 20,
-         "the cRLNumber has more than 20 octets (RFC 5280 5.2.3)"),
-        (standard(27) in contents and standard(46) in contents,
-         "freshestCRL stands in a delta CRL (RFC 5280 5.2.6)"),
+    yield from (f"{text} (RFC 5280 {section})" for holds, section, text in [
+        (within[2] != outside[2], "5.1.1.2", "signature and signatureAlgorithm differ"),
+        ((listed or of_entries) and version != 2, "5.1.2.1",
+         "extensions stand in a CRL that isn't of version 2"),
+        (issuer[1] == b"", "5.1.2.3", "the issuer is an empty name"),
+        (0x30 in rest and not entries, "5.1.2.6", "the list of entries is empty"),
+        (listed and not extensions, "5.1.2.7", "the list of extensions is empty"),
+        (is_long(this), "5.1.2.4", "thisUpdate is a GeneralizedTime before 2050"),
+        (following and is_long(following), "5.1.2.5",
+         "nextUpdate is a GeneralizedTime before 2050"),
+        (following and moment(*following[:2]) < moment(*this[:2]), "5.1.2.5",
+         "nextUpdate is before thisUpdate"),
+        (not following, "5.1.2.5", "there is no nextUpdate"),
+        (any(list(of_serial(entry[0][1])) for entry in entries), "4.1.2.2",
+         "a serial number of an entry isn't above zero, or has more than 20 octets"),
+        (any(is_long(entry[1]) for entry in entries), "5.1.2.6",
+         "the date of an entry is a GeneralizedTime before 2050"),
+        ([] in of_entries, "5.1", "the list of an entry's extensions is empty"),
+        ((21, True) in marks, "5.3.1", "reasonCode of an entry is critical"),
+        ((24, True) in marks, "5.3.2", "invalidityDate of an entry is critical"),
+        ((29, False) in marks, "5.3.3", "certificateIssuer of an entry isn't critical"),
+        (not has_key(contents.get(standard(35))), "5.2.1",
+         "no authorityKeyIdentifier has a key's identifier"),
+        (number is None, "5.2.3", "there is no cRLNumber"),
+        (len((value_in(number) or b"").removeprefix(b"\0")) > 20, "5.2.3",
+         "the cRLNumber has more than 20 octets"),
+        (standard(27) in contents and standard(46) in contents, "5.2.6",
+         "freshestCRL stands in a delta CRL"),
     ] if holds)
     yield from of_name(issuer[1])
     yield from of_extensions(extensions, OF_LISTS)
 
 
 def kind_of(octets):
-    """Of a certificate or a list its name, by the fields of the signed part (4.1, 5.1)."""
+    """Returns whether this is a certificate or a CRL, by the fields of the signed part."""
     try:
         [(tag, _, whole)] = encodings(octets)
         signed, algorithm, bits = inside(whole)
@@ -383,47 +364,44 @@ def kind_of(octets):
     return "list" if is_list else None
 
 
-def ders_of(path):
-    with open(path, "rb") as file:
-        octets = file.read()
-    bodies = re.findall(rb"-----BEGIN [^-]*-----([^-]*)-----END", octets)
-    return [base64.b64decode(body) for body in bodies] or [octets]
-
-
 def told(tool, kind, octets):
-    """The remarks that the program tells, but for contents that aren't of their kind; nothing where
-    it doesn't read the octets."""
-    with tempfile.NamedTemporaryFile() as file:
-        file.write(octets)
-        file.flush()
-        ran = subprocess.run([tool, "explain", kind, file.name], capture_output=True, check=True)
-    first, *lines = ran.stdout.decode().splitlines()
+    """Returns the remarks of the program, except those on contents that aren't of their type, or
+    None if it can't read the bytes."""
+    first, *lines = tool.ask_of(octets, "explain", kind)[1].decode().splitlines()
     if first != "the octets are what they should be":
         return None
-    # an identifier is compared, not its name
+    # The OID is compared, and not its name.
     return [re.sub(r"^\w+ \(([\d.]+)\)", r"\1", line.removeprefix("remark: ")) for line in lines
             if line.startswith("remark: ") and "isn't one value of its kind" not in line]
 
 
-def differences_of(tool, kind, octets):
-    """What is looked at, the remarks that the program tells, and in what the reader differs."""
+OF_KINDS = {"certificate": of_certificate, "list": of_list}
+
+
+def differences_of(tool, octets):
+    """Returns the kind of a value, the remarks of the program, and the differences."""
+    kind = kind_of(octets)
     if kind is None:
-        read = [kind for kind in ("certificate", "list") if told(tool, kind, octets) is not None]
+        read = [kind for kind in OF_KINDS if told(tool, kind, octets) is not None]
         return "neither", [], [f"read as a {kind}" for kind in read]
     found = told(tool, kind, octets)
     if found is None:
         return f"unread {kind}", [], []
-    wanted = list(of_list(octets) if kind == "list" else of_certificate(octets))
+    wanted = list(OF_KINDS[kind](octets))
     differ = sorted(set(wanted) ^ set(found))
     return kind, found, [f"{'wanting' if text in wanted else 'told'}: {text}" for text in differ]
 
 
 def main():
-    tool, *paths = sys.argv[1:]
-    looked, differences, counts = collections.Counter(), 0, collections.Counter()
-    for path in paths:
-        for octets in ders_of(path):
-            seen, found, differ = differences_of(tool, kind_of(octets), octets)
+    parser = argparse.ArgumentParser(description=__doc__.splitlines()[0])
+    parser.add_argument("tool", metavar="CERT_TOOL")
+    parser.add_argument("paths", metavar="FILE", nargs="+")
+    given = parser.parse_args()
+    tool, differences = Tool(given.tool), 0
+    looked, counts = collections.Counter(), collections.Counter()
+    for path in given.paths:
+        for octets in encodings_of(path):
+            seen, found, differ = differences_of(tool, octets)
             looked[seen] += 1
             counts.update(found)
             differences += len(differ)
@@ -432,9 +410,9 @@ def main():
     for text, count in counts.most_common():
         print(f"{count} {text}")
     seen = ", ".join(f"{count} {kind}" for kind, count in looked.items())
-    print(f"looked at: {seen}; {sum(counts.values())} remarks, {differences} differences")
-    sys.exit(differences > 0)
+    print(f"looked at: {seen}; {counts.total()} remarks, {differences} differences")
+    return differences > 0
 
 
 if __name__ == "__main__":
-    main()
+    sys.exit(main())

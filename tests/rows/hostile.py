@@ -1,18 +1,19 @@
 #!/usr/bin/env python3
-"""Doubles inputs that a stranger may choose, and compares times and memory.
+"""Doubles the size of hostile inputs, and compares processor time and memory.
 
-It fails where the processor time of a run grows by more than 2.6, or a run ends otherwise than it
-should.
+It fails if the processor time of a run grows by a factor of more than 2.6, or if a run exits with a
+status that isn't expected.
 
     hostile.py FOLDER [NAME..]
 
-FOLDER has the programs cert_desk_program, test_der_rows and test_cert_rows, built; names choose inputs. Time
-is the least of three runs, user and system, reading the file included. After each input stand how
-many bytes it has, the times of half of it and of it, their quotient, and how many bytes of memory
-were resident at most for each of its bytes, those counted that the program has without any. It is
-not part of CI, and needs /usr/bin/time.
+FOLDER contains the programs cert_desk_program, test_der_rows and test_cert_rows, built. Names
+select inputs. The time is that of the fastest of three runs, user and system, and includes reading
+the file. It prints of each input its size in bytes, the times for half of it and for all of it,
+their quotient, and the peak of resident memory in bytes for each byte of input, which includes the
+memory that the program takes by itself. It is not part of CI, and needs /usr/bin/time.
 """
 
+import argparse
 import os
 import pathlib
 import subprocess
@@ -23,120 +24,108 @@ TOP = pathlib.Path(__file__).resolve().parents[2]
 sys.path[:0] = [str(TOP / "tests"), str(TOP / "tools")]
 
 import needs
-from der import identifier, length, sequence, tlv
 
 needs.check(__file__)
-FOLDER, *NAMES = sys.argv[1:] or sys.exit(__doc__)
+
+from der import algorithm, bits, certificate_part, date, extension, identifier, length
+from der import sequence, text, tlv
+
 MOMENT, PURPOSE = "1009886460", "1.3.6.1.5.5.7.3.1"
-
-
-ALGORITHM = bytes.fromhex("300306012A")
-DATES = bytes.fromhex("301E170D3032303130313132303130305A170D3330313233313038333030305A")
-KEY = bytes.fromhex("3009300306012A03020000")
-BITS = bytes.fromhex("03020000")
+ALGORITHM = algorithm("1.2")
+DATES = sequence(date("020101120100Z"), date("301231083000Z"))
+KEY = sequence(ALGORITHM, bits(b"\0"))
 EMPTY = sequence()
 
 
-def certificate(issuer=EMPTY, subject=EMPTY, extensions=b"", bits=BITS, algorithm=ALGORITHM):
-    version = bytes.fromhex("A003020102") if extensions else b""
-    extensions = tlv(0xA3, sequence(extensions)) if extensions else b""
-    serial = bytes.fromhex("020101")
-    part = sequence(version, serial, algorithm, issuer, DATES, subject, KEY, extensions)
-    return sequence(part, algorithm, bits)
+def certificate(issuer=EMPTY, extensions=(), signature=b"\0", by=ALGORITHM):
+    part = certificate_part(1, by, issuer, DATES, EMPTY, KEY, extensions=extensions)
+    return sequence(part, by, bits(signature))
 
 
-def extension(of, content, critical=False):
-    return sequence(of, b"\x01\x01\xff" if critical else b"", tlv(0x04, content))
-
-
-AUTHORITY = extension(bytes.fromhex("0603551D13"), bytes.fromhex("30030101FF"), True)
+# A run: the program, its arguments, and its files by their names.
 
 
 def check(stream, anchors=None):
-    return "check", {"anchors": anchors or certificate(), "stream": stream}, ("anchors", "stream")
+    words = ["check", "anchors", "stream", MOMENT, PURPOSE, "4294967295"]
+    return "cert_desk_program", words, {"anchors": anchors or certificate(), "stream": stream}
 
 
-def show(kind, value):
-    return "show", {"file": value}, (kind, "file")
+def show(octets):
+    return "cert_desk_program", ["show", "certificate", "file"], {"file": octets}
 
 
 def named(relative_names):
-    return show("certificate", certificate(sequence(relative_names)))
+    return show(certificate(sequence(relative_names)))
 
 
 def issue(orders):
-    return "issue", {"orders": orders}, ("orders",)
+    return "cert_desk_program", ["issue", "orders"], {"orders": orders}
 
 
-def order(name, count):
-    dns = "\ndns a.example" if count else ""
+def rows(program, question):
+    return program, [], {"stdin": f"{question}\n".encode()}
+
+
+# The inputs.
+
+
+def order(name, place):
+    dns = "\ndns a.example" if place else ""
     dates = "from 2002-01-01T12:01:00Z\nuntil 2030-12-31T08:30:00Z"
     key = "key 300B300306012A030400616263"
-    return f"order\nname {name}\n{dates}\nserial {count + 1:04x}\n{key}{dns}\n".encode()
+    return f"order\nname {name}\n{dates}\nserial {place + 1:04x}\n{key}{dns}\n".encode()
 
 
-def headers(count):
-    """So many headers one within the other, as the parameters of an algorithm."""
-    found, size = [], 0
-    for _ in range(count):
-        found.append(b"\x30" + length(size))
-        size += len(found[-1])
-    return b"".join(reversed(found))
+def orders(*names):
+    return issue(b"".join(order(name, place) for place, name in enumerate(names)))
 
 
-def within(parameters):
-    """A certificate whose algorithms have these parameters."""
-    algorithm = sequence(bytes.fromhex("06012A"), parameters)
-    part = sequence(bytes.fromhex("020101"), algorithm, EMPTY, DATES, EMPTY, KEY)
-    return sequence(part, algorithm, BITS)
-
-
-def attribute(text):
-    value = tlv(0x0C, text.encode())
-    return sequence(bytes.fromhex("0603550403"), value)
-
-
-def members(texts):
-    return tlv(0x31, b"".join(sorted(attribute(it) for it in texts)))
-
-
-def authority(size):
-    return certificate(extensions=AUTHORITY, bits=tlv(3, bytes(size)))
-
-
-def hashed(size):
-    """A certificate of the algorithm of digests, so that each question hashes so many octets."""
-    algorithm = sequence(tlv(0x06, bytes.fromhex("2b0601040181fd5902")))
-    content = extension(identifier("1.2.1"), bytes(size))
-    return certificate(extensions=content, bits=tlv(3, bytes(33)), algorithm=algorithm)
-
-
-def distinct(count):
-    identifiers = (identifier(f"1.2.{it}") for it in range(count))
-    return certificate(extensions=b"".join(extension(it, b"") for it in identifiers))
-
-
-def repeated(count):
-    return certificate(extensions=extension(identifier("1.2.1"), b"") * count)
-
-
-def nameless(count):
-    names = sequence(bytes.fromhex("8200") * count)
-    return certificate(extensions=extension(bytes.fromhex("0603551D11"), names))
+def root_of(mark, attributes):
+    """Returns an order of a root whose name has these attributes, joined by a character."""
+    return orders(mark.join(attributes))
 
 
 ROOT = "CN=r,O=o,C=US"
 
 
-def chain_of_orders(count):
-    return b"".join(order("CN=s" if it else ROOT, it) for it in range(count))
+def headers(count):
+    """Returns a certificate whose algorithms have nested headers as parameters."""
+    found, size = [], 0
+    for _ in range(count):
+        found.append(b"\x30" + length(size))
+        size += len(found[-1])
+    return certificate(by=algorithm("1.2", *reversed(found)))
 
 
-def chain_of(attribute, count, last=False):
-    """Orders of which the second, or the last, has a name of so many empty attributes."""
-    name = ",".join([attribute] * count)
-    names = [ROOT, name] if last else [ROOT, name, "CN=s"]
-    return b"".join(order(it, place) for place, it in enumerate(names))
+def members(texts):
+    """Returns an RDN with these common names."""
+    encoded = (sequence(identifier("2.5.4.3"), text(each)) for each in texts)
+    return tlv(0x31, *sorted(encoded))
+
+
+def authority(size):
+    mark = extension("2.5.29.19", sequence(tlv(0x01, b"\xff")), True)
+    return certificate(extensions=[mark], signature=bytes(size - 1))
+
+
+def hashed(size):
+    """Returns a certificate with the algorithm of digests: each question hashes `size` bytes."""
+    by = algorithm("1.3.6.1.4.1.32473.2")
+    extensions = [extension("1.2.1", bytes(size))]
+    return certificate(extensions=extensions, signature=bytes(32), by=by)
+
+
+def distinct(count):
+    return certificate(extensions=[extension(f"1.2.{it}", b"") for it in range(count)])
+
+
+def repeated(count):
+    return certificate(extensions=[extension("1.2.1", b"")] * count)
+
+
+def nameless(count):
+    names = sequence(tlv(0x82) * count)
+    return certificate(extensions=[extension("2.5.29.17", names)])
 
 
 def falling(count):
@@ -144,109 +133,91 @@ def falling(count):
     return rows("test_der_rows", f"set-from u16 {sequence(*numbers).hex()}")
 
 
-def rows(program, question):
-    return program, {"stdin": f"{question}\n".encode()}, ()
-
-
 def octet_by_octet(count):
-    stream = certificate(bits=tlv(3, bytes(count)))
+    stream = certificate(signature=bytes(count - 1))
     ones = ",".join(["1"] * len(stream))
     asked = f"{certificate().hex()} {stream.hex()} {MOMENT} {PURPOSE} 4294967295"
     return rows("test_cert_rows", f"pieces -/{ones}/-/- yes check {asked}")
 
 
-# By name an input's greater count, how a count makes it, and with which statuses its run may end.
+# The larger count of each input, how it is made of a count, and the statuses that are expected.
 INPUTS = {
     "certificates": (70_000, lambda n: check(authority(1300) * n), {0, 1}),
-    "least certificates": (500_000, lambda n: check(certificate(bits=tlv(3, b"\0")) * n), {1}),
-    "large certificate": (64_000_000, lambda n: check(certificate(bits=tlv(3, bytes(n)))), {1}),
+    "least certificates": (500_000, lambda n: check(certificate(signature=b"") * n), {1}),
+    "large certificate": (64_000_000, lambda n: check(certificate(signature=bytes(n - 1))), {1}),
     "anchors": (20_000, lambda n: check(certificate(), certificate() * n), {0, 1}),
     "anchors of one name": (400, lambda n: check(hashed(400_000), certificate() * n), {1}),
     "extensions": (100_000, lambda n: check(distinct(n)), {0, 1}),
-    "extensions listed": (
-        100_000,
-        lambda n: show("certificate", repeated(n)),
-        {0},
-    ),
+    "extensions listed": (100_000, lambda n: show(repeated(n)), {0}),
     "relative names": (100_000, lambda n: named(members(["a"]) * n), {0}),
-    "empty relative names": (1_000_000, lambda n: named(bytes.fromhex("3100") * n), {0}),
+    "empty relative names": (1_000_000, lambda n: named(tlv(0x31) * n), {0}),
     "members of a relative name": (100_000, lambda n: named(members(map(str, range(n)))), {0}),
     "alternative names": (1_000_000, lambda n: check(nameless(n)), {0, 1}),
-    "headers": (1_000_000, lambda n: check(within(headers(n))), {0, 1}),
+    "headers": (1_000_000, lambda n: check(headers(n)), {0, 1}),
     "text of a root's types": (
-        40_000,
-        lambda n: issue(order(",".join(f"1.2.{it}=x" for it in range(n)), 0)),
-        {1},
+        40_000, lambda n: root_of(",", (f"1.2.{it}=x" for it in range(n))), {1}
     ),
-    "text of members": (
-        40_000,
-        lambda n: issue(order("+".join(f"CN={it}" for it in range(n)), 0)),
-        {1},
+    "text of members": (40_000, lambda n: root_of("+", (f"CN={it}" for it in range(n))), {1}),
+    "text of relative names": (50_000, lambda n: root_of(",", ["L=x"] * n), {1}),
+    "localities of an authority": (
+        130_000, lambda n: orders(ROOT, ",".join(["L="] * n), "CN=s"), {0}
     ),
-    "text of relative names": (50_000, lambda n: issue(order(",".join(["L=x"] * n), 0)), {1}),
-    "localities of an authority": (130_000, lambda n: issue(chain_of("L=", n)), {0}),
-    "countries of a subscriber": (130_000, lambda n: issue(chain_of("C=", n, last=True)), {0}),
-    "orders": (10_000, lambda n: issue(chain_of_orders(n)), {0, 1}),
+    "countries of a subscriber": (130_000, lambda n: orders(ROOT, ",".join(["C="] * n)), {0}),
+    "orders": (10_000, lambda n: orders(ROOT, *["CN=s"] * (n - 1)), {0, 1}),
     "falling members": (10_000, falling, {0}),
     "octet by octet": (1_000_000, octet_by_octet, {0}),
 }
 
 
-def run(folder, made):
-    """The processor time and the memory of a run, and how it ended.
+def run(programs, made):
+    """Returns the processor time, the memory and the status of a run.
 
-    Memory is told by a program between: a child of this process would begin with what this has.
+    /usr/bin/time measures the memory, since a child of this process would start with the memory of
+    this process.
     """
-    how, files, words = made
-    for name, octets in files.items():
-        pathlib.Path(folder, name).write_bytes(octets)
-    program, arguments, given = how, [], subprocess.DEVNULL
-    if how.endswith("_rows"):
-        given = open(pathlib.Path(folder, "stdin"))
-    else:
-        program = "cert_desk_program"
-        arguments = [how, *words, *([MOMENT, PURPOSE, "4294967295"] if how == "check" else [])]
-    peak = pathlib.Path(folder, "peak")
-    told = ["/usr/bin/time", "-f", "%M", "-o", peak]
-    child = subprocess.Popen(
-        [*told, pathlib.Path(FOLDER, program).resolve(), *arguments],
-        cwd=folder,
-        stdin=given,
-        stdout=subprocess.DEVNULL,
-        stderr=subprocess.DEVNULL,
+    program, words, files = made
+    with tempfile.TemporaryDirectory() as folder:
+        for file, octets in files.items():
+            pathlib.Path(folder, file).write_bytes(octets)
+        peak, given = pathlib.Path(folder, "peak"), pathlib.Path(folder, "stdin")
+        command = ["/usr/bin/time", "-f", "%M", "-o", peak, programs / program, *words]
+        quiet = {"stdout": subprocess.DEVNULL, "stderr": subprocess.DEVNULL, "cwd": folder}
+        with open(given if given.exists() else os.devnull) as stdin:
+            child = subprocess.Popen(command, stdin=stdin, **quiet)
+            _, status, usage = os.wait4(child.pid, 0)
+        resident = int(peak.read_text().split()[-1]) * 1024
+    return usage.ru_utime + usage.ru_stime, resident, os.waitstatus_to_exitcode(status)
+
+
+def is_borne(programs, name):
+    """Measures an input. Returns whether its time grows, and its runs end, as they should."""
+    count, make, ends = INPUTS[name]
+    times, is_right = [], True
+    for number in count // 2, count:
+        made = make(number)
+        spent, resident, statuses = zip(*(run(programs, made) for _ in range(3)))
+        times.append(min(spent))
+        if not set(statuses) <= ends:
+            is_right = False
+            print(f"{name}: {number}: ended with {set(statuses)}")
+    size = sum(map(len, made[2].values()))
+    grown = times[1] / max(times[0], 0.005)
+    mark = " TOO MUCH" if grown > 2.6 else ""
+    print(
+        f"{name}: {count}, {size} octets: {times[0]:.3f} s, {times[1]:.3f} s, {grown:.2f}; "
+        f"{min(resident) / size:.1f}{mark}",
+        flush=True,
     )
-    _, status, usage = os.wait4(child.pid, 0)
-    spent = usage.ru_utime + usage.ru_stime
-    resident = int(peak.read_text().split()[-1]) * 1024
-    return spent, resident, os.waitstatus_to_exitcode(status)
+    return is_right and not mark
 
 
 def main():
-    failed = False
-    for name, (count, make, ends) in INPUTS.items():
-        if NAMES and name not in NAMES:
-            continue
-        times = []
-        for number in count // 2, count:
-            made = make(number)
-            with tempfile.TemporaryDirectory() as folder:
-                found = [run(folder, made) for _ in range(3)]
-            times.append(min(it[0] for it in found))
-            resident = min(it[1] for it in found)
-            statuses = {it[2] for it in found}
-            if not statuses <= ends:
-                failed = True
-                print(f"{name}: {number}: ended with {statuses}")
-        size = sum(map(len, made[1].values()))
-        grown = times[1] / max(times[0], 0.005)
-        failed |= grown > 2.6
-        mark = " TOO MUCH" if grown > 2.6 else ""
-        print(
-            f"{name}: {count}, {size} octets: {times[0]:.3f} s, {times[1]:.3f} s, {grown:.2f}; "
-            f"{resident / size:.1f}{mark}",
-            flush=True,
-        )
-    sys.exit(failed)
+    parser = argparse.ArgumentParser(description=__doc__.splitlines()[0])
+    parser.add_argument("folder", metavar="FOLDER", type=pathlib.Path)
+    parser.add_argument("names", metavar="NAME", nargs="*", default=list(INPUTS))
+    given = parser.parse_args()
+    return not all([is_borne(given.folder.resolve(), name) for name in given.names])
 
 
-main()
+if __name__ == "__main__":
+    sys.exit(main())

@@ -1,24 +1,23 @@
 #!/usr/bin/env python3
-"""Lets each request for memory of a program fail in turn.
+"""Lets each allocation of a program fail in turn.
 
-    tests/rows/memory.py PROGRAM STDIN [FROM [STEP]]    a program of rows, built, and its questions
-    tests/rows/memory.py --run PROGRAM [ARGUMENT..]     one run of another program
+    tests/rows/memory.py PROGRAM STDIN [FROM [STEP]]    a program of test vectors and its questions
+    tests/rows/memory.py --run PROGRAM [ARGUMENT..]     a run of another program
 
-Each question is asked in a run of its own, with the table's first question behind it, and in that
-run each request for memory fails in turn, the others being met. Each of the two answers has to be
-the one with ample memory, or to say that there was none, as far as a failing output lets it, and at
-most one may say that; else the program has to end with an error, and what it wrote has to be a
-beginning of what it writes with ample memory. Behind `again` no answer may be another than with
-ample memory but the word `memory`. FROM and STEP take every STEPth question from the FROMth on, so
-that several may run beside one another. Left out are questions `cuts` and `fronts` of more than 700
-characters, whose requests grow with the square of their octets; other `cuts` come last, the
-shortest first, and are counted apart.
+It asks each question in a run of its own, followed by the first question of the file, and lets each
+allocation of that run fail in turn. Each of the two answers has to be the one with ample memory, or
+report that memory ran out, if a failing output allows it; only one may report that. Otherwise the
+program has to exit with an error, after a prefix of the output with ample memory. The answer to
+`again` has to be the one with ample memory, or `memory`. FROM and STEP select every STEPth question
+from the FROMth on, so that several can run in parallel. Questions `cuts` and `fronts` of more than
+700 characters are left out, since their allocations grow with the square of their size. The other
+`cuts` come last, the shortest first, and are counted separately.
 
-Another program is run anew for each request, and has to answer `memory` with status 6, its output a
-beginning of the whole one, or what it answers with ample memory.
+Another program is run once for each allocation. It has to answer as with ample memory, or to print
+`memory` and exit with status 6, after a prefix of that output.
 
-It prints how many requests there were, what came of them, and each answer that is none of these;
-the status is 0 where there is none. It wants gcc, and isn't part of CI.
+It prints how many allocations there were, what came of them, and each other answer; the status is 0
+if there is none. It needs gcc, and isn't part of CI.
 """
 
 import collections
@@ -38,7 +37,7 @@ WANT = re.compile(r"\bmemory\b|OutOfMemory|NoMemory")
 
 
 def told(log):
-    """Each request: its number, the status of its run, and what that wrote."""
+    """Yields the number of each allocation, the status of its run, and the output."""
     at = 0
     while at < len(log):
         stop = log.index(b"\n", at)
@@ -48,15 +47,15 @@ def told(log):
 
 
 def blocks_of(text, questions):
-    """The answers of a program that writes each question in front of its answer, or none."""
+    """Returns the answers of a program that prints each question before its answer, or None."""
     first, second = (f"{question}\n" for question in questions)
     at = text.rfind(f"\n{second}") + 1
     return [text[:at], text[at:]] if text.startswith(first) and at > 0 else None
 
 
 def is_untold(ample, block):
-    """Whether an answer of several lines says that there was no memory, to a vector that grows or
-    of a file that is opened, behind a beginning of what it is with ample memory."""
+    """Returns whether an answer of several lines reports that an allocation failed, after a prefix
+    of the answer with ample memory."""
     head = block.split("\n", 1)[0] + "\n"
     if block in (f"{head}memory\n", f"{head}no file\n"):
         return True
@@ -65,7 +64,7 @@ def is_untold(ample, block):
 
 
 def is_cut_off(question, line):
-    """Whether an error output that fails took a beginning of the word, and `device` was tried."""
+    """Returns whether an error output failed within the word, so that `device` was tried."""
     told = re.fullmatch(r'5 "[^"]*" "([^"]*)"( asked=\d+)?', line)
     if not told or not {"pieces", "call"} & set(question.split(" ")[:2]):
         return False
@@ -75,7 +74,7 @@ def is_cut_off(question, line):
 
 
 def kind_of(question, first, ample, status, out):
-    """What came of a refused request: a word that the summary counts, or none where it is wrong."""
+    """Returns what came of a failed allocation, as the summary counts it. None is wrong."""
     if status != 0:
         ended = status < 128 and ample.startswith(out)
         return "ended with an error" if ended else None
@@ -98,7 +97,7 @@ def kind_of(question, first, ample, status, out):
 
 
 def log_of(program, question, first, refuse, folder):
-    """What two questions are answered with ample memory, and what with each request refused."""
+    """Returns the answers with ample memory, and those after each failed allocation."""
     pathlib.Path(f"{folder}/in").write_text(f"{question}\n{first}\n")
     log = pathlib.Path(f"{folder}/log")
     log.unlink(missing_ok=True)
@@ -112,7 +111,7 @@ def log_of(program, question, first, refuse, folder):
 
 
 def is_right(questions, first, log_of_question):
-    """Prints what came of these questions, and tells whether nothing else did."""
+    """Prints what came of these questions, and returns whether all of it was right."""
     counts, wrong = collections.Counter(questions=len(questions)), 0
     for question in questions:
         ample, refused = log_of_question(question)
@@ -128,7 +127,7 @@ def is_right(questions, first, log_of_question):
 
 
 def of_rows(refuse, folder, program, table, start="0", step="1"):
-    """Whether each request of each question of a table is answered as it has to be."""
+    """Returns whether the program answers rightly after each failed allocation of each question."""
     questions = [it for it in pathlib.Path(table).read_text().split("\n") if it and it[0] != "#"]
     first = questions[0]
     asked = [it for it in questions if len(it) < 700 or not it.startswith(("cuts ", "fronts "))]
@@ -142,7 +141,7 @@ def of_rows(refuse, folder, program, table, start="0", step="1"):
 
 
 def of_run(refuse, folder, *command):
-    """Whether a run answers each of its requests as it has to."""
+    """Returns whether a program answers rightly after each failed allocation of a run."""
     told, number, wrong = pathlib.Path(folder, "refused"), 0, 0
 
     def run(number):

@@ -1,22 +1,22 @@
 #!/usr/bin/env python3
-"""Has cert_tool judge the chains of six other projects' tests, and writes SUITES.md.
+"""Has cert_tool validate the chains of six other projects' tests, and writes SUITES.md.
 
     suites.py CERT_TOOL [FOLDER [PAGE]]
 
-CERT_TOOL is the program; one that stands in a folder out/ is one that `rt` has proved and built.
-The sources of OpenSSL, GnuTLS, mbedTLS, Botan, Heimdal and Go are fetched as Debian has them into
-FOLDER, some 400 MB, which keeps them for a second run. It wants apt, and isn't part of CI.
+CERT_TOOL is the program. If it is in a folder out/, the page says that `rt` proved and built it.
+The script fetches Debian's sources of OpenSSL, GnuTLS, mbedTLS, Botan, Heimdal and Go into FOLDER,
+some 400 MB, and a second run uses them again. It needs apt, and isn't part of CI.
 
-Each reader below reads the sources of one project, and yields tests. What it can't read isn't
-there, so each says how many there have to be at least. Since cert_tool builds no paths, this script
-hands over each way up from the end of a chain to an anchor, by names; a chain is trusted where one
-of them is. Signatures are verified by examples/answer.py. Where a suite expects otherwise, the
-difference has a class: of a chain that is trusted and should not be, what the suite tests that is
-no rule of cert_tool's; of one that is refused and should not be, the rule that it breaks. The
-status is 1 where a chain is trusted that has to be refused for a reason within the rules, or a
-difference has no class.
+Each reader below reads the sources of one project, and yields its tests. A test that it can't parse
+would be lost in silence, so there is a minimum for each project. Since cert_tool builds no paths,
+this script tries each path from the end-entity certificate to an anchor, by names; a chain is
+trusted if one of its paths is. examples/answer.py verifies the signatures. If a suite expects
+another result, the difference gets a class: of a trusted chain, what the suite tests and cert_tool
+doesn't; of a rejected chain, the rule that it breaks. The status is 1 if a chain is trusted that
+has to be rejected by a rule of cert_tool, or if a difference has no class.
 """
 
+import argparse
 import collections
 import datetime
 import pathlib
@@ -28,7 +28,7 @@ import tempfile
 import warnings
 
 HERE = pathlib.Path(__file__).resolve().parent
-sys.path[:0] = [str(HERE.parents[1] / "examples"), str(HERE.parents[1] / "tools")]
+sys.path[:0] = [str(HERE.parents[1] / it) for it in ("examples", "tools", "tests")]
 
 import needs
 
@@ -37,11 +37,14 @@ needs.check(__file__)
 import answer
 from cryptography import x509
 
+from der import values
+from tool import Tool
+
 warnings.simplefilter("ignore")  # of cryptography, on serial numbers that it will refuse
 
-# A chain: its end, what may stand between, and anchors, each in DER; a moment in seconds since
-# 1970, or none where dates are put aside; a purpose, or none; whether it has to be trusted, and why
-# not, in the words of the suite.
+# A chain: its end-entity certificate, intermediates and anchors, in DER; the validation time in
+# seconds since 1970, or None if dates are ignored; a purpose or None; whether it has to be trusted,
+# and why not, in the words of the suite.
 Test = collections.namedtuple("Test", "suite name end between anchors moment purpose good why")
 
 PEM = re.compile(r"-----BEGIN (?:X509 |TRUSTED )?CERTIFICATE-----(.*?)-----END", re.S)
@@ -59,7 +62,7 @@ def seconds(year, month=1, day=1):
 
 
 def first_value(octets):
-    """The first value of these octets (X.690 8.1), since what OpenSSL trusts has more behind it."""
+    """Returns the first value (X.690 8.1). OpenSSL's trusted certificates have another one."""
     size, start = octets[1], 2
     if size >= 128:
         start += size - 128
@@ -68,7 +71,7 @@ def first_value(octets):
 
 
 def of_text(text):
-    """The certificates in a text in PEM."""
+    """Returns the certificates in a text in PEM."""
     found = (ssl.PEM_cert_to_DER_cert(HEADER + body.strip() + FOOTER) for body in PEM.findall(text))
     return [first_value(octets) for octets in found]
 
@@ -200,7 +203,7 @@ def botan(top):
 
 
 def heimdal(top):
-    """PKITS, whose certificates stand in a folder of their own beside the sources."""
+    """Reads PKITS, whose certificates are in a folder beside the sources."""
     certs = top.parent / "pkits" / "certs"
     names = {path.name: of_file(path)[0] for path in sorted(certs.glob("*.crt"))}
     anchor = names.pop("TrustAnchorRootCertificate.crt")
@@ -244,7 +247,7 @@ READERS = {
 
 
 def fetch(folder):
-    """Fetches the sources that aren't there."""
+    """Fetches the sources that are missing."""
     (folder / "lists/partial").mkdir(parents=True, exist_ok=True)
     parts = "debian bookworm", "debian-security bookworm-security"
     rows = "".join(f"deb-src http://deb.debian.org/{part} main\n" for part in parts)
@@ -275,7 +278,7 @@ def fetch(folder):
 
 
 def read_all(folder):
-    """All tests, with the version of each project."""
+    """Returns all tests, and the version of each project."""
     tests, versions = [], {}
     for package, (reader, least) in READERS.items():
         top = folder / package
@@ -288,7 +291,7 @@ def read_all(folder):
 
 
 def certificates(folder):
-    """Each certificate that lies in a file of the sources, once a project."""
+    """Yields each certificate in a file of the sources, once for each project."""
     for package in READERS:
         seen = set()
         paths = [*(folder / package).rglob("*"), *([] if package != "heimdal" else
@@ -306,7 +309,7 @@ def certificates(folder):
 
 
 def is_read_by_python(octets):
-    """Whether Python's cryptography reads a certificate, with its names and extensions."""
+    """Returns whether Python's cryptography reads a certificate, its names and extensions."""
     try:
         certificate = x509.load_der_x509_certificate(octets)
         return bool((certificate.subject, certificate.issuer, certificate.extensions))
@@ -315,7 +318,7 @@ def is_read_by_python(octets):
 
 
 def purposes(octets):
-    """The purposes that a certificate lists, if it lists any."""
+    """Returns the purposes that a certificate lists."""
     try:
         extensions = x509.load_der_x509_certificate(octets).extensions
         usage = extensions.get_extension_for_class(x509.ExtendedKeyUsage).value
@@ -325,19 +328,19 @@ def purposes(octets):
 
 
 def purpose_of(way):
-    """A purpose that each certificate lists which lists any, else one of the last one's."""
+    """Returns a purpose that all certificates allow, or else one of the last certificate."""
     listed = [found for found in map(purposes, way) if found]
     each = [one for one in (listed or [[]])[-1] if all(one in found for found in listed)]
     return (each or purposes(way[-1]) or ["serverAuth"])[0]
 
 
-# What cert_tool says of them.
+# The verdicts of cert_tool.
 
 WAYS, DEPTH = 40, 10
 ANCHORS = "anchors"
 
-# What suites refuse for a reason that is a rule of cert_tool's, by their words: a chain that is
-# trusted then is a fault, unless the rule is broken by an anchor.
+# The words of suites for reasons that are rules of cert_tool. It is an error if such a chain is
+# trusted, unless an anchor breaks the rule.
 WITHIN = re.compile(
     r"CERT_(EXPIRED|NOT_ACTIVATED|SIGNER_NOT|PURPOSE|UNKNOWN_CRIT|SIGNATURE)|"
     r"BADCERT_(EXPIRED|FUTURE|NOT_TRUSTED|EXT_KEY|NS_CERT)|"
@@ -347,7 +350,7 @@ WITHIN = re.compile(
     r"keyCertSign|pathLen|unrecognized critical|[Uu]nknown critical"
 )
 
-# What suites test that is no rule of cert_tool's: how it is known, by their words, and why.
+# What suites test and cert_tool doesn't: the class, the words of suites, and why.
 LOOSER = [
     ("revocation", r"CRL|cRLSign|[Rr]evo[ck]|REVOKED|on hold|can not be determined",
      "no revocation is judged"),
@@ -370,8 +373,8 @@ LOOSER = [
      "the first of the chain it breaks a rule"),
 ]
 
-# Why chains are refused that suites trust: by the rule or the fault that cert_tool names, and what
-# explains it.
+# Why chains are rejected that suites trust: the class, the rule or fault that cert_tool reports,
+# and the explanation.
 STRICTER = [
     ("critical extensions", r"UnweighedCritical", "a critical extension that isn't judged refuses "
      "its certificate: name constraints, policies and mappings among them (RFC 5280 4.2)"),
@@ -391,32 +394,23 @@ STRICTER = [
 ]
 
 
-def values(octets):
-    """The values in these octets: tag, whole, contents (X.690 8.1)."""
-    while octets:
-        whole = first_value(octets)
-        start = 2 if octets[1] < 128 else octets[1] - 126
-        yield octets[0], whole, whole[start:]
-        octets = octets[len(whole) :]
-
-
 def text_of(tag, contents):
-    """The text of an attribute's value, case and blanks put aside."""
+    """Returns the text of an attribute's value, without upper case and repeated blanks."""
     coding = {0x1E: "utf-16-be", 0x1C: "utf-32-be", 0x0C: "utf-8"}.get(tag, "latin-1")
     return " ".join(contents.decode(coding, "replace").casefold().split())
 
 
 def name_of(contents):
-    """A name to compare by, as RFC 5280 7.1 has it at its loosest."""
+    """Prepares a name for comparison, as loosely as RFC 5280 7.1 allows."""
     found = []
-    for _, _, rdn in values(contents):
-        members = (tuple(values(member))[:2] for _, _, member in values(rdn))
-        found.append(frozenset((kind[2], text_of(*value[::2])) for kind, value in members))
+    for _, rdn, _ in values(contents):
+        members = (tuple(values(member))[:2] for _, member, _ in values(rdn))
+        found.append(frozenset((kind[1], text_of(*value[:2])) for kind, value in members))
     return tuple(found)
 
 
 class Certificate:
-    """A certificate in DER: its names, and its dates in seconds, where they can be read."""
+    """A certificate in DER, with its names and its dates in seconds if they can be read."""
 
     known = {}
 
@@ -424,10 +418,10 @@ class Certificate:
         self.octets = octets
         self.issuer = self.subject = self.dates = None
         try:
-            fields = list(values(next(values(next(values(octets))[2]))[2]))
-            fields = fields[1:] if fields[0][0] == 0xA0 else fields
-            self.issuer, self.subject = name_of(fields[2][2]), name_of(fields[4][2])
-            self.dates = [moment_of(*date) for date in values(fields[3][2])]
+            signed = next(values(next(values(octets))[1]))[1]
+            fields = [contents for tag, contents, _ in values(signed) if tag != 0xA0]
+            self.issuer, self.subject = name_of(fields[2]), name_of(fields[4])
+            self.dates = [moment_of(*date[:2]) for date in values(fields[3])]
         except (IndexError, ValueError, StopIteration):
             pass
 
@@ -436,7 +430,7 @@ class Certificate:
         return cls.known.setdefault(octets, cls(octets))
 
 
-def moment_of(tag, _, contents):
+def moment_of(tag, contents):
     text = contents.decode("ascii")
     if tag == 0x17:
         text = ("19" if text[0] >= "5" else "20") + text
@@ -445,7 +439,7 @@ def moment_of(tag, _, contents):
 
 
 def ways(test):
-    """Each way up from the end to an anchor, the end last; else the longest that there is."""
+    """Returns each path from an anchor to the end-entity certificate, or else the longest one."""
     anchors = [Certificate.of(octets) for octets in test.anchors]
     between = [Certificate.of(octets) for octets in dict.fromkeys(test.between)]
     end = Certificate.of(test.end)
@@ -461,17 +455,18 @@ def ways(test):
 
 
 class Judge:
-    """Runs of cert_tool over files of one folder."""
+    """Runs cert_tool, and examples/answer.py for signatures."""
 
-    def __init__(self, tool, folder):
-        self.tool, self.folder, self.why = tool, folder, {}
+    def __init__(self, program):
+        self.tool, self.why = Tool(program), {}
 
-    def run(self, *words):
-        said = subprocess.run([self.tool, *words], cwd=self.folder, capture_output=True)
-        return said.stdout.decode().splitlines(), said.stderr.decode().splitlines()
+    def lines(self, words, inputs):
+        """Returns the lines of the output, and then those of the error output."""
+        _, output, errors = self.tool.ask(words, inputs)
+        return (output + errors).decode().splitlines()
 
     def answers(self, lines):
-        """The lines whose signature is right, and why others have no answer."""
+        """Returns the questions that are answered with yes, and why the others aren't."""
         kept, refused = [], []
         for line in lines:
             if line not in self.why:
@@ -483,38 +478,37 @@ class Judge:
         return kept, refused
 
     def terms(self, test, way):
-        """Writes the files of a chain, its answers too, and gives the words that name them."""
+        """Returns the arguments and the files of a chain, and why questions have no answer."""
         moment = test.moment
         if moment is None:  # one at which all are valid, where there is one
             moment = max([it.dates[0] for it in way if it.dates] or [0])
-        (self.folder / "anchors").write_bytes(b"".join(test.anchors))
-        (self.folder / "chain").write_bytes(b"".join(it.octets for it in way))
-        asked, _ = self.run("questions", "--anchors", "anchors", "chain")
-        kept, refused = self.answers(asked)
-        (self.folder / "answers").write_text("".join(f"{line}\n" for line in kept))
+        inputs = {"anchors": b"".join(test.anchors), "chain": b"".join(it.octets for it in way)}
+        asked = self.tool.ask(["questions", "--anchors", "anchors", "chain"], inputs)[1]
+        kept, refused = self.answers(asked.decode().splitlines())
+        inputs["answers"] = "".join(f"{line}\n" for line in kept).encode()
         words = ["--anchors", "anchors", "--answers", "answers", "--at", str(max(moment, 0))]
         purpose = test.purpose or purpose_of([it.octets for it in way])
-        return [*words, "--purpose", purpose, "chain"], refused
+        return [*words, "--purpose", purpose, "chain"], inputs, refused
 
     def verdict(self, test, way):
-        """The line of `verify`, and what tells more of it."""
-        terms, refused = self.terms(test, way)
-        told, more = self.run("verify", *terms)
-        line = (told + more + ["nothing"])[0]
+        """Returns the line of `verify`, and what explains it."""
+        words, inputs, refused = self.terms(test, way)
+        line = (self.lines(["verify", *words], inputs) or ["nothing"])[0]
         if line.startswith("refused"):
             place, rule = line.split()[1:3]
-            said = self.explained(place, terms)
+            said = self.explained(place, words, inputs)
             line += ": " + next((it for it in said if it.startswith(rule)), "")
             line += " " + "; ".join(refused) if rule == "WrongSignature" else ""
         return line
 
     def broken(self, test, way):
-        """The rules that the first certificate of a chain breaks."""
-        return {it.partition(":")[0] for it in self.explained("0", self.terms(test, way)[0])}
+        """Returns the rules that the first certificate of a chain breaks."""
+        words, inputs, _ = self.terms(test, way)
+        return {it.partition(":")[0] for it in self.explained("0", words, inputs)}
 
-    def explained(self, place, terms):
-        """What `explain chain` says of the certificate at a place, but for remarks."""
-        lines = self.run("explain", "chain", *terms)[0]
+    def explained(self, place, words, inputs):
+        """Returns the rules that a certificate of the chain breaks, as `explain chain` has them."""
+        lines = self.lines(["explain", "chain", *words], inputs)
         heads = [at for at, it in enumerate(lines) if it.startswith(f"certificate {place}")]
         found = []
         for line in lines[heads[0] + 1 :] if heads else []:
@@ -528,7 +522,7 @@ Judged = collections.namedtuple("Judged", "test line kind")
 
 
 def judged(judge, test):
-    """What comes of a test: agreement, or the class of its difference."""
+    """Runs a test. Returns whether the verdict agrees, or the class of the difference."""
     lines = []
     tried = ways(test)
     for way in tried:
@@ -550,14 +544,14 @@ def judged(judge, test):
 
 
 def is_linked(test, way):
-    """Whether a way goes from an anchor to the end, by names that are prepared."""
+    """Returns whether a path goes from an anchor to the end, by prepared names."""
     anchors = [Certificate.of(octets) for octets in test.anchors]
     above = [any(way[0].issuer == anchor.subject for anchor in anchors)]
     return all(above + [below.issuer == it.subject for it, below in zip(way, way[1:])])
 
 
 def looser(judge, test, way):
-    """The class of a chain that is trusted, and that its suite refuses."""
+    """Returns the class of a chain that is trusted and that its suite rejects, or None."""
     if not WITHIN.search(test.why):
         found = next((name for name, words, _ in LOOSER if re.search(words, test.why)), None)
         if found:
@@ -575,16 +569,13 @@ Reading = collections.namedtuple("Reading", "package fault openssl python")
 
 
 def reading(judge, package, octets):
-    """Why cert_tool doesn't read a certificate, if it doesn't, and whether two others do then."""
-    path = judge.folder / "certificate"
-    path.write_bytes(octets)
-    describe = [judge.tool, "describe", "certificate", path]
-    if not subprocess.run(describe, capture_output=True).returncode:
+    """Returns why cert_tool can't read a certificate, and whether two other programs can."""
+    if judge.tool.ask_of(octets, "describe", "certificate")[0] == 0:
         return Reading(package, None, None, None)
-    said = judge.run("explain", "certificate", "certificate")[0]
+    said = judge.lines(["explain", "certificate", "file"], {"file": octets})
     fault = re.sub(r"^octet \d+: ", "", (said or ["nothing"])[0])
-    openssl = ["openssl", "x509", "-inform", "DER", "-noout", "-in", path]
-    others = subprocess.run(openssl, capture_output=True).returncode == 0
+    openssl = ["openssl", "x509", "-inform", "DER", "-noout"]
+    others = subprocess.run(openssl, input=octets, capture_output=True).returncode == 0
     return Reading(package, fault, others, is_read_by_python(octets))
 
 
@@ -616,7 +607,7 @@ others, by the first fault that `cert_tool explain` tells, and how many of them 
 
 
 def page_of_readings(readings):
-    """The certificates that others read, and cert_tool doesn't, by their fault."""
+    """Returns the part of the page on certificates that only other programs read."""
     by_fault = collections.defaultdict(list)
     for one in readings:
         if one.fault and (one.openssl or one.python):
@@ -667,32 +658,33 @@ def page(all_judged, readings, versions, tool):
     return "\n".join(out + page_of_readings(readings))
 
 
-def main(words):
-    if len(words) not in (1, 2, 3) or words[0].startswith("-"):
-        print(__doc__, file=sys.stderr)
-        return 2
-    tool, path = pathlib.Path(words[0]).resolve(), pathlib.Path(*words[2:] or [HERE / "SUITES.md"])
+def main():
+    parser = argparse.ArgumentParser(description=__doc__.splitlines()[0])
+    parser.add_argument("program", metavar="CERT_TOOL", type=pathlib.Path)
+    parser.add_argument("folder", metavar="FOLDER", nargs="?", type=pathlib.Path)
+    parser.add_argument("page", metavar="PAGE", nargs="?", type=pathlib.Path,
+                        default=HERE / "SUITES.md")
+    given = parser.parse_args()
+    program = given.program.resolve()
+    judge = Judge(program)
     with tempfile.TemporaryDirectory() as room:
-        folder = pathlib.Path(*words[1:2] or [room]).resolve()
+        folder = (given.folder or pathlib.Path(room)).resolve()
         fetch(folder)
         tests, versions = read_all(folder)
-        work = pathlib.Path(room) / "work"
-        work.mkdir()
-        judge = Judge(tool, work)
         all_judged = [judged(judge, test) for test in tests]
         readings = [reading(judge, *it) for it in certificates(folder)]
-        version = judge.run("--version")[0][0]
-        version += ", as `rt` proves and builds it" if tool.parent.name == "out" else ", unproved"
+    [version] = judge.lines(["--version"], {})
+    version += ", as `rt` proves and builds it" if program.parent.name == "out" else ", unproved"
     for one in all_judged:
         if one.kind != "agrees":
             verdict = "trusted" if one.line.startswith("trusted") else one.line
             print(f"{one.test.suite}: {one.test.name}: {one.kind or 'NO CLASS'}: {verdict}"
                   f" [{one.test.why.strip()}]")
     missing = sum(one.kind is None for one in all_judged)
-    path.write_text(page(all_judged, readings, versions, version))
+    given.page.write_text(page(all_judged, readings, versions, version))
     print(f"{len(all_judged)} chains, {missing} differences without a class")
     return bool(missing)
 
 
 if __name__ == "__main__":
-    sys.exit(main(sys.argv[1:]))
+    sys.exit(main())
