@@ -11,110 +11,113 @@ of the total is start: `rt` itself, the programs and tests as they run, and what
 samples.
 """
 
+import argparse
 import collections
 import os
+import pathlib
 import resource
 import subprocess
 import sys
 import tempfile
 import time
+import typing
 
-TICKS = os.sysconf("SC_CLK_TCK")
 KINDS = ("proof", "tests", "edits", "programs")
 
 
-def processes():
-    """Every process: its parent, its beginning, its words, its folder, and its processor seconds.
+class Process(typing.NamedTuple):
+    """A process: its parent, when it began, its words, its folder, and its processor seconds with
+    those of its children that ended."""
 
-    The seconds have those of children that ended."""
+    parent: str
+    began: str
+    words: list
+    folder: str
+    seconds: float
+
+    @property
+    def is_check(self):
+        return os.path.basename(self.words[0]) == "rattle" and "--crate-name" in self.words
+
+    @property
+    def crate(self):
+        return self.words[self.words.index("--crate-name") + 1]
+
+    @property
+    def kind(self):
+        if "rt-edit" in self.folder:
+            return "edits"
+        if "--test" in self.words:
+            return "tests"
+        return "programs" if "src/main.rt" in self.words else "proof"
+
+
+def processes():
+    """All processes, by their numbers."""
     found = {}
-    for pid in filter(str.isdigit, os.listdir("/proc")):
+    for path in pathlib.Path("/proc").glob("[0-9]*"):
         try:
-            with open(f"/proc/{pid}/cmdline", "rb") as it:
-                words = [word.decode(errors="replace") for word in it.read().split(b"\0")]
-            with open(f"/proc/{pid}/stat") as it:
-                numbers = it.read().rsplit(")", 1)[1].split()
-            where = os.readlink(f"/proc/{pid}/cwd")
+            words = (path / "cmdline").read_text(errors="replace").split("\0")
+            numbers = (path / "stat").read_text(errors="replace").rpartition(")")[2].split()
+            folder = os.readlink(path / "cwd")
         except OSError:
             continue
-        found[pid] = (numbers[1], numbers[19], words, where, sum(map(int, numbers[11:15])) / TICKS)
+        seconds = sum(map(int, numbers[11:15])) / os.sysconf("SC_CLK_TCK")
+        found[path.name] = Process(numbers[1], numbers[19], words, folder, seconds)
     return found
 
 
-def is_below(found, pid, gate):
-    """Whether a process was started by the gate."""
-    while pid in found and pid != gate:
-        pid = found[pid][0]
-    return pid == gate
-
-
-def is_check(words):
-    """Whether these are the words of a check."""
-    return os.path.basename(words[0]) == "rattle" and "--crate-name" in words
+def is_below(found, number, top):
+    """Whether a process is this one, or was started by it."""
+    while number in found and number != top:
+        number = found[number].parent
+    return number == top
 
 
 def checks(found, gate):
-    """Each check of the gate that runs: its process, crate and kind, and its seconds.
-
-    The seconds have those of the copies of it that run."""
-    own = {pid for pid, process in found.items() if is_check(process[2])}
-    own = {pid for pid in own if is_below(found, pid, gate)}
-    seconds = collections.Counter()
-    first = {}
-    for pid in own:
-        top = pid
-        while found[top][0] in own:
-            top = found[top][0]
-        first[pid] = top
-        seconds[top] += found[pid][4]
-    for pid in set(first.values()):
-        _, began, words, where, _ = found[pid]
-        if "rt-edit" in where:
-            kind = "edits"
-        elif "--test" in words:
-            kind = "tests"
-        elif "src/main.rt" in words:
-            kind = "programs"
-        else:
-            kind = "proof"
-        yield (pid, began), words[words.index("--crate-name") + 1], kind, seconds[pid]
+    """The checks that the gate runs, each with its seconds and those of the copies of itself."""
+    own = {it for it in found if found[it].is_check and is_below(found, it, gate)}
+    for number in own:
+        if found[number].parent not in own:
+            copies = (it for it in own if is_below(found, it, number))
+            yield found[number], sum(found[it].seconds for it in copies)
 
 
 def run(log):
-    """Runs the gate; its status, the minutes that it took, and the seconds of each check."""
+    """Runs the gate; gives its status, its minutes, and the minutes of each crate by kind."""
     seen, began = {}, time.time()
     how = {"stdin": subprocess.DEVNULL, "stdout": log, "stderr": subprocess.STDOUT}
-    gate = subprocess.Popen([sys.executable, "-B", "-u", ".ci/gate.py"], **how)
+    gate = subprocess.Popen(["rt", "ci"], **how)
     while gate.poll() is None:
-        for key, crate, kind, seconds in checks(processes(), str(gate.pid)):
-            seen[key] = (crate, kind, max(seconds, seen.get(key, ("", "", 0))[2]))
+        for check, seconds in checks(processes(), str(gate.pid)):
+            key = check.crate, check.kind, check.began
+            seen[key] = max(seconds, seen.get(key, 0))
         time.sleep(2)
-    return gate.returncode, (time.time() - began) / 60, seen.values()
+    table = collections.defaultdict(collections.Counter)
+    for (crate, kind, _), seconds in seen.items():
+        table[crate][kind] += seconds / 60
+    return gate.returncode, (time.time() - began) / 60, table
 
 
 def main():
-    if sys.argv[1:2] == ["--help"]:
-        print(__doc__, file=sys.stderr)
-        return 2
-    path = sys.argv[1] if len(sys.argv) > 1 else tempfile.mkstemp(prefix="gate-", suffix=".log")[1]
+    form = argparse.RawDescriptionHelpFormatter
+    words = argparse.ArgumentParser(description=__doc__, formatter_class=form)
+    words.add_argument("log", nargs="?", metavar="LOG")
+    path = words.parse_args().log or tempfile.mkstemp(prefix="gate-", suffix=".log")[1]
     with open(path, "w") as log:
-        status, minutes, seen = run(log)
-    with open(path) as log:
-        last = log.read().rstrip().split("\n")[-1]
+        status, minutes, table = run(log)
+    last = pathlib.Path(path).read_text().rstrip().split("\n")[-1]
     spent = resource.getrusage(resource.RUSAGE_CHILDREN)
     total = (spent.ru_utime + spent.ru_stime) / 60
-    table = collections.defaultdict(collections.Counter)
-    for crate, kind, seconds in seen:
-        table[crate][kind] += seconds / 60
     print(f"{time.strftime('%Y-%m-%d')}, {len(os.sched_getaffinity(0))} processors: {last}")
     print(f"{minutes:.0f} minutes, {total:.1f} processor minutes; the log is {path}")
-    print(f"{'crate':24}" + "".join(f"{kind:>10}" for kind in KINDS))
-    for crate, row in sorted(table.items(), key=lambda it: -sum(it[1].values())):
+    print(f"{'crate':34}" + "".join(f"{kind:>10}" for kind in KINDS))
+    for crate, row in sorted(table.items(), key=lambda it: -it[1].total()):
         cells = (f"{row[kind]:10.1f}" if row[kind] else f"{'':10}" for kind in KINDS)
-        print(f"{crate:24}" + "".join(cells))
-    sums = {kind: sum(row[kind] for row in table.values()) for kind in KINDS}
-    print(f"{'all':24}" + "".join(f"{sums[kind]:10.1f}" for kind in KINDS))
-    print(f"{'start, and between':24}{total - sum(sums.values()):10.1f}")
+        print(f"{crate:34}" + "".join(cells))
+    sums = sum(table.values(), collections.Counter())
+    print(f"{'all':34}" + "".join(f"{sums[kind]:10.1f}" for kind in KINDS))
+    print(f"{'start, and between':34}{total - sums.total():10.1f}")
     return status
 
 

@@ -4,7 +4,7 @@
 #     bindings/test.sh FOLDER [COUNT]
 #
 # COUNT is how many changed files are answered through each language (100,000). A suite that needs
-# what this machine lacks (a sanitizer, valgrind, cargo, a Python of 3.9) is left out, and that is
+# what this machine lacks (a sanitizer, valgrind, cargo, a Python of 3.10) is left out, and that is
 # told. The last line is 'N passed, M failed', of suites, and the status is 1 where one failed.
 set -uo pipefail
 here=$(cd "$(dirname "$0")" && pwd)
@@ -98,7 +98,7 @@ changed_files() {
 }
 
 has_python=0 has_cargo=0
-python3 -c 'import ctypes, sys, unittest; sys.exit(sys.version_info < (3, 9))' 2>/dev/null &&
+python3 -c 'import ctypes, sys, unittest; sys.exit(sys.version_info < (3, 10))' 2>/dev/null &&
     has_python=1
 cargo metadata --offline --no-deps --format-version 1 --manifest-path "$here/rust/Cargo.toml" \
     >/dev/null 2>&1 && rustc --version >/dev/null 2>&1 && has_cargo=1
@@ -128,7 +128,7 @@ if [ $has_python = 1 ]; then
     suite "Python" python_tests
     suite "Python, rows of cert_tool and test_cert_rows" python3 "$here/python/rows.py"
 else
-    left_out "Python" "there is no python3 of 3.9 or later"
+    left_out "Python" "there is no python3 of 3.10 or later"
 fi
 if [ $has_cargo = 1 ]; then
     suite "Rust" rust_tests

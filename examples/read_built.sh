@@ -1,7 +1,7 @@
 #!/usr/bin/env bash
-# Has OpenSSL 3 read what crates/example_build_certificates and crates/test_builder_rows build, and compares the
-# fields with those that were asked for: run `rt run < stdin` in both before. It is no part of the
-# gate.
+# Has OpenSSL 3 read what crates/example_build_certificates and crates/test_x509_rows build, and
+# compares the fields with those that were asked for: run `rt run < stdin` in both before. CI does
+# not run it.
 set -euo pipefail
 top=$(cd "$(dirname "$0")/.." && pwd)
 faults=0
@@ -20,7 +20,8 @@ asked() {
     echo "$name: $# fields looked for"
 }
 
-mapfile -t lines < <("$top/crates/example_build_certificates/out/example_build_certificates" <<<chain)
+program=$top/crates/example_build_certificates/out/example_build_certificates
+mapfile -t lines < <("$program" <<<chain)
 asked root "$(text "${lines[0]}")" 'Version: 3' 'Serial Number: 1 ' \
     'Issuer: CN=Example Root,O=Example,C=US' 'Subject: CN=Example Root,O=Example,C=US' \
     'Not Before: Jan  1 00:00:00 2026 GMT' 'Not After : Jan  1 00:00:00 2036 GMT' 'CA:TRUE' \
@@ -44,10 +45,10 @@ asked answer "$(text "${lines[5]}")" 'Serial Number: 4 ' \
     'Issuer: CN=Example Authority,O=Example,C=US' 'Subject: CN=server.example' \
     'DNS:server.example' 'CA:FALSE' 'Digital Signature' 'NIST CURVE: P-256'
 
-# built WORDS: the certificate that test_builder_rows builds of the first question that begins so
+# built WORDS: the certificate that test_x509_rows builds of the first question that begins so
 built() {
-    local rows=$top/crates/test_builder_rows
-    grep -m 1 "^whole $1" "$rows/stdin" | "$rows/out/test_builder_rows" | sed -n 's/^ok //p'
+    local rows=$top/crates/test_x509_rows
+    grep -m 1 "^whole $1" "$rows/stdin" | "$rows/out/test_x509_rows" | sed -n 's/^ok //p'
 }
 asked 'module' "$(text "$(built 'module - 2.0')")" 'Issuer: CN=m' 'serialNumber=7' \
     'Digital Signature' 'X509v3 Subject Alternative Name' 'othername'
@@ -58,8 +59,8 @@ asked 'subscriber' "$(text "$(built 'subscriber - domain')")" 'CA:FALSE' 'DNS:s.
 # whole WORD PLACE: what it builds of the question of this place that begins so, and whose signer
 # doesn't refuse
 whole() {
-    local rows=$top/crates/test_builder_rows
-    grep "^$1 whole [0-9a-f]" "$rows/stdin" | sed -n "$2p" | "$rows/out/test_builder_rows" |
+    local rows=$top/crates/test_x509_rows
+    grep "^$1 whole [0-9a-f]" "$rows/stdin" | sed -n "$2p" | "$rows/out/test_x509_rows" |
         sed -n 's/^ok //p'
 }
 asked 'list of two' "$(text_of crl "$(whole list 2)")" 'Issuer: CN=r,O=o,C=US' \

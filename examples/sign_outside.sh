@@ -1,6 +1,6 @@
 #!/usr/bin/env bash
-# Has OpenSSL 3 sign what crates/example_build_certificates finalizes, with keys of RSA, ECDSA on P-256 and
-# Ed25519, and verify the chains that are assembled of it. Not of the gate.
+# Has OpenSSL 3 sign what crates/example_build_certificates finalizes, with keys of RSA, ECDSA on
+# P-256 and Ed25519, and verify the chains that are assembled of it. CI doesn't run it.
 # usage: sign_outside.sh PROGRAM, where PROGRAM is example_build_certificates, built.
 set -euo pipefail
 program=$(realpath "${1:?usage: sign_outside.sh PROGRAM}")

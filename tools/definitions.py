@@ -12,6 +12,7 @@ the name of a definition counts as that one, so the list may be too long by such
 too short but for the kit's `std/specs`, which isn't counted.
 """
 
+import argparse
 import re
 import sys
 import textwrap
@@ -73,48 +74,44 @@ stands for, the [reference](../../tools/README.md#sources-and-documents) says of
 """
 
 
-def calls_of(code):
-    return [call for source in code for call in source.calls]
+class Book:
+    """The definitions by their files, the files of code, their calls, and the ghost members."""
 
+    def __init__(self):
+        self.files, self.code = sources.read_all()
+        self.calls = [call for source in self.code for call in source.calls]
+        self.ghosts = [call for call in self.calls if call.is_ghost]
 
-def find(code, name):
-    """The calls of this name, or what a type of this name states of itself."""
-    crate, _, bare = name.partition("::")
-    calls = [call for call in calls_of(code) if call.crate == crate and bare]
-    name, calls = (bare, calls) if calls else (name, calls_of(code))
-    found = [c for c in calls if c.title == name]
-    stated = [c for c in calls if c.owner == name and c.name.startswith("ghost ")]
-    return [c for c in found if c.clauses] or found or stated
+    def find(self, name):
+        """The calls of this name, public ones if there are any, or what a type of this name
+        states."""
+        crate, _, bare = name.partition("::")
+        calls = [call for call in self.calls if call.crate == crate and bare]
+        name, calls = (bare, calls) if calls else (name, self.calls)
+        found = [call for call in calls if call.title == name]
+        found = [call for call in found if call.public] or found
+        stated = [call for call in calls if call.owner == name and call.is_ghost]
+        return [call for call in found if call.clauses] or found or stated
 
+    def rests_on(self, calls):
+        """The definitions that contracts of calls rest on; no proof of a ghost member is read."""
+        found = sources.reached(self.files, [key for call in calls for key in call.cites])
+        return [one for _, one in sorted(found.items()) if one.sort != "proof"]
 
-def rests_on(files, calls):
-    """The definitions that contracts of calls rest on; what serves a ghost member isn't read."""
-    keys = set()
-    for call in calls:
-        keys |= sources.reached(files, call.cites)
-    found = [files[key[:2]].definitions[key[2]] for key in sorted(keys)]
-    return [one for one in found if one.sort != "proof"]
-
-
-def members_of(code, calls):
-    """The ghost members through which the contracts of calls see their arguments."""
-    members = [call for call in calls_of(code) if call.name.startswith("ghost ")]
-    members = [call for call in members if call.stated == "Model"]
-    told = [member for source in code for member in source.declared]
-    found = set()
-    for call in calls:
-        if call.name.startswith("ghost "):
-            found.add(call)
-            continue
-        below = sources.closure([call.crate])
-        signature = call.text[: len(call.text) - len(sources.contract_text(call))]
-        types = set(re.findall(r"\w+", signature))
-        types |= {call.owner} if "self" in types else set()
-        found |= {member for member in members if member.owner in types}
-        for name in set(re.findall(r"\b(?:Self|[A-Z])\.(\w+)", sources.contract_text(call))):
-            of_name = [one for one in told if one.name == name and one.crate in below]
-            found |= {one for one in of_name if one.owner in types} or set(of_name)
-    return found
+    def members_of(self, calls):
+        """The ghost members through which the contracts of calls see their arguments."""
+        models = [member for member in self.ghosts if member.stated == "Model"]
+        told = [member for source in self.code for member in source.declared]
+        found = {call for call in calls if call.is_ghost}
+        for call in (call for call in calls if not call.is_ghost):
+            below = sources.closure([call.crate])
+            types = set(re.findall(r"\w+", call.text.removesuffix(call.contract)))
+            types |= {call.owner} if "self" in types else set()
+            found |= {member for member in models if member.owner in types}
+            for name in set(re.findall(r"\b(?:Self|[A-Z])\.(\w+)", call.contract)):
+                of_name = [one for one in told if one.name == name and one.crate in below]
+                found |= {one for one in of_name if one.owner in types} or set(of_name)
+        return found
 
 
 def filled(line, indent=""):
@@ -127,120 +124,137 @@ def told_many(items, one, many):
     return f"{len(items)} {one if len(items) == 1 else many}"
 
 
-def first_sentence(text):
+def first_sentence(file):
+    """The first sentence of the comment at the head of a file."""
+    text = sources.head_of(file.lines, "--").replace("\n", " ")
     text = text.replace("|", "\\|").replace("<", "\\<")
-    end = text.find(". ")
-    text = text if end < 0 else text[: end + 1]
-    return text.rstrip(".:")
+    return (text.partition(". ")[0] if ". " in text else text).rstrip(".:")
 
 
-def page():
-    files, code = sources.read_all()
-    by_crate = {file.crate for file in files.values() if file.name != "Lib"}
-    order = [crate for crate in sources.closure(sources.dependencies()) if crate in by_crate]
-    links = [f"[`{crate}`](#{crate})" for crate in order]
-    contents = ["- [What to read for which claim](#what-to-read-for-which-claim)"]
-    contents += [filled(f"- By crate: {', '.join(links)}", "  ")]
-    heading = "Proofs that stand among the definitions"
-    contents += [f"- [{heading}](#{heading.lower().replace(' ', '-')})"]
-    lines = [HEAD.replace("CONTENTS", "\n".join(contents)), "## What to read for which claim", ""]
-    lines += ["| Claim | Call | Definitions | Lines | Files | Ghost members |"]
-    lines += ["|---|---|---|---|---|---|"]
+def claims(book):
+    """The table of claims."""
+    yield "| Claim | Call | Definitions | Lines | Files | Ghost members |"
+    yield "|---|---|---|---|---|---|"
     for words, names in CLAIMS:
-        calls = [call for name in names.split() for call in find(code, name)]
-        kept = rests_on(files, calls)
-        where = len({d.key[:2] for d in kept})
-        size = sum(d.lines for d in kept)
+        calls = [call for name in names.split() for call in book.find(name)]
+        kept = book.rests_on(calls)
         crate, _, name = names.split()[0].partition("::")
         more = [name.split("::") for name in names.split()[1:]]
         told = f"`{name}` (`{crate}`)"
         if more and len(more[0]) > 2:
             told += f", with `{more[0][1]}::{{{', '.join(part[-1] for part in more)}}}`"
-        ghosts = len(members_of(code, calls))
-        lines.append(f"| {words} | {told} | {len(kept)} | {size} | {where} | {ghosts} |")
-    lines.append("")
-    for crate in sources.closure(sources.dependencies()):
-        own = [file for file in files.values() if file.crate == crate and file.name != "Lib"]
-        here = [f for f in own if any(d.sort != "proof" for d in f.definitions.values())]
-        passing = [f for f in own if f.passed_on.paths and f not in here]
-        if not own:
-            continue
-        lines += [f"## `{crate}`", ""]
-        total = f"{told_many(here, 'file', 'files')}, {sum(len(f.lines) for f in here)} lines"
-        stated = [c for c in calls_of(code) if c.crate == crate and c.name.startswith("ghost ")]
-        size = sum(len(call.text.splitlines()) for call in stated)
-        members = f"{told_many(stated, 'ghost member', 'ghost members')} of impls, {size} lines"
-        told = "; ".join([total] * bool(here) + [members] * bool(stated))
-        lines += [filled(f"{told}."), ""]
-        if here:
-            lines += ["| File | Lines | Definitions | What it says |", "|---|---|---|---|"]
-        for file in here:
-            kept = [d for d in file.definitions.values() if d.sort != "proof"]
-            link = f"[`{file.name}`](../../crates/{crate}/specs/{file.name}.antt)"
-            says = first_sentence(file.head)
-            lines.append(f"| {link} | {len(file.lines)} | {len(kept)} | {says} |")
-        if passing:
-            names = ", ".join(f"`{f.name}`" for f in passing)
-            lines += ["", filled(f"Passed on from the crates below: {names}.")]
-        lines.append("")
-    proofs = [d for f in files.values() for d in f.definitions.values() if d.sort == "proof"]
-    lines += [f"## {heading}", ""]
-    ghosts = [call for call in calls_of(code) if call.name.startswith("ghost ")]
-    direct = set().union(*(call.cites for call in ghosts))
-    behind_them = sources.reached(files, direct, proofs=True)
-    counted = sum(proof.key in direct for proof in proofs)
-    serving = sum(proof.key in behind_them for proof in proofs) - counted
+        lines, files = sum(one.lines for one in kept), len({one.key[:2] for one in kept})
+        members = len(book.members_of(calls))
+        yield f"| {words} | {told} | {len(kept)} | {lines} | {files} | {members} |"
+
+
+def files_of(book, crate):
+    """The files of a crate's definitions, but for those that only pass on or open others."""
+    files = (file for file in book.files.values() if file.crate == crate)
+    return [file for file in files if file.name not in ("Lib", "Opened")]
+
+
+def definitions_in(file):
+    """The definitions of a file that a reader has to read."""
+    return [one for one in file.definitions.values() if one.sort != "proof"]
+
+
+def section(book, crate):
+    """The files of a crate, with the number of their definitions and what each says."""
+    own = files_of(book, crate)
+    here = [file for file in own if definitions_in(file)]
+    stated = [call for call in book.ghosts if call.crate == crate]
+    size = sum(len(call.text.splitlines()) for call in stated)
+    total = f"{told_many(here, 'file', 'files')}, {sum(len(file.lines) for file in here)} lines"
+    members = f"{told_many(stated, 'ghost member', 'ghost members')} of impls, {size} lines"
+    yield from (f"## `{crate}`", "")
+    yield from (filled("; ".join([total] * bool(here) + [members] * bool(stated)) + "."), "")
+    if here:
+        yield from ("| File | Lines | Definitions | What it says |", "|---|---|---|---|")
+    for file in here:
+        link = f"[`{file.name}`](../../crates/{crate}/specs/{file.name}.antt)"
+        count = len(definitions_in(file))
+        yield f"| {link} | {len(file.lines)} | {count} | {first_sentence(file)} |"
+    passing = ", ".join(f"`{it.name}`" for it in own if it.passed_on and it not in here)
+    yield from ("", filled(f"Passed on from the crates below: {passing}.")) if passing else ()
+    yield ""
+
+
+def proofs(book):
+    """What is said of the proofs that stand among the definitions."""
+    found = [one for file in book.files.values() for one in file.definitions.values()
+             if one.sort == "proof"]
+    direct = set().union(*(call.cites for call in book.ghosts))
+    behind_them = sources.reached(book.files, direct, proofs=True)
+    counted = sum(proof.key in direct for proof in found)
+    serving = sum(proof.key in behind_them for proof in found) - counted
     told = (
-        f"{len(proofs)} of them. Nothing has to be read of these. An `impl` names {counted} in "
+        f"{len(found)} of them. Nothing has to be read of these. An `impl` names {counted} in "
         "its ghost members, as that an order is total, and such a member can't import from "
         f"`proofs/` of its own crate; {serving} serve these"
     )
-    left = [proof for proof in proofs if proof.key not in behind_them]
-    lines += [filled(told + ("; others belong into `proofs/`:" if left else ".")), ""]
-    lines += [f"- `{it.crate}/specs/{it.file}`: `{it.name}` ({it.line})." for it in left]
+    left = [proof for proof in found if proof.key not in behind_them]
+    yield from (filled(told + ("; others belong into `proofs/`:" if left else ".")), "")
+    yield from (f"- `{it.crate}/specs/{it.file}`: `{it.name}` ({it.line})." for it in left)
+
+
+def page(book):
+    crates = [it for it in sources.closure(sources.dependencies()) if files_of(book, it)]
+    links = ", ".join(f"[`{crate}`](#{crate})" for crate in crates)
+    heads = ["What to read for which claim", "Proofs that stand among the definitions"]
+    claim, proof = (f"- [{it}](#{it.lower().replace(' ', '-')})" for it in heads)
+    contents = "\n".join([claim, filled(f"- By crate: {links}", "  "), proof])
+    lines = [HEAD.replace("CONTENTS", contents), f"## {heads[0]}", "", *claims(book), ""]
+    lines += [line for crate in crates for line in section(book, crate)]
+    lines += [f"## {heads[1]}", "", *proofs(book)]
     return "\n".join(lines).rstrip() + "\n"
 
 
-def claim(names):
-    files, code = sources.read_all()
-    status, calls = 0, []
-    for name in names:
-        found = find(code, name)
-        if not found:
-            print(f"no call {name}", file=sys.stderr)
-            status = 1
-        calls += found
+def told(book, names):
+    """Prints each definition that the contracts of these calls rest on."""
+    unknown = [name for name in names if not book.find(name)]
+    calls = [call for name in names for call in book.find(name)]
+    for name in unknown:
+        print(f"no call {name}", file=sys.stderr)
     for call in calls:
         print(f"{call.title}: crates/{call.crate}/src/{call.path}:{call.line}")
     cited = {key for call in calls for key in call.cites}
-    kept = rests_on(files, calls)
+    kept = book.rests_on(calls)
     for one in kept:
         mark = "cited" if one.key in cited else "below"
         print(f"  {mark} {one.name}: crates/{one.crate}/specs/{one.file}.antt:{one.line}")
-    for member in sorted(members_of(code, calls), key=lambda one: (one.crate, one.path, one.line)):
+    for member in sorted(book.members_of(calls), key=lambda it: (it.crate, it.path, it.line)):
         name = member.name.removeprefix("ghost ")
         place = f"crates/{member.crate}/src/{member.path}:{member.line}"
         print(f"  ghost {member.owner}.{name}: {place}")
     print(f"{told_many(kept, 'definition', 'definitions')}, {sum(one.lines for one in kept)} lines")
-    return status
+    return bool(unknown)
 
 
-def main(words):
-    if words == ["--check"]:
-        lost = list(sources.lost(*sources.read_all()))
-        if lost:
-            print("imports that name no definition:", *lost, sep="\n", file=sys.stderr)
-            return 1
-        if PAGE.read_text() != page():
-            told = "docs/tables/DEFINITIONS.md is out of date: run tools/definitions.py"
-            print(told, file=sys.stderr)
-            return 1
-        return 0
-    if words:
-        return claim(words)
-    PAGE.write_text(page())
+def check(book):
+    """Whether an import names no definition, or the page is out of date."""
+    lost = list(sources.lost(book.files, book.code))
+    if lost:
+        print("imports that name no definition:", *lost, sep="\n", file=sys.stderr)
+    elif PAGE.read_text() != page(book):
+        lost.append("docs/tables/DEFINITIONS.md is out of date: run tools/definitions.py")
+        print(*lost, file=sys.stderr)
+    return bool(lost)
+
+
+def main():
+    form = argparse.RawDescriptionHelpFormatter
+    words = argparse.ArgumentParser(description=__doc__, formatter_class=form)
+    words.add_argument("--check", action="store_true")
+    words.add_argument("calls", nargs="*", metavar="CALL")
+    words = words.parse_args()
+    if words.check:
+        return check(Book())
+    if words.calls:
+        return told(Book(), words.calls)
+    PAGE.write_text(page(Book()))
     return 0
 
 
 if __name__ == "__main__":
-    sys.exit(main(sys.argv[1:]))
+    sys.exit(main())

@@ -37,9 +37,6 @@ UNTRIED = "not tried yet"
 KEY = re.compile(r"(## |file: |vectors: |rejected: |[-+])?(.*)")
 LINE = re.compile(r"(?:note: )?(?:\./)?(?P<path>(?:src|proofs)/\S+?):(?P<line>\d+):\d+: ")
 HEADER = re.compile(r"(?:unsafe )?(?:impl\b|(?:pub(?:\(\w+\))? )?trait\b)")
-FUNCTION = re.compile(
-    r'( *)(?:pub(?:\(\w+\))? )?(?:final )?(?:const )?(?:unsafe )?(?:extern "C" )?fn (\w+)'
-)
 # What a proof file reports if a name is gone, which says nothing about a contract.
 NAMES = re.compile(r".*(has no field|is not in scope|has no `|was not admitted|\(nearest: )")
 FAULT = re.compile(r"(?:\./)?(?:src|specs|proofs)/\S+?:\d+:\d+: error: ")
@@ -132,12 +129,11 @@ def named(kind, parameters):
 
 def owner(header):
     """Returns the checker's name of an `impl` or a trait."""
-    header = re.sub(r"\bwhere\b.*", "", header).rstrip("{} ")
+    header = re.sub(r"\bwhere\b.*", "", header).strip()
     trait = re.match(r"(?:pub(?:\(\w+\))? )?trait (\w+)", header)
     if trait:
         return trait[1]
-    nested = r"(?:[^<>]|->|<(?:[^<>]|<[^<>]*>)*>)*"
-    _, given, body = re.match(rf"(?:unsafe )?(impl)(?:<({nested})>)? ?(.*)", header).groups("")
+    given, body = re.match(rf"(?:unsafe )?impl(?:<({sources.GENERICS})>)? ?(.*)", header).groups("")
     parameters = re.findall(r"(?:^|, )(?:const )?(\w+)\b(?!>)", given)
     stated, _, target = body.partition(" for ")
     if target:
@@ -152,33 +148,34 @@ def module_of(file):
     return [it for it in module if it not in ("lib", "main")]
 
 
+def module_of_type(crate, kind):
+    """Returns the path of the module that declares a type, to which the checker counts its inherent
+    impls, or None."""
+    declared = re.compile(rf"^(?:pub(?:\(\w+\))? )?(?:struct|enum) {re.escape(kind)}\b", re.M)
+    for path in sorted((crate / "src").rglob("*.rt")):
+        if declared.search(path.read_text()):
+            return module_of(path.relative_to(crate))
+    return None
+
+
 def function_at(crate, file, number):
     """Returns the checker's name of the function that a line belongs to, or None."""
-    lines = (crate / file).read_text().splitlines()
-    begins = lines[number].strip().startswith(("#[", "//"))
-    for at in range(number, len(lines)) if begins else range(number, -1, -1):
-        found = FUNCTION.match(lines[at])
-        if found and (begins or f"{found[1]}}}" not in lines[at:number]):
-            break
-    else:
+
+    def part_at(parts):
+        return next((it for it in parts if number < it.number - 1 + len(it.lines)), None)
+
+    lines, module = (crate / file).read_text().splitlines(), module_of(file)
+    part = part_at(sources.parts_of(lines))
+    function = part and sources.FUNCTION.match(part.lines[0])
+    if function:
+        return "::".join((*module, function[2]))
+    if not part or not HEADER.match(part.lines[0]) or number < part.number - 1 + part.opening:
         return None
-    if not found[1]:
-        return "::".join((*module_of(file), found[2]))
-    first = next((n for n in range(at, -1, -1) if HEADER.match(lines[n])), None)
-    if first is None:
-        return None
-    last = next(n for n in range(first, len(lines)) if lines[n].rstrip().endswith(("{", "}")))
-    header = " ".join(line.strip() for line in lines[first : last + 1])
-    stated, module = owner(header), module_of(file)
-    if not re.search(r"\btrait\b|\bfor\b", header):
-        # The checker counts an inherent `impl` to the module that declares the type.
-        kind = re.escape(stated.partition("+")[0])
-        declared = re.compile(rf"^(?:pub(?:\(\w+\))? )?(?:struct|enum) {kind}\b", re.MULTILINE)
-        for path in sorted((crate / "src").rglob("*.rt")):
-            if declared.search(path.read_text()):
-                module = module_of(path.relative_to(crate))
-                break
-    return "::".join((*module, stated, found[2]))
+    member, stated = part_at(part.members), owner(part.header)
+    function = member and sources.FUNCTION.match(member.lines[0])
+    if not re.search(r"\btrait\b|\bfor\b", part.header):
+        module = module_of_type(crate, stated.partition("+")[0]) or module
+    return "::".join((*module, stated, function[2])) if function else None
 
 
 def goals_left(copy, told):
@@ -409,9 +406,8 @@ def check(mutants):
 
 
 def main():
-    summary, _, details = __doc__.partition("\n\n")
     kind = argparse.RawDescriptionHelpFormatter
-    words = argparse.ArgumentParser(description=summary, epilog=details, formatter_class=kind)
+    words = argparse.ArgumentParser(description=__doc__, formatter_class=kind)
     words.add_argument("verb", choices=["try", "check", "page"])
     words.add_argument("--marked", action="store_true")
     words.add_argument("--untried", action="store_true")

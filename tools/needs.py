@@ -35,7 +35,6 @@ NEEDS = {
     "examples/make_chain.sh": "openssl",
     "examples/read_built.sh": "openssl xxd",
     "examples/sign_outside.sh": "openssl xxd",
-    "examples/verify_chains.sh": "openssl cryptography",
     "examples/verify_pem.py": "cryptography",
     "tests/differential/answers.py": "openssl cryptography",
     "tests/differential/described.py": "openssl cryptography>=45 "

@@ -12,6 +12,7 @@ standards that a file names, each definition, and which definitions and contract
 contracts and definitions are links. It needs nothing but Python.
 """
 
+import argparse
 import collections
 import html
 import pathlib
@@ -38,29 +39,27 @@ wanted.addEventListener("input", () => {
 });
 wanted.focus();
 """
-COMMENT = re.compile(r"(?:^|(?<=\s))(?:--|//).*$", re.M)
+
+
+TOKEN = re.compile(
+    rf"(?P<comment>{sources.COMMENT.pattern})|(?P<word>{sources.WORD.pattern})|(?s:.)", re.M
+)
+
+
+def link(url, text):
+    return f'<a href="{html.escape(url)}">{html.escape(text)}</a>'
 
 
 def linked(text, leads):
     """A text as HTML, in which each name outside of comments that leads somewhere is a link."""
-    out, at = [], 0
 
-    def plain(part):
-        last = 0
-        for match in sources.WORD.finditer(part):
-            href = leads(match[0])
-            out.append(html.escape(part[last : match.start()]))
-            word = html.escape(match[0])
-            out.append(f'<a href="{html.escape(href)}">{word}</a>' if href else word)
-            last = match.end()
-        out.append(html.escape(part[last:]))
+    def token(match):
+        if match["comment"]:
+            return f"<i>{html.escape(match[0])}</i>"
+        url = leads(match[0]) if match["word"] else None
+        return link(url, match[0]) if url else html.escape(match[0])
 
-    for match in COMMENT.finditer(text):
-        plain(text[at : match.start()])
-        out.append(f"<i>{html.escape(match[0])}</i>")
-        at = match.end()
-    plain(text[at:])
-    return "".join(out)
+    return TOKEN.sub(token, text)
 
 
 def prose(text):
@@ -69,16 +68,6 @@ def prose(text):
     told = re.sub(r"(?ms)^```\w*\n(.*?)^```$", r"</p><pre>\1</pre><p>", text)
     told = re.sub(r"`([^`]+)`", r"<code>\1</code>", told)
     return f"<p>{told}</p>" if text else ""
-
-
-def head_of(lines, mark):
-    """The comment at the head of a file."""
-    told = []
-    for line in lines:
-        if not line.startswith(mark):
-            break
-        told.append(line.removeprefix(mark).removeprefix(" "))
-    return "\n".join(told)
 
 
 class Book:
@@ -96,20 +85,13 @@ class Book:
                 for key in one.cites:
                     self.cited[key].add((one.name, self.defined(one)))
         for item in self.items:
-            for call in self.calls(item):
+            for call in item.calls:
                 for key in call.cites:
                     self.cited[key].add((self.title(item, call), self.urls[item]))
         calls = proved.by_file(self.code)
         for row in (row for page in proved.PAGES for row in proved.rows(page)):
             for call in (call for _, of in row.named(calls) for call in of):
                 self.says[call].append(row.says)
-
-    @staticmethod
-    def calls(item):
-        """The functions of an item, its own and those of its impls, and what these state."""
-        found = [item.call] if item.call else []
-        found += item.methods
-        return found + [call for impl in item.impls if impl.trait for call in impl.members]
 
     @staticmethod
     def title(item, call):
@@ -140,7 +122,7 @@ class Book:
         yield prose(item.doc)
         if not item.call:
             yield f"<pre>{linked(item.text, lead)}</pre>"
-        for call in self.calls(item):
+        for call in item.calls:
             yield from self.call(item, call)
 
     def call(self, item, call):
@@ -148,27 +130,24 @@ class Book:
         lead = self.leads(source.imports, self.house.names_in(source))
         if call is not item.call:
             yield f"<h3>{html.escape(self.title(item, call))}</h3>"
-            yield prose(sources.doc_above(source.lines, call.line))
+            yield prose(call.comment)
         if item.kind != "trait" or call not in item.methods:  # these stand in the declaration
             text = re.sub(r"\s*\{\}?$", "", textwrap.dedent(call.text).rstrip())
             yield f"<pre>{linked(text, lead)}</pre>"
         yield from (prose(f"Claim: {says}") for says in dict.fromkeys(self.says[call]))
-        kept = [self.files[key[:2]].definitions[key[2]] for key in
-                sources.reached(self.files, call.cites)]
+        kept = sources.reached(self.files, call.cites).values()
         count = sum(one.sort != "proof" for one in kept)
         yield prose(f"It rests on {count} definitions." if count else "")
 
     def specs(self, file):
-        yield f'<h2 id="{file.name}">{file.name}</h2>' + prose(head_of(file.lines, "--"))
+        yield f'<h2 id="{file.name}">{file.name}</h2>' + prose(sources.head_of(file.lines, "--"))
         yield prose(file.sections and f"Standards: {file.sections}")
         lead = self.leads(file.imports, {}, file)
         for one in file.definitions.values():
             name = html.escape(one.name)
             yield f'<h3 id="{file.name}.{name}">{name}</h3>'
             yield prose(one.comment) + f"<pre>{linked(one.text.rstrip(), lead)}</pre>"
-            links = (f'<a href="{html.escape(url)}">{html.escape(name)}</a>'
-                     for name, url in sorted(self.cited[one.key]))
-            told = ", ".join(links)
+            told = ", ".join(link(url, name) for name, url in sorted(self.cited[one.key]))
             yield f"<p>Cited by {told}</p>" if told else ""
 
 
@@ -179,13 +158,12 @@ def page(title, parts):
 
 def pages(book):
     """Each page, by its name."""
-    crates, names = [], []
+    names = []
     for crate in book.house.libraries:
         own = [item for item in book.items if item.crate == crate]
         specs = [file for file in book.files.values() if file.crate == crate and file.name != "Lib"]
-        crates.append(f'<a href="{crate}.html">{crate}</a>')
         parts = [f'<a href="{crate}.specs.html">Definitions</a>']
-        parts.append(prose(head_of(book.house.file_of(crate, ()).lines, "//!")))
+        parts.append(prose(sources.head_of(book.house.file_of(crate, ()).lines, "//!")))
         yield f"{crate}.html", page(crate, parts + [it for item in own for it in book.item(item)])
         told = (it for file in specs for it in book.specs(file))
         yield f"{crate}.specs.html", page(f"Definitions of {crate}", told)
@@ -193,10 +171,10 @@ def pages(book):
                   for item in own for path in item.imports or [f"{crate}::{item.name}"]]
         names += [(f"{crate} {file.name} {one.name}", book.defined(one))
                   for file in specs for one in file.definitions.values()]
-    lines = (f'<li><a href="{html.escape(url)}">{html.escape(name)}</a></li>'
-             for name, url in sorted(names))
+    lines = (f"<li>{link(url, name)}</li>" for name, url in sorted(names))
+    crates = " ".join(link(f"{crate}.html", crate) for crate in book.house.libraries)
     yield "index.html", page("Wurstdrape", [
-        f"<p>{' '.join(crates)}</p><input placeholder='Search'><ul id='names'>", *lines,
+        f"<p>{crates}</p><input placeholder='Search'><ul id='names'>", *lines,
         f"</ul><script>{SEARCH}</script>"])
 
 
@@ -205,7 +183,7 @@ def faults(book, written):
     for facade in sources.FACADES:
         for (crate, name), source in book.house.code.items():
             path = () if name == "lib.rt" else tuple(name.removesuffix(".rt").split("/"))
-            for public, start, word, _ in sources.uses_of(source.lines) if crate == facade else ():
+            for public, start, word, _ in source.uses if crate == facade else ():
                 target = book.house.at(crate, path, [*start, word]) if word != "*" else ()
                 if public and (target is None or isinstance(target, sources.Item)
                                and target not in book.urls):
@@ -218,17 +196,18 @@ def faults(book, written):
                 yield f"{name}: {href} leads nowhere"
 
 
-def main(words):
-    if len(words) != 1 or words[0].startswith("-") and words != ["--check"]:
-        print(__doc__, file=sys.stderr)
-        return 2
-    book = Book()
+def main():
+    form = argparse.RawDescriptionHelpFormatter
+    words = argparse.ArgumentParser(description=__doc__, formatter_class=form)
+    what = words.add_mutually_exclusive_group(required=True)
+    what.add_argument("--check", action="store_true")
+    what.add_argument("folder", nargs="?", type=pathlib.Path, metavar="FOLDER")
+    folder, book = words.parse_args().folder, Book()
     written = dict(pages(book))
     told = sorted(faults(book, written))
     print(*told, sep="\n", end="\n" if told else "")
     print(f"{len(written)} pages, {len(book.items)} items, {len(told)} faults")
-    if words != ["--check"]:
-        folder = pathlib.Path(words[0])
+    if folder:
         folder.mkdir(parents=True, exist_ok=True)
         for name, text in written.items():
             (folder / name).write_text(text)
@@ -236,4 +215,4 @@ def main(words):
 
 
 if __name__ == "__main__":
-    sys.exit(main(sys.argv[1:]))
+    sys.exit(main())

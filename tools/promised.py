@@ -11,6 +11,7 @@ definition that a clause cites means the same, and what CLI promises of the prog
 know.
 """
 
+import argparse
 import pathlib
 import re
 import subprocess
@@ -25,14 +26,13 @@ OTHERS = ("der_core::making", "der_core::describing")
 # What is passed on to crates above isn't, and from where a crate imports a name isn't, either.
 OTHERS += ("der_core::oid", "der_types::der", "der_types::oid", "der_types::making")
 PATH = re.compile(r"\b(?:const_oid|(?:der|x509_cert|cert)_\w+|x509_cert)::(?:\w+::)*(?=\w)")
-CLAUSE = re.compile(r"\s+(requires|ensures)\b\*? ?(\w*)")
 
 
 def clauses(path, call):
     """The signature of a function, and each clause of its contract under its name."""
     name, found = path, {}
     for line in call.text.splitlines():
-        clause = CLAUSE.match(line)
+        clause = sources.CLAUSE.match(line)
         if clause:
             name = " ".join(word for word in (path, *clause.groups()) if word)
             while name in found:
@@ -53,34 +53,26 @@ def declaration(item):
     return " ".join(line.strip() for line in lines)
 
 
-def derived(item):
-    """The traits that are derived above a declaration."""
-    at = item.line - 2
-    while item.source.lines[at].startswith(("#", "/")):
-        for traits in re.findall(r"^#\[derive(?:_where)?\(([\w, ]+)", item.source.lines[at]):
-            yield from (trait for trait in re.findall(r"\w+", traits) if trait != "Drop")
-        at -= 1
-
-
 def of_item(path, item):
+    """What is promised of an item that is imported from this path."""
     if item.call:
         return clauses(path, item.call)
     found = {path: declaration(item)}
     for call in item.methods:
         found |= clauses(f"{path}::{call.name}", call)
     for impl in item.impls:
-        trait, of = sources.stated_of(impl.header)
-        if of:
-            trait = PATH.sub("", trait)
-            found[f"{path}: {trait}" + (" of a reference" if of.startswith("&") else "")] = ""
-    return found | {f"{path}: {trait}": "" for trait in derived(item)}
+        if impl.of:
+            trait = PATH.sub("", impl.stated)
+            found[f"{path}: {trait}" + (" of a reference" if impl.of.startswith("&") else "")] = ""
+    derived = re.findall(r"\w+", " ".join(re.findall(r"\(([\w, ]+)", " ".join(item.derives))))
+    return found | {f"{path}: {trait}": "" for trait in derived if trait != "Drop"}
 
 
 def promised(top):
     """Each part of what a repository promises, and what is said of it."""
     sources.TOP, sources.CRATES = top, top / "crates"
     house, found = sources.House(sources.sources()), {}
-    for item in (item for own in house.own.values() for item in own.values()):
+    for item in house.items:
         for path in item.imports:
             found |= {} if path.startswith(OTHERS) else of_item(path, item)
         if item.call and item.call.is_exported:
@@ -97,13 +89,14 @@ def promised(top):
     return {part: PATH.sub("", said) for part, said in found.items()}
 
 
-def main(words):
-    if len(words) != 1 or words[0].startswith("-"):
-        print(__doc__, file=sys.stderr)
-        return 2
+def main():
+    form = argparse.RawDescriptionHelpFormatter
+    words = argparse.ArgumentParser(description=__doc__, formatter_class=form)
+    words.add_argument("commit", metavar="COMMIT")
+    commit = words.parse_args().commit
     with tempfile.TemporaryDirectory() as room:
         old = pathlib.Path(room)
-        packed = subprocess.run(["git", "archive", words[0]], cwd=TOP, stdout=subprocess.PIPE)
+        packed = subprocess.run(["git", "archive", commit], cwd=TOP, stdout=subprocess.PIPE)
         if packed.returncode:
             return 2
         subprocess.run(["tar", "-x", "-C", room], input=packed.stdout, check=True)
@@ -122,4 +115,4 @@ def main(words):
 
 
 if __name__ == "__main__":
-    sys.exit(main(sys.argv[1:]))
+    sys.exit(main())

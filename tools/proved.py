@@ -9,6 +9,7 @@
     tools/proved.py --rest  the public calls with named clauses that no row names, by crate
 """
 
+import argparse
 import re
 import sys
 
@@ -109,38 +110,33 @@ def link_faults(page, calls):
 
 def by_file(code):
     """The calls of each file."""
-    calls = {}
-    for source in code:
-        calls.setdefault((source.crate, source.name), []).extend(source.calls)
-    return calls
+    return {(source.crate, source.name): source.calls for source in code}
 
 
-def main(words):
-    calls = by_file(sources.sources())
-    named = set()
-    faults = [
-        f"{page.relative_to(sources.TOP)}: {fault}"
-        for page in PAGES
-        for fault in page_faults(page, calls, named)
-    ]
-    readme = sources.TOP / "README.md"
-    faults += [f"README.md: {fault}" for fault in link_faults(readme, calls)]
-    if words == ["--rest"]:
-        for (crate, name), of in sorted(calls.items()):
-            rest = [
-                call.title
-                for call in of
-                if call.public
-                and any(clause for _, clause in call.clauses)
-                and (crate, call.title) not in named
-                and "laws" not in name
-            ]
-            if rest:
-                print(f"{crate}/{name}: {' '.join(rest)}")
-        return 0
-    print(*faults, sep="\n", end="\n" if faults else "")
-    return bool(faults)
+def rest(calls, named):
+    """The public calls with named clauses that no row names, by file."""
+    for (crate, name), of in sorted(calls.items()):
+        left = [call.title for call in of
+                if call.public and any(clause for _, clause in call.clauses)
+                and (crate, call.title) not in named]
+        if left and "laws" not in name:
+            yield f"{crate}/{name}: {' '.join(left)}"
+
+
+def main():
+    form = argparse.RawDescriptionHelpFormatter
+    words = argparse.ArgumentParser(description=__doc__, formatter_class=form)
+    words.add_argument("--rest", action="store_true")
+    words = words.parse_args()
+    calls, named = by_file(sources.sources()), set()
+    told = [f"{page.relative_to(sources.TOP)}: {fault}"
+            for page in PAGES for fault in page_faults(page, calls, named)]
+    told += [f"README.md: {fault}" for fault in link_faults(sources.TOP / "README.md", calls)]
+    if words.rest:
+        told = list(rest(calls, named))
+    print(*told, sep="\n", end="\n" if told else "")
+    return bool(told) and not words.rest
 
 
 if __name__ == "__main__":
-    sys.exit(main(sys.argv[1:]))
+    sys.exit(main())

@@ -55,11 +55,13 @@ prove: `rt ci` proves the crates in a copy, and libraries come from there to whe
 them. It may be broken off and begun again: the kit keeps beside itself what was proved.
 """
 
+import argparse
 import contextlib
 import functools
 import hashlib
 import importlib.machinery
 import importlib.util
+import itertools
 import os
 import pathlib
 import re
@@ -90,19 +92,34 @@ class Crate(typing.NamedTuple):
 
 
 class Proved(typing.NamedTuple):
+    """What stands in PROVED."""
+
     kit: str
     version: str
     commit: str
     crates: dict
+
+    def __str__(self):
+        rows = [f"kit {self.kit}", f"version {self.version}", f"commit {self.commit}"]
+        rows += [f"{it.kind} {name} {it.stamp} {it.sum}" for name, it in self.crates.items()]
+        return "\n".join(rows) + "\n"
 
 
 def stop(why):
     sys.exit(f"release: {why}")
 
 
+# Commands, and the kit.
+
+
+def program(name):
+    """Where a program is; it stops where there is none."""
+    return shutil.which(name) or stop(f"there is no `{name}`")
+
+
 def asked(*words, folder=sources.TOP):
     """What a command prints; nothing where it fails."""
-    shutil.which(words[0]) or stop(f"there is no `{words[0]}`")
+    program(words[0])
     ran = subprocess.run(words, cwd=folder, capture_output=True, text=True)
     return ran.stdout.strip() if ran.returncode == 0 else ""
 
@@ -116,23 +133,61 @@ def run(*words, folder, why):
         stop(why)
 
 
-def kit():
-    """The folder of `rt`."""
-    rt = shutil.which("rt") or stop("there is no `rt`: the kit's bin/ has to stand in PATH")
-    return pathlib.Path(rt).resolve().parent
-
-
 def stamps(folder):
     """The stamp of each crate in the repository of a folder, as the kit makes it."""
     sys.dont_write_bytecode = True
-    path = kit() / "rtlib.py"
+    path = pathlib.Path(program("rt")).resolve().parent / "rtlib.py"
     loader = importlib.machinery.SourceFileLoader("rtlib", str(path))
     rtlib = importlib.util.module_from_spec(importlib.util.spec_from_loader("rtlib", loader))
     sys.modules["rtlib"] = rtlib
     loader.exec_module(rtlib)
+    # Of themselves they are computed once for each path from a crate to another: two minutes.
     for name in ("below", "stamp"):
         setattr(rtlib.Crate, name, functools.cache(getattr(rtlib.Crate, name)))
     return {crate.name: crate.stamp() for crate in rtlib.crates_below(os.path.realpath(folder))}
+
+
+def same_kit(proved):
+    """Stops where the kit at hand isn't the one that proved a release."""
+    here = asked("rt", "version")
+    if here != proved.kit:
+        stop(f"'{proved.kit}' proved this, the kit at hand is '{here}': prove anew")
+
+
+def told_commit(proved):
+    """Says of which commit a release is, where another one stands here."""
+    here = asked("git", "rev-parse", "HEAD")
+    if here != proved.commit:
+        known = asked("git", "merge-base", proved.commit, "HEAD") == proved.commit
+        told = "" if known else ", which is not in the history here"
+        print(f"the release is of commit {proved.commit[:12]}{told}; this is {here[:12] or 'none'}")
+
+
+def gate(folder, crates, *words):
+    """Runs `rt ci` in a clone, with a line for each crate that it has proved."""
+    log = tempfile.mkstemp(prefix="gate-", suffix=".log")[1]
+    print(f"the log of the gate is {log}")
+    left, last, began = set(crates), "", time.time()
+    how = {"stdin": subprocess.DEVNULL, "stdout": subprocess.PIPE, "stderr": subprocess.STDOUT}
+    command = [program("rt"), "ci", *words]
+    with open(log, "w") as opened, subprocess.Popen(command, cwd=folder, text=True, **how) as ran:
+        for line in ran.stdout:
+            print(line, end="", file=opened, flush=True)
+            last = line.strip() or last
+            done = re.match(r"rt: (\w+) (proved$|is kept|NOT PROVED)", line)
+            if done and done[1] in left:
+                left.remove(done[1])
+                number, minutes = len(crates) - len(left), (time.time() - began) / 60
+                told = f"{number} of {len(crates)}  {done[1]} {done[2]}"
+                print(f"{told}, {minutes:.0f} min", flush=True)
+                if not left:
+                    print("what is tried and run of the crates is left", flush=True)
+    print(last)
+    if ran.returncode or not re.fullmatch(r"\d+ passed, 0 failed", last):
+        stop("the gate did not pass")
+
+
+# Sums.
 
 
 def copied(source, target=None):
@@ -165,10 +220,10 @@ def sum_of_all(sums):
     return hashlib.sha256(lines(sums).encode()).hexdigest()
 
 
-def written(proved):
-    rows = [f"kit {proved.kit}", f"version {proved.version}", f"commit {proved.commit}"]
-    rows += [f"{it.kind} {name} {it.stamp} {it.sum}" for name, it in proved.crates.items()]
-    return "\n".join(rows) + "\n"
+def first(these, those):
+    """The first path whose sums differ."""
+    paths = sorted(these.keys() | those.keys())
+    return next((path for path in paths if these.get(path) != those.get(path)), None)
 
 
 def sums_of(release):
@@ -188,13 +243,11 @@ def read(release, whole=True):
     there = listing(release)
     there.pop("SUMS")
     for path in sorted(wanted.keys() | there.keys()):
-        if path not in there and not whole and path != "PROVED":
-            continue
-        if path not in there:
+        if path not in there and (whole or path == "PROVED"):
             stop(f"{path}: SUMS names it, and it is not there")
         if path not in wanted:
             stop(f"{path}: SUMS has no line for it")
-        if there[path] != wanted[path]:
+        if there.get(path, wanted[path]) != wanted[path]:
             stop(f"{path}: its sum is {there[path]}, in SUMS it is {wanted[path] or 'none'}")
     heads, crates = {}, {}
     for row in (release / "PROVED").read_text().splitlines():
@@ -218,30 +271,17 @@ def file_of(name, crate):
     return f"programs/{name}" if crate.kind == "program" else f"archives/lib{name}.a"
 
 
-def same_kit(proved):
-    """Stops where the kit at hand isn't the one that proved a release."""
-    kit()
-    here = asked("rt", "version")
-    if here != proved.kit:
-        stop(f"'{proved.kit}' proved this, the kit at hand is '{here}': prove anew")
+# Libraries, packed and laid.
 
 
-def told_commit(proved):
-    """Says of which commit a release is, where another one stands here."""
-    here = asked("git", "rev-parse", "HEAD")
-    if here != proved.commit:
-        known = asked("git", "merge-base", proved.commit, "HEAD") == proved.commit
-        told = "" if known else ", which is not in the history here"
-        print(f"the release is of commit {proved.commit[:12]}{told}; this is {here[:12] or 'none'}")
-
-
-def zstd():
-    return shutil.which("zstd") or stop("there is no zstd, which packs and unpacks libraries")
+def place(crates, name):
+    """Where `rt` looks for a built library."""
+    return crates / name / "out/rlib"
 
 
 def packed(path, libraries):
     """Packs libraries, by their names, so that the same files give the same octets."""
-    words = [zstd(), "-q", "-f", "-3", WINDOW, "-T1", "-o", str(path)]
+    words = [program("zstd"), "-q", "-f", "-3", WINDOW, "-T1", "-o", str(path)]
     how = {"mode": "w|", "format": tarfile.GNU_FORMAT, "bufsize": 1 << 20}
     with (
         contextlib.suppress(BrokenPipeError),
@@ -258,45 +298,51 @@ def packed(path, libraries):
         stop("zstd ended before all was packed")
 
 
+def members(tar):
+    """Each file of packed libraries: the name of its library, its path there, what it has."""
+    for member in tar:
+        name, _, path = member.name.partition("/")
+        inside = path.removeprefix(f"{name}.rlib/")
+        if not member.isfile() or inside == path or ".." in path.split("/"):
+            stop(f"{LIBRARIES} has {member.name}, which is no file of a library")
+        yield name, inside, tar.extractfile(member)
+
+
 def unpacked(release, names, place):
     """Unpacks these libraries of a release, each into the folder that `place` has for its name.
 
-    Without places it only reads. Gives the name of each that is whole, and the sums of its files.
+    Without places it only reads. Gives the name of each, and the sums of its files.
     """
-    words = [zstd(), "-q", "-d", "-c", WINDOW, str(pathlib.Path(release) / LIBRARIES)]
-    now, sums = None, {}
+    words = [program("zstd"), "-q", "-d", "-c", WINDOW, str(pathlib.Path(release) / LIBRARIES)]
     try:
         with (
             subprocess.Popen(words, stdout=subprocess.PIPE) as ran,
             tarfile.open(fileobj=ran.stdout, mode="r|", bufsize=1 << 20) as tar,
         ):
-            for name, path, file in members(tar):
-                if name != now and now in names:
-                    yield now, sums
-                now, sums = name, sums if name == now else {}
-                if name in names and not place:
-                    sums[path] = copied(file)
-                elif name in names:
-                    target = place(name) / f"{name}.rlib" / path
-                    target.parent.mkdir(parents=True, exist_ok=True)
-                    with open(target, "wb") as opened:
-                        sums[path] = copied(file, opened)
-            if now in names:
-                yield now, sums
+            for name, files in itertools.groupby(members(tar), lambda member: member[0]):
+                if name in names:
+                    folder = place and place(name) / f"{name}.rlib"
+                    yield name, {path: written(file, folder, path) for _, path, file in files}
     except tarfile.ReadError:
         stop(f"{LIBRARIES} cannot be read")
 
 
-def as_proved(release, proved, names, place=None):
-    """Unpacks libraries likewise, and stops at the first that hasn't the sum of PROVED.
+def written(file, folder, path):
+    """The sum of an opened file, which is written into a folder, if there is one."""
+    if not folder:
+        return copied(file)
+    (folder / path).parent.mkdir(parents=True, exist_ok=True)
+    with open(folder / path, "wb") as opened:
+        return copied(file, opened)
 
-    Gives the name of each that has."""
+
+def as_proved(release, proved, names, place=None):
+    """Unpacks libraries likewise, and stops at the first that hasn't the sum of PROVED."""
     left = set(names)
     for name, sums in unpacked(release, names, place):
         if sum_of_all(sums) != proved.crates[name].sum:
             stop(f"{name}: what {LIBRARIES} has of it has not the sum of PROVED")
         left.discard(name)
-        yield name
     if left:
         stop(f"{min(left)}: {LIBRARIES} does not have it")
 
@@ -312,20 +358,11 @@ def difference(release, name, crate, there, room):
     return f"{LIBRARIES} does not have it"
 
 
-def first(these, those):
-    """The first path whose sums differ."""
-    paths = sorted(these.keys() | those.keys())
-    return next((path for path in paths if these.get(path) != those.get(path)), None)
-
-
-def members(tar):
-    """Each file of packed libraries: the name of its library, its path there, what it has."""
-    for member in tar:
-        name, _, path = member.name.partition("/")
-        inside = path.removeprefix(f"{name}.rlib/")
-        if not member.isfile() or inside == path or ".." in path.split("/"):
-            stop(f"{LIBRARIES} has {member.name}, which is no file of a library")
-        yield name, inside, tar.extractfile(member)
+def clear(crates, below, libraries):
+    """Removes these libraries, and what was built over them: over others it is of no use."""
+    for name in below:
+        if set(libraries).intersection(sources.closure([name], below)):
+            shutil.rmtree(place(crates, name), ignore_errors=True)
 
 
 def lay(release, folder):
@@ -346,30 +383,16 @@ def lay(release, folder):
             told = f"rt proves it anew, and {above} above it"
             print(f"{name}: its texts are not those of the release: {told}")
     clear(crates, below, left)
-    for name in as_proved(release, proved, left, functools.partial(place, crates)):
+    as_proved(release, proved, left, functools.partial(place, crates))
+    for name in left:
         (place(crates, name) / "stamp").write_text(proved.crates[name].stamp)
     return len(left), len(there)
 
 
-def clear(crates, below, libraries):
-    """Removes these libraries, and what was built over them: over others it is of no use."""
-    for name in below:
-        if libraries & set(sources.closure([name], below)):
-            shutil.rmtree(place(crates, name), ignore_errors=True)
+# make
 
 
-def rows_of(listed, names):
-    """The rows of a crates.txt that are of these crates."""
-    rows = listed.read_text().splitlines(True)
-    return "".join(row for row in rows if re.match(r"\w*", row)[0] in names)
-
-
-def place(crates, name):
-    """Where `rt` looks for a built library."""
-    return crates / name / "out/rlib"
-
-
-def calls(clone, folder):
+def bindings(clone, folder):
     """Builds the archives over the libraries that the gate left, and of them what others link."""
     said = "bindings/build.sh and tools/wheel.py did not make what others link"
     run(clone / "bindings/build.sh", folder, "--gate", folder=clone, why=said)
@@ -382,57 +405,26 @@ def calls(clone, folder):
     shutil.copytree(clone / "bindings/rust", folder / "rust", ignore=left)
 
 
-def archive(clone, name):
-    """Where an archive lies that was built in a clone."""
-    return clone / f"crates/{name}/out/lib{name}.a"
-
-
-def gate(folder, crates, *words):
-    """Runs `rt ci` in a clone, with a line for each crate that it has proved."""
-    kit()
-    log = tempfile.mkstemp(prefix="gate-", suffix=".log")[1]
-    print(f"the log of the gate is {log}")
-    left, last, began = set(crates), "", time.time()
-    command = ["rt", "ci", *words]
-    how = {"stdin": subprocess.DEVNULL, "stdout": subprocess.PIPE, "stderr": subprocess.STDOUT}
-    how |= {"cwd": folder, "text": True}
-    with open(log, "w") as opened, subprocess.Popen(command, **how) as ran:
-        for line in ran.stdout:
-            print(line, end="", file=opened, flush=True)
-            last = line.strip() or last
-            done = re.match(r"rt: (\w+) (proved$|is kept|NOT PROVED)", line)
-            if done and done[1] in left:
-                left.remove(done[1])
-                number, minutes = len(crates) - len(left), (time.time() - began) / 60
-                told = f"{number} of {len(crates)}  {done[1]} {done[2]}"
-                print(f"{told}, {minutes:.0f} min", flush=True)
-                if not left:
-                    print("what is tried and run of the crates is left", flush=True)
-    print(last)
-    if ran.returncode or not re.fullmatch(r"\d+ passed, 0 failed", last):
-        stop("the gate did not pass")
-
-
-# make
+def built(clone, name, kind):
+    """Where a program or an archive lies that was built in a clone."""
+    return clone / "crates" / name / "out" / (name if kind == "program" else f"lib{name}.a")
 
 
 def libraries_of(clone, crates, stamps):
     """The folder of each library that another crate names, once all fit together."""
     named = {below for libraries in crates.values() for below in libraries}
     found = {}
-    for name in sources.closure(crates, crates):
-        if name not in named:
-            continue
-        out = clone / "crates" / name / "out/rlib"
-        built, stamp = out / f"{name}.rlib/format", out / "stamp"
-        if not built.is_file():
+    for name in filter(named.__contains__, sources.closure(crates, crates)):
+        out = place(clone / "crates", name)
+        made, stamp = out / f"{name}.rlib/format", out / "stamp"
+        if not made.is_file():
             stop(f"{name} is not built in {clone}: run the gate there")
         if stamp.is_file() and stamp.read_text() != stamps[name]:
             stop(f"{name} was built of other texts than those of {clone}")
-        for below, over in re.findall(r"^over (\w+) (\S+)$", built.read_text(), re.M):
+        for below, over in re.findall(r"^over (\w+) (\S+)$", made.read_text(), re.M):
             if below in found and over != sum_of(found[below] / "format"):
                 stop(f"{name} was built over another {below} than the one that is there")
-        found[name] = built.parent
+        found[name] = made.parent
     return found
 
 
@@ -440,31 +432,22 @@ def write(folder, clone):
     """Writes the release of what the gate built in a clone."""
     crates, made = sources.dependencies(clone / "crates.txt"), stamps(clone)
     libraries = libraries_of(clone, crates, made)
-    version = sources.version(clone)
-    commit = asked("git", "rev-parse", "HEAD", folder=clone)
-    found = {}
-    for name, built in libraries.items():
-        total = sum_of_all(listing(built))
-        found[name] = Crate("library", made[name], total)
-    (folder / "programs").mkdir(parents=True)
-    for name in filter(crates.__contains__, PROGRAMS):
-        program = clone / "crates" / name / "out" / name
-        if not program.is_file():
-            stop(f"{name} is not built in {clone}: run the gate there")
-        shutil.copy(program, folder / "programs" / name)
-        found[name] = Crate("program", made[name], sum_of(program))
-    (folder / "archives").mkdir()
-    archives = [name for name in ARCHIVES if name in crates]
-    if archives:
-        calls(clone, folder / "bindings")
-    for name in archives:
-        built = archive(clone, name)
-        shutil.copy(built, folder / "archives")
-        found[name] = Crate("archive", made[name], sum_of(built))
+    found = {name: Crate("library", made[name], sum_of_all(listing(it)))
+             for name, it in libraries.items()}
+    if not crates.keys().isdisjoint(ARCHIVES):
+        bindings(clone, folder / "bindings")
+    for kind, names in ("program", PROGRAMS), ("archive", ARCHIVES):
+        (folder / KINDS[kind]).mkdir(parents=True)
+        for name in filter(crates.__contains__, names):
+            file = built(clone, name, kind)
+            if not file.is_file():
+                stop(f"{name} is not built in {clone}: run the gate there")
+            shutil.copy(file, folder / KINDS[kind])
+            found[name] = Crate(kind, made[name], sum_of(file))
     for licence in sorted(clone.glob("LICENSE-*")):
         shutil.copy(licence, folder)
-    proved = Proved(asked("rt", "version"), version, commit, found)
-    (folder / "PROVED").write_text(written(proved))
+    version, commit = sources.version(clone), asked("git", "rev-parse", "HEAD", folder=clone)
+    (folder / "PROVED").write_text(str(Proved(asked("rt", "version"), version, commit, found)))
     packed(folder / LIBRARIES, libraries)
     (folder / "SUMS").write_text(lines(listing(folder)))
     size = sum(path.stat().st_size for path in folder.rglob("*") if path.is_file()) / 1e6
@@ -476,25 +459,19 @@ def write(folder, clone):
 
 
 def make(words):
-    built = None
-    if words[:1] == ["--built"] and len(words) == 3:
-        built, words = pathlib.Path(words[1]).resolve(), words[2:]
-    if len(words) != 1 or words[0].startswith("-"):
-        return 2
-    folder = pathlib.Path(words[0]).resolve()
+    folder, source = words.folder.resolve(), (words.built or sources.TOP).resolve()
     if folder.exists():
         stop(f"{folder} is there")
     if not folder.parent.is_dir():
         stop(f"there is no folder {folder.parent}")
-    source = built or sources.TOP
     if asked("git", "status", "--porcelain", folder=source):
         stop(f"{source} has changes that are not committed")
     with tempfile.TemporaryDirectory(dir=folder.parent) as room:
-        clone, new = built or pathlib.Path(room) / "clone", pathlib.Path(room) / "release"
-        if not built:
-            asked("git", "clone", "-q", str(sources.TOP), str(clone))
+        clone, new = pathlib.Path(room) / "clone", pathlib.Path(room) / "release"
+        if not words.built:
+            asked("git", "clone", "-q", str(source), str(clone))
             gate(clone, sources.closure(sources.dependencies()))
-        write(new, clone)
+        write(new, source if words.built else clone)
         new.rename(folder)
     return 0
 
@@ -504,10 +481,10 @@ def make(words):
 
 def compared(release, folder):
     """Says of each library that lies in a folder's repository whether it is the release's."""
-    crates, same, there = folder / "crates", 0, 0
+    same, there = 0, 0
     with tempfile.TemporaryDirectory() as room:
         for name, crate in read(release, whole=False).crates.items():
-            library = place(crates, name) / f"{name}.rlib"
+            library = place(folder / "crates", name) / f"{name}.rlib"
             if crate.kind == "library" and library.is_dir():
                 files = listing(library)
                 differs = difference(release, name, crate, files, pathlib.Path(room))
@@ -518,21 +495,22 @@ def compared(release, folder):
 
 
 def unpack(words):
-    laid = words[:1] == ["--laid"]
-    words = words[laid:]
-    if len(words) not in (1, 2) or words[0].startswith("-"):
-        return 2
-    began, folder = time.time(), pathlib.Path(words[1] if len(words) > 1 else sources.TOP)
+    began, folder = time.time(), words.folder.resolve()
     if not (folder / "crates.txt").is_file():
         stop(f"{folder} is no repository: it has no crates.txt")
-    if laid:
-        return int(not compared(words[0], folder.resolve()))
-    laid, there = lay(words[0], folder.resolve())
+    if words.laid:
+        return int(not compared(words.release, folder))
+    laid, there = lay(words.release, folder)
     print(f"{laid} of {there} libraries laid in {time.time() - began:.0f} seconds")
     return int(laid != there)
 
 
 # confirm
+
+
+def kept_rows(listed, names):
+    """The text of a crates.txt that is of these crates."""
+    return "".join(f"{row}\n" for name, row in sources.rows(listed).items() if name in names)
 
 
 def cloned(clone, proved, names):
@@ -551,63 +529,56 @@ def cloned(clone, proved, names):
     wanted = sources.closure(names or proved.crates, sources.dependencies(listed))
     for folder in (clone / "crates").iterdir():
         shutil.rmtree(folder / "must-fail" if folder.name in wanted else folder, ignore_errors=True)
-    listed.write_text(rows_of(listed, wanted))
+    listed.write_text(kept_rows(listed, wanted))
     return wanted
 
 
 def other(release, name, crate, clone, room):
     """Names the first file of a crate that was built anew in a clone and isn't the release's."""
-    out = clone / "crates" / name / "out"
     if crate.kind == "library":
-        there = listing(out / f"rlib/{name}.rlib")
+        there = listing(place(clone / "crates", name) / f"{name}.rlib")
         return difference(release, name, crate, there, room)
-    program = crate.kind == "program"
-    built = out / name if program else archive(clone, name)
-    return None if crate.sum == sum_of(built) else built.name
+    file = built(clone, name, crate.kind)
+    return None if crate.sum == sum_of(file) else file.name
+
+
+def other_bindings(release, clone, room):
+    """Names the first of the files that others link, and of the licences, that isn't the
+    release's."""
+    bindings(clone, room / "bindings")
+    these = {f"bindings/{path}": digest for path, digest in listing(room / "bindings").items()}
+    these |= {it.name: sum_of(it) for it in clone.glob("LICENSE-*")}
+    those = sums_of(release)
+    return first({it: those[it] for it in those if it.startswith(("bindings/", "LICENSE-"))}, these)
 
 
 def confirm(words):
-    kept = words[:1] == ["--kept"]
-    if not words[kept:]:
-        return 2
-    release, *names = words[kept:]
-    release, proved = pathlib.Path(release), read(release, whole=False)
+    release, proved = words.release, read(words.release, whole=False)
     same_kit(proved)
-    unknown = [name for name in names if name not in proved.crates]
+    unknown = [name for name in words.crates if name not in proved.crates]
     if unknown:
         stop(f"the release has no crate {unknown[0]}")
     others = {}
     with tempfile.TemporaryDirectory() as room:
         room = pathlib.Path(room)
-        wanted, clone = cloned(room / "clone", proved, names), room / "clone"
+        wanted, clone = cloned(room / "clone", proved, words.crates), room / "clone"
         if (release / LIBRARIES).is_file():
-            named = {name for name in wanted if proved.crates[name].kind == "library"}
-            list(as_proved(release, proved, named))
-        gate(clone, wanted, *[] if kept else ["--anew"])
+            as_proved(release, proved, {it for it in wanted if proved.crates[it].kind == "library"})
+        gate(clone, wanted, *[] if words.kept else ["--anew"])
         found = stamps(clone)
-        if not set(wanted).isdisjoint(ARCHIVES):
-            calls(clone, room / "bindings")
+        has_archives = not set(wanted).isdisjoint(ARCHIVES)
+        linked = other_bindings(release, clone, room) if has_archives else None
         for name in wanted:
-            crate = proved.crates[name]
-            others[name] = other(release, name, crate, clone, room)
-            if found[name] != crate.stamp:
+            others[name] = other(release, name, proved.crates[name], clone, room)
+            if found[name] != proved.crates[name].stamp:
                 others[name] = "its texts are not those that the release was built of"
-            told(name, others[name])
-        if (room / "bindings").is_dir():
-            made = listing(room / "bindings")
-            these = {f"bindings/{path}": digest for path, digest in made.items()}
-            these |= {it.name: sum_of(it) for it in clone.glob("LICENSE-*")}
-            those = sums_of(release)
-            those = {it: those[it] for it in those if it.startswith(("bindings/", "LICENSE-"))}
-            others["bindings"] = first(those, these)
-            told("bindings, licences", others["bindings"])
+    if has_archives:
+        others["bindings, licences"] = linked
+    for name, differs in others.items():
+        print(f"{name}: {f'differs: {differs}' if differs else 'the same, octet by octet'}")
     same = list(others.values()).count(None)
     print(f"{same} of {len(others)} the same")
     return int(same < len(others))
-
-
-def told(name, differs):
-    print(f"{name}: {f'differs: {differs}' if differs else 'the same, octet by octet'}", flush=True)
 
 
 # prove
@@ -618,7 +589,7 @@ def copy(folder, names):
     for name in names:
         left = shutil.ignore_patterns("out", "must-fail")
         shutil.copytree(sources.CRATES / name, folder / "crates" / name, ignore=left)
-    (folder / "crates.txt").write_text(rows_of(sources.TOP / "crates.txt", names))
+    (folder / "crates.txt").write_text(kept_rows(sources.TOP / "crates.txt", names))
     shutil.copy(sources.TOP / "HANDLES", folder)
     (folder / ".git").mkdir()
 
@@ -638,7 +609,7 @@ def lay_made(room, names):
             (made / "stamp").write_text(found[name])
             if laid.keys() & crates[name] or not is_there(name, made, library):
                 laid[name] = made, library
-    clear(sources.CRATES, crates, laid.keys())
+    clear(sources.CRATES, crates, laid)
     for made, library in laid.values():
         library.parent.mkdir(exist_ok=True)
         shutil.move(made, library)
@@ -646,12 +617,10 @@ def lay_made(room, names):
 
 
 def prove(words):
-    crates = sources.dependencies()
-    unknown = [word for word in words if word not in crates]
-    if not words or unknown:
-        print(f"no crate {unknown[0]}\n" if unknown else "", end="", file=sys.stderr)
-        return 2
-    wanted = sources.closure(words)
+    unknown = [word for word in words.crates if word not in sources.dependencies()]
+    if unknown:
+        stop(f"no crate {unknown[0]}")
+    wanted = sources.closure(words.crates)
     with tempfile.TemporaryDirectory() as room:
         room = pathlib.Path(room)
         copy(room, wanted)
@@ -671,71 +640,82 @@ def change(path):
     path.write_bytes(found)
 
 
-def is_refused(wanted, *words, folder=sources.TOP):
-    """Whether a command ends with another status than 0, and says what is wanted."""
-    ran = subprocess.run([str(it) for it in words], cwd=folder, capture_output=True, text=True)
+def is_refused(wanted, *words):
+    """Whether a run of this script ends with another status than 0, and says what is wanted."""
+    command = [sys.executable, __file__, *map(str, words)]
+    ran = subprocess.run(command, capture_output=True, text=True)
     said = [line for line in (ran.stdout + ran.stderr).splitlines() if wanted in line]
     refused = ran.returncode != 0 and bool(said)
     print(f"refused: {said[0][:90]}" if refused else f"not refused for {wanted}", flush=True)
     return refused
 
 
+def changed_files(release, room):
+    """Whether a release is refused with a byte changed in each of its files; of programs and
+    archives also where SUMS has the changed file's sum."""
+    (room / "empty").mkdir()
+    (room / "empty/crates.txt").touch()
+    changed = room / "changed"
+    for path in listing(release):
+        shutil.rmtree(changed, ignore_errors=True)
+        shutil.copytree(release, changed, copy_function=os.link)
+        change(changed / path)
+        unpacking = "unpack", changed, room / "empty"
+        yield is_refused("SUMS" if path == "SUMS" else f"{path}: ", *unpacking)
+        if path.startswith(("programs/", "archives/")):
+            total, sums = sum_of(changed / path), sums_of(changed)
+            (changed / "SUMS").unlink()
+            (changed / "SUMS").write_text(lines(sums | {path: total}))
+            yield is_refused(f"{path}: SUMS has {total}", *unpacking)
+
+
+def changed_library(release, new):
+    """Whether a laid library is refused with a byte changed in each kind of its files."""
+    new.mkdir()
+    asked("git", "init", "-q", folder=new)
+    run(sources.TOP / "tools/take.py", "--release", release, "const_oid", new, folder=new,
+        why="take.py did not take const_oid")
+    laid, kinds = place(new / "crates", "const_oid") / "const_oid.rlib", {}
+    for path in listing(laid):
+        parts = path.split("/")
+        below = parts[0] if parts[0] == "below" else "/".join(parts[:2])
+        kinds.setdefault(f"{below}.{path.rpartition('.')[2]}" if parts[2:] else path, path)
+    for path in kinds.values():
+        kept = (laid / path).read_bytes()
+        change(laid / path)
+        yield is_refused(f"const_oid: differs: {path}", "unpack", "--laid", release, new)
+        (laid / path).write_bytes(kept)
+
+
 def test(words):
-    if len(words) != 1:
-        return 2
-    release, right = pathlib.Path(words[0]).resolve(), True
-    script = sources.TOP / "tools/release.py"
+    release = words.release.resolve()
     with tempfile.TemporaryDirectory() as room:
         room = pathlib.Path(room)
-        (room / "empty").mkdir()
-        (room / "empty/crates.txt").touch()
-        changed = room / "changed"
-        for path in [*listing(release)]:
-            shutil.rmtree(changed, ignore_errors=True)
-            shutil.copytree(release, changed, copy_function=os.link)
-            change(changed / path)
-            unpacking = script, "unpack", changed, room / "empty"
-            right &= is_refused("SUMS" if path == "SUMS" else f"{path}: ", *unpacking)
-            if path.startswith(("programs/", "archives/")):
-                total, sums = sum_of(changed / path), sums_of(changed) | {}
-                (changed / "SUMS").unlink()
-                (changed / "SUMS").write_text(lines(sums | {path: total}))
-                right &= is_refused(f"{path}: SUMS has {total}", *unpacking)
-        new = room / "new"
-        new.mkdir()
-        asked("git", "init", "-q", folder=new)
-        run(sources.TOP / "tools/take.py", "--release", release, "const_oid", new, folder=new,
-            why="take.py did not take const_oid")
-        shutil.copytree(new / "crates/const_oid/src", new / "crates/first/src")
-        with open(new / "crates.txt", "a") as listed:
-            print("first: const_oid", file=listed)
-        laid, kinds = place(new / "crates", "const_oid") / "const_oid.rlib", {}
-        for path in listing(laid):
-            parts = path.split("/")
-            below = parts[0] if parts[0] == "below" else "/".join(parts[:2])
-            kinds.setdefault(f"{below}.{path.rpartition('.')[2]}" if parts[2:] else path, path)
-        for path in kinds.values():
-            kept = (laid / path).read_bytes()
-            change(laid / path)
-            wanted = f"const_oid: differs: {path}"
-            right &= is_refused(wanted, script, "unpack", "--laid", release, new)
-            (laid / path).write_bytes(kept)
-    print("each is refused" if right else "not each is refused")
-    return not right
+        refused = [*changed_files(release, room), *changed_library(release, room / "new")]
+    print("each is refused" if all(refused) else "not each is refused")
+    return int(not all(refused))
 
 
-VERBS = {"make": make, "unpack": unpack, "confirm": confirm, "prove": prove, "test": test}
-
-
-def main(words):
-    verb = VERBS.get(words[0] if words else "")
-    flags = [word for word in words if word.startswith("-")]
-    known = not set(flags) - {"--built", "--laid", "--kept"}
-    status = int(verb(words[1:])) if verb and known else 2
-    if status == 2:
-        print(__doc__, file=sys.stderr)
-    return status
+def arguments():
+    kind = argparse.RawDescriptionHelpFormatter
+    words = argparse.ArgumentParser(description=__doc__, formatter_class=kind)
+    verbs = words.add_subparsers(required=True, metavar="VERB")
+    of = {}
+    for verb in (make, unpack, confirm, prove, test):
+        of[verb] = verbs.add_parser(verb.__name__)
+        of[verb].set_defaults(verb=verb)
+    of[make].add_argument("--built", type=pathlib.Path, metavar="CLONE")
+    of[make].add_argument("folder", type=pathlib.Path, metavar="FOLDER")
+    of[unpack].add_argument("--laid", action="store_true")
+    of[confirm].add_argument("--kept", action="store_true")
+    for verb in (unpack, confirm, test):
+        of[verb].add_argument("release", type=pathlib.Path, metavar="RELEASE")
+    of[unpack].add_argument("folder", type=pathlib.Path, nargs="?", default=sources.TOP)
+    of[confirm].add_argument("crates", nargs="*", metavar="CRATE")
+    of[prove].add_argument("crates", nargs="+", metavar="CRATE")
+    return words.parse_args()
 
 
 if __name__ == "__main__":
-    sys.exit(main(sys.argv[1:]))
+    words = arguments()
+    sys.exit(words.verb(words))

@@ -10,10 +10,12 @@ import pathlib
 import sys
 
 import wurstdrape
+from wurstdrape import _library as library
 
 TOP = pathlib.Path(__file__).resolve().parents[2]
+DATA = TOP / "crates" / "cert_tool" / "data"
 MASK = 2**64 - 1
-library = wurstdrape._library
+ROOM = 1 << 20
 PURPOSE = bytes.fromhex("2b06010505070301")
 # id-ce-extKeyUsage
 PURPOSES = bytes.fromhex("551d25")
@@ -42,71 +44,66 @@ class Changes:
 
 
 class Sum:
-    """FNV-1a, 64 bits"""
+    """FNV-1a, 64 bits, over the answers of the library"""
 
     value = 14695981039346656037
+    out, length = ctypes.create_string_buffer(ROOM), ctypes.c_size_t()
 
     def add(self, octets):
-        value = self.value
         for octet in octets:
-            value = (value ^ octet) * 1099511628211 & MASK
-        self.value = value
+            self.value = (self.value ^ octet) * 1099511628211 & MASK
 
     def add_number(self, number):
         self.add(number.to_bytes(8, "little"))
 
+    def add_text(self, call, *lent):
+        """Adds the status of a call, and what it writes."""
+        self.add_number(call(*lent, self.out, ROOM, ctypes.byref(self.length)))
+        self.add(ctypes.string_at(self.out, self.length.value))
 
-def main():
-    if len(sys.argv) != 2:
-        sys.exit(__doc__)
-    data = TOP / "crates" / "cert_tool" / "data"
-    server = (TOP / "examples" / "server.der").read_bytes()
-    files = ("root.der", "chain.der", "answers.txt", "list.der", "request.der")
-    root, chain, answers, revoked, request = ((data / name).read_bytes() for name in files)
-    changes, total, done = Changes(), Sum(), 0
-    out, length = ctypes.create_string_buffer(1 << 20), ctypes.c_size_t()
-
-    def told(call, *lent):
-        total.add_number(call(*lent, out, 1 << 20, ctypes.byref(length)))
-        total.add(ctypes.string_at(out, length.value))
-
-    def told_parts(it):
+    def add_parts(self, it):
+        """Adds where parts of a certificate stand, and its purposes."""
         spans, span, critical = wurstdrape._Spans(), wurstdrape._Span(), ctypes.c_bool()
-        lent = [it, len(it)]
-        status = library.wd_parts(*lent, ctypes.byref(spans))
-        total.add_number(status)
+        status = library.wd_parts(it, len(it), ctypes.byref(spans))
+        self.add_number(status)
         if status == 0:
             for part in (getattr(spans, name) for name, _ in spans._fields_):
-                total.add(it[part.start : part.start + part.size])
-        found = [ctypes.byref(span), ctypes.byref(critical)]
-        status = library.wd_extension(*lent, PURPOSES, len(PURPOSES), *found)
-        total.add_number(status)
+                self.add(it[part.start : part.start + part.size])
+        found = ctypes.byref(span), ctypes.byref(critical)
+        status = library.wd_extension(it, len(it), PURPOSES, len(PURPOSES), *found)
+        self.add_number(status)
         if status == 0:
-            total.add(it[span.start : span.start + span.size])
-            total.add_number(critical.value)
+            self.add(it[span.start : span.start + span.size])
+            self.add_number(critical.value)
 
-    for number in range(int(sys.argv[1])):
+
+def main(count):
+    server = (TOP / "examples" / "server.der").read_bytes()
+    names = ("root.der", "chain.der", "answers.txt", "list.der", "request.der")
+    root, chain, answers, revoked, request = ((DATA / name).read_bytes() for name in names)
+    changes, total, done = Changes(), Sum(), 0
+    for number in range(count):
         fault, place = wurstdrape._Fault(), wurstdrape._Place()
+        it = changes.change((server, revoked, request, chain)[number % 4])
         if number % 4 == 3:
-            it = changes.change(chain)
-            lent = [root, len(root), it, len(it)]
-            purpose = [PURPOSE, len(PURPOSE), 4096, ctypes.byref(place)]
-            status = library.wd_verify(answers, len(answers), *lent, 1780000000, *purpose)
-            told(library.wd_questions, *lent, 4096)
+            lent = root, len(root), it, len(it)
+            terms = 1780000000, PURPOSE, len(PURPOSE), 4096, ctypes.byref(place)
+            status = library.wd_verify(answers, len(answers), *lent, *terms)
+            total.add_text(library.wd_questions, *lent, 4096)
         else:
             kind = ("certificate", "list", "request")[number % 4]
-            it = changes.change((server, revoked, request)[number % 4])
-            call = getattr(library, f"wd_is_{kind}")
-            status = call(it, len(it), ctypes.byref(fault))
-            told(getattr(library, f"wd_show_{kind}"), it, len(it))
-            told(getattr(library, f"wd_describe_{kind}"), it, len(it), True)
+            status = getattr(library, f"wd_is_{kind}")(it, len(it), ctypes.byref(fault))
+            total.add_text(getattr(library, f"wd_show_{kind}"), it, len(it))
+            total.add_text(getattr(library, f"wd_describe_{kind}"), it, len(it), True)
             if kind == "certificate":
-                told_parts(it)
+                total.add_parts(it)
         for value in (status, fault.kind, fault.octet, place.place, place.offset, place.number):
             total.add_number(value)
         done += status == 0
-    print(f"{sys.argv[1]} inputs, {done} of them right: {total.value:016x}")
+    print(f"{count} inputs, {done} of them right: {total.value:016x}")
 
 
 if __name__ == "__main__":
-    main()
+    if len(sys.argv) != 2:
+        sys.exit(__doc__)
+    main(int(sys.argv[1]))

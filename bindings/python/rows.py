@@ -3,7 +3,7 @@
 answers, and compares each answer with the one that stands there.
 
     bindings/python/rows.py     with the module to import (PYTHONPATH, or an installed wheel); the
-                             status is 1 where an answer differs
+                                status is 1 where an answer differs
 """
 
 import pathlib
@@ -13,12 +13,11 @@ import wurstdrape
 from wurstdrape import Error, Kind, Malformed, Status
 
 TOP = pathlib.Path(__file__).resolve().parents[2]
-ROWS = TOP / "crates"
+ROWS = TOP / "crates" / "test_cert_rows"
 sys.path.insert(0, str(TOP / "tests" / "rows"))
 
 import served
 
-KINDS = [kind.value for kind in Kind]
 OPTIONS = {
     "verify": ("anchors", "answers", "at", "purpose", "limit"),
     "questions": ("anchors", "limit"),
@@ -35,66 +34,22 @@ PURPOSES = {
 }
 
 
-def tool_rows():
-    """Each question of `cert_tool`, the lines that answer it, and the status."""
-    for question, output, errors, status in served.rows():
-        yield question, output + errors, status
+class NoCall(Exception):
+    """No call of the module answers the row."""
 
 
 def options(command, words):
-    """The values of a command's options, and the words that are none; or nothing where the words
-    aren't right, which no call of the module reads."""
-    given, alone = {}, []
-    words = iter(words)
+    """The values of a command's options, and the words that are none."""
+    given, alone, words = {}, [], iter(words)
     for word in words:
-        if word.startswith("--"):
-            key = word[2:]
-            if key in given or key not in OPTIONS.get(command, ()):
-                return None
-            given[key] = True if key == "json" else next(words, None)
-            if given[key] is None:
-                return None
-        else:
+        key = word.removeprefix("--")
+        if key == word:
             alone.append(word)
+        elif key in given or key not in OPTIONS.get(command, ()):
+            raise NoCall
+        else:
+            given[key] = True if key == "json" else next(words, "")
     return given, alone
-
-
-def octets(name):
-    return b"" if name == "/dev/null" else served.files()[name]
-
-
-def is_moment(word):
-    """Whether a word is seconds to the year 9999, as the program takes them."""
-    return word.isdigit() and int(word) < 253402300800
-
-
-def is_purpose(word):
-    """Whether a word names a purpose."""
-    try:
-        return word in PURPOSES or wurstdrape.identifier_of_text(word) != b""
-    except Malformed:
-        return False
-
-
-def judged(given, file):
-    """The line and the status of a verdict, without the count of calls, which isn't told."""
-    purpose = given.get("purpose", "serverAuth")
-    verdict = wurstdrape.judge(
-        octets(given["answers"]),
-        octets(given["anchors"]),
-        octets(file),
-        int(given["at"]),
-        PURPOSES.get(purpose, purpose),
-        int(given.get("limit", wurstdrape.LIMIT)),
-    )
-    place = f"{verdict.place}" if verdict.offset is None else f"{verdict.place} {verdict.offset}"
-    if verdict.trusted:
-        return "trusted", verdict.status
-    if verdict.rule is not None:
-        return f"refused {place} {camel(verdict.rule)}", verdict.status
-    if verdict.fault is not None:
-        return f"fault {place} {camel(verdict.fault)}", verdict.status
-    return "empty", verdict.status
 
 
 def camel(member):
@@ -102,38 +57,63 @@ def camel(member):
     return member.name.title().replace("_", "")
 
 
-def answered(question, answer, status):
-    """Whether the module's answer is the row's, or None where no call of it answers the row."""
-    command, *words = question.split(" ")
-    right = options(command, words)
-    if right is None:
-        return None
-    given, alone = right
+def verified(given, file, files):
+    """The line of a verdict, without the count of calls, which isn't told, and the status."""
+    at, purpose = given["at"], given.get("purpose", "serverAuth")
     try:
-        if command == "verify" and len(alone) == 1 and {"anchors", "answers", "at"} <= given.keys():
-            if not is_moment(given["at"]) or not is_purpose(given.get("purpose", "serverAuth")):
-                return None
-            line, told = judged(given, alone[0])
-            return (answer[0].rsplit(" calls=", 1)[0], status) == (line, told)
-        if command == "questions" and len(alone) == 1:
-            limit = int(given.get("limit", wurstdrape.LIMIT))
-            lines = wurstdrape.questions(octets(given["anchors"]), octets(alone[0]), limit)
-            return (answer, status) == ([it.decode().rstrip("\n") for it in lines], 0)
-        if command == "describe" and len(alone) == 2 and alone[0] in KINDS:
-            kind = Kind(alone[0])
-            if "json" in given:
-                call = getattr(wurstdrape._library, f"wd_describe_{kind.value}")
-                text = wurstdrape._of(octets(alone[1]), kind, call, True).decode()
-            else:
-                text = wurstdrape.describe_text(octets(alone[1]), kind)
-            return (answer, status) == (text.rstrip("\n").split("\n"), 0)
+        is_purpose = purpose in PURPOSES or wurstdrape.identifier_of_text(purpose) != b""
+    except Malformed:
+        is_purpose = False
+    # The program takes seconds to the year 9999.
+    if not at.isdigit() or int(at) >= 253402300800 or not is_purpose:
+        raise NoCall
+    verdict = wurstdrape.judge(
+        files[given["answers"]],
+        files[given["anchors"]],
+        files[file],
+        int(at),
+        PURPOSES.get(purpose, purpose),
+        int(given.get("limit", wurstdrape.LIMIT)),
+    )
+    place = f"{verdict.place}" if verdict.offset is None else f"{verdict.place} {verdict.offset}"
+    line = "trusted" if verdict.trusted else "empty"
+    if verdict.rule is not None:
+        line = f"refused {place} {camel(verdict.rule)}"
+    elif verdict.fault is not None:
+        line = f"fault {place} {camel(verdict.fault)}"
+    return line, verdict.status
+
+
+def described(given, kind, octets):
+    """What `describe` prints."""
+    if "json" not in given:
+        return wurstdrape.describe_text(octets, kind).encode()
+    call = getattr(wurstdrape._library, f"wd_describe_{kind.value}")
+    return wurstdrape._of(octets, kind, call, True)
+
+
+def answers(words, files, told):
+    """Whether the module's answer to words of `cert_tool` over these files is the row's."""
+    given, alone = options(words[0], words[1:])
+    status, output, _ = told
+    try:
+        match words[0], alone:
+            case "verify", [file]:
+                line = output.decode().partition("\n")[0].rpartition(" calls=")
+                return (line[0] or line[2], status) == verified(given, file, files)
+            case "questions", [file]:
+                limit = int(given.get("limit", wurstdrape.LIMIT))
+                lines = wurstdrape.questions(files[given["anchors"]], files[file], limit)
+                return told == (0, b"".join(lines), b"")
+            case "describe", [kind, file]:
+                return told == (0, described(given, Kind(kind), files[file]), b"")
     except Malformed:
         return status == Status.FAULTY
     except Error as why:
         return status == why.status
-    except (KeyError, ValueError, OSError):
-        return None
-    return None
+    except (KeyError, ValueError) as why:
+        raise NoCall from why
+    raise NoCall
 
 
 def octets_of(word):
@@ -142,44 +122,36 @@ def octets_of(word):
     return b"" if digits == "-" else bytes.fromhex(digits) * int(often or 1)
 
 
-def listings():
-    """Each question of `test_cert_rows` about a listing, and whether the row's answer is given."""
-    asked = (ROWS / "test_cert_rows" / "stdin").read_text().split("\n")
-    told = (ROWS / "test_cert_rows" / "stdout").read_text().split("\n")
-    for question, answer in zip(asked, told):
-        words = question.split(" ")
-        if words[:2] != ["listing", "show"] or answer == "?":
-            continue
-        try:
-            text = wurstdrape.show(octets_of(words[3]), Kind(words[2]))
-            for octet, written in (("\\", "\\\\"), ('"', '\\"'), ("\n", "\\n")):
-                text = text.replace(octet, written)
-            mine = f'0 "{text}" ""'
-        except Malformed:
-            mine = '2 "" "malformed\\n"'
-        yield question, mine == answer
+def lists(words, told):
+    """Whether the module lists what a row of `test_cert_rows` lists."""
+    if words[:2] != ["listing", "show"] or told == "?":
+        raise NoCall
+    try:
+        text = wurstdrape.show(octets_of(words[3]), Kind(words[2]))
+    except Malformed:
+        return told == '2 "" "malformed\\n"'
+    for octet, written in (("\\", "\\\\"), ('"', '\\"'), ("\n", "\\n")):
+        text = text.replace(octet, written)
+    return told == f'0 "{text}" ""'
 
 
 def main():
-    same, others = 0, 0
-    differ = []
-    for question, answer, status in tool_rows():
-        is_same = answered(question, answer, status)
-        if is_same is None:
-            others += 1
-        elif is_same:
-            same += 1
-        else:
-            differ.append(question)
-    for question, is_same in listings():
-        same += is_same
-        if not is_same:
-            differ.append(question)
-    for question in differ:
-        print("differs:", question[:200])
-    print(f"{same} rows are answered alike, {len(differ)} differ; {others} ask of no call")
-    sys.exit(bool(differ) or same < 100)
+    rows = [(answers, words, files, told) for words, files, told in served.rows()]
+    listed = zip(*((ROWS / part).read_text().split("\n") for part in ("stdin", "stdout")))
+    rows += [(lists, question.split(" "), told) for question, told in listed]
+    same = differ = others = 0
+    for is_same, words, *row in rows:
+        try:
+            if is_same(words, *row):
+                same += 1
+            else:
+                differ += 1
+                print("differs:", " ".join(words)[:200])
+        except NoCall:
+            others += is_same is answers
+    print(f"{same} rows are answered alike, {differ} differ; {others} ask of no call")
+    return bool(differ) or same < 100
 
 
 if __name__ == "__main__":
-    main()
+    sys.exit(main())

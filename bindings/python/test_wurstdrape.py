@@ -5,9 +5,10 @@
 What is wanted was told by OpenSSL, or stands in a standard.
 """
 
+import concurrent.futures
 import datetime
+import importlib.util
 import pathlib
-import threading
 import unittest
 
 import wurstdrape
@@ -17,6 +18,7 @@ TOP = pathlib.Path(__file__).resolve().parents[2]
 DATA = TOP / "crates" / "cert_tool" / "data"
 # 2026-05-28
 MOMENT = 1780000000
+HAS_CRYPTOGRAPHY = importlib.util.find_spec("cryptography") is not None
 
 
 def read(name):
@@ -54,12 +56,6 @@ class Parts(unittest.TestCase):
         purposes = bytes.fromhex("300a06082b06010505070301")
         self.assertEqual(wurstdrape.extension(self.der, "2.5.29.37"), (purposes, False))
         self.assertIsNone(wurstdrape.extension(self.der, "2.5.29.30"))
-
-    def test_listing(self):
-        lines = wurstdrape.show(self.der).splitlines()
-        self.assertEqual(lines[0], "certificate")
-        self.assertIn("subject CN=desk.example", lines)
-        self.assertIn("not-after 2036-01-01T00:00:00Z", lines)
 
     def test_description(self):
         self.assertEqual(wurstdrape.describe(self.der)["subject"]["text"], "CN=desk.example")
@@ -172,11 +168,8 @@ class Chains(unittest.TestCase):
                 wurstdrape.judge(answers, root, self.chain, MOMENT, limit=limit)
             self.assertIs(refused.exception.status, Status.ARGUMENTS)
 
+    @unittest.skipUnless(HAS_CRYPTOGRAPHY, "cryptography isn't installed")
     def test_by_cryptography(self):
-        try:
-            import cryptography  # noqa: F401
-        except ImportError:
-            self.skipTest("cryptography isn't installed")
         self.assertTrue(wurstdrape.verify(self.root, self.chain, MOMENT).trusted)
         forged = wurstdrape.verify(self.root, read("forged.der"), MOMENT)
         self.assertIs(forged.rule, Rule.WRONG_SIGNATURE)
@@ -247,12 +240,11 @@ class Issued(unittest.TestCase):
             audit("order\n", MOMENT)
         self.assertIs(refused.exception.status, Status.ARGUMENTS)
 
+    @unittest.skipUnless(HAS_CRYPTOGRAPHY, "cryptography isn't installed")
     def test_by_cryptography(self):
-        try:
-            from cryptography.hazmat.primitives import hashes, serialization
-            from cryptography.hazmat.primitives.asymmetric import ec
-        except ImportError:
-            self.skipTest("cryptography isn't installed")
+        from cryptography.hazmat.primitives import hashes, serialization
+        from cryptography.hazmat.primitives.asymmetric import ec
+
         keys, lines = [], []
         for line in self.orders.splitlines():
             if line.startswith("key "):
@@ -274,19 +266,9 @@ class Issued(unittest.TestCase):
 
 class Threads(unittest.TestCase):
     def test_calls_at_once(self):
-        der, wrong = example("server.der"), []
-
-        def call():
-            for _ in range(200):
-                if wurstdrape.subject(der) != "CN=desk.example":
-                    wrong.append(1)
-
-        threads = [threading.Thread(target=call) for _ in range(8)]
-        for thread in threads:
-            thread.start()
-        for thread in threads:
-            thread.join()
-        self.assertEqual(wrong, [])
+        ders = [example("server.der")] * 1600
+        with concurrent.futures.ThreadPoolExecutor(8) as pool:
+            self.assertEqual(set(pool.map(wurstdrape.subject, ders)), {"CN=desk.example"})
 
 
 if __name__ == "__main__":
