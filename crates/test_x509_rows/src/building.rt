@@ -23,7 +23,7 @@ pub fn is_asked(word: &str, rest: &str) -> bool {
     match word {
         "repeats" | "authority" | "key" | "request" => true,
         "names" => rest.is_empty() || rest.contains('='),
-        "list" => rest.is_empty() || Manner::parse(second).is_ok(),
+        "list" => Manner::parse(second).is_ok(),
         "again" => certificates::is_profile(second),
         _ => Manner::parse(word).is_ok(),
     }
