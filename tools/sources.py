@@ -634,7 +634,7 @@ class House:
         return self.code.get((crate, "lib.rt")) or self.code.get((crate, "main.rt"))
 
     def names(self, crate, path, inside=False):
-        """What stands behind the names of a module: items, and places of modules."""
+        """Maps each name of a module to the item or to the module that it stands for."""
         file, found = self.file_of(crate, path), {}
         if file is None:
             return found

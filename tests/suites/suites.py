@@ -611,7 +611,7 @@ def page_of_readings(readings):
     by_fault = collections.defaultdict(list)
     for one in readings:
         if one.fault and (one.openssl or one.python):
-            by_fault[re.sub(r"\d+ octets", "so many octets", one.fault)].append(one)
+            by_fault[re.sub(r"\d+ octets", "N octets", one.fault)].append(one)
     read = sum(not one.fault for one in readings)
     none = len(readings) - read - sum(map(len, by_fault.values()))
     counts = {"ALL": len(readings), "READ": read, "NONE": none}
