@@ -333,7 +333,9 @@ fn takes_room(certificate: &CertificateInner<Raw>, is_last: bool, room: &PathRoo
 }
 
 // Which rules a certificate keeps. That of its signature isn't, since nobody was asked. The room
-// that path lengths leave becomes what is left behind it.
+// that path lengths leave becomes what is left behind it. Inlined, so that the rules that are kept
+// are compared where they were computed.
+#[inline(always)]
 pub(crate) fn rules_kept(
     alloc: Global,
     certificate: &CertificateInner<Raw>,

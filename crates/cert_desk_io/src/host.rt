@@ -79,7 +79,8 @@ pub fn words_of<E: Output>(
     ensures untold { OnOk result (err.new ≡ err.old) }
     ensures told { IfErr result (λ status.
         IsMemoryTold (sink E.gives E.failures err.old err.new) status
-        ⊎ IsComplaint (sink E.gives E.failures err.old err.new) text.now statuses.Arguments status) }
+        ⊎ IsComplaint (sink E.gives E.failures err.old err.new) text.now
+        statuses.Arguments status) }
 {
     match env::args(rt) {
         Ok(words) => match words.collect(rt.alloc()) {

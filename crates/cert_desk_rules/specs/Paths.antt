@@ -45,7 +45,7 @@ keeps_length bound cs place other = list_all
     (λ e. is_within (used_up bound cs (place + 1) (other - place)) (path_length (weigh bound e)))
     (extensions_at cs place)
 
--- the same for each of the first places
+-- each of the first places keeps path lengths up to another place
 abbrev pub keep_lengths : ℕ → List PlainCertificate → ℕ → ℕ → Bool
 keep_lengths bound cs zero other = true
 keep_lengths bound cs (suc place) other = keep_lengths bound cs place other

@@ -66,8 +66,3 @@ none_of w ce pe timestamps kinds.SubjectInfoAccess = pe 11
 none_of w ce pe timestamps kinds.TlsFeature = pe 24
 none_of w ce pe timestamps kinds.SignedCertificateTimestamps = timestamps
 none_of w ce pe timestamps _ = λ e. ce _ e
-
-pub only_one : (w : List ℕ) → length w ≡ 1 → w ≡ slice_index_or w 0 0 ∷ []
-only_one [] e = absurd (omega (arith, e))
-only_one (x ∷ []) e = refl
-only_one (x ∷ y ∷ w) e = absurd (omega (arith, e))

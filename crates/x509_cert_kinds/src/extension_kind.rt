@@ -97,13 +97,13 @@ fn arc_below(front: &[u8], octets: &[u8]) -> Option<u8>
     ensures some { IfSome result (λ arc. octets.now ≡ front.now ++ arc ∷ []) }
     ensures none { IfNone result ((arc : ℕ) → octets.now ≢ front.now ++ arc ∷ []) }
 {
-    let Some(rest) = octets.strip_prefix(front) else {
+    let Some((arc, above)) = octets.split_last() else {
         return None;
     };
-    if rest.len() != 1 {
+    if above != front {
         return None;
     }
-    Some(rest[0])
+    Some(*arc)
 }
 
 // The kind whose identifier is this arc below id-ce.
