@@ -6,7 +6,6 @@ ghost use Rattle.std.specs.List.{list_all};
 ghost use Rattle.cert_desk_listing.specs.Oid.Bound.{Bound};
 ghost use Rattle.cert_desk_listing.specs.Der.Grammar.{plain_list, plain_option};
 ghost use Rattle.cert_desk_listing.specs.Der.Ranges.{IsInRange};
-ghost use Rattle.x509_cert_builders.specs.Refusals.{IsWantOfMemory};
 ghost use Rattle.cert_desk_orders.specs.CertParts.Grammar.{PublicKey, time};
 ghost use Rattle.cert_desk_orders.specs.CertParts.Times.{time_of};
 ghost use Rattle.cert_desk_orders.specs.CertParts.Views.{key_plain, time_date, time_value};
@@ -49,16 +48,6 @@ fn name_of(alloc: Global, order: &Order) -> Result<Name, Fault>
     }
 }
 
-/// Whether an error says out of memory.
-fn is_want_of_memory(error: &Error) -> bool
-    ensures { IsTrue result ↔ IsWantOfMemory error.now }
-{
-    match error {
-        Error::Asn1(error) => making::is_want_of_memory(error),
-        _ => false,
-    }
-}
-
 /// Whether a name is one of a subscriber, an end entity.
 fn names_subscriber(subject: &Name) -> bool
     ensures { result ≡ names_subscriber (name_plain subject.now) }
@@ -79,12 +68,8 @@ fn check_name(alloc: Global, role: Role, subject: &Name) -> Result<(), Fault>
     match role {
         Role::Root => match ca_certificate_naming(alloc, subject) {
             Ok(()) => Ok(()),
-            Err(error) => {
-                if is_want_of_memory(&error) {
-                    return Err(Fault::OutOfMemory);
-                }
-                Err(Fault::RootName(error))
-            }
+            Err(Error::Asn1(error)) if making::is_want_of_memory(&error) => Err(Fault::OutOfMemory),
+            Err(error) => Err(Fault::RootName(error)),
         },
         Role::Subordinate => Ok(()),
         Role::Subscriber => {

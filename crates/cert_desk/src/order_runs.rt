@@ -1,5 +1,5 @@
 //! Whole runs of `issue`, over any input and outputs.
-ghost use Rattle.std.specs.Prelude.{◌≡◌, ◌↔◌, length, map, take, IfOk, IsTrue};
+ghost use Rattle.std.specs.Prelude.{◌≡◌, length, map, take, IfOk};
 ghost use Rattle.cert_desk_listing.specs.DeskIo.Devices.{sink, source};
 ghost use Rattle.cert_desk.specs.declared.outcome.Outcome.{Outcome};
 ghost use Rattle.cert_desk.specs.Roles.{signers_for};
@@ -40,16 +40,6 @@ fn signers_of(alloc: Global, orders: &[Order]) -> Result<Vec<DigestSigner>, Allo
     Ok(signers)
 }
 
-/// Whether an error says out of memory.
-fn is_want_of_memory(error: &IssueError) -> bool
-    ensures { IsTrue result ↔ (error.now ≡ IssueError.OutOfMemory) }
-{
-    match error {
-        IssueError::OutOfMemory => true,
-        _ => false,
-    }
-}
-
 /// What becomes of orders, signed by digests of their own keys.
 fn find_issued(alloc: Global, orders: &[Order]) -> Outcome
     ensures { OrdersBecome orders.now result }
@@ -59,12 +49,10 @@ fn find_issued(alloc: Global, orders: &[Order]) -> Outcome
     };
     match issue(alloc, orders, signers.as_slice()) {
         Ok(issued) => Outcome::Issued(issued),
-        Err(error) => {
-            if is_want_of_memory(&error) {
-                return Outcome::OutOfMemory;
-            }
-            Outcome::Refused(error)
-        }
+        Err(error) => match error {
+            IssueError::OutOfMemory => Outcome::OutOfMemory,
+            _ => Outcome::Refused(error),
+        },
     }
 }
 

@@ -1,5 +1,4 @@
-use Rattle.std.proofs.Common.{◌≡◌, ◌≢◌, map, true, ap, ◌∙◌}
-use Rattle.cert_desk.specs.declared.issue_error.IssueError.TheVariants as errors
+use Rattle.std.proofs.Common.{map, ap, ◌∙◌}
 use Rattle.cert_desk.specs.Runs.{signer_key}
 use Rattle.cert_desk.proofs.order_runs.find_issued.Goals as goal
 
@@ -8,9 +7,7 @@ returns-in-Ok-issue c = (c.as_slice.result.now, ap (map signer_key) c.as_slice.e
 
 pub returns : goal.returns
 returns c =
-    let told : c.in-Err.error ≢ errors.OutOfMemory = λ wanting.
-    (let yes : c.is_want_of_memory.result ≡ true = c.is_want_of_memory.ensures.1 wanting in
-    cc (yes, c.if-is_want_of_memory.false)) in (
+    let told = c.in_default-error.not-OutOfMemory in (
       c.as_slice.result.now,
       ap (map signer_key) c.as_slice.ensures.value ∙ c.in-Ok.ensures,
       c.in-Err.ensures.refused,
