@@ -20,9 +20,8 @@ def length(size):
 
 def long_length(size):
     """Encodes a length in one byte more than it needs."""
-    digits = size.to_bytes((size.bit_length() + 7) // 8 or 1, "big")
-    digits = digits if size < 128 else b"\x00" + digits
-    return bytes([0x80 + len(digits)]) + digits
+    first, *digits = length(size)
+    return bytes([first + 1, 0, *digits] if digits else [0x81, first])
 
 
 def tlv(tag, *contents):
@@ -73,26 +72,8 @@ def extension(dotted, content, critical=False):
     return sequence(identifier(dotted), mark, tlv(0x04, content))
 
 
-def pss(digest=None, mask=None, salt=None, trailer=None, mask_by="1.2.840.113549.1.1.8"):
-    """Encodes RSASSA-PSS-params (RFC 4055 3.1), without the fields that are None."""
-    fields = [
-        digest,
-        None if mask is None else algorithm(mask_by, mask),
-        None if salt is None else integer(salt),
-        None if trailer is None else integer(trailer),
-    ]
-    return sequence(*(explicit(at, each) for at, each in enumerate(fields) if each is not None))
-
-
-def text(words, tag=0x0C):
-    return tlv(tag, words.encode("utf-16-be" if tag == 0x1E else "utf-8"))
-
-
-def name(*attributes):
-    """Encodes a name with one attribute in each RDN: its type, its text, and the tag of the text
-    if it isn't a UTF8String."""
-    attributes = (sequence(identifier(kind), text(*value)) for kind, *value in attributes)
-    return sequence(*(tlv(0x31, each) for each in attributes))
+def common_name(text):
+    return sequence(identifier("2.5.4.3"), tlv(0x0C, text.encode()))
 
 
 def date(text):
@@ -100,11 +81,11 @@ def date(text):
     return tlv(0x17 if len(text) == 13 else 0x18, text.encode())
 
 
-def certificate_part(serial, by, issuer, dates, subject, key, *, ids=(), extensions=()):
-    """Encodes a TBSCertificate: version 3, or version 1 if it has neither of the last two."""
-    version = [explicit(0, integer(2))] if ids or extensions else []
-    others = [explicit(3, sequence(*extensions))] if extensions else []
-    return sequence(*version, integer(serial), by, issuer, dates, subject, key, *ids, *others)
+def certificate_part(serial, by, issuer, dates, subject, key, extensions):
+    """Encodes a TBSCertificate: version 3 if it has extensions, and else version 1."""
+    version = explicit(0, integer(2)) if extensions else b""
+    others = explicit(3, sequence(*extensions)) if extensions else b""
+    return sequence(version, integer(serial), by, issuer, dates, subject, key, others)
 
 
 # Reading.
@@ -125,6 +106,12 @@ def values(octets):
         place = end
 
 
+def moment(tag, contents):
+    """Returns a date in the form of a GeneralizedTime (RFC 5280 4.1.2.5.1)."""
+    text = contents.decode("ascii")
+    return text if tag == 0x18 else ("20" if text < "5" else "19") + text
+
+
 def dotted(content):
     """Returns the text of an object identifier, by its content."""
     arcs, arc = [], 0
@@ -142,10 +129,6 @@ def encodings_of(path):
     found = pathlib.Path(path).read_bytes()
     bodies = re.findall(rb"-----BEGIN [^-]*-----([^-]*)-----END", found)
     return [base64.b64decode(body) for body in bodies] or [found]
-
-
-def octets_of(path):
-    return encodings_of(path)[0]
 
 
 def files_in(path):

@@ -4,12 +4,16 @@ and which lines of an orders file are faulty.
 It is written from X.690, RFC 5280 4.1 and 5.1, RFC 2986 4, docs/ENCODING.md and docs/CLI.md, in
 plain Python, and shares no code with the crates."""
 
-import contextlib
 import datetime
 
 
 class Refused(Exception):
     """Raised where the bytes encode no such value."""
+
+
+def need(holds):
+    if not holds:
+        raise Refused
 
 
 UNIVERSAL = {*range(0x01, 0x07), 0x09, 0x0A, 0x0C, 0x0D, *range(0x12, 0x19), 0x1A, 0x1B, 0x1E}
@@ -19,42 +23,31 @@ UNIVERSAL |= {0x30, 0x31}
 def tag_end(octets, at, end):
     """Returns where the tag ends that begins at an offset."""
     first, at = octets[at], at + 1
-    if first < 0x40:
-        if first not in UNIVERSAL:
-            raise Refused
-    elif first & 0x1F == 0x1F:
-        number = 0
-        while True:
-            if at >= end or number == 0 and octets[at] == 0x80:
-                raise Refused
-            number = number * 128 + octets[at] % 128
+    need(first >= 0x40 or first in UNIVERSAL)
+    if first >= 0x40 and first & 0x1F == 0x1F:
+        number, is_last = 0, False
+        while not is_last:
+            need(at < end and (number or octets[at] != 0x80))
+            number, is_last = number * 128 + octets[at] % 128, octets[at] < 0x80
             at += 1
-            if octets[at - 1] < 0x80:
-                break
-        if not 31 <= number < 2**32:
-            raise Refused
+        need(31 <= number < 2**32)
     return at
 
 
 def header(octets, at, end):
     """Parses a header: the bytes of the tag, and where the content begins and ends."""
-    if at >= end:
-        raise Refused
+    need(at < end)
     start, at = at, tag_end(octets, at, end)
     tag = octets[start:at]
-    if at >= end:
-        raise Refused
+    need(at < end)
     size, at = octets[at], at + 1
     if size >= 0x80:
         count = size - 0x80
-        if not 1 <= count <= 4 or at + count > end:
-            raise Refused
+        need(1 <= count <= 4 and at + count <= end)
         size = int.from_bytes(octets[at : at + count], "big")
         at += count
-        if size < max(128, 256 ** (count - 1)):
-            raise Refused
-    if at + size > end:
-        raise Refused
+        need(size >= max(128, 256 ** (count - 1)))
+    need(at + size <= end)
     return tag, at, at + size
 
 
@@ -68,8 +61,7 @@ class Fields:
     def inner(self, tag):
         """Returns the fields within the next value, whose tag has one byte."""
         found, at, end = header(self.octets, self.at, self.end)
-        if found != bytes([tag]):
-            raise Refused
+        need(found == bytes([tag]))
         self.at = end
         return Fields(self.octets, at, end)
 
@@ -78,8 +70,7 @@ class Fields:
         return self.octets[fields.at : fields.end]
 
     def done(self):
-        if self.at != self.end:
-            raise Refused
+        need(self.at == self.end)
 
 
 # Each reader below takes fields, and reads the value that it is named after.
@@ -94,8 +85,7 @@ def value(tag, *known):
 
     def read(fields):
         content = fields.content(tag)
-        if known and content not in known:
-            raise Refused
+        need(not known or content in known)
 
     return read
 
@@ -112,19 +102,9 @@ def sequence(*readers, tag=0x30):
     return read
 
 
-def many(read, tag=0x30):
-    """Returns a reader of a value with this tag that contains any number of such values."""
-
-    def read_all(fields):
-        inner = fields.inner(tag)
-        while inner.at < inner.end:
-            read(inner)
-
-    return read_all
-
-
-def rising(read, tag=0x31):
-    """Returns a reader of a set: the encodings of its members ascend."""
+def many(read, tag=0x30, rising=False):
+    """Returns a reader of a value with this tag that contains any number of such values. The
+    encodings of the members of a set ascend."""
 
     def read_all(fields):
         inner, before = fields.inner(tag), b""
@@ -132,8 +112,7 @@ def rising(read, tag=0x31):
             start = inner.at
             read(inner)
             member = inner.octets[start : inner.at]
-            if member <= before:
-                raise Refused
+            need(not rising or member > before)
             before = member
 
     return read_all
@@ -154,71 +133,33 @@ def explicit(read, tag):
     return optional(sequence(read, tag=tag), tag)
 
 
-class Arcs:
-    """The bound of the arcs of object identifiers, and the greatest arc that was read."""
-
-    def __init__(self, bound):
-        self.bound, self.greatest = bound, 0
-
-
-arcs = Arcs(2**128)
-
-
-@contextlib.contextmanager
-def bounded(bound):
-    """Reads object identifiers under another bound within a `with` block."""
-    global arcs
-    kept, arcs = arcs, Arcs(bound)
-    try:
-        yield arcs
-    finally:
-        arcs = kept
-
-
 def identifier(fields):
     octets = fields.content(0x06)
-    if not 1 <= len(octets) <= 39 or octets[0] >= 120 or octets[-1] >= 0x80:
-        raise Refused
+    need(1 <= len(octets) <= 39 and octets[0] < 120 and octets[-1] < 0x80)
     arc, starts = 0, True
     for octet in octets[1:]:
-        if starts and octet == 0x80:
-            raise Refused
-        arc = arc * 128 + octet % 128
-        if arc >= arcs.bound:
-            raise Refused
-        starts = octet < 0x80
-        if starts:
-            arcs.greatest = max(arcs.greatest, arc)
-            arc = 0
-
-
-def number_of(fields):
-    octets = fields.content(0x02)
-    if not octets:
-        raise Refused
-    if len(octets) > 1 and (octets[0], octets[1] >= 0x80) in ((0x00, False), (0xFF, True)):
-        raise Refused
-    return int.from_bytes(octets, "big", signed=True)
+        need(not starts or octet != 0x80)
+        arc, starts = arc * 128 + octet % 128, octet < 0x80
+        need(arc < 2**128)
+        arc = 0 if starts else arc
 
 
 def integer(*known):
     """Returns a reader of an INTEGER: if numbers are given, it is one of them."""
 
     def read(fields):
-        number = number_of(fields)
-        if known and number not in known:
-            raise Refused
+        octets = fields.content(0x02)
+        number = int.from_bytes(octets, "big", signed=True)
+        size = max(number, ~number).bit_length() // 8 + 1
+        need(len(octets) == size and (not known or number in known))
 
     return read
 
 
 def bits(fields, tag=0x03):
     octets = fields.content(tag)
-    if not octets or octets[0] > 7:
-        raise Refused
-    last = octets[-1] if len(octets) > 1 else 0
-    if octets[0] and (len(octets) == 1 or last % (1 << octets[0])):
-        raise Refused
+    need(octets and octets[0] <= 7)
+    need(octets[0] == 0 or len(octets) > 1 and octets[-1] % (1 << octets[0]) == 0)
 
 
 def unique_identifier(tag):
@@ -229,17 +170,13 @@ def time(fields):
     is_long = fields.octets[fields.at : fields.at + 1] == b"\x18"
     text = fields.content(0x18 if is_long else 0x17)
     digits = text[:-1]
-    if len(text) != (15 if is_long else 13) or text[-1:] != b"Z" or not digits.isdigit():
-        raise Refused
+    need(len(text) == (15 if is_long else 13) and text[-1:] == b"Z" and digits.isdigit())
     year = int(digits[:-10])
     if not is_long:
-        if 50 <= year < 70:
-            raise Refused
         year += 2000 if year < 50 else 1900
+    need(year >= 1970)
     rest = (int(digits[at : at + 2]) for at in range(len(digits) - 10, len(digits), 2))
     try:
-        if year < 1970:
-            raise Refused
         datetime.datetime(year, *rest)
     except ValueError:
         raise Refused from None
@@ -247,10 +184,10 @@ def time(fields):
 
 algorithm = sequence(identifier, optional(anything))
 key = sequence(algorithm, bits)
-name = many(rising(sequence(identifier, anything)))
+name = many(many(sequence(identifier, anything), 0x31, rising=True))
 extensions = many(sequence(identifier, optional(value(0x01, b"\xff"), 0x01), value(0x04)))
 revoked = sequence(integer(), time, optional(extensions, 0x30))
-attribute = sequence(identifier, rising(anything))
+attribute = sequence(identifier, many(anything, 0x31, rising=True))
 
 # The readers of the signed parts.
 SIGNED = {
@@ -262,7 +199,7 @@ SIGNED = {
         integer(0, 1, 2), algorithm, name, time, optional(time, 0x17, 0x18),
         optional(many(revoked), 0x30), explicit(extensions, 0xA0),
     ),
-    "request": sequence(integer(0), name, key, rising(attribute, 0xA0)),
+    "request": sequence(integer(0), name, key, many(attribute, 0xA0, rising=True)),
 }
 
 

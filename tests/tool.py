@@ -8,14 +8,15 @@ import der
 
 TOP = pathlib.Path(__file__).resolve().parents[1]
 CRATE = TOP / "crates" / "cert_tool"
-DATA, FILES = CRATE / "data", CRATE / "files.txt"
+DATA = CRATE / "data"
 ROOTS = pathlib.Path("/usr/share/ca-certificates/mozilla")
 
 
 @functools.cache
 def files():
     """Returns the files that the test vectors name, by their names."""
-    return {path.name: path.read_bytes() for path in DATA.iterdir()} | dict(der.files_in(FILES))
+    found = {path.name: path.read_bytes() for path in DATA.iterdir()}
+    return found | dict(der.files_in(CRATE / "files.txt"))
 
 
 def frame(octets):
@@ -52,10 +53,6 @@ class Tool:
         if not status:
             raise EOFError(f"no answer to {words}: {self.process.communicate()[1]!r}")
         return status[0], self.read(), self.read()
-
-    def ask_of(self, octets, *words):
-        """Runs a command over one file, whose name is added as the last word."""
-        return self.ask([*words, "file"], {"file": octets})
 
     def end(self):
         """Ends the process. Returns its status, the rest of its output, and its error output."""

@@ -1,53 +1,59 @@
 #!/usr/bin/env python3
-"""Compares `cert_tool describe` with Python's `cryptography` and OpenSSL, line by line.
+"""Compares what `cert_tool` describes with OpenSSL and pyasn1, and its JSON with its lines.
 
-It describes the roots of ca-certificates, and certificates, CRLs and CSRs with every extension:
-those that `make_described.py` builds byte by byte, those that `cryptography` builds
-(`described_elsewhere.py`), and those that OpenSSL built (by_openssl.txt).
+    described.py TOOL [--built N] [--changed N]
 
-    described.py TOOL [COUNT]           TOOL is the program, COUNT how many are built each way (102
-                                        by default). The last line counts what was compared, and
-                                        the status is 1 if any line differs.
-    described.py TOOL --file KIND FILE  describes one file in DER
+It describes the roots of ca-certificates, the files of the test vectors, and certificates, CRLs and
+CSRs with every extension: those that Python's `cryptography` builds (built.py), and those that
+OpenSSL built or that were put together byte by byte (described.txt). pyasn1 reads them by its
+modules of RFC 5280 and RFC 2986, and OpenSSL reads the keys. What they read becomes a document like
+that of `cert_tool describe --json`. If `cert_tool` names an object identifier, OpenSSL or
+`cryptography` has to have that name for it. No signature is verified.
 
-It puts what the other programs read into a document like the JSON of `cert_tool`, and lines.py
-makes lines of it. A difference is a line that only `cert_tool` prints (`+`) or doesn't print (`-`).
-If `cert_tool` names an object identifier, OpenSSL or `cryptography` has to have that name for it.
-This script parses what neither program reports: parameters of RSASSA-PSS, types of strings, policy
-mappings, minimum and maximum of subtrees, unique identifiers, and names and extensions that
-`cryptography` rejects. It verifies no signatures. It needs `cryptography` 45 or later.
+Of these values, and of each test vector of `describe`, `explain`, `verify` and `split`, the lines
+have to be those that lines.py makes of the JSON. Values with changes (mutated.py) have to be
+described if reader.py accepts them, and rejected in the words of `explain` if it doesn't.
+
+A difference is a line that only `cert_tool` has (`+`) or that it doesn't have (`-`). The status is
+1 if there is any. The files of test vectors that the other programs don't read are counted.
 """
 
+import argparse
 import collections
 import contextlib
-import datetime
 import difflib
 import hashlib
 import ipaddress
+import json
 import pathlib
+import random
 import re
 import subprocess
 import sys
-import warnings
+import unicodedata
 
 HERE = pathlib.Path(__file__).resolve().parent
-sys.path[:0] = [str(HERE.parent), str(HERE.parents[1] / "tools")]
+sys.path[:0] = [str(HERE.parent), str(HERE.parent / "rows"), str(HERE.parents[1] / "tools")]
 
 import needs
 
 needs.check(__file__)
 
-from cryptography import x509
 from cryptography.hazmat._oid import _OID_NAMES
-from cryptography.hazmat.primitives.asymmetric.ed25519 import Ed25519PrivateKey
-from cryptography.hazmat.primitives.serialization import Encoding
+from pyasn1.codec.der.decoder import decode
+from pyasn1.codec.der.encoder import encode
+from pyasn1.error import PyAsn1Error
+from pyasn1.type import char, univ, useful
+from pyasn1_modules import rfc2986, rfc5280
 
+import built
 import der
-import described_elsewhere
 import lines
-import make_described
+import mutated
+import reader
+import served
 from der import dotted, tlv
-from tool import ROOTS, Tool
+from tool import ROOTS, Tool, files
 
 # The names that `cert_tool` has for object identifiers, from RFC 5280 and related standards, and
 # those that the other programs have.
@@ -56,19 +62,6 @@ NAMES = {
     "extKeyUsage": "extendedKeyUsage", "jurisdictionLocality": "jurisdictionLocalityName",
     "jurisdictionStateOrProvince": "jurisdictionStateOrProvinceName",
     "jurisdictionCountry": "jurisdictionCountryName", "userPrincipalName": "msUPN",
-}
-# The fields of `cryptography`, and the words of RFC 5280.
-USES = {
-    "digital_signature": "digitalSignature", "content_commitment": "contentCommitment",
-    "key_encipherment": "keyEncipherment", "data_encipherment": "dataEncipherment",
-    "key_agreement": "keyAgreement", "key_cert_sign": "keyCertSign", "crl_sign": "cRLSign",
-    "encipher_only": "encipherOnly", "decipher_only": "decipherOnly",
-}
-LIMITS = {
-    "only_contains_user_certs": "onlyContainsUserCerts",
-    "only_contains_ca_certs": "onlyContainsCACerts",
-    "only_contains_attribute_certs": "onlyContainsAttributeCerts",
-    "indirect_crl": "indirectCRL",
 }
 # The types of attributes that have a name in RFC 4514 3, and some more.
 SHORT = {
@@ -87,8 +80,24 @@ TYPES = TEXTS | {
     0x06: "OBJECT IDENTIFIER", 0x0A: "ENUMERATED", 0x17: "UTCTime", 0x18: "GeneralizedTime",
     0x30: "SEQUENCE", 0x31: "SET",
 }
-# The characters of a PrintableString (X.680 41.4).
-PRINTABLE = re.compile(r"[A-Za-z0-9 '()+,\-./:=?]*")
+# The extensions that have members: the member of those whose content isn't a SEQUENCE of fields,
+# and their types in pyasn1.
+EXTENSIONS = {f"2.5.29.{number}": member for number, member in {
+    14: "keyIdentifier", 15: "uses", 16: None, 17: "names", 18: "names", 19: None, 20: "number",
+    21: "reason", 24: "date", 27: "number", 28: None, 29: "names", 30: None, 31: "points",
+    32: "policies", 33: "mappings", 35: None, 36: None, 37: "purposes", 46: "points",
+    54: "skipCerts",
+}.items()}
+EXTENSIONS |= {
+    "1.3.6.1.5.5.7.1.1": "accesses", "1.3.6.1.5.5.7.1.11": "accesses",
+    "1.3.6.1.5.5.7.1.24": "features",
+}
+LOGS = "1.3.6.1.4.1.11129.2.4.2"
+CONTENTS = {str(kind): of for kind, of in rfc5280.certificateExtensionsMap.items()} | {
+    "2.5.29.46": rfc5280.FreshestCRL(), "2.5.29.54": rfc5280.InhibitAnyPolicy(),
+    "2.5.29.20": rfc5280.CRLNumber(), "1.3.6.1.5.5.7.1.11": rfc5280.SubjectInfoAccessSyntax(),
+    "1.3.6.1.5.5.7.1.24": univ.SequenceOf(componentType=univ.Integer()),
+}
 
 
 def octets(content):
@@ -100,397 +109,141 @@ def natural(number):
     return ("-" if number < 0 else "") + "0x" + digits.zfill(len(digits) + len(digits) % 2)
 
 
-def moment(date):
-    return date and date.strftime("%Y-%m-%dT%H:%M:%SZ")
-
-
-def known(**members):
-    """Returns an object of the members that aren't None."""
-    return {key: each for key, each in members.items() if each is not None}
-
-
-# Encodings (X.690 8.1), for what `cryptography` reads and doesn't report.
-
-
-def values(content):
-    """Returns the tags and contents of the values in these bytes."""
-    return [(tag, inner) for tag, inner, _ in der.values(content)]
+def moment(text):
+    text = text if len(text) == 15 else ("19" if text >= "5" else "20") + text
+    return re.sub(r"(....)(..)(..)(..)(..)(..)Z", r"\1-\2-\3T\4:\5:\6Z", text)
 
 
 def inside(content):
-    """Returns the tags and contents of the values within the only value."""
-    [(_, inner)] = values(content)
-    return values(inner)
+    """Returns the tags and contents of the values within the only value (X.690 8.1)."""
+    [(_, inner, _)] = der.values(content)
+    return [(tag, each) for tag, each, _ in der.values(inner)]
 
 
-def texts_in(tag, content):
-    """Yields the tags of the strings of characters within a value, at any depth."""
-    if tag in TEXTS:
-        yield tag
-    elif tag & 0x20:
-        for each in values(content):
-            yield from texts_in(*each)
-
-
-def decoded(tag, content):
-    return content.decode("utf-16-be" if tag == 0x1E else "utf-8")
-
-
-def value(tag, content):
-    told = {"text": decoded(tag, content)} if tag in TEXTS else {"octets": octets(content)}
-    return {"type": TYPES[tag]} | told
+def value(encoded):
+    """Returns the members of a value of any type."""
+    [(tag, content, _)] = der.values(encoded)
+    coding = {0x0C: "utf-8", 0x1E: "utf-16-be"}.get(tag, "ascii")
+    text = {"text": content.decode(coding)} if tag in TEXTS else {"octets": octets(content)}
+    return {"type": TYPES[tag]} | text
 
 
 # Names.
 
 
-def name_in(content):
-    """Parses a name that `cryptography` rejects, since a string isn't of its type."""
-    rdns = []
-    for _, rdn in values(content):
-        attributes = []
-        for _, each in values(rdn):
-            (_, identifier), (tag, text) = values(each)
-            identifier, of = x509.ObjectIdentifier(dotted(identifier)), x509.name._ASN1Type(tag)
-            text = decoded(tag, text)
-            attributes.append(x509.NameAttribute(identifier, text, of, _validate=False))
-        rdns.append(x509.RelativeDistinguishedName(attributes))
-    return x509.Name(rdns)
-
-
-def name_of(of, field, content):
-    try:
-        return name(getattr(of, field))
-    except (AttributeError, ValueError):
-        return name(name_in(content))
-
-
 def escaped(text):
-    """Escapes a text as RFC 4514 2.4 does, and also what isn't printable."""
-    out = ""
-    for place, letter in enumerate(text):
-        edge = place == 0 or place == len(text) - 1
-        if letter in '"+,;<>\\' or letter == "#" and place == 0 or letter == " " and edge:
-            out += "\\" + letter
-        elif letter < " " or letter == "\x7f":
-            out += f"\\{ord(letter):02x}"
-        else:
-            out += lines.shown(letter)
-    return out
+    """Escapes a text as RFC 4514 2.4 does, and also the controls of ASCII."""
+    text = re.sub(r'(["+,;<>\\]|^[# ]| $)', r"\\\1", text)
+    return re.sub(r"[\0-\x1f\x7f]", lambda found: f"\\{ord(found[0]):02x}", text)
 
 
-def content_of(each):
-    """Returns the tag and the content of an attribute's value."""
-    tag, content = each._type.value, each.value
-    if isinstance(content, str):
-        content = content.encode("utf-16-be" if tag == 0x1E else "utf-8")
-    return tag, content
-
-
-def attribute(each):
-    """Returns the text of an attribute: its value is printed as bytes if its type has no name (RFC
+def attribute(of):
+    """Returns the text of an attribute. Its value is printed as bytes if its type has no name (RFC
     4514 2.4), or if it isn't a string that `cert_tool` reads (a BMPString isn't)."""
-    kind, tag = each.oid.dotted_string, each._type.value
-    is_read = tag in (0x0C, 0x14, 0x16) or tag == 0x13 and PRINTABLE.fullmatch(each.value)
-    if kind in SHORT and is_read:
-        return f"{SHORT[kind]}={escaped(each.value)}"
-    return f"{kind}=#{tlv(*content_of(each)).hex()}"
+    kind, encoded = str(of["type"]), bytes(of["value"])
+    typed = value(encoded)
+    is_read = typed["type"] in ("UTF8String", "TeletexString", "IA5String")
+    is_read |= re.fullmatch("[A-Za-z0-9 '()+,./:=?-]*", typed.get("text", "_")) is not None
+    if kind in SHORT and is_read and typed["type"] not in ("BMPString", "NumericString"):
+        return f"{SHORT[kind]}={escaped(typed['text'])}"
+    return f"{kind}=#{encoded.hex()}"
 
 
-def relative(rdn):
-    return rdn and "+".join(map(attribute, rdn))
+def relative(of):
+    return "+".join(map(attribute, of))
 
 
 def name(of):
-    listed = (each for rdn in of.rdns for each in rdn)
-    attributes = [identified(each.oid) | value(*content_of(each)) for each in listed]
-    return {"text": ",".join(map(relative, reversed(of.rdns))), "attributes": attributes}
+    listed = [each for rdn in of for each in rdn]
+    attributes = [{"id": str(each["type"])} | value(bytes(each["value"])) for each in listed]
+    return {"text": ",".join(map(relative, reversed(of))), "attributes": attributes}
 
 
-def identified(oid):
-    return {"id": oid.dotted_string}
-
-
-def address(of):
-    if isinstance(of, (ipaddress.IPv4Network, ipaddress.IPv6Network)):
-        return f"{of.network_address}/{of.netmask}"
-    # An IPv4 address is printed as such (RFC 5952 5).
-    mapped = getattr(of, "ipv4_mapped", None)
-    return f"::ffff:{mapped}" if mapped else str(of)
-
-
-def other_name(of):
-    [inner] = values(of.value)
-    return identified(of.type_id) | value(*inner)
-
-
-GENERAL_NAMES = {
-    x509.RFC822Name: ("rfc822Name", lambda of: of.value),
-    x509.DNSName: ("dNSName", lambda of: of.value),
-    x509.UniformResourceIdentifier: ("uniformResourceIdentifier", lambda of: of.value),
-    x509.IPAddress: ("iPAddress", lambda of: address(of.value)),
-    x509.RegisteredID: ("registeredID", lambda of: identified(of.value)),
-    x509.OtherName: ("otherName", other_name),
-    x509.DirectoryName: ("directoryName", lambda of: name(of.value)),
-}
-
-
-def general_name(of):
-    key, told = GENERAL_NAMES[type(of)]
-    return {key: told(of)}
-
-
-def general_names(listed):
-    return [general_name(each) for each in listed or []]
+def address(content):
+    """Returns the text of an address, or of one and its mask."""
+    size = len(content) // 2 if len(content) in (8, 32) else len(content)
+    texts = []
+    for at in range(0, len(content), size):
+        of = ipaddress.ip_address(content[at : at + size])
+        # An IPv4 address is printed as such (RFC 5952 5).
+        mapped = getattr(of, "ipv4_mapped", None)
+        texts.append(f"::ffff:{mapped}" if mapped else str(of))
+    return "/".join(texts)
 
 
 # Extensions.
 
 
-def reasons(listed):
-    # The order is that of RFC 5280 4.2.1.13.
-    return [each.value for each in x509.ReasonFlags if each in (listed or [])]
-
-
-def point(of):
-    below = relative(of.relative_name)
-    return known(fullName=general_names(of.full_name), nameRelativeToCRLIssuer=below)
-
-
-def distribution_point(of):
-    issuer = general_names(of.crl_issuer)
-    return point(of) | {"reasons": reasons(of.reasons), "cRLIssuer": issuer}
-
-
-def issuing_point(of):
-    limits = {word: True for field, word in LIMITS.items() if getattr(of, field)}
-    return point(of) | limits | {"onlySomeReasons": reasons(of.only_some_reasons)}
-
-
-def subtrees(listed, encoded):
-    """Yields subtrees with their minimum and maximum, which `cryptography` doesn't report."""
-    for of, (_, tree) in zip(listed or [], values(encoded), strict=True):
-        numbers = {tag: int.from_bytes(number, "big") for tag, number in values(tree)[1:]}
-        yield general_name(of) | known(minimum=numbers.get(0x80), maximum=numbers.get(0x81))
-
-
-def name_constraints(of, encoded):
-    trees = dict(inside(encoded))
-    return {
-        "permittedSubtrees": subtrees(of.permitted_subtrees, trees.get(0xA0, b"")),
-        "excludedSubtrees": subtrees(of.excluded_subtrees, trees.get(0xA1, b"")),
-    }
-
-
-def qualifier(of, types):
-    """Returns a policy qualifier. `types` yields the types of its texts."""
-
-    def typed(text):
-        return {"type": next(types), "text": text}
-
-    if isinstance(of, str):
-        return {"id": "1.3.6.1.5.5.7.2.1"} | typed(of)
-    notice = []
-    if reference := of.notice_reference:
-        numbers = [natural(number) for number in reference.notice_numbers]
-        organization = {"organization": typed(reference.organization)}
-        notice.append({"noticeRef": [organization, {"noticeNumbers": numbers}]})
-    if of.explicit_text is not None:
-        notice.append({"explicitText": typed(of.explicit_text)})
-    return {"id": "1.3.6.1.5.5.7.2.2", "notice": notice}
-
-
-def policy(of, types):
-    qualifiers = [qualifier(each, types) for each in of.policy_qualifiers or []]
-    return identified(of.policy_identifier) | {"qualifiers": qualifiers}
-
-
-def policies(of, encoded):
-    # `cryptography` doesn't report the types of the texts.
-    types = (TYPES[tag] for each in values(encoded) for tag in texts_in(*each))
-    return {"policies": [policy(each, types) for each in of]}
-
-
-def mappings(encoded):
-    for _, mapping in inside(encoded):
-        issuer, subject = ({"id": dotted(policy)} for _, policy in values(mapping))
-        yield {"issuerDomainPolicy": issuer, "subjectDomainPolicy": subject}
-
-
-def timestamp(of):
-    return known(
-        logID=octets(of.log_id),
-        date=moment(of.timestamp),
-        milliseconds=of.timestamp.microsecond // 1000,
-        extensions=octets(of.extension_bytes) or None,
-        hashAlgorithm=of.signature_hash_algorithm.name,
-        signatureAlgorithm=of.signature_algorithm.name.lower(),
-        signature=octets(of.signature),
-    )
-
-
-def access(of):
-    return identified(of.access_method) | {"accessLocation": general_name(of.access_location)}
-
-
-def key_usage(of, encoded):
-    [(_, (unused, *bits))] = values(encoded)
-    # DER has no zeros at the end of named bits (X.690 11.2.2).
-    if bits and bits[-1] >> unused & 1 == 0:
-        return {"malformed": True, "octets": octets(encoded)}
-    return {"uses": [word for field, word in USES.items() if getattr(of, f"_{field}")]}
-
-
-def authority_key(of):
-    key, serial = of.key_identifier, of.authority_cert_serial_number
-    return known(
-        keyIdentifier=None if key is None else octets(key),
-        authorityCertIssuer=general_names(of.authority_cert_issuer),
-        authorityCertSerialNumber=None if serial is None else natural(serial),
-    )
-
-
-def policy_constraints(of):
-    explicit, mapping = of.require_explicit_policy, of.inhibit_policy_mapping
-    return known(requireExplicitPolicy=explicit, inhibitPolicyMapping=mapping)
-
-
-# The functions that make the members of an extension's content, by its type. Some also take the
-# encoding.
-CONTENTS = {
-    x509.SubjectKeyIdentifier: lambda of: {"keyIdentifier": octets(of.digest)},
-    x509.PrivateKeyUsagePeriod: lambda of: known(
-        notBefore=moment(of.not_before), notAfter=moment(of.not_after)
-    ),
-    x509.SubjectAlternativeName: lambda of: {"names": general_names(of)},
-    x509.IssuerAlternativeName: lambda of: {"names": general_names(of)},
-    x509.CertificateIssuer: lambda of: {"names": general_names(of)},
-    x509.BasicConstraints: lambda of: known(cA=of.ca, pathLenConstraint=of.path_length),
-    x509.CRLNumber: lambda of: {"number": natural(of.crl_number)},
-    x509.DeltaCRLIndicator: lambda of: {"number": natural(of.crl_number)},
-    x509.CRLReason: lambda of: {"reason": of.reason.value},
-    x509.InvalidityDate: lambda of: {"date": moment(of.invalidity_date_utc)},
-    x509.IssuingDistributionPoint: issuing_point,
-    x509.CRLDistributionPoints: lambda of: {"points": map(distribution_point, of)},
-    x509.FreshestCRL: lambda of: {"points": map(distribution_point, of)},
-    x509.AuthorityKeyIdentifier: authority_key,
-    x509.PolicyConstraints: policy_constraints,
-    x509.ExtendedKeyUsage: lambda of: {"purposes": map(identified, of)},
-    x509.InhibitAnyPolicy: lambda of: {"skipCerts": of.skip_certs},
-    x509.AuthorityInformationAccess: lambda of: {"accesses": map(access, of)},
-    x509.SubjectInformationAccess: lambda of: {"accesses": map(access, of)},
-    x509.TLSFeature: lambda of: {"features": [each.value for each in of]},
-    x509.PrecertificateSignedCertificateTimestamps: lambda of: {"timestamps": map(timestamp, of)},
-}
-ENCODED_CONTENTS = {
-    x509.KeyUsage: key_usage,
-    x509.NameConstraints: name_constraints,
-    x509.CertificatePolicies: policies,
-}
-
-
-def content(of, encoded):
-    """Returns the members of an extension's content."""
-    if type(of) in CONTENTS:
-        return CONTENTS[type(of)](of)
-    if type(of) in ENCODED_CONTENTS:
-        return ENCODED_CONTENTS[type(of)](of, encoded)
-    if of.oid.dotted_string == "2.5.29.33":
-        return {"mappings": mappings(encoded)}
-    if of.oid == x509.TLSFeature.oid:
-        return {"features": [int.from_bytes(each, "big") for _, each in inside(encoded)]}
-    return {"octets": octets(encoded)} | value_in(encoded)
-
-
-def value_in(encoded):
+def value_in(content):
     """Returns the text or the object identifier that the bytes encode, if they encode one."""
     with contextlib.suppress(IndexError, ValueError):
-        [(tag, inner)] = values(encoded)
-        if tlv(tag, inner) == encoded and tag in TEXTS:
-            return {"value": value(tag, inner)}
-        if tlv(tag, inner) == encoded and tag == 0x06:
-            return {"value": {"id": dotted(inner)}}
+        [(tag, inner, _)] = der.values(content)
+        if tlv(tag, inner) == content and tag in {*TEXTS, 0x06}:
+            return {"value": {"id": dotted(inner)} if tag == 0x06 else value(content)}
     return {}
 
 
-KEY = Ed25519PrivateKey.generate()
-DATE = datetime.datetime(2026, 1, 1)
+def extension(of):
+    kind, content = str(of["extnID"]), bytes(of["extnValue"])
+    found = {"id": kind, "critical": bool(of["critical"])}
+    if kind in EXTENSIONS:
+        of = decode(content, CONTENTS[kind])[0]
+        # DER has no zeros at the end of named bits (X.690 11.2.2).
+        if isinstance(of, rfc5280.KeyUsage) and not of.asInteger() & 1:
+            return found | {"malformed": True, "octets": octets(content)}
+        return found | ({EXTENSIONS[kind]: told(of)} if EXTENSIONS[kind] else told(of))
+    if kind == LOGS:
+        return found
+    return found | {"octets": octets(content)} | value_in(content)
 
 
-def read_alone(identifier, critical, encoded):
-    """Has `cryptography` read an extension, in a certificate that has no other."""
-    builder = x509.CertificateBuilder().serial_number(1).public_key(KEY.public_key())
-    builder = builder.issuer_name(x509.Name([])).subject_name(x509.Name([]))
-    builder = builder.not_valid_before(DATE).not_valid_after(DATE)
-    builder = builder.add_extension(x509.UnrecognizedExtension(identifier, encoded), critical)
-    certificate = builder.sign(KEY, None).public_bytes(Encoding.DER)
-    return x509.load_der_x509_certificate(certificate).extensions[0]
+def qualifier(of):
+    """Returns a policy qualifier: a text, or a notice."""
+    kind, encoded = told(of["policyQualifierId"]), bytes(of["qualifier"])
+    if kind["id"] == "1.3.6.1.5.5.7.2.1":
+        return kind | value(encoded)
+    notice, listed = decode(encoded, rfc5280.UserNotice())[0], []
+    if notice["noticeRef"].isValue:
+        numbers = [natural(int(number)) for number in notice["noticeRef"]["noticeNumbers"]]
+        organization = {"organization": told(notice["noticeRef"]["organization"])}
+        listed.append({"noticeRef": [organization, {"noticeNumbers": numbers}]})
+    if notice["explicitText"].isValue:
+        listed.append({"explicitText": told(notice["explicitText"])})
+    return kind | {"notice": listed}
 
 
-def bases_alone(encoded):
-    """Removes minimum and maximum from the subtrees of name constraints."""
-    kept = b""
-    for tag, trees in inside(encoded):
-        bases = (tlv(*values(tree)[0]) for _, tree in values(trees))
-        kept += tlv(tag, b"".join(tlv(0x30, base) for base in bases))
-    return tlv(0x30, kept)
-
-
-def readable(encoded):
-    """Returns an extension as far as `cryptography` reads it."""
-    (_, identifier), *mark, (_, inner) = values(encoded)
-    identifier, critical = x509.ObjectIdentifier(dotted(identifier)), bool(mark)
-    try:
-        return read_alone(identifier, critical, inner)
-    except (KeyError, ValueError):
-        if identifier == x509.NameConstraints.oid:
-            return read_alone(identifier, critical, bases_alone(inner))
-        return x509.Extension(identifier, critical, x509.UnrecognizedExtension(identifier, inner))
-
-
-def extensions(of, encoded):
-    """Yields the extensions of a certificate, a CRL, a CSR or an entry."""
-    contents = [inner for _, inner in inside(encoded)] if encoded else []
-    try:
-        listed = of.extensions
-    except (AttributeError, KeyError, ValueError):
-        listed = map(readable, contents)
-    for each, inner in zip(listed, contents, strict=True):
-        if isinstance(each.value, x509.UnrecognizedExtension):
-            # `cryptography` reads some extensions only in certificates.
-            each = readable(inner)
-        told = content(each.value, values(inner)[-1][1])
-        yield identified(each.oid) | {"critical": each.critical} | told
+def attribute_of_request(of):
+    kind, contents = str(of["type"]), [bytes(each) for each in of["values"]]
+    if kind == "1.2.840.113549.1.9.14":
+        read = (decode(content, rfc5280.Extensions())[0] for content in contents)
+        return {"id": kind, "values": [{"extensions": told(each)} for each in read]}
+    return {"id": kind, "values": [value(content) for content in contents]}
 
 
 # Keys and algorithms.
 
 
-def algorithm(fields):
-    """Returns an algorithm, given the values of its SEQUENCE, with the parameters of RSASSA-PSS
-    (RFC 4055 3.1)."""
-    told = {"id": dotted(fields[0][1])}
-    if told["id"] == "1.2.840.113549.1.1.10" and len(fields) > 1:
-        inner = {tag & 0x1F: field for tag, field in values(fields[1][1])}
-        told["hashAlgorithm"] = parameter(inner.get(0), "SHA-1")
-        told["maskGenAlgorithm"] = parameter(inner.get(1), "MGF1 with SHA-1")
-        told["saltLength"] = number(inner.get(2), "20 by default")
-        told["trailerField"] = number(inner.get(3), "1 by default")
-    return told
+def algorithm(of):
+    """Returns an algorithm with the parameters of RSASSA-PSS (RFC 4055 3.1)."""
+    found = {"id": str(of["algorithm"])}
+    if found["id"] == "1.2.840.113549.1.1.10" and of["parameters"].isValue:
+        inner = {tag & 0x1F: der.values(field) for tag, field in inside(bytes(of["parameters"]))}
+        inner = {at: next(fields)[1] for at, fields in inner.items()}
+        found["hashAlgorithm"] = parameter(inner.get(0), "SHA-1")
+        found["maskGenAlgorithm"] = parameter(inner.get(1), "MGF1 with SHA-1")
+        found["saltLength"] = int.from_bytes(inner.get(2, b"\x14"), "big")
+        found["trailerField"] = int.from_bytes(inner.get(3, b"\x01"), "big")
+    return found
 
 
-def parameter(encoded, default):
-    if encoded is None:
+def parameter(content, default):
+    if content is None:
         return {"default": default}
-    (_, identifier), *others = inside(encoded)
-    told = {"id": dotted(identifier)}
+    (_, identifier, _), *others = der.values(content)
+    found = {"id": dotted(identifier)}
     if others and others[0][0] == 0x30:
-        told["parameters"] = {"id": dotted(values(others[0][1])[0][1])}
-    return told
-
-
-def number(encoded, default):
-    return default if encoded is None else int.from_bytes(values(encoded)[0][1], "big")
+        found["parameters"] = {"id": dotted(inside(others[0][2])[0][1])}
+    return found
 
 
 def key_text(encoded):
@@ -512,8 +265,12 @@ def number_said(text):
     return natural(int(text.split()[0]) if " " in text else int(text, 16))
 
 
-def equation(said):
-    """Returns the equation of a curve. Each coefficient is as long as the prime."""
+def curve(said, parameters):
+    """Returns the identifier of a curve, its equation, or the value that names none."""
+    if "Prime" not in said:
+        identifier = IDENTIFIERS.get(said.get("ASN1 OID"))
+        return {"id": identifier} if identifier else value(parameters)
+    # Each coefficient is as long as the prime.
     length = (int(said["Prime"], 16).bit_length() + 7) // 8
     a, b = (octets(int(said[label], 16).to_bytes(length, "big")) for label in "AB")
     generator = octets(bytes.fromhex(said["Generator (uncompressed)"]))
@@ -521,31 +278,88 @@ def equation(said):
     return {"prime": prime, "a": a, "b": b, "generator": generator, "order": order}
 
 
-def curve(said, fields):
-    if "Prime" in said:
-        return equation(said)
-    identifier = IDENTIFIERS.get(said.get("ASN1 OID"))
-    return {"id": identifier} if identifier else value(*fields[1])
-
-
-def key(encoded):
-    fields = values(inside(encoded)[0][1])
-    said = key_text(encoded)
-    told = algorithm(fields) | {
-        "bits": said.get("Public-Key", "").removeprefix("(").removesuffix(" bit)")
-    }
+def key(of):
+    said, found = key_text(encode(of)), algorithm(of["algorithm"])
+    if "Public-Key" in said:
+        found["bits"] = int(said["Public-Key"].strip("()").removesuffix(" bit"))
     match said:
         case {"Modulus": modulus, "Exponent": exponent}:
-            told |= {"modulus": number_said(modulus), "exponent": number_said(exponent)}
+            found |= {"modulus": number_said(modulus), "exponent": number_said(exponent)}
         case {"P": _, "Q": _, "G": _, "pub": public}:
-            told |= {label.lower(): number_said(said[label]) for label in "PQG"}
-            told["public"] = number_said(public)
+            found |= {label.lower(): number_said(said[label]) for label in "PQG"}
+            found["public"] = number_said(public)
         case {"ASN1 OID": _} | {"Field Type": _}:
-            told |= {"curve": curve(said, fields), "point": octets(bytes.fromhex(said["pub"]))}
+            point = octets(bytes.fromhex(said["pub"]))
+            found |= {"curve": curve(said, bytes(of["algorithm"]["parameters"])), "point": point}
         case {"pub": public}:
-            public = bytes.fromhex(public)
-            told |= {"bits": 8 * len(public), "octets": octets(public)}
-    return told
+            found |= {"bits": 4 * len(public), "octets": octets(bytes.fromhex(public))}
+    return found
+
+
+# Documents.
+
+# The fields whose members become those of the value around them, and those with another name.
+MERGED = ["validity", "distributionPoint", "base", "policyIdentifier", "policyQualifierId",
+          "accessMethod"]
+RENAMED = {"policyQualifiers": "qualifiers", "subjectPKInfo": "subjectPublicKeyInfo",
+           "nonRepudiation": "contentCommitment"}
+
+
+def members(of):
+    """Returns the fields of a SEQUENCE, without those that have their default."""
+    found = {}
+    for field, (name, each) in zip(of.componentType.namedTypes, of.items()):
+        is_default = field.isDefaulted and name != "cA" and each == field.asn1Object
+        if each.isValue and not is_default:
+            found |= told(each) if name in MERGED else {RENAMED.get(name, name): told(each)}
+    return found
+
+
+def general_name(of):
+    kind, inner = of.getName(), of.getComponent()
+    return {kind: address(bytes(inner)) if kind == "iPAddress" else told(inner)}
+
+
+def bits(of):
+    """Returns the names of the bits that are set, or the bytes if bits have no names."""
+    if of.namedValues:
+        names = (name for name, at in of.namedValues.items() if at < len(of) and of[at])
+        return [RENAMED.get(name, name) for name in names]
+    return octets((of.asInteger() << -len(of) % 8).to_bytes((len(of) + 7) // 8, "big"))
+
+
+# The functions that make the member of a document, by the type of the value. The first one counts.
+TOLD = [
+    (rfc5280.Name, lambda of: name(of.getComponent())),
+    (rfc5280.RelativeDistinguishedName, relative),
+    (rfc5280.GeneralName, general_name),
+    (rfc5280.AnotherName, lambda of: {"id": str(of["type-id"])} | value(bytes(of["value"]))),
+    (rfc5280.DistributionPointName, lambda of: {of.getName(): told(of.getComponent())}),
+    (rfc5280.DisplayText, lambda of: {
+        "type": type(of.getComponent()).__name__, "text": str(of.getComponent())
+    }),
+    (rfc5280.PolicyQualifierInfo, qualifier),
+    (rfc5280.Extension, extension),
+    (rfc5280.Attribute, attribute_of_request),
+    (rfc5280.AlgorithmIdentifier, algorithm),
+    (rfc5280.SubjectPublicKeyInfo, key),
+    ((rfc5280.CertificateSerialNumber, rfc5280.CRLNumber), lambda of: natural(int(of))),
+    ((useful.UTCTime, useful.GeneralizedTime), lambda of: moment(str(of))),
+    (univ.Choice, lambda of: told(of.getComponent())),
+    (univ.SequenceOfAndSetOfBase, lambda of: [told(each) for each in of]),
+    (univ.Sequence, members),
+    (univ.ObjectIdentifier, lambda of: {"id": str(of)}),
+    (univ.BitString, bits),
+    (char.AbstractCharacterString, str),
+    (univ.OctetString, lambda of: octets(bytes(of))),
+    (univ.Enumerated, lambda of: of.prettyPrint()),
+    (univ.Boolean, bool),
+    (univ.Integer, int),
+]
+
+
+def told(of):
+    return next(make for types, make in TOLD if isinstance(of, types))(of)
 
 
 def digests(label, encoded):
@@ -553,103 +367,23 @@ def digests(label, encoded):
             for kind in ("sha1", "sha256")}
 
 
-def key_digests(encoded):
-    bits = inside(encoded)[1][1][1:]
-    return digests("key", encoded) | {"key-bits-sha1": octets(hashlib.sha1(bits).digest())}
+KINDS = {
+    "certificate": rfc5280.Certificate(), "list": rfc5280.CertificateList(),
+    "request": rfc2986.CertificationRequest(),
+}
 
 
-# Certificates, lists and requests.
-
-
-def parts(encoded):
-    """Returns the values of the signed part, and the members of the signature."""
-    (_, signed), (_, of), (_, bits) = inside(encoded)
-    signature = {"signatureAlgorithm": algorithm(values(of)), "signatureValue": octets(bits[1:])}
-    return values(signed), signature
-
-
-def certificate(encoded):
-    of = x509.load_der_x509_certificate(encoded)
-    signed, signature = parts(encoded)
-    fields = signed if signed[0][0] == 0xA0 else [None, *signed]
-    others, public = dict(fields[7:]), tlv(*fields[6])
-    ids = {tag: octets(others[tag][1:]) for tag in (0x81, 0x82) if tag in others}
-    told = known(
-        kind="certificate",
-        version=of.version.value + 1,
-        serialNumber=natural(of.serial_number),
-        signature=algorithm(values(fields[2][1])),
-        issuer=name_of(of, "issuer", fields[3][1]),
-        notBefore=moment(of.not_valid_before_utc),
-        notAfter=moment(of.not_valid_after_utc),
-        subject=name_of(of, "subject", fields[5][1]),
-        subjectPublicKeyInfo=key(public),
-        issuerUniqueID=ids.get(0x81),
-        subjectUniqueID=ids.get(0x82),
-        extensions=extensions(of, others.get(0xA3)),
-    )
-    return told | signature | digests("certificate", encoded) | key_digests(public)
-
-
-def revoked(of, encoded):
-    others = values(encoded)[2:]
-    listed = extensions(of, tlv(*others[0]) if others else None)
-    date = moment(of.revocation_date_utc)
-    told = {"userCertificate": natural(of.serial_number), "revocationDate": date}
-    return told | {"crlEntryExtensions": listed}
-
-
-def revocation_list(encoded):
-    of = x509.load_der_x509_crl(encoded)
-    signed, signature = parts(encoded)
-    versioned = signed[0][0] == 0x02
-    fields = signed[1:] if versioned else signed
-    entries = values(dict(fields[3:]).get(0x30, b""))
-    told = known(
-        kind="list",
-        version=signed[0][1][0] + 1 if versioned else 1,
-        signature=algorithm(values(fields[0][1])),
-        issuer=name_of(of, "issuer", fields[1][1]),
-        thisUpdate=moment(of.last_update_utc),
-        nextUpdate=moment(of.next_update_utc),
-        crlExtensions=extensions(of, dict(fields[2:]).get(0xA0)),
-        revokedCertificates=[revoked(each, inner)
-                             for each, (_, inner) in zip(of, entries, strict=True)],
-    )
-    return told | signature | digests("list", encoded)
-
-
-def attributes(of, encoded):
-    """Yields the attributes of a CSR: extensions or values."""
-    for _, inner in values(encoded):
-        (_, identifier), (_, listed) = values(inner)
-        told = [
-            {"extensions": extensions(of, tlv(*each))}
-            if dotted(identifier) == "1.2.840.113549.1.9.14" else value(*each)
-            for each in values(listed)
-        ]
-        yield {"id": dotted(identifier), "values": told}
-
-
-def request(encoded):
-    try:
-        of = x509.load_der_x509_csr(encoded)
-    except ValueError:
-        # A string of its name isn't of its type.
-        of = None
-    signed, signature = parts(encoded)
-    public = tlv(*signed[2])
-    told = {
-        "kind": "request",
-        "version": signed[0][1][0] + 1,
-        "subject": name_of(of, "subject", signed[1][1]),
-        "subjectPublicKeyInfo": key(public),
-        "attributes": attributes(of, signed[3][1]),
-    }
-    return told | signature | digests("request", encoded) | key_digests(public)
-
-
-KINDS = {"certificate": certificate, "list": revocation_list, "request": request}
+def document(kind, encoded):
+    """Returns the document of a certificate, a CRL or a CSR."""
+    part, by, signature = decode(encoded, KINDS[kind])[0].values()
+    found = told(part) | {"kind": kind, "version": 1} | digests(kind, encoded)
+    if part["version"].isValue:
+        found["version"] = int(part["version"]) + 1
+    if kind != "list":
+        key = encode(part["subjectPublicKeyInfo" if kind == "certificate" else "subjectPKInfo"])
+        key_bits = inside(key)[1][1][1:]
+        found |= digests("key", key) | {"key-bits-sha1": digests("key", key_bits)["key-sha1"]}
+    return found | {"signatureAlgorithm": algorithm(by), "signatureValue": bits(signature)}
 
 
 # The names of object identifiers.
@@ -659,12 +393,15 @@ def known_names():
     """Returns the names that OpenSSL and `cryptography` have for each object identifier."""
     names = collections.defaultdict(set)
     said = subprocess.run(["openssl", "list", "-objects"], capture_output=True, check=True).stdout
-    for line in said.decode().splitlines():
-        if found := re.fullmatch(r"(.*?) = (?:(.*), )?(\d[\d.]*)", line):
-            names[found[3]].update(filter(None, found.groups()[:2]))
+    for found in re.finditer(r"^(.*?) = (?:(.*), )?(\d[\d.]*)$", said.decode(), re.M):
+        names[found[3]].update(filter(None, found.groups()[:2]))
     for identifier, word in _OID_NAMES.items():
         names[identifier.dotted_string].add(word)
     return names
+
+
+KNOWN = known_names()
+IDENTIFIERS = {word: identifier for identifier, words in KNOWN.items() for word in words}
 
 
 def folded(word):
@@ -673,71 +410,121 @@ def folded(word):
     return re.sub(r"[^a-z0-9]", "", word.lower())
 
 
-KNOWN = known_names()
-IDENTIFIERS = {word: identifier for identifier, words in KNOWN.items() for word in words}
-NAMED = re.compile(r"(?<= )([A-Za-z][\w-]*) \((\d+(?:\.\d+)+)\)")
-
-
-def is_name_of(word, identifier):
-    words = {folded(other) for other in KNOWN.get(identifier, ())}
-    return folded(NAMES.get(word, word)) in words
-
-
-def bared(line):
-    """Removes the right names of object identifiers from a line of `cert_tool`."""
-    return NAMED.sub(lambda found: found[2] if is_name_of(found[1], found[2]) else found[0], line)
+def bared(pairs):
+    """Returns the members of an object without the right name of an object identifier, and without
+    what the other programs don't report."""
+    of = dict(pairs)
+    word, words = of.get("name", ""), {folded(it) for it in KNOWN.get(of.get("id"), ())}
+    is_right = folded(NAMES.get(word, word)) in words
+    return {key: of[key] for key in of if key != "timestamps" and not (is_right and key == "name")}
 
 
 # Comparing.
 
 
-def described(tool, kind, encoded):
-    status, output, errors = tool.ask_of(encoded, "describe", kind, "--digests")
-    if status:
-        return [f"status {status}", *errors.decode().splitlines()]
-    return [bared(line) for line in output.decode().removesuffix("\n").split("\n")]
+def once(pairs):
+    """Returns the members of an object. Each may occur only once."""
+    if len(dict(pairs)) < len(pairs):
+        raise ValueError(f"a member occurs twice: {pairs}")
+    return dict(pairs)
 
 
-def differences(tool, kind, encoded):
-    """Returns how many lines are expected, and the lines that differ."""
-    wanted = list(lines.described(KINDS[kind](encoded)))
-    given = described(tool, kind, encoded)
-    compared = difflib.unified_diff(wanted, given, lineterm="", n=0)
-    return len(wanted), [line for line in compared if line[:2] not in ("--", "++", "@@")]
+def lines_in(text):
+    return text.decode().split("\n")[:-1]
 
 
-def made(count):
-    """Yields the name and the bytes of all that is compared. The name ends with the kind."""
-    yield from make_described.made(count)
-    yield from described_elsewhere.made(count)
-    for name, encoded in der.files_in(HERE / "by_openssl.txt"):
-        yield name.removesuffix(".der"), encoded
-    for root in ROOTS.glob("*.crt"):
-        yield f"{root.stem}.root", der.octets_of(root)
+def is_safe(document):
+    """Returns whether a document has none of the characters that JSON can escape and has to."""
+    kinds = {unicodedata.category(letter) for letter in document.decode().removesuffix("\n")}
+    return not kinds & {"Cc", "Cf", "Zl", "Zp", "Cs", "Co"}
 
 
-def main(program, *words):
-    warnings.simplefilter("ignore")
-    if words[:1] == ("--file",):
-        _, kind, path = words
-        files = [(f"{pathlib.Path(path).stem}.{kind}", pathlib.Path(path).read_bytes())]
-    else:
-        files = sorted(made(int(*words or [102])))
-    tool, counted = Tool(program), dict.fromkeys(["root", *KINDS], 0)
-    compared = faults = 0
-    for name, encoded in files:
-        word = name.rpartition(".")[2]
-        many, found = differences(tool, "certificate" if word == "root" else word, encoded)
-        counted[word] += 1
-        compared, faults = compared + many, faults + len(found)
-        for line in found:
-            print(f"{name}: {line}")
-    told = ", ".join(f"{many} {word}s" for word, many in counted.items())
-    print(f"{told}: {compared} lines, {faults} differences")
-    return 1 if faults else 0
+class Comparer:
+    """Compares the answers of a program, and counts the lines and the differences."""
+
+    def __init__(self, program):
+        self.tool, self.counts = Tool(program), collections.Counter(differences=0)
+
+    def compare(self, family, what, wanted, given):
+        self.counts[f"lines of {family}"] += len(wanted)
+        for line in difflib.unified_diff(wanted, given, lineterm="", n=0):
+            if line[:2] not in ("--", "++", "@@"):
+                self.counts["differences"] += 1
+                print(f"{family}: {what}: {line}")
+
+    def compare_lines(self, words, inputs):
+        """Compares the lines of a command with its document. Returns the answer with lines, and the
+        document."""
+        told = self.tool.ask(words, inputs)
+        status, document, errors = self.tool.ask([*words, "--json"], inputs)
+        # Only lines say that a number was left out and has its default.
+        text = re.sub(rb"((?:salt|trailer) \d+) by default", rb"\1", told[1])
+        wanted = [f"status {told[0]}", *lines_in(told[2]), *lines_in(text)]
+        given = [f"status {status}", *lines_in(errors)]
+        if document:
+            read = json.loads(document.decode(), object_pairs_hook=once)
+            given += lines.DOCUMENTS[words[0]](read)
+        given += [] if is_safe(document) else ["a character that isn't printable"]
+        given += [line for line in wanted if not line.isprintable()]
+        self.compare("JSON", " ".join(words), wanted, given)
+        return told, document
+
+    def compare_kind(self, kind, name, encoded):
+        """Describes and explains bytes as a value of a kind. Returns the answers, and the document
+        that describes them."""
+        told, found = self.compare_lines(["describe", "--digests", kind, name], {name: encoded})
+        return told, self.compare_lines(["explain", kind, name], {name: encoded})[0], found
+
+    def compare_value(self, kind, name, encoded):
+        """Compares what is described with what other programs read."""
+        found = self.compare_kind(kind, name, encoded)[2] or b"{}"
+        try:
+            wanted = document(kind, encoded)
+        except (LookupError, PyAsn1Error, ValueError, subprocess.CalledProcessError):
+            self.counts["values that others don't read"] += 1
+            self.counts["differences"] += name not in files()
+        else:
+            found = json.loads(found.decode(), object_pairs_hook=bared)
+            texts = (json.dumps(it, indent=1, sort_keys=True) for it in (wanted, found))
+            self.compare("values", name, *map(str.splitlines, texts))
+            self.counts[f"{kind}s"] += 1
+
+    def compare_changed(self, count):
+        """Compares whether changed values are described or rejected with what reader.py says."""
+        draw, values = random.Random(1), mutated.bases()
+        for _ in range(count):
+            kind = draw.choice(("certificate", "certificate", "list", "request"))
+            encoded = mutated.mutated(draw, draw.choice(values[kind]), kind, values)
+            told, why, _ = self.compare_kind(kind, "changed", encoded)
+            is_read = reader.spells(kind, encoded)
+            self.counts["changed values taken"] += is_read
+            is_good = why[1].startswith(b"the octets are what they should be\n")
+            wanted = (0, told[1], b"") if is_read else (2, b"", why[1])
+            if told != wanted or is_good != is_read or why[0] != 0:
+                self.compare("changed values", encoded.hex(), [f"taken: {is_read}"], [str(told)])
+
+
+def main():
+    parser = argparse.ArgumentParser(description=__doc__.splitlines()[0])
+    parser.add_argument("tool", metavar="TOOL")
+    parser.add_argument("--built", type=int, default=102, metavar="N", help="values that are built")
+    parser.add_argument("--changed", type=int, default=0, metavar="N", help="changed values")
+    given = parser.parse_args()
+    comparer = Comparer(given.tool)
+    known = [*files().items(), *der.files_in(HERE / "described.txt"), *built.made(given.built)]
+    known += [(path.name, der.encodings_of(path)[0]) for path in ROOTS.glob("*.crt")]
+    for name, encoded in known:
+        for kind in KINDS:
+            if reader.spells(kind, encoded):
+                comparer.compare_value(kind, name, encoded)
+    for words, sent, (status, _, _) in served.rows():
+        has_document = not re.search(r"describe .*stream| --(help|json|place)", " ".join(words))
+        if sent and status != 4 and words[0] in lines.DOCUMENTS and has_document:
+            comparer.compare_lines(words, sent)
+    comparer.compare_changed(given.changed)
+    print(", ".join(f"{count} {what}" for what, count in comparer.counts.items()))
+    return comparer.counts["differences"] > 0
 
 
 if __name__ == "__main__":
-    if len(sys.argv) < 2:
-        sys.exit(__doc__)
-    sys.exit(main(*sys.argv[1:]))
+    sys.exit(main())

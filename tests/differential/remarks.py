@@ -1,26 +1,27 @@
 #!/usr/bin/env python3
 """Compares the remarks of `cert_tool explain` with those of an independent reader.
 
-The reader is written from the text of RFC 5280.
+    remarks.py CERT_TOOL FILE..     reads certificates and CRLs in DER or PEM; prints a line for
+                                    each difference, and counts; the status is 1 if any differs
 
-    remarks.py CERT_TOOL FILE..         reads certificates and CRLs in DER or PEM; prints a line for
-                                        each difference, and counts; the status is 1 if any differs
-
-It makes no remarks on the content of an extension that isn't a value of its type, and doesn't
-compare the line that reports one. It counts the files that `cert_tool` can't read, and those that
-are neither a certificate nor a CRL; of the latter `cert_tool` must not read any.
+The reader is written from the text of RFC 5280. It makes no remarks on the content of an extension
+that isn't a value of its type, and doesn't compare the line that reports one. `cert_tool` has to
+read what tests/reader.py reads, and nothing else.
 """
 
 import argparse
 import collections
+import contextlib
 import pathlib
 import re
 import sys
 
 sys.path.insert(0, str(pathlib.Path(__file__).resolve().parents[1]))
 
-from der import dotted, encodings_of
+import reader
+from der import dotted, encodings_of, moment
 from der import values as encodings
+from lines import plain
 from tool import Tool
 
 
@@ -33,38 +34,28 @@ def inside(octets):
 
 def value_in(content):
     """Returns the content of the only value in these bytes, or None if there isn't exactly one."""
-    try:
+    with contextlib.suppress(ValueError):
         [(_, contents, _)] = encodings(content or b"")
-    except ValueError:
-        return None
-    return contents
+        return contents
 
 
 def extensions_in(octets):
-    """Yields the encoded OID, the criticality and the content of each extension."""
+    """Yields the kind, the criticality and the content of each extension. The kind is the last arc
+    of an identifier below id-ce, the negative one below id-pe, and the bytes of other identifiers
+    (RFC 5280 A.2, A.1)."""
     for _, _, extension in encodings(octets):
-        first, *flags, content = inside(extension)
-        yield first[1], any(flag[1] == b"\xff" for flag in flags), content[1]
-
-
-def standard(number):
-    return bytes([0x55, 0x1D, number])
-
-
-def private(number):
-    return bytes([0x2B, 6, 1, 5, 5, 7, 1, number])
-
-
-def moment(tag, contents):
-    """Returns a date in the form of GeneralizedTime (RFC 5280 4.1.2.5.1)."""
-    text = contents.decode("ascii")
-    return text if tag == 0x18 else ("20" if text < "5" else "19") + text
+        (_, kind, _), *flags, content = inside(extension)
+        if kind[:-1] in (ID_CE, ID_PE):
+            kind = kind[-1] if kind[:-1] == ID_CE else -kind[-1]
+        yield kind, any(flag[1] == b"\xff" for flag in flags), content[1]
 
 
 def is_long(date):
     return date[0] == 0x18 and date[1] < b"2050"
 
 
+ANY_POLICY = bytes.fromhex("551d2000")
+ID_CE, ID_PE = bytes.fromhex("551d"), bytes.fromhex("2b060105050701")
 LABEL = "[A-Za-z0-9]([A-Za-z0-9-]{0,61}[A-Za-z0-9])?"
 HOST = rf"(\*\.)?{LABEL}(\.{LABEL})*"
 GRAPHIC = "[!-;=?-~]"
@@ -75,11 +66,7 @@ FORMS = {
 }
 
 
-def shown(octets):
-    """Escapes a text as `cert_tool` does: backslashes, and what isn't printable in ASCII."""
-    return "".join(chr(octet) if 0x20 <= octet < 0x7F and octet != 0x5C else f"\\{octet:02X}"
-                   for octet in octets)
-
+# Each function below yields remarks: the text, the section of RFC 5280, and perhaps a name.
 
 def malformed_names(content):
     names = inside(content)
@@ -90,116 +77,103 @@ def malformed_names(content):
         if tag in FORMS:
             kind, form = FORMS[tag]
             if not re.fullmatch(form, text) or (tag == 0x82 and len(text) > 253):
-                yield f"this name isn't well formed (RFC 5280 4.2.1.6): {kind} {shown(name)}"
+                yield "this name isn't well formed", "4.2.1.6", f"{kind} {plain(text)}"
         elif tag == 0x87 and len(name) not in (4, 16):
-            address = f"IP address of {len(name)} octets"
-            yield f"this name isn't well formed (RFC 5280 4.2.1.6): {address}"
+            yield "this name isn't well formed", "4.2.1.6", f"IP address of {len(name)} octets"
 
 
 def constraints(content):
     for _, trees, _ in inside(content):
         trees = [inside(tree) for _, _, tree in encodings(trees)]
         if any(len(tree) > 1 for tree in trees):
-            yield "nameConstraints have a minimum or a maximum (RFC 5280 4.2.1.10)"
+            yield "nameConstraints have a minimum or a maximum", "4.2.1.10"
         if any(tree[0][0] == 0x87 and len(tree[0][1]) not in (8, 32) for tree in trees):
-            text = "nameConstraints have an address without a mask of its size"
-            yield f"{text} (RFC 5280 4.2.1.10)"
+            yield "nameConstraints have an address without a mask of its size", "4.2.1.10"
 
 
 def points(content):
     for _, _, point in inside(content):
         if not {tag for tag, _, _ in inside(point)} & {0xA0, 0xA2}:
-            yield "a distribution point has neither a name nor an issuer (RFC 5280 4.2.1.13)"
+            yield "a distribution point has neither a name nor an issuer", "4.2.1.13"
             return
 
 
 def policies(content):
     listed = [inside(policy)[0][1] for _, _, policy in inside(content)]
     if len(set(listed)) < len(listed):
-        yield "a policy stands twice (RFC 5280 4.2.1.4)"
+        yield "a policy stands twice", "4.2.1.4"
 
 
 def mappings(content):
     listed = [policy[1] for _, _, mapping in inside(content) for policy in inside(mapping)]
-    if standard(0x20) + b"\0" in listed:
-        yield "anyPolicy is mapped (RFC 5280 4.2.1.5)"
+    if ANY_POLICY in listed:
+        yield "anyPolicy is mapped", "4.2.1.5"
 
 
 def scope(content):
     tags = {tag for tag, flag, _ in inside(content) if flag == b"\xff"}
     if {0x81, 0x82} <= tags:
-        text = "a CRL has only certificates of end entities, and only of CAs"
-        yield f"{text} (RFC 5280 5.2.5)"
+        yield "a CRL has only certificates of end entities, and only of CAs", "5.2.5"
     if 0x85 in tags:
-        yield "a CRL has only attribute certificates (RFC 5280 5.2.5)"
+        yield "a CRL has only attribute certificates", "5.2.5"
 
 
 def issuer_key(content):
     tags = {tag for tag, _, _ in inside(content)}
     if (0xA1 in tags) != (0x82 in tags):
-        yield "authorityKeyIdentifier has one of issuer and serial number (RFC 5280 A.2)"
+        yield "authorityKeyIdentifier has one of issuer and serial number", "A.2"
 
 
 CONTENTS = {17: malformed_names, 18: malformed_names, 28: scope, 30: constraints, 31: points,
             32: policies, 33: mappings, 35: issuer_key, 46: points}
-CONTENTS = {standard(number): looks for number, looks in CONTENTS.items()}
 
-# Of extensions (RFC 5280 4.2, 5.2): whether they are critical, their name, the section.
+# The names of extensions; whether those of certificates and of CRLs are critical, and the section
+# of RFC 5280 that says so; and the section on those that are an empty sequence.
+NAMES = {
+    9: "subjectDirectoryAttributes", 14: "subjectKeyIdentifier", 17: "subjectAltName",
+    18: "issuerAltName", 20: "cRLNumber", 27: "deltaCRLIndicator", 28: "issuingDistributionPoint",
+    30: "nameConstraints", 31: "cRLDistributionPoints", 32: "certificatePolicies",
+    33: "policyMappings", 35: "authorityKeyIdentifier", 36: "policyConstraints", 37: "extKeyUsage",
+    46: "freshestCRL", 54: "inhibitAnyPolicy", -1: "authorityInfoAccess", -11: "subjectInfoAccess",
+}
 OF_CERTIFICATES = {
-    standard(9): (False, "subjectDirectoryAttributes", "4.2.1.8"),
-    standard(14): (False, "subjectKeyIdentifier", "4.2.1.2"),
-    standard(30): (True, "nameConstraints", "4.2.1.10"),
-    standard(35): (False, "authorityKeyIdentifier", "4.2.1.1"),
-    standard(36): (True, "policyConstraints", "4.2.1.11"),
-    standard(46): (False, "freshestCRL", "4.2.1.15"),
-    standard(54): (True, "inhibitAnyPolicy", "4.2.1.14"),
-    private(1): (False, "authorityInfoAccess", "4.2.2.1"),
-    private(11): (False, "subjectInfoAccess", "4.2.2.2"),
+    9: (False, "4.2.1.8"), 14: (False, "4.2.1.2"), 30: (True, "4.2.1.10"), 35: (False, "4.2.1.1"),
+    36: (True, "4.2.1.11"), 46: (False, "4.2.1.15"), 54: (True, "4.2.1.14"),
+    -1: (False, "4.2.2.1"), -11: (False, "4.2.2.2"),
 }
 OF_LISTS = {
-    standard(20): (False, "cRLNumber", "5.2.3"),
-    standard(27): (True, "deltaCRLIndicator", "5.2.4"),
-    standard(28): (True, "issuingDistributionPoint", "5.2.5"),
-    standard(35): (False, "authorityKeyIdentifier", "4.2.1.1"),
-    standard(46): (False, "freshestCRL", "5.2.6"),
-    private(1): (False, "authorityInfoAccess", "5.2.7"),
+    20: (False, "5.2.3"), 27: (True, "5.2.4"), 28: (True, "5.2.5"), 35: (False, "4.2.1.1"),
+    46: (False, "5.2.6"), -1: (False, "5.2.7"),
 }
 FILLED = {
-    17: ("subjectAltName", "4.2.1.6"), 18: ("issuerAltName", "4.2.1.7"),
-    28: ("issuingDistributionPoint", "5.2.5"), 30: ("nameConstraints", "4.2.1.10"),
-    31: ("cRLDistributionPoints", "4.2.1.13"), 32: ("certificatePolicies", "4.2.1.4"),
-    33: ("policyMappings", "4.2.1.5"), 36: ("policyConstraints", "4.2.1.11"),
-    37: ("extKeyUsage", "4.2.1.12"), 46: ("freshestCRL", "4.2.1.15"),
+    17: "4.2.1.6", 18: "4.2.1.7", 28: "5.2.5", 30: "4.2.1.10", 31: "4.2.1.13", 32: "4.2.1.4",
+    33: "4.2.1.5", 36: "4.2.1.11", 37: "4.2.1.12", 46: "4.2.1.15",
 }
-FILLED = {standard(number): named for number, named in FILLED.items()}
 
 
 def of_extensions(extensions, marks):
     kinds = [kind for kind, _, _ in extensions]
     if len(set(kinds)) < len(kinds):
-        yield "an extension stands twice (RFC 5280 4.2)"
+        yield "an extension stands twice", "4.2"
     for kind, critical, content in extensions:
-        wanted, name, section = marks.get(kind, (critical, "", ""))
+        wanted, section = marks.get(kind, (critical, ""))
         if wanted != critical:
-            be = "isn't" if wanted else "is"
-            yield f"{name} {be} critical (RFC 5280 {section})"
+            be = "is" if critical else "isn't"
+            yield f"{NAMES[kind]} {be} critical", section
         if kind in FILLED and content == b"\x30\0":
-            name, section = FILLED[kind]
-            yield f"{name} is an empty sequence (RFC 5280 {section})"
-        try:
+            yield f"{NAMES[kind]} is an empty sequence", FILLED[kind]
+        with contextlib.suppress(IndexError, ValueError):
             yield from list(CONTENTS.get(kind, lambda _: ())(content))
-        except (IndexError, ValueError):
-            pass
 
 
 def members_of(content):
     """Returns the encodings within the only value in these bytes, or nothing if they aren't one."""
-    try:
+    with contextlib.suppress(ValueError):
         return list(encodings(value_in(content) or b""))
-    except ValueError:
-        return []
+    return []
 
 
+UNREAD = "not read"
 # How many characters the text of an attribute has, minimum and maximum (RFC 5280 A.1).
 SIZES = {bytes([0x55, 4, number]): sizes for numbers, sizes in [
     ((6,), (2, 2)), ((3, 5, 10, 11, 12), (1, 64)), ((7, 8, 65), (1, 128)),
@@ -223,12 +197,12 @@ def of_name(name):
             except UnicodeDecodeError:
                 text, right = octets[: len(octets) // 2 if tag == 0x1E else None], False
             if not right:
-                yield f"{dotted(kind)} isn't a text of its type, {type_name} (RFC 5280 4.1.2.4)"
+                yield f"{dotted(kind)} isn't a text of its type, {type_name}", "4.1.2.4"
             least, most = SIZES.get(kind, (0, len(text)))
             size = len(octets) // 2 if tag == 0x1E else len(text)
             if not least <= size <= most:
                 sizes = most if least == most else f"{least} to {most}"
-                yield f"{dotted(kind)} isn't a text of {sizes} characters (RFC 5280 A.1)"
+                yield f"{dotted(kind)} isn't a text of {sizes} characters", "A.1"
 
 
 def has_key(content):
@@ -238,11 +212,11 @@ def has_key(content):
 def of_serial(serial):
     amount = serial.removeprefix(b"\0")
     if not amount:
-        yield "the serial number is zero (RFC 5280 4.1.2.2)"
+        yield "the serial number is zero", "4.1.2.2"
     if serial[0] >= 0x80:
-        yield "the serial number is below zero (RFC 5280 4.1.2.2)"
+        yield "the serial number is below zero", "4.1.2.2"
     if len(amount) > 20:
-        yield "the serial number has more than 20 octets (RFC 5280 4.1.2.2)"
+        yield "the serial number has more than 20 octets", "4.1.2.2"
 
 
 def of_certificate(octets):
@@ -258,14 +232,14 @@ def of_certificate(octets):
     critical = {kind: flag for kind, flag, _ in extensions}
     first, last = encodings(dates[1])
     ids = 0x81 in rest or 0x82 in rest
-    limits = members_of(contents.get(standard(19)))
+    limits = members_of(contents.get(19))
     authority = any(tag == 1 and flag == b"\xff" for tag, flag, _ in limits)
     length = any(tag == 2 for tag, _, _ in limits)
-    uses = value_in(contents.get(standard(15)))
+    uses = value_in(contents.get(15))
     signs = uses is not None and len(uses) > 1 and uses[1] & 0x04 != 0
     unnamed = subject[1] == b""
     self_issued = issuer[2] == subject[2]
-    yield from (f"{text} (RFC 5280 {section})" for holds, section, text in [
+    yield from ((text, section) for holds, section, text in [
         (within[2] != outside[2], "4.1.1.2", "signature and signatureAlgorithm differ"),
         (listed and version != 3, "4.1.2.1",
          "extensions stand in a certificate that isn't of version 3"),
@@ -277,19 +251,19 @@ def of_certificate(octets):
         (is_long(last), "4.1.2.5", "notAfter is a GeneralizedTime before 2050"),
         (moment(*last[:2]) < moment(*first[:2]), "4.1.2.5", "notAfter is before notBefore"),
         (unnamed and authority, "4.1.2.6", "the subject of a CA is an empty name"),
-        (unnamed and not critical.get(standard(17)), "4.1.2.6",
+        (unnamed and not critical.get(17), "4.1.2.6",
          "the subject is empty, and no critical subjectAltName names it"),
-        (not self_issued and not has_key(contents.get(standard(35))), "4.2.1.1",
+        (not self_issued and not has_key(contents.get(35)), "4.2.1.1",
          "no authorityKeyIdentifier has a key's identifier"),
-        (authority and standard(14) not in contents, "4.2.1.2", "a CA has no subjectKeyIdentifier"),
-        (authority and standard(15) not in contents, "4.2.1.3", "a CA has no keyUsage"),
+        (authority and 14 not in contents, "4.2.1.2", "a CA has no subjectKeyIdentifier"),
+        (authority and 15 not in contents, "4.2.1.3", "a CA has no keyUsage"),
         (signs and not authority, "4.2.1.3", "keyCertSign stands without cA"),
-        (authority and not critical[standard(19)], "4.2.1.9",
+        (authority and not critical[19], "4.2.1.9",
          "basicConstraints of a CA aren't critical"),
         (length and not authority, "4.2.1.9", "a path length stands without cA"),
         (length and uses is not None and not signs, "4.2.1.9",
          "a path length stands without keyCertSign"),
-        (standard(30) in contents and not authority, "4.2.1.10",
+        (30 in contents and not authority, "4.2.1.10",
          "nameConstraints stand without cA"),
         (uses == b"\0", "4.2.1.3", "keyUsage has no use"),
     ] if holds)
@@ -312,10 +286,9 @@ def of_list(octets):
     extensions = list(extensions_in(next(encodings(rest[0xA0]))[1])) if listed else []
     contents = {kind: content for kind, _, content in extensions}
     of_entries = [list(extensions_in(entry[2][1])) for entry in entries if len(entry) > 2]
-    marks = {(kind[-1], flag) for listed in of_entries for kind, flag, _ in listed
-             if kind == standard(kind[-1])}
-    number = contents.get(standard(20))
-    yield from (f"{text} (RFC 5280 {section})" for holds, section, text in [
+    marks = {(kind, flag) for listed in of_entries for kind, flag, _ in listed}
+    number = contents.get(20)
+    yield from ((text, section) for holds, section, text in [
         (within[2] != outside[2], "5.1.1.2", "signature and signatureAlgorithm differ"),
         ((listed or of_entries) and version != 2, "5.1.2.1",
          "extensions stand in a CRL that isn't of version 2"),
@@ -336,60 +309,26 @@ def of_list(octets):
         ((21, True) in marks, "5.3.1", "reasonCode of an entry is critical"),
         ((24, True) in marks, "5.3.2", "invalidityDate of an entry is critical"),
         ((29, False) in marks, "5.3.3", "certificateIssuer of an entry isn't critical"),
-        (not has_key(contents.get(standard(35))), "5.2.1",
+        (not has_key(contents.get(35)), "5.2.1",
          "no authorityKeyIdentifier has a key's identifier"),
         (number is None, "5.2.3", "there is no cRLNumber"),
         (len((value_in(number) or b"").removeprefix(b"\0")) > 20, "5.2.3",
          "the cRLNumber has more than 20 octets"),
-        (standard(27) in contents and standard(46) in contents, "5.2.6",
+        (27 in contents and 46 in contents, "5.2.6",
          "freshestCRL stands in a delta CRL"),
     ] if holds)
     yield from of_name(issuer[1])
     yield from of_extensions(extensions, OF_LISTS)
 
 
-def kind_of(octets):
-    """Returns whether this is a certificate or a CRL, by the fields of the signed part."""
-    try:
-        [(tag, _, whole)] = encodings(octets)
-        signed, algorithm, bits = inside(whole)
-        fields = [field for field, _, _ in encodings(signed[1])]
-    except ValueError:
-        return None
-    if [tag, signed[0], algorithm[0], bits[0]] != [0x30, 0x30, 0x30, 3]:
-        return None
-    if fields[:1] == [0xA0] or fields[:5] == [2, 0x30, 0x30, 0x30, 0x30]:
-        return "certificate"
-    is_list = [field for field in fields if field != 2][2:3] in ([0x17], [0x18])
-    return "list" if is_list else None
-
-
 def told(tool, kind, octets):
-    """Returns the remarks of the program, except those on contents that aren't of their type, or
-    None if it can't read the bytes."""
-    first, *lines = tool.ask_of(octets, "explain", kind)[1].decode().splitlines()
+    """Returns the remarks of the program, except those on contents that aren't of their type."""
+    first, *lines = tool.ask(["explain", kind, "file"], {"file": octets})[1].decode().splitlines()
     if first != "the octets are what they should be":
-        return None
+        return [UNREAD]
     # The OID is compared, and not its name.
     return [re.sub(r"^\w+ \(([\d.]+)\)", r"\1", line.removeprefix("remark: ")) for line in lines
             if line.startswith("remark: ") and "isn't one value of its kind" not in line]
-
-
-OF_KINDS = {"certificate": of_certificate, "list": of_list}
-
-
-def differences_of(tool, octets):
-    """Returns the kind of a value, the remarks of the program, and the differences."""
-    kind = kind_of(octets)
-    if kind is None:
-        read = [kind for kind in OF_KINDS if told(tool, kind, octets) is not None]
-        return "neither", [], [f"read as a {kind}" for kind in read]
-    found = told(tool, kind, octets)
-    if found is None:
-        return f"unread {kind}", [], []
-    wanted = list(OF_KINDS[kind](octets))
-    differ = sorted(set(wanted) ^ set(found))
-    return kind, found, [f"{'wanting' if text in wanted else 'told'}: {text}" for text in differ]
 
 
 def main():
@@ -397,20 +336,22 @@ def main():
     parser.add_argument("tool", metavar="CERT_TOOL")
     parser.add_argument("paths", metavar="FILE", nargs="+")
     given = parser.parse_args()
-    tool, differences = Tool(given.tool), 0
-    looked, counts = collections.Counter(), collections.Counter()
-    for path in given.paths:
-        for octets in encodings_of(path):
-            seen, found, differ = differences_of(tool, octets)
-            looked[seen] += 1
+    tool, differences, counts = Tool(given.tool), 0, collections.Counter()
+    for path, octets in ((path, octets) for path in given.paths for octets in encodings_of(path)):
+        for kind, remarks in ("certificate", of_certificate), ("list", of_list):
+            wanted = [UNREAD]
+            if reader.spells(kind, octets):
+                wanted = [": ".join([f"{text} (RFC 5280 {section})", *name])
+                          for text, section, *name in remarks(octets)]
+            found = told(tool, kind, octets)
             counts.update(found)
-            differences += len(differ)
-            for text in differ:
-                print(f"{path}: {text}")
+            counts[f"read as a {kind}"] += found != [UNREAD]
+            for text in sorted(set(wanted) ^ set(found)):
+                differences += 1
+                print(f"{path}: {kind}: {'wanting' if text in wanted else 'told'}: {text}")
     for text, count in counts.most_common():
         print(f"{count} {text}")
-    seen = ", ".join(f"{count} {kind}" for kind, count in looked.items())
-    print(f"looked at: {seen}; {counts.total()} remarks, {differences} differences")
+    print(f"{differences} differences")
     return differences > 0
 
 

@@ -4,12 +4,11 @@
     cert_rows.py            compares with crates/test_cert_rows; the status is 1 if any differs
     cert_rows.py --write    writes the answers there, and the vectors that follow from others
 
-It answers the questions about orders (`issue run`, `issue call -/-`, `issue again`), about digests,
-and about the prefixes of a stream (`fronts`). It builds certificates as RFC 5280, X.690 and
-docs/tables/ORDERS.md say, and finds the end of a prefix by the headers alone. Each stream that a
-vector above HOSTILE USE validates also has a vector that cuts it at each byte (`cuts`) and one with
-each of its prefixes; this script makes both from the verdict above. It never runs the program. The
-other vectors were worked out by hand, as the comments above them say.
+It answers the questions about orders and digests (`issue`), building certificates as RFC 5280,
+X.690 and docs/tables/ORDERS.md say, and about the prefixes of a stream (`fronts`), by the headers
+alone. Each stream that a vector above HOSTILE USE validates also has a vector that cuts it at each
+byte (`cuts`) and one with each of its prefixes; this script makes both from the verdict above. It
+never runs the program. The other vectors were worked out by hand.
 """
 
 import argparse
@@ -32,12 +31,8 @@ MADE = "# Cuts and fronts of every stream of the rows above"
 
 # The names of attribute types, and the tags of their texts.
 TYPES = {
-    "C": ("2.5.4.6", 0x13),
-    "O": ("2.5.4.10", 0x0C),
-    "OU": ("2.5.4.11", 0x0C),
-    "CN": ("2.5.4.3", 0x0C),
-    "L": ("2.5.4.7", 0x0C),
-    "ST": ("2.5.4.8", 0x0C),
+    "C": ("2.5.4.6", 0x13), "O": ("2.5.4.10", 0x0C), "OU": ("2.5.4.11", 0x0C),
+    "CN": ("2.5.4.3", 0x0C), "L": ("2.5.4.7", 0x0C), "ST": ("2.5.4.8", 0x0C),
     "DC": ("0.9.2342.19200300.100.1.25", 0x16),
 }
 # The attributes that a root's name may have, in this order. C, O and CN are required.
@@ -81,15 +76,14 @@ def is_of_a_role(relatives, role):
     return {"C", "O", "CN"} <= set(words) and words == [it for it in OF_ROOTS if it in words]
 
 
-def is_date(text):
-    return re.fullmatch(r"\d{4}-\d\d-\d\dT\d\d:\d\d:\d\dZ", text) and reader.is_whole(
-        date(text), reader.time
-    )
-
-
 def date(text):
     digits = re.sub("[-:T]", "", text)
     return der.date(digits[2:] if text < "2050" else digits)
+
+
+def is_date(text):
+    has_form = re.fullmatch(r"\d{4}-\d\d-\d\dT\d\d:\d\d:\d\dZ", text)
+    return has_form and reader.is_whole(date(text), reader.time)
 
 
 def refusal(order, role):
@@ -141,19 +135,13 @@ def extensions(order, role, issuer):
     ]
 
 
-def role_at(place, count):
-    if place == 0:
-        return "root"
-    return "subscriber" if place == count - 1 else "subordinate"
-
-
 def certificate(order, role, issuer):
     """Builds a certificate. Its signature is the digest of the issuer's key and the signed part."""
     names = name(issuer["name"]), name(order["name"])
     dates = sequence(date(order["from"]), date(order["until"]))
     key, serial = bytes.fromhex(order["key"]), int(order["serial"], 16)
     fields = [serial, ALGORITHM, names[0], dates, names[1], key]
-    signed = der.certificate_part(*fields, extensions=extensions(order, role, issuer))
+    signed = der.certificate_part(*fields, extensions(order, role, issuer))
     digest = hashlib.sha256(key_octets(issuer["key"]) + signed).digest()
     return sequence(signed, ALGORITHM, bits(digest))
 
@@ -167,7 +155,7 @@ def issued(words):
         return f'4 "" "orders: line {faulty}\\n"'
     if not orders:
         return '1 "" "orders NoOrders\\n"'
-    roles = [role_at(place, len(orders)) for place in range(len(orders))]
+    roles = ["root"] + ["subordinate"] * (len(orders) - 2) + ["subscriber"] * (len(orders) > 1)
     for place, (order, role) in enumerate(zip(orders, roles)):
         if reason := refusal(order, role):
             return f'1 "" "order {place} {reason}\\n"'
@@ -243,9 +231,9 @@ TERMS = [LEAST, "1009886460", "1.3.6.1.5.5.7.3.1"]
 def verdict_of(answer):
     """Returns the verdict of an answer, and how often the signature verifier was called."""
     line = answer.split('"')[1].removesuffix("\\n")
-    told = re.fullmatch(r"(trusted|refused (\d+) (\w+)) calls=(\d+)", line)
+    told = re.fullmatch(r"(trusted|refused \d+ \w+) calls=(\d+)", line)
     if told:
-        return ("Trusted" if line[0] == "t" else told[1]), int(told[4])
+        return told[1].replace("trusted", "Trusted"), int(told[2])
     told = re.fullmatch(r"fault (\d+) (\d+) (\w+)", line)
     if told:
         return f"StreamFault {{ place: {told[1]}, offset: {told[2]}, kind: {told[3]} }}", 0
@@ -286,17 +274,14 @@ def elsewhere(stream, verdict, calls):
 
 def serves_servers(stream):
     """Returns whether a stream allows servers: it lists no purposes, or that of servers, or any."""
-    served = "1.3.6.1.5.5.7.3.1", "2.5.29.37.0"
-    is_served = any(identifier(it) in stream for it in served)
-    return identifier("2.5.29.37") not in stream or is_served
+    purposes = map(identifier, ("1.3.6.1.5.5.7.3.1", "2.5.29.37.0"))
+    return identifier("2.5.29.37") not in stream or any(it in stream for it in purposes)
 
 
 def issuer_of(stream):
     """Returns the content of the issuer in the first certificate."""
-    _, certificate, _ = next(der.values(stream))
-    _, signed, _ = next(der.values(certificate))
-    fields = [field for field in der.values(signed) if field[0] != 0xA0]
-    return fields[2][1]
+    _, signed, _ = next(der.values(next(der.values(stream))[1]))
+    return [content for tag, content, _ in der.values(signed) if tag != 0xA0][2]
 
 
 def made_of(rows):
@@ -322,20 +307,16 @@ def made_of(rows):
 
 def answer(question):
     """Returns the answer to a question, or None if this script doesn't answer such questions."""
-    word, *words = question.split(" ")
-    match word, *words:
-        case "issue", "run", *file:
+    match question.split(" "):
+        case ["issue", "run", *file] | ["issue", "call", "-/-", *file]:
             return issued(" ".join(file))
-        case "issue", "call", "-/-", *file:
-            return issued(" ".join(file))
-        case "issue", "again", "digest", *file:
+        case ["issue", "again", "digest", *file]:
             return issued(" ".join(file)).split('"')[1]
-        case "issue", "digest", key, part:
+        case ["issue", "digest", key, part]:
             octets = b"" if part == "-" else bytes.fromhex(part)
             return hashlib.sha256(key_octets(key) + octets).hexdigest()
-        case "fronts", limit, stream:
+        case ["fronts", limit, stream]:
             return fronts(int(limit), bytes.fromhex(stream))
-    return None
 
 
 def rows_wanted(rows):
@@ -359,8 +340,7 @@ def main():
         for path, lines in zip(paths, zip(*wanted)):
             path.write_text("\n".join(lines))
         return 0
-    differ = [row for row in wanted if row not in set(rows)]
-    differ += [row for row in rows if row not in set(wanted)]
+    differ = set(wanted) ^ set(rows)
     for question, told in differ:
         print(f"{question[:100]}: {told[:100]}")
     by_model = sum(answer(question) is not None for question, _ in wanted)

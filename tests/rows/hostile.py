@@ -1,16 +1,14 @@
 #!/usr/bin/env python3
 """Doubles the size of hostile inputs, and compares processor time and memory.
 
-It fails if the processor time of a run grows by a factor of more than 2.6, or if a run exits with a
-status that isn't expected.
-
     hostile.py FOLDER [NAME..]
 
 FOLDER contains the programs cert_desk_program, test_der_rows and test_cert_rows, built. Names
-select inputs. The time is that of the fastest of three runs, user and system, and includes reading
-the file. It prints of each input its size in bytes, the times for half of it and for all of it,
-their quotient, and the peak of resident memory in bytes for each byte of input, which includes the
-memory that the program takes by itself. It is not part of CI, and needs /usr/bin/time.
+select inputs. The time is that of the fastest of three runs, user and system. It prints of each
+input its size in bytes, the times for half of it and for all of it, their quotient, and the peak of
+resident memory in bytes for each byte of input, which includes the memory that the program takes by
+itself. The status is 1 if a quotient is more than 2.6, or if a run exits with a status that isn't
+expected. It is not part of CI, and needs /usr/bin/time.
 """
 
 import argparse
@@ -27,8 +25,8 @@ import needs
 
 needs.check(__file__)
 
-from der import algorithm, bits, certificate_part, date, extension, identifier, length
-from der import sequence, text, tlv
+from der import algorithm, bits, certificate_part, common_name, date, extension, length
+from der import sequence, tlv
 
 MOMENT, PURPOSE = "1009886460", "1.3.6.1.5.5.7.3.1"
 ALGORITHM = algorithm("1.2")
@@ -38,7 +36,7 @@ EMPTY = sequence()
 
 
 def certificate(issuer=EMPTY, extensions=(), signature=b"\0", by=ALGORITHM):
-    part = certificate_part(1, by, issuer, DATES, EMPTY, KEY, extensions=extensions)
+    part = certificate_part(1, by, issuer, DATES, EMPTY, KEY, extensions)
     return sequence(part, by, bits(signature))
 
 
@@ -54,38 +52,32 @@ def show(octets):
     return "cert_desk_program", ["show", "certificate", "file"], {"file": octets}
 
 
-def named(relative_names):
+def listed(relative_names):
     return show(certificate(sequence(relative_names)))
-
-
-def issue(orders):
-    return "cert_desk_program", ["issue", "orders"], {"orders": orders}
-
-
-def rows(program, question):
-    return program, [], {"stdin": f"{question}\n".encode()}
 
 
 # The inputs.
 
 
 def order(name, place):
-    dns = "\ndns a.example" if place else ""
-    dates = "from 2002-01-01T12:01:00Z\nuntil 2030-12-31T08:30:00Z"
-    key = "key 300B300306012A030400616263"
-    return f"order\nname {name}\n{dates}\nserial {place + 1:04x}\n{key}{dns}\n".encode()
+    dns = "dns a.example\n" if place else ""
+    return (
+        f"order\nname {name}\nfrom 2002-01-01T12:01:00Z\nuntil 2030-12-31T08:30:00Z\n"
+        f"serial {place + 1:04x}\nkey 300B300306012A030400616263\n{dns}"
+    ).encode()
 
 
 def orders(*names):
-    return issue(b"".join(order(name, place) for place, name in enumerate(names)))
-
-
-def root_of(mark, attributes):
-    """Returns an order of a root whose name has these attributes, joined by a character."""
-    return orders(mark.join(attributes))
+    file = b"".join(order(name, place) for place, name in enumerate(names))
+    return "cert_desk_program", ["issue", "orders"], {"orders": file}
 
 
 ROOT = "CN=r,O=o,C=US"
+
+
+def named(count, attribute, mark=","):
+    """Returns a name with so many attributes, each with its number."""
+    return mark.join(attribute.format(number) for number in range(count))
 
 
 def headers(count):
@@ -99,8 +91,7 @@ def headers(count):
 
 def members(texts):
     """Returns an RDN with these common names."""
-    encoded = (sequence(identifier("2.5.4.3"), text(each)) for each in texts)
-    return tlv(0x31, *sorted(encoded))
+    return tlv(0x31, *sorted(map(common_name, texts)))
 
 
 def authority(size):
@@ -115,12 +106,8 @@ def hashed(size):
     return certificate(extensions=extensions, signature=bytes(32), by=by)
 
 
-def distinct(count):
-    return certificate(extensions=[extension(f"1.2.{it}", b"") for it in range(count)])
-
-
-def repeated(count):
-    return certificate(extensions=[extension("1.2.1", b"")] * count)
+def extended(kinds):
+    return certificate(extensions=[extension(kind, b"") for kind in kinds])
 
 
 def nameless(count):
@@ -130,14 +117,15 @@ def nameless(count):
 
 def falling(count):
     numbers = (b"\x02\x02" + it.to_bytes(2, "big") for it in range(32767, 32767 - count, -1))
-    return rows("test_der_rows", f"set-from u16 {sequence(*numbers).hex()}")
+    question = f"set-from u16 {sequence(*numbers).hex()}\n"
+    return "test_der_rows", [], {"stdin": question.encode()}
 
 
 def octet_by_octet(count):
     stream = certificate(signature=bytes(count - 1))
     ones = ",".join(["1"] * len(stream))
-    asked = f"{certificate().hex()} {stream.hex()} {MOMENT} {PURPOSE} 4294967295"
-    return rows("test_cert_rows", f"pieces -/{ones}/-/- yes check {asked}")
+    asked = f"{certificate().hex()} {stream.hex()} {MOMENT} {PURPOSE} 4294967295\n"
+    return "test_cert_rows", [], {"stdin": f"pieces -/{ones}/-/- yes check {asked}".encode()}
 
 
 # The larger count of each input, how it is made of a count, and the statuses that are expected.
@@ -147,22 +135,18 @@ INPUTS = {
     "large certificate": (64_000_000, lambda n: check(certificate(signature=bytes(n - 1))), {1}),
     "anchors": (20_000, lambda n: check(certificate(), certificate() * n), {0, 1}),
     "anchors of one name": (400, lambda n: check(hashed(400_000), certificate() * n), {1}),
-    "extensions": (100_000, lambda n: check(distinct(n)), {0, 1}),
-    "extensions listed": (100_000, lambda n: show(repeated(n)), {0}),
-    "relative names": (100_000, lambda n: named(members(["a"]) * n), {0}),
-    "empty relative names": (1_000_000, lambda n: named(tlv(0x31) * n), {0}),
-    "members of a relative name": (100_000, lambda n: named(members(map(str, range(n)))), {0}),
+    "extensions": (100_000, lambda n: check(extended(f"1.2.{it}" for it in range(n))), {0, 1}),
+    "extensions listed": (100_000, lambda n: show(extended(["1.2.1"] * n)), {0}),
+    "relative names": (100_000, lambda n: listed(members(["a"]) * n), {0}),
+    "empty relative names": (1_000_000, lambda n: listed(tlv(0x31) * n), {0}),
+    "members of a relative name": (100_000, lambda n: listed(members(map(str, range(n)))), {0}),
     "alternative names": (1_000_000, lambda n: check(nameless(n)), {0, 1}),
     "headers": (1_000_000, lambda n: check(headers(n)), {0, 1}),
-    "text of a root's types": (
-        40_000, lambda n: root_of(",", (f"1.2.{it}=x" for it in range(n))), {1}
-    ),
-    "text of members": (40_000, lambda n: root_of("+", (f"CN={it}" for it in range(n))), {1}),
-    "text of relative names": (50_000, lambda n: root_of(",", ["L=x"] * n), {1}),
-    "localities of an authority": (
-        130_000, lambda n: orders(ROOT, ",".join(["L="] * n), "CN=s"), {0}
-    ),
-    "countries of a subscriber": (130_000, lambda n: orders(ROOT, ",".join(["C="] * n)), {0}),
+    "text of a root's types": (40_000, lambda n: orders(named(n, "1.2.{}=x")), {1}),
+    "text of members": (40_000, lambda n: orders(named(n, "CN={}", "+")), {1}),
+    "text of relative names": (50_000, lambda n: orders(named(n, "L=x")), {1}),
+    "localities of an authority": (130_000, lambda n: orders(ROOT, named(n, "L="), "CN=s"), {0}),
+    "countries of a subscriber": (130_000, lambda n: orders(ROOT, named(n, "C=")), {0}),
     "orders": (10_000, lambda n: orders(ROOT, *["CN=s"] * (n - 1)), {0, 1}),
     "falling members": (10_000, falling, {0}),
     "octet by octet": (1_000_000, octet_by_octet, {0}),
@@ -170,11 +154,8 @@ INPUTS = {
 
 
 def run(programs, made):
-    """Returns the processor time, the memory and the status of a run.
-
-    /usr/bin/time measures the memory, since a child of this process would start with the memory of
-    this process.
-    """
+    """Returns the processor time, the memory and the status of a run. /usr/bin/time measures the
+    memory, since a child of this process would start with the memory of this process."""
     program, words, files = made
     with tempfile.TemporaryDirectory() as folder:
         for file, octets in files.items():

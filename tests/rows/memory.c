@@ -1,12 +1,10 @@
 /* Lets requests for memory of a program fail: to be loaded before the C library.
  *
- * Where the environment has REFUSE=N, the Nth request fails. Whether it came to that is told by the
- * file that REFUSED names: it is then there.
- *
- * Where it has EACH=FILE, the program is forked at each request: in the fork that request fails,
- * and the program goes on once the fork has ended. FILE gets a line for each, `NUMBER STATUS
- * OCTETS`, and behind it what that fork wrote to its standard output, of so many octets. The
- * standard input and output have to be files; other files that are open are read, not written. */
+ * The program is forked at each request: in the fork that request fails, and the program goes on
+ * once the fork has ended. The file that EACH names gets a line for each, `NUMBER STATUS OCTETS`,
+ * and behind it what that fork wrote to its standard output, of so many octets. The standard error
+ * output is part of it where both are one file. The standard input and output have to be files;
+ * other files that are open are read, not written. */
 #define _GNU_SOURCE
 #include <dlfcn.h>
 #include <fcntl.h>
@@ -14,18 +12,16 @@
 #include <stdio.h>
 #include <stdlib.h>
 #include <sys/mman.h>
+#include <sys/stat.h>
 #include <sys/wait.h>
 #include <unistd.h>
 
 static unsigned long made;
-static unsigned long refuse;
 static int each = -1;
 
 __attribute__((constructor)) static void begin(void) {
-    const char *number = getenv("REFUSE");
     const char *file = getenv("EACH");
     if (file) each = open(file, O_CREAT | O_WRONLY | O_APPEND | O_CLOEXEC, 0600);
-    refuse = number ? strtoul(number, NULL, 10) : 0;
     made = 0;
 }
 
@@ -47,6 +43,9 @@ static int part_file(int number) {
 static void part(int out) {
     char octets[4096];
     ssize_t count;
+    struct stat output, errors;
+    int is_one = !fstat(1, &output) && !fstat(2, &errors) && output.st_ino == errors.st_ino &&
+                 output.st_dev == errors.st_dev;
     if (!part_file(0)) _exit(99);
     for (int number = 3; number < 32; number++)
         if (number != out) part_file(number);
@@ -55,6 +54,7 @@ static void part(int out) {
         if (write(out, octets, count) != count) _exit(99);
     close(before);
     dup2(out, 1);
+    if (is_one) dup2(out, 2);
     close(out);
     alarm(20);
 }
@@ -86,11 +86,7 @@ static int is_refused_in_fork(void) {
 
 static int is_refused(void) {
     made += 1;
-    if (each >= 0) return is_refused_in_fork();
-    if (refuse == 0 || made != refuse) return 0;
-    const char *told = getenv("REFUSED");
-    if (told) close(open(told, O_CREAT | O_WRONLY, 0600));
-    return 1;
+    return each >= 0 && is_refused_in_fork();
 }
 
 void *malloc(size_t size) {

@@ -1,23 +1,19 @@
 #!/usr/bin/env python3
 """Lets each allocation of a program fail in turn.
 
-    tests/rows/memory.py PROGRAM STDIN [FROM [STEP]]    a program of test vectors and its questions
-    tests/rows/memory.py --run PROGRAM [ARGUMENT..]     a run of another program
+    memory.py PROGRAM STDIN [FROM [STEP]]    a program of test vectors and its questions
+    memory.py --run PROGRAM [ARGUMENT..]     a run of another program
 
-It asks each question in a run of its own, followed by the first question of the file, and lets each
-allocation of that run fail in turn. Each of the two answers has to be the one with ample memory, or
-report that memory ran out, if a failing output allows it; only one may report that. Otherwise the
-program has to exit with an error, after a prefix of the output with ample memory. The answer to
-`again` has to be the one with ample memory, or `memory`. FROM and STEP select every STEPth question
-from the FROMth on, so that several can run in parallel. Questions `cuts` and `fronts` of more than
-700 characters are left out, since their allocations grow with the square of their size. The other
-`cuts` come last, the shortest first, and are counted separately.
+It asks each question, from FROM on every STEPth, in a run of its own, followed by the first
+question of the file, and lets each allocation of that run fail in turn. Each of the two answers has
+to be the one with ample memory, or report that memory ran out, if a failing output allows it; only
+one may report that. Otherwise the program has to exit with an error, after a prefix of the output
+with ample memory. The answer to `again` has to be the one with ample memory, or `memory`. Questions
+`cuts` and `fronts` of more than 700 characters are left out, since their allocations grow with the
+square of their size. The other `cuts` come last, the shortest first, and are counted separately.
 
-Another program is run once for each allocation. It has to answer as with ample memory, or to print
-`memory` and exit with status 6, after a prefix of that output.
-
-It prints how many allocations there were, what came of them, and each other answer; the status is 0
-if there is none. It needs gcc, and isn't part of CI.
+Another program has to answer as with ample memory, or to print `memory` and exit with status 6,
+after a prefix of that output. The status is 0 if no answer is wrong. It needs gcc.
 """
 
 import collections
@@ -28,22 +24,31 @@ import subprocess
 import sys
 import tempfile
 
-sys.path.insert(0, str(pathlib.Path(__file__).resolve().parents[2] / "tools"))
+HERE = pathlib.Path(__file__).resolve().parent
+sys.path.insert(0, str(HERE.parents[1] / "tools"))
 
 import needs
 
-HERE = pathlib.Path(__file__).resolve().parent
 WANT = re.compile(r"\bmemory\b|OutOfMemory|NoMemory")
 
 
-def told(log):
-    """Yields the number of each allocation, the status of its run, and the output."""
-    at = 0
-    while at < len(log):
-        stop = log.index(b"\n", at)
-        number, status, size = map(int, log[at:stop].split())
-        yield number, status, log[stop + 1 : stop + 1 + size].decode()
+def log_of(folder, command, given, errors):
+    """Runs a command on an input. Returns the status and the output, and those of each run in which
+    an allocation failed."""
+    files = stdin, out, log = [pathlib.Path(folder, name) for name in ("in", "out", "log")]
+    for path in files:
+        path.write_text(given if path is stdin else "")
+    settings = {**os.environ, "LD_PRELOAD": f"{folder}/memory.so", "EACH": str(log)}
+    with open(stdin) as given, open(out, "a") as output:
+        streams = {"stdin": given, "stdout": output, "stderr": errors}
+        status = subprocess.run(command, **streams, env=settings).returncode
+    octets, at, refused = log.read_bytes(), 0, []
+    while at < len(octets):
+        stop = octets.index(b"\n", at)
+        _, ended, size = map(int, octets[at:stop].split())
         at = stop + 1 + size
+        refused.append((ended, octets[stop + 1 : at].decode()))
+    return (status, out.read_text()), refused
 
 
 def blocks_of(text, questions):
@@ -73,95 +78,71 @@ def is_cut_off(question, line):
     return any("device\n".startswith(text[size:]) for size in fronts)
 
 
-def kind_of(question, first, ample, status, out):
+def kind_of(questions, ample, status, out):
     """Returns what came of a failed allocation, as the summary counts it. None is wrong."""
     if status != 0:
-        ended = status < 128 and ample.startswith(out)
-        return "ended with an error" if ended else None
-    if out == ample:
+        return "ended with an error" if status < 128 and ample[1].startswith(out) else None
+    if out == ample[1]:
         return "as with ample memory"
-    whole = blocks_of(ample, [question, first])
+    whole = blocks_of(ample[1], questions)
     if whole:
-        parts = blocks_of(out, [question, first])
-        differ = [pair for pair in zip(whole, parts or []) if pair[0] != pair[1]]
+        both = zip(whole, blocks_of(out, questions) or [])
+        differ = [pair for pair in both if pair[0] != pair[1]]
         return "want of memory" if len(differ) == 1 and is_untold(*differ[0]) else None
-    lines, others = ample.split("\n"), out.split("\n")
+    lines, others = ample[1].split("\n"), out.split("\n")
     differ = [one for one, other in zip(others, lines) if one != other]
     if len(lines) != len(others) or len(differ) != 1:
         return None
-    if not WANT.search(differ[0]) and not is_cut_off(question, differ[0]):
-        return None
-    if re.match(r"(issue )?again ", question) and differ[0] != "memory":
+    is_told = WANT.search(differ[0]) or is_cut_off(questions[0], differ[0])
+    if not is_told or re.match(r"(issue )?again ", questions[0]) and differ[0] != "memory":
         return None
     return "want of memory"
 
 
-def log_of(program, question, first, refuse, folder):
-    """Returns the answers with ample memory, and those after each failed allocation."""
-    pathlib.Path(f"{folder}/in").write_text(f"{question}\n{first}\n")
-    log = pathlib.Path(f"{folder}/log")
-    log.unlink(missing_ok=True)
-    settings = {**os.environ, "LD_PRELOAD": refuse, "EACH": str(log)}
-    with open(f"{folder}/in") as given, open(f"{folder}/out", "w") as out:
-        quiet = subprocess.DEVNULL
-        run = subprocess.run([program], stdin=given, stdout=out, stderr=quiet, env=settings)
-    assert run.returncode == 0, question
-    ample = pathlib.Path(f"{folder}/out").read_text()
-    return ample, told(log.read_bytes()) if log.exists() else ()
+def kind_of_run(ample, status, out):
+    """Returns the same of a run of another program."""
+    if (status, out) == ample:
+        return "as with ample memory"
+    is_told = status == 6 and out.endswith("memory\n")
+    return "want of memory" if is_told and ample[1].startswith(out[: -len("memory\n")]) else None
 
 
-def is_right(questions, first, log_of_question):
-    """Prints what came of these questions, and returns whether all of it was right."""
-    counts, wrong = collections.Counter(questions=len(questions)), 0
-    for question in questions:
-        ample, refused = log_of_question(question)
-        for number, status, text in refused:
-            counts["requests"] += 1
-            kind = kind_of(question, first, ample, status, text)
-            counts[kind or "answers that are none of these"] += 1
-            if kind is None:
-                wrong += 1
-                print(f"{question[:200]}: request {number}: status {status}: {text[:300]!r}")
-    print(", ".join(f"{count} {kind}" for kind, count in counts.items()), flush=True)
-    return wrong == 0
+def is_right(runs):
+    """Prints what came of these runs, and returns whether all of it was right. A run has a name, a
+    log, and the function that says what came of a failed allocation."""
+    counts = collections.Counter()
+    for name, (ample, refused), kind in runs:
+        counts["questions"] += 1
+        for number, (status, text) in enumerate(refused, 1):
+            found = kind(ample, status, text) or "answers that are none of these"
+            counts.update(["requests", found])
+            if found.startswith("answers"):
+                print(f"{name[:200]}: request {number}: status {status}: {text[:300]!r}")
+    print(", ".join(f"{count} {what}" for what, count in counts.items()), flush=True)
+    return not counts["answers that are none of these"]
 
 
-def of_rows(refuse, folder, program, table, start="0", step="1"):
+def of_rows(folder, program, table, start="0", step="1"):
     """Returns whether the program answers rightly after each failed allocation of each question."""
     questions = [it for it in pathlib.Path(table).read_text().split("\n") if it and it[0] != "#"]
-    first = questions[0]
     asked = [it for it in questions if len(it) < 700 or not it.startswith(("cuts ", "fronts "))]
     cuts = sorted((it for it in asked if it.startswith("cuts ")), key=len)
-    asked = [it for it in asked if not it.startswith("cuts ")]
-    print(f"{len(questions) - len(asked) - len(cuts)} questions left out")
-    right, start, step = True, int(start), int(step)
-    for part in filter(None, (asked[start::step], cuts[start::step])):
-        right &= is_right(part, first, lambda it: log_of(program, it, first, refuse, folder))
-    return right
+    others = [it for it in asked if not it.startswith("cuts ")]
+    print(f"{len(questions) - len(asked)} questions left out")
+
+    def run(question):
+        pair = [question, questions[0]]
+        log = log_of(folder, [program], "".join(f"{it}\n" for it in pair), subprocess.DEVNULL)
+        assert log[0][0] == 0, question
+        return question, log, lambda *of: kind_of(pair, *of)
+
+    parts = (part[int(start) :: int(step)] for part in (others, cuts))
+    return all([is_right(map(run, part)) for part in parts if part])
 
 
-def of_run(refuse, folder, *command):
+def of_run(folder, *command):
     """Returns whether a program answers rightly after each failed allocation of a run."""
-    told, number, wrong = pathlib.Path(folder, "refused"), 0, 0
-
-    def run(number):
-        told.unlink(missing_ok=True)
-        settings = {"REFUSE": str(number), "REFUSED": str(told), "LD_PRELOAD": refuse}
-        ran = subprocess.run(command, capture_output=True, env={**os.environ, **settings})
-        return ran.returncode, ran.stdout, ran.stderr
-
-    ample = run(0)
-    while True:
-        status, out, err = run(number + 1)
-        if not told.exists():
-            break
-        number += 1
-        is_memory = (status, err) == (6, b"memory\n") and ample[1].startswith(out)
-        if (status, out, err) != ample and not is_memory:
-            wrong += 1
-            print(f"request {number}: status {status}, {err[:60].decode(errors='replace')}")
-    print(f"{number} requests refused, {wrong} answers that are neither")
-    return wrong == 0
+    return is_right([(command[0], log_of(folder, command, "", subprocess.STDOUT), kind_of_run)])
 
 
 def main(words):
@@ -172,10 +153,9 @@ def main(words):
         return 2
     needs.check(__file__)
     with tempfile.TemporaryDirectory() as folder:
-        refuse = f"{folder}/refuse.so"
-        build = ["gcc", "-O1", "-shared", "-fPIC", "-o", refuse, HERE / "memory.c", "-ldl"]
-        subprocess.run(build, check=True)
-        return not how(refuse, folder, *words)
+        build = ["gcc", "-O1", "-shared", "-fPIC", "-o", f"{folder}/memory.so", HERE / "memory.c"]
+        subprocess.run([*build, "-ldl"], check=True)
+        return not how(folder, *words)
 
 
 if __name__ == "__main__":

@@ -1,31 +1,27 @@
 #!/usr/bin/env python3
 """Sends the test vectors of `cert_tool` to `cert_tool serve`, and compares the answers.
 
-The vectors are in crates/cert_tool/rows.txt. One process answers all of them.
+    served.py TOOL      compares the answers of the program; the status is 1 if any differs
+    served.py           compares the stdin on which CI runs crates/cert_tool, and the stdout that it
+                        expects, with what is made of the vectors
+    served.py --write   writes both: the vectors, files with names that a hint quotes, a request
+                        without words, and a truncated one
 
-    served.py CERT_TOOL          compares the answers; the status is 1 if any differs
-    served.py --write            writes the stdin on which CI runs crates/cert_tool, and the stdout
-                                 that it expects: these vectors, files with names that a hint
-                                 quotes, a request without words, and a truncated one
-    served.py --check            compares both with what --write would write; the status is 1 if
-                                 they differ
-    served.py --unpack FOLDER    writes the files that the vectors name into FOLDER
-    served.py --pack FILE..      adds files to crates/cert_tool/files.txt for vectors that name them
-
-A vector is a line of words, each after one blank. The lines of the output follow, or its bytes in
-base 16 if it is no text; then the lines of the error output, each after `! `; then the status after
-`=`. Empty lines and lines that begin with `#` are skipped. The files that a vector names are sent
-with it. A vector that names a folder is left out, since a folder can't be sent.
+The vectors are in crates/cert_tool/rows.txt. A vector is a line of words, each after one blank. The
+lines of the output follow, or its bytes in base 16 if it is no text; then the lines of the error
+output, each after `! `; then the status after `=`. Empty lines and lines that begin with `#` are
+skipped. The files that a vector names are sent with it (data/ and files.txt). A vector that names a
+folder is left out, since a folder can't be sent.
 """
 
-import json
+import argparse
 import pathlib
 import re
 import sys
 
 sys.path.insert(0, str(pathlib.Path(__file__).resolve().parents[1]))
 
-from tool import CRATE, DATA, FILES, Tool, answer, files, frame, request
+from tool import CRATE, DATA, Tool, answer, files, frame, request
 
 # Names of files, and the shell word that a hint prints for each, or `None` if it prints none.
 HINTED = [
@@ -36,26 +32,6 @@ HINTED = [
     ("\x1b[2J", None),
     ("\u202e", None),
 ]
-
-
-def pack(paths):
-    """Adds files to files.txt. A file with the same name is replaced."""
-    head = FILES.read_text().splitlines()[:3]
-    lines = {line.split(" ", 1)[0]: line for line in FILES.read_text().splitlines()[3:]}
-    for path in map(pathlib.Path, paths):
-        octets = path.read_bytes()
-        is_text = path.suffix == ".txt" and octets.isascii()
-        content = f"text {json.dumps(octets.decode())}" if is_text else f"hex {octets.hex()}"
-        lines[path.name] = f"{path.name} {content}"
-    FILES.write_text("".join(f"{line}\n" for line in [*head, *map(lines.get, sorted(lines))]))
-
-
-def unpack(folder):
-    """Writes all files into a folder."""
-    folder = pathlib.Path(folder)
-    folder.mkdir(parents=True, exist_ok=True)
-    for name, octets in files().items():
-        (folder / name).write_bytes(octets)
 
 
 def text(lines):
@@ -114,21 +90,8 @@ def run_on():
     return {"stdin": b"".join(requests), "stdout": b"".join(answers)}
 
 
-def write():
-    for name, octets in run_on().items():
-        (CRATE / name).write_bytes(octets)
-
-
-def differ():
-    """Returns whether a file of the crate differs from what would be written."""
-    found = [name for name, it in run_on().items() if (CRATE / name).read_bytes() != it]
-    for name in found:
-        print(f"crates/cert_tool/{name} isn't what tests/rows/served.py --write writes")
-    return bool(found)
-
-
 def compare(program):
-    """Returns whether a program answers any vector differently."""
+    """Returns how many vectors a program answers differently."""
     tool, asked, wrong = Tool(program), list(rows()), 0
     for words, sent, wanted in asked:
         told = tool.ask(words, sent)
@@ -138,24 +101,24 @@ def compare(program):
     if (end := tool.end()) != (0, b"", b""):
         sys.exit(f"at the end of the input: {end!r}")
     print(f"{len(asked)} rows, {wrong} differ")
-    return wrong > 0
+    return wrong
 
 
-def main(words):
-    match words:
-        case ["--pack", *paths]:
-            return pack(paths)
-        case ["--unpack", folder]:
-            return unpack(folder)
-        case ["--write"]:
-            return write()
-        case ["--check"]:
-            return differ()
-        case [program] if not program.startswith("-"):
-            return compare(program)
-    print(__doc__, file=sys.stderr)
-    return 2
+def main():
+    parser = argparse.ArgumentParser(description=__doc__.splitlines()[0])
+    parser.add_argument("tool", metavar="TOOL", nargs="?")
+    parser.add_argument("--write", action="store_true", help="write stdin and stdout of the crate")
+    given = parser.parse_args()
+    if given.tool:
+        return compare(given.tool) > 0
+    differ = {name: it for name, it in run_on().items() if (CRATE / name).read_bytes() != it}
+    for name, octets in differ.items():
+        if given.write:
+            (CRATE / name).write_bytes(octets)
+        else:
+            print(f"crates/cert_tool/{name} isn't what tests/rows/served.py --write writes")
+    return bool(differ) and not given.write
 
 
 if __name__ == "__main__":
-    sys.exit(main(sys.argv[1:]))
+    sys.exit(main())

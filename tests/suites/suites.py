@@ -1,27 +1,30 @@
 #!/usr/bin/env python3
 """Has cert_tool validate the chains of six other projects' tests, and writes SUITES.md.
 
-    suites.py CERT_TOOL [FOLDER [PAGE]]
+    suites.py CERT_TOOL [FOLDER]
 
 CERT_TOOL is the program. If it is in a folder out/, the page says that `rt` proved and built it.
-The script fetches Debian's sources of OpenSSL, GnuTLS, mbedTLS, Botan, Heimdal and Go into FOLDER,
-some 400 MB, and a second run uses them again. It needs apt, and isn't part of CI.
+The script fetches Debian's sources of six projects into FOLDER, some 400 MB, and a second run uses
+them again. It writes the tables of the page anew, and keeps its text.
 
-Each reader below reads the sources of one project, and yields its tests. A test that it can't parse
-would be lost in silence, so there is a minimum for each project. Since cert_tool builds no paths,
-this script tries each path from the end-entity certificate to an anchor, by names; a chain is
-trusted if one of its paths is. examples/answer.py verifies the signatures. If a suite expects
-another result, the difference gets a class: of a trusted chain, what the suite tests and cert_tool
-doesn't; of a rejected chain, the rule that it breaks. The status is 1 if a chain is trusted that
-has to be rejected by a rule of cert_tool, or if a difference has no class.
+Each reader below yields the tests of one project. A test that it can't parse would be lost in
+silence, so there is a minimum for each project. Since cert_tool builds no paths, this script tries
+each path from the end-entity certificate to an anchor, by names; a chain is trusted if one of its
+paths is. examples/answer.py verifies the signatures. If a suite expects another result, the
+difference gets a class: of a trusted chain, what the suite tests and cert_tool doesn't; of a
+rejected chain, the rule that it breaks. The status is 1 if a chain is trusted that has to be
+rejected by a rule of cert_tool, or if a difference has no class.
 """
 
 import argparse
+import base64
 import collections
+import contextlib
 import datetime
+import functools
+import json
 import pathlib
 import re
-import ssl
 import subprocess
 import sys
 import tempfile
@@ -37,7 +40,7 @@ needs.check(__file__)
 import answer
 from cryptography import x509
 
-from der import values
+from der import moment, values
 from tool import Tool
 
 warnings.simplefilter("ignore")  # of cryptography, on serial numbers that it will refuse
@@ -48,7 +51,6 @@ warnings.simplefilter("ignore")  # of cryptography, on serial numbers that it wi
 Test = collections.namedtuple("Test", "suite name end between anchors moment purpose good why")
 
 PEM = re.compile(r"-----BEGIN (?:X509 |TRUSTED )?CERTIFICATE-----(.*?)-----END", re.S)
-HEADER, FOOTER = "-----BEGIN CERTIFICATE-----\n", "\n-----END CERTIFICATE-----\n"
 PURPOSES = {
     "sslserver": "serverAuth", "sslclient": "clientAuth", "codesign": "codeSigning",
     "timestampsign": "timeStamping", "GNUTLS_KP_TLS_WWW_SERVER": "serverAuth",
@@ -57,28 +59,31 @@ PURPOSES = {
 }
 
 
-def seconds(year, month=1, day=1):
-    return int(datetime.datetime(year, month, day, tzinfo=datetime.timezone.utc).timestamp())
+def seconds(year, month=1, day=1, *time):
+    date = datetime.datetime(year, month, day, *time, tzinfo=datetime.timezone.utc)
+    return int(date.timestamp())
 
 
 def first_value(octets):
-    """Returns the first value (X.690 8.1). OpenSSL's trusted certificates have another one."""
-    size, start = octets[1], 2
-    if size >= 128:
-        start += size - 128
-        size = int.from_bytes(octets[2:start], "big")
-    return octets[: start + size]
+    """Returns the first value, or a truncated one. OpenSSL's trusted certificates have another."""
+    try:
+        return next(values(octets))[2]
+    except ValueError:
+        return octets
 
 
 def of_text(text):
     """Returns the certificates in a text in PEM."""
-    found = (ssl.PEM_cert_to_DER_cert(HEADER + body.strip() + FOOTER) for body in PEM.findall(text))
-    return [first_value(octets) for octets in found]
+    return [first_value(base64.b64decode(body)) for body in PEM.findall(text)]
 
 
 def of_file(path):
     octets = path.read_bytes()
     return of_text(octets.decode("latin-1")) if b"-----BEGIN" in octets else [first_value(octets)]
+
+
+def of_files(folder, names):
+    return [it for name in names for it in of_file(folder / name)]
 
 
 def openssl(top):
@@ -91,14 +96,11 @@ def openssl(top):
 
     def names(words):
         words = re.sub(r"qw\(([^)]*)\)", r"\1", words)
-        return re.findall(r"[\w.+-]+", words)
-
-    def files(words):
-        return [it for name in names(words) for it in of_file(certs / f"{name}.pem")]
+        return [f"{it}.pem" for it in re.findall(r"[\w.+-]+", words)]
 
     for refused, end, purpose, anchors, between, options, name in call.findall(text):
-        files_of = [certs / f"{it}.pem" for it in names(f"{end} {anchors} {between}")]
-        if "@" in options or not all(path.exists() for path in files_of):
+        found = names(f"{end} {anchors} {between}")
+        if "@" in options or not all((certs / it).exists() for it in found):
             continue  # the same by another provider, or a certificate that isn't there
         options = re.findall(r'"([^"]*)"', options)
         moment = options[options.index("-attime") + 1] if "-attime" in options else seconds(2025)
@@ -106,8 +108,9 @@ def openssl(top):
         more = [it for it in options if it.startswith("-") and it != "-attime"]
         trust = re.search(r"[+-](serverAuth|clientAuth|anyEKU)", anchors)
         why = f"{name} {' '.join(more)} {'with trust settings' if trust else ''}"
-        yield Test("OpenSSL", f"{name}: {end}", files(end)[0], files(between), files(anchors),
-                   int(moment), PURPOSES.get(purpose), good, why)
+        end, between, anchors = (of_files(certs, names(it)) for it in (end, between, anchors))
+        yield Test("OpenSSL", f"{name}: {found[0]}", end[0], between, anchors, int(moment),
+                   PURPOSES.get(purpose), good, why)
 
 
 def gnutls(top):
@@ -143,14 +146,10 @@ def mbedtls(top):
     tests = top / "tests"
     lines = (tests / "suites" / "test_suite_x509parse.data").read_text().splitlines()
 
-    def files(words):
-        return [it for word in words.split() for it in of_file(tests / word)]
-
     title = ""
     for before, line in zip(["", *lines], lines):
         title = line if not before.strip() else title
-        words = re.findall(r'"[^"]*"|[^:]+', line)
-        words = [word.strip('"') for word in words]
+        words = [word.strip('"') for word in re.findall(r'"[^"]*"|[^:]+', line)]
         if words[:1] == ["x509_verify"] and words[-1] == "NULL":
             end, anchors, _, host, result, flags = words[1:7]
             why = f"{title}: {flags} {'' if host == 'NULL' else 'host name'}"
@@ -159,11 +158,10 @@ def mbedtls(top):
             why = f"{title}: {flags}"
         else:
             continue
-        if not all((tests / it).exists() for it in [*end.split(), *anchors.split()]):
-            continue
-        end = files(end)
-        yield Test("mbedTLS", title, end[0], end[1:], files(anchors), seconds(2023, 4), None,
-                   result == "0", why)
+        if all((tests / it).exists() for it in f"{end} {anchors}".split()):
+            (end, *between), anchors = (of_files(tests, it.split()) for it in (end, anchors))
+            yield Test("mbedTLS", title, end, between, anchors, seconds(2023, 4), None,
+                       result == "0", why)
 
 
 def botan(top):
@@ -176,9 +174,9 @@ def botan(top):
                 yield name, words, words == "Verified" or words.startswith("Warning")
 
     for name, why, good in expected("x509test"):
-        certs = of_file(data / "x509test" / name)
+        end, *between = of_file(data / "x509test" / name)
         anchors = of_file(data / "x509test" / "root.pem")
-        yield Test("Botan, x509test", name, certs[0], certs[1:], anchors, seconds(2016, 10, 21),
+        yield Test("Botan, x509test", name, end, between, anchors, seconds(2016, 10, 21),
                    "serverAuth", good, why)
     for folder, moment, sign in (
         ("nist", seconds(2018, 4), ":"), ("extended", seconds(2017, 9), ":"),
@@ -195,27 +193,23 @@ def botan(top):
             lists = any((data / folder / name).rglob("*.crl"))
             if not ends or not roots or (folder == "pss_certs" and lists):
                 continue  # a certificate, or a list of what is revoked, by itself
-            others = [it for path in paths if path not in ends + roots for it in of_file(path)]
-            anchors = [it for path in roots for it in of_file(path)]
-            revoked = " CRL" if lists else ""
-            yield Test(f"Botan, {folder}", name, of_file(ends[0])[0], others, anchors, moment, None,
-                       good, f"{why} {name}{revoked}")
+            between = of_files(data, [path for path in paths if path not in ends + roots])
+            yield Test(f"Botan, {folder}", name, of_file(ends[0])[0], between,
+                       of_files(data, roots), moment, None, good,
+                       f"{why} {name}{' CRL' if lists else ''}")
 
 
 def heimdal(top):
     """Reads PKITS, whose certificates are in a folder beside the sources."""
     certs = top.parent / "pkits" / "certs"
     names = {path.name: of_file(path)[0] for path in sorted(certs.glob("*.crt"))}
-    anchor = names.pop("TrustAnchorRootCertificate.crt")
-    between = list(names.values())
-    why = ""
+    anchor, why = names.pop("TrustAnchorRootCertificate.crt"), ""
     for line in (top / "lib" / "hx509" / "data" / "nist-data2").read_text().splitlines():
-        if line.startswith("#"):
-            why = line.lstrip("# ")
-            continue
+        why = line.lstrip("# ") if line.startswith("#") else why
         status, _, name = line.partition(" ")
         if name.strip() in names:
-            yield Test("Heimdal, PKITS", name.strip(), names[name.strip()], between, [anchor],
+            end, between = names[name.strip()], list(names.values())
+            yield Test("Heimdal, PKITS", name.strip(), end, between, [anchor],
                        seconds(2008, 5, 20), None, status == "0", why)
 
 
@@ -231,19 +225,22 @@ def go(top):
             words = re.findall(r"\w+", fields.get(field, "").removeprefix("[]string"))
             return [it for word in words for it in given.get(word, [])]
 
-        end = given[fields["leaf"]]
         usage = re.findall(r"ExtKeyUsage\w+", fields.get("keyUsages", "").partition("{")[2])
         purpose = PURPOSES.get(usage[0]) if usage else "serverAuth"
-        name = fields.get("name", fields["leaf"]).strip('"')
         why = fields.get("errorCallback", "")
-        yield Test("Go", name, end[0], listed("intermediates"), listed("roots"),
-                   int(fields["currentTime"]), purpose, not why, why)
+        yield Test("Go", fields.get("name", fields["leaf"]).strip('"'), listed("leaf")[0],
+                   listed("intermediates"), listed("roots"), int(fields["currentTime"]), purpose,
+                   not why, why)
 
 
 READERS = {
     "openssl": (openssl, 150), "gnutls28": (gnutls, 80), "mbedtls": (mbedtls, 130),
     "botan": (botan, 250), "heimdal": (heimdal, 140), "golang-1.19": (go, 25),
 }
+
+
+def packed(folder, package):
+    return next(folder.glob(f"{package}_*.orig.tar.?z"))
 
 
 def fetch(folder):
@@ -260,19 +257,15 @@ def fetch(folder):
     def run(*words):
         subprocess.run(words, cwd=folder, check=True)
 
-    if not (folder / "updated").exists():
+    missing = [package for package in READERS if not (folder / package).is_dir()]
+    if missing:
         run(*apt, "update")
-        (folder / "updated").touch()
-    for package in READERS:
-        if not (folder / package).is_dir():
-            run(*apt, "source", "--download-only", "--tar-only", package)
-            [packed] = folder.glob(f"{package}_*.orig.tar.?z")
-            new = folder / f"{package}.new"
-            new.mkdir(exist_ok=True)
-            run("tar", "-xf", packed, "-C", new, "--strip-components=1")
-            version = packed.name.partition("_")[2].partition(".orig")[0]
-            (new / "of_debian").write_text(f"{version}\n")
-            new.rename(folder / package)
+        run(*apt, "source", "--download-only", "--tar-only", *missing)
+    for package in missing:
+        new = folder / f"{package}.new"
+        new.mkdir(exist_ok=True)
+        run("tar", "-xf", packed(folder, package), "-C", new, "--strip-components=1")
+        new.rename(folder / package)
     if not (folder / "pkits").is_dir():
         run("unzip", "-q", "heimdal/lib/hx509/data/PKITS_data.zip", "-d", "pkits")
 
@@ -281,50 +274,22 @@ def read_all(folder):
     """Returns all tests, and the version of each project."""
     tests, versions = [], {}
     for package, (reader, least) in READERS.items():
-        top = folder / package
-        found = list(reader(top))
+        found = list(reader(folder / package))
         if len(found) < least:
             raise ValueError(f"{package}: {len(found)} chains are read, {least} at least are there")
-        versions[found[0].suite.partition(",")[0]] = (top / "of_debian").read_text().strip()
+        version = packed(folder, package).name.partition("_")[2].partition(".orig")[0]
+        versions[found[0].suite.partition(",")[0]] = version
         tests += found
     return tests, versions
 
 
-def certificates(folder):
-    """Yields each certificate in a file of the sources, once for each project."""
-    for package in READERS:
-        seen = set()
-        paths = [*(folder / package).rglob("*"), *([] if package != "heimdal" else
-                                                   (folder / "pkits").rglob("*.crt"))]
-        for path in sorted(paths):
-            if path.suffix in (".pem", ".crt", ".cer", ".der", ".h", ".go") and path.is_file():
-                try:
-                    found = of_file(path)
-                except (ValueError, IndexError):
-                    continue
-                for octets in found:
-                    if octets not in seen and octets[:1] == b"0":
-                        seen.add(octets)
-                        yield package, octets
-
-
-def is_read_by_python(octets):
-    """Returns whether Python's cryptography reads a certificate, its names and extensions."""
-    try:
-        certificate = x509.load_der_x509_certificate(octets)
-        return bool((certificate.subject, certificate.issuer, certificate.extensions))
-    except Exception:  # there are several kinds
-        return False
-
-
 def purposes(octets):
     """Returns the purposes that a certificate lists."""
-    try:
+    with contextlib.suppress(Exception):  # none is listed, or it isn't read
         extensions = x509.load_der_x509_certificate(octets).extensions
         usage = extensions.get_extension_for_class(x509.ExtendedKeyUsage).value
         return [one.dotted_string for one in usage]
-    except Exception:  # none is listed, or it isn't read
-        return []
+    return []
 
 
 def purpose_of(way):
@@ -337,7 +302,6 @@ def purpose_of(way):
 # The verdicts of cert_tool.
 
 WAYS, DEPTH = 40, 10
-ANCHORS = "anchors"
 
 # The words of suites for reasons that are rules of cert_tool. It is an error if such a chain is
 # trusted, unless an anchor breaks the rule.
@@ -350,51 +314,32 @@ WITHIN = re.compile(
     r"keyCertSign|pathLen|unrecognized critical|[Uu]nknown critical"
 )
 
-# What suites test and cert_tool doesn't: the class, the words of suites, and why.
-LOOSER = [
-    ("revocation", r"CRL|cRLSign|[Rr]evo[ck]|REVOKED|on hold|can not be determined",
-     "no revocation is judged"),
-    ("host names", r"host name|does not match provided name|expectHostnameError",
-     "no names of hosts are compared"),
-    ("policies", r"[Pp]olic", "policies that aren't critical are passed over"),
-    ("name constraints", r"[Nn]ame ?[Cc]onstraint|type confusion|Too many names",
-     "name constraints that aren't critical are passed over"),
-    ("strength", r"auth level|INSECURE_ALGORITHM|BAD_(MD|PK|KEY)|too weak|verify_depth|"
-     r"rsa pss: chain with (sha1|diff)", "no strength of keys and hashes is asked for, no depth"),
-    ("trust settings", r"with trust settings",
-     "what OpenSSL writes behind a certificate of how far it is trusted is no part of it"),
-    ("settings", r"x509_strict|VERIFY_DO_NOT_ALLOW_SAME", "what is refused by a setting alone"),
-    ("uses of the end's key", r"does not allow the requested usage|explicit curve leaf",
-     "what the key of the last certificate is, and which uses it has, is left to who uses it"),
-    ("versions", r"with version that does not allow it",
-     "extensions in a certificate that isn't of version 3 are told by `explain`, and judged"),
-    ("TLS features", r"tls features", "the TLS features of RFC 7633 aren't judged"),
-    (ANCHORS, r"(?!)", "of an anchor that is a certificate the name and the key count alone: as "
-     "the first of the chain it breaks a rule"),
-]
-
-# Why chains are rejected that suites trust: the class, the rule or fault that cert_tool reports,
-# and the explanation.
-STRICTER = [
-    ("critical extensions", r"UnweighedCritical", "a critical extension that isn't judged refuses "
-     "its certificate: name constraints, policies and mappings among them (RFC 5280 4.2)"),
-    ("ends that are anchors", r"WrongIssuer.*is an anchor itself",
-     "a chain begins below an anchor, and an anchor signs the first certificate"),
-    ("prepared names", r"WrongIssuer.*names that differ", "names are compared by their octets: no "
-     "case, blank or type of string is put aside"),
-    ("algorithms", r"WrongSignature.*no answer", "`examples/answer.py` verifies no signature of "
-     "that algorithm, key or form"),
-    ("authorities", r"NotAuthority", "an authority has basicConstraints with cA, and keyCertSign "
-     "where uses are listed: version 1 has none, a proxy's signer isn't one"),
-    ("purposes", r"AgainstPurpose", "purposes that are listed count in each certificate"),
-    ("dates", r"(Expired|NotYetValid)", "dates count in each certificate that is handed over"),
-    ("encodings", r"(fault|MalformedExtension|anchors)", "what isn't DER isn't read"),
-    ("two extensions", r"DuplicateExtension", "no extension may stand twice (RFC 5280 4.2)"),
-    ("path lengths", r"PathTooLong", "path lengths count each authority that isn't self-issued"),
-]
+# What suites test and cert_tool doesn't: the class, and the words of suites.
+LOOSER = {
+    "revocation": r"CRL|cRLSign|[Rr]evo[ck]|REVOKED|on hold|can not be determined",
+    "host names": r"host name|does not match provided name|expectHostnameError",
+    "policies": r"[Pp]olic",
+    "name constraints": r"[Nn]ame ?[Cc]onstraint|type confusion|Too many names",
+    "strength": r"auth level|INSECURE_ALGORITHM|BAD_(MD|PK|KEY)|too weak|verify_depth|"
+                r"rsa pss: chain with (sha1|diff)",
+    "trust settings": r"with trust settings",
+    "settings": r"x509_strict|VERIFY_DO_NOT_ALLOW_SAME",
+    "uses of the end's key": r"does not allow the requested usage|explicit curve leaf",
+    "versions": r"with version that does not allow it",
+    "anchors": r"(?!)",
+}
+# Why chains are rejected that suites trust: the class, and what cert_tool reports.
+STRICTER = {
+    "critical extensions": r"UnweighedCritical",
+    "ends that are anchors": r"WrongIssuer.*is an anchor itself",
+    "prepared names": r"WrongIssuer.*names that differ",
+    "algorithms": r"WrongSignature.*no answer",
+    "authorities": r"NotAuthority",
+    "encodings": r"(fault|MalformedExtension|anchors)",
+}
 
 
-def text_of(tag, contents):
+def text_of(tag, contents, _):
     """Returns the text of an attribute's value, without upper case and repeated blanks."""
     coding = {0x1E: "utf-16-be", 0x1C: "utf-32-be", 0x0C: "utf-8"}.get(tag, "latin-1")
     return " ".join(contents.decode(coding, "replace").casefold().split())
@@ -404,15 +349,13 @@ def name_of(contents):
     """Prepares a name for comparison, as loosely as RFC 5280 7.1 allows."""
     found = []
     for _, rdn, _ in values(contents):
-        members = (tuple(values(member))[:2] for _, member, _ in values(rdn))
-        found.append(frozenset((kind[1], text_of(*value[:2])) for kind, value in members))
+        members = [list(values(member)) for _, member, _ in values(rdn)]
+        found.append(frozenset((kind[1], text_of(*value)) for kind, value in members))
     return tuple(found)
 
 
 class Certificate:
     """A certificate in DER, with its names and its dates in seconds if they can be read."""
-
-    known = {}
 
     def __init__(self, octets):
         self.octets = octets
@@ -421,269 +364,170 @@ class Certificate:
             signed = next(values(next(values(octets))[1]))[1]
             fields = [contents for tag, contents, _ in values(signed) if tag != 0xA0]
             self.issuer, self.subject = name_of(fields[2]), name_of(fields[4])
-            self.dates = [moment_of(*date[:2]) for date in values(fields[3])]
+            dates = (moment(*date[:2]) for date in values(fields[3]))
+            self.dates = [seconds(*map(int, re.findall(r"^....|..", date))) for date in dates]
         except (IndexError, ValueError, StopIteration):
             pass
 
-    @classmethod
-    def of(cls, octets):
-        return cls.known.setdefault(octets, cls(octets))
+
+certificate = functools.cache(Certificate)
 
 
-def moment_of(tag, contents):
-    text = contents.decode("ascii")
-    if tag == 0x17:
-        text = ("19" if text[0] >= "5" else "20") + text
-    date = datetime.datetime.strptime(text[:14], "%Y%m%d%H%M%S")
-    return int(date.replace(tzinfo=datetime.timezone.utc).timestamp())
+def is_anchored(test, way):
+    """Returns whether a path begins below an anchor, by names."""
+    return any(way[0].issuer == certificate(octets).subject for octets in test.anchors)
 
 
 def ways(test):
     """Returns each path from an anchor to the end-entity certificate, or else the longest one."""
-    anchors = [Certificate.of(octets) for octets in test.anchors]
-    between = [Certificate.of(octets) for octets in dict.fromkeys(test.between)]
-    end = Certificate.of(test.end)
+    between = [certificate(octets) for octets in dict.fromkeys(test.between)]
+    end = certificate(test.end)
     found, longest, todo = [], [end], [[end]]
     while todo and len(found) < WAYS:
         way = todo.pop()
-        longest = way if len(way) > len(longest) else longest
-        if any(way[0].issuer == anchor.subject for anchor in anchors):
+        longest = max(longest, way, key=len)
+        if is_anchored(test, way):
             found.append(way)
         if len(way) < DEPTH:
             todo += [[it, *way] for it in between if it.subject == way[0].issuer and it not in way]
     return found or [longest]
 
 
-class Judge:
-    """Runs cert_tool, and examples/answer.py for signatures."""
+@functools.cache
+def refusal(line):
+    """Returns why examples/answer.py doesn't answer a question with yes, or None."""
+    return answer.refusal(line.encode())
 
-    def __init__(self, program):
-        self.tool, self.why = Tool(program), {}
 
-    def lines(self, words, inputs):
-        """Returns the lines of the output, and then those of the error output."""
-        _, output, errors = self.tool.ask(words, inputs)
-        return (output + errors).decode().splitlines()
+def terms(tool, test, way):
+    """Returns the arguments and the files of a chain, and why questions have no answer."""
+    moment = test.moment
+    if moment is None:  # one at which all are valid, where there is one
+        moment = max([it.dates[0] for it in way if it.dates] or [0])
+    inputs = {"anchors": b"".join(test.anchors), "chain": b"".join(it.octets for it in way)}
+    asked = tool.ask(["questions", "--anchors", "anchors", "chain"], inputs)[1].decode()
+    answers = [line for line in asked.splitlines() if refusal(line) is None]
+    inputs["answers"] = "".join(f"{line}\n" for line in answers).encode()
+    words = ["--anchors", "anchors", "--answers", "answers", "--at", str(max(moment, 0))]
+    purpose = test.purpose or purpose_of([it.octets for it in way])
+    refused = "; ".join(filter(None, map(refusal, asked.splitlines())))
+    return [*words, "--purpose", purpose, "chain"], inputs, refused
 
-    def answers(self, lines):
-        """Returns the questions that are answered with yes, and why the others aren't."""
-        kept, refused = [], []
-        for line in lines:
-            if line not in self.why:
-                self.why[line] = answer.refusal(line.encode())
-            if self.why[line] is None:
-                kept.append(line)
-            else:
-                refused.append(self.why[line])
-        return kept, refused
 
-    def terms(self, test, way):
-        """Returns the arguments and the files of a chain, and why questions have no answer."""
-        moment = test.moment
-        if moment is None:  # one at which all are valid, where there is one
-            moment = max([it.dates[0] for it in way if it.dates] or [0])
-        inputs = {"anchors": b"".join(test.anchors), "chain": b"".join(it.octets for it in way)}
-        asked = self.tool.ask(["questions", "--anchors", "anchors", "chain"], inputs)[1]
-        kept, refused = self.answers(asked.decode().splitlines())
-        inputs["answers"] = "".join(f"{line}\n" for line in kept).encode()
-        words = ["--anchors", "anchors", "--answers", "answers", "--at", str(max(moment, 0))]
-        purpose = test.purpose or purpose_of([it.octets for it in way])
-        return [*words, "--purpose", purpose, "chain"], inputs, refused
+def broken(tool, words, inputs, place):
+    """Returns the rules that a certificate of a chain breaks, and how."""
+    found = tool.ask(["explain", "chain", "--json", *words], inputs)[1]
+    for finding in json.loads(found)["findings"] if found else []:
+        if finding.get("certificate") == place and "findings" in finding:
+            return {it["rule"]: it["reason"] for it in finding["findings"] if "rule" in it}
+    return {}
 
-    def verdict(self, test, way):
-        """Returns the line of `verify`, and what explains it."""
-        words, inputs, refused = self.terms(test, way)
-        line = (self.lines(["verify", *words], inputs) or ["nothing"])[0]
-        if line.startswith("refused"):
-            place, rule = line.split()[1:3]
-            said = self.explained(place, words, inputs)
-            line += ": " + next((it for it in said if it.startswith(rule)), "")
-            line += " " + "; ".join(refused) if rule == "WrongSignature" else ""
-        return line
 
-    def broken(self, test, way):
-        """Returns the rules that the first certificate of a chain breaks."""
-        words, inputs, _ = self.terms(test, way)
-        return {it.partition(":")[0] for it in self.explained("0", words, inputs)}
-
-    def explained(self, place, words, inputs):
-        """Returns the rules that a certificate of the chain breaks, as `explain chain` has them."""
-        lines = self.lines(["explain", "chain", *words], inputs)
-        heads = [at for at, it in enumerate(lines) if it.startswith(f"certificate {place}")]
-        found = []
-        for line in lines[heads[0] + 1 :] if heads else []:
-            if not line.startswith(" "):
-                break
-            found.append(line.strip())
-        return [it for it in found if re.match(r"[A-Z]\w+:", it)]
+def verdict(tool, test, way):
+    """Returns the line of `verify`, and what explains it."""
+    words, inputs, refused = terms(tool, test, way)
+    _, output, errors = tool.ask(["verify", *words], inputs)
+    line = (output + errors).decode().partition("\n")[0]
+    if line.startswith("refused"):
+        place, rule = line.split()[1:3]
+        line += f": {rule}: {broken(tool, words, inputs, int(place)).get(rule, '')}"
+        line += f" {refused}" if rule == "WrongSignature" else ""
+    return line
 
 
 Judged = collections.namedtuple("Judged", "test line kind")
 
 
-def judged(judge, test):
-    """Runs a test. Returns whether the verdict agrees, or the class of the difference."""
-    lines = []
-    tried = ways(test)
+def judged(tool, test):
+    """Runs a test. Returns the verdict, and whether it agrees or the class of the difference."""
+    lines, tried = [], ways(test)
     for way in tried:
-        lines.append(judge.verdict(test, way))
+        lines.append(verdict(tool, test, way))
         if lines[-1].startswith("trusted"):
-            break
-    trusted = lines[-1].startswith("trusted")
-    line = lines[-1] if trusted else lines[0]
-    if trusted == test.good:
+            agrees = "agrees" if test.good else looser(tool, test, way)
+            return Judged(test, lines[-1], agrees)
+    line, way = lines[0], tried[0]
+    if not test.good:
         return Judged(test, line, "agrees")
-    if trusted:
-        return Judged(test, line, looser(judge, test, tried[len(lines) - 1]))
     if "WrongIssuer" in line and test.end in test.anchors:
         line += " the end is an anchor itself"
-    elif "WrongIssuer" in line and is_linked(test, tried[0]):
+    elif "WrongIssuer" in line and is_anchored(test, way) and all(
+        below.issuer == it.subject for it, below in zip(way, way[1:])
+    ):
         line += " names that differ in their octets alone"
     said = re.sub(r"^refused \d+ ", "", line)
-    return Judged(test, line, next((it[0] for it in STRICTER if re.match(it[1], said)), None))
+    return Judged(test, line, next((it for it in STRICTER if re.match(STRICTER[it], said)), None))
 
 
-def is_linked(test, way):
-    """Returns whether a path goes from an anchor to the end, by prepared names."""
-    anchors = [Certificate.of(octets) for octets in test.anchors]
-    above = [any(way[0].issuer == anchor.subject for anchor in anchors)]
-    return all(above + [below.issuer == it.subject for it, below in zip(way, way[1:])])
-
-
-def looser(judge, test, way):
+def looser(tool, test, way):
     """Returns the class of a chain that is trusted and that its suite rejects, or None."""
     if not WITHIN.search(test.why):
-        found = next((name for name, words, _ in LOOSER if re.search(words, test.why)), None)
-        if found:
-            return found
-    for octets in test.anchors:
-        anchor = Certificate.of(octets)
+        for kind, words in LOOSER.items():
+            if re.search(words, test.why):
+                return kind
+    for anchor in map(certificate, test.anchors):
         if anchor.subject == way[0].issuer:
-            broken = judge.broken(test, [anchor, *way]) - {"WrongIssuer", "WrongSignature"}
-            if broken:
-                return ANCHORS
+            words, inputs, _ = terms(tool, test, [anchor, *way])
+            if broken(tool, words, inputs, 0).keys() - {"WrongIssuer", "WrongSignature"}:
+                return "anchors"
     return None
 
 
-Reading = collections.namedtuple("Reading", "package fault openssl python")
+# The page.
 
 
-def reading(judge, package, octets):
-    """Returns why cert_tool can't read a certificate, and whether two other programs can."""
-    if judge.tool.ask_of(octets, "describe", "certificate")[0] == 0:
-        return Reading(package, None, None, None)
-    said = judge.lines(["explain", "certificate", "file"], {"file": octets})
-    fault = re.sub(r"^octet \d+: ", "", (said or ["nothing"])[0])
-    openssl = ["openssl", "x509", "-inform", "DER", "-noout"]
-    others = subprocess.run(openssl, input=octets, capture_output=True).returncode == 0
-    return Reading(package, fault, others, is_read_by_python(octets))
+def table(heads, rows):
+    first, *others = [f"| {' | '.join(map(str, it))} |".replace("  ", " ") for it in [heads, *rows]]
+    return "\n".join([first, "|---" * len(heads) + "|", *others, ""])
 
 
-HEAD = """\
-# Chains of other projects' tests
-
-Written by `tests/suites/suites.py`, which fetches the sources of six projects as Debian has them.
-`cert_tool` judges the chains of their tests, each way up from the end to an anchor, signatures by
-`examples/answer.py` (DATE, TOOL).
-
-A suite expects what its own project's reader does, with its settings: a difference is no fault of
-either, but has to have a class. The script fails where a chain is trusted that has to be refused
-for a reason within the [rules](../../docs/tables/REFUSALS.md), or where a difference has no class.
-
-- [By suite](#by-suite), [trusted, and refused by the suite](#trusted-and-refused-by-the-suite),
-  [refused, and trusted by the suite](#refused-and-trusted-by-the-suite)
-- [Deviations that other readers take](#deviations-that-other-readers-take)
-"""
-
-READ = """\
-## Deviations that other readers take
-
-ALL encodings lie in files of these sources where certificates do. `cert_tool` reads READ, and
-NONE are read neither by it, nor by OpenSSL (`openssl x509`), nor by Python's `cryptography`. The
-others, by the first fault that `cert_tool explain` tells, and how many of them the two read:
-
-| Fault | Certificates | OpenSSL reads | cryptography reads | Of |
-|---|---|---|---|---|"""
-
-
-def page_of_readings(readings):
-    """Returns the part of the page on certificates that only other programs read."""
-    by_fault = collections.defaultdict(list)
-    for one in readings:
-        if one.fault and (one.openssl or one.python):
-            by_fault[re.sub(r"\d+ octets", "N octets", one.fault)].append(one)
-    read = sum(not one.fault for one in readings)
-    none = len(readings) - read - sum(map(len, by_fault.values()))
-    counts = {"ALL": len(readings), "READ": read, "NONE": none}
-    out = [re.sub(r"\b(ALL|READ|NONE)\b", lambda it: f"{counts[it[1]]:,}", READ)]
-    for fault, found in sorted(by_fault.items(), key=lambda it: (-len(it[1]), it[0])):
-        which = collections.Counter(one.package for one in found)
-        where = ", ".join(f"{package}: {count}" for package, count in which.items())
-        openssl, python = (sum(getattr(it, name) for it in found) for name in ("openssl", "python"))
-        said = fault.replace("|", "\\|").replace("<", "\\<")
-        out.append(f"| {said} | {len(found)} | {openssl} | {python} | {where} |")
-    return [*out, ""]
-
-
-def page(all_judged, readings, versions, tool):
-    today = datetime.date.today().isoformat()
-    out = [HEAD.replace("DATE", today).replace("TOOL", tool), "## By suite", ""]
-    out += ["| Suite | Version | Chains | To be trusted | Agree | Trusted, refused by the suite | "
-            "Refused, trusted by the suite |", "|---|---|---|---|---|---|---|"]
-    by_suite = collections.defaultdict(list)
+def tables(all_judged, versions):
+    """Yields the tables of the page: by suite, then by class."""
+    counts, total = collections.defaultdict(collections.Counter), collections.Counter()
     for one in all_judged:
-        by_suite[one.test.suite].append(one)
-    total = collections.Counter()
-    for suite, found in by_suite.items():
-        counts = [len(found), sum(it.test.good for it in found),
-                  sum(it.kind == "agrees" for it in found)]
-        differ = [it for it in found if it.kind != "agrees"]
-        counts += [sum(not it.test.good for it in differ), sum(it.test.good for it in differ)]
-        total.update(dict(enumerate(counts)))
-        version = versions[suite.partition(",")[0]]
-        out.append(f"| {suite} | {version} | " + " | ".join(map(str, counts)) + " |")
-    out += ["| all | | " + " | ".join(str(total[at]) for at in range(5)) + " |", ""]
-    for heading, classes, good in (
-        ("Trusted, and refused by the suite", LOOSER, False),
-        ("Refused, and trusted by the suite", STRICTER, True),
-    ):
-        out += [f"## {heading}", "", "| Class | Why | Chains | Which |", "|---|---|---|---|"]
-        for name, _, why in classes:
-            found = [it for it in all_judged if it.kind == name and it.test.good == good]
-            if found:
-                which = collections.Counter(it.test.suite for it in found)
-                where = ", ".join(f"{suite}: {count}" for suite, count in which.items())
-                out.append(f"| {name} | {why} | {len(found)} | {where} |")
-        out.append("")
-    return "\n".join(out + page_of_readings(readings))
+        agrees, good = one.kind == "agrees", one.test.good
+        found = [True, good, agrees, not agrees and not good, not agrees and good]
+        counts[one.test.suite].update(dict(enumerate(found)))
+        total.update(dict(enumerate(found)))
+    heads = ["Suite", "Version", "Chains", "To be trusted", "Agree",
+             "Trusted, rejected by the suite", "Rejected, trusted by the suite"]
+    rows = [[suite, versions[suite.partition(",")[0]], *found.values()]
+            for suite, found in counts.items()]
+    yield table(heads, [*rows, ["all", "", *total.values()]])
+    for classes, good in (LOOSER, False), (STRICTER, True):
+        rows = []
+        for kind in classes:
+            found = [it.test.suite for it in all_judged if it.kind == kind and it.test.good == good]
+            which = (f"{suite}: {count}" for suite, count in collections.Counter(found).items())
+            rows += [[kind, len(found), ", ".join(which)]] if found else []
+        yield table(["Class", "Chains", "Which"], rows)
 
 
 def main():
     parser = argparse.ArgumentParser(description=__doc__.splitlines()[0])
     parser.add_argument("program", metavar="CERT_TOOL", type=pathlib.Path)
     parser.add_argument("folder", metavar="FOLDER", nargs="?", type=pathlib.Path)
-    parser.add_argument("page", metavar="PAGE", nargs="?", type=pathlib.Path,
-                        default=HERE / "SUITES.md")
     given = parser.parse_args()
     program = given.program.resolve()
-    judge = Judge(program)
+    tool = Tool(program)
     with tempfile.TemporaryDirectory() as room:
         folder = (given.folder or pathlib.Path(room)).resolve()
         fetch(folder)
         tests, versions = read_all(folder)
-        all_judged = [judged(judge, test) for test in tests]
-        readings = [reading(judge, *it) for it in certificates(folder)]
-    [version] = judge.lines(["--version"], {})
-    version += ", as `rt` proves and builds it" if program.parent.name == "out" else ", unproved"
+        all_judged = [judged(tool, test) for test in tests]
     for one in all_judged:
         if one.kind != "agrees":
-            verdict = "trusted" if one.line.startswith("trusted") else one.line
-            print(f"{one.test.suite}: {one.test.name}: {one.kind or 'NO CLASS'}: {verdict}"
+            print(f"{one.test.suite}: {one.test.name}: {one.kind or 'NO CLASS'}: {one.line}"
                   f" [{one.test.why.strip()}]")
     missing = sum(one.kind is None for one in all_judged)
-    given.page.write_text(page(all_judged, readings, versions, version))
+    version = tool.ask(["--version"], {})[1].decode().strip()
+    version += ", as `rt` proves and builds it" if program.parent.name == "out" else ", unproved"
+    told, page = tables(all_judged, versions), HERE / "SUITES.md"
+    text = re.sub(r"(^\|.*\n)+", lambda _: next(told), page.read_text(), flags=re.M)
+    when = f"({datetime.date.today()}, {version})"
+    page.write_text(re.sub(r"\(\d{4}-\d\d-\d\d, [^)]*\)", lambda _: when, text, count=1))
     print(f"{len(all_judged)} chains, {missing} differences without a class")
-    return bool(missing)
+    return missing > 0
 
 
 if __name__ == "__main__":
