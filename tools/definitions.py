@@ -1,7 +1,7 @@
 #!/usr/bin/env python3
 """Which definitions a reader has to trust, and for which claim.
 
-    tools/definitions.py            writes docs/tables/DEFINITIONS.md from the sources
+    tools/definitions.py            writes the numbers and tables of docs/tables/DEFINITIONS.md
     tools/definitions.py --check    writes nothing; its status is 1 where that page is out of date,
                                     or an import names no definition
     tools/definitions.py CALL..     each definition that the contracts of these calls rest on
@@ -12,7 +12,7 @@ the name of a definition counts as that one, so the list may be too long by such
 too short but for the kit's `std/specs`, which isn't counted.
 """
 
-import argparse
+import itertools
 import re
 import sys
 import textwrap
@@ -20,58 +20,7 @@ import textwrap
 import sources
 
 PAGE = sources.TOP / "docs" / "tables" / "DEFINITIONS.md"
-
-# What is claimed most often, in the words of a user, and the call whose contract says it.
-CLAIMS = [
-    ("the text of an identifier is read", "const_oid::ObjectIdentifier::new"),
-    ("the octets of an identifier are read", "const_oid::ObjectIdentifier::from_bytes_sized"),
-    ("a value is read from DER", "der_core_coding::FromDer::from_der"),
-    ("a value is written as DER", "der_core_coding::ToDer::to_der"),
-    ("two encodings are compared", "der_core::DerOrd::der_cmp"),
-    ("a certificate is read", "x509_cert_certificates::CertificateInner::from_der"),
-    ("the text of a name is read", "x509_cert_names::Name::from_str"),
-    ("an extension is looked up and read", "x509_cert_parts::get_extension"),
-    ("a certificate is made",
-     "x509_cert_builders::Builder::build x509_cert_builders::CertificateBuilder"),
-    ("a listing is written", "cert_desk_listing::run_show"),
-    ("a chain is judged", "cert_desk_checking::check"),
-    ("a stream is read and judged",
-     "cert_desk_checking::check cert_desk_bundle::Bundle::new cert_desk_bundle::Bundle::feed "
-     "cert_desk_bundle::Bundle::finish cert_desk_bundle::Bundle::read_from"),
-    ("a run of `check` is told", "cert_desk_checking::run_check"),
-    ("a chain is judged by answers from outside", "cert_tool::run_verify"),
-    ("what a verifier has to answer is written", "cert_tool::run_questions"),
-    ("a chain is issued", "cert_desk::issue"),
-    ("an issued chain is trusted", "cert_desk::Issued::audit"),
-]
-
-HEAD = """\
-# The definitions to trust
-
-Written by `tools/definitions.py` from the sources; change those, and run it again.
-
-CONTENTS
-
-A proof says that a function meets its contract. What the contract means is said by the definitions
-that it cites, so these have to be read and judged, with the kit's `std/specs`, which aren't
-counted here, and nothing else of a proof. They stand in `crates/CRATE/specs/`. For one call, the
-script prints each definition that its contract rests on, with its file and line:
-
-```sh
-tools/definitions.py Issued::audit
-```
-
-Of a proof that a definition names, its statement counts and has to be read, and no more of it.
-
-A contract that is generic, as that of `from_der`, speaks of what its type states: its shape and its
-plain value, which stand in the `impl` of the type and cite the grammar of its crate. Of such ghost
-members the first table counts those through which a contract sees its arguments: what a trait
-states that the clauses name (`J.answers`), and the `impl Model` of each type of the signature. What
-the types of a crate state is counted with the crate.
-
-Lines are those of the file. Which calls cite a definition, and which section of a standard it
-stands for, the [reference](../../tools/README.md#sources-and-documents) says of each.
-"""
+PROOFS = "## Proofs that stand among the definitions"
 
 
 class Book:
@@ -109,9 +58,12 @@ class Book:
             types |= {call.owner} if "self" in types else set()
             found |= {member for member in models if member.owner in types}
             for name in set(re.findall(r"\b(?:Self|[A-Z])\.(\w+)", call.contract)):
-                of_name = [one for one in told if one.name == name and one.crate in below]
-                found |= {one for one in of_name if one.owner in types} or set(of_name)
+                named = {it for it in told if it.name == f"ghost {name}" and it.crate in below}
+                found |= {it for it in named if it.owner in types} or named
         return found
+
+
+# The page.
 
 
 def filled(line, indent=""):
@@ -120,64 +72,44 @@ def filled(line, indent=""):
     return textwrap.fill(line, sources.WIDTH, **how)
 
 
-def told_many(items, one, many):
-    return f"{len(items)} {one if len(items) == 1 else many}"
+def told_many(items, noun):
+    return f"{len(items)} {noun}{'s' * (len(items) != 1)}"
 
 
-def first_sentence(file):
-    """The first sentence of the comment at the head of a file."""
-    text = sources.head_of(file.lines, "--").replace("\n", " ")
-    text = text.replace("|", "\\|").replace("<", "\\<")
-    return (text.partition(". ")[0] if ". " in text else text).rstrip(".:")
+def claim(book, words, names):
+    """A row of the table of claims, with the numbers of the calls that it names."""
+    calls = [call for name in re.findall("`(.+?)`", names) for call in book.find(name)]
+    kept = book.rests_on(calls)
+    lines, files = sum(one.lines for one in kept), len({one.key[:2] for one in kept})
+    members = len(book.members_of(calls))
+    return f"| {words} | {names} | {len(kept)} | {lines} | {files} | {members} |"
 
 
-def claims(book):
-    """The table of claims."""
-    yield "| Claim | Call | Definitions | Lines | Files | Ghost members |"
-    yield "|---|---|---|---|---|---|"
-    for words, names in CLAIMS:
-        calls = [call for name in names.split() for call in book.find(name)]
-        kept = book.rests_on(calls)
-        crate, _, name = names.split()[0].partition("::")
-        more = [name.split("::") for name in names.split()[1:]]
-        told = f"`{name}` (`{crate}`)"
-        if more and len(more[0]) > 2:
-            told += f", with `{more[0][1]}::{{{', '.join(part[-1] for part in more)}}}`"
-        lines, files = sum(one.lines for one in kept), len({one.key[:2] for one in kept})
-        members = len(book.members_of(calls))
-        yield f"| {words} | {told} | {len(kept)} | {lines} | {files} | {members} |"
+def file_row(file):
+    """The row of a file in the table of its crate, or None if a reader has nothing to read there.
+
+    It has the first sentence of the comment at the head of the file.
+    """
+    count = sum(one.sort != "proof" for one in file.definitions.values())
+    head = itertools.takewhile(lambda line: line.startswith("--"), file.lines)
+    text = " ".join(line[2:].strip() for line in head).replace("|", "\\|").replace("<", "\\<")
+    text = text.partition(". ")[0].rstrip(".:")
+    link = f"[`{file.name}`](../../crates/{file.crate}/specs/{file.name}.antt)"
+    return f"| {link} | {len(file.lines)} | {count} | {text} |" if count else None
 
 
-def files_of(book, crate):
-    """The files of a crate's definitions, but for those that only pass on or open others."""
-    files = (file for file in book.files.values() if file.crate == crate)
-    return [file for file in files if file.name not in ("Lib", "Opened")]
-
-
-def definitions_in(file):
-    """The definitions of a file that a reader has to read."""
-    return [one for one in file.definitions.values() if one.sort != "proof"]
-
-
-def section(book, crate):
-    """The files of a crate, with the number of their definitions and what each says."""
-    own = files_of(book, crate)
-    here = [file for file in own if definitions_in(file)]
+def section(book, crate, own):
+    """The part of the page that is of a crate, given its files of definitions."""
+    rows = {file: row for file in own if (row := file_row(file))}
     stated = [call for call in book.ghosts if call.crate == crate]
     size = sum(len(call.text.splitlines()) for call in stated)
-    total = f"{told_many(here, 'file', 'files')}, {sum(len(file.lines) for file in here)} lines"
-    members = f"{told_many(stated, 'ghost member', 'ghost members')} of impls, {size} lines"
-    yield from (f"## `{crate}`", "")
-    yield from (filled("; ".join([total] * bool(here) + [members] * bool(stated)) + "."), "")
-    if here:
-        yield from ("| File | Lines | Definitions | What it says |", "|---|---|---|---|")
-    for file in here:
-        link = f"[`{file.name}`](../../crates/{crate}/specs/{file.name}.antt)"
-        count = len(definitions_in(file))
-        yield f"| {link} | {len(file.lines)} | {count} | {first_sentence(file)} |"
-    passing = ", ".join(f"`{it.name}`" for it in own if it.passed_on and it not in here)
-    yield from ("", filled(f"Passed on from the crates below: {passing}.")) if passing else ()
-    yield ""
+    total = f"{told_many(rows, 'file')}, {sum(len(file.lines) for file in rows)} lines"
+    members = f"{told_many(stated, 'ghost member')} of impls, {size} lines"
+    yield filled("; ".join([total] * bool(rows) + [members] * bool(stated)) + ".")
+    head = "| File | Lines | Definitions | What it says |\n|---|---|---|---|\n"
+    yield head + "\n".join(rows.values()) if rows else ""
+    passing = ", ".join(f"`{it.name}`" for it in own if it.passed_on and it not in rows)
+    yield filled(f"Passed on from the crates below: {passing}.") if passing else ""
 
 
 def proofs(book):
@@ -194,20 +126,29 @@ def proofs(book):
         f"`proofs/` of its own crate; {serving} serve these"
     )
     left = [proof for proof in found if proof.key not in behind_them]
-    yield from (filled(told + ("; others belong into `proofs/`:" if left else ".")), "")
-    yield from (f"- `{it.crate}/specs/{it.file}`: `{it.name}` ({it.line})." for it in left)
+    yield filled(told + ("; others belong into `proofs/`:" if left else "."))
+    yield "\n".join(f"- `{it.crate}/specs/{it.file}`: `{it.name}` ({it.line})." for it in left)
 
 
 def page(book):
-    crates = [it for it in sources.closure(sources.dependencies()) if files_of(book, it)]
-    links = ", ".join(f"[`{crate}`](#{crate})" for crate in crates)
-    heads = ["What to read for which claim", "Proofs that stand among the definitions"]
-    claim, proof = (f"- [{it}](#{it.lower().replace(' ', '-')})" for it in heads)
-    contents = "\n".join([claim, filled(f"- By crate: {links}", "  "), proof])
-    lines = [HEAD.replace("CONTENTS", contents), f"## {heads[0]}", "", *claims(book), ""]
-    lines += [line for crate in crates for line in section(book, crate)]
-    lines += [f"## {heads[1]}", "", *proofs(book)]
-    return "\n".join(lines).rstrip() + "\n"
+    """The page: its text and the claims as they are, the rest anew from the sources.
+
+    The files that only pass on or open others are no part of it.
+    """
+    crates = {}
+    for crate in sources.closure(sources.dependencies()):
+        files = [file for file in book.files.values() if file.crate == crate]
+        crates[crate] = [file for file in files if file.name not in ("Lib", "Opened")]
+    crates = {crate: own for crate, own in crates.items() if own}
+    links = filled(f"- By crate: {', '.join(f'[`{it}`](#{it})' for it in crates)}", "  ")
+    text = PAGE.read_text().partition("\n\n## `")[0]
+    text = re.sub(r"^- By crate: .*?$(?=\n- )", links, text, flags=re.M | re.S)
+    text = re.sub(r"^\| (.+) \| (`.+`) \|.*$", lambda row: claim(book, *row.groups()), text,
+                  flags=re.M)
+    parts = [text]
+    for crate, own in crates.items():
+        parts += [f"## `{crate}`", *section(book, crate, own)]
+    return "\n\n".join(filter(None, [*parts, PROOFS, *proofs(book)])) + "\n"
 
 
 def told(book, names):
@@ -218,8 +159,7 @@ def told(book, names):
         print(f"no call {name}", file=sys.stderr)
     for call in calls:
         print(f"{call.title}: crates/{call.crate}/src/{call.path}:{call.line}")
-    cited = {key for call in calls for key in call.cites}
-    kept = book.rests_on(calls)
+    cited, kept = {key for call in calls for key in call.cites}, book.rests_on(calls)
     for one in kept:
         mark = "cited" if one.key in cited else "below"
         print(f"  {mark} {one.name}: crates/{one.crate}/specs/{one.file}.antt:{one.line}")
@@ -227,24 +167,22 @@ def told(book, names):
         name = member.name.removeprefix("ghost ")
         place = f"crates/{member.crate}/src/{member.path}:{member.line}"
         print(f"  ghost {member.owner}.{name}: {place}")
-    print(f"{told_many(kept, 'definition', 'definitions')}, {sum(one.lines for one in kept)} lines")
+    print(f"{told_many(kept, 'definition')}, {sum(one.lines for one in kept)} lines")
     return bool(unknown)
 
 
 def check(book):
     """Whether an import names no definition, or the page is out of date."""
-    lost = list(sources.lost(book.files, book.code))
-    if lost:
-        print("imports that name no definition:", *lost, sep="\n", file=sys.stderr)
-    elif PAGE.read_text() != page(book):
-        lost.append("docs/tables/DEFINITIONS.md is out of date: run tools/definitions.py")
-        print(*lost, file=sys.stderr)
-    return bool(lost)
+    faults = [f"{it}: an import that names no definition"
+              for it in sources.lost(book.files, book.code)]
+    if not faults and PAGE.read_text() != page(book):
+        faults = ["docs/tables/DEFINITIONS.md is out of date: run tools/definitions.py"]
+    print(*faults, sep="\n", end="\n" if faults else "", file=sys.stderr)
+    return bool(faults)
 
 
 def main():
-    form = argparse.RawDescriptionHelpFormatter
-    words = argparse.ArgumentParser(description=__doc__, formatter_class=form)
+    words = sources.arguments(__doc__)
     words.add_argument("--check", action="store_true")
     words.add_argument("calls", nargs="*", metavar="CALL")
     words = words.parse_args()

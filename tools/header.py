@@ -21,19 +21,15 @@ NUMBERS = {
     "WD_RULE_": ("cert_desk_rules/specs/Judging.antt", "number"),
     "WD_ORDER_": ("cert_desk_issuing_c/specs/Reasons.antt", "reason_number"),
 }
-STATUSES = {f"WD_{name}" for name in (
-    "DONE", "REFUSED", "FAULTY", "EMPTY", "ARGUMENTS", "NO_ROOM", "MEMORY"
-)}
+# The statuses are the variants of a type of Rust without numbers.
+STATUSES = {f"WD_{it}" for it in "DONE REFUSED FAULTY EMPTY ARGUMENTS NO_ROOM MEMORY".split()}
 # Each enumeration of Rust and Python, and the prefix of its names in C.
 ENUMERATIONS = {
-    "Status": "WD_",
-    "Rule": "WD_",
-    "ChainFault": "WD_CHAIN_",
-    "FaultKind": "WD_FAULT_",
+    "Status": "WD_", "Rule": "WD_", "ChainFault": "WD_CHAIN_", "FaultKind": "WD_FAULT_",
     "OrderFault": "WD_ORDER_",
 }
 # The types of the sources, as C has them.
-TYPES = {"u32": "uint32_t", "u64": "uint64_t", "usize": "size_t", "bool": "bool"}
+TYPES = {"u8": "uint8_t", "u32": "uint32_t", "u64": "uint64_t", "usize": "size_t", "bool": "bool"}
 
 
 def constant(name):
@@ -42,8 +38,10 @@ def constant(name):
 
 
 def type_in_c(kind):
-    """The type in C of a number, or of a struct."""
-    return TYPES.get(kind) or constant(kind).lower()
+    """The type in C of a number, of a struct, or of a pointer to one."""
+    pointer, _, of = kind.strip().rpartition(" ")
+    of = TYPES.get(of) or constant(of).lower()
+    return {"": of, "*const": f"const {of} *", "*mut": f"{of} *", "&mut": f"{of} *"}[pointer]
 
 
 def text_of(path):
@@ -51,76 +49,60 @@ def text_of(path):
     return re.sub(r"//.*", "", path.read_text())
 
 
-# The sources.
-
-
 def parameters(text):
-    """The parameters in C of those of a call."""
+    """The parameters in C of those of a call, each with its type."""
     for name, kind in re.findall(r"(\w+): ([^,]+)", text):
         kind = kind.strip()
         if kind in ("&[u8]", "&mut [u8]"):
-            yield f"{'' if 'mut' in kind else 'const '}uint8_t *{name}"
-            yield f"size_t {name}_len"
-        elif kind.startswith("&mut "):
-            yield f"{type_in_c(kind[5:])} *{name}"
+            yield f"{'' if 'mut' in kind else 'const '}uint8_t *", name
+            yield "size_t", f"{name}_len"
         elif kind != "Global":
-            yield f"{TYPES[kind]} {name}"
+            yield type_in_c(kind), name
 
 
 def of_sources():
     """The calls, the structs and the numbers of the sources, as the header has to have them."""
-    paths = [path for crate in ("cert_desk_c", "cert_desk_issuing_c")
-             for path in (CRATES / crate / "src").glob("*.rt")]
-    text = "".join(map(text_of, paths))
+    text = "".join(text_of(path) for crate in ("cert_desk_c", "cert_desk_issuing_c")
+                   for path in (CRATES / crate / "src").glob("*.rt"))
     call = r'pub extern "C" fn (\w+)\(([^)]*)\)(?: -> (\w+))?'
     calls = {name: (TYPES[result], list(parameters(inside)))
              for name, inside, result in re.findall(call, text)}
     shape = r"#\[repr\(C\)\]\s*(?:#\[derive\([^)]*\)\]\s*)?pub struct (\w+) \{([^}]*)\}"
-    structs = {}
-    for name, inside in re.findall(shape, text):
-        fields = re.findall(r"pub (\w+): (\w+)", inside)
-        structs[type_in_c(name)] = [f"{type_in_c(kind)} {field}" for field, kind in fields]
-    numbers = dict(pair for prefix in NUMBERS for pair in numbers_of(prefix, *NUMBERS[prefix]))
+    structs = {type_in_c(name): list(parameters(inside))
+               for name, inside in re.findall(shape, text)}
+    numbers = {}
+    for prefix, (file, function) in NUMBERS.items():
+        clause = rf"^{function} \(?\w+\.(\w+)[^=\n]*= (\d+)$"
+        for name, number in re.findall(clause, (CRATES / file).read_text(), re.M):
+            # The header's name for a status whose own name says what it is to a program.
+            name = "NO_ROOM" if (prefix, name) == ("WD_", "Device") else constant(name)
+            numbers[("WD_" if prefix == "WD_RULE_" else prefix) + name] = int(number)
     return calls, structs, numbers
-
-
-def numbers_of(prefix, file, function):
-    """The numbers that a definition gives, by their names in C."""
-    text = (CRATES / file).read_text()
-    for name, number in re.findall(rf"^{function} \(?\w+\.(\w+)[^=\n]*= (\d+)$", text, re.M):
-        # The header's name for a status whose own name says what it is to a program.
-        name = "NO_ROOM" if (prefix, name) == ("WD_", "Device") else constant(name)
-        yield ("WD_" if prefix == "WD_RULE_" else prefix) + name, int(number)
-
-
-# The header, and those who call it.
 
 
 def of_header():
     """The calls, the structs and the numbers of the header."""
     text = re.sub(r"/\*.*?\*/", " ", (BINDINGS / "wurstdrape.h").read_text(), flags=re.S)
     text = " ".join(text.split())
-    calls = {name: (result, [it.strip() for it in inside.split(",")])
+
+    def named(inside):
+        found = re.findall(r"([^,;]+?[ *])(\w+)[,;]", inside)
+        return [(kind.strip(), name) for kind, name in found]
+
+    calls = {name: (result, named(f"{inside},"))
              for result, name, inside in re.findall(r"(\w+) (wd_\w+)\(([^)]*)\);", text)}
-    structs = {name: [it.strip() for it in inside.split(";") if it.strip()]
+    structs = {name: named(inside)
                for inside, name in re.findall(r"typedef struct \{([^}]*)\} (\w+);", text)}
     numbers = {name: int(number) for name, number in re.findall(r"(WD_\w+) = (\d+)", text)}
     return calls, structs, numbers
 
 
-def type_of_rust(kind):
-    """A type of the Rust crate, as C has it."""
-    pointer, _, of = kind.rpartition(" ")
-    kind = "uint8_t" if of == "u8" else type_in_c(of)
-    return {"": kind, "*const": f"const {kind} *", "*mut": f"{kind} *"}[pointer]
-
-
-def calls_of_rust():
+def of_rust():
     """The types of each call that the Rust crate declares."""
     text = text_of(BINDINGS / "rust/src/calls.rs")
     for name, inside, result in re.findall(r"fn (wd_\w+)\(([^)]*)\) -> (\w+);", text):
         kinds = re.findall(r"\w+: ([^,]+)", inside)
-        yield name, (TYPES[result], [type_of_rust(kind.strip()) for kind in kinds])
+        yield name, (TYPES[result], list(map(type_in_c, kinds)))
 
 
 def numbers_in(path, head, row):
@@ -132,31 +114,23 @@ def numbers_in(path, head, row):
             yield prefix + constant(variant), int(number)
 
 
-def differences(what, source, told):
-    for name in sorted(source.keys() | told.keys()):
-        if source.get(name) != told.get(name):
-            yield f"{what} {name}: source {source.get(name)}, header {told.get(name)}"
-
-
 def main():
-    found, header = [], of_header()
-    for what, source, told in zip(("call", "struct", "number"), of_sources(), header):
-        found += differences(what, source, told)
-    calls, structs, numbers = header
-    types = {name: (result, [re.sub(r"\w+$", "", it).rstrip() for it in inside])
+    calls, structs, numbers = header = of_header()
+    types = {name: (result, [kind for kind, _ in inside])
              for name, (result, inside) in calls.items()}
-    found += differences("call in Rust", types, dict(calls_of_rust()))
-    rust = numbers_in("rust/src/numbers.rs", r"pub enum {} \{{([^}}]*)\}}", r"(\w+) = (\d+),")
-    # whose statuses are the variants of a type without numbers
     others = {name: number for name, number in numbers.items() if name not in STATUSES}
-    found += differences("number in Rust", others, dict(rust))
+    rust = numbers_in("rust/src/numbers.rs", r"pub enum {} \{{([^}}]*)\}}", r"(\w+) = (\d+),")
     head = r"class {}\(enum.IntEnum\):((?:\n(?:    .*)?)*)"
     python = numbers_in("python/src/wurstdrape/__init__.py", head, r"    (\w+) = (\d+)")
-    found += differences("number in Python", numbers, dict(python))
-    print(*found, sep="\n", end="\n" if found else "")
+    found = [*zip(("call", "struct", "number"), of_sources(), header),
+             ("call in Rust", types, dict(of_rust())),
+             ("number in Rust", others, dict(rust)), ("number in Python", numbers, dict(python))]
+    told = [f"{what} {name}: source {source.get(name)}, header {told.get(name)}"
+            for what, source, told in found for name in sorted(source.keys() | told.keys())
+            if source.get(name) != told.get(name)]
     counts = f"{len(calls)} calls, {len(structs)} structs, {len(numbers)} numbers"
-    print(f"{counts}; {len(found)} differ")
-    return bool(found)
+    print(*told, f"{counts}; {len(told)} differ", sep="\n")
+    return bool(told)
 
 
 if __name__ == "__main__":

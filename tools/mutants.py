@@ -17,8 +17,8 @@ variable SIDE_BY_SIDE says. A mutant with a line `vectors:` is one that the prov
 program that this line names answers its test vectors. The status is 0 if all were rejected.
 """
 
-import argparse
 import concurrent.futures
+import dataclasses
 import datetime
 import os
 import pathlib
@@ -28,13 +28,17 @@ import subprocess
 import sys
 import tempfile
 
+import release
 import sources
 from sources import TOP
 
 PAGE = TOP / "tests" / "MUTANTS.md"
 TABLES = "\n## What was rejected, and when\n"
 UNTRIED = "not tried yet"
-KEY = re.compile(r"(## |file: |vectors: |rejected: |[-+])?(.*)")
+MUTANT = re.compile(r"^## (.*?)(?:: (.*))?\n((?:(?!## ).*\n)*)", re.M)
+# What stands below such a head: a key, a change, or another line.
+WITHIN = re.compile(
+    r"^(?:(file|vectors|rejected): (.*)\n|((?:-.*\n)+)((?:\+.*\n)*)|(.+)\n)", re.M)
 LINE = re.compile(r"(?:note: )?(?:\./)?(?P<path>(?:src|proofs)/\S+?):(?P<line>\d+):\d+: ")
 HEADER = re.compile(r"(?:unsafe )?(?:impl\b|(?:pub(?:\(\w+\))? )?trait\b)")
 # What a proof file reports if a name is gone, which says nothing about a contract.
@@ -46,13 +50,26 @@ UNPROVED = re.compile(
 )
 
 
+@dataclasses.dataclass(eq=False)
 class Mutant:
-    """A mutant: its crate, its name, what it does, and a file, an old and a new text per change."""
+    """A mutant: its file, its name, what it does, a file, an old and a new text per change, and the
+    values of its keys."""
 
-    def __init__(self, path, name, text):
-        self.path, self.crate, self.name, self.text = path, path.parent.name, name, text
-        self.title = f"{self.crate}/{name}"
-        self.changes, self.vectors, self.rejected, self.line = [], None, None, None
+    path: pathlib.Path
+    name: str
+    text: str
+    changes: list = dataclasses.field(default_factory=list)
+    file: str = None
+    vectors: str = None
+    rejected: str = None
+
+    @property
+    def crate(self):
+        return self.path.parent.name
+
+    @property
+    def title(self):
+        return f"{self.crate}/{self.name}"
 
     def changed(self, crate):
         """Returns the new text of each file, and the file and the line of each change."""
@@ -75,35 +92,19 @@ class Mutant:
 
 def parse(path):
     """Returns the mutants of a file `mutants.txt`."""
-    found, file, is_old = [], None, False
-    for number, line in enumerate(path.read_text().splitlines()):
-        key, value = KEY.match(line).groups()
-        if key == "## ":
-            name, _, text = value.partition(": ")
-            found.append(Mutant(path, name, text))
-            file = None
-        elif not found or not line:
-            pass
-        elif key == "-" and file:
-            if not is_old:
-                found[-1].changes.append((file, [], []))
-            found[-1].changes[-1][1].append(value)
-        elif key == "+" and found[-1].changes:
-            found[-1].changes[-1][2].append(value)
-        elif key == "file: ":
-            file = value
-        elif key == "vectors: ":
-            found[-1].vectors = value
-        elif key == "rejected: ":
-            found[-1].rejected, found[-1].line = value, number
-        elif file is None:
-            found[-1].text += f" {line}"
-        else:
-            sys.exit(f"{path.relative_to(TOP)}:{number + 1}: this line belongs to no mutant")
-        is_old = key == "-"
-    for mutant in found:
-        mutant.changes = [(file, *map("\n".join, texts)) for file, *texts in mutant.changes]
-    return found
+    for name, says, below in MUTANT.findall(path.read_text()):
+        mutant = Mutant(path, name, says)
+        for key, value, old, new, other in WITHIN.findall(below):
+            if key:
+                setattr(mutant, key, value)
+            elif old and mutant.file:
+                texts = (re.sub("^.", "", it, flags=re.M).removesuffix("\n") for it in (old, new))
+                mutant.changes.append((mutant.file, *texts))
+            elif other and not mutant.file:
+                mutant.text += f" {other}"
+            else:
+                sys.exit(f"{path.relative_to(TOP)}: {name}: this is no part of it: {old or other}")
+        yield mutant
 
 
 def read_all():
@@ -152,10 +153,8 @@ def module_of_type(crate, kind):
     """Returns the path of the module that declares a type, to which the checker counts its inherent
     impls, or None."""
     declared = re.compile(rf"^(?:pub(?:\(\w+\))? )?(?:struct|enum) {re.escape(kind)}\b", re.M)
-    for path in sorted((crate / "src").rglob("*.rt")):
-        if declared.search(path.read_text()):
-            return module_of(path.relative_to(crate))
-    return None
+    paths = (it for it in sorted((crate / "src").rglob("*.rt")) if declared.search(it.read_text()))
+    return next((module_of(path.relative_to(crate)) for path in paths), None)
 
 
 def function_at(crate, file, number):
@@ -181,18 +180,16 @@ def function_at(crate, file, number):
 def goals_left(copy, told):
     """Returns the goals that aren't proved, by function."""
     goals = {}
-    for line in told:
-        place = LINE.match(line)
-        if not place or NAMES.match(line):
-            continue
-        path = pathlib.PurePath(place["path"])
-        if path.parts[0] == "proofs":
-            function, goal = "::".join(path.parts[1:-1]), re.search(r"error: `([\w-]+)`", line)
-        else:
-            function = function_at(copy, path, int(place["line"]) - 1)
-            goal = re.search(r"\(`([\w-]+)`\)", line)
-        if goal and function:
-            goals.setdefault(function, []).append(goal[1])
+    for line in (line for line in told if not NAMES.match(line)):
+        if place := LINE.match(line):
+            path = pathlib.PurePath(place["path"])
+            if path.parts[0] == "proofs":
+                function, goal = "::".join(path.parts[1:-1]), re.search(r"error: `([\w-]+)`", line)
+            else:
+                function = function_at(copy, path, int(place["line"]) - 1)
+                goal = re.search(r"\(`([\w-]+)`\)", line)
+            if goal and function:
+                goals.setdefault(function, []).append(goal[1])
     if not goals and any(FAULT.match(line) and not NAMES.match(line) for line in told):
         # An `impl` that states a law, or a law whose proof cites a lemma that is false.
         goals = {it["path"]: [] for it in map(UNPROVED.match, told) if it}
@@ -203,8 +200,8 @@ def clause_of(path, left):
     """Returns the clause that rejects a mutant, given the goals that a function leaves open."""
     *around, name = path.split("::")
     function = "::".join([*(it for it in around if it[0].isupper()), name])
-    clause = next(filter(None, (re.search(r"-clause-(\w+)$", goal) for goal in left)), None)
-    required = next(filter(None, (re.match(r"(\w+)-requires", goal) for goal in left)), None)
+    clause, required = (next(filter(None, (re.search(form, goal) for goal in left)), None)
+                        for form in (r"-clause-(\w+)$", r"^(\w+)-requires"))
     if clause:
         return f"`{function}`: `{clause[1]}`"
     # The goal of a function's only clause is called `returns`.
@@ -239,11 +236,6 @@ class Trial:
         shutil.copytree(self.source, self.copy, ignore=left)
         return [mutant.apply(self.copy) for mutant in mutants]
 
-    def functions(self, places):
-        """Returns the functions at these places, or None if one is outside of any."""
-        found = {file[:4] == "src/" and function_at(self.copy, file, at) for file, at in places}
-        return found if all(found) else None
-
     def goals(self, functions):
         """Checks these functions, or all if there are none. Returns open goals, and an error."""
         only = [word for name in functions for word in ("--only", name)]
@@ -263,12 +255,8 @@ class Trial:
         if error and len(changed) > 1:
             pairs, half = list(changed.items()), len(changed) // 2
             return self.together(dict(pairs[:half])) | self.together(dict(pairs[half:]))
-        found = {}
-        for mutant, functions in changed.items():
-            left = next((it for it in functions if it in goals), None)
-            if left:
-                found[mutant] = clause_of(left, goals[left])
-        return found
+        left = {it: next(filter(goals.__contains__, sorted(changed[it])), None) for it in changed}
+        return {it: clause_of(name, goals[name]) for it, name in left.items() if name}
 
     def alone(self, mutant):
         """Returns what rejects a mutant, or None and why it wasn't rejected."""
@@ -291,11 +279,12 @@ class Trial:
         found = []
         for mutant in mutants:
             try:
-                functions = self.functions(self.apply([mutant])[0])
+                places = self.apply([mutant])[0]
             except (OSError, ValueError):
-                functions = None
-            if functions:
-                free = (it for it in found if not functions & set().union(*it.values()))
+                continue
+            functions = {it[0].startswith("src/") and function_at(self.copy, *it) for it in places}
+            if all(functions):
+                free = (it for it in found if functions.isdisjoint(set().union(*it.values())))
                 group = next(free, None)
                 if group is None:
                     found.append(group := {})
@@ -322,11 +311,9 @@ def try_vectors(mutant):
     """
     program, word = mutant.vectors.split()
     with tempfile.TemporaryDirectory() as folder:
-        crates = pathlib.Path(folder) / "crates"
-        left = shutil.ignore_patterns("out", "must-fail")
-        shutil.copytree(TOP / "crates", crates, ignore=left)
-        for name in ("HANDLES", "crates.txt"):
-            shutil.copy(TOP / name, folder)
+        crates = pathlib.Path(folder) / "top/crates"
+        left = shutil.ignore_patterns("out", "must-fail", ".git")
+        shutil.copytree(TOP, crates.parent, ignore=left)
         mutant.apply(crates / mutant.crate)
         texts = [(crates / program / it).read_text() for it in ("stdin", "stdout")]
         rows = [row for row in zip(*map(str.splitlines, texts)) if row[0].startswith(f"{word} ")]
@@ -357,20 +344,14 @@ def try_all(mutants, built):
 
 def mark(found):
     """Writes what rejected each mutant, the day and the commit into the files."""
-
-    def git(*words):
-        command = ["git", "-C", TOP, *words]
-        return subprocess.run(command, text=True, capture_output=True).stdout.strip()
-
-    day, commit = datetime.date.today(), git("rev-parse", "--short=8", "HEAD")
-    if git("status", "--porcelain", "crates", ":!crates/*/mutants.txt"):
+    commit = release.asked("git", "rev-parse", "--short=8", "HEAD")
+    if release.asked("git", "status", "--porcelain", "crates", ":!crates/*/mutants.txt"):
         commit += "+changes"
-    for path in {mutant.path for mutant in found}:
-        lines = path.read_text().splitlines()
-        for it, clause in found.items():
-            if it.path == path:
-                lines[it.line] = f"rejected: {day} {commit} {clause or 'NOT REJECTED'}"
-        path.write_text("\n".join(lines) + "\n")
+    for it, clause in found.items():
+        said = f"{datetime.date.today()} {commit} {clause or 'NOT REJECTED'}"
+        head, name, below = it.path.read_text().partition(f"\n## {it.name}: ")
+        below = re.sub(r"^rejected: .*$", lambda _: f"rejected: {said}", below, 1, re.M)
+        it.path.write_text(head + name + below)
 
 
 def page():
@@ -394,7 +375,7 @@ def check(mutants):
     errors, titles = [], [it.title for it in mutants]
     for it in mutants:
         try:
-            it.changed(TOP / "crates" / it.crate)
+            it.changed(it.path.parent)
         except (OSError, ValueError) as error:
             errors.append(f"{it.title}: {error}")
         if not it.changes or titles.count(it.title) > 1:
@@ -406,35 +387,30 @@ def check(mutants):
 
 
 def main():
-    kind = argparse.RawDescriptionHelpFormatter
-    words = argparse.ArgumentParser(description=__doc__, formatter_class=kind)
+    words = sources.arguments(__doc__)
     words.add_argument("verb", choices=["try", "check", "page"])
-    words.add_argument("--marked", action="store_true")
-    words.add_argument("--untried", action="store_true")
+    words.add_argument("--marked", dest="marks", action="store_const", const=".", default="")
+    words.add_argument("--untried", dest="marks", action="store_const", const=UNTRIED)
     words.add_argument("--built", type=pathlib.Path)
     words.add_argument("names", nargs="*")
-    words = words.parse_args()
+    words = words.parse_intermixed_args()
     mutants, names = read_all(), set(words.names)
     if words.verb == "check":
         return check(mutants)
-    if words.verb == "page":
-        PAGE.write_text(page())
-        return 0
-    unknown = names - {name for it in mutants for name in (it.crate, it.name)}
-    if unknown:
-        sys.exit(f"no crate and no mutant is called {', '.join(sorted(unknown))}")
-    if words.marked or words.untried:
-        mutants = [it for it in mutants if it.rejected]
-    if words.untried:
-        mutants = [it for it in mutants if it.rejected == UNTRIED]
-    mutants = [it for it in mutants if not names or {it.crate, it.name} & names]
-    found = try_all(mutants, words.built and words.built.resolve())
-    if words.marked or words.untried:
+    if words.verb == "try":
+        unknown = names - {name for it in mutants for name in (it.crate, it.name)}
+        if unknown:
+            sys.exit(f"no crate and no mutant is called {', '.join(sorted(unknown))}")
+        mutants = [it for it in mutants if re.match(words.marks, it.rejected or "")]
+        mutants = [it for it in mutants if not names or {it.crate, it.name} & names]
+        found = try_all(mutants, words.built and words.built.resolve())
+        rejected = sum(1 for it in mutants if found[it])
+        print(f"{rejected} rejected, {len(mutants) - rejected} not rejected")
+        if not words.marks:
+            return rejected != len(mutants)
         mark(found)
-        PAGE.write_text(page())
-    rejected = sum(1 for it in mutants if found[it])
-    print(f"{rejected} rejected, {len(mutants) - rejected} not rejected")
-    return rejected != len(mutants)
+    PAGE.write_text(page())
+    return words.verb == "try" and rejected != len(mutants)
 
 
 if __name__ == "__main__":

@@ -1,45 +1,34 @@
 #!/usr/bin/env python3
-"""What the scripts need of Debian 12, beside Bash and Python 3.10. Each says what it misses.
+"""Prints what the scripts miss on this machine, beside Bash and Python 3.10, by script. Each script
+calls `check`, by which it ends with a list of the packages of Debian 12 that it misses."""
 
-    tools/needs.py              prints what is missing here, by script
-    tools/needs.py SCRIPT       the status is 2 where this script misses something, which is printed
-"""
-
-import importlib.metadata
+import importlib.util
 import pathlib
 import shutil
 import sys
 
 TOP = pathlib.Path(__file__).resolve().parent.parent
-# A command or a path, and the package that has it.
-COMMANDS = {
-    "cc": "gcc", "gcc": "gcc", "ld": "binutils", "openssl": "openssl", "parallel": "parallel",
-    "pkg-config": "pkg-config", "unzip": "unzip", "valgrind": "valgrind", "xxd": "xxd",
-    "zstd": "zstd", "jq": "jq",
+# The package of a command that isn't named after it, or of a path.
+PACKAGES = {
+    "cc": "gcc", "ld": "binutils", "rt": "the kit (its bin/ in PATH)", "/usr/bin/time": "time",
+    "/usr/include/mbedtls": "libmbedtls-dev", "/usr/include/openssl": "libssl-dev",
+    "/usr/share/ca-certificates/mozilla": "ca-certificates",
+    "cryptography": "python3-cryptography", "pyasn1_modules": "python3-pyasn1-modules",
 }
-PATHS = {
-    "/usr/bin/time": "time", "/usr/include/mbedtls": "libmbedtls-dev",
-    "/usr/include/openssl": "libssl-dev", "/usr/share/ca-certificates/mozilla": "ca-certificates",
-}
-# By script, what it needs: commands, paths, `rt` of the kit, and Python's `cryptography`, of which
-# a script may need another version than Debian has.
+# By script, what it needs: commands, paths, and modules of Python.
 NEEDS = {
-    "bench/functions.py": "rt",
     "bench/gate.py": "rt",
     "bench/speed.py": "rt gcc openssl valgrind /usr/bin/time /usr/include/mbedtls "
                       "/usr/include/openssl /usr/share/ca-certificates/mozilla",
     "bindings/build.sh": "rt cc ld",
     "bindings/test.sh": "cc pkg-config",
     "examples/answer.py": "cryptography",
-    "examples/describe_all.sh": "openssl parallel",
     "examples/make_chain.sh": "openssl",
-    "examples/read_built.sh": "openssl xxd",
     "examples/sign_outside.sh": "openssl xxd",
     "examples/verify_pem.py": "cryptography",
     "tests/differential/answers.py": "openssl cryptography",
-    "tests/differential/described.py": "openssl cryptography>=45 "
+    "tests/differential/described.py": "openssl cryptography pyasn1_modules "
                                        "/usr/share/ca-certificates/mozilla",
-    "tests/differential/json_lines.py": "cryptography /usr/share/ca-certificates/mozilla",
     "tests/differential/mutated.py": "/usr/share/ca-certificates/mozilla",
     "tests/rows/hostile.py": "/usr/bin/time",
     "tests/rows/memory.py": "gcc",
@@ -50,29 +39,17 @@ NEEDS = {
 }
 
 
-def cryptography():
-    """The first part of the version of Python's `cryptography`."""
-    try:
-        return int(importlib.metadata.version("cryptography").partition(".")[0])
-    except importlib.metadata.PackageNotFoundError:
-        return 0
-
-
 def missing(script):
     """The packages that a script needs and that aren't here."""
-    for thing in NEEDS.get(script, "").split():
-        if thing == "rt":
-            found, package = shutil.which("rt"), "the kit (its bin/ in PATH)"
-        elif thing in PATHS:
-            found, package = pathlib.Path(thing).exists(), PATHS[thing]
-        elif thing == "cryptography":
-            found, package = cryptography() > 0, "python3-cryptography"
-        elif thing.startswith("cryptography>="):
-            found = cryptography() >= int(thing.partition(">=")[2])
-            package = f"Python's {thing} (pip install '{thing}')"
+    for name in NEEDS.get(script, "").split():
+        package = PACKAGES.get(name, name)
+        if "/" in name:
+            is_here = pathlib.Path(name).exists()
+        elif package.startswith("python3-"):
+            is_here = importlib.util.find_spec(name)
         else:
-            found, package = shutil.which(thing), COMMANDS[thing]
-        if not found:
+            is_here = shutil.which(name)
+        if not is_here:
             yield package
 
 
@@ -88,10 +65,5 @@ def check(script):
 
 
 if __name__ == "__main__":
-    if sys.argv[1:] and not sys.argv[1].startswith("-"):
-        check(sys.argv[1])
-    elif sys.argv[1:]:
-        print(__doc__)
-    else:
-        for each in NEEDS:
-            print(f"{each}: {', '.join(missing(each)) or 'nothing is missing'}")
+    for each in NEEDS:
+        print(f"{each}: {', '.join(missing(each)) or 'nothing is missing'}")

@@ -11,7 +11,6 @@ definition that a clause cites means the same, and what CLI promises of the prog
 know.
 """
 
-import argparse
 import pathlib
 import re
 import subprocess
@@ -20,12 +19,105 @@ import tempfile
 
 import sources
 
-TOP = sources.TOP
-# What types are declared by isn't promised.
-OTHERS = ("der_core::making", "der_core::describing")
-# What is passed on to crates above isn't, and from where a crate imports a name isn't, either.
-OTHERS += ("der_core::oid", "der_types::der", "der_types::oid", "der_types::making")
+FACADES = ("const_oid", "der_core", "der_types", "x509_cert", "cert_desk")
+# What types are declared by isn't promised, nor what is passed on to crates above, nor from where a
+# crate imports a name.
+OTHERS = ("der_core::making", "der_core::describing", "der_core::oid",
+          "der_types::der", "der_types::oid", "der_types::making")
 PATH = re.compile(r"\b(?:const_oid|(?:der|x509_cert|cert)_\w+|x509_cert)::(?:\w+::)*(?=\w)")
+
+
+class Facades:
+    """The items of all libraries, and where a user of the facades finds them (`Item.imports`)."""
+
+    def __init__(self, top):
+        files = [it for file in sources.sources(top / "crates") for it in (file, *file.inline)]
+        self.code = {(file.crate, file.name): file for file in files}
+        self.items = [item for file in files for item in file.items.values()]
+        for file in files:  # macros stand at the root of their crate
+            if root := self.file_of(file.crate, ()):
+                root.items |= {name: it for name, it in file.items.items() if it.is_macro}
+        for crate in FACADES:
+            self.walk(crate, ())
+        for impl in (impl for file in files for impl in file.impls):
+            self.give(impl)
+
+    def file_of(self, crate, path):
+        """The file of a module."""
+        return self.code.get((crate, "/".join(path or ["lib"]) + ".rt"))
+
+    def names(self, crate, path):
+        """The names of a module that its users see."""
+        file = self.file_of(crate, path)
+        if file is None:
+            return set()
+        found = {*file.modules, *file.items, *(use[3] for use in file.uses)} - {"*"}
+        for place in self.starred(crate, path, False):
+            found |= self.names(*place)
+        return found
+
+    def starred(self, crate, path, inside):
+        """The modules whose names a module imports by `*`."""
+        for public, start, name, _ in self.file_of(crate, path).uses:
+            place = self.at(crate, path, start) if name == "*" and (public or inside) else None
+            if isinstance(place, tuple):
+                yield place
+
+    def find(self, crate, path, word, inside):
+        """The item or the module that a name of a module stands for, as seen inside of its crate
+        or outside."""
+        file = self.file_of(crate, path)
+        if file is None:
+            return None
+        item = file.items.get(word)
+        if item and (inside or item.is_public):
+            return item
+        if inside and word in file.modules or file.modules.get(word):
+            return (crate, (*path, word))
+        for public, start, name, alias in file.uses:
+            if (public or inside) and alias == word != "*":
+                return self.at(crate, path, [*start, name])
+        found = (self.find(*place, word, False) for place in self.starred(crate, path, inside))
+        return next(filter(None, found), None)
+
+    def at(self, crate, path, words):
+        """The item or the module at a path, as a `use` line of a module writes it."""
+        head, *rest = words or ["self"]
+        if head == "crate":
+            place = (crate, ())
+        elif head in ("self", "super"):
+            place = (crate, path if head == "self" else path[:-1])
+        elif (head, "lib.rt") in self.code:
+            place = (head, ())
+        else:
+            place, rest = (crate, path), words
+        for word in rest:
+            if not isinstance(place, tuple):
+                return None
+            place = self.find(*place, word, place[0] == crate)
+        return place
+
+    def walk(self, crate, path, start=None):
+        """Notes where the users of a facade find the items of a module, which may be of a crate
+        below it; of modules inside of such a one they find none."""
+        for name in self.names(crate, path):
+            target, place = self.find(crate, path, name, False), (*(start or (crate, *path)), name)
+            if isinstance(target, sources.Item):
+                target.imports.append("::".join(place))
+            elif target and not start:
+                self.walk(*target, None if target[0] == crate else place)
+
+    def give(self, impl):
+        """Gives an impl to its type; where that is none of the repository, to its trait."""
+        name = impl.source.name.removesuffix(".rt")
+        path = () if name == "lib" else tuple(name.split("/"))
+        item, trait = (self.find(impl.source.crate, path, (name or "").split("::")[-1], True)
+                       for name in (impl.owner, impl.trait))
+        if isinstance(item, sources.Item):
+            item.impls.append(impl)
+            item.methods += [call for call in impl.members if call.public and not impl.trait]
+        elif isinstance(trait, sources.Item):
+            trait.impls.append(impl)
 
 
 def clauses(path, call):
@@ -44,8 +136,6 @@ def clauses(path, call):
 def declaration(item):
     """What a declaration says to users: of a struct no private fields, of a trait its head."""
     lines = [line for line in item.text.splitlines() if not line.strip().startswith("//")]
-    if item.kind == "macro":
-        return item.name
     if item.kind == "trait":
         return " ".join(lines).partition("{")[0]
     if item.kind == "struct":
@@ -57,7 +147,7 @@ def of_item(path, item):
     """What is promised of an item that is imported from this path."""
     if item.call:
         return clauses(path, item.call)
-    found = {path: declaration(item)}
+    found = {path: item.name if item.is_macro else declaration(item)}
     for call in item.methods:
         found |= clauses(f"{path}::{call.name}", call)
     for impl in item.impls:
@@ -70,13 +160,12 @@ def of_item(path, item):
 
 def promised(top):
     """Each part of what a repository promises, and what is said of it."""
-    sources.TOP, sources.CRATES = top, top / "crates"
-    house, found = sources.House(sources.sources()), {}
-    for item in house.items:
+    found = {}
+    for item in Facades(top).items:
         for path in item.imports:
             found |= {} if path.startswith(OTHERS) else of_item(path, item)
         if item.call and item.call.is_exported:
-            found |= clauses(item.name, item.call)
+            found |= clauses(item.call.name, item.call)
     for path, told in (
         ("wurstdrape.h", r"\b(WD_\w+)( = \d+)"),
         ("rust/src/lib.rs", r"(?m)^ *pub (?:const )?(?:fn|struct|enum|type|const) (\w+)([^;{]*)"),
@@ -90,18 +179,16 @@ def promised(top):
 
 
 def main():
-    form = argparse.RawDescriptionHelpFormatter
-    words = argparse.ArgumentParser(description=__doc__, formatter_class=form)
+    words = sources.arguments(__doc__)
     words.add_argument("commit", metavar="COMMIT")
     commit = words.parse_args().commit
     with tempfile.TemporaryDirectory() as room:
-        old = pathlib.Path(room)
-        packed = subprocess.run(["git", "archive", commit], cwd=TOP, stdout=subprocess.PIPE)
+        packed = subprocess.run(["git", "archive", commit], cwd=sources.TOP, stdout=subprocess.PIPE)
         if packed.returncode:
             return 2
         subprocess.run(["tar", "-x", "-C", room], input=packed.stdout, check=True)
-        was, version = promised(old), sources.version(old)
-    now = promised(TOP)
+        was, version = promised(pathlib.Path(room)), sources.version(pathlib.Path(room))
+    now = promised(sources.TOP)
     gone, new = sorted(was.keys() - now.keys()), sorted(now.keys() - was.keys())
     others = sorted(part for part in was.keys() & now.keys() if was[part] != now[part])
     for told, parts in (("gone", gone), ("otherwise", others), ("new", new)):

@@ -4,6 +4,7 @@ It reads crates.txt, the `specs/` and the `src/` of each crate, as `rt fmt` lays
 proves nothing.
 """
 
+import argparse
 import collections
 import pathlib
 import re
@@ -14,6 +15,12 @@ CRATES = TOP / "crates"
 WIDTH = 100
 
 
+def arguments(told):
+    """A reader of a script's arguments, given what `--help` says."""
+    form = argparse.RawDescriptionHelpFormatter
+    return argparse.ArgumentParser(description=told, formatter_class=form)
+
+
 # Tables, the version, and crates.txt.
 
 
@@ -22,27 +29,25 @@ def cells(row):
     return [cell.strip() for cell in re.split(r"(?<!\\)\|", row.strip())[1:-1]]
 
 
-def version(top=None):
+def version(top=TOP):
     """The number of the last version in a repository's CHANGELOG.md."""
-    text = ((top or TOP) / "CHANGELOG.md").read_text()
-    return re.search(r"^## (\d\S*)", text, re.M)[1]
+    return re.search(r"^## (\d\S*)", (top / "CHANGELOG.md").read_text(), re.M)[1]
 
 
-def rows(path=None):
-    """Each crate of crates.txt and its line, in the order of the file."""
-    text = (path or TOP / "crates.txt").read_text()
+def rows(top=TOP):
+    """Each crate of a repository's crates.txt and its line, in the order of the file."""
+    text = (top / "crates.txt").read_text()
     return {match[1]: match[0].rstrip() for match in re.finditer(r"^(\w+)[^#\n]*", text, re.M)}
 
 
-def dependencies(path=None):
-    """Each crate of crates.txt and the libraries that its line names."""
-    return {name: line.partition(":")[2].split() for name, line in rows(path).items()}
+def dependencies(top=TOP):
+    """Each crate of a repository's crates.txt and the libraries that its line names."""
+    return {name: line.partition(":")[2].split() for name, line in rows(top).items()}
 
 
 def closure(names, crates=None):
     """These crates and all below them that stand in crates.txt, the lowest first."""
-    crates = dependencies() if crates is None else crates
-    order = {}
+    crates, order = dependencies() if crates is None else crates, {}
 
     def visit(name):
         if name in crates and name not in order:
@@ -55,6 +60,38 @@ def closure(names, crates=None):
     return list(order)
 
 
+# What `use` lines import, of definitions and of code.
+
+USED = re.compile(r"(pub )?use ((?:\w+(?:::|\.))*)(?:\{(.*)\}|(\w+|\*)(?: as (\w+))?);?$")
+
+
+def uses_in(line):
+    """The names of a `use` line: whether it is public, the path, the name and its alias."""
+    match = USED.search(line)
+    path = re.split(r"::|\.", match[2])[:-1] if match else []
+    for part in (match[3] or match[4]).split(",") if match else ():
+        name, _, alias = part.strip().partition(" as ")
+        *more, name = name.split("::")
+        if name:
+            yield bool(match[1]), [*path, *more], name, match[5] or alias or name
+
+
+class Imports(dict):
+    """The definition or the file that each imported name stands for, as a path from its crate."""
+
+    def read(self, line):
+        """Adds the names of a `use` line that imports definitions."""
+        for _, path, name, alias in uses_in(line):
+            path = [*path, name]
+            if path[0] == "Rattle" and path[2:3] == ["specs"]:
+                self[alias] = (path[1], *path[3:])
+
+    def find(self, word):
+        """The path of a word: its first name stands for one, which the others go on."""
+        head, *rest = word.split(".")
+        return (*self[head], *rest) if head in self else None
+
+
 # The definitions: files of `specs/`.
 
 COMMENT = re.compile(r"(?:^|(?<=\s))(?:--|//).*$", re.M)
@@ -63,55 +100,27 @@ WORD = re.compile(r"(?<![\w.'-])[^\W\d][\w'-]*(?:\.[^\W\d][\w'-]*)*")
 LABEL = re.compile(r"(?:(?<=[{;])|^)\s*[\w'-]+ =(?=\s)", re.M)
 FIELD = re.compile(r"^ +(?:pub )?[\w'-]+(?: [\w'-]+)* :(?=\s)", re.M)
 SIGNATURE = re.compile(
-    r"^(?P<opened>abbrev |unfoldable )?(?P<pub>pub )?(?P<sort>data |record )?"
+    r"(?!unfolding )(?P<opened>abbrev |unfoldable )?(?P<pub>pub )?(?P<sort>data |record )?"
     r"(?P<name>[^\s:({]+)\s*(?P<rest>.*)$"
 )
-USE = re.compile(r"use Rattle\.([a-z0-9_]+)\.specs((?:\.\w+)*)(?:\.\{(.*)\}| as (\w+))?")
 CASE = re.compile(r"  (\w+) :")
 BLOCK = re.compile(r"(?P<opened>abbrev |unfoldable )?(?:mutual|module \S+.*)$")
-STANDARD = r"X\.\d{3}|RFC \d{4}|IEEE 802\.1AR|CA/Browser Forum, Baseline Requirements"
-PART = r"\d+(?:\.\d+)*(?: \([a-z]+\)(?: \(\d\))?)?"
-SECTION = re.compile(rf"({STANDARD})((?:,? (?:and |to )?{PART})*)")
-BARE = re.compile(r"\((\d+(?:\.\d+)+(?:, \d+(?:\.\d+)+)*)\)")
-
-
-class Imports(dict):
-    """The path that a name stands for: those of `use` lines, of specs and of sources alike."""
-
-    def read(self, line):
-        """Adds the names of a `use` line: those in braces, or the last word of its path."""
-        match = USE.search(line)
-        if not match:
-            return
-        crate, inside, names, alias = match.groups()
-        path = (crate, *inside.split(".")[1:])
-        if names is None:
-            self[alias or path[-1]] = path
-            return
-        for part in names.split(","):
-            name, _, alias = part.strip().partition(" as ")
-            if name:
-                self[alias or name] = (*path, name)
-
-    def find(self, word):
-        """The path of a word: its first name stands for one, which the others go on."""
-        head, *rest = word.split(".")
-        return (*self[head], *rest) if head in self else None
+Block = collections.namedtuple("Block", "opened parameters")
 
 
 class Definition:
-    """A definition of a file of `specs/`: its text, its comment, and what it cites."""
+    """A definition of a file of `specs/`: its text, and what it cites.
 
-    def __init__(self, file, match, number, opened, comment, around):
-        self.crate, self.file, self.name, self.line = file.crate, file.name, match["name"], number
+    `lines` counts its comment, too; `around` are the parameters of the modules around it.
+    """
+
+    def __init__(self, file, match, number, block, comment):
+        self.key = self.crate, self.file, self.name = file.crate, file.name, match["name"]
+        self.line, self.lines, self.around = number, comment, block.parameters
+        opened = (match["opened"] or "").strip() or block.opened
         self.sort = (match["sort"] or "").strip() or opened or "proof"
-        self.comment, self.around = " ".join(comment), around
-        self.text, self.lines, self.proof = "", len(comment), ""
+        self.text, self.proof = "", ""
         self.cases, self.cites, self.serving = set(), set(), set()
-
-    @property
-    def key(self):
-        return (self.crate, self.file, self.name)
 
     def add(self, line):
         """Adds a line. Of a proof only the statement is text that a reader has to read."""
@@ -134,18 +143,13 @@ class Definition:
         return [("", first), *((part[: max(part.find(" ="), 0)], part) for part in parts)]
 
 
-Block = collections.namedtuple("Block", "opened parameters")
-
-
 def unnested(lines):
     """Each line with its number, moved out of the blocks around it: `mutual`, and modules.
 
     With it comes what the blocks say of it: the word before `mutual`, the parameters of modules.
     """
-    blocks, at = [Block("", "")], 0
-    while at < len(lines):
-        number, line = at + 1, lines[at]
-        at += 1
+    blocks, numbered = [Block("", "")], iter(enumerate(lines, 1))
+    for number, line in numbered:
         while line.strip() and not line.startswith("  " * (len(blocks) - 1)):
             blocks.pop()
         line = line[2 * (len(blocks) - 1) :]
@@ -154,20 +158,9 @@ def unnested(lines):
             yield number, line, blocks[-1]
             continue
         while "module" in line and not line.endswith("where"):
-            line += " " + lines[at].strip()
-            at += 1
+            line += " " + next(numbered)[1].strip()
         opened = (match["opened"] or "").strip() or blocks[-1].opened
         blocks.append(Block(opened, f"{blocks[-1].parameters}{line}\n"))
-
-
-def head_of(lines, mark):
-    """The comment at the head of a file."""
-    told = []
-    for line in lines:
-        if not line.startswith(mark):
-            break
-        told.append(line.removeprefix(mark).removeprefix(" "))
-    return "\n".join(told)
 
 
 class SpecFile:
@@ -178,83 +171,52 @@ class SpecFile:
         self.lines = path.read_text().splitlines()
         self.definitions, self.cases = {}, {}
         self.imports, self.passed_on = Imports(), Imports()
-        self.parse()
+        current, comment = None, 0
+        for number, line, block in unnested(self.lines):
+            use = re.match(r"(?:abbrev |unfoldable )?(pub )?use ", line)
+            if use or not line.strip():
+                current, comment = None, 0
+                self.imports.read(line)
+                if use and use[1]:
+                    self.passed_on.read(line)
+            elif line.startswith("--"):
+                current, comment = None, comment + 1
+            elif line[0].isspace():
+                self.add_to(current, line)
+            elif match := SIGNATURE.match(line):
+                begun = self.begun(match, number, block, comment)
+                current, comment = begun or current, 0 if begun or current else comment
+                self.add_to(current, line)
 
     def find(self, name):
         """The definition of this name; that of a case is its type."""
         return self.definitions.get(name) or self.cases.get(name)
 
-    def parse(self):
-        current, comment = None, []
-        for number, line, block in unnested(self.lines):
-            use = re.match(r"(abbrev |unfoldable )?(pub )?use ", line)
-            if use or not line.strip():
-                current, comment = None, []
-                self.imports.read(line)
-                if use and use[2]:
-                    self.passed_on.read(line)
-            elif line.startswith("--"):
-                current = None
-                comment.append(line[2:].strip())
-            elif line[0].isspace():
-                if current:
-                    self.add_to(current, line)
-            elif (match := SIGNATURE.match(line)) and not line.startswith("unfolding "):
-                current = self.begun(match, number, block, comment) or current
-                if current:
-                    comment = []
-                    current.add(line)
-
     def add_to(self, definition, line):
-        """Adds an indented line, which may be a case of a type."""
-        definition.add(line)
-        case = CASE.match(line)
-        if case and definition.sort == "data":
-            self.cases[case[1]] = definition
-            definition.cases.add(case[1])
+        """Adds a line, which may be a case of a type, to the definition that it is of, if any."""
+        if definition:
+            definition.add(line)
+            case = CASE.match(line)
+            if case and definition.sort == "data":
+                self.cases[case[1]] = definition
+                definition.cases.add(case[1])
 
     def begun(self, match, number, block, comment):
         """The definition of which a line at the margin is one, unless it is an operator's clause,
         which begins with an argument."""
-        if match["name"] not in self.definitions:
-            opened = (match["opened"] or "").strip() or block.opened
-            if not (opened or match["sort"] or re.match(r"(\{.*\} )?:", match["rest"])):
-                return None
-            self.definitions[match["name"]] = Definition(
-                self, match, number, opened, comment, block.parameters)
-        return self.definitions[match["name"]]
-
-    @property
-    def sections(self):
-        """The sections of standards that the comments name, those of one standard together."""
-        found, last = collections.defaultdict(dict), None
-        for line in self.lines:
-            comment = line[line.index("--") :] if "--" in line else ""
-            for match in SECTION.finditer(comment):
-                last = match[1]
-                found[last].update(dict.fromkeys(re.findall(r"\d+(?:\.\d+)*", match[2])))
-            for match in BARE.finditer(comment) if last else ():
-                found[last].update(dict.fromkeys(match[1].split(", ")))
-        return "; ".join(f"{name} {', '.join(parts)}".strip() for name, parts in found.items())
-
-
-def specs():
-    """All files of definitions, by crate and name; `Lib` is the list of those of a crate."""
-    files = map(SpecFile, sorted(CRATES.glob("*/specs/*.antt")))
-    return {(file.crate, file.name): file for file in files}
+        name, is_opened = match["name"], match["opened"] or block.opened or match["sort"]
+        if name in self.definitions or is_opened or re.match(r"(\{.*\} )?:", match["rest"]):
+            new = Definition(self, match, number, block, comment)
+            return self.definitions.setdefault(name, new)
+        return None
 
 
 # The code: files of `src/`.
 
-FUNCTION = re.compile(
-    r"(pub )?(?:pub\(\w+\) )?(?:final )?(?:const )?(?:unsafe )?"
-    r'(?:extern "C" )?fn (\w+)'
-)
+FUNCTION = re.compile(r'(pub )?(?:pub\(\w+\) |final |const |unsafe |extern "C" )*fn (\w+)')
 DECLARED = re.compile(
-    r"(?:pub(?:\(\w+\))? )?(?:unsafe )?(?P<kind>struct|enum|trait|type|const|static) "
-    r"(?P<name>\w+)|macro_rules! (?P<macro>\w+)"
+    r"(?:pub(?:\(\w+\))? )?(?:unsafe )?(struct|enum|trait|type|const|static|macro_rules!) (\w+)"
 )
-USED = re.compile(r"(pub )?use ((?:\w+::)*)(?:\{(.*)\}|(\w+|\*)(?: as (\w+))?);$")
 CLAUSE = re.compile(r"^\s+(requires|ensures)\b\*? ?(\w*)", re.M)
 # What stands between the brackets of generic parameters, up to three levels deep.
 GENERICS = r"(?:->|[^<>]|<(?:->|[^<>]|<(?:->|[^<>])*>)*>)*"
@@ -265,16 +227,6 @@ class Part:
 
     def __init__(self, number, above):
         self.number, self.above, self.lines = number, above, []
-
-    @property
-    def doc(self):
-        """The doc comment."""
-        told = (line[3:].removeprefix(" ") for line in self.above if line.startswith("///"))
-        return "\n".join(told)
-
-    @property
-    def text(self):
-        return "\n".join(self.lines).rstrip()
 
     @property
     def opening(self):
@@ -297,26 +249,34 @@ class Part:
         """What stands between the brackets."""
         return parts_of(self.body, self.number + self.opening - 1)
 
-    def is_marked(self, attribute):
-        return any(line.startswith(f"#[{attribute}") for line in self.above)
+    @property
+    def signature(self):
+        """The lines of a function before its body."""
+        has_clause = False
+        for at, line in enumerate(self.lines):
+            has_clause = has_clause or CLAUSE.match(line)
+            if line in ("{", "{}"):
+                return self.lines[:at]
+            if not has_clause and line.endswith(("{", "{}")):
+                return self.lines[: at + 1]
+        return self.lines
 
 
 def parts_of(lines, before=0):
     """What stands at the margin of these lines, which stand after so many others."""
-    above, part = [], None
+    parts, above, part = [], [], None
     for number, line in enumerate(lines, before + 1):
         begins = line[:1].strip() and line[0] not in "{})]>" and not line.startswith("where")
-        if begins and part:
-            yield part
+        if begins and line.startswith(("//", "#")):
             part = None
-        if begins and not line.startswith(("//", "#")):
+        elif begins:
             part, above = Part(number, above), []
+            parts.append(part)
         if part:
             part.lines.append(line)
         elif line:
             above.append(line)
-    if part:
-        yield part
+    return parts
 
 
 class Call:
@@ -326,85 +286,50 @@ class Call:
         self.crate, self.path, self.name, self.line = source.crate, source.name, name, part.number
         self.owner, self.stated, self.public = owner, stated, public
         self.is_ghost = part.lines[0].startswith("ghost ")
-        self.text = (part.text if self.is_ghost else signature_of(part)) + "\n"
-        self.comment = part.doc
-        self.doc = self.comment.partition("\n")[0]
-        self.clauses = [] if self.is_ghost else CLAUSE.findall(self.text)
+        self.text = "\n".join(part.lines if self.is_ghost else part.signature).rstrip() + "\n"
+        comment = (line for line in part.above if line.startswith("///"))
+        self.doc = next(comment, "").removeprefix("///").removeprefix(" ")
+        first = None if self.is_ghost else CLAUSE.search(self.text)
+        # The text of its clauses; of a ghost member all of it.
+        self.contract = self.text[first.start() if first else 0 :] * bool(first or self.is_ghost)
+        self.clauses = CLAUSE.findall(self.contract) if first else []
+        self.title = f"{owner}::{name}" if owner else name
+        self.is_exported = self.text.startswith('pub extern "C"')
         self.cites = set()
 
-    @property
-    def title(self):
-        return f"{self.owner}::{self.name}" if self.owner else self.name
 
-    @property
-    def is_exported(self):
-        return self.text.startswith('pub extern "C"')
-
-    @property
-    def contract(self):
-        """The text of its clauses; of a ghost member all of it."""
-        first = None if self.is_ghost else CLAUSE.search(self.text)
-        if self.is_ghost:
-            return self.text
-        return self.text[first.start() :] if first else ""
-
-
-def signature_of(part):
-    """The text of a function before its body."""
-    kept, has_clause = [], False
-    for line in part.lines:
-        if line in ("{", "{}"):
-            break
-        kept.append(line)
-        has_clause = has_clause or bool(CLAUSE.match(line))
-        if not has_clause and line.endswith(("{", "{}")):
-            break
-    return "\n".join(kept).rstrip()
+def members(source, part, owner, stated=None, public=False):
+    """The functions and the ghost members of an impl or a trait; `public` says that all are."""
+    for member in part.members:
+        ghost = re.match(r"ghost \w+(?= ?[:=])", member.lines[0])
+        match = FUNCTION.match(member.lines[0])
+        if ghost or match:
+            name, is_public = ghost[0] if ghost else match[2], ghost or public or match[1]
+            yield Call(source, member, name, owner, stated, bool(is_public))
 
 
 class Item:
-    """A type, a trait, a constant, a macro or a function outside of impls, and where it stands."""
+    """A type, a trait, a constant, a macro or a function outside of impls."""
 
-    def __init__(self, source, kind, name, part, call=None):
-        self.source, self.kind, self.name, self.line = source, kind, name, part.number
-        self.crate, self.doc, self.call = source.crate, part.doc, call
+    def __init__(self, kind, name, part, call=None):
+        self.kind, self.name, self.call = kind, name, call
         self.derives = [line for line in part.above if line.startswith("#[derive")]
-        body = re.sub(r"\s*\{\}?$", "", call.text.rstrip()) if call else part.text
-        self.text = body if call else "\n".join([*self.derives, body])
-        self.is_public = kind == "macro" or part.lines[0].startswith("pub ")
+        self.text = "\n".join([*self.derives, *part.lines]).rstrip()
+        self.is_macro = kind == "macro_rules!"
+        self.is_public = self.is_macro or part.lines[0].startswith("pub ")
         self.methods, self.impls, self.imports = [], [], []
-
-    @property
-    def key(self):
-        return (self.crate, self.name)
-
-    @property
-    def calls(self):
-        """Its functions, those of its impls, and what these state."""
-        found = [self.call] if self.call else []
-        found += self.methods
-        return found + [call for impl in self.impls if impl.trait for call in impl.members]
 
 
 class Impl:
     """An impl block: the type that it is of, the trait that it gives it, and its members."""
 
     def __init__(self, source, part):
-        self.source, self.header = source, part.header
-        stated, _, of = re.sub(rf"^impl(<{GENERICS}>)?\s*", "", part.header).partition(" for ")
-        self.stated, self.of = stated, of
-        name = re.match(r"&?(?:'\w+ )?(?:mut )?([\w:\[(]+)", of or stated)
-        self.owner = name[1] if name else of or stated
-        self.trait = re.match(r"[\w:]+", stated)[0] if of else None
-        self.members = []
-        for member in part.members:
-            ghost = re.match(r"ghost (\w+) ?=", member.lines[0])
-            match = FUNCTION.match(member.lines[0])
-            name = f"ghost {ghost[1]}" if ghost else match and match[2]
-            if name:
-                public = bool(ghost or self.trait or match[1])
-                call = Call(source, member, name, self.owner, self.trait, public)
-                self.members.append(call)
+        self.source, header = source, re.sub(rf"^impl(<{GENERICS}>)?\s*", "", part.header)
+        self.stated, _, self.of = header.partition(" for ")
+        name = re.match(r"&?(?:'\w+ )?(?:mut )?([\w:\[(]+)", self.of or self.stated)
+        self.owner = name[1] if name else self.of or self.stated
+        self.trait = re.match(r"[\w:]+", self.stated)[0] if self.of else None
+        self.members = list(members(source, part, self.owner, self.trait, bool(self.of)))
 
 
 class Source:
@@ -414,7 +339,7 @@ class Source:
     that traits declare.
     """
 
-    def __init__(self, crate, name, lines, path=None):
+    def __init__(self, crate, name, lines, path):
         self.crate, self.name, self.lines, self.path = crate, name, lines, path
         self.items, self.impls, self.calls, self.declared = {}, [], [], []
         self.uses, self.modules, self.inline = [], {}, []
@@ -441,48 +366,25 @@ class Source:
             self.impls.append(Impl(self, part))
             self.calls += self.impls[-1].members
         elif function:
-            kind = "law" if self.name.endswith("laws.rt") else "fn"
-            call = Call(self, part, function[2], public=bool(function[1]))
-            self.calls.append(call)
-            self.items[call.name] = Item(self, kind, call.name, part, call)
-        elif declared and (declared["kind"] or part.is_marked("macro_export")):
-            name = declared["name"] or declared["macro"]
-            self.items[name] = Item(self, declared["kind"] or "macro", name, part)
-            if declared["kind"] == "trait":
-                self.read_trait(name, part)
-
-    def read_trait(self, name, part):
-        """Adds the functions of a trait, and the ghost members that it declares."""
-        public = part.lines[0].startswith("pub ")
-        for member in part.members:
-            ghost = re.match(r"ghost (\w+) ?(:|=)", member.lines[0])
-            match = FUNCTION.match(member.lines[0])
-            if ghost and ghost[2] == ":":
-                self.declared.append(Call(self, member, ghost[1], name))
-            elif ghost or match:
-                title = f"ghost {ghost[1]}" if ghost else match[2]
-                call = Call(self, member, title, name, None, bool(ghost) or public)
-                self.items[name].methods.append(call)
-                self.calls.append(call)
+            self.calls.append(Call(self, part, function[2], public=bool(function[1])))
+            self.items[function[2]] = Item("fn", function[2], part, self.calls[-1])
+        elif declared and (declared[1] != "macro_rules!" or "#[macro_export]" in part.above):
+            kind, name = declared.groups()
+            item = self.items[name] = Item(kind, name, part)
+            for call in members(self, part, name, public=item.is_public) if kind == "trait" else ():
+                if re.match(r"ghost \w+ ?:", call.text):
+                    self.declared.append(call)
+                else:
+                    item.methods.append(call)
+                    self.calls.append(call)
 
 
-def uses_in(line):
-    """The names of a `use` line: whether it is public, the path, the name and its alias."""
-    match = USED.match(line)
-    path = match[2].split("::")[:-1] if match else []
-    for part in (match[3] or match[4]).split(",") if match else ():
-        name, _, alias = part.strip().partition(" as ")
-        *more, name = name.split("::")
-        if name:
-            yield bool(match[1]), [*path, *more], name, match[5] or alias or name
-
-
-def sources():
+def sources(crates=CRATES):
     """All files of code; a call is public where the root of its crate passes on it, or its type, in
     a program where it says so, or where it is exported to C."""
     found = {}
-    for path in sorted(CRATES.glob("*/src/**/*.rt")):
-        crate, _, *name = path.relative_to(CRATES).parts
+    for path in sorted(crates.glob("*/src/**/*.rt")):
+        crate, _, *name = path.relative_to(crates).parts
         lines = path.read_text().splitlines()
         found[crate, "/".join(name)] = Source(crate, "/".join(name), lines, path)
     for (crate, name), source in found.items():
@@ -491,8 +393,8 @@ def sources():
         files = [root, *root.inline] if root else []
         files += filter(None, (found.get((crate, f"{module}.rt")) for module in public))
         words = {word for file in files for use in file.uses if use[0] for word in use[2:]}
+        is_inside = re.split(r"[/.]", name)[0] in (*public, "lib")
         for call in source.calls:
-            is_inside = re.split(r"[/.]", name)[0] in (*public, "lib")
             is_passed_on = (call.owner or call.name).split("::")[-1] in words
             is_given = is_inside or is_passed_on or root is None or call.is_exported
             call.public = call.public and is_given
@@ -509,11 +411,9 @@ def stands_at(files, path):
     for at, name in enumerate(rest, 1):
         if here is None or name in ("declared", "contracts"):  # what the kit makes
             return here
-        found = here.find(name)
-        if found:
+        if found := here.find(name):
             return found
-        onward = here.passed_on.find(name)
-        if onward:
+        if onward := here.passed_on.find(name):
             return stands_at(files, (*onward, *rest[at:]))
         here = files.get((crate, name)) if here.name == "Lib" else None
     return here
@@ -538,10 +438,8 @@ def words_of(text):
 def target_of(files, imports, word, own=None):
     """The definition that a word names, or one of whose cases it is."""
     here = own and own.find(word.split(".")[0])
-    if here:
-        return here
     path = imports.find(word)
-    target = stands_at(files, path) if path else None
+    target = here or path and stands_at(files, path)
     return target if isinstance(target, Definition) else None
 
 
@@ -561,11 +459,13 @@ def cite(files, imports, text, own=None, cases=(), patterns=""):
 
 
 def read_all():
-    """Definitions with what they cite, and calls with what their contracts cite.
+    """The files of definitions, by crate and name, and of code, with what definitions and contracts
+    cite; the file `Lib` of a crate lists its others.
 
     A proof that a definition names counts by its statement, which says all that is known of it.
     """
-    files, code = specs(), sources()
+    files = map(SpecFile, sorted(CRATES.glob("*/specs/*.antt")))
+    files, code = {(file.crate, file.name): file for file in files}, sources()
     definitions = [(file, it) for file in files.values() for it in file.definitions.values()]
     for file, one in definitions:
         one.cites = cite(files, file.imports, one.around, file)
@@ -593,125 +493,3 @@ def reached(files, keys, proofs=False):
             todo += one.cites
             todo += one.serving if proofs else ()
     return seen
-
-
-# The public items of the crates, and where each is imported from.
-
-FACADES = ("const_oid", "der_core", "der_types", "x509_cert", "cert_desk")
-# What has claims, and is no library: what its modules call public has pages, too.
-PROGRAMS = ("cert_tool",)
-
-
-class House:
-    """All crates: items, impls, and what each path passes on."""
-
-    def __init__(self, code):
-        files = [file for source in code for file in (source, *source.inline)]
-        self.code = {(file.crate, file.name): file for file in files}
-        self.libraries = [
-            crate for crate in closure(dependencies())
-            if (crate, "lib.rt") in self.code or crate in PROGRAMS
-        ]
-        self.items = [item for file in files for item in file.items.values()]
-        self.macros = collections.defaultdict(dict)
-        self.public, self.scopes = {}, {}
-        for item in self.items:
-            if item.kind == "macro":
-                self.macros[item.crate][item.name] = item
-            named = item.is_public and item.crate in PROGRAMS
-            if named or item.call and item.call.is_exported:
-                self.public[item.key] = item
-        for crate in self.libraries:
-            self.walk(crate, (), crate in FACADES)
-        for file in files:
-            for impl in file.impls:
-                self.give(impl)
-
-    def file_of(self, crate, path):
-        """The file of a module."""
-        if path:
-            return self.code.get((crate, "/".join(path) + ".rt"))
-        return self.code.get((crate, "lib.rt")) or self.code.get((crate, "main.rt"))
-
-    def names(self, crate, path, inside=False):
-        """Maps each name of a module to the item or to the module that it stands for."""
-        file, found = self.file_of(crate, path), {}
-        if file is None:
-            return found
-        words = [*file.modules, *(use[3] for use in file.uses if use[2] != "*"), *file.items]
-        for word in words:
-            target = self.find(crate, path, word, inside)
-            if target is not None:
-                found[word] = target
-        for public, start, name, _ in file.uses:
-            target = self.at(crate, path, start) if name == "*" and (public or inside) else None
-            if isinstance(target, tuple):
-                found = self.names(*target) | found
-        return found
-
-    def find(self, crate, path, word, inside):
-        """What stands behind one name of a module, as seen inside of its crate or outside."""
-        file = self.file_of(crate, path)
-        if file is None:
-            return None
-        item = file.items.get(word)
-        if item and (inside or item.is_public):
-            return item
-        if inside and word in file.modules or file.modules.get(word):
-            return (crate, (*path, word))
-        for public, start, name, alias in file.uses:
-            if (public or inside) and alias == word:
-                return self.at(crate, path, [*start, name])
-        return None if path else self.macros[crate].get(word)
-
-    def at(self, crate, path, words):
-        """The item or the module at a path, as a `use` line of a module writes it."""
-        head, *rest = words or ["self"]
-        if head == "crate":
-            place = (crate, ())
-        elif head in ("self", "super"):
-            place = (crate, path if head == "self" else path[:-1])
-        elif head in self.libraries:
-            place = (head, ())
-        else:
-            place, rest = (crate, path), words
-        for word in rest:
-            if not isinstance(place, tuple):
-                return None
-            place = self.find(*place, word, place[0] == crate)
-        return place
-
-    def walk(self, crate, path, is_facade):
-        """Notes each item that a crate passes on, and where a user of a facade finds it."""
-        here = self.names(crate, path) | ({} if path else self.macros[crate])
-        for name, target in here.items():
-            if isinstance(target, Item):
-                if target.crate == crate:
-                    self.public[target.key] = target
-                if is_facade:
-                    target.imports.append("::".join((crate, *path, name)))
-            elif target[0] == crate:
-                self.walk(crate, target[1], is_facade)
-            elif is_facade:
-                for inner, item in self.names(*target).items():
-                    if isinstance(item, Item):
-                        item.imports.append("::".join((crate, *path, name, inner)))
-
-    def give(self, impl):
-        """Gives an impl to its type; where that is none of the repository, to its trait."""
-        names = self.names_in(impl.source)
-        item = names.get(impl.owner.split("::")[-1])
-        trait = names.get((impl.trait or "").split("::")[-1])
-        if isinstance(item, Item):
-            item.impls.append(impl)
-            item.methods += [call for call in impl.members if call.public and not impl.trait]
-        elif isinstance(trait, Item):
-            trait.impls.append(impl)
-
-    def names_in(self, source):
-        """What the names of a file stand for."""
-        name = source.name.removesuffix(".rt")
-        path = () if name in ("lib", "main") else tuple(name.split("/"))
-        if source not in self.scopes:
-            self.scopes[source] = self.names(source.crate, path, True)
-        return self.scopes[source]

@@ -4,7 +4,6 @@
     tools/take.py CRATE.. FOLDER            copies them into FOLDER/crates, and adds their lines to
                                             FOLDER/crates.txt; a crate that is there is left
     tools/take.py --again CRATE.. FOLDER    exchanges those that are there, too
-    tools/take.py --list CRATE..            prints the lines of crates.txt alone
 
 With --release RELEASE it lays the libraries of a release there, as tools/release.py does, so that
 `rt` proves none of them again.
@@ -14,7 +13,6 @@ there. It writes into FOLDER/TAKEN.md of which version each crate is. It needs n
 with --release the kit and zstd.
 """
 
-import argparse
 import pathlib
 import re
 import shutil
@@ -25,20 +23,16 @@ import sources
 
 def note(path, taken):
     """Writes of which version each crate is: those that were taken now of this one."""
-    number = sources.version()
-    commit = release.asked("git", "rev-parse", "--short=12", "HEAD") or "unknown"
-    head, versions = "", {}
+    versions, head = {}, ""
     for line in path.read_text().splitlines() if path.exists() else []:
+        head = head if not line or line.startswith("- ") else line
         if line.startswith("- "):
-            versions[line[3:-1]] = head
-        elif line:
-            head = line
-    now = f"Taken from Wurstdrape {number}, commit {commit}, under Apache-2.0 or MIT:"
-    versions.update(dict.fromkeys(taken, now))
-    parts = []
-    for head in dict.fromkeys(versions.values()):
-        names = [f"- `{name}`" for name in versions if versions[name] == head]
-        parts.append("\n".join([head, "", *names]))
+            versions[line] = head
+    commit = release.asked("git", "rev-parse", "--short=12", "HEAD") or "unknown"
+    now = f"Taken from Wurstdrape {sources.version()}, commit {commit}, under Apache-2.0 or MIT:"
+    versions |= {f"- `{name}`": now for name in taken}
+    parts = ["\n".join([head, "", *(it for it in versions if versions[it] == head)])
+             for head in dict.fromkeys(versions.values())]
     path.write_text("\n\n".join(parts) + "\n")
 
 
@@ -66,32 +60,26 @@ def take(lines, folder, again, parts):
 
 
 def main():
-    kind = argparse.RawDescriptionHelpFormatter
-    words = argparse.ArgumentParser(description=__doc__, formatter_class=kind)
+    words = sources.arguments(__doc__)
     words.add_argument("--release", type=pathlib.Path)
     words.add_argument("--again", action="store_true")
     words.add_argument("--edits", action="store_true")
-    words.add_argument("--list", action="store_true")
-    words.add_argument("names", nargs="+", metavar="CRATE.. FOLDER")
+    words.add_argument("names", nargs="+", metavar="CRATE")
+    words.add_argument("folder", type=pathlib.Path, metavar="FOLDER")
     given, rows, crates = words.parse_args(), sources.rows(), sources.dependencies()
-    names = given.names if given.list else given.names[:-1]
-    unknown = [name for name in names if name not in crates]
-    if not names or unknown:
-        words.error(f"no crate of this repository: {' '.join(unknown)}" if unknown else "no crate")
-    lines = {name: rows[name] for name in sources.closure(names)}
-    if given.list:
-        print("\n".join(lines.values()))
-        return
+    unknown = [name for name in given.names if name not in crates]
+    if unknown:
+        words.error(f"no crate of this repository: {' '.join(unknown)}")
     if given.release:
         release.same_kit(release.read(given.release))
-    folder = pathlib.Path(given.names[-1])
+    lines = {name: rows[name] for name in sources.closure(given.names)}
     parts = ["src", "specs", "proofs", *["must-fail"] * given.edits]
-    taken = take(lines, folder, given.again, parts)
+    taken = take(lines, given.folder, given.again, parts)
     libraries = sorted({it for name in lines for it in crates[name]} - set(crates))
     print(f"taken: {' '.join(taken) or 'nothing'}")
     print(f"libraries of the kit: {' '.join(libraries) or 'none'}")
     if given.release:
-        print("{} of {} libraries laid".format(*release.lay(given.release, folder)))
+        release.lay(given.release, given.folder)
 
 
 if __name__ == "__main__":

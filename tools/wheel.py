@@ -15,56 +15,47 @@ import platform
 import sys
 import zipfile
 
-import sources
+from sources import TOP, version
 
-TOP = sources.TOP
-PACKAGE = TOP / "bindings" / "python" / "src" / "wurstdrape"
-
-METADATA = """Metadata-Version: 2.1
+TAG = f"py3-none-linux_{platform.machine()}"
+INFO = f"wurstdrape-{version()}.dist-info"
+METADATA = f"""Metadata-Version: 2.1
 Name: wurstdrape
-Version: {version}
+Version: {version()}
 Summary: Certificates (RFC 5280), revocation lists and requests, read and judged by proved code
 License: MIT OR Apache-2.0
 Requires-Python: >=3.9
 Provides-Extra: verifier
 Requires-Dist: cryptography; extra == "verifier"
 """
-WHEEL = """Wheel-Version: 1.0
+WHEEL = f"""Wheel-Version: 1.0
 Generator: tools/wheel.py
 Root-Is-Purelib: false
-Tag: {tag}
+Tag: {TAG}
 """
 
 
-def files(calls):
-    """The name of each file of the package, and its octets."""
-    for file in sorted(PACKAGE.glob("*.py")):
-        yield f"wurstdrape/{file.name}", file.read_bytes()
-    yield "wurstdrape/py.typed", b""
-    # the verifier that reads the lines of questions
-    yield "wurstdrape/answer.py", (TOP / "examples" / "answer.py").read_bytes()
-    for library in ("libwurstdrape.so", "libwurstdrape_issue.so"):
-        yield f"wurstdrape/{library}", (pathlib.Path(calls) / library).read_bytes()
-
-
-def sum_of(octets):
-    digest = base64.urlsafe_b64encode(hashlib.sha256(octets).digest()).rstrip(b"=")
-    return f"sha256={digest.decode()}"
+def row(name, octets):
+    """The row of a file in RECORD."""
+    digest = base64.urlsafe_b64encode(hashlib.sha256(octets).digest()).rstrip(b"=").decode()
+    return f"{name},sha256={digest},{len(octets)}\n"
 
 
 def main():
     if len(sys.argv) != 3:
         sys.exit(__doc__)
-    calls, folder = sys.argv[1:]
-    tag = f"py3-none-linux_{platform.machine()}"
-    info = f"wurstdrape-{sources.version()}.dist-info"
-    held = dict(files(calls))
-    held[f"{info}/METADATA"] = METADATA.format(version=sources.version()).encode()
-    held[f"{info}/WHEEL"] = WHEEL.format(tag=tag).encode()
-    rows = [f"{name},{sum_of(octets)},{len(octets)}" for name, octets in held.items()]
-    held[f"{info}/RECORD"] = "\n".join([*rows, f"{info}/RECORD,,", ""]).encode()
-    wheel = pathlib.Path(folder) / f"wurstdrape-{sources.version()}-{tag}.whl"
-    wheel.parent.mkdir(parents=True, exist_ok=True)
+    calls, folder = map(pathlib.Path, sys.argv[1:])
+    # With the verifier that reads the lines of questions.
+    files = [*sorted((TOP / "bindings/python/src/wurstdrape").glob("*.py")),
+             TOP / "examples/answer.py",
+             calls / "libwurstdrape.so", calls / "libwurstdrape_issue.so"]
+    held = {f"wurstdrape/{path.name}": path.read_bytes() for path in files}
+    held |= {"wurstdrape/py.typed": b"", f"{INFO}/METADATA": METADATA.encode(),
+             f"{INFO}/WHEEL": WHEEL.encode()}
+    record = "".join(row(*it) for it in held.items()) + f"{INFO}/RECORD,,\n"
+    held[f"{INFO}/RECORD"] = record.encode()
+    folder.mkdir(parents=True, exist_ok=True)
+    wheel = folder / f"wurstdrape-{version()}-{TAG}.whl"
     with zipfile.ZipFile(wheel, "w", zipfile.ZIP_DEFLATED) as archive:
         for name, octets in held.items():
             entry = zipfile.ZipInfo(name, (1980, 1, 1, 0, 0, 0))
