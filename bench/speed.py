@@ -22,6 +22,7 @@ that CLONE has built (`out/rlib`); `cert_tool` and `cert_desk_program` are those
 may have any of these programs instead, by their names.
 """
 
+import argparse
 import datetime
 import os
 import pathlib
@@ -42,20 +43,30 @@ import release
 PAGE = HERE / "SPEED.md"
 ROOTS = pathlib.Path("/usr/share/ca-certificates/mozilla")
 
-# What 0.10.0 took: a root written, shown and described, by the same differences.
-WRITTEN, SHOWN, DESCRIBED = 11942, 52217, 325328
+# The table of the page: what is counted, by which name, beside what, by which name or as a number,
+# and the most that is wanted.
+ROWS = (
+    ("a root, read and dropped", "x509_cert, read", "by mbedTLS", "mbedTLS, read",
+     "0.65, and 10 calls"),
+    ("a root, read into a `Bundle` and judged",
+     "cert_desk_checking, read into a bundle and checked", "read", "x509_cert, read",
+     "1.34, and 13,000"),
+    ("a root, written again", "written", "by 0.10.0", 11942, "0.75"),
+    ("a chain of four, judged by `check`", "cert_desk_checking", "by mbedTLS", "mbedTLS", "0.50"),
+    ("a root, read and shown", "cert_desk_listing, read and shown", "by OpenSSL",
+     "OpenSSL, read and shown", ""),
+    ("a root, by `cert_desk show`", "show", "by 0.10.0", 52217, "0.5"),
+    ("a root, by `cert_tool describe`", "describe", "by 0.10.0", 325328, "0.5"),
+    ("a chain of four, by `cert_tool verify`", "verify", "by `check`", "check", "1.3"),
+    ("kB of a stream of 10,000, at most", "fed", "certificates, octets", "kept", "1.06"),
+)
 
 
-def said(*words, check=True, **how):
+def said(*words, **how):
     """What a command prints."""
     words = [str(it) for it in words]
-    how = {"stdout": subprocess.PIPE, "stderr": subprocess.DEVNULL, **how}
-    ran = subprocess.run(words, check=check, **how)
-    return ran.stdout
-
-
-def first_line(*words):
-    return said(*words, check=False, cwd=TOP).decode().partition("\n")[0]
+    how = {"stdout": subprocess.PIPE, "stderr": subprocess.DEVNULL, "check": True, **how}
+    return subprocess.run(words, **how).stdout
 
 
 def told_by(pattern, *words):
@@ -94,7 +105,7 @@ class Bench:
     def program(self, name, folder=None, libraries=""):
         """A program by its name; one of bench/FOLDER stands on these libraries."""
         if self.programs and (self.programs / name).is_file():
-            return self.programs / name
+            return (self.programs / name).resolve()
         if folder is None:
             return TOP / "crates" / name / "out" / name
         crates = self.work / "crates"
@@ -165,6 +176,11 @@ def roots(bench):
         ("headers in C", walk),
     ):
         bench.count(name, count, [*command, file, None])
+    read, written, lent = (
+        bench.counts[f"x509_cert, read{it}"]
+        for it in ("", " and written", " by a program that lends it")
+    )
+    bench.counts["written"] = written[0] - lent[0], written[1] - read[1]
     bench.say(f"read and differ: {said(uses, 'write', file, 1).decode().strip()}")
     refused = said(uses, "weigh", file, 1).decode().strip()
     bench.say(f"read and hold an extension that is refused: {refused}")
@@ -281,30 +297,6 @@ def pieces(bench):
 PARTS = {it.__name__: it for it in (roots, chains, show, tool, pieces)}
 
 
-def rows(counts):
-    """What is counted, how much and how many calls for memory it takes, beside what, how much that
-    is and takes, and the most that is wanted."""
-    read, both = counts["x509_cert, read"], counts["x509_cert, read and written"]
-    mbedtls = counts["mbedTLS, read"]
-    yield "a root, read and dropped", read, "by mbedTLS", mbedtls, "0.65, and 10 calls"
-    checked = counts["cert_desk_checking, read into a bundle and checked"]
-    yield "a root, read into a `Bundle` and judged", checked, "read", read, "1.34, and 13,000"
-    lent = counts["x509_cert, read by a program that lends it"]
-    written = both[0] - lent[0], both[1] - read[1]
-    yield "a root, written again", written, "by 0.10.0", (WRITTEN, None), "0.75"
-    for what, name, beside, other, most in (
-        ("a chain of four, judged by `check`", "cert_desk_checking", "by mbedTLS", "mbedTLS",
-         "0.50"),
-        ("a root, read and shown", "cert_desk_listing, read and shown", "by OpenSSL",
-         "OpenSSL, read and shown", ""),
-        ("a root, by `cert_desk show`", "show", "by 0.10.0", SHOWN, "0.5"),
-        ("a root, by `cert_tool describe`", "describe", "by 0.10.0", DESCRIBED, "0.5"),
-        ("a chain of four, by `cert_tool verify`", "verify", "by `check`", "check", "1.3"),
-        ("kB of a stream of 10,000, at most", "fed", "certificates, octets", "kept", "1.06"),
-    ):
-        yield what, counts[name], beside, counts.get(other) or (other, None), most
-
-
 def told(count):
     """How much, and how many calls for memory, where they are counted."""
     much, asked = count
@@ -314,49 +306,51 @@ def told(count):
 
 
 def page(bench):
-    mbedtls = first_line("dpkg-query", "-W", "-f", "${Version}\n", "libmbedtls-dev")
+    def first_line(*words):
+        return said(*words, check=False, cwd=TOP).decode().partition("\n")[0]
+
     commit = first_line("git", "log", "-1", "--format=%h", "--", "crates")
     kit = first_line("rt", "version").partition(" ")[0]
+    mbedtls = first_line("dpkg-query", "-W", "-f", "${Version}\n", "libmbedtls-dev")
     openssl = first_line("openssl", "version").split(" ")[1]
-    of = f"{datetime.date.today()}, crates of {commit}, {kit}, LLVM"
-    out = [
-        "# What reading, judging and writing cost",
-        "",
-        "Written by `bench/speed.py`, of proved builds, in one run",
-        f"({of}, mbedTLS {mbedtls}, OpenSSL {openssl}).",
-        "",
-        "Instructions are valgrind's: the mean of a root of `ca-certificates`, or of a chain of",
-        "four, by differences that leave out the start of a program. Of `cert_tool` and",
-        "`cert_desk` they are those of a run less a run that finds a wrong word. After them stand",
-        "the calls for memory, likewise.",
-        "",
-        "| What | Counted | Beside | Counted | Ratio | Wanted, at most |",
-        "|---|---|---|---|---|---|",
-    ]
-    for what, count, beside, other, most in rows(bench.counts):
+    yield f"""# What reading, judging and writing cost
+
+Written by `bench/speed.py`, of proved builds, in one run
+({datetime.date.today()}, crates of {commit}, {kit}, LLVM, mbedTLS {mbedtls}, OpenSSL {openssl}).
+
+Instructions are valgrind's: the mean of a root of `ca-certificates`, or of a chain of
+four, by differences that leave out the start of a program. Of `cert_tool` and
+`cert_desk` they are those of a run less a run that finds a wrong word. After them stand
+the calls for memory, likewise.
+
+| What | Counted | Beside | Counted | Ratio | Wanted, at most |
+|---|---|---|---|---|---|
+"""
+    for what, name, beside, other, most in ROWS:
+        count, other = bench.counts[name], bench.counts.get(other) or (other, None)
         ratio = f"{count[0] / other[0]:.3f}"
-        out.append(f"| {what} | {told(count)} | {beside} | {told(other)} | {ratio} | {most} |")
-    return "\n".join([*out, "", "What the script prints:", "", "```text", *bench.lines, "```", ""])
+        yield f"| {what} | {told(count)} | {beside} | {told(other)} | {ratio} | {most} |\n"
+    yield "\n".join(["", "What the script prints:", "", "```text", *bench.lines, "```", ""])
 
 
-def main(words):
-    given = {}
-    while len(words) > 1 and words[0] in ("--programs", "--built"):
-        given[words[0]] = pathlib.Path(words[1]).resolve()
-        words = words[2:]
-    if set(words) - set(PARTS):
-        print(__doc__, file=sys.stderr)
-        return 2
+def main():
+    form = argparse.RawDescriptionHelpFormatter
+    parser = argparse.ArgumentParser(description=__doc__, formatter_class=form)
+    parser.add_argument("--programs", type=pathlib.Path, metavar="FOLDER")
+    parser.add_argument("--built", type=pathlib.Path, metavar="CLONE")
+    parser.add_argument("parts", nargs="*", metavar="PART")
+    words = parser.parse_args()
+    if set(words.parts) - set(PARTS):
+        parser.error(f"the parts are {', '.join(PARTS)}")
     needs.check(__file__)
     with tempfile.TemporaryDirectory() as work:
-        bench = Bench(work, given.get("--programs"), given.get("--built"))
-        for name in words or PARTS:
+        bench = Bench(work, words.programs, words.built)
+        for name in words.parts or PARTS:
             bench.say(name)
             PARTS[name](bench)
-        if not words:
-            PAGE.write_text(page(bench))
-    return 0
+        if not words.parts:
+            PAGE.write_text("".join(page(bench)))
 
 
 if __name__ == "__main__":
-    sys.exit(main(sys.argv[1:]))
+    main()

@@ -30,25 +30,17 @@ trap 'rm -rf "$toolchain"' EXIT
 mkdir "$toolchain/bin"
 ln -s "$kit/toolchain/lib" "$toolchain/"
 ln -s "$kit"/toolchain/bin/* "$toolchain/bin/"
-rm "$toolchain/bin/clang"
-cat >"$toolchain/bin/clang" <<END
+mv "$toolchain/bin/clang" "$toolchain/clang"
+cat >"$toolchain/bin/clang" <<'END'
 #!/usr/bin/env bash
 set -e
-clang=$kit/toolchain/bin/clang
-END
-cat >>"$toolchain/bin/clang" <<'END'
-words=("$@")
-for at in "${!words[@]}"; do
-    case ${words[at]} in
-        module.bc) words[at]=merged.ll ;;
-        -O3) words[at]=-O2 ;;
-    esac
-done
+clang=$(dirname "$0")/../clang
+words=("${@/#module.bc/merged.ll}")
 "$clang" "$1" -fPIC -O0 -Xclang -fmerge-functions -mllvm -mergefunc-use-aliases \
     -emit-llvm -S -x ir module.bc -o merged.ll
 calls='der_core_octets::parse::long_length_of|cert_tool_lines::lines::Lines::'
 sed -i -E "/^define .*@\"($calls)/ s/ (#[0-9]+) \{\$/ noinline \1 {/" merged.ll
-exec "$clang" "${words[@]}" -mllvm -force-attribute=optsize -mllvm -inline-threshold=225
+exec "$clang" "${words[@]/#-O3/-O2}" -mllvm -force-attribute=optsize -mllvm -inline-threshold=225
 END
 chmod +x "$toolchain/bin/clang"
 

@@ -3,9 +3,10 @@
 #
 #     bindings/test.sh FOLDER [COUNT]
 #
-# COUNT is how many changed files are answered through each language (100,000). A suite that needs
-# what this machine lacks (a sanitizer, valgrind, cargo, a Python of 3.10) is left out, and that is
-# told. The last line is 'N passed, M failed', of suites, and the status is 1 where one failed.
+# COUNT is how many changed files are answered through C and through Rust (100,000). A suite that
+# needs what this machine lacks (a sanitizer, valgrind, cargo, a Python of 3.10) is left out, and
+# that is told. The last line is 'N passed, M failed', of suites, and the status is 1 where one
+# failed.
 set -uo pipefail
 here=$(cd "$(dirname "$0")" && pwd)
 top=$(dirname "$here")
@@ -19,13 +20,15 @@ cc=${CC:-cc}
 passed=0 failed=0
 export PYTHONPATH=$work/module PYTHONDONTWRITEBYTECODE=1
 export WURSTDRAPE=$folder CARGO_TARGET_DIR=$work/target
+manifest=(--offline --manifest-path "$here/rust/Cargo.toml")
 
-# What a suite says, and whether it passed.
+# suite NAME LACK COMMAND..: runs a suite, unless this machine lacks something, and counts it.
 suite() {
-    local name=$1 began=$SECONDS
-    shift
-    printf '\n== %s\n' "$name"
-    if "$@"; then
+    local began=$SECONDS
+    printf '\n== %s\n' "$1"
+    if [ -n "$2" ]; then
+        echo "left out: $2"
+    elif "${@:3}"; then
         passed=$((passed + 1))
         echo "passed in $((SECONDS - began)) seconds"
     else
@@ -33,44 +36,33 @@ suite() {
         echo "FAILED"
     fi
 }
-left_out() { printf '\n== %s\nleft out: %s\n' "$1" "$2"; }
 
-# Whether a program that is compiled with these flags runs here, behind what `under` names.
-runs() {
+# Prints why a program that is compiled with these flags can't run here, behind what `under` names.
+lack_of() {
     echo 'int main(void) { return 0; }' >"$work/tried.c"
-    "$cc" "$@" "$work/tried.c" -o "$work/tried" 2>"$work/why" &&
-        ${under:-} "$work/tried" >"$work/why" 2>&1
+    { "$cc" "$@" "$work/tried.c" -o "$work/tried" && ${under:-} "$work/tried"; } \
+        >"$work/why" 2>&1 ||
+        echo "this machine's compiler or system can't run it ($(tail -n 1 "$work/why"))"
 }
-why() { echo "this machine's compiler or system can't run it ($(tail -n 1 "$work/why"))"; }
 
-flags=(-std=c11 -g -O1 -Wall -Wextra -Werror -I"$folder")
+flags=(-std=c11 -g -O1 -Wall -Wextra -Werror -I"$folder" -pthread)
+archives=("$folder/libwurstdrape.a" "$folder/libwurstdrape_issue.a")
+shared=(-L"$folder" -lwurstdrape -lwurstdrape_issue -Wl,-rpath,"$folder")
 wrap=(-DWRAPPED "-Wl,--wrap=malloc,--wrap=realloc,--wrap=free")
 ends=(-fsanitize=address,undefined -fno-sanitize-recover=all)
-archives=("$folder/libwurstdrape.a" "$folder/libwurstdrape_issue.a")
-by_archive() { "$cc" "${flags[@]}" "$@" "$here/c/test.c" "${archives[@]}" -pthread; }
-by_shared() {
-    "$cc" "${flags[@]}" "$@" "$here/c/test.c" -L"$folder" -lwurstdrape -lwurstdrape_issue \
-        -Wl,-rpath,"$folder" -pthread
-}
 
-sanitized() {
-    by_archive "${wrap[@]}" "${ends[@]}" -o "$work/sanitized" && "$work/sanitized" "$top"
-}
-refused() { by_archive "${wrap[@]}" -o "$work/refused" && "$work/refused" "$top"; }
-watched() { by_archive -fsanitize=thread -o "$work/threads" && "$work/threads" "$top"; }
-shared() { by_shared -o "$work/shared" && "$work/shared" "$top"; }
-by_valgrind() {
-    by_shared -o "$work/shared" &&
-        valgrind -q --error-exitcode=1 --leak-check=full "$work/shared" "$top"
+# Runs c/test.c, compiled and linked with these words.
+in_c() {
+    "$cc" "${flags[@]}" "$here/c/test.c" "$@" -o "$work/test" && ${under:-} "$work/test" "$top"
 }
 examples() {
-    local data=$top/crates/cert_tool/data
-    "$cc" "${flags[@]}" "$here/c/first.c" "$folder/libwurstdrape.a" -o "$work/first" &&
-        "$cc" "${flags[@]}" "$here/c/verify.c" "$folder/libwurstdrape.a" -o "$work/verify" &&
+    local answers=$top/crates/cert_tool/data/answers.txt verify
+    verify=("$work/verify" "$top/examples/root.der" "$top/examples/chain.der")
+    "$cc" "${flags[@]}" "$here/c/first.c" "${archives[0]}" -o "$work/first" &&
+        "$cc" "${flags[@]}" "$here/c/verify.c" "${archives[0]}" -o "$work/verify" &&
         "$work/first" "$top/examples/server.der" >"$work/listing" &&
         grep -q '^subject CN=desk.example$' "$work/listing" &&
-        "$work/verify" "$data/root.der" "$data/chain.der" "$data/answers.txt" 1780000000 &&
-        ! "$work/verify" "$data/root.der" "$data/chain.der" /dev/null 1780000000
+        "${verify[@]}" "$answers" 1780000000 && ! "${verify[@]}" /dev/null 1780000000
 }
 python_tests() {
     local wheel
@@ -78,63 +70,33 @@ python_tests() {
         python3 -m zipfile -e "$wheel" "$work/module" &&
         python3 -m unittest "$here/python/test_wurstdrape.py"
 }
-rust_tests() { cargo test --quiet --offline --manifest-path "$here/rust/Cargo.toml"; }
-
-# One line of each language that is at hand, all of them alike.
+# Through C, and the same through Rust where there is cargo: each prints one line.
 changed_files() {
-    "$cc" "${flags[@]}" -O2 "$here/c/mutated.c" "$folder/libwurstdrape.a" -o "$work/mutated" &&
-        "$work/mutated" "$top" "$count" >"$work/sums" || return 1
-    if [ -d "$work/module" ]; then
-        python3 "$here/python/mutated.py" "$count" >>"$work/sums" || return 1
-    fi
-    if [ "$has_cargo" = 1 ]; then
-        cargo run --quiet --release --offline --manifest-path "$here/rust/Cargo.toml" \
-            --example mutated -- "$count" >>"$work/sums" || return 1
-    fi
-    cat "$work/sums"
-    [ "$(sort -u "$work/sums" | wc -l)" = 1 ] && return
-    echo "two languages answer otherwise"
-    return 1
+    "$cc" "${flags[@]}" -O2 "$here/c/mutated.c" "${archives[0]}" -o "$work/mutated" &&
+        "$work/mutated" "$top" "$count" | tee "$work/sum" || return 1
+    [ -n "$no_cargo" ] ||
+        cargo run --quiet --release "${manifest[@]}" --example mutated -- "$count" |
+        diff "$work/sum" -
 }
 
-has_python=0 has_cargo=0
-python3 -c 'import ctypes, sys, unittest; sys.exit(sys.version_info < (3, 10))' 2>/dev/null &&
-    has_python=1
-cargo metadata --offline --no-deps --format-version 1 --manifest-path "$here/rust/Cargo.toml" \
-    >/dev/null 2>&1 && rustc --version >/dev/null 2>&1 && has_cargo=1
+no_python=$(python3 -c 'import ctypes, sys, unittest; sys.exit(sys.version_info < (3, 10))' \
+    2>/dev/null || echo "there is no python3 of 3.10 or later")
+no_cargo=$({ cargo metadata --no-deps --format-version 1 "${manifest[@]}" && rustc --version; } \
+    >/dev/null 2>&1 || echo "there is no cargo that reads bindings/rust")
 
-if [ $has_python = 1 ]; then
-    suite "the header beside the sources" "$top/tools/header.py"
-fi
-suite "C" shared
-suite "C, examples" examples
-suite "C, each request for memory refused" refused
-if runs "${ends[@]}"; then
-    suite "C, with the sanitizers for addresses and for undefined behaviour" sanitized
-else
-    left_out "C, with the sanitizers for addresses and for undefined behaviour" "$(why)"
-fi
-if runs -fsanitize=thread; then
-    suite "C, with threads watched" watched
-else
-    left_out "C, with threads watched" "$(why)"
-fi
-if command -v valgrind >/dev/null && under="valgrind -q --error-exitcode=1" runs -g; then
-    suite "C, over the shared library, by valgrind" by_valgrind
-else
-    left_out "C, over the shared library, by valgrind" "it isn't installed, or doesn't run here"
-fi
-if [ $has_python = 1 ]; then
-    suite "Python" python_tests
-    suite "Python, rows of cert_tool and test_cert_rows" python3 "$here/python/rows.py"
-else
-    left_out "Python" "there is no python3 of 3.10 or later"
-fi
-if [ $has_cargo = 1 ]; then
-    suite "Rust" rust_tests
-else
-    left_out "Rust" "there is no cargo that reads bindings/rust"
-fi
-suite "$count changed files, through each language at hand" changed_files
+suite "the header beside the sources" "$no_python" "$top/tools/header.py"
+suite "C" "" in_c "${shared[@]}"
+suite "C, examples" "" examples
+suite "C, each request for memory refused" "" in_c "${archives[@]}" "${wrap[@]}"
+suite "C, with the sanitizers for addresses and for undefined behaviour" "$(lack_of "${ends[@]}")" \
+    in_c "${archives[@]}" "${wrap[@]}" "${ends[@]}"
+suite "C, with threads watched" "$(lack_of -fsanitize=thread)" \
+    in_c "${archives[@]}" -fsanitize=thread
+under="valgrind -q --error-exitcode=1 --leak-check=full"
+suite "C, over the shared library, by valgrind" "$(lack_of -g)" in_c "${shared[@]}"
+under=
+suite "Python" "$no_python" python_tests
+suite "Rust" "$no_cargo" cargo test --quiet "${manifest[@]}"
+suite "$count changed files, through C and Rust" "" changed_files
 printf '\n%s passed, %s failed\n' "$passed" "$failed"
 [ "$failed" = 0 ]

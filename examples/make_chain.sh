@@ -1,68 +1,31 @@
 #!/usr/bin/env bash
 # Makes a chain of three certificates in the folder FOLDER with OpenSSL 3: an RSA root, an
 # intermediate with a key on P-256, and a server's certificate with two DNS names. Each run makes
-# other keys; the files beside this script are those of one run.
+# other keys; the files beside this script were made so once, with dates from 2026 until 2036.
 set -euo pipefail
-folder=${1:?usage: make_chain.sh FOLDER}
-mkdir -p "$folder"
-cd "$folder"
-dates=(-startdate 20260101000000Z -enddate 20360101000000Z)
+mkdir -p "${1:?usage: make_chain.sh FOLDER}"
+cd "$1"
 work=$(mktemp -d)
 trap 'rm -rf "$work"' EXIT
 
-openssl genrsa -out "$work/root.key" 2048
-openssl ecparam -genkey -noout -name prime256v1 -out "$work/intermediate.key"
-openssl ecparam -genkey -noout -name prime256v1 -out "$work/server.key"
-
-cat > "$work/ca.cnf" <<'CNF'
-[ca]
-default_ca = desk
-[desk]
-database = $ENV::WORK/index.txt
-new_certs_dir = $ENV::WORK
-rand_serial = yes
-default_md = sha256
-policy = any
-unique_subject = no
-[any]
-countryName = optional
-organizationName = optional
-commonName = supplied
-[root]
-basicConstraints = critical, CA:true
-keyUsage = critical, keyCertSign, cRLSign
-subjectKeyIdentifier = hash
-[intermediate]
-basicConstraints = critical, CA:true, pathlen:0
-keyUsage = critical, keyCertSign, cRLSign
-extendedKeyUsage = serverAuth
-subjectKeyIdentifier = hash
-authorityKeyIdentifier = keyid
-[server]
-basicConstraints = critical, CA:false
-keyUsage = critical, digitalSignature
-extendedKeyUsage = serverAuth
-subjectAltName = DNS:desk.example, DNS:www.desk.example
-subjectKeyIdentifier = hash
-authorityKeyIdentifier = keyid
-CNF
-: > "$work/index.txt"
-export WORK=$work
-
-# certify NAME SUBJECT ISSUER: the certificate of NAME's key under ISSUER's
+# certify NAME SUBJECT ISSUER ALGORITHM EXTENSION..: the certificate of a new key, for ten years
 certify() {
-    openssl req -new -key "$work/$1.key" -subj "$2" -out "$work/$1.csr"
-    local by=(-cert "$work/$3.pem" -keyfile "$work/$3.key")
-    if [ "$1" = "$3" ]; then
-        by=(-selfsign -keyfile "$work/$3.key")
-    fi
-    openssl ca -batch -notext -config "$work/ca.cnf" -extensions "$1" "${dates[@]}" "${by[@]}" \
-        -in "$work/$1.csr" -out "$work/$1.pem"
+    local key=(-newkey "$4") by=() extension
+    [ "$4" != ec ] || key+=(-pkeyopt ec_paramgen_curve:P-256)
+    [ "$3" = "$1" ] || by=(-CA "$work/$3.pem" -CAkey "$work/$3.key")
+    for extension in "${@:5}"; do by+=(-addext "$extension"); done
+    openssl req -x509 -config /dev/null "${key[@]}" -noenc -keyout "$work/$1.key" -subj "$2" \
+        -days 3650 "${by[@]}" -out "$work/$1.pem"
     openssl x509 -in "$work/$1.pem" -outform DER -out "$1.der"
 }
 
-certify root "/C=US/O=Desk Example/CN=Desk Root" root
-certify intermediate "/C=US/O=Desk Example/CN=Desk Intermediate" root
-certify server "/CN=desk.example" intermediate
+signs="keyUsage=critical,keyCertSign,cRLSign"
+certify root "/C=US/O=Desk Example/CN=Desk Root" root rsa:2048 \
+    "basicConstraints=critical,CA:true" "$signs"
+certify intermediate "/C=US/O=Desk Example/CN=Desk Intermediate" root ec \
+    "basicConstraints=critical,CA:true,pathlen:0" "$signs" "extendedKeyUsage=serverAuth"
+certify server "/CN=desk.example" intermediate ec \
+    "basicConstraints=critical,CA:false" "keyUsage=critical,digitalSignature" \
+    "extendedKeyUsage=serverAuth" "subjectAltName=DNS:desk.example,DNS:www.desk.example"
 # what a server sends: the certificates below the root, the one that the root signed first
 cat intermediate.der server.der > chain.der

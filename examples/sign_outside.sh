@@ -8,44 +8,34 @@ work=$(mktemp -d)
 trap 'rm -rf "$work"' EXIT
 cd "$work"
 
-# key KIND: a private key, and the encoding of its public key
+# key NAME WORD..: a private key, and the encoding of its public key
 key() {
-    case $1 in
-        rsa) openssl genpkey -quiet -algorithm RSA -pkeyopt rsa_keygen_bits:2048 -out "$1.pem" ;;
-        ed25519) openssl genpkey -algorithm ED25519 -out "$1.pem" ;;
-        *) openssl genpkey -algorithm EC -pkeyopt ec_paramgen_curve:P-256 -out "$1.pem" ;;
-    esac
+    openssl genpkey -quiet "${@:2}" -out "$1.pem"
     openssl pkey -in "$1.pem" -pubout -outform DER -out "$1.der"
 }
-
-# sign KIND PART: the signature of the root whose key is of that kind
-sign() {
-    case $1 in
-        ed25519) openssl pkeyutl -sign -inkey "$1.pem" -rawin -in "$2" ;;
-        *) openssl dgst -sha256 -sign "$1.pem" "$2" ;;
-    esac
-}
-
-key server
+key rsa -algorithm RSA -pkeyopt rsa_keygen_bits:2048
+key p256 -algorithm EC -pkeyopt ec_paramgen_curve:P-256
+key ed25519 -algorithm ED25519
+key server -algorithm EC -pkeyopt ec_paramgen_curve:P-256
 for kind in rsa p256 ed25519; do
-    key "$kind"
     printf '%s\n' "root $kind $kind.der server.der" "server $kind $kind.der server.der"
 done > questions
 
-# what is to be signed
-"$program" < questions > parts
-while read -r what kind keys <&3 && read -r part <&4; do
-    xxd -r -p <<< "$part" > part
-    sign "$kind" part > "$kind.$what"
-    echo "$what $kind $keys $kind.$what"
-done 3< questions 4< parts > signed
+# what is to be signed, and its signature by the root's key
+"$program" < questions | paste -d ' ' questions - > parts
+while read -r what kind keys; do
+    xxd -r -p <<< "${keys##* }" > part
+    digest=(-digest sha256)
+    [ "$kind" != ed25519 ] || digest=()
+    openssl pkeyutl -sign -inkey "$kind.pem" -rawin "${digest[@]}" -in part -out "$kind.$what"
+    echo "$what $kind ${keys% *} $kind.$what"
+done < parts > signed
 
 # the certificates
-"$program" < signed > certificates
-while read -r what kind _ <&3 && read -r certificate <&4; do
-    xxd -r -p <<< "$certificate" | openssl x509 -inform DER -out "$kind.$what.crt"
-done 3< signed 4< certificates
-
+"$program" < signed | paste -d ' ' signed - > certificates
+while read -r what kind words; do
+    xxd -r -p <<< "${words##* }" | openssl x509 -inform DER -out "$kind.$what.crt"
+done < certificates
 for kind in rsa p256 ed25519; do
     openssl verify -x509_strict -CAfile "$kind.root.crt" -purpose sslserver \
         -verify_hostname server.example "$kind.server.crt"

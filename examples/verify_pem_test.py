@@ -30,7 +30,8 @@ def changed(octets):
 LEAF, ROOT = encoding("server"), encoding("root")
 INTERMEDIATE = encoding("chain").removesuffix(LEAF)
 FORGED = changed(LEAF)
-UNRELATED = (HERE.parent / "crates/cert_tool/data/anchor.der").read_bytes()
+# One with other names.
+UNRELATED = LEAF.replace(b"esk", b"usk")
 
 # What is tried, the certificates of the file, the status, the output's lines, words of the error
 # output.

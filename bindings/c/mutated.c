@@ -1,7 +1,7 @@
 /* Has the calls answer changed files, and prints a sum of all answers: mutated TOP COUNT
 
-   Changes and sum are those of python/mutated.py and rust/examples/mutated.rs, so that what is
-   answered through each language can be compared: all print one line. */
+   Changes and sum are those of rust/examples/mutated.rs, so that what is answered through the
+   wrappers in Rust can be compared: both print one line. */
 #include <stdio.h>
 #include <stdlib.h>
 #include <string.h>
@@ -91,8 +91,8 @@ int main(int count, char **words) {
         return 2;
     }
     get(&server, words[1], "examples/server.der");
-    get(&root, words[1], "crates/cert_tool/data/root.der");
-    get(&chain, words[1], "crates/cert_tool/data/chain.der");
+    get(&root, words[1], "examples/root.der");
+    get(&chain, words[1], "examples/chain.der");
     get(&answers, words[1], "crates/cert_tool/data/answers.txt");
     get(&list, words[1], "crates/cert_tool/data/list.der");
     get(&request, words[1], "crates/cert_tool/data/request.der");

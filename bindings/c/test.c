@@ -449,8 +449,8 @@ int main(int count, char **words) {
     }
     top = words[1];
     get(&server, "examples/server.der");
-    get(&root, "crates/cert_tool/data/root.der");
-    get(&chain, "crates/cert_tool/data/chain.der");
+    get(&root, "examples/root.der");
+    get(&chain, "examples/chain.der");
     get(&answers, "crates/cert_tool/data/answers.txt");
     get(&list, "crates/cert_tool/data/list.der");
     get(&request, "crates/cert_tool/data/request.der");

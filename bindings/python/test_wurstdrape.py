@@ -2,38 +2,40 @@
 
     python3 -m unittest bindings/python/test_wurstdrape.py
 
-What is wanted was told by OpenSSL, or stands in a standard.
+What is wanted was told by OpenSSL, or stands in a standard, or is a test vector of a program.
 """
 
 import concurrent.futures
 import datetime
 import importlib.util
+import json
 import pathlib
+import re
+import sys
 import unittest
 
 import wurstdrape
 from wurstdrape import ChainFault, Error, FaultKind, Kind, Malformed, OrderFault, Rule, Status
 
 TOP = pathlib.Path(__file__).resolve().parents[2]
-DATA = TOP / "crates" / "cert_tool" / "data"
+sys.path.insert(0, str(TOP / "tests" / "rows"))
+
+import served
+
 # 2026-05-28
 MOMENT = 1780000000
 HAS_CRYPTOGRAPHY = importlib.util.find_spec("cryptography") is not None
 
 
 def read(name):
-    return (DATA / name).read_bytes()
-
-
-def example(name):
-    return (TOP / "examples" / name).read_bytes()
+    return (TOP / name).read_bytes()
 
 
 class Parts(unittest.TestCase):
     """What `openssl x509 -text` tells of examples/server.der."""
 
     def setUp(self):
-        self.der = example("server.der")
+        self.der = read("examples/server.der")
 
     def test_names(self):
         self.assertEqual(wurstdrape.subject(self.der), "CN=desk.example")
@@ -44,11 +46,10 @@ class Parts(unittest.TestCase):
         self.assertEqual(wurstdrape.serial_number(self.der), number)
 
     def test_validity(self):
-        zone = datetime.timezone.utc
-        first = datetime.datetime(2026, 1, 1, tzinfo=zone)
-        last = datetime.datetime(2036, 1, 1, tzinfo=zone)
-        told = wurstdrape.validity(self.der)
-        self.assertEqual((told.not_before, told.not_after), (first, last))
+        first, last = (
+            datetime.datetime(year, 1, 1, tzinfo=datetime.timezone.utc) for year in (2026, 2036)
+        )
+        self.assertEqual(wurstdrape.validity(self.der), wurstdrape.Validity(first, last))
 
     def test_extensions(self):
         # CA:FALSE, critical; TLS Web Server Authentication
@@ -56,10 +57,6 @@ class Parts(unittest.TestCase):
         purposes = bytes.fromhex("300a06082b06010505070301")
         self.assertEqual(wurstdrape.extension(self.der, "2.5.29.37"), (purposes, False))
         self.assertIsNone(wurstdrape.extension(self.der, "2.5.29.30"))
-
-    def test_description(self):
-        self.assertEqual(wurstdrape.describe(self.der)["subject"]["text"], "CN=desk.example")
-        self.assertIn("CN=desk.example", wurstdrape.describe_text(self.der))
 
     def test_parts(self):
         # where `openssl asn1parse` tells each
@@ -71,22 +68,22 @@ class Parts(unittest.TestCase):
         self.assertEqual(parts.public_key, self.der[170:261])
         self.assertEqual(wurstdrape.public_key(self.der), self.der[170:261])
         self.assertEqual(wurstdrape.name_text(parts.subject), wurstdrape.subject(self.der))
-        with self.assertRaises(Malformed):
-            wurstdrape.parts(self.der[:-1])
 
     def test_cut(self):
-        self.assertIsNone(wurstdrape.fault_of(self.der))
-        fault = wurstdrape.fault_of(self.der[:-1])
-        self.assertEqual(fault.kind, FaultKind.INCOMPLETE)
+        cut = self.der[:-1]
+        for call in (
+            wurstdrape.describe, wurstdrape.issuer, wurstdrape.parts, wurstdrape.show,
+            wurstdrape.subject, wurstdrape.validity, lambda der: wurstdrape.extension(der, "2.5"),
+        ):
+            with self.assertRaises(Malformed) as refused:
+                call(cut)
+            self.assertEqual(refused.exception.fault, wurstdrape.fault_of(cut))
+        self.assertEqual(wurstdrape.fault_of(cut).kind, FaultKind.INCOMPLETE)
         fault = wurstdrape.fault_of(self.der + b"\0")
         self.assertEqual((fault.kind, fault.octet), (FaultKind.TRAILING_DATA, len(self.der)))
-        with self.assertRaises(Malformed) as refused:
-            wurstdrape.subject(self.der[:-1])
-        self.assertEqual(refused.exception.fault.kind, FaultKind.INCOMPLETE)
 
-    def test_other_kinds(self):
-        self.assertEqual(wurstdrape.show(read("list.der"), Kind.LIST).split()[0], "list")
-        self.assertEqual(wurstdrape.show(read("request.der"), Kind.REQUEST).split()[0], "request")
+    def test_kinds(self):
+        self.assertIsNone(wurstdrape.fault_of(self.der))
         self.assertIsNotNone(wurstdrape.fault_of(self.der, Kind.LIST))
         self.assertIsNotNone(wurstdrape.fault_of(self.der, Kind.REQUEST))
 
@@ -115,66 +112,33 @@ class Texts(unittest.TestCase):
 
 
 class Chains(unittest.TestCase):
+    """examples/chain.der, whose two signatures OpenSSL verified."""
+
     def setUp(self):
-        self.root, self.chain = read("root.der"), read("chain.der")
-        self.answers = read("answers.txt")
+        self.root, self.chain = read("examples/root.der"), read("examples/chain.der")
+        self.server = read("examples/server.der")
 
-    def test_questions(self):
-        # OpenSSL verified both
-        self.assertEqual(wurstdrape.questions(self.root, self.chain), self.lines())
-
-    def lines(self):
-        return self.answers.splitlines(keepends=True)
-
-    def test_trusted(self):
-        self.assertTrue(wurstdrape.judge(self.answers, self.root, self.chain, MOMENT).trusted)
-        certificates = [self.chain[: self.first()], self.chain[self.first() :]]
-        verdict = wurstdrape.judge(self.lines(), [self.root], certificates, MOMENT)
+    def test_lists(self):
+        """Certificates and answers may be given one by one."""
+        answers = wurstdrape.questions([self.root], self.chain)
+        chain = [self.chain.removesuffix(self.server), self.server]
+        verdict = wurstdrape.judge(answers, [self.root], chain, MOMENT)
         self.assertTrue(verdict.trusted)
-
-    def first(self):
-        """The octets of the first certificate, by its header of four octets."""
-        return 4 + int.from_bytes(self.chain[2:4], "big")
-
-    def test_an_answer_less(self):
-        for place, line in enumerate(self.lines()):
-            others = [it for it in self.lines() if it != line]
+        for place in range(2):
+            others = answers[:place] + answers[place + 1 :]
             verdict = wurstdrape.judge(others, self.root, self.chain, MOMENT)
-            wanted = (Status.REFUSED, place, Rule.WRONG_SIGNATURE)
-            self.assertEqual((verdict.status, verdict.place, verdict.rule), wanted)
-
-    def test_refusals(self):
-        verdict = wurstdrape.judge(self.answers, self.root, self.chain, 1)
-        self.assertEqual(verdict.rule, Rule.NOT_YET_VALID)
-        verdict = wurstdrape.judge(self.answers, self.root, self.chain, 4102444800)
-        self.assertEqual(verdict.rule, Rule.EXPIRED)
-        email = "1.3.6.1.5.5.7.3.4"
-        verdict = wurstdrape.judge(self.answers, self.root, self.chain, MOMENT, email)
-        self.assertEqual(verdict.rule, Rule.AGAINST_PURPOSE)
-
-    def test_faults(self):
-        verdict = wurstdrape.judge(self.answers, self.root, self.chain[:-1], MOMENT)
-        wanted = (Status.FAULTY, 1, self.first(), ChainFault.TRUNCATED)
-        told = (verdict.status, verdict.place, verdict.offset, verdict.fault)
-        self.assertEqual(told, wanted)
-        verdict = wurstdrape.judge(self.answers, self.root, b"", MOMENT)
-        self.assertIs(verdict.status, Status.EMPTY)
-        for answers, root, limit in (
-            (b"0 0", self.root, 4096),
-            (self.answers, self.root[:-1], 4096),
-            (self.answers, self.root, 5),
-        ):
-            with self.assertRaises(Error) as refused:
-                wurstdrape.judge(answers, root, self.chain, MOMENT, limit=limit)
-            self.assertIs(refused.exception.status, Status.ARGUMENTS)
+            self.assertEqual((verdict.place, verdict.rule), (place, Rule.WRONG_SIGNATURE))
 
     @unittest.skipUnless(HAS_CRYPTOGRAPHY, "cryptography isn't installed")
     def test_by_cryptography(self):
         self.assertTrue(wurstdrape.verify(self.root, self.chain, MOMENT).trusted)
-        forged = wurstdrape.verify(self.root, read("forged.der"), MOMENT)
-        self.assertIs(forged.rule, Rule.WRONG_SIGNATURE)
+        # a certificate whose signature has another last bit
+        forged = self.chain[:-1] + bytes([self.chain[-1] ^ 1])
+        verdict = wurstdrape.verify(self.root, forged, MOMENT)
+        self.assertIs(verdict.rule, Rule.WRONG_SIGNATURE)
         cut = wurstdrape.verify(self.root, self.chain[:-1], MOMENT)
         self.assertIs(cut.fault, ChainFault.TRUNCATED)
+        self.assertEqual((cut.place, cut.offset), (1, len(self.chain) - len(self.server)))
 
     def test_by_another_verifier(self):
         verdict = wurstdrape.verify(self.root, self.chain, MOMENT, verifier=lambda line: True)
@@ -190,7 +154,7 @@ class Issued(unittest.TestCase):
     ALGORITHM = bytes.fromhex("300a06082a8648ce3d040302")
 
     def setUp(self):
-        self.orders = example("orders.txt").decode()
+        self.orders = read("examples/orders.txt").decode()
 
     def test_chain(self):
         asked = []
@@ -266,9 +230,113 @@ class Issued(unittest.TestCase):
 
 class Threads(unittest.TestCase):
     def test_calls_at_once(self):
-        ders = [example("server.der")] * 1600
+        ders = [read("examples/server.der")] * 1600
         with concurrent.futures.ThreadPoolExecutor(8) as pool:
             self.assertEqual(set(pool.map(wurstdrape.subject, ders)), {"CN=desk.example"})
+
+
+# The options of each command that a call of the module answers.
+OPTIONS = {
+    "verify": ("anchors", "answers", "at", "purpose", "limit"),
+    "questions": ("anchors", "limit"),
+    "describe": ("json",),
+    "show": (),
+}
+
+
+class NoCall(Exception):
+    """No call of the module answers the row."""
+
+
+def rows():
+    """Yields words, files, status and output of each row of `cert_tool`, and of each listing among
+    those of `test_cert_rows`."""
+    for words, files, (status, output, _) in served.rows():
+        # What `split` writes is no text, and no call answers it.
+        yield words, files, status, output.decode(errors="replace")
+    folder = TOP / "crates" / "test_cert_rows"
+    asked, told = ((folder / part).read_text().split("\n") for part in ("stdin", "stdout"))
+    for question, answer in zip(asked, told):
+        words, parts = question.split(" "), re.fullmatch(r'(\d) (".*") ".*"', answer)
+        if words[:2] == ["listing", "show"] and parts:
+            # octets in base 16, perhaps so often, or none
+            digits, _, often = words[3].partition("*")
+            octets = b"" if digits == "-" else bytes.fromhex(digits) * int(often or 1)
+            output = json.loads(parts[2], strict=False)
+            yield ["show", words[2], "file"], {"file": octets}, int(parts[1]), output
+
+
+def options(command, words):
+    """Returns the values of a command's options, and the words that are none."""
+    given, alone, words = {}, [], iter(words)
+    for word in words:
+        key = word.removeprefix("--")
+        if key == word:
+            alone.append(word)
+        elif key in given or key not in OPTIONS.get(command, ()):
+            raise NoCall
+        else:
+            given[key] = key == "json" or next(words, "")
+    return given, alone
+
+
+def verdict_on(given, chain, files):
+    """Returns the status of a chain, and the line of its verdict without the count of calls."""
+    at, purpose = given["at"], given.get("purpose", wurstdrape.SERVER_AUTH)
+    # The program takes seconds to the year 9999, and names of purposes.
+    if not at.isdigit() or int(at) >= 253402300800 or not re.fullmatch(r"[0-9.]+", purpose):
+        raise NoCall
+    lent = files[given["answers"]], files[given["anchors"]], files[chain]
+    limit = int(given.get("limit", wurstdrape.LIMIT))
+    verdict = wurstdrape.judge(*lent, int(at), purpose, limit)
+    why = verdict.rule or verdict.fault
+    if why is None:
+        return verdict.status, "trusted" if verdict.trusted else "empty"
+    words = ["refused" if verdict.rule else "fault", verdict.place, verdict.offset]
+    words.append(why.name.title().replace("_", ""))
+    return verdict.status, " ".join(str(word) for word in words if word is not None)
+
+
+def answer(words, files):
+    """Returns the status and the output that the module has for the words of a program."""
+    given, alone = options(words[0], words[1:])
+    match words[0], alone:
+        case "verify", [chain]:
+            return verdict_on(given, chain, files)
+        case "questions", [chain]:
+            limit = int(given.get("limit", wurstdrape.LIMIT))
+            lines = wurstdrape.questions(files[given["anchors"]], files[chain], limit)
+            return Status.DONE, b"".join(lines).decode()
+        case "describe", [kind, file]:
+            describe = wurstdrape.describe if "json" in given else wurstdrape.describe_text
+            return Status.DONE, describe(files[file], Kind(kind))
+        case "show", [kind, file]:
+            return Status.DONE, wurstdrape.show(files[file], Kind(kind))
+    raise NoCall
+
+
+class Rows(unittest.TestCase):
+    """What programs answer, of which the test vectors tell."""
+
+    def test_rows(self):
+        alike = 0
+        for words, files, status, output in rows():
+            try:
+                told = answer(words, files)
+            except Error as why:
+                told = why.status, None
+            except (NoCall, KeyError, ValueError):
+                continue
+            if told[1] is None:
+                output = None
+            elif words[0] == "verify":
+                output = output.partition("\n")[0].partition(" calls=")[0]
+            elif "--json" in words:
+                output = json.loads(output)
+            with self.subTest(words=words):
+                self.assertEqual(told, (status, output))
+                alike += 1
+        self.assertGreater(alike, 100)
 
 
 if __name__ == "__main__":

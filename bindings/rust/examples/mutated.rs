@@ -133,13 +133,13 @@ fn verdict_on(answers: &[u8], chain: &[u8], terms: &Terms<'_>) -> Told {
 fn main() {
     let count: usize = env::args().nth(1).unwrap().parse().unwrap();
     let top = Path::new(env!("CARGO_MANIFEST_DIR")).join("../..");
-    let data = |name: &str| fs::read(top.join("crates/cert_tool/data").join(name)).unwrap();
-    let server = fs::read(top.join("examples/server.der")).unwrap();
-    let (root, chain, answers) = (data("root.der"), data("chain.der"), data("answers.txt"));
+    let read = |name: &str| fs::read(top.join(name)).unwrap();
+    let (root, chain) = (read("examples/root.der"), read("examples/chain.der"));
+    let answers = read("crates/cert_tool/data/answers.txt");
     let files = [
-        (server, Kind::Certificate),
-        (data("list.der"), Kind::List),
-        (data("request.der"), Kind::Request),
+        (read("examples/server.der"), Kind::Certificate),
+        (read("crates/cert_tool/data/list.der"), Kind::List),
+        (read("crates/cert_tool/data/request.der"), Kind::Request),
     ];
     let terms = Terms {
         anchors: &root,

@@ -24,6 +24,12 @@ fn data(name: &str) -> Vec<u8> {
     read(&format!("crates/cert_tool/data/{name}"))
 }
 
+/// The root, the chain below it, and the answers to its questions.
+fn files_of_chain() -> (Vec<u8>, Vec<u8>, Vec<u8>) {
+    let answers = data("answers.txt");
+    (read("examples/root.der"), read("examples/chain.der"), answers)
+}
+
 fn terms(anchors: &[u8]) -> Terms<'_> {
     Terms {
         anchors,
@@ -113,7 +119,7 @@ fn other_kinds_are_listed_and_described() {
 
 #[test]
 fn a_chain_is_trusted_by_its_answers() {
-    let (root, chain, answers) = (data("root.der"), data("chain.der"), data("answers.txt"));
+    let (root, chain, answers) = files_of_chain();
     let questions = wurstdrape::questions(&root, &chain, wurstdrape::LIMIT).unwrap();
     assert_eq!(questions.as_bytes(), answers);
     assert_eq!(
@@ -134,7 +140,7 @@ fn a_chain_is_trusted_by_its_answers() {
 
 #[test]
 fn a_chain_is_refused_for_its_reason() {
-    let (root, chain, answers) = (data("root.der"), data("chain.der"), data("answers.txt"));
+    let (root, chain, answers) = files_of_chain();
     let early = Terms {
         moment: 1,
         ..terms(&root)

@@ -22,43 +22,11 @@ import pathlib
 import typing
 
 __all__ = [
-    "Audit",
-    "ChainFault",
-    "Error",
-    "Fault",
-    "FaultKind",
-    "Kind",
-    "LIMIT",
-    "Malformed",
-    "OrderFault",
-    "Parts",
-    "Rule",
-    "SERVER_AUTH",
-    "Status",
-    "Validity",
-    "Verdict",
-    "audit",
-    "describe",
-    "describe_text",
-    "extension",
-    "fault_of",
-    "identifier_of_text",
-    "identifier_text",
-    "issue",
-    "issued",
-    "issuer",
-    "judge",
-    "name_of_text",
-    "name_text",
-    "parts",
-    "public_key",
-    "questions",
-    "serial_number",
-    "show",
-    "signed_part",
-    "subject",
-    "validity",
-    "verify",
+    "Audit", "ChainFault", "Error", "Fault", "FaultKind", "Kind", "LIMIT", "Malformed",
+    "OrderFault", "Parts", "Rule", "SERVER_AUTH", "Status", "Validity", "Verdict", "audit",
+    "describe", "describe_text", "extension", "fault_of", "identifier_of_text", "identifier_text",
+    "issue", "issued", "issuer", "judge", "name_of_text", "name_text", "parts", "public_key",
+    "questions", "serial_number", "show", "signed_part", "subject", "validity", "verify",
 ]
 
 # The greatest number of octets of a certificate of a chain, where a call isn't given another.
@@ -67,6 +35,10 @@ LIMIT = 65536
 SERVER_AUTH = "1.3.6.1.5.5.7.3.1"
 
 Octets = typing.Union[bytes, bytearray, memoryview]
+# Octets, or encodings that are taken one after the other.
+Several = typing.Union[Octets, typing.Iterable[Octets]]
+# Seconds since 1970 are taken as they are; None is now.
+Moment = typing.Union[datetime.datetime, int, None]
 
 
 class Status(enum.IntEnum):
@@ -241,168 +213,153 @@ class Audit:
         return self.status is Status.DONE
 
 
-class _Fault(ctypes.Structure):
-    _fields_ = [("kind", ctypes.c_uint32), ("octet", ctypes.c_uint64)]
+# The structures of wurstdrape.h.
+_BOOL, _U32, _U64, _SIZE = ctypes.c_bool, ctypes.c_uint32, ctypes.c_uint64, ctypes.c_size_t
 
 
-class _Validity(ctypes.Structure):
-    _fields_ = [("not_before", ctypes.c_uint64), ("not_after", ctypes.c_uint64)]
+def _structure(**fields) -> type[ctypes.Structure]:
+    return type("_Structure", (ctypes.Structure,), {"_fields_": list(fields.items())})
 
 
-class _Span(ctypes.Structure):
-    _fields_ = [("start", ctypes.c_size_t), ("size", ctypes.c_size_t)]
+_Fault = _structure(kind=_U32, octet=_U64)
+_Validity = _structure(not_before=_U64, not_after=_U64)
+_Span = _structure(start=_SIZE, size=_SIZE)
+_Spans = _structure(**{part.name: _Span for part in dataclasses.fields(Parts)})
+_Place = _structure(place=_U64, offset=_U64, number=_U64)
+_Reason = _structure(place=_U64, number=_U64)
 
-
-class _Spans(ctypes.Structure):
-    _fields_ = [(part.name, _Span) for part in dataclasses.fields(Parts)]
-
-
-class _Place(ctypes.Structure):
-    _fields_ = [(name, ctypes.c_uint64) for name in ("place", "offset", "number")]
-
-
-class _Reason(ctypes.Structure):
-    _fields_ = [(name, ctypes.c_uint64) for name in ("place", "number")]
-
-
-_IN = [ctypes.c_char_p, ctypes.c_size_t]
-_OUT = [ctypes.c_char_p, ctypes.c_size_t, ctypes.POINTER(ctypes.c_size_t)]
+# The calls of wurstdrape.h by their arguments, which are words of _TYPES.
 _CALLS = {
-    "wd_subject": _IN + _OUT,
-    "wd_issuer": _IN + _OUT,
-    "wd_parts": _IN + [ctypes.POINTER(_Spans)],
-    "wd_name_text": _IN + _OUT,
-    "wd_name_of_text": _IN + _OUT,
-    "wd_identifier_text": _IN + _OUT,
-    "wd_identifier_of_text": _IN + _OUT,
-    "wd_extension": _IN + _IN + [ctypes.POINTER(_Span), ctypes.POINTER(ctypes.c_bool)],
-    "wd_dates": _IN + [ctypes.POINTER(_Validity)],
-    "wd_questions": _IN + _IN + [ctypes.c_uint32] + _OUT,
-    "wd_verify": _IN * 3
-    + [ctypes.c_uint64]
-    + _IN
-    + [ctypes.c_uint32, ctypes.POINTER(_Place)],
+    "octets fault": "wd_is_certificate wd_is_list wd_is_request",
+    "octets out": "wd_show_certificate wd_show_list wd_show_request wd_subject wd_issuer "
+    "wd_name_text wd_name_of_text wd_identifier_text wd_identifier_of_text",
+    "octets bool out": "wd_describe_certificate wd_describe_list wd_describe_request",
+    "octets spans": "wd_parts",
+    "octets validity": "wd_dates",
+    "octets octets span critical": "wd_extension",
+    "octets octets u32 out": "wd_questions",
+    "octets octets octets u64 octets u32 place": "wd_verify",
 }
-for _kind in Kind:
-    _CALLS[f"wd_is_{_kind.value}"] = _IN + [ctypes.POINTER(_Fault)]
-    _CALLS[f"wd_show_{_kind.value}"] = _IN + _OUT
-    _CALLS[f"wd_describe_{_kind.value}"] = _IN + [ctypes.c_bool] + _OUT
 _ISSUING_CALLS = {
-    "wd_signed_part": _IN + [ctypes.c_uint32] + _IN + _OUT,
-    "wd_issue": _IN + [ctypes.c_uint32] + _IN * 2 + _OUT,
-    "wd_audit": _IN * 2 + [ctypes.c_uint64] + _IN + [ctypes.POINTER(_Reason)],
+    "octets u32 octets out": "wd_signed_part",
+    "octets u32 octets octets out": "wd_issue",
+    "octets octets u64 octets reason": "wd_audit",
 }
-
+_TYPES = {
+    "octets": [ctypes.c_char_p, _SIZE],
+    "out": [ctypes.c_char_p, _SIZE, ctypes.POINTER(_SIZE)],
+    "bool": [_BOOL],
+    "critical": [ctypes.POINTER(_BOOL)],
+    "u32": [_U32],
+    "u64": [_U64],
+    "fault": [ctypes.POINTER(_Fault)],
+    "validity": [ctypes.POINTER(_Validity)],
+    "span": [ctypes.POINTER(_Span)],
+    "spans": [ctypes.POINTER(_Spans)],
+    "place": [ctypes.POINTER(_Place)],
+    "reason": [ctypes.POINTER(_Reason)],
+}
 
 # The shared library: that of WURSTDRAPE_LIBRARY, or the one that lies beside this file.
 _BESIDE = pathlib.Path(__file__).resolve().with_name("libwurstdrape.so")
 _FILE = pathlib.Path(os.environ.get("WURSTDRAPE_LIBRARY", _BESIDE))
 
 
-def _load(file: pathlib.Path, calls: dict):
+def _load(file: pathlib.Path, calls: dict[str, str]) -> ctypes.CDLL:
     library = ctypes.CDLL(str(file))
-    for name, types in calls.items():
-        call = getattr(library, name)
-        call.argtypes, call.restype = types, ctypes.c_uint32
+    for words, names in calls.items():
+        for name in names.split():
+            call = getattr(library, name)
+            call.argtypes = [it for word in words.split() for it in _TYPES[word]]
+            call.restype = Status
     return library
 
 
 _library = _load(_FILE, _CALLS)
-_ROOM = 4096
 
 
 @functools.lru_cache(maxsize=None)
-def _issuing():
-    """The library of the calls that issue, which lies beside the other one."""
+def _issuing() -> ctypes.CDLL:
+    """Loads the library of the calls that issue, which lies beside the other one."""
     return _load(_FILE.with_name("libwurstdrape_issue.so"), _ISSUING_CALLS)
 
 
-def _lent(octets: Octets) -> list:
-    """What is passed for octets."""
-    octets = bytes(octets)
-    return [octets, len(octets)]
+def _run(call, *values) -> Status:
+    """Runs a call, which takes octets and texts as a pointer and a number of octets."""
+    arguments = []
+    for value in values:
+        if isinstance(value, str):
+            value = value.encode()
+        if isinstance(value, (bytes, bytearray, memoryview)):
+            value = bytes(value)
+            arguments.append(value)
+            value = len(value)
+        arguments.append(value)
+    return call(*arguments)
 
 
-def _written(call, *before) -> tuple[Status, bytes]:
-    """What a call writes: again, where it wants a larger buffer."""
-    room, length = _ROOM, ctypes.c_size_t()
-    while True:
-        out = ctypes.create_string_buffer(room)
-        status = Status(call(*before, out, room, ctypes.byref(length)))
-        if status is not Status.NO_ROOM:
-            return status, ctypes.string_at(out, length.value)
-        room = length.value
-
-
-def _given(what: str, call, *before) -> bytes:
-    """What a call writes, or why it doesn't."""
-    status, octets = _written(call, *before)
-    _raise_unless_done(what, status)
-    return octets
-
-
-def _raise_unless_done(what: str, status: Status) -> None:
-    if status is Status.DONE:
-        return
+def _raise_unless_done(status: Status, what: str | Kind, octets: Octets = b"") -> None:
+    """Raises unless a call is done, whose octets should be of a kind, or what is named."""
+    if status is Status.FAULTY and isinstance(what, Kind):
+        raise Malformed(what.value, fault_of(octets, what))
     if status is Status.FAULTY:
         raise Malformed(what)
     if status is Status.MEMORY:
         raise MemoryError
-    raise Error(status, status.name)
+    if status is not Status.DONE:
+        raise Error(status, status.name)
+
+
+def _written(what: str | Kind, call, *values) -> bytes:
+    """Returns what a call writes. The call is run again where it wants a larger buffer."""
+    room, length = 4096, _SIZE()
+    while True:
+        out = ctypes.create_string_buffer(room)
+        status = _run(call, *values, out, room, length)
+        if status is not Status.NO_ROOM:
+            _raise_unless_done(status, what, values[0])
+            return ctypes.string_at(out, length.value)
+        room = length.value
+
+
+def _of(kind: Kind, name: str):
+    """Returns the call of a kind."""
+    return getattr(_library, f"wd_{name}_{kind.value}")
 
 
 def fault_of(der: Octets, kind: Kind = Kind.CERTIFICATE) -> Fault | None:
     """The first fault of octets that don't encode a value of the kind, or None where they do."""
     told = _Fault()
-    call = getattr(_library, f"wd_is_{kind.value}")
-    status = Status(call(*_lent(der), ctypes.byref(told)))
-    if status is Status.DONE:
-        return None
-    if status is Status.MEMORY:
-        raise MemoryError
-    return Fault(FaultKind(told.kind), None if told.octet == 2**64 - 1 else told.octet)
-
-
-def _of(der: Octets, kind: Kind, call, *before) -> bytes:
-    """What a call writes of a value of the kind; the fault is told where octets encode none."""
-    try:
-        return _given(kind.value, call, *_lent(der), *before)
-    except Malformed:
-        raise Malformed(kind.value, fault_of(der, kind)) from None
+    status = _run(_of(kind, "is"), der, told)
+    if status is Status.FAULTY:
+        return Fault(FaultKind(told.kind), None if told.octet == 2**64 - 1 else told.octet)
+    _raise_unless_done(status, kind)
+    return None
 
 
 def show(der: Octets, kind: Kind = Kind.CERTIFICATE) -> str:
     """The listing, as `cert_desk show` prints it."""
-    return _of(der, kind, getattr(_library, f"wd_show_{kind.value}")).decode()
+    return _written(kind, _of(kind, "show"), der).decode()
 
 
 def describe_text(der: Octets, kind: Kind = Kind.CERTIFICATE) -> str:
     """The description, as `cert_tool describe` prints it. What it says isn't proved."""
-    return _of(der, kind, getattr(_library, f"wd_describe_{kind.value}"), False).decode()
+    return _written(kind, _of(kind, "describe"), der, False).decode()
 
 
 def describe(der: Octets, kind: Kind = Kind.CERTIFICATE) -> dict:
     """The description as `cert_tool describe --json` prints it, read. What it says isn't proved."""
-    return json.loads(_of(der, kind, getattr(_library, f"wd_describe_{kind.value}"), True))
+    return json.loads(_written(kind, _of(kind, "describe"), der, True))
 
 
 def subject(der: Octets) -> str:
     """The subject's name (RFC 4514)."""
-    return _of(der, Kind.CERTIFICATE, _library.wd_subject).decode()
+    return _written(Kind.CERTIFICATE, _library.wd_subject, der).decode()
 
 
 def issuer(der: Octets) -> str:
     """The issuer's name (RFC 4514)."""
-    return _of(der, Kind.CERTIFICATE, _library.wd_issuer).decode()
-
-
-def _told(der: Octets, call, told):
-    """What a call tells of a certificate."""
-    status = Status(call(*_lent(der), ctypes.byref(told)))
-    if status is Status.FAULTY:
-        raise Malformed(Kind.CERTIFICATE.value, fault_of(der))
-    _raise_unless_done(Kind.CERTIFICATE.value, status)
-    return told
+    return _written(Kind.CERTIFICATE, _library.wd_issuer, der).decode()
 
 
 def _at(der: Octets, span: _Span) -> memoryview:
@@ -411,8 +368,9 @@ def _at(der: Octets, span: _Span) -> memoryview:
 
 def parts(der: Octets) -> Parts:
     """Parts, as they stand in the certificate."""
-    spans = _told(der, _library.wd_parts, _Spans())
-    return Parts(**{name: _at(der, getattr(spans, name)) for name, _ in spans._fields_})
+    spans = _Spans()
+    _raise_unless_done(_run(_library.wd_parts, der, spans), Kind.CERTIFICATE, der)
+    return Parts(*(_at(der, getattr(spans, name)) for name, _ in spans._fields_))
 
 
 def serial_number(der: Octets) -> int:
@@ -427,58 +385,55 @@ def public_key(der: Octets) -> bytes:
 
 def validity(der: Octets) -> Validity:
     """The first and the last second."""
-    told = _told(der, _library.wd_dates, _Validity())
-    zone = datetime.timezone.utc
-    return Validity(
-        datetime.datetime.fromtimestamp(told.not_before, zone),
-        datetime.datetime.fromtimestamp(told.not_after, zone),
-    )
+    told = _Validity()
+    _raise_unless_done(_run(_library.wd_dates, der, told), Kind.CERTIFICATE, der)
+    seconds = told.not_before, told.not_after
+    return Validity(*(datetime.datetime.fromtimestamp(it, datetime.timezone.utc) for it in seconds))
 
 
 def extension(der: Octets, identifier: str) -> tuple[memoryview, bool] | None:
     """The content of the first extension of an identifier, as `2.5.29.19`, as it stands in the
     certificate, and whether it is critical; None where there is none."""
-    span, critical = _Span(), ctypes.c_bool()
-    lent = [*_lent(der), *_lent(identifier_of_text(identifier))]
-    status = Status(_library.wd_extension(*lent, ctypes.byref(span), ctypes.byref(critical)))
+    span, critical = _Span(), _BOOL()
+    octets = identifier_of_text(identifier)
+    status = _run(_library.wd_extension, der, octets, span, critical)
     if status is Status.EMPTY:
         return None
-    if status is Status.FAULTY:
-        raise Malformed(Kind.CERTIFICATE.value, fault_of(der))
-    _raise_unless_done(Kind.CERTIFICATE.value, status)
+    _raise_unless_done(status, Kind.CERTIFICATE, der)
     return _at(der, span), critical.value
 
 
 def name_text(der: Octets) -> str:
     """The text (RFC 4514) of a name in DER."""
-    return _given("name", _library.wd_name_text, *_lent(der)).decode()
+    return _written("name", _library.wd_name_text, der).decode()
 
 
 def name_of_text(text: str) -> bytes:
     """The DER of the name that a text says (RFC 4514)."""
-    return _given("text of a name", _library.wd_name_of_text, *_lent(text.encode()))
+    return _written("text of a name", _library.wd_name_of_text, text)
 
 
 def identifier_text(octets: Octets) -> str:
     """The dotted text of an identifier's content octets (X.690 8.19)."""
-    return _given("identifier", _library.wd_identifier_text, *_lent(octets)).decode()
+    return _written("identifier", _library.wd_identifier_text, octets).decode()
 
 
 @functools.lru_cache(maxsize=64)
 def identifier_of_text(text: str) -> bytes:
     """The content octets of the identifier that a dotted text names."""
-    call = _library.wd_identifier_of_text
-    return _given("dotted text of an identifier", call, *_lent(text.encode()))
+    return _written("dotted text of an identifier", _library.wd_identifier_of_text, text)
 
 
-def _joined(octets: Octets | typing.Iterable[Octets]) -> bytes:
-    """Octets, or encodings one after the other."""
+def _joined(octets: Several) -> bytes:
     if isinstance(octets, (bytes, bytearray, memoryview)):
         return bytes(octets)
-    return b"".join(bytes(it) for it in octets)
+    return b"".join(map(bytes, octets))
 
 
-Several = typing.Union[Octets, typing.Iterable[Octets]]
+def _seconds(at: Moment) -> int:
+    if at is None:
+        at = datetime.datetime.now(datetime.timezone.utc)
+    return at if isinstance(at, int) else int(at.timestamp())
 
 
 def questions(anchors: Several, chain: Several, limit: int = LIMIT) -> list[bytes]:
@@ -486,21 +441,15 @@ def questions(anchors: Several, chain: Several, limit: int = LIMIT) -> list[byte
 
     The chain is the certificate below an anchor first; anchors are certificates or other trust
     anchors (RFC 5914)."""
-    lent = [*_lent(_joined(anchors)), *_lent(_joined(chain)), limit]
-    return _given("chain", _library.wd_questions, *lent).splitlines(keepends=True)
-
-
-def _seconds(at: datetime.datetime | int | None) -> int:
-    if at is None:
-        at = datetime.datetime.now(datetime.timezone.utc)
-    return at if isinstance(at, int) else int(at.timestamp())
+    lent = _joined(anchors), _joined(chain), limit
+    return _written("chain", _library.wd_questions, *lent).splitlines(keepends=True)
 
 
 def judge(
     answers: Several,
     anchors: Several,
     chain: Several,
-    at: datetime.datetime | int | None = None,
+    at: Moment = None,
     purpose: str = SERVER_AUTH,
     limit: int = LIMIT,
 ) -> Verdict:
@@ -509,26 +458,21 @@ def judge(
     Answers are lines of `questions`. Without `at` the moment is now. Faulty anchors or answers
     raise `Error`."""
     told = _Place()
-    lent = [*_lent(_joined(answers)), *_lent(_joined(anchors)), *_lent(_joined(chain))]
-    purpose_octets = _lent(identifier_of_text(purpose))
-    status = Status(
-        _library.wd_verify(*lent, _seconds(at), *purpose_octets, limit, ctypes.byref(told))
-    )
+    lent = _joined(answers), _joined(anchors), _joined(chain), _seconds(at)
+    status = _run(_library.wd_verify, *lent, identifier_of_text(purpose), limit, told)
     if status is Status.REFUSED:
-        return Verdict(status, place=told.place, rule=Rule(told.number))
+        return Verdict(status, told.place, Rule(told.number))
     if status is Status.FAULTY:
-        fault = ChainFault(told.number)
-        return Verdict(status, place=told.place, offset=told.offset, fault=fault)
-    if status in (Status.DONE, Status.EMPTY):
-        return Verdict(status)
-    _raise_unless_done("chain", status)
-    raise AssertionError
+        return Verdict(status, told.place, None, told.offset, ChainFault(told.number))
+    if status is not Status.EMPTY:
+        _raise_unless_done(status, "chain")
+    return Verdict(status)
 
 
 def verify(
     roots: Several,
     chain: Several,
-    at: datetime.datetime | int | None = None,
+    at: Moment = None,
     purpose: str = SERVER_AUTH,
     limit: int = LIMIT,
     verifier: typing.Callable[[bytes], bool] | None = None,
@@ -539,7 +483,14 @@ def verify(
     `cryptography` does, and where that isn't installed `ImportError` is raised. A chain whose
     octets aren't certificates has no questions."""
     roots, chain = _joined(roots), _joined(chain)
-    verifier = verifier or _by_cryptography()
+    if verifier is None:
+        import cryptography  # noqa: F401
+
+        from . import answer
+
+        def verifier(line):
+            return answer.refusal(line) is None
+
     try:
         asked = questions(roots, chain, limit)
     except Error as why:
@@ -549,15 +500,6 @@ def verify(
     return judge(filter(verifier, asked), roots, chain, at, purpose, limit)
 
 
-def _by_cryptography() -> typing.Callable[[bytes], bool]:
-    """The verifier that Python's `cryptography` is."""
-    import cryptography  # noqa: F401
-
-    from . import answer
-
-    return lambda line: answer.refusal(line) is None
-
-
 def signed_part(orders: str, place: int, algorithm: Octets) -> bytes:
     """What is signed of the certificate at a place of the chain that an orders file asks for, 0 for
     its root: by this algorithm (an AlgorithmIdentifier in DER), with the key of the certificate
@@ -565,15 +507,13 @@ def signed_part(orders: str, place: int, algorithm: Octets) -> bytes:
 
     Orders that are faulty or refused, a place that the chain doesn't have, and a faulty algorithm
     raise `Error`."""
-    lent = [*_lent(orders.encode()), place, *_lent(algorithm)]
-    return _given("chain", _issuing().wd_signed_part, *lent)
+    return _written("chain", _issuing().wd_signed_part, orders, place, algorithm)
 
 
 def issued(orders: str, place: int, algorithm: Octets, signature: Octets) -> bytes:
     """That certificate, with this signature of its signed part. Whether it is right isn't looked
     at."""
-    lent = [*_lent(orders.encode()), place, *_lent(algorithm), *_lent(signature)]
-    return _given("chain", _issuing().wd_issue, *lent)
+    return _written("chain", _issuing().wd_issue, orders, place, algorithm, signature)
 
 
 def issue(
@@ -597,22 +537,18 @@ def issue(
 
 
 def audit(
-    orders: str,
-    algorithm: Octets,
-    at: datetime.datetime | int | None = None,
-    purpose: str = SERVER_AUTH,
+    orders: str, algorithm: Octets, at: Moment = None, purpose: str = SERVER_AUTH
 ) -> Audit:
     """What the chain that an orders file asks for, signed by this algorithm, comes to under its own
     root, where its signatures are right: nothing is signed yet. Without `at` the moment is now.
 
     Faulty orders and a faulty algorithm raise `Error`."""
     told = _Reason()
-    lent = [*_lent(orders.encode()), *_lent(algorithm), _seconds(at)]
-    purpose_octets = _lent(identifier_of_text(purpose))
-    status = Status(_issuing().wd_audit(*lent, *purpose_octets, ctypes.byref(told)))
-    if status is Status.REFUSED:
-        if told.number in OrderFault.__members__.values():
-            return Audit(status, place=told.place, fault=OrderFault(told.number))
-        return Audit(status, place=told.place, rule=Rule(told.number))
-    _raise_unless_done("chain", status)
-    return Audit(status)
+    lent = orders, algorithm, _seconds(at), identifier_of_text(purpose)
+    status = _run(_issuing().wd_audit, *lent, told)
+    if status is not Status.REFUSED:
+        _raise_unless_done(status, "chain")
+        return Audit(status)
+    if told.number in OrderFault.__members__.values():
+        return Audit(status, told.place, fault=OrderFault(told.number))
+    return Audit(status, told.place, Rule(told.number))
