@@ -98,8 +98,8 @@ class Facades:
         return place
 
     def walk(self, crate, path, start=None):
-        """Notes where the users of a facade find the items of a module, which may be of a crate
-        below it; of modules inside of such a one they find none."""
+        """Notes the path by which a facade's users find each item of a module. The module may be
+        re-exported from a crate below; then the modules inside it are left out."""
         for name in self.names(crate, path):
             target, place = self.find(crate, path, name, False), (*(start or (crate, *path)), name)
             if isinstance(target, sources.Item):

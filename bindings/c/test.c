@@ -193,7 +193,7 @@ static void rooms(writes *call) {
     }
 }
 
-/* With each request for memory refused in turn, nothing but want of memory is answered, and nothing
+/* With each request for memory refused in turn, nothing but out of memory is answered, and nothing
    is written, or the same octets, where they are had without; and nothing is kept. */
 static void allocations(writes *call) {
 #ifdef WRAPPED
@@ -219,7 +219,7 @@ static void allocations(writes *call) {
 #endif
 }
 
-/* With each request for memory refused in turn, want of memory is told, or what is told with ample
+/* With each request for memory refused in turn, out of memory is told, or what is told with ample
    memory, if what was refused was asked for again; and nothing is kept. */
 static void tellings(tells *call) {
     CHECK(call() == WD_DONE);

@@ -127,8 +127,8 @@ def issuer_key(content):
 CONTENTS = {17: malformed_names, 18: malformed_names, 28: scope, 30: constraints, 31: points,
             32: policies, 33: mappings, 35: issuer_key, 46: points}
 
-# The names of extensions; whether those of certificates and of CRLs are critical, and the section
-# of RFC 5280 that says so; and the section on those that are an empty sequence.
+# The names of extensions. For those of certificates and of CRLs: whether RFC 5280 wants them
+# critical, and in which section. For those that mustn't be an empty sequence: its section.
 NAMES = {
     9: "subjectDirectoryAttributes", 14: "subjectKeyIdentifier", 17: "subjectAltName",
     18: "issuerAltName", 20: "cRLNumber", 27: "deltaCRLIndicator", 28: "issuingDistributionPoint",

@@ -88,7 +88,7 @@ def kind_of(questions, ample, status, out):
     if whole:
         both = zip(whole, blocks_of(out, questions) or [])
         differ = [pair for pair in both if pair[0] != pair[1]]
-        return "want of memory" if len(differ) == 1 and is_untold(*differ[0]) else None
+        return "out of memory" if len(differ) == 1 and is_untold(*differ[0]) else None
     lines, others = ample[1].split("\n"), out.split("\n")
     differ = [one for one, other in zip(others, lines) if one != other]
     if len(lines) != len(others) or len(differ) != 1:
@@ -96,7 +96,7 @@ def kind_of(questions, ample, status, out):
     is_told = WANT.search(differ[0]) or is_cut_off(questions[0], differ[0])
     if not is_told or re.match(r"(issue )?again ", questions[0]) and differ[0] != "memory":
         return None
-    return "want of memory"
+    return "out of memory"
 
 
 def kind_of_run(ample, status, out):
@@ -104,7 +104,7 @@ def kind_of_run(ample, status, out):
     if (status, out) == ample:
         return "as with ample memory"
     is_told = status == 6 and out.endswith("memory\n")
-    return "want of memory" if is_told and ample[1].startswith(out[: -len("memory\n")]) else None
+    return "out of memory" if is_told and ample[1].startswith(out[: -len("memory\n")]) else None
 
 
 def is_right(runs):
