@@ -1,5 +1,5 @@
 -- The order of the values that two iterators give, and one more in a list.
-use Rattle.std.proofs.Common.{◌≡◌, ℕ, zero, suc, true, false, List, [], ◌∷◌, drop, Option, Some, None, Result, Ok, Err, refl, sym, ap, subst, ◌∙◌, arith, slice_get, Ordering, Less, Equal, Greater, map-id, ◌++◌, take, Bool, ◌||◌, if◌then◌else◌}
+use Rattle.std.proofs.Common.{◌≡◌, ℕ, zero, suc, true, false, List, [], ◌∷◌, drop, Option, Some, None, Result, Ok, Err, refl, sym, ap, subst, ◌∙◌, arith, slice_get, Ordering, Less, Equal, Greater, map-id, length, inl, inr, ◌++◌, take, Bool, ◌||◌, if◌then◌else◌}
 use Rattle.std.specs.Iterator.{AlwaysYields}
 use Rattle.std.specs.Ordering.{ordering_then, is_ne, ordering_reverse}
 use Rattle.std.specs.Slice.Iter.{iter_rest}
@@ -11,10 +11,13 @@ use Rattle.std.proofs.lemmas.Iterator.{YieldsList, YieldsList-from_slice, Yields
 use Rattle.der_core_coding.specs.CoreHead.declared.error.Error.{Error}
 use Rattle.der_core_coding.specs.CoreHead.declared.error.ErrorKind.TheVariants as kinds
 use Rattle.der_core_coding.specs.CoreHead.Octets.{◌>>=◌}
-use Rattle.der_core_coding.specs.CoreHead.Shapes.{Shape, many, Value, body_octets, IsValid, IsBody, octets_of, AllRising, above}
+use Rattle.der_core_coding.specs.CoreHead.Heads.{Fits}
+use Rattle.der_core_head.proofs.Results.{bind_ok}
+use Rattle.der_core_head.proofs.Written.{counted, count_ok, writes_fitting}
+use Rattle.der_core_coding.specs.CoreHead.Shapes.{Shape, many, Value, body_octets, IsValid, IsBody, octets_of, AllRising, Step}
 use Rattle.der_core_coding.specs.CoreHead.Grammar.{plain_list, plain_option}
 use Rattle.der_core_coding.specs.CoreHead.Spelling.{is_apart, is_body_apart, is_element}
-use Rattle.der_core_coding.specs.CoreHead.Writing.{size, size_body, sum_len, many_len, all_follow}
+use Rattle.der_core_coding.specs.CoreHead.Writing.{Out, size, size_body, sum_len, many_len, all_follow, write, write_many}
 use Rattle.der_core.specs.Orders.{encodings_cmp, bodies_cmp, Overflows, octets_cmp}
 use Rattle.der_core.proofs.OrderLaws.{first_decides, others_decide}
 use Rattle.der_core.proofs.Sizes.{size_only, sum_only, over_or, longer}
@@ -50,15 +53,14 @@ module _ {S A : Type 0} (steps : S → Option A → S → Type 0) (s : Shape) (f
   none_given a (z ∷ zs) t h e = absurd (h.0 t e)
 
   -- what is left of two lists decides their order
-  pub record Left (xs ys more others : List (Value s)) : Type 0 where
-    pub order : bodies_cmp (many s) xs ys ≡ bodies_cmp (many s) more others
-    pub first : IsBody (many s) more
-    pub second : IsBody (many s) others
-
   abbrev pub Decides : (xs ys more others : List (Value s)) → Type 0
-  Decides xs ys more others = is_body_apart (many s) ≡ true → IsBody (many s) xs → IsBody (many s) ys → Left xs ys more others
+  Decides xs ys more others = is_body_apart (many s) ≡ true → bodies_cmp (many s) xs ys ≡ bodies_cmp (many s) more others
 
-  -- values that are too long for any number of octets before them
+  -- what is left of values that have encodings has them, too
+  abbrev pub StillValid : (xs more : List (Value s)) → Type 0
+  StillValid xs more = IsBody (many s) xs → IsBody (many s) more
+
+  -- values that are too long for any number of bytes before them
   abbrev pub TooLong : List (Value s) → Type 0
   TooLong xs = (n : ℕ) → many_len (size s) xs n ≡ Err kinds.Overflow
 
@@ -72,6 +74,8 @@ module _ {S A : Type 0} (steps : S → Option A → S → Type 0) (s : Shape) (f
     pub first : AlwaysYields steps f a more
     pub second : AlwaysYields steps f b others
     pub decides : Decides xs ys more others
+    pub valid : StillValid xs more
+    pub other_valid : StillValid ys others
     pub long : TooLong more → TooLong xs
     pub other_long : TooLong others → TooLong ys
 
@@ -81,17 +85,19 @@ module _ {S A : Type 0} (steps : S → Option A → S → Type 0) (s : Shape) (f
     others = ys;
     first = h;
     second = k;
-    decides = λ apart p q. record { order = refl; first = p; second = q };
+    decides = λ apart. refl;
+    valid = λ p. p;
+    other_valid = λ q. q;
     long = λ l. l;
     other_long = λ l. l;
   }
 
-  first_cmp : (x y : Value s) (xs ys : List (Value s)) → is_body_apart (many s) ≡ true → IsBody (many s) (x ∷ xs) → IsBody (many s) (y ∷ ys)
+  first_cmp : (x y : Value s) (xs ys : List (Value s)) → is_body_apart (many s) ≡ true
       → bodies_cmp (many s) (x ∷ xs) (y ∷ ys) ≡ ordering_then (encodings_cmp s x y) (bodies_cmp (many s) xs ys)
-  unfolding body_octets IsBody
-  first_cmp x y xs ys apart p q =
+  unfolding body_octets
+  first_cmp x y xs ys apart =
       let e : is_element s ≡ true = grind (arith, nat_tests) in
-      elements_cmp s (x ∷ xs) (y ∷ ys) e p q ∙ ap (ordering_then (encodings_cmp s x y)) (sym (elements_cmp s xs ys e p.1 q.1))
+      elements_cmp s (x ∷ xs) (y ∷ ys) e ∙ ap (ordering_then (encodings_cmp s x y)) (sym (elements_cmp s xs ys e))
 
   -- both gave a value
   record Both (xs ys : List (Value s)) (c d : S) (x y : A) : Type 0 where
@@ -100,6 +106,8 @@ module _ {S A : Type 0} (steps : S → Option A → S → Type 0) (s : Shape) (f
     pub first : AlwaysYields steps f c more
     pub second : AlwaysYields steps f d others
     pub decides : Decides xs ys (f x ∷ more) (f y ∷ others)
+    pub valid : StillValid xs (f x ∷ more)
+    pub other_valid : StillValid ys (f y ∷ others)
     pub long : TooLong (f x ∷ more) → TooLong xs
     pub other_long : TooLong (f y ∷ others) → TooLong ys
 
@@ -113,15 +121,20 @@ module _ {S A : Type 0} (steps : S → Option A → S → Type 0) (s : Shape) (f
         first = p.more;
         second = q.more;
         decides = rw (p.is, q.is) at k.decides;
+        valid = rw p.is at k.valid;
+        other_valid = rw q.is at k.other_valid;
         long = rw p.is at k.long;
         other_long = rw q.is at k.other_long;
       }
 
-  -- the order of the two is told of valid ones
+  -- the order of the two is told of valid ones, and what is told is their order
   abbrev pub IsOrder : A → A → Result Ordering Error → Type 0
   IsOrder x y r = is_apart s ≡ true → IsValid s (f x) → IsValid s (f y) → r ≡ Ok (encodings_cmp s (f x) (f y))
 
-  pub at_next : (xs ys : List (Value s)) (a b c d : S) (x y : A) (o : Ordering) → At xs ys a b → steps a (Some x) c → steps b (Some y) d → IsOrder x y (Ok o) → is_ne o ≡ false → At xs ys c d
+  abbrev pub IsExact : A → A → Ordering → Type 0
+  IsExact x y o = is_apart s ≡ true → o ≡ encodings_cmp s (f x) (f y)
+
+  pub at_next : (xs ys : List (Value s)) (a b c d : S) (x y : A) (o : Ordering) → At xs ys a b → steps a (Some x) c → steps b (Some y) d → IsExact x y o → is_ne o ≡ false → At xs ys c d
   unfolding IsBody
   at_next xs ys a b c d x y o k i j is same =
       let n = both xs ys a b c d x y k i j in
@@ -130,34 +143,29 @@ module _ {S A : Type 0} (steps : S → Option A → S → Type 0) (s : Shape) (f
         others = n.others;
         first = n.first;
         second = n.second;
-        decides = λ apart p q.
-            let l = n.decides apart p q in
-            let e : o ≡ encodings_cmp s (f x) (f y) = cc (is (grind (arith, nat_tests)) l.first.0 l.second.0) in
-            record {
-              order = l.order ∙ first_cmp (f x) (f y) n.more n.others apart l.first l.second ∙ rw (← e) (sym (others_decide o (bodies_cmp (many s) n.more n.others) same));
-              first = l.first.1;
-              second = l.second.1;
-            };
+        decides = λ apart.
+            let e : o ≡ encodings_cmp s (f x) (f y) = is (grind (arith, nat_tests)) in
+            n.decides apart ∙ first_cmp (f x) (f y) n.more n.others apart ∙ rw (← e) (sym (others_decide o (bodies_cmp (many s) n.more n.others) same));
+        valid = λ p. (n.valid p).1;
+        other_valid = λ q. (n.other_valid q).1;
         long = λ h. n.long (more_long (f x) n.more h);
         other_long = λ h. n.other_long (more_long (f y) n.others h);
       }
 
-  pub at_decided : (xs ys : List (Value s)) (a b c d : S) (x y : A) (o : Ordering) → At xs ys a b → steps a (Some x) c → steps b (Some y) d → IsOrder x y (Ok o) → is_ne o ≡ true
-      → is_body_apart (many s) ≡ true → IsBody (many s) xs → IsBody (many s) ys → o ≡ bodies_cmp (many s) xs ys
-  unfolding IsBody
-  at_decided xs ys a b c d x y o k i j is differ apart p q =
+  pub at_decided : (xs ys : List (Value s)) (a b c d : S) (x y : A) (o : Ordering) → At xs ys a b → steps a (Some x) c → steps b (Some y) d → IsExact x y o → is_ne o ≡ true
+      → is_body_apart (many s) ≡ true → o ≡ bodies_cmp (many s) xs ys
+  at_decided xs ys a b c d x y o k i j is differ apart =
       let n = both xs ys a b c d x y k i j in
-      let l = n.decides apart p q in
-      let e : o ≡ encodings_cmp s (f x) (f y) = cc (is (grind (arith, nat_tests)) l.first.0 l.second.0) in
-      sym (l.order ∙ first_cmp (f x) (f y) n.more n.others apart l.first l.second ∙ rw (← e) (sym (first_decides o (bodies_cmp (many s) n.more n.others) differ)))
+      let e : o ≡ encodings_cmp s (f x) (f y) = is (grind (arith, nat_tests)) in
+      sym (n.decides apart ∙ first_cmp (f x) (f y) n.more n.others apart ∙ rw (← e) (sym (first_decides o (bodies_cmp (many s) n.more n.others) differ)))
 
-  -- a comparison that is refused contradicts what is valid
+  -- a comparison that is rejected contradicts what is valid
   pub at_not_refused : (xs ys : List (Value s)) (a b c d : S) (x y : A) (e : Error) → At xs ys a b → steps a (Some x) c → steps b (Some y) d → IsOrder x y (Err e)
       → is_body_apart (many s) ≡ true → IsBody (many s) xs → IsBody (many s) ys → ⊥
   unfolding IsBody
   at_not_refused xs ys a b c d x y e k i j is apart p q =
-      let l = (both xs ys a b c d x y k i j).decides apart p q in
-      let told = is (grind (arith, nat_tests)) l.first.0 l.second.0 in
+      let n = both xs ys a b c d x y k i j in
+      let told = is (grind (arith, nat_tests)) (n.valid p).0 (n.other_valid q).0 in
       absurd cc
 
   pub at_long : (xs ys : List (Value s)) (a b c d : S) (x y : A) (e : Error) → At xs ys a b → steps a (Some x) c → steps b (Some y) d
@@ -165,27 +173,27 @@ module _ {S A : Type 0} (steps : S → Option A → S → Type 0) (s : Shape) (f
   at_long xs ys a b c d x y e k i j = let n = both xs ys a b c d x y k i j in longer e (λ o. n.long (λ m. rw o refl) 0) (λ o. n.other_long (λ m. rw o refl) 0)
 
   pub at_second_ended : (xs ys : List (Value s)) (a b c d : S) (x : A) → At xs ys a b → steps a (Some x) c → steps b None d
-      → is_body_apart (many s) ≡ true → IsBody (many s) xs → IsBody (many s) ys → Greater ≡ bodies_cmp (many s) xs ys
-  unfolding body_octets IsBody
-  at_second_ended xs ys a b c d x k i j apart v w =
+      → is_body_apart (many s) ≡ true → Greater ≡ bodies_cmp (many s) xs ys
+  unfolding body_octets
+  at_second_ended xs ys a b c d x k i j apart =
       let p = next_given a k.more x c k.first i in
-      let left = rw (p.is, none_given b k.others d k.second j) at (k.decides apart v w) in
-      sym (left.order ∙ elements_cmp s (f x ∷ p.rest) [] (grind (arith, nat_tests)) left.first tt)
+      let left = rw (p.is, none_given b k.others d k.second j) at (k.decides apart) in
+      sym (left ∙ elements_cmp s (f x ∷ p.rest) [] (grind (arith, nat_tests)))
 
   pub at_first_ended : (xs ys : List (Value s)) (a b c d : S) (y : A) → At xs ys a b → steps a None c → steps b (Some y) d
-      → is_body_apart (many s) ≡ true → IsBody (many s) xs → IsBody (many s) ys → Less ≡ bodies_cmp (many s) xs ys
-  unfolding body_octets IsBody
-  at_first_ended xs ys a b c d y k i j apart v w =
+      → is_body_apart (many s) ≡ true → Less ≡ bodies_cmp (many s) xs ys
+  unfolding body_octets
+  at_first_ended xs ys a b c d y k i j apart =
       let q = next_given b k.others y d k.second j in
-      let left = rw (none_given a k.more c k.first i, q.is) at (k.decides apart v w) in
-      sym (left.order ∙ elements_cmp s [] (f y ∷ q.rest) (grind (arith, nat_tests)) tt left.second)
+      let left = rw (none_given a k.more c k.first i, q.is) at (k.decides apart) in
+      sym (left ∙ elements_cmp s [] (f y ∷ q.rest) (grind (arith, nat_tests)))
 
   pub at_both_ended : (xs ys : List (Value s)) (a b c d : S) → At xs ys a b → steps a None c → steps b None d
-      → is_body_apart (many s) ≡ true → IsBody (many s) xs → IsBody (many s) ys → Equal ≡ bodies_cmp (many s) xs ys
+      → is_body_apart (many s) ≡ true → Equal ≡ bodies_cmp (many s) xs ys
   unfolding body_octets
-  at_both_ended xs ys a b c d k i j apart v w =
-      let left = rw (none_given a k.more c k.first i, none_given b k.others d k.second j) at (k.decides apart v w) in
-      sym left.order
+  at_both_ended xs ys a b c d k i j apart =
+      let left = rw (none_given a k.more c k.first i, none_given b k.others d k.second j) at (k.decides apart) in
+      sym left
 
 -- What is seen of the items, seen further
 
@@ -202,9 +210,10 @@ pub lent_further : {S A R B F : Type 0} {steps : S → Option A → S → Type 0
     → ((x : A) (r : R) (q : F) → Called g f (x, tt) r q → (q ≡ f) × (w r ≡ v x)) → AlwaysYields (map_steps steps g) w s xs
 lent_further {steps = steps} {xs = xs} g w {s = s} items callee step = subst (AlwaysYields (map_steps steps g) w s) (map-id xs) (YieldsList-from_map_by g w (λ b. b) items callee step).runs
 
--- One more in a list, by a loop that looks for its place, and what is told of a list told of an equal one.
+-- One more in a list, by a loop that looks for its place, and what is reported of a list told of an
+-- equal one.
 
--- so many stand in front of it, and it goes among the others
+-- so many come before it, and it goes among the others
 abbrev pub IsPast : {A P : Type 0} → (A → P) → (P → P → Bool) → P → List A → ℕ → Type 0
 IsPast f g x xs i = put_in_front g x (plain_list f xs) ≡ plain_list f (take i xs) ++ put_in_front g x (plain_list f (drop i xs))
 
@@ -216,7 +225,7 @@ turned a b e = nat_list_cmp_total.antisymm b a ∙ ap ordering_reverse e
 abbrev Rises : (s : Shape) → List (Value s) → Type 0
 Rises s vs = AllRising (octets_of s) vs
 
--- behind a lower one that stands in front
+-- after a lower one that is in front
 step : (s : Shape) (v u w : Value s) (ws : List (Value s)) (o : Ordering) → encodings_cmp s v w ≡ o → encodings_cmp s u v ≡ Less → Rises s (u ∷ w ∷ ws) → (is_equal o || stands_among s v ws) ≡ false
     → (encodings_cmp s w v ≡ Less → stands_among s v ws ≡ false → Rises s (w ∷ placed s v ws)) → Rises s (u ∷ (if is_less o then v ∷ w ∷ ws else w ∷ placed s v ws))
 step s v u w ws Less e less rises none behind = (less, (e, rises.1))
@@ -244,7 +253,21 @@ still_rises s v ws new is none rises = subst (Rises s) (sym is) (placed_rises s 
 -- The members of a set, compared one by one.
 
 -- what is left of a list is compared as all of it is
-pub record ComparedAlike {A : Type 0} (s : Shape) (f : A → Value s) (v : List A) (i : ℕ) (last : Option (Value s)) : Type 0 where
-  pub valid : AllByRecursion (λ x. IsValid s x) (plain_list f (drop i v))
-  pub before : IfSome last (IsValid s)
-  pub order : all_follow above (octets_of s) (plain_option (octets_of s) last) (plain_list f (drop i v)) ≡ all_follow above (octets_of s) None (plain_list f v)
+pub record ComparedAlike {A : Type 0} (how : Step) (s : Shape) (f : A → Value s) (v : List A) (i : ℕ) (last : Option (Value s)) : Type 0 where
+  pub fits : AllByRecursion (λ x. Fits (octets_of s x)) (plain_list f (drop i v))
+  pub before : IfSome last (λ x. Fits (octets_of s x))
+  pub order : all_follow how (octets_of s) (plain_option (octets_of s) last) (plain_list f (drop i v)) ≡ all_follow how (octets_of s) None (plain_list f v)
+
+-- A comparison of values whose octets can be counted isn't refused.
+pub not_refused : (s : Shape) (v w : Value s) (e : Error) → Overflows e (size s v) (size s w) → Fits (octets_of s v) → Fits (octets_of s w) → ⊥
+not_refused s v w e h p q =
+    let first = counted s v ∙ count_ok (length (octets_of s v)) p in
+    let second = counted s w ∙ count_ok (length (octets_of s w)) q in
+    elim h.length [ inl o ↦ absurd (cc (first, o)) | inr o ↦ absurd (cc (second, o)) ]
+
+-- The octets of each member that was written can be counted.
+pub list_fits : (s : Shape) (v : List (Value s)) (o z : Out) → write_many (write s) v o ≡ Ok z → AllByRecursion (λ x. Fits (octets_of s x)) v
+list_fits s [] o z e = tt
+list_fits s (x ∷ xs) o z e =
+    let first = bind_ok (write s x o) (write_many (write s) xs) z e in
+    (writes_fitting s x o first.0 first.1, list_fits s xs first.0 z first.2)

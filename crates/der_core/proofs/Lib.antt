@@ -2,7 +2,6 @@ pub mod OrderLaws
 pub mod Sizes
 pub mod ShapeOrders
 pub mod IterOrders
-pub mod Rows
 pub mod ValueEquality
 mod Cited
 pub mod IntegerLaws

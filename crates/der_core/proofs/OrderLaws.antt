@@ -1,5 +1,5 @@
--- The order of lists of octets, and of tags, lengths, headers, contents and whole encodings.
-use Rattle.std.proofs.Common.{◌≡◌, ℕ, ◌<◌, List, [], ◌∷◌, ◌++◌, length, true, false, refl, sym, ap, subst, ◌∙◌, arith, ◌≢◌, Ordering, Equal, append-nil, zero, suc, ◌+◌, ◌*◌, ◌/◌, ◌%◌, ◌≤◌, inl, inr, length-append, mul-le-mul_right, mod-lt, div-add-mod', Ok, Err, Bool}
+-- The order of lists of bytes, and of tags, lengths, headers, contents and whole encodings.
+use Rattle.std.proofs.Common.{◌≡◌, ℕ, ◌<◌, List, [], ◌∷◌, ◌++◌, length, true, false, refl, sym, ap, subst, ◌∙◌, arith, ◌≢◌, Ordering, Equal, append-nil, zero, suc, ◌+◌, ◌*◌, ◌/◌, ◌%◌, ◌≤◌, inl, inr, length-append, mul-le-mul_right, mod-lt, div-add-mod', Ok, Err, Bool, Result, IfOk, lt-ltb, le-ltb}
 use Rattle.std.specs.Bool.{⊤}
 use Rattle.std.specs.Ordering.{nat_cmp, ordering_then, is_eq, is_ne, MatchOrdering, bool_cmp}
 use Rattle.std.specs.Cmp.Lexicographic.{same_text, texts_ties, nat_list_cmp_total}
@@ -8,25 +8,25 @@ use Rattle.std.proofs.lemmas.Bool.Decides.{nat_tests}
 use Rattle.der_core.specs.Orders.{octets_cmp, contents_cmp, Overflows}
 use Rattle.std.proofs.lemmas.Bool.{cases_lt}
 use Rattle.std.specs.Int.Digits.{number_from_digits, number_from_digits_after, AllBelowBase}
-use Rattle.der_core_coding.specs.Oid.Digits.{digits}
-use Rattle.const_oid.proofs.DigitLaws.{digits-Digits, digits-one, digits-more, halved}
+use Rattle.der_core_coding.specs.Oid.Digits.{digits, marked}
+use Rattle.const_oid.proofs.DigitLaws.{digits-Digits, digits-one, digits-more, halved, split-marked}
 pub use Rattle.const_oid.proofs.OrderLaws.{nat_cmp-less, nat_cmp-greater, nat_cmp-same}
-use Rattle.der_core_coding.specs.CoreHead.Limits.{IsLength}
 use Rattle.der_core_coding.specs.CoreHead.declared.tag.Tag.{Tag}
-use Rattle.der_core_coding.specs.CoreHead.Tags.{IsTag, tag_octets, tag_at}
-use Rattle.der_core_coding.specs.CoreHead.Heads.{length_octets, length_at, head_octets, tlv, Fits}
+use Rattle.der_core_coding.specs.CoreHead.declared.tag.Tag.TheVariants as tags
+use Rattle.der_core_coding.specs.CoreHead.Tags.{IsTag, leading, low_bits, leading_octet, number_of, number_octets, tag_octets, tag_at}
+use Rattle.der_core_coding.specs.CoreHead.Heads.{length_octets, head_octets, tlv}
 use Rattle.der_core_head.proofs.Results.{ok_is}
 use Rattle.der_core_head.proofs.TagLaws.{tag_again}
-use Rattle.der_core_head.proofs.HeadLaws.{length-short, length-long, length_again, split-tlv, fits_contents}
+use Rattle.der_core_head.proofs.HeadLaws.{length-short, length-long, fits_contents}
 use Rattle.der_core_coding.specs.CoreHead.declared.error.Error.{Error}
 use Rattle.der_core_coding.specs.CoreHead.declared.error.ErrorKind.{ErrorKind}
 use Rattle.der_core_coding.specs.CoreHead.Shapes.{Content, ContentValue, tagged, contents, octets_of, IsValid, IsContent, leaf}
 use Rattle.der_core_coding.specs.CoreHead.Writing.{size, size_content}
-use Rattle.der_core_head.proofs.Written.{sized_content}
+use Rattle.der_core_head.proofs.Written.{sized_content, content_counted, count_is}
 use Rattle.der_core.proofs.Sizes.{content_only, tlv_over, longer}
 use Rattle.der_core_coding.specs.CoreHead.Leaves.{Leaf, LeafValue, boolean, null, leaf_contents as octets_of_leaf}
 
--- The order of lists of octets, and of joined lists.
+-- The order of lists of bytes, and of joined lists.
 
 -- Orderings
 
@@ -36,7 +36,7 @@ then_assoc a b c = grind (arith, nat_tests)
 pub then_equal : (a : Ordering) → ordering_then a Equal ≡ a
 then_equal a = grind (arith, nat_tests)
 
--- the second matters only where the first is Equal
+-- the second matters only if the first is Equal
 pub then_same : (a b c : Ordering) → (a ≡ Equal → b ≡ c) → ordering_then a b ≡ ordering_then a c
 then_same a b c h = grind (arith, nat_tests)
 
@@ -88,7 +88,7 @@ splits_append [] [] r s h k = k refl
 splits_append (x ∷ a) (y ∷ b) r s h k = λ e. splits_append a b r s (h e) (λ f. k cc)
 splits_append a b r s h k = absurd h
 
--- where no more octets make the lists begin alike
+-- where no more bytes make the lists begin alike
 pub splits_free : (a b : List ℕ) → ((r s : List ℕ) → a ++ r ≡ b ++ s → a ≡ b) → Splits a b
 splits_free [] [] h = tt
 splits_free [] (y ∷ b) h = let e : [] ≡ y ∷ b = h (y ∷ b) [] (sym (append-nil (y ∷ b))) in absurd cc
@@ -100,7 +100,7 @@ then_both a b c d p q = ap (λ o. ordering_then o b) p ∙ ap (ordering_then c) 
 
 -- The order of tags, lengths, headers and whole encodings.
 
--- one digit more
+-- one more digit
 push_cmp : (base m n d e : ℕ) → d < base → e < base → nat_cmp (m * base + d) (n * base + e) ≡ ordering_then (nat_cmp m n) (nat_cmp d e)
 push_cmp base m n d e p q = grind (arith, nat_tests, higher m n d e p, higher n m e d q, equal)
   where
@@ -157,7 +157,7 @@ long_cmp m n l k =
     fewer : (m n : ℕ) → length (digits 256 m) < length (digits 256 n) → m < n
     fewer m n lt = elim (cases_lt m n) [ inl less ↦ less | inr le ↦ absurd (omega (arith, digits-monotone n m n (omega arith) le)) ]
 
--- the octets of lengths are in the order of the lengths (X.690 8.1.3)
+-- the bytes of lengths are in the order of the lengths (X.690 8.1.3)
 pub length_octets_cmp : (m n : ℕ) → octets_cmp (length_octets m) (length_octets n) ≡ nat_cmp m n
 length_octets_cmp m n =
     elim (cases_lt m 128) [
@@ -171,21 +171,62 @@ length_octets_cmp m n =
       ]
     ]
 
-length_splits : (t : Tag) (m n : ℕ) → IsLength m → IsLength n → Splits (length_octets m) (length_octets n)
-length_splits t m n p q =
-    splits_free (length_octets m) (length_octets n) (λ r s e.
-    let k : (m, r) ≡ (n, s) = ok_is (m, r) (n, s) (sym (length_again t m r p) ∙ ap (length_at t) e ∙ length_again t n s q) in
-    ap (λ (x : ℕ × List ℕ). length_octets x.0) k)
+-- as many digits, or other first octets
+length_splits : (m n : ℕ) → Splits (length_octets m) (length_octets n)
+length_splits m n =
+    elim (cases_lt m 128) [
+      | inl l ↦ elim (cases_lt n 128) [
+        | inl k ↦ rw (length-short m l, length-short n k) (λ _. tt)
+        | inr k ↦ rw (length-short m l, length-long n (digits 256 n) k refl) (λ e. absurd (omega arith))
+      ]
+      | inr l ↦ elim (cases_lt n 128) [
+        | inl k ↦ rw (length-long m (digits 256 m) l refl, length-short n k) (λ e. absurd (omega arith))
+        | inr k ↦ rw (length-long m (digits 256 m) l refl, length-long n (digits 256 n) k refl)
+            (λ e. splits_lengths (digits 256 m) (digits 256 n) (omega arith))
+      ]
+    ]
 
 -- Tags
 
-pub tag_splits : (a b : Tag) → IsTag a → IsTag b → Splits (tag_octets a) (tag_octets b)
-tag_splits a b p q =
-    splits_free (tag_octets a) (tag_octets b) (λ r s e.
-    let k : (a, r) ≡ (b, s) = ok_is (a, r) (b, s) (sym (tag_again a r p) ∙ ap tag_at e ∙ tag_again b s q) in
-    ap (λ (x : Tag × List ℕ). tag_octets x.0) k)
+-- the low bits of a leading octet
+leading_low : (class : ℕ) (c : Bool) (low : ℕ) → low < 32 → leading class c low % 32 ≡ low
+leading_low class true low l = omega arith
+leading_low class false low l = omega arith
 
--- only one tag has its octets
+low-lt : (n : ℕ) → low_bits n < 32
+low-lt n = grind (arith, nat_tests)
+
+octet_low : (t : Tag) → leading_octet t % 32 ≡ low_bits (number_of t)
+octet_low (tags.Application c number) = leading_low 1 c (low_bits number.value) (low-lt number.value)
+octet_low (tags.ContextSpecific c number) = leading_low 2 c (low_bits number.value) (low-lt number.value)
+octet_low (tags.Private c number) = leading_low 3 c (low_bits number.value) (low-lt number.value)
+octet_low t = refl
+
+-- the last octet of a number says that it is the last
+number_splits : (m n : ℕ) → low_bits m ≡ low_bits n → Splits (number_octets m) (number_octets n)
+number_splits m n e =
+    elim (cases_lt m 31) [
+      | inl l ↦ elim (cases_lt n 31) [
+        | inl k ↦ rw (lt-ltb m 31 l, lt-ltb n 31 k) tt
+        | inr k ↦ absurd (grind (arith, nat_tests))
+      ]
+      | inr l ↦ elim (cases_lt n 31) [
+        | inl k ↦ absurd (grind (arith, nat_tests))
+        | inr k ↦ rw (le-ltb m 31 l, le-ltb n 31 k) marked_splits
+      ]
+    ]
+  where
+    marked_splits : Splits (marked (digits 128 m)) (marked (digits 128 n))
+    marked_splits =
+        let a = digits-Digits 128 m (omega arith) in
+        let b = digits-Digits 128 n (omega arith) in
+        splits_free (marked (digits 128 m)) (marked (digits 128 n)) (λ r s f. ap marked (split-marked (digits 128 m) (digits 128 n) r s a.below b.below a.some b.some f).0)
+
+pub tag_splits : (a b : Tag) → Splits (tag_octets a) (tag_octets b)
+unfolding tag_octets
+tag_splits a b = λ e. number_splits (number_of a) (number_of b) (sym (octet_low a) ∙ ap (λ o. o % 32) e ∙ octet_low b)
+
+-- only one tag has its bytes
 pub tag_cmp-equal : (a b : Tag) → IsTag a → IsTag b → octets_cmp (tag_octets a) (tag_octets b) ≡ Equal → a ≡ b
 tag_cmp-equal a b p q e =
     let same : tag_octets a ++ [] ≡ tag_octets b ++ [] = ap (λ w. w ++ []) (octets_cmp-equal (tag_octets a) (tag_octets b) e) in
@@ -194,32 +235,43 @@ tag_cmp-equal a b p q e =
 
 -- Headers
 
-pub head_cmp : (a b : Tag) (m n : ℕ) → IsTag a → IsTag b
+pub head_cmp : (a b : Tag) (m n : ℕ)
     → octets_cmp (head_octets a m) (head_octets b n) ≡ ordering_then (octets_cmp (tag_octets a) (tag_octets b)) (octets_cmp (length_octets m) (length_octets n))
 unfolding head_octets
-head_cmp a b m n p q = octets_cmp-append (tag_octets a) (tag_octets b) (length_octets m) (length_octets n) (tag_splits a b p q)
+head_cmp a b m n = octets_cmp-append (tag_octets a) (tag_octets b) (length_octets m) (length_octets n) (tag_splits a b)
 
-head_splits : (a b : Tag) (m n : ℕ) → IsTag a → IsTag b → IsLength m → IsLength n → Splits (head_octets a m) (head_octets b n)
+head_splits : (a b : Tag) (m n : ℕ) → Splits (head_octets a m) (head_octets b n)
 unfolding head_octets
-head_splits a b m n p q i j = splits_append (tag_octets a) (tag_octets b) (length_octets m) (length_octets n) (tag_splits a b p q) (λ _. length_splits a m n i j)
+head_splits a b m n = splits_append (tag_octets a) (tag_octets b) (length_octets m) (length_octets n) (tag_splits a b) (λ _. length_splits m n)
+
+then_second : (a b : Ordering) → ordering_then a b ≡ Equal → b ≡ Equal
+then_second a b h = grind (arith, nat_tests)
+
+-- a header says how many octets follow
+head_length : (a b : Tag) (m n : ℕ) → head_octets a m ≡ head_octets b n → m ≡ n
+head_length a b m n e =
+    nat_cmp-equal m n
+    (sym (length_octets_cmp m n)
+    ∙ then_second (octets_cmp (tag_octets a) (tag_octets b)) (octets_cmp (length_octets m) (length_octets n))
+    (sym (head_cmp a b m n) ∙ ap (octets_cmp (head_octets a m)) (sym e) ∙ octets_cmp-self (head_octets a m)))
 
 -- Whole encodings
 
-pub tlv_splits : (a b : Tag) (c d : List ℕ) → IsTag a → IsTag b → Fits c → Fits d → Splits (tlv a c) (tlv b d)
-tlv_splits a b c d p q i j =
-    splits_free (tlv a c) (tlv b d) (λ r s e.
-    let k = split-tlv a b c d r s p q i j e in
-    ap (λ t. tlv t c) k.0 ∙ ap (tlv b) k.1)
+pub tlv_splits : (a b : Tag) (c d : List ℕ) → Splits (tlv a c) (tlv b d)
+unfolding tlv
+tlv_splits a b c d =
+    splits_append (head_octets a (length c)) (head_octets b (length d)) c d (head_splits a b (length c) (length d))
+    (λ e. splits_lengths c d (head_length a b (length c) (length d) e))
 
 -- headers before contents
-pub tlv_cmp : (a b : Tag) (c d : List ℕ) → IsTag a → IsTag b → Fits c → Fits d
+pub tlv_cmp : (a b : Tag) (c d : List ℕ)
     → octets_cmp (tlv a c) (tlv b d) ≡ ordering_then (octets_cmp (tag_octets a) (tag_octets b)) (ordering_then (nat_cmp (length c) (length d)) (octets_cmp c d))
 unfolding tlv
-tlv_cmp a b c d p q i j =
-    octets_cmp-append (head_octets a (length c)) (head_octets b (length d)) c d (head_splits a b (length c) (length d) p q i j)
-    ∙ rw (head_cmp a b (length c) (length d) p q, length_octets_cmp (length c) (length d)) (then_assoc (octets_cmp (tag_octets a) (tag_octets b)) (nat_cmp (length c) (length d)) (octets_cmp c d))
+tlv_cmp a b c d =
+    octets_cmp-append (head_octets a (length c)) (head_octets b (length d)) c d (head_splits a b (length c) (length d))
+    ∙ rw (head_cmp a b (length c) (length d), length_octets_cmp (length c) (length d)) (then_assoc (octets_cmp (tag_octets a) (tag_octets b)) (nat_cmp (length c) (length d)) (octets_cmp c d))
 
--- The order of contents behind tags, by the headers and then by the contents.
+-- The order of contents after tags, by the headers and then by the contents.
 
 tagged_sized : (t : Tag) (c : Content) (v : ContentValue c) → IsValid (tagged t c) v → size_content c v ≡ Ok (length (contents c v))
 unfolding IsValid
@@ -243,34 +295,41 @@ first_long a b c v w e h = let k = content_only c v e.kind h in long_inside a b 
 pub second_long : (a b : Tag) (c : Content) (v w : ContentValue c) (e : Error) → size_content c w ≡ Err e.kind → Overflows e (size (tagged a c) v) (size (tagged b c) w)
 second_long a b c v w e h = let k = content_only c w e.kind h in long_inside a b c v w e (record { kind = k; length = inr (h ∙ ap (λ j. Err j) k) })
 
+-- what was counted are the octets
+content_length : (c : Content) (v : ContentValue c) (n : ℕ) → size_content c v ≡ Ok n → length (contents c v) ≡ n
+content_length c v n e = (count_is (length (contents c v)) n (sym (content_counted c v) ∙ e)).0
+
 module _ (a b : Tag) (c : Content) (v w : ContentValue c) (m n : ℕ) (o : Ordering) where
-  by_headers : IsValid (tagged a c) v → IsValid (tagged b c) w → size_content c v ≡ Ok m → size_content c w ≡ Ok n
+  by_headers : size_content c v ≡ Ok m → size_content c w ≡ Ok n
       → octets_cmp (octets_of (tagged a c) v) (octets_of (tagged b c) w)
       ≡ ordering_then (ordering_then (octets_cmp (tag_octets a) (tag_octets b)) (octets_cmp (length_octets m) (length_octets n))) (contents_cmp c v w)
-  unfolding octets_of IsValid
-  by_headers p q i j =
-      let k : length (contents c v) ≡ m = cc (tagged_sized a c v p) in
-      let l : length (contents c w) ≡ n = cc (tagged_sized b c w q) in
-      tlv_cmp a b (contents c v) (contents c w) p.1 q.1 (fits_contents a (contents c v) p.2) (fits_contents b (contents c w) q.2)
-      ∙ rw (k, l, length_octets_cmp m n, then_assoc (octets_cmp (tag_octets a) (tag_octets b)) (nat_cmp m n) (contents_cmp c v w)) refl
+  unfolding octets_of
+  by_headers i j =
+      tlv_cmp a b (contents c v) (contents c w)
+      ∙ rw (content_length c v m i, content_length c w n j, length_octets_cmp m n, then_assoc (octets_cmp (tag_octets a) (tag_octets b)) (nat_cmp m n) (contents_cmp c v w)) refl
 
   -- where the headers differ
-  pub headers_decide : IsValid (tagged a c) v → IsValid (tagged b c) w → size_content c v ≡ Ok m → size_content c w ≡ Ok n
+  pub headers_decide : size_content c v ≡ Ok m → size_content c w ≡ Ok n
       → o ≡ ordering_then (octets_cmp (tag_octets a) (tag_octets b)) (octets_cmp (length_octets m) (length_octets n)) → is_ne o ≡ true
       → o ≡ octets_cmp (octets_of (tagged a c) v) (octets_of (tagged b c) w)
-  headers_decide p q i j e differ = rw (by_headers p q i j, ← e) (first_decides o (contents_cmp c v w) differ)
+  headers_decide i j e differ = rw (by_headers i j, ← e) (first_decides o (contents_cmp c v w) differ)
 
   -- where they don't
-  pub contents_decide : IsValid (tagged a c) v → IsValid (tagged b c) w → size_content c v ≡ Ok m → size_content c w ≡ Ok n
+  pub contents_decide : size_content c v ≡ Ok m → size_content c w ≡ Ok n
       → o ≡ ordering_then (octets_cmp (tag_octets a) (tag_octets b)) (octets_cmp (length_octets m) (length_octets n)) → is_ne o ≡ false
       → contents_cmp c v w ≡ octets_cmp (octets_of (tagged a c) v) (octets_of (tagged b c) w)
-  contents_decide p q i j e same = rw (by_headers p q i j, ← e) (others_decide o (contents_cmp c v w) same)
+  contents_decide i j e same = rw (by_headers i j, ← e) (others_decide o (contents_cmp c v w) same)
+
+-- an answer that is one order is another one, where the two are one
+pub told_as : (r : Result Ordering Error) {x y : Ordering} → x ≡ y → IfOk r (λ o. o ≡ x) → IfOk r (λ o. o ≡ y)
+told_as (Ok o) e h = h ∙ e
+told_as (Err k) e h = tt
 
 -- of one tag
 pub one_tag : (t : Tag) (m n : ℕ) (o : Ordering) → o ≡ octets_cmp (length_octets m) (length_octets n) → o ≡ ordering_then (octets_cmp (tag_octets t) (tag_octets t)) (octets_cmp (length_octets m) (length_octets n))
 one_tag t m n o e = rw (octets_cmp-self (tag_octets t)) e
 
--- The order of contents that are no lists of values.
+-- The order of contents that aren't lists of values.
 
 pub leaf_contents : (l : Leaf) (v w : LeafValue l) → contents_cmp (leaf l) v w ≡ octets_cmp (octets_of_leaf l v) (octets_of_leaf l w)
 unfolding contents

@@ -1,4 +1,4 @@
--- A length is refused only where it passes what a length can count.
+-- A length is rejected only if it passes what a length can count.
 use Rattle.std.proofs.Common.{◌≡◌, ℕ, zero, suc, Bool, List, [], ◌∷◌, length, Some, None, Result, Ok, Err, refl, arith, inl, inr, slice_get, bytes_eq}
 use Rattle.std.proofs.lemmas.Bool.Decides.{nat_tests}
 use Rattle.der_core_coding.specs.CoreHead.declared.error.Error.{Error}

@@ -46,6 +46,7 @@ pub use Rattle.der_core_coding.specs.CoreValues.Memory
 pub use Rattle.der_core_coding.specs.CoreValues.Numbered
 pub use Rattle.der_core_coding.specs.Slices
 pub use Rattle.der_core_coding.specs.Sequences
+pub use Rattle.der_core_coding.specs.Steps
 pub use Rattle.der_core_coding.specs.Wholes
 pub use Rattle.der_core_coding.specs.Defaults
 pub use Rattle.der_core_coding.specs.CoreHead.declared.encoding_rules as EncodingRulesTypes

@@ -1,3 +1,4 @@
 -- Definitions of other crates that attributes of this one unfold.
+unfoldable pub use Rattle.der_core_coding.specs.CoreHead.Grammar.{either_at}
 unfoldable pub use Rattle.der_core_coding.specs.CoreHead.Shapes.{IsBody, IsContent, IsValid}
 unfoldable pub use Rattle.der_core_coding.specs.CoreHead.Shapes.{body_octets, contents, octets_of}

@@ -13,7 +13,7 @@ use Rattle.der_core_coding.specs.CoreHead.Leaves.{null, identifier}
 use Rattle.der_core_coding.specs.CoreHead.Shapes.{leaf, contents, IsContent}
 use Rattle.der_core.specs.Orders.{octets_cmp, contents_cmp}
 
--- a type that is ordered as the octets of its contents
+-- a type that is ordered as the bytes of its contents
 pub octets_order : (l : Leaf) (v w : LeafValue l) → IsContent (leaf l) v → IsContent (leaf l) w
     → length (contents (leaf l) v) ≡ length (contents (leaf l) w)
     → octets_cmp (octets_of_leaf l v) (octets_of_leaf l w) ≡ contents_cmp (leaf l) v w
@@ -32,7 +32,7 @@ pub null_order : (v w : Unit {0}) → IsContent (leaf null) v → IsContent (lea
 unfolding contents
 null_order v w p q e = refl
 
--- the number of octets, and then the octets
+-- the number of bytes, and then the bytes
 pub identifier_order : (bound capacity : ℕ) (v w : List ℕ)
     → IsContent (leaf (identifier bound capacity)) v
     → IsContent (leaf (identifier bound capacity)) w

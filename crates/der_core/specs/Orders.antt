@@ -1,4 +1,4 @@
--- The order of encodings: that of lists of octets (X.690 11.6).
+-- The order of encodings: that of lists of bytes (X.690 11.6).
 use Rattle.std.specs.Prelude.{◌≡◌, ℕ, List, [], ◌++◌, Bool, true, Option, Some, None, Result, Err}
 use Rattle.std.specs.Prelude.{◌⊎◌}
 use Rattle.std.specs.Ordering.{nat_cmp}
@@ -14,7 +14,7 @@ use Rattle.der_core_coding.specs.CoreHead.Shapes.{Shape, Content, Body, Value, C
 use Rattle.der_core_coding.specs.CoreHead.Shapes.{BodyValue}
 use Rattle.der_core_coding.specs.CoreHead.Shapes.{octets_of, contents, body_octets}
 
--- the first octets that differ decide, and where none do the shorter list is the lower one
+-- the first bytes that differ decide, and where none do the shorter list is the lower one
 abbrev pub octets_cmp : List ℕ → List ℕ → Ordering
 octets_cmp a b = slice_cmp nat_cmp a b
 
@@ -26,7 +26,7 @@ encodings_cmp s v w = octets_cmp (octets_of s v) (octets_of s w)
 abbrev pub contents_cmp : (c : Content) → ContentValue c → ContentValue c → Ordering
 contents_cmp c v w = octets_cmp (contents c v) (contents c w)
 
--- of fields, one after the other
+-- of fields, one after another
 abbrev pub bodies_cmp : (b : Body) → BodyValue b → BodyValue b → Ordering
 bodies_cmp b v w = octets_cmp (body_octets b v) (body_octets b w)
 
@@ -35,12 +35,12 @@ pub record Overflows (e : Error) (m n : Result ℕ ErrorKind) : Type 0 where
   pub kind : e.kind ≡ kinds.Overflow
   pub length : (m ≡ Err kinds.Overflow) ⊎ (n ≡ Err kinds.Overflow)
 
--- Octets begin with the tag, which is one of these, or there are neither tag nor octets.
+-- Bytes begin with the tag, which is one of these, or there are neither tag nor bytes.
 abbrev pub StartsWith : (Tag → Bool) → Option Tag → List ℕ → Type 0
 StartsWith first None b = b ≡ []
 StartsWith first (Some t) b = (w : List ℕ) × (b ≡ tag_octets t ++ w) × IsTag t × (first t ≡ true)
 
--- The order of octets that begin with one tag, if with any, and of octets that begin with another
+-- The order of bytes that begin with one tag, if with any, and of bytes that begin with another
 -- tag.
 abbrev pub next_cmp : Option Tag → Tag → Ordering
 next_cmp None t = Less

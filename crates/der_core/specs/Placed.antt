@@ -27,13 +27,13 @@ is_below s v w = is_less (encodings_cmp s v w)
 abbrev pub is_same : (s : Shape) → Value s → Value s → Bool
 is_same s v w = is_equal (encodings_cmp s v w)
 
--- one more in a list, in front of the first before which it goes
+-- one more in a list, before the first before which it goes
 abbrev pub put_in_front : {P : Type 0} → (P → P → Bool) → P → List P → List P
 put_in_front goes_before x [] = x ∷ []
 put_in_front goes_before x (y ∷ left) =
     if goes_before x y then x ∷ y ∷ left else y ∷ put_in_front goes_before x left
 
--- a value among others, in front of the first whose encoding is above its own (X.690 11.6)
+-- a value among others, before the first whose encoding is above its own (X.690 11.6)
 abbrev pub placed : (s : Shape) → Value s → List (Value s) → List (Value s)
 placed s v others = put_in_front (is_below s) v others
 
@@ -45,8 +45,8 @@ stands_among s v others = list_any (λ w. is_same s v w) others
 abbrev pub AllValid : {A : Type 0} (s : Shape) → (A → Value s) → List A → Type 0
 AllValid s f xs = AllByRecursion (λ x. IsValid s (f x)) xs
 
--- why a member isn't placed among others: its encoding stands there, or not all have an encoding,
--- as where one has 2^32 octets or more; or out of memory
+-- why a member isn't placed among others: its encoding is there, or not all have an encoding, as
+-- where one has 2^32 bytes or more; or out of memory
 abbrev pub IsNotPlaced : {A : Type 0} (s : Shape) → (A → Value s) → A → List A → Error → Type 0
 IsNotPlaced s f x others e =
     (e.kind ≡ kinds.OutOfMemory)

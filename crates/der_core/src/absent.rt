@@ -1,11 +1,11 @@
-//! Comparison of fields of no octets.
+//! Comparison of fields of no bytes.
 
 use crate::order::{DerOrd, FirstTag};
 use der_core_coding::core_head::{Error, Tag};
 use std::cmp::Ordering;
 use std::marker::PhantomData;
 
-/// No octets are no octets.
+/// No bytes aren't bytes.
 impl<T> DerOrd for PhantomData<T> {
     #[tactic(auto, unfolding(crate::specs::Opened::octets_of))]
     fn der_cmp(&self, _other: &Self) -> Result<Ordering, Error> {

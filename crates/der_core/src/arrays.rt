@@ -1,4 +1,4 @@
-//! Comparison of lists of so many values, and of fields of no octets.
+//! Comparison of arrays, and of fields without bytes.
 
 use crate::lists::elements_cmp;
 use crate::order::{DerOrd, ValueOrd};

@@ -15,10 +15,10 @@ use der_core_coding::core_values::ShapedValue;
 use der_core_coding::oid::ObjectIdentifier;
 use std::cmp::Ordering;
 
-/// A type whose `Ord` is the order of contents of equal length, as lists of octets.
+/// A type whose `Ord` is the order of contents of equal length, as lists of bytes.
 ///
 /// Of contents of other lengths it may be another one: identifiers are ordered by the number of
-/// their octets first.
+/// their bytes first.
 pub trait OrdIsValueOrd: ShapedValue + Ord {
     ghost order: { (v w : Self) → IsContent Self.content (Self.value_written v)
         → IsContent Self.content (Self.value_written w)
@@ -27,7 +27,7 @@ pub trait OrdIsValueOrd: ShapedValue + Ord {
         → Self.cmp v w ≡ contents_cmp Self.content (Self.value_written v) (Self.value_written w) };
 }
 
-/// The order of the contents of two values, by their `Ord`, where they have the same length.
+/// Compares the contents of two values by their `Ord`, if the contents have the same length.
 pub fn value_cmp_by_ord<T: OrdIsValueOrd>(a: &T, b: &T) -> Ordering
     // The order is that of their `Ord` whatever the lengths are.
     ensures ord { result ≡ T.cmp a.now b.now }
@@ -40,11 +40,12 @@ pub fn value_cmp_by_ord<T: OrdIsValueOrd>(a: &T, b: &T) -> Ordering
     a.cmp(b)
 }
 
-/// What `value_cmp` answers, which is the `Ord` of the two values where their contents have the
-/// same length.
+/// Returns the result of `value_cmp`, which is the `Ord` of the two values if their contents have
+/// the same length.
 ///
 /// # Errors
-/// `Overflow` where the content of one of the two has 2^32 octets or more.
+///
+/// - `Overflow`: the content of one of the two has 2^32 bytes or more.
 pub fn value_cmp_is_ord<T: ValueOrd + OrdIsValueOrd>(a: &T, b: &T) -> Result<Ordering, Error>
     ensures order { is_content_apart T.content ≡ true → IsContent T.content (T.value_written a.now)
         → IsContent T.content (T.value_written b.now)

@@ -1,9 +1,10 @@
 //! Comparison of choices.
 
-ghost use Rattle.std.specs.Prelude.{◌≡◌, true};
-ghost use Rattle.der_core_coding.specs.CoreHead.Shapes.{either, octets_of, IsValid};
+ghost use Rattle.std.specs.Prelude.{◌≡◌, true, Ok, IfOk, IfErr};
+ghost use Rattle.der_core_coding.specs.CoreHead.Shapes.{IsValid, Value, begins, either, octets_of};
 ghost use Rattle.der_core_coding.specs.CoreHead.Spelling.{is_apart};
-ghost use Rattle.der_core.specs.Orders.{octets_cmp};
+ghost use Rattle.der_core_coding.specs.CoreHead.Writing.{size};
+ghost use Rattle.der_core.specs.Orders.{Overflows, StartsWith, encodings_cmp, octets_cmp};
 
 use crate::order::{DerOrd, FirstTag};
 use crate::pairs::next_cmp;
@@ -38,10 +39,9 @@ macro_rules! case {
     (@rest 9 of $n:tt: $($v:tt)+) => { $crate::case!(6 of $n: $($v)+) };
 }
 
-/// The order of values of two alternatives, which begin with different tags.
+/// Returns the order of values of two alternatives, which begin with different tags.
 fn other_cmp<A: FirstTag, B: FirstTag>(value: &A, other: &B) -> Ordering
     ensures { is_apart (either A.shape B.shape) ≡ true
-        → IsValid A.shape (A.written value.now) → IsValid B.shape (B.written other.now)
         → result ≡ octets_cmp (octets_of A.shape (A.written value.now))
         (octets_of B.shape (B.written other.now)) }
 {
@@ -74,12 +74,38 @@ impl<A: FirstTag, B: FirstTag> FirstTag for OneOf2<A, B> {
     }
 }
 
+/// Compares two choices by the alternatives that they lend. The result holds for any values that
+/// these are known to encode.
+///
+/// # Errors
+///
+/// - `Overflow`: the encoding of one of the two has 2^32 bytes or more.
+pub(crate) fn values_cmp<T: DerOrd>(cases: &T, other: &T) -> Result<Ordering, Error>
+    ensures order { (v w : Value T.shape) → T.written cases.now ≡ v → T.written other.now ≡ w
+        → is_apart T.shape ≡ true → IsValid T.shape v → IsValid T.shape w
+        → result ≡ Ok (encodings_cmp T.shape v w) }
+    ensures exact { (v w : Value T.shape) → T.written cases.now ≡ v → T.written other.now ≡ w
+        → is_apart T.shape ≡ true → IfOk result (λ o. o ≡ encodings_cmp T.shape v w) }
+    ensures refused { (v w : Value T.shape) → T.written cases.now ≡ v → T.written other.now ≡ w
+        → IfErr result (λ e. Overflows e (size T.shape v) (size T.shape w)) }
+{
+    cases.der_cmp(other)
+}
+
+/// Returns the tag of a value. The result holds for any value that this is known to encode.
+pub(crate) fn values_tag<T: FirstTag>(cases: &T) -> Option<Tag>
+    ensures { (v : Value T.shape) → T.written cases.now ≡ v
+        → StartsWith (begins T.shape) result (octets_of T.shape v) }
+{
+    cases.first_tag()
+}
+
 type FourRef<'a, A, B, C, D> = OneOf2<
     EncodeRef<'a, A>,
     OneOf3<EncodeRef<'a, B>, EncodeRef<'a, C>, EncodeRef<'a, D>>,
 >;
 
-/// A choice of four behind a reference, as the first or one of the others.
+/// Returns a borrowed choice of four as the first alternative, or one of the others.
 fn four_as_two<'a, A: Shaped, B: Shaped, C: Shaped, D: Shaped>(
     value: &'a OneOf4<A, B, C, D>,
 ) -> FourRef<'a, A, B, C, D>

@@ -1,4 +1,4 @@
-//! Copies of lists, and of what may be absent, in memory of one allocator.
+//! Copies of lists and of optional values, with one allocator.
 
 ghost use Rattle.std.specs.Prelude.{◌≡◌, IfOk};
 ghost use Rattle.der_core_coding.specs.CoreHead.Grammar.{plain_list, plain_option};
@@ -6,10 +6,11 @@ ghost use Rattle.der_core_coding.specs.CoreHead.Grammar.{plain_list, plain_optio
 use der_core_coding::core_values::Shaped;
 use std::alloc::{AllocError, Global};
 
-/// Copies of the members of a list, each made by `copy`.
+/// Copies the members of a list with `copy`.
 ///
 /// # Errors
-/// Out of memory.
+///
+/// Fails if memory runs out.
 pub fn copies_of<T: Shaped + Drop, F: Fn(&T, Global) -> Result<T, AllocError>>(
     alloc: Global,
     members: &[T],
@@ -28,10 +29,11 @@ pub fn copies_of<T: Shaped + Drop, F: Fn(&T, Global) -> Result<T, AllocError>>(
     Ok(copies)
 }
 
-/// A copy of what stands, made by `copy`, where something does.
+/// Copies an optional value with `copy`.
 ///
 /// # Errors
-/// Out of memory.
+///
+/// Fails if memory runs out.
 pub fn copy_of_option<T: Shaped + Drop, F: Fn(&T, Global) -> Result<T, AllocError>>(
     alloc: Global,
     value: &Option<T>,
@@ -48,10 +50,11 @@ pub fn copy_of_option<T: Shaped + Drop, F: Fn(&T, Global) -> Result<T, AllocErro
     }
 }
 
-/// Copies of the members of a list, each made by `copy`, where there is a list.
+/// Copies the members of an optional list with `copy`.
 ///
 /// # Errors
-/// Out of memory.
+///
+/// Fails if memory runs out.
 pub fn copies_of_option<T: Shaped + Drop, F: Fn(&T, Global) -> Result<T, AllocError>>(
     alloc: Global,
     members: &Option<Vec<T>>,

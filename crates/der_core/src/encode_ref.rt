@@ -1,18 +1,18 @@
-//! Comparison of values behind a reference.
+//! Comparison of values after a reference.
 
 use crate::order::{DerOrd, FirstTag, ValueOrd};
 use der_core_coding::core_head::{Error, Tag};
 use der_core_coding::{EncodeRef, EncodeValueRef};
 use std::cmp::Ordering;
 
-/// The content of the value behind the reference.
+/// Compares the contents of the values.
 impl<'a, T: ValueOrd> ValueOrd for EncodeValueRef<'a, T> {
     fn value_cmp(&self, other: &Self) -> Result<Ordering, Error> {
         self.0.value_cmp(other.0)
     }
 }
 
-/// The value behind the reference.
+/// The value after the reference.
 impl<'a, T: DerOrd> DerOrd for EncodeRef<'a, T> {
     fn der_cmp(&self, other: &Self) -> Result<Ordering, Error> {
         self.0.der_cmp(other.0)

@@ -1,4 +1,4 @@
-//! The order of tags, lengths and headers, by their octets.
+//! The order of tags, lengths and headers, by their bytes.
 
 ghost use Rattle.std.specs.Prelude.{◌≡◌, ◌≤◌, take};
 ghost use Rattle.der_core_coding.specs.CoreHead.Tags.{IsTag, tag_octets};
@@ -9,7 +9,7 @@ use der_core_coding::core_head::{Length, Tag, leading_octet_of, number_of};
 use der_core_coding::core_octets::Header;
 use std::cmp::Ordering;
 
-/// The octets of a tag (X.690 8.1.2): those of the array up to a place.
+/// Returns the encoding of a tag (X.690 8.1.2): an array, and the number of bytes in it.
 #[tactic(auto, using(crate::proofs::Cited::tag_forms))]
 fn tag_octets_of(tag: Tag) -> ([u8; 6], usize)
     ensures octets { take result.1 result.0 ≡ tag_octets tag }
@@ -41,8 +41,8 @@ fn tag_octets_of(tag: Tag) -> ([u8; 6], usize)
     ([first, d4, d3, d2, d1, last], 6)
 }
 
-/// The order of the octets of two tags. It isn't that of their numbers: those of 16383 are `FF 7F`
-/// after the first octet, and those of 16384 `81 80 00`.
+/// Compares the encodings of two tags. This isn't the order of their numbers: 16383 is `FF 7F`
+/// after the first byte, and 16384 is `81 80 00`.
 pub fn tag_cmp(a: Tag, b: Tag) -> Ordering
     ensures order { result ≡ octets_cmp (tag_octets a) (tag_octets b) }
     // Their numbers fit 32 bits.
@@ -53,7 +53,7 @@ pub fn tag_cmp(a: Tag, b: Tag) -> Ordering
     a_octets[..a_len].cmp(&b_octets[..b_len])
 }
 
-/// The order of the octets of two definite lengths (X.690 8.1.3, 10.1).
+/// Compares the encodings of two definite lengths (X.690 8.1.3, 10.1).
 #[tactic(auto, using(crate::proofs::OrderLaws::length_octets_cmp))]
 pub fn length_cmp(a: Length, b: Length) -> Ordering
     ensures { result ≡ octets_cmp (length_octets a.value) (length_octets b.value) }
@@ -61,7 +61,7 @@ pub fn length_cmp(a: Length, b: Length) -> Ordering
     a.value.cmp(&b.value)
 }
 
-/// The order of the octets of two headers: that of their tags, and then that of their lengths.
+/// Compares the encodings of two headers: first their tags, then their lengths.
 #[tactic(auto, using(crate::proofs::OrderLaws::head_cmp))]
 pub fn header_cmp(a: Header, b: Header) -> Ordering
     ensures { result ≡ octets_cmp (head_octets a.tag a.length.value)

@@ -5,7 +5,7 @@ use der_core_coding::core_head::Error;
 use der_core_coding::{Implicit, ImplicitRef};
 use std::cmp::Ordering;
 
-/// Behind the tag stands the content of the value (X.690 8.14.3).
+/// The content is that of the value (X.690 8.14.3).
 impl<T: ValueOrd, const N: u32> ValueOrd for Implicit<T, N> {
     fn value_cmp(&self, other: &Self) -> Result<Ordering, Error> {
         self.value.value_cmp(&other.value)

@@ -1,7 +1,7 @@
-//! Laws of shapes, of bodies of indefinite length, and of the order of encodings, for every shape;
-//! and of what is written, for every type whose values are in range.
+//! Laws about shapes, bodies of indefinite length and the order of encodings, for every shape; and
+//! laws about encoding, for every type whose values are in range.
 //!
-//! Each is the contract of a function that does nothing.
+//! Each law is the contract of a function that does nothing.
 
 ghost use Rattle.std.specs.Prelude.{◌≡◌, ◌↔◌, ℕ, List, [], ◌++◌, true, Ok};
 ghost use Rattle.std.specs.Ordering.{nat_cmp, ordering_then, ordering_reverse};
@@ -24,10 +24,10 @@ pub use der_core_coding::core_head::laws::{
 pub use der_core_coding::core_octets::laws::scanned_in_one_way;
 use der_core_coding::core_values::{Element, InRange, Member};
 
-/// What was written of a value has an encoding, where the values of its type are in range, and is
-/// read as that value.
+/// What was encoded for a value has an encoding, if the values of its type are in range, and
+/// decodes to that value.
 ///
-/// So what `to_der`, `encode_to_slice` and `encode_to_vec` answer spells the value.
+/// So the results of `to_der`, `encode_to_slice` and `encode_to_vec` are the encoding of the value.
 pub fn in_range_is_spelled<T: InRange + Element + Member>(value: &T)
     ensures valid { (o z : Out) → write T.shape (T.written value.now) o ≡ Ok z
         → IsValid T.shape (T.written value.now) }
@@ -41,8 +41,8 @@ pub fn in_range_is_spelled<T: InRange + Element + Member>(value: &T)
     written_is_read();
 }
 
-/// The order is total: it is `Equal` exactly where the octets are the same, one way round it is the
-/// reverse of the other, and it goes on.
+/// The order is total: it is `Equal` exactly if the bytes are the same, it is antisymmetric, and it
+/// is transitive.
 pub fn order_is_total()
     ensures equal { (a b : List ℕ) → (octets_cmp a b ≡ Equal) ↔ (a ≡ b) }
     ensures reversed { (a b : List ℕ) → octets_cmp a b ≡ ordering_reverse (octets_cmp b a) }
@@ -51,12 +51,12 @@ pub fn order_is_total()
     ensures same { (a b c : List ℕ) → octets_cmp a b ≡ Equal → octets_cmp a c ≡ octets_cmp b c }
 {}
 
-/// Lengths are in the order of their octets (X.690 8.1.3).
+/// Lengths are in the order of their bytes (X.690 8.1.3).
 pub fn lengths_in_order()
     ensures { (m n : ℕ) → octets_cmp (length_octets m) (length_octets n) ≡ nat_cmp m n }
 {}
 
-/// No encoding begins another, so what follows two encodings matters only where these are the same.
+/// No encoding begins another, so what follows two encodings matters only if these are the same.
 pub fn first_encoding_decides()
     ensures { (s : Shape) (v w : Value s) (r t : List ℕ) → is_element s ≡ true → IsValid s v
         → IsValid s w
@@ -64,14 +64,14 @@ pub fn first_encoding_decides()
         (octets_cmp r t) }
 {}
 
-/// Two values of a shape are in the order `Equal` exactly where they are one value.
+/// The order of two values of a shape is `Equal` exactly if they are the same value.
 pub fn equal_values_alone()
     ensures { (s : Shape) (v w : Value s) → is_element s ≡ true → is_apart s ≡ true
         → IsValid s v → IsValid s w → (encodings_cmp s v w ≡ Equal) ↔ (v ≡ w) }
 {}
 
-/// Where `==` of a type is of plain values, two values that have encodings are equal by it exactly
-/// where their plain values are one.
+/// If `==` of a type compares abstract values, two values that have encodings are equal exactly if
+/// their abstract values are the same.
 pub fn equality_of_values<T: Element + Member + PartialEq>()
     ensures { IsOfValues T.eq T.plain (octets_of T.shape)
         → (x y : T) → IsValid T.shape (T.plain x) → IsValid T.shape (T.plain y)

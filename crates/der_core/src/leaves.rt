@@ -1,4 +1,4 @@
-//! Comparison of values whose content is no list of values.
+//! Comparison of values whose content isn't a list of values.
 
 ghost use Rattle.std.specs.Prelude.{◌≡◌};
 ghost use Rattle.der_core_coding.specs.CoreHead.Integers.{integer_octets};
@@ -14,8 +14,8 @@ use der_core_coding::core_values::describing::{AsInteger, AsNumbered, AsOctets, 
 use der_core_coding::oid::ObjectIdentifier;
 use std::cmp::Ordering;
 
-/// The order of the contents of two whole numbers (X.690 8.3). It isn't that of the numbers: 127 is
-/// `7F` and 128 `00 80`, and -1 is `FF`.
+/// Compares the contents of two integers (X.690 8.3). This isn't the order of the numbers: 127 is
+/// `7F`, 128 is `00 80`, and -1 is `FF`.
 fn integer_cmp<T: Integer>(a: &T, b: &T) -> Ordering
     ensures { result ≡ octets_cmp (integer_octets (T.number a.now))
         (integer_octets (T.number b.now)) }
@@ -41,7 +41,7 @@ impl<T: Numbered, K> OrderWay<T> for AsNumbered<K> {
     }
 }
 
-/// The octets themselves.
+/// The bytes themselves.
 impl<T: Octets> OrderWay<T> for AsOctets {
     #[tactic(auto, using(crate::proofs::OrderLaws::leaf_contents))]
     fn cmp_by(value: &T, other: &T) -> Result<Ordering, Error> {

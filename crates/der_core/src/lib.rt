@@ -1,5 +1,6 @@
-//! Reading, writing and comparing of DER: readers, writers, the traits of what is read, written and
-//! compared, the order of encodings, and sets in that order (X.690 11.6).
+//! DER: readers, writers, the traits that decode, encode and compare values, the order of
+//! encodings, and sets in that order (X.690 11.6). This crate is the facade of the `der_core_*`
+//! crates.
 #![tactic(auto)]
 
 mod absent;
@@ -17,11 +18,15 @@ mod headers;
 mod implicit;
 pub mod laws;
 mod leaves;
+mod lent;
+mod lent_cases;
 mod lists;
 pub mod making;
 mod options;
 mod order;
 mod pairs;
+mod read;
+mod read_cases;
 mod records;
 mod strict_set_of;
 mod unit;
@@ -46,9 +51,9 @@ pub use der_core_coding::core_values::{
     decode_octets,
 };
 pub use der_core_coding::{
-    DefaultContent, DefaultValue, EncodeFields, EncodeRef, EncodeValueRef, Explicit, FromDer,
-    Implicit, ImplicitRef, IsConstructed, Reading, SliceReader, SliceWriter, Tagged, ToDer,
-    WithDefault, encode_value_to_slice, value_header,
+    DefaultContent, DefaultNumber, DefaultValue, EncodeFields, EncodeRef, EncodeValueRef, Explicit,
+    FromDer, Implicit, ImplicitRef, IsConstructed, Reading, SliceReader, SliceWriter, Tagged,
+    ToDer, WithDefault, encode_value_to_slice, value_header,
 };
 pub use headers::{header_cmp, length_cmp, tag_cmp};
 pub use lists::{iter_cmp, iter_cmp_owned};

@@ -1,6 +1,6 @@
-//! Comparison of values that stand one after the other, and of those that iterators give.
+//! Comparison of lists of values, and of values from iterators.
 
-ghost use Rattle.std.specs.Prelude.{◌≡◌, true, Ok, IfErr, List};
+ghost use Rattle.std.specs.Prelude.{◌≡◌, true, Ok, IfOk, IfErr, List};
 ghost use Rattle.der_core_coding.specs.CoreHead.Shapes.{many, IsBody, Value};
 ghost use Rattle.der_core_coding.specs.CoreHead.Spelling.{is_body_apart};
 ghost use Rattle.der_core_coding.specs.CoreHead.Grammar.{plain_list};
@@ -14,11 +14,12 @@ use der_core_coding::EncodeRef;
 use der_core_coding::core_head::Error;
 use std::cmp::Ordering;
 
-/// The order of the joined encodings of values: that of the first that differ, and else of how many
-/// there are.
+/// Compares the joined encodings of values: the first that differ decide, and then the numbers of
+/// values. The result is right even if parts of the values are out of range.
 ///
 /// # Errors
-/// `Overflow` where the encodings of one of the two have 2^32 octets or more.
+///
+/// - `Overflow`: the encodings of one of the two have 2^32 bytes or more.
 pub fn elements_cmp<T: DerOrd>(a: &[T], b: &[T]) -> Result<Ordering, Error>
     ensures order { is_body_apart (many T.shape) ≡ true
         → IsBody (many T.shape) (plain_list T.written a.now)
@@ -26,6 +27,8 @@ pub fn elements_cmp<T: DerOrd>(a: &[T], b: &[T]) -> Result<Ordering, Error>
         → result
         ≡ Ok
         (bodies_cmp (many T.shape) (plain_list T.written a.now) (plain_list T.written b.now)) }
+    ensures exact { is_body_apart (many T.shape) ≡ true → IfOk result (λ o. o
+        ≡ bodies_cmp (many T.shape) (plain_list T.written a.now) (plain_list T.written b.now)) }
     ensures refused { IfErr result
         (λ e. Overflows e (size_body (many T.shape) (plain_list T.written a.now))
         (size_body (many T.shape) (plain_list T.written b.now))) }
@@ -49,11 +52,12 @@ impl<T: DerOrd> ValueOrd for StrictSetOf<T> {
     }
 }
 
-/// The order of the joined encodings of the values that two iterators give: that of the first that
-/// differ, and else of how many there are.
+/// Compares the joined encodings of the values of two iterators: the first that differ decide, and
+/// then the numbers of values.
 ///
 /// # Errors
-/// `Overflow` where the encodings of one of the two have 2^32 octets or more.
+///
+/// - `Overflow`: the encodings of one of the two have 2^32 bytes or more.
 pub fn iter_cmp_owned<T: DerOrd + Drop, I: Iterator<Item = T> + Drop>(
     a: I,
     b: I,
@@ -65,6 +69,10 @@ pub fn iter_cmp_owned<T: DerOrd + Drop, I: Iterator<Item = T> + Drop>(
         → AlwaysYields I.next_gives T.written b ys
         → is_body_apart (many T.shape) ≡ true → IsBody (many T.shape) xs → IsBody (many T.shape) ys
         → result ≡ Ok (bodies_cmp (many T.shape) xs ys) }
+    ensures exact { (xs ys : List (Value T.shape)) → AlwaysYields I.next_gives T.written a xs
+        → AlwaysYields I.next_gives T.written b ys
+        → is_body_apart (many T.shape) ≡ true
+        → IfOk result (λ o. o ≡ bodies_cmp (many T.shape) xs ys) }
     ensures refused { (xs ys : List (Value T.shape)) → AlwaysYields I.next_gives T.written a xs
         → AlwaysYields I.next_gives T.written b ys
         → IfErr result
@@ -86,18 +94,19 @@ pub fn iter_cmp_owned<T: DerOrd + Drop, I: Iterator<Item = T> + Drop>(
     }
 }
 
-/// A value, behind a reference.
+/// Returns a value, after a reference.
 fn lent<'a, T>(value: &'a T) -> EncodeRef<'a, T>
     ensures { result.0.now ≡ value.now }
 {
     EncodeRef(value)
 }
 
-/// The order of the joined encodings of the values that two iterators lend: that of the first that
-/// differ, and else of how many there are.
+/// Compares the joined encodings of the borrowed values of two iterators: the first that differ
+/// decide, and then the numbers of values.
 ///
 /// # Errors
-/// `Overflow` where the encodings of one of the two have 2^32 octets or more.
+///
+/// - `Overflow`: the encodings of one of the two have 2^32 bytes or more.
 pub fn iter_cmp<'a, T: DerOrd + 'a, I: Iterator<Item = &'a T> + Drop>(
     a: I,
     b: I,
@@ -110,6 +119,11 @@ pub fn iter_cmp<'a, T: DerOrd + 'a, I: Iterator<Item = &'a T> + Drop>(
         → AlwaysYields I.next_gives (λ r. T.written r.now) b ys
         → is_body_apart (many T.shape) ≡ true → IsBody (many T.shape) xs → IsBody (many T.shape) ys
         → result ≡ Ok (bodies_cmp (many T.shape) xs ys) }
+    ensures exact { (xs ys : List (Value T.shape))
+        → AlwaysYields I.next_gives (λ r. T.written r.now) a xs
+        → AlwaysYields I.next_gives (λ r. T.written r.now) b ys
+        → is_body_apart (many T.shape) ≡ true
+        → IfOk result (λ o. o ≡ bodies_cmp (many T.shape) xs ys) }
     ensures refused { (xs ys : List (Value T.shape))
         → AlwaysYields I.next_gives (λ r. T.written r.now) a xs
         → AlwaysYields I.next_gives (λ r. T.written r.now) b ys

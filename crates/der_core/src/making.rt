@@ -1,13 +1,14 @@
-//! What the makers of types use: heads and contents as they are read, counted and written, fields
-//! after tags, and orders of contents, for types that the traits alone don't serve.
+//! What the declaration of a type needs that the traits alone don't serve: decoding, counting and
+//! encoding of headers and contents, tagged fields, and comparison of contents.
 
 ghost use Rattle.std.specs.Prelude.{◌≡◌, ◌↔◌, IsTrue};
 
 pub use crate::contents::{value_cmp_behind, value_cmp_by_contents};
 pub use crate::copies::{copies_of, copies_of_option, copy_of_option};
+pub use crate::lent_cases::{cases_cmp, cases_tag};
 pub use crate::lists::elements_cmp;
 pub use crate::order::cmp_behind;
-pub use crate::strict_set_of::{place_of, stands_among};
+pub use crate::strict_set_of::{check_in_order, place_of, stands_among};
 use der_core_coding::core_head::{Error, ErrorKind};
 pub use der_core_coding::core_head::{
     header_len, is_constructed, is_same_tag, leading_octet_of, number_of, tag_of_class,
@@ -21,12 +22,12 @@ pub use der_core_coding::core_values::{
 };
 pub use der_core_coding::{
     decode_sliced, encode_behind, encode_explicit, encode_implicit, encode_tagged, explicit_of,
-    explicit_ref, implicit_of, implicit_ref, is_zero, leaf_from_der, len_behind, optional_explicit,
-    optional_implicit, read_explicit, read_rising, read_whole,
+    explicit_ref, implicit_of, implicit_ref, is_small, is_zero, leaf_from_der, len_behind,
+    optional_explicit, optional_implicit, read_ascending, read_explicit, read_rising, read_whole,
 };
 
-/// Whether an error says that memory ran out.
-pub fn is_want_of_memory(error: &Error) -> bool
+/// Returns whether an error says that memory ran out.
+pub fn is_out_of_memory(error: &Error) -> bool
     ensures { IsTrue result ↔ (error.now.kind ≡ ErrorKind.OutOfMemory) }
 {
     matches!(error.kind, ErrorKind::OutOfMemory)

@@ -1,4 +1,4 @@
-//! Comparison of what may be left out.
+//! Comparison of optional values.
 
 ghost use Rattle.std.specs.Prelude.{Ok};
 ghost use Rattle.der_core_coding.specs.CoreHead.Shapes.{IsValid, octets_of};

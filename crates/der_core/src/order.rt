@@ -1,6 +1,6 @@
 //! Comparison of values by their encodings.
 
-ghost use Rattle.std.specs.Prelude.{◌≡◌, true, Ok, IfErr};
+ghost use Rattle.std.specs.Prelude.{◌≡◌, true, Ok, IfOk, IfErr};
 ghost use Rattle.der_core_coding.specs.CoreHead.Shapes.{IsValid, IsContent, tagged, octets_of};
 ghost use Rattle.der_core_coding.specs.CoreHead.Shapes.{begins};
 ghost use Rattle.der_core_coding.specs.CoreHead.Spelling.{is_apart, is_content_apart};
@@ -9,19 +9,21 @@ ghost use Rattle.der_core.specs.Orders.{octets_cmp, encodings_cmp, contents_cmp,
 ghost use Rattle.der_core.specs.Orders.{StartsWith};
 
 use crate::headers::{length_cmp, tag_cmp};
-use der_core_coding::core_head::{Error, Tag};
+use der_core_coding::core_head::{Error, Tag, number_of};
 use der_core_coding::core_values::describing::{Described, Way};
 use der_core_coding::core_values::{EncodeValue, FixedTag, Shaped, ShapedValue};
 use std::cmp::Ordering;
 
 /// A type whose values are compared by their contents.
 pub trait ValueOrd: ShapedValue {
-    /// The order of the contents of two values, as lists of octets, whatever their lengths.
+    /// Compares the contents of two values, as lists of bytes, whatever their lengths are. The
+    /// result is right even if parts of the values are out of range.
     ///
     /// # Errors
-    /// `Overflow` where the content of one of the two has 2^32 octets or more.
+    ///
+    /// - `Overflow`: the content of one of the two has 2^32 bytes or more.
     fn value_cmp(&self, other: &Self) -> Result<Ordering, Error>
-        // An answer comes wherever both values have a content.
+        // There is a result whenever both values have a content.
         ensures order { is_content_apart Self.content ≡ true
             → IsContent Self.content (Self.value_written self.now)
             → IsContent Self.content (Self.value_written other.now)
@@ -29,17 +31,21 @@ pub trait ValueOrd: ShapedValue {
             ≡ Ok
             (contents_cmp Self.content (Self.value_written self.now)
             (Self.value_written other.now)) }
+        ensures exact { is_content_apart Self.content ≡ true
+            → IfOk result (λ o. o ≡ contents_cmp Self.content (Self.value_written self.now)
+            (Self.value_written other.now)) }
         ensures refused { IfErr result
             (λ e. Overflows e (size_content Self.content (Self.value_written self.now))
             (size_content Self.content (Self.value_written other.now))) };
 }
 
-/// How contents are compared, as lists of octets (X.690 11.6).
+/// A way of comparing contents, as lists of bytes (X.690 11.6).
 pub trait OrderWay<T>: Way<T> {
-    /// What `ValueOrd::value_cmp` answers.
+    /// Returns the result of `ValueOrd::value_cmp`.
     ///
     /// # Errors
-    /// Those of `ValueOrd::value_cmp`.
+    ///
+    /// - The errors of `ValueOrd::value_cmp`.
     fn cmp_by(value: &T, other: &T) -> Result<Ordering, Error>
         ensures order { is_content_apart Self.content_by ≡ true
             → IsContent Self.content_by (Self.written_by value.now)
@@ -47,6 +53,9 @@ pub trait OrderWay<T>: Way<T> {
             → result
             ≡ Ok
             (contents_cmp Self.content_by (Self.written_by value.now)
+            (Self.written_by other.now)) }
+        ensures exact { is_content_apart Self.content_by ≡ true
+            → IfOk result (λ o. o ≡ contents_cmp Self.content_by (Self.written_by value.now)
             (Self.written_by other.now)) }
         ensures refused { IfErr result
             (λ e. Overflows e (size_content Self.content_by (Self.written_by value.now))
@@ -67,31 +76,35 @@ where
 
 /// A type whose values are compared by their whole encodings (X.690 11.6).
 pub trait DerOrd: Shaped {
-    /// The order of the encodings of two values, as lists of octets. No memory is taken.
+    /// Compares the encodings of two values, as lists of bytes. It doesn't allocate. The result is
+    /// right even if parts of the values are out of range.
     ///
     /// # Errors
-    /// `Overflow` where the encoding of one of the two has 2^32 octets or more.
+    ///
+    /// - `Overflow`: the encoding of one of the two has 2^32 bytes or more.
     fn der_cmp(&self, other: &Self) -> Result<Ordering, Error>
-        // An answer comes wherever both values have an encoding.
+        // There is a result whenever both values have an encoding.
         ensures order { is_apart Self.shape ≡ true → IsValid Self.shape (Self.written self.now)
             → IsValid Self.shape (Self.written other.now)
             → result
             ≡ Ok (encodings_cmp Self.shape (Self.written self.now) (Self.written other.now)) }
+        ensures exact { is_apart Self.shape ≡ true → IfOk result
+            (λ o. o ≡ encodings_cmp Self.shape (Self.written self.now) (Self.written other.now)) }
         ensures refused { IfErr result
             (λ e. Overflows e (size Self.shape (Self.written self.now))
             (size Self.shape (Self.written other.now))) };
 }
 
-/// A type that tells the tag of a value's encoding.
+/// A type that knows the first tag of a value's encoding.
 pub trait FirstTag: Shaped {
-    /// The tag with which the encoding begins, or none where the value is written as nothing.
+    /// Returns the tag with which the encoding begins, or none if the value is written as nothing.
     fn first_tag(&self) -> Option<Tag>
-        ensures { IsValid Self.shape (Self.written self.now)
-            → StartsWith (begins Self.shape) result
+        ensures { StartsWith (begins Self.shape) result
             (octets_of Self.shape (Self.written self.now)) };
 }
 
-/// The order of two headers, and then that of their contents.
+/// Returns the order of two headers, and then that of their contents. The result is right even if
+/// parts of the contents are out of range.
 pub fn cmp_behind<T: EncodeValue + ValueOrd>(
     tag: Tag,
     value: &T,
@@ -103,6 +116,9 @@ pub fn cmp_behind<T: EncodeValue + ValueOrd>(
         → IsValid (tagged other_tag T.content) (T.value_written other.now)
         → result
         ≡ Ok (octets_cmp (octets_of (tagged tag T.content) (T.value_written value.now))
+        (octets_of (tagged other_tag T.content) (T.value_written other.now))) }
+    ensures exact { is_content_apart T.content ≡ true → IfOk result
+        (λ o. o ≡ octets_cmp (octets_of (tagged tag T.content) (T.value_written value.now))
         (octets_of (tagged other_tag T.content) (T.value_written other.now))) }
     ensures refused { IfErr result
         (λ e. Overflows e (size (tagged tag T.content) (T.value_written value.now))
@@ -118,7 +134,7 @@ pub fn cmp_behind<T: EncodeValue + ValueOrd>(
     Ok(contents)
 }
 
-/// The header, whose tag is that of the type, then the contents.
+/// Compares the headers, which have the tag of the type, then the contents.
 impl<T: ValueOrd + EncodeValue + FixedTag> DerOrd for T {
     fn der_cmp(&self, other: &Self) -> Result<Ordering, Error> {
         cmp_behind(T::tag(), self, T::tag(), other)
@@ -126,8 +142,9 @@ impl<T: ValueOrd + EncodeValue + FixedTag> DerOrd for T {
 }
 
 impl<T: ValueOrd + FixedTag> FirstTag for T {
-    #[tactic(auto, using(crate::proofs::ShapeOrders::tagged_starts))]
     fn first_tag(&self) -> Option<Tag> {
-        Some(T::tag())
+        let tag = T::tag();
+        let _number = number_of(tag);
+        Some(tag)
     }
 }

@@ -1,6 +1,6 @@
 //! Comparison of fields in a row.
 
-ghost use Rattle.std.specs.Prelude.{◌≡◌, true, Ok, IfErr};
+ghost use Rattle.std.specs.Prelude.{◌≡◌, true, Ok, IfOk, IfErr};
 ghost use Rattle.std.specs.Ordering.{ordering_then};
 ghost use Rattle.der_core_coding.specs.CoreHead.Shapes.{IsValid, IsBody, body_octets};
 ghost use Rattle.der_core_coding.specs.CoreHead.Spelling.{is_apart, is_body_apart, body_begins};
@@ -13,14 +13,16 @@ use der_core_coding::core_head::{Error, Tag};
 use der_core_coding::core_values::FieldRow;
 use std::cmp::Ordering;
 
-/// Fields that are compared one after the other.
+/// Fields that are compared one after another.
 pub trait FieldsOrd: FieldRow {
-    /// The order of the joined encodings of two rows of fields, as lists of octets.
+    /// Compares the joined encodings of two rows of fields, as lists of bytes. The result is right
+    /// even if parts of the fields are out of range.
     ///
     /// # Errors
-    /// `Overflow` where the fields of one of the two have 2^32 octets or more.
+    ///
+    /// - `Overflow`: the fields of one of the two have 2^32 bytes or more.
     fn fields_cmp(&self, other: &Self) -> Result<Ordering, Error>
-        // An answer comes wherever all of the fields have encodings.
+        // There is a result whenever all fields have encodings.
         ensures order { is_body_apart Self.fields ≡ true
             → IsBody Self.fields (Self.fields_written self.now)
             → IsBody Self.fields (Self.fields_written other.now)
@@ -28,19 +30,21 @@ pub trait FieldsOrd: FieldRow {
             ≡ Ok
             (bodies_cmp Self.fields (Self.fields_written self.now)
             (Self.fields_written other.now)) }
+        ensures exact { is_body_apart Self.fields ≡ true
+            → IfOk result (λ o. o ≡ bodies_cmp Self.fields (Self.fields_written self.now)
+            (Self.fields_written other.now)) }
         ensures refused { IfErr result
             (λ e. Overflows e (size_body Self.fields (Self.fields_written self.now))
             (size_body Self.fields (Self.fields_written other.now))) };
 
-    /// The tag of the first field that stands, or none where none does.
+    /// Returns the tag of the first field that is present, or `None` if none is.
     fn fields_tag(&self) -> Option<Tag>
         ensures { is_body_apart Self.fields ≡ true
-            → IsBody Self.fields (Self.fields_written self.now)
             → StartsWith (body_begins Self.fields) result
             (body_octets Self.fields (Self.fields_written self.now)) };
 }
 
-/// The order of what begins with a tag, or is nothing, and of what begins with another tag.
+/// Compares what begins with a tag, or is empty, with what begins with another tag.
 pub(crate) fn next_cmp(next: Option<Tag>, tag: Tag) -> Ordering
     ensures { result ≡ next_cmp next tag }
 {
@@ -50,7 +54,7 @@ pub(crate) fn next_cmp(next: Option<Tag>, tag: Tag) -> Ordering
     }
 }
 
-/// The order of the first fields, and where these have the same encoding that of the others.
+/// Compares the first fields, and, if they have the same encoding, the others.
 fn row_cmp<A: DerOrd, B: FieldsOrd>(row: &(A, B), other: &(A, B)) -> Result<Ordering, Error>
     ensures order { is_apart A.shape ≡ true → is_body_apart B.fields ≡ true
         → IsValid A.shape (A.written row.now.0) → IsValid A.shape (A.written other.now.0)
@@ -59,6 +63,10 @@ fn row_cmp<A: DerOrd, B: FieldsOrd>(row: &(A, B), other: &(A, B)) -> Result<Orde
         → result
         ≡ Ok
         (ordering_then (encodings_cmp A.shape (A.written row.now.0) (A.written other.now.0))
+        (bodies_cmp B.fields (B.fields_written row.now.1) (B.fields_written other.now.1))) }
+    ensures exact { is_apart A.shape ≡ true → is_body_apart B.fields ≡ true
+        → IfOk result (λ o. o
+        ≡ ordering_then (encodings_cmp A.shape (A.written row.now.0) (A.written other.now.0))
         (bodies_cmp B.fields (B.fields_written row.now.1) (B.fields_written other.now.1))) }
     ensures refused { IfErr result
         (λ e. Overflows e
@@ -86,8 +94,8 @@ impl FieldsOrd for () {
     }
 }
 
-/// The first field decides, unless its encodings are the same. Where it stands in one row alone,
-/// the next field of the other row, which begins with another tag, stands in its place.
+/// The first field decides, unless its encodings are the same. If only one row has it, it is
+/// compared with the next field of the other row, which begins with another tag.
 impl<A: DerOrd + FirstTag, B: FieldsOrd> FieldsOrd for (A, B) {
     fn fields_cmp(&self, other: &Self) -> Result<Ordering, Error> {
         match (self.0.first_tag(), other.0.first_tag()) {
@@ -98,7 +106,7 @@ impl<A: DerOrd + FirstTag, B: FieldsOrd> FieldsOrd for (A, B) {
         }
     }
 
-    #[tactic(auto, unfolding(crate::specs::Opened::body_octets, crate::specs::Opened::IsBody))]
+    #[tactic(auto, unfolding(crate::specs::Opened::body_octets))]
     fn fields_tag(&self) -> Option<Tag> {
         match self.0.first_tag() {
             Some(tag) => Some(tag),

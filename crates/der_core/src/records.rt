@@ -1,6 +1,6 @@
 //! Records: a SEQUENCE of fields (X.690 8.9), which a type lends in rows.
 
-ghost use Rattle.std.specs.Prelude.{◌≡◌, true, Ok, IfErr};
+ghost use Rattle.std.specs.Prelude.{◌≡◌, true, Ok, IfOk, IfErr};
 ghost use Rattle.der_core_coding.specs.CoreHead.declared.tag.Tag.TheVariants.{Sequence};
 ghost use Rattle.der_core_coding.specs.CoreHead.Shapes.{Body, BodyValue, IsBody, body_octets};
 ghost use Rattle.der_core_coding.specs.CoreHead.Shapes.{nested};
@@ -10,9 +10,8 @@ ghost use Rattle.der_core_coding.specs.CoreHead.Spelling.{is_body_apart};
 ghost use Rattle.der_core_coding.specs.CoreOctets.Outputs.{AddsFront, Continues};
 ghost use Rattle.der_core.specs.Orders.{bodies_cmp, Overflows};
 
+use crate::lent::LentRow;
 use crate::order::{OrderWay, Ordered};
-use crate::pairs::FieldsOrd;
-use der_core_coding::EncodeFields;
 use der_core_coding::core_head::{Error, Length, Tag};
 use der_core_coding::core_octets::{Header, Reader, Writer};
 use der_core_coding::core_values::describing::{AsReadWay, DecodeWay, Described, TagWay, Way};
@@ -22,8 +21,8 @@ use std::cmp::Ordering;
 
 /// Lends the fields of two values to a user of rows: `lend!(self, other, user; first, second)`.
 ///
-/// A field of another form says it: `third: default`, `implicit 0`, `implicit 0 default`,
-/// `implicit 0 optional`, `explicit 0` or `explicit 0 optional`.
+/// A field of another form states it: `third: default`, or `implicit 0` or `explicit 0`, alone or
+/// followed by `default` or `optional`.
 #[macro_export]
 macro_rules! lend {
     (@row) => { () };
@@ -34,6 +33,9 @@ macro_rules! lend {
     (@field $of:expr, $field:ident default) => { $crate::WithDefault { value: $of.$field } };
     (@field $of:expr, $field:ident implicit $n:literal default) => {
         $crate::WithDefault { value: $crate::Implicit::<_, $n> { value: $of.$field } }
+    };
+    (@field $of:expr, $field:ident explicit $n:literal default) => {
+        $crate::WithDefault { value: $crate::Explicit::<_, $n> { value: $of.$field } }
     };
     (@field $of:expr, $field:ident implicit $n:literal optional) => {
         $crate::making::implicit_ref::<_, $n>(&$of.$field)
@@ -71,10 +73,13 @@ macro_rules! row {
 /// `read_row!(alloc, reader; Point { x, y: implicit 0 optional })`.
 #[macro_export]
 macro_rules! read_row {
-    (@pattern $field:ident) => { $field };
+    (@pattern $field:ident) => { $crate::describing::Whole($field) };
     (@pattern $field:ident default) => { $crate::WithDefault { value: $field } };
     (@pattern $field:ident implicit $n:literal default) => {
         $crate::WithDefault { value: $crate::Implicit::<_, $n> { value: $field } }
+    };
+    (@pattern $field:ident explicit $n:literal default) => {
+        $crate::WithDefault { value: $crate::Explicit::<_, $n> { value: $field } }
     };
     (@pattern $field:ident implicit $n:literal) => { $crate::Implicit::<_, $n> { value: $field } };
     (@pattern $field:ident explicit $n:literal) => { $crate::Explicit::<_, $n> { value: $field } };
@@ -91,27 +96,29 @@ macro_rules! read_row {
     }) => {{
         let $crate::row!(
             $($crate::read_row!(@pattern $field $($form $($n $($kind)?)?)?)),+
-        ) = $crate::describing::DecodeRow::decode_row($alloc, $reader)?;
+        ) = $crate::describing::ReadRow::read_row($alloc, $reader)?;
         Ok($record {
             $($field: $crate::read_row!(@value $field $($form $($n $($kind)?)?)?)),+
         })
     }};
 }
 
-/// What is done with the fields of two values, each lent in a row.
+/// An operation on the fields of two values, each of which is lent as a row.
 pub trait RowUser {
     type Answer;
 
-    /// What is answered, by the fields and what is written for those of each value.
+    /// The result, given the fields and what is encoded for those of each value.
     ghost answers: { (b : Body) → BodyValue b → BodyValue b → Self → Self → Self.Answer → Type 0 };
 
-    /// Takes the rows that are lent.
-    fn take<Row: EncodeFields + FieldsOrd>(&mut self, row: &Row, other: &Row) -> Self::Answer
-        ensures { answers Row.fields (Row.fields_written row.now) (Row.fields_written other.now)
-            self.old self.new result };
+    /// Receives the two rows.
+    fn take<Row: LentRow>(&mut self, row: &Row, other: &Row) -> Self::Answer
+        // This holds for any values that the rows are known to encode.
+        ensures { (v w : BodyValue Row.fields) → Row.fields_written row.now ≡ v
+            → Row.fields_written other.now ≡ w
+            → answers Row.fields v w self.old self.new result };
 }
 
-/// The fields of the first value are written.
+/// Encodes the fields of the first value.
 impl<W: Writer> RowUser for W {
     type Answer = Result<(), Error>;
 
@@ -120,16 +127,12 @@ impl<W: Writer> RowUser for W {
         × AddsFront (body_octets b v) (W.out old) (W.out new) };
 
     #[inline(always)]
-    fn take<Row: EncodeFields + FieldsOrd>(
-        &mut self,
-        row: &Row,
-        _other: &Row,
-    ) -> Result<(), Error> {
-        row.encode_fields(self)
+    fn take<Row: LentRow>(&mut self, row: &Row, _other: &Row) -> Result<(), Error> {
+        row.encode_row(self)
     }
 }
 
-/// The octets of the fields of the first value are counted.
+/// Counts the bytes of the fields of the first value.
 #[derive(Drop)]
 struct Counting;
 
@@ -139,16 +142,12 @@ impl RowUser for Counting {
     ghost answers = { λ b v _ _ _ result. GivesNow (λ l. l.value) result (size_body b v) };
 
     #[inline(always)]
-    fn take<Row: EncodeFields + FieldsOrd>(
-        &mut self,
-        row: &Row,
-        _other: &Row,
-    ) -> Result<Length, Error> {
-        row.fields_len()
+    fn take<Row: LentRow>(&mut self, row: &Row, _other: &Row) -> Result<Length, Error> {
+        row.row_len()
     }
 }
 
-/// The fields of the two are compared.
+/// Compares the fields of the two values.
 #[derive(Drop)]
 struct Comparing;
 
@@ -157,30 +156,27 @@ impl RowUser for Comparing {
 
     ghost answers = { λ b v w _ _ result. (is_body_apart b ≡ true → IsBody b v → IsBody b w
         → result ≡ Ok (bodies_cmp b v w))
+        × (is_body_apart b ≡ true → IfOk result (λ o. o ≡ bodies_cmp b v w))
         × IfErr result (λ e. Overflows e (size_body b v) (size_body b w)) };
 
     #[inline(always)]
-    fn take<Row: EncodeFields + FieldsOrd>(
-        &mut self,
-        row: &Row,
-        other: &Row,
-    ) -> Result<Ordering, Error> {
-        row.fields_cmp(other)
+    fn take<Row: LentRow>(&mut self, row: &Row, other: &Row) -> Result<Ordering, Error> {
+        row.row_cmp(other)
     }
 }
 
 /// A type that is a SEQUENCE of its fields.
 pub trait Rows: Fields {
-    /// Lends the fields of two values, each in a row (`lend!`).
+    /// Lends the fields of two values, each as a row (`lend!`).
     fn with_rows<U: RowUser>(&self, other: &Self, user: &mut U) -> U::Answer
         ensures { U.answers Self.fields (Self.fields_written self.now)
             (Self.fields_written other.now) user.old user.new result };
 
-    /// The fields are told apart by their first tags.
+    /// The fields are reported apart by their first tags.
     ghost apart: { is_body_apart Self.fields ≡ true };
 }
 
-/// As a SEQUENCE of the type's fields (X.690 8.9). It is compared field after field.
+/// The way of a SEQUENCE of the type's fields (X.690 8.9). Values are compared field by field.
 pub struct AsRecord;
 
 impl<T: Rows> Way<T> for AsRecord {

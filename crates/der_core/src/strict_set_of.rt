@@ -1,4 +1,4 @@
-//! SET OF, whose members rise (X.690 8.12, 11.6), and the places of values among such.
+//! SET OF whose members ascend (X.690 8.12, 11.6), and the positions of values among such members.
 
 ghost use Rattle.std.specs.Prelude.{◌≡◌, ◌==◌, None, IfSome, IfErr, OnOk, OnErr, false, length};
 ghost use Rattle.std.specs.Prelude.{◌∷◌, slice_get, IsPermutation, option_copied, ◌≤◌, IfOk, IsOk};
@@ -6,11 +6,13 @@ ghost use Rattle.std.specs.Prelude.{insert};
 ghost use Rattle.std.specs.List.{AllByRecursion};
 ghost use Rattle.std.specs.Slice.Iter.{iter_rest};
 ghost use Rattle.der_core_coding.specs.CoreHead.declared.tag.Tag.TheVariants.{Set};
-ghost use Rattle.der_core_coding.specs.CoreHead.Shapes.{above, nested, rising, octets_of};
+ghost use Rattle.der_core_coding.specs.CoreHead.Shapes.{nested, rising, octets_of};
 ghost use Rattle.der_core_coding.specs.CoreHead.Shapes.{AllRising, IsValid};
+ghost use Rattle.der_core_coding.specs.CoreHead.Heads.{Fits};
 ghost use Rattle.der_core_coding.specs.CoreHead.Grammar.{plain_list, plain_option, follows_last};
 ghost use Rattle.der_core_coding.specs.CoreHead.Reading.{GivesNow};
 ghost use Rattle.der_core_coding.specs.CoreHead.Writing.{all_follow};
+ghost use Rattle.der_core_coding.specs.Steps.{step_of};
 ghost use Rattle.der_core.specs.Placed.{AllValid, IsNotPlaced, placed, stands_among};
 
 use crate::order::DerOrd;
@@ -25,15 +27,19 @@ use std::alloc::Global;
 use std::cmp::Ordering;
 use std::slice::Iter;
 
-/// Whether a value may follow the one before it in a set.
+/// Checks that a value may follow the one before it in a set. `equal` says whether equal members
+/// are allowed.
 ///
 /// # Errors
-/// `SetDuplicate` for the same encoding, `SetOrdering` for a lower one.
-fn check_above<T: DerOrd + Member>(last: Option<&T>, value: &T) -> Result<(), Error>
-    requires before { IfSome (plain_option (λ r. T.written r.now) last) (IsValid T.shape) }
-    requires valid { IsValid T.shape (T.written value.now) }
+///
+/// - `SetDuplicate`: they have the same encoding, and equal members aren't allowed.
+/// - `SetOrdering`: its encoding is lower.
+fn check_follows<T: DerOrd + Member>(last: Option<&T>, value: &T, equal: bool) -> Result<(), Error>
+    requires before { IfSome (plain_option (λ r. T.written r.now) last)
+        (λ v. Fits (octets_of T.shape v)) }
+    requires fits { Fits (octets_of T.shape (T.written value.now)) }
     ensures { GivesNow (λ x. x) result
-        (follows_last above
+        (follows_last (step_of equal)
         (plain_option (octets_of T.shape) (plain_option (λ r. T.written r.now) last.entry))
         (octets_of T.shape (T.written value.now))) }
 {
@@ -42,65 +48,74 @@ fn check_above<T: DerOrd + Member>(last: Option<&T>, value: &T) -> Result<(), Er
     };
     match last.der_cmp(value)? {
         Ordering::Less => Ok(()),
-        Ordering::Equal => Err(Error::from(ErrorKind::SetDuplicate)),
+        Ordering::Equal => {
+            if equal {
+                Ok(())
+            } else {
+                Err(Error::from(ErrorKind::SetDuplicate))
+            }
+        }
         Ordering::Greater => Err(Error::from(ErrorKind::SetOrdering)),
     }
 }
 
-/// Whether the encoding of each value is above that of the one before, where all have one.
+/// Checks that the encodings of values are in the order of a set. None of them has 2^32 bytes or
+/// more. `equal` says whether equal members are allowed.
 ///
 /// # Errors
-/// `SetDuplicate` for the same encoding, `SetOrdering` for a lower one.
-fn check_rising<T: DerOrd + Member>(values: &[T]) -> Result<(), Error>
-    requires { AllByRecursion (λ x. IsValid T.shape x) (plain_list T.written values.now) }
+///
+/// - `SetDuplicate`: an encoding is the same as the one before, and equal members aren't allowed.
+/// - `SetOrdering`: an encoding is lower than the one before.
+pub fn check_in_order<T: DerOrd + Member>(values: &[T], equal: bool) -> Result<(), Error>
+    requires { AllByRecursion (λ x. Fits (octets_of T.shape x)) (plain_list T.written values.now) }
     ensures { GivesNow (λ x. x) result
-        (all_follow above (octets_of T.shape) None (plain_list T.written values.now)) }
+        (all_follow (step_of equal) (octets_of T.shape) None (plain_list T.written values.now)) }
 {
     let mut last = None;
     for value in values {
-        check_above(last, value)?;
+        check_follows(last, value, equal)?;
         last = Some(value);
     }
     Ok(())
 }
 
-/// Values whose encodings rise.
+/// Values whose encodings ascend.
 #[derive(Clone, Debug, Drop, PartialEq, Eq)]
 pub struct StrictSetOf<T> {
-    /// The values, which are written only where their encodings rise.
+    /// The values, which are encoded only if their encodings ascend.
     pub values: Vec<T>,
 }
 
 impl<T> StrictSetOf<T> {
-    /// The members in their order.
+    /// Returns the members in their order.
     pub fn as_slice(&self) -> &[T]
         ensures { result.now ≡ self.now.values.items }
     {
         self.values.as_slice()
     }
 
-    /// The member at an index, if there is one.
+    /// Returns the member at an index, if there is one.
     pub fn get(&self, index: usize) -> Option<&T>
         ensures { option_copied result ≡ slice_get self.now.values.items index }
     {
         self.values.as_slice().get(index)
     }
 
-    /// The members, lent one after another.
+    /// Returns the members, borrowed one after another.
     pub fn iter(&self) -> Iter<'_, T>
         ensures { iter_rest result ≡ self.now.values.items }
     {
         self.values.as_slice().iter()
     }
 
-    /// Whether there is no member.
+    /// Returns whether there isn't a member.
     pub fn is_empty(&self) -> bool
         ensures { result ≡ (length self.now.values.items == 0) }
     {
         self.values.is_empty()
     }
 
-    /// The number of members.
+    /// Returns the number of members.
     pub fn len(&self) -> usize
         ensures { result ≡ length self.now.values.items }
     {
@@ -109,15 +124,19 @@ impl<T> StrictSetOf<T> {
 }
 
 impl<T: DerOrd + Member + Drop> StrictSetOf<T> {
-    /// Places a member in front of the first whose encoding is above its own.
+    /// Inserts a member before the first one whose encoding is above its own.
     ///
     /// # Errors
-    /// `SetDuplicate` where its encoding stands there, `Overflow` where an encoding has 2^32 octets
-    /// or more, or `OutOfMemory`. The set stays then.
+    ///
+    /// - `SetDuplicate`: a member has the same encoding.
+    /// - `Overflow`: an encoding has 2^32 bytes or more.
+    /// - `OutOfMemory`: memory runs out.
+    ///
+    /// The set is then as it was.
     pub fn insert(&mut self, item: T) -> Result<(), Error>
         ensures gained { OnOk result
             (IsPermutation (item ∷ self.old.values.items) self.new.values.items) }
-        // Where all have an encoding.
+        // If all have an encoding.
         ensures placed { AllValid T.shape T.written self.old.values.items
             → IsValid T.shape (T.written item)
             → OnOk result (plain_list T.written self.new.values.items
@@ -126,7 +145,7 @@ impl<T: DerOrd + Member + Drop> StrictSetOf<T> {
             → IsValid T.shape (T.written item)
             → OnOk result (stands_among T.shape (T.written item)
             (plain_list T.written self.old.values.items) ≡ false) }
-        // So a set that rises still does.
+        // So a set in ascending order stays so.
         ensures rises { AllValid T.shape T.written self.old.values.items
             → IsValid T.shape (T.written item)
             → AllRising (octets_of T.shape) (plain_list T.written self.old.values.items)
@@ -188,20 +207,21 @@ impl<'a, R: Reader<'a>, T: Decode<'a, R> + Member> DecodeValue<'a, R> for Strict
 
 /// Writes the members, each of which is above the one before.
 ///
-/// The members are written first, and so each has an encoding by which it can be compared.
-impl<T: Encode + DerOrd + Member + InRange> EncodeValue for StrictSetOf<T> {
+/// The members are written first, so their bytes can be counted and compared.
+impl<T: Encode + DerOrd + Member> EncodeValue for StrictSetOf<T> {
     fn value_len(&self) -> Result<Length, Error> {
         self.values.value_len()
     }
 
     /// # Errors
-    /// Those of the members and of the writer; then `SetDuplicate` for the same encoding as the one
-    /// before, `SetOrdering` for a lower one (X.690 11.6).
+    ///
+    /// - The errors of the members and of the writer.
+    /// - `SetDuplicate`: a member has the same encoding as the one before.
+    /// - `SetOrdering`: its encoding is lower (X.690 11.6).
     #[tactic(auto, unfolding(crate::specs::Opened::contents))]
     fn encode_value<W: Writer>(&self, writer: &mut W) -> Result<(), Error> {
         self.values.encode_value(writer)?;
-        self.values.value_in_range();
-        check_rising(self.values.as_slice())
+        check_in_order(self.values.as_slice(), false)
     }
 }
 
@@ -223,17 +243,18 @@ impl<T: InRange> InRangeValue for StrictSetOf<T> {
     }
 }
 
-/// The place of a value among others: in front of the first whose encoding is above its own (X.690
-/// 11.6).
+/// Returns the position of a value among others: before the first one whose encoding is above its
+/// own (X.690 11.6).
 ///
 /// # Errors
-/// `Overflow` where an encoding has 2^32 octets or more.
+///
+/// - `Overflow`: an encoding has 2^32 bytes or more.
 pub fn place_of<T: DerOrd + Member>(values: &[T], item: &T) -> Result<usize, Error>
     ensures within { IfOk result (λ i. i ≤ length values.now) }
     ensures place { AllValid T.shape T.written values.now → IsValid T.shape (T.written item.now)
         → IfOk result (λ i. plain_list T.written (insert values.now i item.now)
         ≡ placed T.shape (T.written item.now) (plain_list T.written values.now)) }
-    // An answer comes wherever all have an encoding.
+    // There is a result whenever all values have an encoding.
     ensures answered { AllValid T.shape T.written values.now
         → IsValid T.shape (T.written item.now) → IsOk result }
     ensures refused { IfErr result (λ e. e.kind ≡ ErrorKind.Overflow) }
@@ -247,15 +268,16 @@ pub fn place_of<T: DerOrd + Member>(values: &[T], item: &T) -> Result<usize, Err
     Ok(values.len())
 }
 
-/// Whether one of the others has the encoding of a value.
+/// Returns whether one of the others has the same encoding as a value.
 ///
 /// # Errors
-/// `Overflow` where an encoding has 2^32 octets or more.
+///
+/// - `Overflow`: an encoding has 2^32 bytes or more.
 pub fn stands_among<T: DerOrd + Member>(values: &[T], item: &T) -> Result<bool, Error>
     ensures found { AllValid T.shape T.written values.now → IsValid T.shape (T.written item.now)
         → IfOk result
         (λ b. b ≡ stands_among T.shape (T.written item.now) (plain_list T.written values.now)) }
-    // An answer comes wherever all have an encoding.
+    // There is a result whenever all values have an encoding.
     ensures answered { AllValid T.shape T.written values.now
         → IsValid T.shape (T.written item.now) → IsOk result }
     ensures refused { IfErr result (λ e. e.kind ≡ ErrorKind.Overflow) }

@@ -1,11 +1,11 @@
--- A default behind a tag: it is read, and no other value has its octets.
+-- A default after a tag: it is read, and no other value has its bytes.
 use Rattle.std.proofs.Common.{◌≡◌, ℕ, zero, suc, Bool, true, false, not, nat_eq, ◌<◌, ◌≤◌, List, [], ◌∷◌, ◌++◌, Ok, bytes_eq, nat_lt, length, drop, refl, sym, ap, ◌∙◌, subst, arith, inl, inr, length-append, ℤ, pos}
-use Rattle.std.proofs.lemmas.Bool.{cases_lt, ltb-true}
+use Rattle.std.proofs.lemmas.Bool.{cases_lt, ltb-true, lt-ltb}
 use Rattle.std.proofs.lemmas.Bool.Decides.{same_from_decides, Decides-eqb, Decides-like, nat_tests}
 use Rattle.std.proofs.lemmas.List.{append_assoc, append_cancel_left, append-nil}
 use Rattle.std.proofs.lemmas.Slice.Eq.{bytes_eq-Decides}
-use Rattle.der_core_values.proofs.CoreHead.Results.{IsBytes}
-use Rattle.der_core_values.proofs.CoreHead.IntegerLaws.{integer_of-octets, integer_octets-of}
+use Rattle.der_core_values.proofs.CoreHead.IntegerLaws.{integer_of-octets}
+use Rattle.der_core_values.proofs.Oid.DigitLaws.{digits-one}
 use Rattle.der_core_values.proofs.CoreHead.HeadLaws.{length-short, length-long, number-1}
 use Rattle.der_core_values.proofs.CoreHead.TagLaws.{tag-0, tag-1, tag-2, tag-3, tag-4, tag-5}
 use Rattle.der_core_values.specs.CoreHead.declared.tag.Tag.{Tag}
@@ -34,7 +34,7 @@ unfolding tag_octets
 short_few t c h few =
     omega (arith, few, tag_few t h, length-append (number_octets (number_of t)) (length c ∷ c))
 
--- No other content has those octets.
+-- No other content has those bytes.
 
 length_some : (n : ℕ) → 0 < length (length_octets n)
 length_some n = grind (arith, nat_tests, length-short n, (λ (h : 128 ≤ n). length-long n _ h refl))
@@ -78,7 +78,7 @@ is_read t c v d tag h e apart enough is =
     let front : octets_of (tagged t c) v ++ [] ≡ short_tlv t d = append-nil (octets_of (tagged t c) v) ∙ spelled t c v d h e in
     ap (λ w. read (tagged t c) 64 w) (sym front) ∙ complete_element (tagged t c) 64 v [] refl apart enough is
 
--- Behind one tag, for a content of fewer than 100 octets
+-- After one tag, for a content of fewer than 100 bytes
 
 below : (d : List ℕ) → nat_lt (length d) 100 ≡ true → length d < 100
 below d h = ltb-true (length d) 100 h
@@ -97,7 +97,7 @@ pub tagged_valid : (t : Tag) (c : Content) (v : ContentValue c) (d : List ℕ) (
     → r ≡ bytes_eq (contents c v) d → (r ≡ true → IsContent c v) → r ≡ true → IsValid (tagged t c) v
 tagged_valid t c v d r tag few e is h = wide t c v d tag (omega (arith, below d few)) ((bytes_eq-Decides (contents c v) d).0 (sym e ∙ h)) (is h)
 
--- what is read behind an explicit tag in front of another one
+-- what is read after an explicit tag before another one
 
 pub explicit_read : (n : ℕ) (t : Tag) (c : Content) (v : ContentValue c) (d : List ℕ) → IsTag (context true n) → IsTag t → nat_lt (length d) 100 ≡ true
     → is_content_apart c ≡ true → ((room : ℕ) → are_content_enough c room ≡ true) → contents c v ≡ d → IsContent c v
@@ -128,40 +128,37 @@ explicit_valid n t c v d r outer tag few e is h =
 
 -- Whole numbers
 
-zero_byte : IsBytes (0 ∷ [])
-zero_byte zero = omega arith
-zero_byte (suc i) = omega arith
+small_octets : (k : ℕ) → k < 128 → integer_octets (pos k) ≡ k ∷ []
+unfolding integer_octets
+small_octets k l = rw (digits-one 256 k (omega arith), lt-ltb k 128 l) refl
 
-zero_octets : integer_octets (pos 0) ≡ 0 ∷ []
+small_alone : (z : ℤ) (k : ℕ) → k < 128 → integer_octets z ≡ k ∷ [] → z ≡ pos k
 unfolding integer_of
-zero_octets = ap integer_octets (sym (ap pos (number-1 0))) ∙ integer_octets-of (0 ∷ []) zero_byte (omega arith) refl
+small_alone z k l e = sym (integer_of-octets z) ∙ ap integer_of e ∙ rw (lt-ltb k 128 l, number-1 k) refl
 
-zero_alone : (z : ℤ) → integer_octets z ≡ 0 ∷ [] → z ≡ pos 0
-unfolding integer_of
-zero_alone z e = sym (integer_of-octets z) ∙ ap integer_of e
-
-pub zero_content : (r : Numbers) (z : ℤ) → z ≡ pos 0 → contents (leaf (integer r)) z ≡ 0 ∷ []
+-- a number below 128 is one octet
+pub small_content : (r : Numbers) (z : ℤ) (k : ℕ) → k < 128 → z ≡ pos k → contents (leaf (integer r)) z ≡ k ∷ []
 unfolding contents
-zero_content r z e = ap integer_octets e ∙ zero_octets
+small_content r z k l e = ap integer_octets e ∙ small_octets k l
 
-octets_alone : (r : Numbers) (z : ℤ) → contents (leaf (integer r)) z ≡ 0 ∷ [] → z ≡ pos 0
+octets_alone : (r : Numbers) (z : ℤ) (k : ℕ) → k < 128 → contents (leaf (integer r)) z ≡ k ∷ [] → z ≡ pos k
 unfolding contents
-octets_alone r z e = zero_alone z e
+octets_alone r z k l e = small_alone z k l e
 
-positive_same : (r : Numbers) (n : ℕ) → nat_eq n 0 ≡ bytes_eq (contents (leaf (integer r)) (pos n)) (0 ∷ [])
-positive_same r n =
+positive_same : (r : Numbers) (n k : ℕ) → k < 128 → nat_eq n k ≡ bytes_eq (contents (leaf (integer r)) (pos n)) (k ∷ [])
+positive_same r n k l =
     let octets = contents (leaf (integer r)) (pos n) in
-    same_from_decides (nat_eq n 0) (bytes_eq octets (0 ∷ [])) (Decides-eqb n 0)
-    (Decides-like (bytes_eq octets (0 ∷ [])) (λ e. cc (octets_alone r (pos n) e)) (λ e. zero_content r (pos n) (ap pos e)) (bytes_eq-Decides octets (0 ∷ [])))
+    same_from_decides (nat_eq n k) (bytes_eq octets (k ∷ [])) (Decides-eqb n k)
+    (Decides-like (bytes_eq octets (k ∷ [])) (λ e. cc (octets_alone r (pos n) k l e)) (λ e. small_content r (pos n) k l (ap pos e)) (bytes_eq-Decides octets (k ∷ [])))
 
-pub positive_zero : (r : Numbers) (z : ℤ) (negative : Bool) (n : ℕ) → z ≡ with_sign negative n → negative ≡ false
-    → nat_eq n 0 ≡ bytes_eq (contents (leaf (integer r)) z) (0 ∷ [])
-positive_zero r z negative n e h = rw (e, h) (positive_same r n)
+pub positive_small : (r : Numbers) (z : ℤ) (negative : Bool) (n k : ℕ) → k < 128 → z ≡ with_sign negative n → negative ≡ false
+    → nat_eq n k ≡ bytes_eq (contents (leaf (integer r)) z) (k ∷ [])
+positive_small r z negative n k l e h = rw (e, h) (positive_same r n k l)
 
-pub negative_zero : (r : Numbers) (z : ℤ) (negative : Bool) (n : ℕ) → z ≡ with_sign negative n → negative ≡ true
-    → not negative ≡ bytes_eq (contents (leaf (integer r)) z) (0 ∷ [])
-negative_zero r z false n e h = absurd (cc h)
-negative_zero r z true n e h =
+pub negative_small : (r : Numbers) (z : ℤ) (negative : Bool) (n k : ℕ) → k < 128 → z ≡ with_sign negative n → negative ≡ true
+    → not negative ≡ bytes_eq (contents (leaf (integer r)) z) (k ∷ [])
+negative_small r z false n k l e h = absurd (cc h)
+negative_small r z true n k l e h =
     let octets = contents (leaf (integer r)) z in
-    same_from_decides false (bytes_eq octets (0 ∷ [])) (λ h. absurd (cc h), λ p. absurd (cc (e, p)))
-    (Decides-like (bytes_eq octets (0 ∷ [])) (λ p. octets_alone r z p) (λ p. zero_content r z p) (bytes_eq-Decides octets (0 ∷ [])))
+    same_from_decides false (bytes_eq octets (k ∷ [])) (λ h. absurd (cc h), λ p. absurd (cc (e, p)))
+    (Decides-like (bytes_eq octets (k ∷ [])) (λ p. octets_alone r z k l p) (λ p. small_content r z k l p) (bytes_eq-Decides octets (k ∷ [])))

@@ -1,4 +1,5 @@
--- A value at the front of octets, as its spelling, and what is written into a slice and into memory.
+-- A value at the beginning of bytes, as its spelling, and what is written into a slice and into
+-- memory.
 use Rattle.std.proofs.Common.{◌≡◌, ℕ, true, ltb, List, ◌++◌, length, Result, Ok, Err, sym, ap, ◌∙◌, arith, le-ltb, ltb-false, IfOk, ◌≤◌, ◌-◌, [], take, drop, inl, inr, drop_of_length-le, take_at, take-append-drop, length-append, length-drop, false, Some, refl, IsOkAnd, Bool}
 use Rattle.der_core_values.specs.CoreHead.Limits.{length_max, levels_max}
 use Rattle.der_core_values.specs.CoreHead.declared.error.Error.{Error}
@@ -34,12 +35,12 @@ pub front_again : (s : Shape) (v : Value s) (r w : List ℕ) → is_element s �
 front_again s v r w element apart enough valid e short =
     rw (le-ltb length_max (length w) (omega (arith, short))) (ap (read s levels_max) e ∙ complete_element s 64 v r element apart enough valid)
 
--- what reading gives is what was answered
+-- what reading gives is what was returned
 pub gives_so : {X P : Type 0} (view : X → P) (r : Result X Error) (f x : Result P ErrorKind) → f ≡ x → Gives view r f → Gives view r x
 gives_so view (Ok y) f x e h = sym e ∙ h
 gives_so view (Err d) f x e h = λ memory. sym e ∙ h memory
 
--- The octets that a value was read from, between what was left before and what is left after.
+-- The bytes that a value was read from, between what was left before and what is left after.
 
 pub record Consumed (s : Shape) (v : Value s) (w r : List ℕ) : Type 0 where
   pub shorter : length r ≤ length w
@@ -54,7 +55,7 @@ consumed s room v w r apart bytes fits e =
       octets = ap (take (length w - length r)) all ∙ take_at (octets_of s v) r (length w - length r) (omega (arith, lengths, length-append (octets_of s v) r));
     }
 
--- what was passed over stands before the rest
+-- what was passed over comes before the rest
 pub passed_over : (w r : List ℕ) → IsRest r w → w ≡ take (length w - length r) w ++ r
 passed_over w r n =
     let long = ap length n.1 in
@@ -71,7 +72,7 @@ passed_over w r n =
 
 -- What is written to a slice, and that a valid value is written where there is room for it.
 
--- octets that there is room for
+-- bytes that there is room for
 put_blank : (b : List ℕ) (room : ℕ) → length b ≤ room → put b (blank room) ≡ Ok (record { written = b; room = Some (room - length b); failed = false })
 unfolding put
 put_blank b room l = rw (le-ltb room (length b) l) refl
@@ -114,7 +115,8 @@ pub filled_contents : {T : Type 0} (c : Content) (v : ContentValue c) (room : �
 filled_contents c v room view (Ok x) e = let h = finished_is (write_content c v) room (view x) e in sym h.2 ∙ writes_contents c v (blank room) h.0 h.1
 filled_contents c v room view (Err e) h = tt
 
--- What was answered by a call that writes has an encoding, where the parts of the value are in their ranges.
+-- What was returned by a call that writes has an encoding, where the parts of the value are in
+-- their ranges.
 
 pub ok_valid : {T : Type 0} (s : Shape) (v : Value s) (view : T → Out) (r : Result T Error) → Gives view r (write s v (out [])) → IfOk r (λ _. IsInRange s v → IsValid s v)
 ok_valid s v view (Ok x) e = written_valid s v (out []) (view x) e

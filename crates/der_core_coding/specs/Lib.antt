@@ -1,5 +1,6 @@
 pub mod Slices
 pub mod Sequences
+pub mod Steps
 pub mod Wholes
 pub mod Defaults
 pub mod Opened

@@ -1,4 +1,4 @@
--- Why a SEQUENCE that a closure writes is refused.
+-- Why a SEQUENCE that a closure writes is rejected.
 use Rattle.std.specs.Prelude.{◌≡◌, ◌≢◌, ◌+◌, ◌⊎◌, ℕ, length, true, Result, Ok, Err}
 use Rattle.std.specs.Borrow.{MutBor}
 use Rattle.std.specs.Fn.{Once, FnOnceReturnsAtMut}
@@ -8,7 +8,7 @@ use Rattle.der_core_values.specs.CoreHead.declared.tag.Tag.TheVariants as tags
 use Rattle.der_core_values.specs.CoreHead.Writing.{Out, put_head}
 use Rattle.der_core_values.specs.CoreOctets.Outputs.{Continues}
 
--- f was called behind the header of a SEQUENCE of n octets, answered r, and left the writer so
+-- f was called after the header of a SEQUENCE of n bytes, answered r, and left the writer so
 abbrev pub Called : {W F : Type 0} → (W → Out)
     → Once F (MutBor W × Unit {0}) (Result (Unit {0}) Error × (MutBor W × Unit {0})) → F → ℕ → Out
     → Result (Unit {0}) Error → W → W → Type 0
@@ -20,7 +20,7 @@ abbrev pub failing : Out → Out
 failing o = record o { failed = true }
 
 -- why it was refused, and what is left then: the header couldn't be written, f was refused, or f
--- wrote another number of octets
+-- wrote another number of bytes
 abbrev pub RefusesEnclosed : {W F : Type 0} → (W → Out)
     → Once F (MutBor W × Unit {0}) (Result (Unit {0}) Error × (MutBor W × Unit {0})) → F → ℕ → Out
     → Out → Error → Type 0

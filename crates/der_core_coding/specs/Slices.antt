@@ -19,7 +19,7 @@ view_of a =
           record { encoding = a.encoding; size = length a.bytes.now };
     }
 
--- a reader of these octets by DER, in which so many ends can be set, before any call
+-- a reader of these bytes by DER, in which so many ends can be set, before any call
 abbrev pub unread_within : ℕ → List ℕ → State
 unread_within levels w =
     record {
@@ -36,7 +36,7 @@ pub record IsReader (a : Inside) : Type 0 where
   pub bytes : Fits a.bytes.now
   pub depth : a.depth ≤ levels_max
 
--- what was written, up to the place of the writer, and the room behind it
+-- what was written, up to the place of the writer, and the room after it
 abbrev pub output : SliceWriter → Out
 output w =
     record {

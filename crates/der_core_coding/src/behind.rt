@@ -1,4 +1,4 @@
-//! An octet before octets.
+//! A byte before bytes.
 
 ghost use Rattle.std.specs.Prelude.{◌≡◌, ◌+◌, ◌∷◌};
 ghost use Rattle.der_core_values.specs.CoreHead.Reading.{GivesNow};
@@ -8,20 +8,22 @@ ghost use Rattle.der_core_values.specs.CoreOctets.Outputs.{AddsFront, Continues}
 use der_core_values::core_head::{Error, Length};
 use der_core_values::core_octets::Writer;
 
-/// A number of octets and one more.
+/// Returns a number of bytes and one more.
 ///
 /// # Errors
-/// `Overflow` from 2^32 on.
+///
+/// - `Overflow`: the length is 2^32 or more.
 pub fn len_behind(octets: Length) -> Result<Length, Error>
     ensures { GivesNow (λ l. l.value) result (fit_len (octets.value + 1)) }
 {
     octets + Length { value: 1 }
 }
 
-/// Writes an octet, and then octets.
+/// Writes one byte, and then the given bytes.
 ///
 /// # Errors
-/// Those of the writer.
+///
+/// - The errors of the writer.
 #[tactic(auto, using(crate::proofs::Cited::refused_adds))]
 pub fn encode_behind<W: Writer>(writer: &mut W, first: u8, octets: &[u8]) -> Result<(), Error>
     ensures exact { Writes W.takes_memory (W.out writer.old) (W.out writer.new) result

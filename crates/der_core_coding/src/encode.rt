@@ -1,4 +1,4 @@
-//! The octets of a value: in a vector of their own, in a slice, or after other octets.
+//! Encoding a value into a new vector, into a slice, or after other bytes.
 
 ghost use Rattle.std.specs.Prelude.{◌≡◌, ◌≤◌, ◌++◌, [], length, take, Ok, None, false, true};
 ghost use Rattle.std.specs.Prelude.{IfOk, IfErr, IsOkAnd};
@@ -15,7 +15,8 @@ use der_core_values::core_head::{Error, Length};
 use der_core_values::core_octets::{Writer, header_of};
 use std::alloc::{AllocError, Global};
 
-/// The writer to a vector of its own, which takes room for a whole value once its header comes.
+/// A writer to a vector of its own. It allocates for a whole value when the header of the value
+/// comes.
 #[derive(Drop)]
 struct VecWriter {
     octets: Vec<u8>,
@@ -26,7 +27,7 @@ impl Writer for VecWriter {
 
     ghost takes_memory = { true };
 
-    // Inlined, so that a known number of octets is copied without a call.
+    // Inlined, so that a known number of bytes is copied without a call.
     #[inline(always)]
     #[tactic(auto, unfolding(crate::specs::Opened::put))]
     fn write(&mut self, octets: &[u8]) -> Result<(), Error> {
@@ -38,10 +39,11 @@ impl Writer for VecWriter {
     }
 }
 
-/// Takes room for the value that a header announces, where nothing stands in the vector yet.
+/// Allocates for the value that a header announces, if the vector is empty.
 ///
 /// # Errors
-/// Out of memory.
+///
+/// Fails if memory runs out.
 // Not inlined, since it is called once for a value.
 #[inline(never)]
 fn take_room(out: &mut Vec<u8>, header: &[u8]) -> Result<(), AllocError>
@@ -55,7 +57,7 @@ fn take_room(out: &mut Vec<u8>, header: &[u8]) -> Result<(), AllocError>
     }
 }
 
-/// The octets that writing a value gives, in a vector made for that many.
+/// Returns the encoding of a value, in a vector of that size.
 fn encoded<T: Encode>(alloc: Global, value: &T) -> Result<Vec<u8>, Error>
     ensures { Gives (λ v. record { written = v.items; room = None; failed = false }) result
         (write T.shape (T.written value.now)
@@ -67,7 +69,7 @@ fn encoded<T: Encode>(alloc: Global, value: &T) -> Result<Vec<u8>, Error>
     Ok(out.octets)
 }
 
-/// Writes a value to the front of a slice.
+/// Encodes a value at the beginning of a slice.
 fn fill<'a, T: Encode>(value: &T, bytes: &'a mut [u8]) -> Result<&'a [u8], Error>
     ensures { GivesNow (λ octets. octets.now) result
         (filled (write T.shape (T.written value.now)) (length bytes.entry.now)) }
@@ -77,13 +79,13 @@ fn fill<'a, T: Encode>(value: &T, bytes: &'a mut [u8]) -> Result<&'a [u8], Error
     writer.finish()
 }
 
-/// Writes a value after the octets of a vector.
+/// Encodes a value after the bytes of a vector.
 fn append<T: Encode>(value: &T, out: &mut Vec<u8>) -> Result<Length, Error>
     ensures exact { IfOk result (λ len. appended T.shape (T.written value.now) out.old.items
         ≡ Ok (len.value, out.new.items)) }
     ensures refused { IfErr result
         (λ e. Fails e.kind (appended T.shape (T.written value.now) out.old.items)) }
-    // What stood in the vector stays in front, and alone after a refusal.
+    // The earlier bytes of the vector stay first, and are the only ones after an error.
     ensures kept { take (length out.old.items) out.new.items ≡ out.old.items }
     ensures unchanged { IfErr result (λ _. out.new.items ≡ out.old.items) }
 {
@@ -99,10 +101,10 @@ fn append<T: Encode>(value: &T, out: &mut Vec<u8>) -> Result<Length, Error>
     }
 }
 
-/// A type whose values are written as octets: in a vector, in a slice, or after other octets.
+/// A type whose values are written as bytes: in a vector, in a slice, or after other bytes.
 pub trait ToDer: Encode {
-    /// The octets that spell the value. Memory is asked for once, for so many octets, where the tag
-    /// has one octet.
+    /// Returns the encoding of the value. It allocates once, for the whole encoding, if the tag has
+    /// one byte.
     ///
     /// As in `crates/example_build_certificates/src/main.rt`:
     ///
@@ -111,19 +113,22 @@ pub trait ToDer: Encode {
     /// ```
     ///
     /// # Errors
-    /// `Overflow` where a length passes 2^32 - 1, `SetOrdering` and `SetDuplicate` where a strict
-    /// set in the value doesn't rise (X.690 11.6), or `OutOfMemory`.
+    ///
+    /// - `Overflow`: a length exceeds 2^32 - 1.
+    /// - `SetOrdering`, `SetDuplicate`: a strict set in the value isn't in ascending order (X.690
+    ///   11.6).
+    /// - `OutOfMemory`: memory runs out.
     final fn to_der(&self, alloc: Global) -> Result<Vec<u8>, Error>
-        // What an Ok holds are the octets of the value, no more than a length can count.
+        // The bytes of an `Ok` are those of the value, no more than a length can count.
         ensures octets { IfOk result (λ v. (v.items ≡ octets_of Self.shape (Self.written self.now))
             × Fits v.items) }
-        // The value has an encoding, where its parts are in their ranges.
+        // The value has an encoding, if its parts are in their ranges.
         ensures valid { IfOk result (λ _. IsInRange Self.shape (Self.written self.now)
             → IsValid Self.shape (Self.written self.now)) }
-        // A valid value has an encoding, and it is the answer unless memory runs out.
+        // The encoding of a valid value is the result, unless memory runs out.
         ensures spelled { IsValid Self.shape (Self.written self.now)
             → Gives (λ v. v.items) result (Ok (octets_of Self.shape (Self.written self.now))) }
-        // Which fault it is.
+        // The error is exact.
         ensures exact { Gives (λ v. record { written = v.items; room = None; failed = false })
             result (write Self.shape (Self.written self.now)
             (record { written = []; room = None; failed = false })) }
@@ -131,43 +136,50 @@ pub trait ToDer: Encode {
         encoded(alloc, self)
     }
 
-    /// Writes the value to the front of a slice, and lends what was written. No memory is taken.
+    /// Encodes the value at the beginning of a slice, and returns the encoded bytes. It doesn't
+    /// allocate.
     ///
     /// # Errors
-    /// `Overlength` where the slice is too short, `Overflow` where a length passes 2^32 - 1,
-    /// `SetOrdering` and `SetDuplicate` where a strict set in the value doesn't rise (X.690 11.6).
+    ///
+    /// - `Overlength`: the slice is too short.
+    /// - `Overflow`: a length exceeds 2^32 - 1.
+    /// - `SetOrdering`, `SetDuplicate`: a strict set in the value isn't in ascending order (X.690
+    ///   11.6).
     final fn encode_to_slice<'a>(&self, bytes: &'a mut [u8]) -> Result<&'a [u8], Error>
-        // What an Ok lends are the octets of the value, no more than a length can count.
+        // The bytes of an `Ok` are those of the value, no more than a length can count.
         ensures octets { IfOk result (λ octets.
             (octets.now ≡ octets_of Self.shape (Self.written self.now)) × Fits octets.now) }
-        // The value has an encoding, where its parts are in their ranges.
+        // The value has an encoding, if its parts are in their ranges.
         ensures valid { IfOk result (λ _. IsInRange Self.shape (Self.written self.now)
             → IsValid Self.shape (Self.written self.now)) }
-        // A valid value is written where there is room for its encoding.
+        // A valid value is encoded if there is room for its encoding.
         ensures spelled { IsValid Self.shape (Self.written self.now)
             → length (octets_of Self.shape (Self.written self.now)) ≤ length bytes.entry.now
             → IsOkAnd result (λ octets. octets.now ≡ octets_of Self.shape (Self.written self.now)) }
-        // Which fault it is.
+        // The error is exact.
         ensures exact { GivesNow (λ octets. octets.now) result
             (filled (write Self.shape (Self.written self.now)) (length bytes.entry.now)) }
     {
         fill(self, bytes)
     }
 
-    /// Writes the value after the octets of a vector, and answers how many octets it has.
+    /// Encodes the value after the bytes of a vector, and returns the length of the encoding.
     ///
-    /// What stood there stays; after a refusal nothing else stands there. Memory is asked for once,
-    /// for so many octets.
+    /// The earlier bytes stay. After an error, nothing was added. It allocates once, for the whole
+    /// encoding.
     ///
     /// # Errors
-    /// `Overflow` where a length passes 2^32 - 1, `SetOrdering` and `SetDuplicate` where a strict
-    /// set in the value doesn't rise (X.690 11.6), or `OutOfMemory`.
+    ///
+    /// - `Overflow`: a length exceeds 2^32 - 1.
+    /// - `SetOrdering`, `SetDuplicate`: a strict set in the value isn't in ascending order (X.690
+    ///   11.6).
+    /// - `OutOfMemory`: memory runs out.
     final fn encode_to_vec(&self, out: &mut Vec<u8>) -> Result<Length, Error>
-        // What an Ok adds are the octets of the value, as many as it answers.
+        // The bytes that an `Ok` adds are those of the value, and it returns their number.
         ensures octets { IfOk result (λ len.
             (out.new.items ≡ out.old.items ++ octets_of Self.shape (Self.written self.now))
             × (len.value ≡ length (octets_of Self.shape (Self.written self.now)))) }
-        // The value has an encoding, where its parts are in their ranges.
+        // The value has an encoding, if its parts are in their ranges.
         ensures valid { IfOk result (λ _. IsInRange Self.shape (Self.written self.now)
             → IsValid Self.shape (Self.written self.now)) }
         // A valid value is written, unless memory runs out.
@@ -179,7 +191,7 @@ pub trait ToDer: Encode {
             ≡ Ok (len.value, out.new.items)) }
         ensures refused { IfErr result
             (λ e. Fails e.kind (appended Self.shape (Self.written self.now) out.old.items)) }
-        // What stood in the vector stays in front, and alone after a refusal.
+        // The earlier bytes of the vector stay first, and are the only ones after an error.
         ensures kept { take (length out.old.items) out.new.items ≡ out.old.items }
         ensures unchanged { IfErr result (λ _. out.new.items ≡ out.old.items) }
     {

@@ -1,4 +1,4 @@
-//! A value behind a reference.
+//! A value after a reference.
 
 ghost use Rattle.std.specs.Prelude.{◌≡◌};
 
@@ -6,7 +6,7 @@ use der_core_values::core_head::{Error, Length};
 use der_core_values::core_octets::Writer;
 use der_core_values::{AsRead, Element, Encode, InRange, Member, Shaped};
 
-/// A value behind a reference, which is written as the value.
+/// A value after a reference, which is written as the value.
 #[derive(Drop)]
 pub struct EncodeRef<'a, T>(pub &'a T);
 
@@ -27,13 +27,13 @@ impl<'a, T: Shaped> Shaped for EncodeRef<'a, T> {
 }
 
 impl<'a, T: Encode> Encode for EncodeRef<'a, T> {
-    // Inlined, so that what is answered isn't moved.
+    // Inlined, so that the result isn't moved.
     #[inline(always)]
     fn encoded_len(&self) -> Result<Length, Error> {
         self.0.encoded_len()
     }
 
-    // Inlined, so that what is answered isn't moved.
+    // Inlined, so that the result isn't moved.
     #[inline(always)]
     fn encode<W: Writer>(&self, writer: &mut W) -> Result<(), Error> {
         self.0.encode(writer)

@@ -1,4 +1,4 @@
-//! An implicit tag in place of a value's own (X.690 8.14.3).
+//! Implicit tags, which replace the tag of a value (X.690 8.14.3).
 
 ghost use Rattle.der_core_values.specs.CoreHead.Tags.{implicit_tag};
 
@@ -10,7 +10,7 @@ use der_core_values::{
 use std::alloc::Global;
 
 /// A value whose own tag is replaced by a context-specific one of number `N` (X.690 8.14.3).
-#[derive(Debug, Drop)]
+#[derive(Debug, Drop, PartialEq, Eq, Hash)]
 pub struct Implicit<T, const N: u32> {
     /// The value whose tag is replaced.
     pub value: T,
@@ -70,7 +70,7 @@ impl<T: InRangeValue, const N: u32> InRangeValue for Implicit<T, N> {
     }
 }
 
-/// A value behind a reference, with a context-specific tag of number `N` in place of its own.
+/// A reference to a value whose tag is replaced by the context-specific tag with number `N`.
 #[derive(Drop)]
 pub struct ImplicitRef<'a, T, const N: u32> {
     /// The value whose tag is replaced.

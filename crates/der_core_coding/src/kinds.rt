@@ -1,7 +1,7 @@
 //! Defaults.
 
 ghost use Rattle.std.specs.Prelude.{◌≡◌, List, ℕ, [], ◌∷◌, Ok, true, bytes_eq, nat_lt, length};
-ghost use Rattle.std.specs.Prelude.{pos, refl};
+ghost use Rattle.std.specs.Prelude.{◌<◌, pos, refl};
 ghost use Rattle.der_core_values.specs.CoreHead.Grammar.{read};
 ghost use Rattle.der_core_values.specs.CoreHead.Leaves.{integer};
 ghost use Rattle.der_core_values.specs.CoreHead.Limits.{levels_max};
@@ -14,6 +14,7 @@ ghost use Rattle.der_core_coding.specs.Defaults.{short_tlv};
 use crate::explicit::Explicit;
 use crate::implicit::Implicit;
 use der_core_values::core_head::number_of;
+use der_core_values::describing::{AsNumbered, AsReadWay, Described, Numbered};
 use der_core_values::{ApartValue, AsRead, AsReadValue, FixedTag, Integer, Shaped, ShapedValue};
 
 /// A type with a value that is never written (X.690 11.5), whose values are written as they are
@@ -21,11 +22,11 @@ use der_core_values::{ApartValue, AsRead, AsReadValue, FixedTag, Integer, Shaped
 pub trait DefaultValue: Shaped + AsRead {
     ghost default_octets: { List ℕ };
 
-    /// The default.
+    /// Returns the default.
     fn default_value() -> Self
         ensures { read Self.shape levels_max default_octets ≡ Ok (Self.plain result, []) };
 
-    /// Whether a value is the default.
+    /// Returns whether a value is the default.
     fn is_default(&self) -> bool
         ensures value { result
             ≡ bytes_eq (octets_of Self.shape (Self.plain self.now)) default_octets }
@@ -33,19 +34,19 @@ pub trait DefaultValue: Shaped + AsRead {
         ensures valid { result ≡ true → IsValid Self.shape (Self.plain self.now) };
 }
 
-/// A type with a content of fewer than 100 octets, without values inside, that is never written
-/// behind the tag of a field (X.690 11.5).
+/// A type with a default value whose content has fewer than 100 bytes, contains no other values,
+/// and is never encoded in a field (X.690 11.5).
 ///
-/// So the type, and each implicit or explicit tag around it, can stand in `WithDefault`.
+/// The type, and each implicit or explicit tag around it, can be in `WithDefault`.
 pub trait DefaultContent: ShapedValue + ApartValue + AsReadValue {
     ghost content_octets: { List ℕ };
 
-    /// The default: the value with the content that the type states.
+    /// Returns the default: the value with the content that the type states.
     fn default_content() -> Self
         ensures octets { contents Self.content (Self.value_plain result) ≡ content_octets }
         ensures valid { IsContent Self.content (Self.value_plain result) };
 
-    /// Whether a value is the default.
+    /// Returns whether a value is the default.
     fn is_default_content(&self) -> bool
         ensures value { result
             ≡ bytes_eq (contents Self.content (Self.value_plain self.now)) content_octets }
@@ -56,7 +57,7 @@ pub trait DefaultContent: ShapedValue + ApartValue + AsReadValue {
     ghost enough: { (room : ℕ) → are_content_enough Self.content room ≡ true };
 }
 
-/// The default behind the tag of the type.
+/// The default after the tag of the type.
 impl<T: DefaultContent + FixedTag> DefaultValue for T {
     ghost default_octets = { short_tlv T.fixed_tag T.content_octets };
 
@@ -128,18 +129,105 @@ impl DefaultContent for bool {
     }
 }
 
-/// Whether a number is 0.
+/// A way in which a type's default is coded. The content of the default has fewer than 100 bytes.
+pub trait DefaultWay<T>: AsReadWay<T> {
+    ghost octets_by: { List ℕ };
+
+    /// Returns the result of `DefaultContent::default_content`.
+    fn default_by() -> T
+        ensures octets { contents Self.content_by (Self.plain_by result) ≡ octets_by }
+        ensures valid { IsContent Self.content_by (Self.plain_by result) };
+
+    /// Returns the result of `DefaultContent::is_default_content`.
+    fn is_default_by(value: &T) -> bool
+        ensures value { result
+            ≡ bytes_eq (contents Self.content_by (Self.plain_by value.now)) octets_by }
+        ensures valid { result ≡ true → IsContent Self.content_by (Self.plain_by value.now) };
+
+    ghost few_by: { nat_lt (length octets_by) 100 ≡ true };
+
+    ghost enough_by: { (room : ℕ) → are_content_enough Self.content_by room ≡ true };
+}
+
+/// A type that names its default, which has a number. It has `DefaultContent`.
+pub trait DefaultNumber: Numbered {
+    /// The number of the default.
+    ghost default_number: { ℕ };
+
+    /// Returns the default.
+    fn default_named() -> Self
+        ensures { Self.known_number result ≡ default_number };
+
+    /// The number is below 128, so it has one byte.
+    ghost small: { nat_lt default_number 128 ≡ true };
+}
+
+impl<T: DefaultNumber, K> DefaultWay<T> for AsNumbered<K> {
+    ghost octets_by = { T.default_number ∷ [] };
+
+    ghost few_by = { refl };
+
+    ghost enough_by = { λ _. refl };
+
+    #[tactic(auto, using(crate::proofs::Cited::listed), unfolding(crate::specs::Opened::contents, crate::specs::Opened::IsContent))]
+    fn default_by() -> T {
+        let value = T::default_named();
+        let number = value.to_number();
+        let _small = is_small(&number, number);
+        value
+    }
+
+    #[tactic(auto, using(crate::proofs::Cited::listed), unfolding(crate::specs::Opened::contents, crate::specs::Opened::IsContent))]
+    fn is_default_by(value: &T) -> bool {
+        let default = T::default_named().to_number();
+        is_small(&value.to_number(), default)
+    }
+}
+
+impl<T: DefaultNumber + Described> DefaultContent for T
+where
+    T::By: DefaultWay<T>,
+{
+    ghost content_octets = { T.By.octets_by };
+
+    ghost few = { T.By.few_by };
+
+    ghost enough = { T.By.enough_by };
+
+    fn default_content() -> T {
+        <T::By as DefaultWay<T>>::default_by()
+    }
+
+    fn is_default_content(&self) -> bool {
+        <T::By as DefaultWay<T>>::is_default_by(self)
+    }
+}
+
+/// Returns whether a number is `small`, which is below 128.
 #[tactic(auto, unfolding(crate::specs::Opened::contents, crate::specs::Opened::IsContent))]
+pub fn is_small<T: Integer>(value: &T, small: u8) -> bool
+    requires { small < 128 }
+    ensures octets { result
+        ≡ bytes_eq (contents (leaf (integer T.numbers)) (T.number value.now)) (small ∷ []) }
+    // `small` has one byte.
+    ensures small { T.number value.now ≡ pos small
+        → contents (leaf (integer T.numbers)) (T.number value.now) ≡ small ∷ [] }
+    ensures valid { IsContent (leaf (integer T.numbers)) (T.number value.now) }
+{
+    let (negative, number) = value.sign_and_bits();
+    !negative && number == u128::from(small)
+}
+
+/// Returns whether a number is 0.
 pub fn is_zero<T: Integer>(value: &T) -> bool
     ensures octets { result
         ≡ bytes_eq (contents (leaf (integer T.numbers)) (T.number value.now)) (0 ∷ []) }
-    // 0 is one octet.
+    // 0 is one byte.
     ensures zero { T.number value.now ≡ pos 0
         → contents (leaf (integer T.numbers)) (T.number value.now) ≡ 0 ∷ [] }
     ensures valid { IsContent (leaf (integer T.numbers)) (T.number value.now) }
 {
-    let (negative, number) = value.sign_and_bits();
-    !negative && number == 0
+    is_small(value, 0)
 }
 
 /// 0.

@@ -10,21 +10,25 @@ use der_core_values::core_octets::Writer;
 use der_core_values::{Encode, FieldRow};
 use std::marker::PhantomData;
 
-/// What is written as fields, one after the other.
+/// Fields that are encoded one after another.
 pub trait EncodeFields: FieldRow {
-    /// The number of octets of the fields.
+    /// Returns the total length of the fields.
     ///
     /// # Errors
-    /// `Overflow` from 2^32 on.
+    ///
+    /// - `Overflow`: the length is 2^32 or more.
     fn fields_len(&self) -> Result<Length, Error>
         ensures { GivesNow (λ l. l.value) result
             (size_body Self.fields (Self.fields_written self.now)) };
 
-    /// Writes the fields.
+    /// Encodes the fields.
     ///
     /// # Errors
-    /// `Overflow` where a length passes 2^32 - 1, `SetOrdering` and `SetDuplicate` where a strict
-    /// set in a field doesn't rise (X.690 11.6), and those of the writer.
+    ///
+    /// - `Overflow`: a length exceeds 2^32 - 1.
+    /// - `SetOrdering`, `SetDuplicate`: a strict set in a field isn't in ascending order (X.690
+    ///   11.6).
+    /// - The errors of the writer.
     fn encode_fields<W: Writer>(&self, writer: &mut W) -> Result<(), Error>
         ensures exact { Writes W.takes_memory (W.out writer.old) (W.out writer.new) result
             (write_body Self.fields (Self.fields_written self.now)) }

@@ -1,4 +1,4 @@
-//! Calls on a reader by the type of what is read.
+//! Decoding the next value of a reader, by its type.
 
 ghost use Rattle.std.specs.Prelude.{◌≡◌, OnErr, true};
 ghost use Rattle.der_core_values.specs.CoreHead.Tags.{context, implicit_tag};
@@ -11,7 +11,7 @@ use der_core_values::core_octets::{Header, Reader};
 use der_core_values::{Decode, DecodeValue, FixedTag};
 use std::alloc::Global;
 
-/// The value in a content that is its encoding, all of the octets.
+/// Decodes a value that must use all bytes of a content.
 fn read_only<'a, R: Reader<'a>, T: Decode<'a, R>>(
     alloc: Global,
     reader: &mut R,
@@ -34,11 +34,14 @@ fn read_only<'a, R: Reader<'a>, T: Decode<'a, R>>(
     }
 }
 
-/// The value behind a tag in front of its own (X.690 8.14.2).
+/// Decodes a value with an explicit tag before its own (X.690 8.14.2).
 ///
 /// # Errors
-/// `TagUnexpected` behind another tag; else the first error met in reading, or `OutOfMemory`;
-/// `Failed` where the reader failed before.
+///
+/// - `TagUnexpected`: the tag is another one.
+/// - The first error that decoding meets.
+/// - `OutOfMemory`: memory runs out.
+/// - `Failed`: the reader failed before.
 #[tactic(auto, unfolding(crate::specs::Opened::tlv_at))]
 pub fn read_explicit<'a, R: Reader<'a>, T: Decode<'a, R>>(
     alloc: Global,
@@ -52,7 +55,7 @@ pub fn read_explicit<'a, R: Reader<'a>, T: Decode<'a, R>>(
     read_only(alloc, reader, header)
 }
 
-/// The value behind a tag in place of its own.
+/// Decodes a value whose tag is replaced by another one.
 #[tactic(auto, unfolding(crate::specs::Opened::tlv_at))]
 fn read_implicit<'a, R: Reader<'a>, T: DecodeValue<'a, R>>(
     alloc: Global,
@@ -66,10 +69,13 @@ fn read_implicit<'a, R: Reader<'a>, T: DecodeValue<'a, R>>(
     T::decode_value(alloc, reader, header)
 }
 
-/// The value behind a tag in front of its own, if that tag stands next (X.690 8.14.2).
+/// Decodes a value with an explicit tag before its own, if that tag is next (X.690 8.14.2).
 ///
 /// # Errors
-/// The first error met in reading, or `OutOfMemory`; `Failed` where the reader failed before.
+///
+/// - The first error that decoding meets.
+/// - `OutOfMemory`: memory runs out.
+/// - `Failed`: the reader failed before.
 #[tactic(auto, unfolding(crate::specs::Opened::opt_at))]
 pub fn optional_explicit<'a, R: Reader<'a>, T: Decode<'a, R>>(
     alloc: Global,
@@ -89,10 +95,13 @@ pub fn optional_explicit<'a, R: Reader<'a>, T: Decode<'a, R>>(
     }
 }
 
-/// The value behind a tag in place of its own, if that tag stands next (X.690 8.14.3).
+/// Decodes a value whose tag is replaced by another one, if that tag is next (X.690 8.14.3).
 ///
 /// # Errors
-/// The first error met in reading, or `OutOfMemory`; `Failed` where the reader failed before.
+///
+/// - The first error that decoding meets.
+/// - `OutOfMemory`: memory runs out.
+/// - `Failed`: the reader failed before.
 #[tactic(auto, unfolding(crate::specs::Opened::opt_at))]
 pub fn optional_implicit<'a, R: Reader<'a>, T: DecodeValue<'a, R>>(
     alloc: Global,
@@ -112,12 +121,15 @@ pub fn optional_implicit<'a, R: Reader<'a>, T: DecodeValue<'a, R>>(
     }
 }
 
-/// What is read of a reader, by the type of what is read.
+/// A reader from which values are decoded by their type.
 pub trait Reading<'r>: Reader<'r> + Sized {
-    /// The value that stands next. After a refusal the reader has failed.
+    /// Returns the value that is next. After an error the reader has failed.
     ///
     /// # Errors
-    /// The first error met in reading, or `OutOfMemory`; `Failed` where the reader failed before.
+    ///
+    /// - The first error that decoding meets.
+    /// - `OutOfMemory`: memory runs out.
+    /// - `Failed`: the reader failed before.
     final fn decode<T: Decode<'r, Self>>(&mut self, alloc: Global) -> Result<T, Error>
         ensures reads { Reads T.plain (Self.state self.old) (Self.state self.new) result
             (read_at (Self.state self.old) T.shape) }
@@ -126,11 +138,14 @@ pub trait Reading<'r>: Reader<'r> + Sized {
         Ok(T::decode(alloc, self)?)
     }
 
-    /// The value behind a context-specific tag of that number, if that tag stands next
-    /// (X.690 8.14).
+    /// Decodes a value with the context-specific tag with this number, if that tag is next (X.690
+    /// 8.14).
     ///
     /// # Errors
-    /// The first error met in reading, or `OutOfMemory`; `Failed` where the reader failed before.
+    ///
+    /// - The first error that decoding meets.
+    /// - `OutOfMemory`: memory runs out.
+    /// - `Failed`: the reader failed before.
     final fn context_specific<T: DecodeValue<'r, Self> + FixedTag>(
         &mut self,
         alloc: Global,

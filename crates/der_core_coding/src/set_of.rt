@@ -1,9 +1,10 @@
-//! SET OF, whose members rise (X.690 8.12, 11.6).
+//! SET OF, whose members are in ascending order (X.690 8.12, 11.6).
 
-ghost use Rattle.der_core_values.specs.CoreHead.Shapes.{above, rising};
+ghost use Rattle.der_core_values.specs.CoreHead.Shapes.{ascending, in_order, rising};
 ghost use Rattle.der_core_values.specs.CoreHead.Grammar.{plain_list, follows_last};
 ghost use Rattle.der_core_values.specs.CoreHead.Reading.{Reads, IsDer, read_body_at, Gives};
 ghost use Rattle.der_core_values.specs.CoreOctets.Fronts.{octets_at};
+ghost use Rattle.der_core_coding.specs.Steps.{step_of};
 
 use crate::sliced::decode_sliced;
 use der_core_values::core_head::{EncodingRules, Error, ErrorKind, Length};
@@ -12,39 +13,57 @@ use der_core_values::{Decode, Member};
 use std::alloc::Global;
 use std::cmp::Ordering;
 
-/// Whether octets that stand at a place may follow those before them in a set.
+/// Checks that an encoding at a position may follow the one before it in a set. `equal` says
+/// whether equal members are allowed.
 ///
 /// # Errors
-/// `SetDuplicate` for the same octets, `SetOrdering` for lower ones.
-fn check_follows(last: Option<&[u8]>, octets: &[u8], place: Length) -> Result<(), Error>
-    ensures { Gives (λ x. x) result (follows_last above (octets_at last.entry) octets.now) }
+///
+/// - `SetDuplicate`: it is the same, and equal members aren't allowed.
+/// - `SetOrdering`: it is lower.
+fn check_follows(
+    last: Option<&[u8]>,
+    octets: &[u8],
+    equal: bool,
+    place: Length,
+) -> Result<(), Error>
+    ensures { Gives (λ x. x) result
+        (follows_last (step_of equal) (octets_at last.entry) octets.now) }
 {
     let Some(last) = last else {
         return Ok(());
     };
     match last.cmp(octets) {
         Ordering::Less => Ok(()),
-        Ordering::Equal => Err(ErrorKind::SetDuplicate.at(place)),
+        Ordering::Equal => {
+            if equal {
+                Ok(())
+            } else {
+                Err(ErrorKind::SetDuplicate.at(place))
+            }
+        }
         Ordering::Greater => Err(ErrorKind::SetOrdering.at(place)),
     }
 }
 
-/// Reads values up to the end by DER, each of whose encodings is above the one before.
+/// Decodes values up to the end by DER. No encoding may be below the one before, and none the same
+/// unless equal members are allowed.
 ///
 /// # Errors
-/// Those of `read_rising`.
-fn read_rising_by_der<'a, R: Reader<'a>, T: Decode<'a, R> + Member>(
+///
+/// - The errors of `read_rising`.
+fn read_members_by_der<'a, R: Reader<'a>, T: Decode<'a, R> + Member>(
     alloc: Global,
     reader: &mut R,
+    equal: bool,
 ) -> Result<Vec<T>, Error>
     requires { IsDer (R.state reader.old) }
     ensures { Reads (λ v. plain_list T.plain v.items) (R.state reader.old) (R.state reader.new)
-        result (read_body_at (R.state reader.old) (rising T.shape)) }
+        result (read_body_at (R.state reader.old) (in_order (step_of equal) T.shape)) }
 {
     if reader.is_failed() {
         return Err(Error::from(ErrorKind::Failed));
     }
-    // Most sets have one member, and a list that grows from none takes room for four.
+    // Most sets have one member, and a list that grows from nothing allocates for four.
     let mut values = match Vec::with_capacity(alloc, 1) {
         Ok(values) => values,
         Err(error) => {
@@ -60,7 +79,7 @@ fn read_rising_by_der<'a, R: Reader<'a>, T: Decode<'a, R> + Member>(
         }
         let place = reader.position();
         let (value, octets) = decode_sliced::<R, T>(alloc, reader)?;
-        match check_follows(last, octets, place) {
+        match check_follows(last, octets, equal, place) {
             Ok(()) => {}
             Err(error) => {
                 reader.fail();
@@ -84,14 +103,38 @@ fn read_rising_by_der<'a, R: Reader<'a>, T: Decode<'a, R> + Member>(
     }
 }
 
-/// Reads values up to the end, each of whose encodings is above the one before.
+/// Decodes values up to the end. Their encodings must be in order. `equal` says whether equal
+/// members are allowed.
 ///
-/// That encodings rise is a rule of DER (X.690 11.6), and so the values are read by DER, whatever
-/// the rules of the reader.
+/// The order is a rule of DER (X.690 11.6), so the values are decoded by DER, whatever the rules of
+/// the reader are.
 ///
 /// # Errors
-/// The first fault of a value, `SetDuplicate` or `SetOrdering` where it stands wrong, or
-/// `OutOfMemory`; `Failed` where the reader failed before.
+///
+/// - The errors of `read_rising`.
+fn read_members<'a, R: Reader<'a>, T: Decode<'a, R> + Member>(
+    alloc: Global,
+    reader: &mut R,
+    equal: bool,
+) -> Result<Vec<T>, Error>
+    ensures { Reads (λ v. plain_list T.plain v.items) (R.state reader.old) (R.state reader.new)
+        result (read_body_at (R.state reader.old) (in_order (step_of equal) T.shape)) }
+{
+    let rules = reader.encoding_rules();
+    reader.set_encoding_rules(EncodingRules::Der);
+    let values = read_members_by_der(alloc, reader, equal);
+    reader.set_encoding_rules(rules);
+    values
+}
+
+/// Decodes values up to the end by DER. The encoding of each must be above the one before.
+///
+/// # Errors
+///
+/// - The first error of a value.
+/// - `SetDuplicate`, `SetOrdering`: a value isn't above the one before.
+/// - `OutOfMemory`: memory runs out.
+/// - `Failed`: the reader failed before.
 pub fn read_rising<'a, R: Reader<'a>, T: Decode<'a, R> + Member>(
     alloc: Global,
     reader: &mut R,
@@ -99,9 +142,23 @@ pub fn read_rising<'a, R: Reader<'a>, T: Decode<'a, R> + Member>(
     ensures { Reads (λ v. plain_list T.plain v.items) (R.state reader.old) (R.state reader.new)
         result (read_body_at (R.state reader.old) (rising T.shape)) }
 {
-    let rules = reader.encoding_rules();
-    reader.set_encoding_rules(EncodingRules::Der);
-    let values = read_rising_by_der(alloc, reader);
-    reader.set_encoding_rules(rules);
-    values
+    read_members(alloc, reader, false)
+}
+
+/// Decodes values up to the end by DER. No encoding may be below the one before.
+///
+/// # Errors
+///
+/// - The first error of a value.
+/// - `SetOrdering`: a value is below the one before.
+/// - `OutOfMemory`: memory runs out.
+/// - `Failed`: the reader failed before.
+pub fn read_ascending<'a, R: Reader<'a>, T: Decode<'a, R> + Member>(
+    alloc: Global,
+    reader: &mut R,
+) -> Result<Vec<T>, Error>
+    ensures { Reads (λ v. plain_list T.plain v.items) (R.state reader.old) (R.state reader.new)
+        result (read_body_at (R.state reader.old) (ascending T.shape)) }
+{
+    read_members(alloc, reader, true)
 }

@@ -1,4 +1,4 @@
-//! The reader of a slice.
+//! A reader over a slice.
 
 ghost use Rattle.std.specs.Prelude.{◌≡◌, ◌≤◌, ◌<◌, length, [], false, IfOk, IfErr, IsSomeAnd, ⊤};
 ghost use Rattle.der_core_values.specs.CoreHead.Limits.{length_max, levels_max};
@@ -12,7 +12,7 @@ use der_core_values::core_octets::Reader;
 use std::alloc::AllocError;
 use std::marker::Model;
 
-/// The reader of a slice, of at most `Length::MAX` octets.
+/// A reader over a slice of at most `Length::MAX` bytes.
 #[derive(Drop)]
 pub struct SliceReader<'a> {
     bytes: &'a [u8],
@@ -36,10 +36,11 @@ impl<'a> Model for SliceReader<'a> {
 }
 
 impl<'a> SliceReader<'a> {
-    /// A reader of all the octets, by DER.
+    /// Returns a reader of all the bytes, by DER.
     ///
     /// # Errors
-    /// `Overflow` for 2^32 octets or more.
+    ///
+    /// - `Overflow`: 2^32 bytes or more.
     pub fn new(bytes: &'a [u8]) -> Result<SliceReader<'a>, Error>
         ensures ok { IfOk result (λ r. Fits bytes.now × (r ≡ unread EncodingRules.Der bytes.now)) }
         ensures err { IfErr result (λ e. (length_max < length bytes.now)
@@ -48,10 +49,11 @@ impl<'a> SliceReader<'a> {
         Ok(SliceReader::new_with_encoding_rules(bytes, EncodingRules::Der)?)
     }
 
-    /// A reader of all the octets, by those rules.
+    /// Returns a reader of all the bytes, by those rules.
     ///
     /// # Errors
-    /// `Overflow` for 2^32 octets or more.
+    ///
+    /// - `Overflow`: 2^32 bytes or more.
     pub fn new_with_encoding_rules(
         bytes: &'a [u8],
         encoding_rules: EncodingRules,
@@ -73,10 +75,11 @@ impl<'a> SliceReader<'a> {
         })
     }
 
-    /// A reader of all the octets, by DER, in which so many ends can be set, one within the other.
+    /// Returns a reader over all bytes, by DER, with this many levels of nesting.
     ///
     /// # Errors
-    /// `Overflow` for 2^32 octets or more.
+    ///
+    /// - `Overflow`: there are 2^32 bytes or more.
     pub fn new_with_levels(bytes: &'a [u8], levels: usize) -> Result<SliceReader<'a>, Error>
         requires { levels ≤ levels_max }
         ensures ok { IfOk result (λ r. Fits bytes.now × (r ≡ unread_within levels bytes.now)) }
@@ -88,7 +91,7 @@ impl<'a> SliceReader<'a> {
         Ok(reader)
     }
 
-    /// An error at the place of the reader, which has failed from then on.
+    /// Returns an error at the position of the reader, and marks the reader as failed.
     pub fn error(&mut self, kind: ErrorKind) -> Error
         ensures kind { result.kind ≡ kind }
         ensures place { IsSomeAnd result.position (λ p. IsAt p.value self.old) }
@@ -102,7 +105,7 @@ impl<'a> SliceReader<'a> {
     }
 }
 
-/// Another reader at the same place, which takes no memory.
+/// Returns another reader at the same position. It doesn't allocate.
 impl<'a> Clone for SliceReader<'a> {
     ghost is_clone = { λ x y. y ≡ x };
 

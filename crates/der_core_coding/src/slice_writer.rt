@@ -15,8 +15,8 @@ use der_core_values::core_head::{Error, ErrorKind, Length, Tag, TagMode, TagNumb
 use der_core_values::core_octets::{Writer, encode_header};
 use der_core_values::{Encode, EncodeValue, FixedTag};
 
-/// The writer to a slice, which takes no memory. After a write for which there was no room it has
-/// failed.
+/// A writer into a slice, which doesn't allocate. After a write for which there isn't enough room,
+/// it has failed.
 #[derive(Drop)]
 pub struct SliceWriter<'a> {
     bytes: &'a mut [u8],
@@ -28,7 +28,7 @@ pub struct SliceWriter<'a> {
 impl<'a> SliceWriter<'a> {
     ghost use Rattle.der_core_coding.specs.Slices.{output};
 
-    /// A writer to the whole slice.
+    /// Returns a writer to the whole slice.
     pub fn new(bytes: &'a mut [u8]) -> SliceWriter<'a>
         ensures { output result ≡ blank (length bytes.entry.now) }
     {
@@ -39,17 +39,18 @@ impl<'a> SliceWriter<'a> {
         }
     }
 
-    /// Whether a write was refused.
+    /// Returns whether a write has failed.
     pub fn is_failed(&self) -> bool
         ensures { result ≡ (output self.now).failed }
     {
         self.failed
     }
 
-    /// The octets that were written.
+    /// Returns the bytes that were written.
     ///
     /// # Errors
-    /// `Failed` where a write was refused.
+    ///
+    /// - `Failed`: a write has failed.
     pub fn finish(self) -> Result<&'a [u8], Error>
         ensures ok { IfOk result (λ octets.
             (octets.now ≡ (output self.entry).written) × ((output self.entry).failed ≡ false)) }
@@ -64,11 +65,12 @@ impl<'a> SliceWriter<'a> {
         Ok(&bytes[..len])
     }
 
-    /// An error at the place of the writer, which has failed from then on. A place from 2^32 on is
-    /// left out.
+    /// Returns an error at the position of the writer, and marks the writer as failed. A position
+    /// of 2^32 or more is left out.
     ///
     /// # Errors
-    /// Always that error.
+    ///
+    /// - Always this error.
     pub fn error<T>(&mut self, kind: ErrorKind) -> Result<T, Error>
         ensures kind { IsErrAnd result (λ e. e.kind ≡ kind) }
         ensures place { IsLength (length (output self.old).written) → IfErr result (λ e.
@@ -82,11 +84,13 @@ impl<'a> SliceWriter<'a> {
         Err(Error { kind, position })
     }
 
-    /// Writes a value. After a refusal the writer has failed.
+    /// Encodes a value. After an error the writer has failed.
     ///
     /// # Errors
-    /// `Failed` where the writer failed before, `Overlength` where there is no room, `Overflow`
-    /// where a length passes 2^32 - 1.
+    ///
+    /// - `Failed`: the writer failed before.
+    /// - `Overlength`: there isn't enough room.
+    /// - `Overflow`: a length exceeds 2^32 - 1.
     #[tactic(auto, using(crate::proofs::Cited::none_added))]
     pub fn encode<T: Encode>(&mut self, value: &T) -> Result<(), Error>
         ensures writes { (output self.old).failed ≡ false
@@ -112,12 +116,14 @@ impl<'a> SliceWriter<'a> {
         }
     }
 
-    /// Writes a value behind a context-specific tag, in front of its own or in its place
-    /// (X.690 8.14). After a refusal the writer has failed.
+    /// Encodes a value with a context-specific tag, before its own or in place of it (X.690 8.14).
+    /// After an error the writer has failed.
     ///
     /// # Errors
-    /// `Failed` where the writer failed before, `Overlength` where there is no room, `Overflow`
-    /// where a length passes 2^32 - 1.
+    ///
+    /// - `Failed`: the writer failed before.
+    /// - `Overlength`: there isn't enough room.
+    /// - `Overflow`: a length exceeds 2^32 - 1.
     #[tactic(auto, using(crate::proofs::Cited::none_added))]
     pub fn context_specific<T: EncodeValue + FixedTag>(
         &mut self,
@@ -161,23 +167,26 @@ impl<'a> SliceWriter<'a> {
         }
     }
 
-    /// Writes the header of a SEQUENCE of so many octets, and calls `f` to write these. After a
-    /// refusal the writer has failed.
+    /// Writes the header of a SEQUENCE with this length, and calls `f` to write the content. After
+    /// an error the writer has failed.
     ///
     /// # Errors
-    /// `Failed` where the writer failed before, `Overlength` where there is no room for the header,
-    /// what `f` answers, `Length` where it wrote another number of octets.
+    ///
+    /// - `Failed`: the writer failed before.
+    /// - `Overlength`: there isn't enough room for the header.
+    /// - The error of `f`.
+    /// - `Length`: `f` wrote another number of bytes.
     pub fn sequence<F: FnOnce(&mut SliceWriter<'a>) -> Result<(), Error>>(
         &mut self,
         length: Length,
         f: F,
     ) -> Result<(), Error>
         requires { F.IsAlwaysCallable f }
-        // The closure was called behind the header, and wrote that many octets.
+        // The closure was called after the header, and wrote that many bytes.
         ensures ok { OnOk result
             (Encloses output F.FnOnce f length.value (output self.old) (output self.new)) }
-        // Which fault it is: of the header, of the closure, or another number of octets. What stood
-        // before the header still stands, and what the closure left.
+        // The error is that of the header, that of the closure, or another number of bytes. What
+        // was before the header stays, and what the closure wrote.
         ensures fault { IfErr result (λ e. (output self.old).failed ≡ false → RefusesEnclosed output
             F.FnOnce f length.value (output self.old) (output self.new) e) }
         ensures failed { (output self.old).failed ≡ true
@@ -197,7 +206,7 @@ impl<'a> SliceWriter<'a> {
         }
     }
 
-    /// Writes the header of a SEQUENCE of so many octets, and calls `f` to write these.
+    /// Writes the header of a SEQUENCE with this length, and calls `f` to write the content.
     fn sequence_of<F: FnOnce(&mut SliceWriter<'a>) -> Result<(), Error>>(
         &mut self,
         length: Length,

@@ -13,10 +13,11 @@ use der_core_values::EncodeValue;
 use der_core_values::core_head::Error;
 use der_core_values::core_octets::Header;
 
-/// The header of a value: its tag, and the number of octets of its content.
+/// Returns the header of a value: its tag and the length of its content.
 ///
 /// # Errors
-/// `Overflow` from 2^32 octets on.
+///
+/// - `Overflow`: the content has 2^32 bytes or more.
 pub fn value_header<T: EncodeValue + Tagged>(value: &T) -> Result<Header, Error>
     ensures length { GivesNow (λ header. header.length.value) result
         (size_content T.content (T.value_written value.now)) }
@@ -26,34 +27,37 @@ pub fn value_header<T: EncodeValue + Tagged>(value: &T) -> Result<Header, Error>
     Ok(Header::new(value.tag(), length))
 }
 
-/// Writes the content of a value to the front of a slice, and lends what was written. No memory is
-/// taken.
+/// Encodes the content of a value at the beginning of a slice, and returns the encoded bytes. It
+/// doesn't allocate.
 ///
 /// # Errors
-/// `Overlength` where the slice is too short, `Overflow` where a length passes 2^32 - 1,
-/// `SetOrdering` and `SetDuplicate` where a strict set in the value doesn't rise (X.690 11.6).
+///
+/// - `Overlength`: the slice is too short.
+/// - `Overflow`: a length exceeds 2^32 - 1.
+/// - `SetOrdering`, `SetDuplicate`: a strict set in the value isn't in ascending order (X.690
+///   11.6).
 pub fn encode_value_to_slice<'a, T: EncodeValue>(
     value: &T,
     bytes: &'a mut [u8],
 ) -> Result<&'a [u8], Error>
-    // What an Ok lends are the octets of the content.
+    // The bytes of an `Ok` are those of the content.
     ensures octets { IfOk result
         (λ octets. octets.now ≡ contents T.content (T.value_written value.now)) }
-    // The content is valid, where its parts are in their ranges.
+    // The content is valid, if its parts are in their ranges.
     ensures valid { IfOk result (λ _. IsContentInRange T.content (T.value_written value.now)
         → IsContent T.content (T.value_written value.now)) }
-    // A valid content is written where there is room for it.
+    // A valid content is encoded if there is room for it.
     ensures spelled { IsContent T.content (T.value_written value.now)
         → length (contents T.content (T.value_written value.now)) ≤ length bytes.entry.now
         → IsOkAnd result (λ octets. octets.now ≡ contents T.content (T.value_written value.now)) }
-    // Which fault it is.
+    // The error is exact.
     ensures exact { GivesNow (λ octets. octets.now) result
         (filled (write_content T.content (T.value_written value.now)) (length bytes.entry.now)) }
 {
     fill_content(value, bytes)
 }
 
-/// Writes the content of a value to the front of a slice.
+/// Encodes the content of a value at the beginning of a slice.
 fn fill_content<'a, T: EncodeValue>(value: &T, bytes: &'a mut [u8]) -> Result<&'a [u8], Error>
     ensures { GivesNow (λ octets. octets.now) result
         (filled (write_content T.content (T.value_written value.now)) (length bytes.entry.now)) }

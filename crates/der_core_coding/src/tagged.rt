@@ -8,11 +8,11 @@ use der_core_values::core_head::{Error, Length, Tag};
 use der_core_values::core_octets::Writer;
 use der_core_values::{ApartValue, AsReadValue, EncodeValue, FixedTag, InRangeValue, ShapedValue};
 
-/// What has a tag.
+/// A value that has a tag.
 pub trait Tagged {
     ghost own_tag: { Self → Tag };
 
-    /// The tag.
+    /// Returns the tag.
     fn tag(&self) -> Tag
         ensures { result ≡ own_tag self.now };
 }
@@ -29,7 +29,7 @@ impl<T: FixedTag> Tagged for T {
 pub trait IsConstructed {
     ghost constructed: { Bool };
 
-    /// Whether they are constructed (X.690 8.1.2.5).
+    /// Returns whether they are constructed (X.690 8.1.2.5).
     fn is_constructed() -> bool
         ensures { result ≡ constructed };
 }
@@ -42,7 +42,7 @@ impl<T: FixedTag> IsConstructed for T {
     }
 }
 
-/// A value behind a reference, whose content is written as that of the value.
+/// A reference to a value, whose content is encoded as that of the value.
 #[derive(Drop)]
 pub struct EncodeValueRef<'a, T>(pub &'a T);
 

@@ -7,21 +7,21 @@ use crate::encode_ref::EncodeRef;
 use crate::explicit::Explicit;
 use crate::implicit::{Implicit, ImplicitRef};
 
-/// The value behind a tag that replaced its own.
+/// Returns the value after a tag that replaced its own.
 pub fn implicit_of<T, const N: u32>(field: Option<Implicit<T, N>>) -> Option<T>
     ensures { result ≡ plain_option (λ f. f.value) field }
 {
     Some(field?.value)
 }
 
-/// The value behind a tag before its own.
+/// Returns the value after a tag before its own.
 pub fn explicit_of<T, const N: u32>(field: Option<Explicit<T, N>>) -> Option<T>
     ensures { result ≡ plain_option (λ f. f.value) field }
 {
     Some(field?.value)
 }
 
-/// The value, lent behind a tag that replaces its own.
+/// Returns the value, borrowed after a tag that replaces its own.
 pub fn implicit_ref<'a, T, const N: u32>(value: &'a Option<T>) -> Option<ImplicitRef<'a, T, N>>
     ensures { plain_option (λ r. r.value.now) result ≡ value.now }
 {
@@ -29,7 +29,7 @@ pub fn implicit_ref<'a, T, const N: u32>(value: &'a Option<T>) -> Option<Implici
     Some(ImplicitRef { value })
 }
 
-/// The value, lent behind a tag before its own.
+/// Returns the value, borrowed after a tag before its own.
 pub fn explicit_ref<'a, T, const N: u32>(
     value: &'a Option<T>,
 ) -> Option<Explicit<EncodeRef<'a, T>, N>>

@@ -12,10 +12,12 @@ use der_core_values::core_head::{Error, Tag, TagNumber, is_constructed};
 use der_core_values::core_octets::{Writer, encode_header};
 use der_core_values::{Encode, EncodeValue, FixedTag};
 
-/// Writes a content behind a tag.
+/// Encodes a content after a tag.
 ///
 /// # Errors
-/// `Overflow` where a length passes 2^32 - 1, and those of the writer.
+///
+/// - `Overflow`: a length exceeds 2^32 - 1.
+/// - The errors of the writer.
 #[tactic(auto, using(crate::proofs::Cited::none_added, crate::proofs::Cited::header_adds, crate::proofs::Cited::content_adds), unfolding(crate::specs::Opened::write_tlv))]
 pub fn encode_tagged<W: Writer, T: EncodeValue>(
     writer: &mut W,
@@ -33,10 +35,12 @@ pub fn encode_tagged<W: Writer, T: EncodeValue>(
     value.encode_value(writer)
 }
 
-/// Writes a value behind a context-specific tag in front of its own (X.690 8.14.2).
+/// Encodes a value with a context-specific tag before its own (X.690 8.14.2).
 ///
 /// # Errors
-/// `Overflow` where a length passes 2^32 - 1, and those of the writer.
+///
+/// - `Overflow`: a length exceeds 2^32 - 1.
+/// - The errors of the writer.
 pub fn encode_explicit<W: Writer, T: Encode>(
     writer: &mut W,
     number: TagNumber,
@@ -54,17 +58,19 @@ pub fn encode_explicit<W: Writer, T: Encode>(
         constructed,
         number,
     };
-    // The number of its type stands for none: the tag is the one above.
+    // The number in this type is unused: the tag is the one above.
     let field: Explicit<EncodeRef<'_, T>, 0> = Explicit {
         value: EncodeRef(value),
     };
     encode_tagged(writer, tag, &field)
 }
 
-/// Writes a value whose own tag is replaced by a context-specific one (X.690 8.14.3).
+/// Encodes a value whose own tag is replaced by a context-specific one (X.690 8.14.3).
 ///
 /// # Errors
-/// `Overflow` where a length passes 2^32 - 1, and those of the writer.
+///
+/// - `Overflow`: a length exceeds 2^32 - 1.
+/// - The errors of the writer.
 pub fn encode_implicit<W: Writer, T: EncodeValue + FixedTag>(
     writer: &mut W,
     number: TagNumber,

@@ -1,4 +1,4 @@
-//! Reading of all octets, and from their front.
+//! Decoding a value from all bytes, or from the beginning of the bytes.
 
 ghost use Rattle.std.specs.Prelude.{◌≡◌, ◌<◌, ◌^◌, ◌++◌, ℕ, List, length, [], true, false, Ok};
 ghost use Rattle.std.specs.Prelude.{◌≢◌, IfOk, IfErr};
@@ -18,10 +18,11 @@ use der_core_values::core_octets::Reader;
 use der_core_values::{Decode, FixedTag, Leaf, decode_leaf_of_tag};
 use std::alloc::Global;
 
-/// The value that the octets spell, all of the octets.
+/// Returns the value that the bytes encode. All bytes are used.
 ///
 /// # Errors
-/// Those of `from_der`.
+///
+/// - The errors of `from_der`.
 #[tactic(auto, unfolding(crate::specs::Opened::read_whole))]
 pub fn read_whole<'a, T: Decode<'a, SliceReader<'a>>>(
     alloc: Global,
@@ -37,7 +38,7 @@ pub fn read_whole<'a, T: Decode<'a, SliceReader<'a>>>(
     value
 }
 
-/// Reads all of the octets, whose headers are read by BER.
+/// Decodes a value from all bytes. Headers are decoded by BER.
 #[tactic(auto, unfolding(crate::specs::Wholes::whole_ber_at))]
 fn read_whole_by_ber<'a, T: Decode<'a, SliceReader<'a>>>(
     alloc: Global,
@@ -54,7 +55,7 @@ fn read_whole_by_ber<'a, T: Decode<'a, SliceReader<'a>>>(
     }
 }
 
-/// Reads the value at the front of the octets.
+/// Decodes the value at the beginning of the bytes.
 fn read_front<'a, T: Decode<'a, SliceReader<'a>>>(
     alloc: Global,
     bytes: &'a [u8],
@@ -66,15 +67,16 @@ fn read_front<'a, T: Decode<'a, SliceReader<'a>>>(
     Ok((value, reader.remaining()))
 }
 
-/// The value of a leaf that the octets spell behind the tag of its type, all of the octets.
+/// Decodes a value of a primitive type, with its tag, from all bytes.
 ///
 /// # Errors
-/// Those of `from_der`, but `OutOfMemory` of a type that takes memory alone.
+///
+/// - The errors of `from_der`, but `OutOfMemory` only for a type that allocates.
 #[tactic(auto, unfolding(crate::specs::Opened::read_whole))]
 pub fn leaf_from_der<'a, T: Leaf<'a> + FixedTag>(alloc: Global, bytes: &'a [u8]) -> Result<T, Error>
     ensures exact { Gives (λ v. (T.leaf_plain v, [])) result
         (read_whole (tagged T.fixed_tag (leaf T.kind)) bytes.now) }
-    // Where the type takes no memory, it is the fault of the octets.
+    // If the type doesn't allocate, the error is that of the bytes.
     ensures fault { T.takes_memory ≡ false → GivesNow (λ v. (T.leaf_plain v, [])) result
         (read_whole (tagged T.fixed_tag (leaf T.kind)) bytes.now) }
 {
@@ -87,9 +89,9 @@ pub fn leaf_from_der<'a, T: Leaf<'a> + FixedTag>(alloc: Global, bytes: &'a [u8])
     }
 }
 
-/// A type whose values are read from slices: all of the octets, or the front of them.
+/// A type whose values are decoded from slices: from all bytes, or from their beginning.
 pub trait FromDer<'a>: Decode<'a, SliceReader<'a>> {
-    /// The value that the octets spell, all of the octets.
+    /// Returns the value that the bytes encode. All bytes are used.
     ///
     /// As in `crates/example_own_types/src/main.rt`:
     ///
@@ -98,54 +100,61 @@ pub trait FromDer<'a>: Decode<'a, SliceReader<'a>> {
     /// ```
     ///
     /// # Errors
-    /// `Overflow` for 2^32 octets or more, else the first error met in reading, `TrailingData` if
-    /// octets are left after the value, or `OutOfMemory`.
+    ///
+    /// - `Overflow`: 2^32 bytes or more.
+    /// - The first error that decoding meets.
+    /// - `TrailingData`: bytes are left after the value.
+    /// - `OutOfMemory`: memory runs out.
     final fn from_der(alloc: Global, bytes: &'a [u8]) -> Result<Self, Error>
-        // What is read is spelled so.
+        // What is accepted is an encoding.
         ensures spelled { is_apart Self.shape ≡ true
             → IfOk result (λ v. Spells Self.shape (Self.plain v) bytes.now) }
-        // What is spelled so is read, unless memory runs out.
+        // An encoding is accepted, unless memory runs out.
         ensures only { (v : Value Self.shape) → is_apart Self.shape ≡ true
             → are_enough Self.shape levels_max ≡ true
             → Spells Self.shape v bytes.now → Gives Self.plain result (Ok v) }
-        // What is refused for another reason than out of memory is spelled by no value.
+        // If an error isn't that memory ran out, the bytes encode no value.
         ensures refused { is_apart Self.shape ≡ true → are_enough Self.shape levels_max ≡ true
             → IfErr result (λ e. e.kind ≢ ErrorKind.OutOfMemory
             → (v : Value Self.shape) → Spells Self.shape v bytes.now → ⊥) }
-        // Which fault it is.
+        // The error is exact.
         ensures exact { Gives (λ v. (Self.plain v, [])) result (read_whole Self.shape bytes.now) }
     {
         read_whole(alloc, bytes)
     }
 
-    /// The value at the front of the octets, and the octets after it.
+    /// Decodes the value at the beginning of the bytes, and returns it with the remainder.
     ///
     /// # Errors
-    /// `Overflow` for 2^32 octets or more, else the first error met in reading, or `OutOfMemory`.
+    ///
+    /// - `Overflow`: there are 2^32 bytes or more.
+    /// - The first error that decoding meets.
+    /// - `OutOfMemory`: memory runs out.
     final fn from_der_partial(alloc: Global, bytes: &'a [u8]) -> Result<(Self, &'a [u8]), Error>
-        // What is read is spelled so, and what is lent follows it.
+        // The bytes are the encoding of the value and the remainder.
         ensures spelled { is_apart Self.shape ≡ true → IfOk result (λ x.
             IsValid Self.shape (Self.plain x.0)
             × (bytes.now ≡ octets_of Self.shape (Self.plain x.0) ++ x.1.now)) }
-        // What is spelled so is read, whatever follows it, unless memory runs out.
+        // An encoding is accepted, whatever follows it, unless memory runs out.
         ensures only { (v : Value Self.shape) (r : List ℕ) → is_element Self.shape ≡ true
             → is_apart Self.shape ≡ true → are_enough Self.shape levels_max ≡ true
             → IsValid Self.shape v → bytes.now ≡ octets_of Self.shape v ++ r → Fits bytes.now
             → Gives {P = Value Self.shape × List ℕ} (λ x. (Self.plain x.0, x.1.now)) result
             (Ok (v, r)) }
-        // Which fault it is.
+        // The error is exact.
         ensures exact { Gives (λ x. (Self.plain x.0, x.1.now)) result
             (read_front Self.shape bytes.now) }
     {
         read_front(alloc, bytes)
     }
 
-    /// The value that octets under BER spell, all of the octets (X.690 8).
+    /// Decodes a value from all bytes, by BER (X.690 8).
     ///
-    /// Headers are read by BER, contents as under DER.
+    /// Headers are decoded by BER, and contents as under DER.
     ///
     /// # Errors
-    /// Those of `from_der`.
+    ///
+    /// - The errors of `from_der`.
     final fn from_ber(alloc: Global, bytes: &'a [u8]) -> Result<Self, Error>
         ensures { Gives (λ v. (Self.plain v, [])) result (whole_ber_at Self.shape bytes.now) }
     {

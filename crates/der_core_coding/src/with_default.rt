@@ -9,10 +9,10 @@ use der_core_values::core_octets::{Reader, Writer};
 use der_core_values::{AsRead, Choice, Decode, Encode, InRange, Shaped};
 use std::alloc::Global;
 
-/// A value that is absent where it is the default.
-#[derive(Debug, Drop)]
+/// A value that is absent if it is the default.
+#[derive(Debug, Drop, PartialEq, Eq, Hash)]
 pub struct WithDefault<T> {
-    /// The value, which isn't written where it is the default.
+    /// The value, which isn't encoded if it is the default.
     pub value: T,
 }
 
@@ -29,7 +29,7 @@ impl<T: DefaultValue> AsRead for WithDefault<T> {
 }
 
 impl<'a, R: Reader<'a>, T: Decode<'a, R> + Choice + DefaultValue> Decode<'a, R> for WithDefault<T> {
-    // Inlined, since a default that is absent is told by one octet.
+    // Inlined, since a default that is absent is reported by one byte.
     #[inline(always)]
     #[tactic(auto, unfolding(crate::specs::Opened::default_at))]
     fn decode(alloc: Global, reader: &mut R) -> Result<WithDefault<T>, Error> {
@@ -54,7 +54,7 @@ impl<'a, R: Reader<'a>, T: Decode<'a, R> + Choice + DefaultValue> Decode<'a, R> 
 }
 
 impl<T: Encode + DefaultValue> Encode for WithDefault<T> {
-    // Inlined, so that what is answered isn't moved.
+    // Inlined, so that the result isn't moved.
     #[inline(always)]
     #[tactic(auto, unfolding(crate::specs::Opened::default_len))]
     fn encoded_len(&self) -> Result<Length, Error> {
@@ -65,7 +65,7 @@ impl<T: Encode + DefaultValue> Encode for WithDefault<T> {
         }
     }
 
-    // Inlined, so that what is answered isn't moved.
+    // Inlined, so that the result isn't moved.
     #[inline(always)]
     #[tactic(auto, using(crate::proofs::Cited::none_added), unfolding(crate::specs::Opened::default_write, crate::specs::Opened::octets_of, crate::specs::Opened::unless))]
     fn encode<W: Writer>(&self, writer: &mut W) -> Result<(), Error> {

@@ -1,4 +1,5 @@
--- Headers under BER and bodies of indefinite length are read from their octets, and what is read has these octets (X.690 8.1.3.6, 8.1.5).
+-- Headers under BER and bodies of indefinite length are read from their bytes, and what is read has
+-- these bytes (X.690 8.1.3.6, 8.1.5).
 use Rattle.std.proofs.lemmas.Bool.Decides.{nat_tests}
 use Rattle.std.proofs.Common.{◌≡◌, ℕ, zero, suc, ◌+◌, ◌-◌, ◌<◌, ◌≤◌, Bool, true, cond, ltb, eqb, List, [], ◌∷◌, ◌++◌, length, take, drop, length-append, Option, Some, None, Result, Ok, Err, sym, refl, ap, subst, ◌∙◌, append_assoc, arith, ◌⊎◌, inl, inr, take-append-drop, append-nil, length-take, length-drop, drop_at, take_at, ◌&&◌}
 use Rattle.std.proofs.lemmas.Bool.{le-ltb, ltb-false, ne_eqb, eqb-true, and_parts, cases_eq}
@@ -56,7 +57,7 @@ tag-some t o (inr h) = rw h.1 (omega arith)
 
 -- Marks
 
--- the octets that tell a length, or that it is indefinite
+-- the bytes that tell a length, or that it is indefinite
 abbrev Tells : Bool → Option ℕ → List ℕ → Type 0
 Tells constructed None l = (constructed ≡ true) × (l ≡ 0x80 ∷ [])
 Tells constructed (Some n) l = IsLength n × (l ≡ length_octets n)
@@ -111,7 +112,7 @@ mark_sound w m r bytes e =
 
 -- Pieces
 
--- the octets of a piece
+-- the bytes of a piece
 abbrev Spells : Piece → List ℕ → Type 0
 Spells ending x = x ≡ 0 ∷ 0 ∷ []
 Spells opening x = (t : Tag) × (o : List ℕ) × SpellsTag t o × (is_constructed_at o ≡ true) × (x ≡ o ++ (0x80 ∷ []))
@@ -145,7 +146,7 @@ piece_again encoding x r (t, o, c, tag, fits, e) =
     ap piece_at regrouped ∙ piece-mark (o ++ (l ++ (c ++ r))) made (c ++ r) (mark_again made o l (c ++ r) tag (fits, refl))
     ∙ (rw (le-ltb (length (c ++ r)) (length c) enough, drop_at c r (length c) refl) refl)
 
--- behind a mark
+-- after a mark
 content_sound : (w : List ℕ) (t : Tag) (n : Option ℕ) (o l v : List ℕ) (p : Piece) (r : List ℕ) → SpellsTag t o → Tells (is_constructed_at o) n l → w ≡ o ++ (l ++ v)
     → content_at n v ≡ Ok (p, r) → (x : List ℕ) × Spells p x × (w ≡ x ++ r)
 content_sound w t None o l v p r tag tells octets e =
@@ -165,7 +166,7 @@ content_sound w t (Some k) o l v p r tag tells octets e =
         let parts : w ≡ x ++ s = octets ∙ (rw (form, e) (simp append_assoc)) in
         (x, (t, o, c, tag, fits, refl), parts)
 
--- what is read as a piece is its octets and what follows
+-- what is read as a piece is its bytes and what follows
 piece_sound : (w : List ℕ) (p : Piece) (r : List ℕ) → IsBytes w → piece_at w ≡ Ok (p, r) → (x : List ℕ) × Spells p x × (w ≡ x ++ r)
 unfolding piece_at
 piece_sound [] p r bytes e = absurd cc
@@ -199,7 +200,7 @@ piece_shorter w p r bytes e =
 
 -- Levels
 
--- the end of all levels, by the piece that stands at the front
+-- the end of all levels, by the piece that is at the prefix
 pub closed-step : (pieces levels room : ℕ) (w : List ℕ) → length w ≤ pieces
     → closed_at pieces (suc levels) room w ≡ (piece_at w >>= λ p. levels_after p.0 (suc levels) room >>= λ l. closed_at (pieces - 1) l.0 l.1 p.1)
 unfolding closed_at piece_at
@@ -217,7 +218,7 @@ then : (pieces levels room : ℕ) (w : List ℕ) (levels' room' : ℕ) (v : List
     → Reaches a.left levels' room' v levels'' room'' r → Reaches pieces levels room w levels'' room'' r
 then pieces levels room w levels' room' v levels'' room'' r a b = record { left = b.left; enough = b.enough; same = a.same ∙ b.same }
 
--- behind a piece
+-- after a piece
 past_piece : (p : Piece) (x r : List ℕ) (pieces levels room levels' room' : ℕ) → Spells p x → length (x ++ r) ≤ pieces → levels_after p (suc levels) room ≡ Ok (levels', room')
     → Reaches pieces (suc levels) room (x ++ r) levels' room' r
 past_piece p x r pieces levels room levels' room' h enough after = record {
@@ -277,7 +278,7 @@ body_read (suc k) c (items, all, e) =
 
 -- What is read is a body
 
--- octets that end so many levels, of which the innermost may open so many more
+-- bytes that end so many levels, of which the innermost may open so many more
 abbrev Ends : ℕ → ℕ → List ℕ → Type 0
 Ends zero room b = b ≡ []
 Ends (suc levels) room b = (c d : List ℕ) × IsIndefiniteBody (suc room) c × Ends levels (suc room) d × (b ≡ c ++ d)
@@ -290,7 +291,7 @@ item_before : (k : ℕ) (i c : List ℕ) → IsItem k i → IsIndefiniteBody (su
 unfolding IsIndefiniteBody
 item_before k i c item (items, all, e) = (i ∷ items, (item, all), ap (λ (u : List ℕ). i ++ u) e ∙ sym (append_assoc i (concat items) (0 ∷ 0 ∷ [])))
 
--- the header of a level before octets that end it
+-- the header of a level before bytes that end it
 opened_before : (levels room : ℕ) (t : Tag) (o b : List ℕ) → SpellsTag t o → is_constructed_at o ≡ true → Ends (suc (suc levels)) room b
     → Ends (suc levels) (suc room) ((o ++ (0x80 ∷ [])) ++ b)
 opened_before levels room t o b tag constructed (c, d, inner, (c', d', outer, ends, e'), e) =
@@ -353,7 +354,7 @@ body_len_sound w n bytes e =
     let told : (n ≡ length c) × Fits c = grind (arith, nat_tests, r.2) in
     (c, r.0, s.1.2, told.1, told.0, parts)
 
--- a body has the octets that end it
+-- a body has the bytes that end it
 pub body-ge : (k : ℕ) (b : List ℕ) → IsIndefiniteBody k b → 2 ≤ length b
 unfolding IsIndefiniteBody
 body-ge zero b h = absurd h
@@ -370,7 +371,7 @@ body_len-body w n bytes e =
     let front : take n w ≡ s.0 = ap (take n) s.5 ∙ take_at s.0 s.1 n (sym s.4) in
     subst (IsIndefiniteBody 64) (sym front) s.2
 
--- the octets behind a body don't matter
+-- the bytes after a body don't matter
 pub body_len_alone : (w : List ℕ) (n : ℕ) (more : List ℕ) → IsBytes w → body_len_at w ≡ Ok n → body_len_at (take n w ++ more) ≡ Ok n
 body_len_alone w n more bytes e =
     let s = body_len_sound w n bytes e in
@@ -379,7 +380,7 @@ body_len_alone w n more bytes e =
 
 -- Headers
 
--- the octets of a header under BER, and what follows, are read as that header
+-- the bytes of a header under BER, and what follows, are read as that header
 pub head_ber_again : (h : Head) (r w : List ℕ) → SpellsHead h r w → head_ber_at w ≡ Ok (h, r)
 unfolding head_ber_at
 head_ber_again h r w (o, l, tag, inl length, e) =
@@ -400,7 +401,7 @@ head_ber_more w h r e =
     let n = bind_ok (length_at t.0.0 t.0.1) (λ n. Ok (record { tag = t.0.0; len = n.0 }, n.1)) (h, r) t.2 in
     rw (tag_ber_more w t.0.0 t.0.1 t.1, length_ber_more (is_constructed_at w) t.0.0 t.0.1 n.0.0 n.0.1 n.1) n.2
 
--- what is read as a header under BER is its octets and what follows
+-- what is read as a header under BER is its bytes and what follows
 pub head_ber_sound : (w : List ℕ) (h : Head) (r : List ℕ) → IsBytes w → head_ber_at w ≡ Ok (h, r) → SpellsHead h r w
 unfolding head_ber_at
 head_ber_sound w h r bytes e =
@@ -418,7 +419,7 @@ head_ber_sound w h r bytes e =
     told None o l r n bytes tells e = let s = body_len_sound r n bytes e in inr (tells.0, tells.1, s.0, s.1, s.2, s.3, s.4, s.5)
     told (Some k) o l r n bytes tells e = let same = ok_is k n e in subst (λ n. SpellsLength o n l r) same (inl tells)
 
--- octets behind what a header counts don't matter
+-- bytes after what a header counts don't matter
 length-more : (o l r : List ℕ) (n : ℕ) (more : List ℕ) → SpellsLength o n l r → SpellsLength o n l (take n r ++ more)
 length-more o l r n more (inl definite) = inl definite
 length-more o l r n more (inr (constructed, form, b, rest, body, fits, number, e)) =

@@ -205,7 +205,8 @@ pub ruleset large_arcs = (narrow, below, new_holds_large)
 
 -- Shapes that differ in their bound of arcs alone: what is spelled and read under two bounds.
 
--- one shape for each bound, whose values and octets are those of a base; at concrete shapes `at` changes nothing
+-- one shape for each bound, whose values and bytes are those of a base; at concrete shapes `at`
+-- changes nothing
 pub record Family (base : Shape) (S : ℕ → Shape) : Type 0 where
   pub at : (b : ℕ) → Value base → Value (S b)
   pub judged : (b : ℕ) (v : Value base) → IsValid (S b) (at b v) ↔ IsValidUnder b base v
@@ -226,7 +227,8 @@ valid_narrow base S f small large v h k = (f.judged small v).1 (narrow small lar
 pub new_valid : (base : Shape) (S : ℕ → Shape) (f : Family base S) (small large : ℕ) (v : Value base) → IsValid (S large) (f.at large v) → (IsValid (S small) (f.at small v) → ⊥) → HoldsLarge small (identifiers_of base v)
 new_valid base S f small large v h n = new_holds_large small large base v ((f.judged large v).0 h) (λ k. n ((f.judged small v).1 k))
 
--- octets that spell a value under one bound spell it under a wider one, and under a narrower one where its arcs are below that
+-- bytes that encode a value under one bound spell it under a wider one, and under a narrower one
+-- where its arcs are below that
 pub spelled_wider : (base : Shape) (S : ℕ → Shape) (f : Family base S) (small large : ℕ) (v : Value base) (w : List ℕ) → small ≤ large → Spells (S small) (f.at small v) w → Spells (S large) (f.at large v) w
 spelled_wider base S f small large v w le h = record { valid = valid_wider base S f small large v le h.valid; octets = h.octets ∙ same_octets base S f small large v }
 
@@ -242,7 +244,7 @@ pub spelled_exactly : (base : Shape) (S : ℕ → Shape) (f : Family base S) (sm
 spelled_exactly base S f small large v w root le =
     (λ h. (spelled_wider base S f small large v w le h, below small root base v ((f.judged small v).0 h.valid)), λ p. spelled_narrow base S f small large v w p.0 p.1)
 
--- all of the octets
+-- all of the bytes
 
 whole_spelled : (s : Shape) (v : Value s) (w : List ℕ) → is_apart s ≡ true → IsOctets w → read_whole s w ≡ Ok (v, []) → Spells s v w
 whole_spelled s v w a o e = is_spelled s (λ v. v) w (Ok v) a (bytes_are w o) e
@@ -258,7 +260,7 @@ whole_new base S f small large v w e o read refused =
     new_spelled base S f small large v w (whole_spelled (S large) (f.at large v) w (f.apart large) o read)
     (λ h. absurd (cc (whole_again (S small) (f.at small v) w (f.apart small) (f.enough small) h, refused)))
 
--- at the front of octets
+-- at the beginning of bytes
 
 pub front_wider : (base : Shape) (S : ℕ → Shape) (f : Family base S) (small large : ℕ) (v : Value base) (w r : List ℕ) → small ≤ large → IsOctets w → Fits w
     → read (S small) 64 w ≡ Ok (f.at small v, r) → read (S large) 64 w ≡ Ok (f.at large v, r)

@@ -44,14 +44,14 @@ pub tlv_first : (t : Tag) (c : List ℕ) → (w : List ℕ) × (tlv t c ≡ tag_
 unfolding tlv head_octets
 tlv_first t c = (length_octets (length c) ++ c, append_assoc (tag_octets t) (length_octets (length c)) c)
 
--- the octets of a tag stand in front
+-- the bytes of a tag are in front
 abbrev pub StandsFirst : (Tag → Bool) → List ℕ → Type 0
 StandsFirst first b = (t : Tag) × (w : List ℕ) × (b ≡ tag_octets t ++ w) × IsTag t × (first t ≡ true)
 
 abbrev pub BeginsShape : Shape → List ℕ → Type 0
 BeginsShape s b = StandsFirst (begins s) b
 
--- as they do where more octets follow
+-- as they do where more bytes follow
 pub first_more : (first : Tag → Bool) (b r : List ℕ) → StandsFirst first b → StandsFirst first (b ++ r)
 first_more first b r f = (f.0, f.1 ++ r, ap (λ (x : List ℕ). x ++ r) f.2 ∙ append_assoc (tag_octets f.0) f.1 r, f.3, f.4)
 
@@ -67,14 +67,14 @@ element_first (either a b) (inr v) e h =
     (f.0, f.1, f.2, f.3, or_right (begins a f.0) (begins b f.0) f.4)
 element_first _ v e h = absurd (false≢true e)
 
--- an element takes an octet
+-- an element takes a byte
 pub element_some : (s : Shape) (v : Value s) → is_element s ≡ true → IsValid s v → (b : ℕ) × (w : List ℕ) × (octets_of s v ≡ b ∷ w)
 element_some s v e h =
     let f = element_first s v e h in
     let t = tag_octets-some f.0 in
     (t.0, t.1 ++ f.1, f.2 ∙ ap (λ (x : List ℕ). x ++ f.1) t.2)
 
--- a field's octets are none, or begin as its shape may
+-- a field's bytes are none, or begin as its shape may
 pub field_first : (s : Shape) (v : Value s) → is_apart s ≡ true → IsValid s v → ((octets_of s v ≡ []) × (is_element s ≡ false)) ⊎ BeginsShape s (octets_of s v)
 unfolding octets_of IsValid unless
 field_first (tagged t c) v a h = inr (element_first (tagged t c) v refl h)
@@ -123,7 +123,7 @@ peek_again t r h =
     let e : tag_at (f.0 ∷ (f.1 ++ r)) ≡ Ok (t, r) = ap tag_at (sym is) ∙ tag_again t r h in
     ap (peek_at encodings.Der) is ∙ rw e refl
 
--- octets that may follow: none, or those of a tag that isn't one of these
+-- bytes that may follow: none, or those of a tag that isn't one of these
 abbrev pub StopsBefore : (Tag → Bool) → List ℕ → Type 0
 StopsBefore first r = (t : Option Tag) × (peek_at encodings.Der r ≡ Ok t) × (chosen first t ≡ None)
 
@@ -197,7 +197,7 @@ right_again : {P Q : Type 0} (a b : Tag → Bool) (F : Readings P) (G : Readings
 unfolding either_at
 right_again a b F G w x r f n e = rw (ap tag_at f.2 ∙ tag_again f.0 f.1 f.3, n, f.4, e) refl
 
--- what a reader of values owes: a valid value is read from its octets, whatever follows
+-- what a reader of values owes: a valid value is read from its bytes, whatever follows
 abbrev ReadsAgain : {P : Type 0} → Readings P → (P → Type 0) → (P → List ℕ) → Type 0
 ReadsAgain {P} F V o = (x : P) (t : List ℕ) → V x → F (o x ++ t) ≡ Ok (x, t)
 
@@ -217,7 +217,7 @@ many_again e F V o each some (x ∷ xs) (suc n) l h =
     let first : F (f.0 ∷ (f.1 ++ rest)) ≡ Ok (x, rest) = ap F (sym is) ∙ each x rest h.0 in
     ap (read_many e F (suc n)) is ∙ rw (first, more) refl
 
--- values that take octets are no more than these
+-- values that take bytes are no more than these
 no_more : {P : Type 0} (V : P → Type 0) (o : P → List ℕ) → TakesSome V o → (xs : List P) → AllByRecursion V xs → length xs ≤ length (flat_map o xs)
 no_more V o some [] h = omega arith
 no_more V o some (x ∷ xs) h =
@@ -372,7 +372,7 @@ either_more a b F H G K h k w x e = then_more (tag_at w) _ _ x (λ t. both (a t.
     both false true e = before_more (G w) (K w) (λ x. Ok (inr x.0, x.1)) x (k w) e
     both false false e = e
 
--- a value, and the values behind it
+-- a value, and the values after it
 front_more : {P Q : Type 0} (F G : Readings P) (K L : P → Readings Q) → Extends F G → ((x : P) → Extends (K x) (L x)) → Extends (λ w. F w >>= λ x. K x.0 x.1) (λ w. G w >>= λ x. L x.0 x.1)
 front_more F G K L h k w z e =
     let x = bind_ok (F w) (λ x. K x.0 x.1) z e in

@@ -21,7 +21,8 @@ use Rattle.der_core_head.specs.declared.error.Error.{Error}
 use Rattle.der_core_head.specs.declared.error.ErrorKind.{ErrorKind}
 use Rattle.der_core_head.specs.Fronts.{ReadsFront}
 
--- The forms of a length, by its size (X.690 8.1.3.4, 8.1.3.5, 10.1), and what is read from octets in such a form.
+-- The forms of a length, by its size (X.690 8.1.3.4, 8.1.3.5, 10.1), and what is read from bytes in
+-- such a form.
 
 -- The digits of a length
 
@@ -39,7 +40,7 @@ digits-4 n l h =
     let next : n / 256 / 256 ≡ n / 65536 = omega arith in
     rw (digits-more 256 n (omega arith) (omega arith), digits-3 (n / 256) (omega arith) (omega arith), high, next) refl
 
--- The octets of a length
+-- The bytes of a length
 
 pub length-short : (n : ℕ) → n < 128 → length_octets n ≡ n ∷ []
 unfolding length_octets
@@ -98,7 +99,7 @@ length_octets-from_digits ds all l h =
 no_leading_zero : (n : ℕ) (ds : List ℕ) → 2 ≤ length ds → get_or ds 0 0 ≡ 0 → length_octets n ≡ (128 + length ds) ∷ ds → ⊥
 no_leading_zero n ds l z e = grind (arith, length-short n, length-long n (digits 256 n), first_of_digits-pos 256 n)
 
--- a length below 128, and the first octets that begin no length
+-- a length below 128, and the first bytes that begin no length
 pub length_at-short : (t : Tag) (n : ℕ) (w : List ℕ) → n < 128 → length_at t (n ∷ w) ≡ Ok (n, w)
 unfolding length_at
 length_at-short t n w l = rw (lt-ltb n 128 l) refl
@@ -154,12 +155,12 @@ pub length_at-4 : (t : Tag) (a b c d : ℕ) (w : List ℕ) → a < 256 → b < 2
 length_at-4 t a b c d w p q r s =
     length_at-more t a (b ∷ c ∷ d ∷ []) w _ (p, (q, (r, (s, tt)))) (omega arith) (omega arith) (omega arith)
 
--- A length and a header are read from their octets, what is read has these octets, and no encoding begins another
--- (X.690 8.1.3, 10.1).
+-- A length and a header are read from their bytes, what is read has these bytes, and no encoding
+-- begins another (X.690 8.1.3, 10.1).
 
 -- Lengths
 
--- the octets of a length, and what follows, are read as that length
+-- the bytes of a length, and what follows, are read as that length
 pub length_again : (t : Tag) (n : ℕ) (r : List ℕ) → IsLength n → length_at t (length_octets n ++ r) ≡ Ok (n, r)
 unfolding length_at
 length_again t n r h = elim (cases_lt n 128) [ inl l ↦ rw (length-short n l, lt-ltb n 128 l) refl | inr l ↦ long l ]
@@ -190,7 +191,7 @@ shortest_sound t first ds w n r all l e =
     subst (λ (q : ℕ × List ℕ). (first ∷ (ds ++ w) ≡ length_octets q.0 ++ q.1) × IsLength q.0) (ok_is (number, w) (n, r) h.1)
     (ap (λ (o : List ℕ). o ++ w) (sym form), from_digits-lt ds all l)
 
--- what is read as a length is its octets and what follows
+-- what is read as a length is its bytes and what follows
 pub length_sound : (t : Tag) (w : List ℕ) (n : ℕ) (r : List ℕ) → IsBytes w → length_at t w ≡ Ok (n, r) → (w ≡ length_octets n ++ r) × IsLength n
 unfolding length_at
 length_sound t [] n r bytes e = absurd cc
@@ -211,12 +212,12 @@ length_sound t (m ∷ w) n r bytes e =
 
 -- Headers
 
--- the octets of a header, and what follows, are read as that header
+-- the bytes of a header, and what follows, are read as that header
 pub head_again : (t : Tag) (n : ℕ) (r : List ℕ) → IsTag t → IsLength n → head_at (head_octets t n ++ r) ≡ Ok (record { tag = t; len = n }, r)
 unfolding head_at head_octets
 head_again t n r tag fits = rw (append_assoc (tag_octets t) (length_octets n) r, tag_again t (length_octets n ++ r) tag, length_again t n r fits) refl
 
--- what is read as a header is its octets and what follows
+-- what is read as a header is its bytes and what follows
 pub head_sound : (w : List ℕ) (h : Head) (r : List ℕ) → IsBytes w → head_at w ≡ Ok (h, r)
     → (w ≡ head_octets h.tag h.len ++ r) × IsTag h.tag × IsLength h.len
 unfolding head_at head_octets
@@ -231,7 +232,7 @@ head_sound w h r bytes e =
     subst (λ (q : Head × List ℕ). (w ≡ (tag_octets q.0.tag ++ length_octets q.0.len) ++ q.1) × IsTag q.0.tag × IsLength q.0.len)
     (ok_is made (h, r) n.2) (octets, a.1, b.1)
 
--- Octets are below 256
+-- Bytes are below 256
 
 pub below-append : (a b : List ℕ) → IsOctets a → IsOctets b → IsOctets (a ++ b)
 below-append [] b p q = q
@@ -249,7 +250,7 @@ head_octets-below t n tag fits = below-append (tag_octets t) (length_octets n) (
 
 -- Encodings
 
--- two encodings with what follows them are equal only where tags, contents and what follows are
+-- two encodings with what follows them are equal only if tags, contents and what follows are
 pub split-tlv : (a b : Tag) (c d r s : List ℕ) → IsTag a → IsTag b → Fits c → Fits d
     → tlv a c ++ r ≡ tlv b d ++ s → (a ≡ b) × (c ≡ d) × (r ≡ s)
 unfolding tlv
@@ -262,7 +263,7 @@ split-tlv a b c d r s p q i j e =
     let contents = split-same_length c d r s lengths (ap (λ (x : Head × List ℕ). x.1) heads) in
     (tags, contents.0, contents.1)
 
--- Octets that a length can count.
+-- Bytes that a length can count.
 
 -- a part of what fits fits
 pub fits_front : (u r w : List ℕ) → w ≡ u ++ r → Fits w → Fits u
@@ -287,7 +288,7 @@ valid_fits (optional s) (Some v) h = valid_fits s v h
 valid_fits nothing v h = omega arith
 valid_fits (defaulted s d) v h = grind (arith, nat_tests, valid_fits s v h)
 
--- Tags at the front of octets, as the grammar spells them.
+-- Tags at the beginning of bytes, as the grammar spells them.
 
 -- what reading gives there is what was counted
 pub front_so : {X P : Type 0} (view : X → P) (w : List ℕ) (r : Result (X × ℕ) Error) (f : Readings P) (x : Result (P × List ℕ) ErrorKind) → f w ≡ x → ReadsFront view w r f → ReadsFront view w r (λ _. x)

@@ -39,7 +39,7 @@ is_redundant-complement (a ∷ b ∷ w) h e = grind (arith, nat_tests)
 
 -- The contents of a number that is not negative
 
--- no octet could be left out, and the first bit is zero
+-- no byte could be left out, and the first bit is zero
 pub record IsPositive (n : ℕ) (w : List ℕ) : Type 0 where
   pub below : IsOctets w
   pub number : number_from_digits 256 w ≡ n
@@ -214,7 +214,7 @@ integer_again r t z h =
 
 -- The contents of a set of named bits are of one set, and are read as it.
 
--- Turned octets
+-- Turned bytes
 
 turned-turned : (o : ℕ) → o < 256 → reverse_bits w8 (reverse_bits w8 o) ≡ o
 unfolding reverse_bits_onto
@@ -270,7 +270,7 @@ last-below [] h = omega arith
 last-below (o ∷ []) h = h.0
 last-below (o ∷ p ∷ w) h = last-below (p ∷ w) h.1
 
--- A set and its octets
+-- A set and its bytes
 
 pub set_octets-zero : set_octets 0 ≡ []
 unfolding set_octets
@@ -302,7 +302,7 @@ spelled_set-octets n = by (cases_eq n 0)
         ∙ ap (number_from_digits 256) (reverse-reverse (digits 256 n))
         ∙ (digits-Digits 256 n (omega arith)).number
 
--- the names from the eighth on are those of the octets after the first
+-- the names from the eighth on are those of the bytes after the first
 pub set_octets-step : (n : ℕ) → 0 < n → set_octets n ≡ reverse_bits w8 (n % 256) ∷ set_octets (n / 256)
 set_octets-step n some = set_octets-pos n some ∙ by (cases_lt n 256)
   where
@@ -332,7 +332,7 @@ last-set_octets n some =
     let turned_large = turned-pos (last_octet (reverse ds)) below (omega arith) in
     rw e turned_large
 
--- octets whose last is not zero are those of their set
+-- bytes whose last is not zero are those of their set
 set_octets-of : (w : List ℕ) → IsOctets w → 0 < last_octet w → set_octets (spelled_set w) ≡ w
 set_octets-of w h some =
     let ds = reverse (turned w) in

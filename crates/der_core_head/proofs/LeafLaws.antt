@@ -33,7 +33,7 @@ bits_again : (t : Tag) (v : Bits) → IsBits v → bits_read t (bit_contents v) 
 unfolding bits_read
 bits_again t v h = cond-true (are_bits v.unused v.octets) (fine v) (Err (kinds.Value t)) h.unused
 
--- a number of unused bits, and octets
+-- a number of unused bits, and bytes
 bit_contents-below : (v : Bits) → IsBits v → IsOctets (bit_contents v)
 bit_contents-below v h = (small v.unused v.octets h.unused, h.octets)
   where
@@ -106,9 +106,10 @@ leaf_below utf8 v h = h.octets
 leaf_below bmp v h = bmp_below v h
 leaf_below (named n) v h = named_below v
 
--- What was read is read before any further octets, and a fault stays the fault, unless octets ran out (X.690 8.1.2, 8.1.3).
+-- What was read is read before any further bytes, and an error stays the error, unless bytes ran
+-- out (X.690 8.1.2, 8.1.3).
 
--- the second is what the first is before more octets
+-- the second is what the first is before more bytes
 abbrev pub Stays : {P : Type 0} → List ℕ → Result (P × List ℕ) ErrorKind → Result (P × List ℕ) ErrorKind → Type 0
 Stays more (Ok x) s = s ≡ Ok (x.0, x.1 ++ more)
 Stays more (Err k) s = k ≢ kinds.Incomplete → s ≡ Err k
@@ -153,7 +154,7 @@ shortest_stays more t n ds w =
     let number = number_from_digits 256 ds in
     if_stays more (bytes_eq (length_octets number) (n ∷ ds)) (Ok (number, w)) (Ok (number, w ++ more)) (Err (kinds.Length t)) (Err (kinds.Length t)) refl (λ other. refl)
 
--- where so many octets stand
+-- where that many bytes stand
 abbrev cut : Tag → ℕ → ℕ → List ℕ → Result (ℕ × List ℕ) ErrorKind
 cut t n k w = cond (ltb (length w) k) (Err kinds.Incomplete) (shortest t n (take k w) (drop k w))
 
@@ -178,7 +179,7 @@ pub head_stays : (more w : List ℕ) → Stays more (head_at w) (head_at (w ++ m
 unfolding head_at
 head_stays more w = bind_stays more (tag_at w) _ _ (tag_stays more w) (λ t r. bind_stays more (length_at t r) _ _ (length_stays more t r) (λ n z. refl))
 
--- by what was read, and by the fault
+-- by what was read, and by the error
 
 pub read_stays : (h : Head) (r w more : List ℕ) → head_at w ≡ Ok (h, r) → head_at (w ++ more) ≡ Ok (h, r ++ more)
 read_stays h r w more e = rw e at (head_stays more w)

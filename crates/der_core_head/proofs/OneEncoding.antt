@@ -1,4 +1,4 @@
--- What is read is spelled, in octets, and no two values share an encoding.
+-- What is read is spelled, in bytes, and no two values share an encoding.
 use Rattle.std.proofs.Common.{arith, ◌≡◌, ℕ, Bool, true, false, List, [], ◌∷◌, ◌++◌, Some, None, refl, sym, ap, subst, ◌∙◌, inl, inr, bytes_eq, zero, suc, ◌≤◌, cond, ltb, length, take, drop, take_at, Option, Result, Ok, Err, append_assoc, ◌⊎◌, append-nil, take-append-drop, length-take, le-ltb, IfOk}
 use mathlib.Core.Bool.{◌&&◌}
 use Rattle.std.proofs.lemmas.Bool.Decides.{nat_tests}
@@ -30,7 +30,7 @@ use Rattle.der_core_head.proofs.Written.{valid_goes}
 
 -- No encoding begins another, and no two values have one encoding, however many levels a value has.
 
--- octets of one of the first tags don't stand where none of these may
+-- bytes of one of the first tags don't stand where none of these may
 none_stands : (first : Tag → Bool) (b : List ℕ) → StandsFirst first b → StopsBefore first b → ⊥
 none_stands first b f h =
     let t : Some f.0 ≡ h.0 = ok_is (Some f.0) h.0 (sym (peek_again f.0 f.1 f.3) ∙ ap (peek_at encodings.Der) (sym f.2) ∙ h.1) in
@@ -47,7 +47,7 @@ none_both a first b n f g =
 abbrev AreOne : {P : Type 0} → P → P → List ℕ → List ℕ → Type 0
 AreOne v w r t = (v ≡ w) × (r ≡ t)
 
--- each value takes an octet, so two lists end together
+-- each value takes a byte, so two lists end together
 one_list : (s : Shape) → (is_element s && is_apart s) ≡ true
     → ((v w : Value s) (r t : List ℕ) → IsValid s v → IsValid s w → Stops s r → Stops s t → octets_of s v ++ r ≡ octets_of s w ++ t → AreOne v w r t)
     → (v w : List (Value s)) → AllByRecursion (IsValid s) v → AllByRecursion (IsValid s) w → flat_map (octets_of s) v ≡ flat_map (octets_of s) w → v ≡ w
@@ -154,7 +154,7 @@ pub value_sound : {P : Type 0} (F : Readings P) (n : ℕ) (w : List ℕ) (p : P)
 unfolding value_at
 value_sound {P} F n w p r e = (grind (arith, nat_tests), grind (arith, nat_tests), grind (arith, nat_tests))
 
--- a header, and as many octets as it says, are an encoding
+-- a header, and as many bytes as it says, are an encoding
 tlv_is : (t : Tag) (n : ℕ) (c r rest w : List ℕ) → w ≡ head_octets t n ++ rest → length c ≡ n → rest ≡ c ++ r → w ≡ tlv t c ++ r
 unfolding tlv
 tlv_is t n c r rest w e l s = joined (head_octets t (length c)) c r rest w (e ∙ ap (λ k. head_octets t k ++ rest) (sym l)) s
@@ -238,7 +238,7 @@ leaf_at_ok : {P : Type 0} (o : Result P ErrorKind) (v : P) (r : List ℕ) → le
 leaf_at_ok {P} (Ok x) v r e = let same = ok_is (x, []) (v, r) e in (ap (λ (q : P × List ℕ). Ok q.0) same, sym (ap (λ (q : P × List ℕ). q.1) same))
 leaf_at_ok (Err d) v r e = absurd cc
 
--- what a reader of values may answer: a valid value, whose octets the input begins with
+-- what a reader of values may answer: a valid value, whose bytes the input begins with
 abbrev pub Found : {P : Type 0} → (P → Type 0) → (P → List ℕ) → List ℕ → P → List ℕ → Type 0
 Found V o w v r = V v × (w ≡ o v ++ r)
 
@@ -277,7 +277,7 @@ exactly_sound {P} F V o each (suc n) w v r bytes fits e =
     subst (λ (q : List P × List ℕ). Found (λ v. AllByRecursion V v × (length v ≡ suc n)) (flat_map o) w q.0 q.1) {x = (x.0.0 ∷ y.0.0, y.0.1)} same
     (((u.0, m.0.0), ap suc m.0.1), joined (o x.0.0) (flat_map o y.0.0) y.0.1 x.0.1 w u.1 m.1)
 
--- values are in order, the first behind the octets before
+-- values are in order, the first after the bytes before
 abbrev pub OrderedFrom : {P : Type 0} → Step → (P → List ℕ) → Option (List ℕ) → List P → Type 0
 OrderedFrom how o last [] = ⊤
 OrderedFrom how o None (x ∷ xs) = AllInOrder how o (x ∷ xs)
@@ -371,7 +371,7 @@ mutual
       let h = ordered_sound how (read s room) (IsValid s) (octets_of s) (λ w v r bytes fits e. sound s room w v r (and_parts (is_element s) _ a).1 bytes fits e) None (length w) w v r bytes fits e in
       ((h.0.0, from_none how (octets_of s) v h.0.1), h.1)
 
--- All octets, as their spelling.
+-- All bytes, as their spelling.
 
 pub is_spelled : {T : Type 0} (s : Shape) (plain : T → Value s) (w : List ℕ) (r : Result T Error) → is_apart s ≡ true → IsBytes w → Gives (λ v. (plain v, [])) r (read_whole s w) → IfOk r (λ v. Spells s (plain v) w)
 unfolding read_whole
@@ -394,7 +394,7 @@ is_read s plain p w (Ok v) a n h e =
     ap (λ (q : Value s × List ℕ). Ok q.0) same
 is_read s plain p w (Err d) a n h e = λ memory. absurd (cc (whole_again s p w a n h, e memory))
 
--- The octets of a valid value are octets.
+-- The bytes of a valid value are bytes.
 
 -- the other way to say it
 pub bytes_are : (w : List ℕ) → IsOctets w → IsBytes w

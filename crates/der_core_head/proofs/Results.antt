@@ -1,4 +1,4 @@
--- Cases of results, octets, orders and readings of so many octets.
+-- Cases of results, bytes, orders and readings of that many bytes.
 use Rattle.std.proofs.Common.{◌≡◌, ◌≢◌, ℕ, Bool, true, false, cond, List, [], ◌∷◌, Result, Ok, Err, refl, ◌⊎◌, inl, inr, IfErr, ◌+◌, ◌<◌, ◌++◌, length, get_or, take, drop, ap, subst, ◌∙◌, arith, ◌≤◌, le-ltb, lt-ltb, map, IsPermutation}
 use Rattle.der_core_head.specs.declared.error.Error.{Error}
 use Rattle.der_core_head.specs.declared.error.ErrorKind.{ErrorKind}
@@ -41,18 +41,18 @@ pub whole_ok : {P : Type 0} (x y : P × List ℕ) → whole x ≡ Ok y → (x �
 whole_ok (p, []) y e = (ok_is (p, []) y e, refl)
 whole_ok (p, b ∷ w) y e = absurd cc
 
--- a fault of a call that can only want memory
+-- an error of a call that can only want memory
 pub only_memory : {A : Type 0} (k : ErrorKind) (x : A) (r : Result A ErrorKind) → r ≡ Ok x → (k ≢ kinds.OutOfMemory → r ≡ Err k) → k ≡ kinds.OutOfMemory
 only_memory kinds.OutOfMemory x r e h = refl
 only_memory _ x r e h = absurd (cc (e, h (λ q. absurd cc)))
 
--- what would give a value is refused for want of memory alone
+-- what would give a value is rejected for out of memory alone
 pub memory_alone : {X P : Type 0} (view : X → P) (given : P → Type 0) (r : Result X Error) → ((v : P) → given v → Gives view r (Ok v))
     → IfErr r (λ e. e.kind ≢ kinds.OutOfMemory → (v : P) → given v → ⊥)
 memory_alone view given (Ok x) h = tt
 memory_alone view given (Err e) h = λ n v s. let wrong = h v s n in absurd cc
 
--- Lists of octets, and their parts.
+-- Lists of bytes, and their parts.
 
 abbrev pub IsBytes : List ℕ → Type 0
 IsBytes w = (i : ℕ) → get_or w i 0 < 256
@@ -74,7 +74,7 @@ pub octets_are : (w : List ℕ) → IsBytes w → IsOctets w
 octets_are [] h = tt
 octets_are (b ∷ w) h = (h 0, octets_are w (bytes_tail b w h))
 
--- Octets in order, and what tells that they are.
+-- Bytes in order, and what tells that they are.
 
 pub follows_ok : (how : Step) (a b : List ℕ) → Follows how a b → follows how a b ≡ Ok tt
 follows_ok above a b h = rw h refl
@@ -85,7 +85,7 @@ pub ok_follows : (how : Step) (a b : List ℕ) (y : Unit {0}) → follows how a 
 ok_follows above a b y e = grind arith
 ok_follows not_below a b y e = grind arith
 
--- Reading of so many octets, by cases of how many are there.
+-- Reading of that many bytes, by cases of how many are there.
 
 pub slice_short : (n : ℕ) (w : List ℕ) → length w < n → slice_at n w ≡ Err kinds.Incomplete
 unfolding slice_at
@@ -103,7 +103,7 @@ pub value_enough : {P : Type 0} (f : Readings P) (n : ℕ) (w : List ℕ) → n 
 unfolding value_at
 value_enough f n w h = rw (le-ltb (length w) n h) refl
 
--- want of memory, or what follows where there was enough
+-- out of memory, or what follows where there was enough
 pub or_memory : {X : Type 0} (kind : ErrorKind) → (kind ≢ kinds.OutOfMemory → X) → (kind ≡ kinds.OutOfMemory) ⊎ X
 or_memory kinds.OutOfMemory h = inl refl
 or_memory _ h = inr (h (λ q. absurd cc))

@@ -1,4 +1,4 @@
--- Tags: their octets, their numbers, when two are one.
+-- Tags: their bytes, their numbers, when two are one.
 use Rattle.std.proofs.lemmas.Bool.Decides.{nat_tests}
 use Rattle.std.proofs.Common.{◌≡◌, ℕ, ◌+◌, ◌*◌, ◌/◌, ◌%◌, ◌<◌, ◌≤◌, Bool, true, false, cond, ltb, eqb, List, [], ◌∷◌, ◌++◌, length, get_or, Option, Some, None, Ok, sym, refl, ap, subst, ◌∙◌, arith, ◌⊎◌, inl, inr, find, drop, Err, ◌≢◌}
 use Rattle.std.proofs.lemmas.Bool.{cases_lt, cases_eq, lt-ltb, le-ltb, eq-eqb, ne_eqb, eqb-true, and_parts, and_from}
@@ -14,9 +14,9 @@ use Rattle.der_core_head.proofs.Results.{fine, ok_is, bind_ok, IsBytes, bytes_ta
 use Rattle.std.proofs.lemmas.List.{drop_all, drop_more}
 use Rattle.der_core_head.specs.declared.error.ErrorKind.TheVariants as kinds
 
--- A tag is read from its octets, and what is read has these octets (X.690 8.1.2).
+-- A tag is read from its bytes, and what is read has these bytes (X.690 8.1.2).
 
--- The parts of a leading octet
+-- The parts of a leading byte
 
 low-lt : (n : ℕ) → low_bits n < 32
 low-lt n = grind (arith, nat_tests)
@@ -31,7 +31,7 @@ leading-Parts : (class : ℕ) (c : Bool) (low : ℕ) → low < 32 → Parts clas
 leading-Parts class true low l = record { class = omega arith; constructed = eq-eqb _ 1 (omega arith); low = omega arith }
 leading-Parts class false low l = record { class = omega arith; constructed = ne_eqb _ 1 (λ e. omega arith); low = omega arith }
 
--- the octet of these parts
+-- the byte of these parts
 leading-from_parts : (octet : ℕ) → leading (octet / 64) (eqb ((octet / 32) % 2) 1) (octet % 32) ≡ octet
 leading-from_parts octet = grind (arith, nat_tests)
 
@@ -43,7 +43,7 @@ leading-class_tag class c n p q = grind (arith, nat_tests)
 number-class_tag : (class : ℕ) (c : Bool) (n : ℕ) → number_of (class_tag class c n) ≡ n
 number-class_tag class c n = grind (arith, nat_tests)
 
--- Numbers that take octets of their own
+-- Numbers that take bytes of their own
 
 -- digits, marked, are read after those of m
 digits_again : (m : ℕ) (ds r : List ℕ) → AllBelowBase 128 ds → 0 < length ds → number_from_digits_after 128 m ds < 4294967296
@@ -129,7 +129,7 @@ number_sound (d ∷ w) n r bytes e =
 
 -- Tags
 
--- a tag of another class than the universal one, with its number in the octet or behind it
+-- a tag of another class than the universal one, with its number in the byte or after it
 tag_at-low : (octet class : ℕ) (c : Bool) (n : ℕ) (w : List ℕ) → Parts class c n octet → 64 ≤ octet → n < 31
     → tag_at (octet ∷ w) ≡ Ok (class_tag class c n, w)
 unfolding tag_at
@@ -153,7 +153,7 @@ class_again class c n r some fits =
       | inr l ↦ rw (le-ltb n 31 l) (tag_at-high _ class c n _ r (leading-Parts class c 31 (omega arith)) (leading-ge class c 31 some) (number_again n r l fits))
     ]
 
--- the octets of a tag, and what follows, are read as that tag
+-- the bytes of a tag, and what follows, are read as that tag
 pub tag_again : (t : Tag) (r : List ℕ) → IsTag t → tag_at (tag_octets t ++ r) ≡ Ok (t, r)
 unfolding tag_octets tag_at universal_tag
 tag_again (tags.Application c number) r h = class_again 1 c number.value r (omega arith) h
@@ -161,7 +161,7 @@ tag_again (tags.ContextSpecific c number) r h = class_again 2 c number.value r (
 tag_again (tags.Private c number) r h = class_again 3 c number.value r (omega arith) h
 tag_again t r h = refl
 
--- a tag below 64 is universal, and its octet is all
+-- a tag below 64 is universal, and its byte is all
 below_universal : (t : Tag) → leading_octet t < 64 → (tag_octets t ≡ leading_octet t ∷ []) × IsTag t
 unfolding tag_octets
 below_universal (tags.Application c number) l = absurd (omega (arith, leading-ge 1 c (low_bits number.value)))
@@ -174,7 +174,7 @@ find_passes : {X : Type 0} (p : X → Bool) (xs : List X) (x : X) → find p xs 
 find_passes p [] x e = absurd cc
 find_passes p (y ∷ xs) x e = grind (arith, nat_tests, find_passes p xs x)
 
--- the tag found for an octet has that octet alone
+-- the tag found for a byte has that byte alone
 universal_sound : (octet : ℕ) (t : Tag) → octet < 64 → universal_tag octet ≡ Some t → (tag_octets t ≡ octet ∷ []) × IsTag t
 unfolding universal_tag
 universal_sound octet t l e =
@@ -182,7 +182,7 @@ universal_sound octet t l e =
     let universal = below_universal t (omega arith) in
     (universal.0 ∙ ap (λ x. x ∷ []) same, universal.1)
 
--- a tag made of an octet and a number has that octet, and the octets of the number
+-- a tag made of a byte and a number has that byte, and the bytes of the number
 class_sound : (octet n : ℕ) (w r : List ℕ) (t : Tag) → 64 ≤ octet → octet < 256 → n < 4294967296 → low_bits n ≡ octet % 32 → w ≡ number_octets n ++ r
     → class_tag (octet / 64) (eqb ((octet / 32) % 2) 1) n ≡ t → (octet ∷ w ≡ tag_octets t ++ r) × IsTag t
 unfolding tag_octets
@@ -196,7 +196,7 @@ class_sound octet n w r t large small fits low e same =
     let number : number_of (class_tag class c n) < 4294967296 = rw (number-class_tag class c n) fits in
     subst (λ t. (octet ∷ w ≡ tag_octets t ++ r) × IsTag t) same (octets, number)
 
--- what is read as a tag is its octets and what follows
+-- what is read as a tag is its bytes and what follows
 pub tag_sound : (w : List ℕ) (t : Tag) (r : List ℕ) → IsBytes w → tag_at w ≡ Ok (t, r) → (w ≡ tag_octets t ++ r) × IsTag t
 unfolding tag_at
 tag_sound [] t r bytes e = absurd cc
@@ -239,12 +239,12 @@ tag_sound (octet ∷ w) t r bytes e =
         let rest : w ≡ r = ap (λ (q : Tag × List ℕ). q.1) same in
         class_sound octet (octet % 32) w r t large small (omega arith) (rw room refl) (rw room rest) (ap (λ (q : Tag × List ℕ). q.0) same)
 
--- Tags with the same octets
+-- Tags with the same bytes
 
 pub same_tag-refl : (t : Tag) → same_tag t t ≡ true
 same_tag-refl t = and_from _ _ (eq-eqb (leading_octet t) (leading_octet t) refl) (eq-eqb (number_of t) (number_of t) refl)
 
--- the tag with that leading octet and number
+-- the tag with that leading byte and number
 tag_of : ℕ → ℕ → Option Tag
 tag_of octet n = cond (ltb octet 64) (universal_tag octet) (Some (class_tag (octet / 64) (eqb ((octet / 32) % 2) 1) n))
 
@@ -269,7 +269,7 @@ same_tags a b e =
     let same : Some a ≡ Some b = sym (tag_of-same a) ∙ ap (λ o. tag_of o (number_of a)) octet ∙ ap (tag_of (leading_octet b)) number ∙ tag_of-same b in
     cc
 
--- The octets of a tag
+-- The bytes of a tag
 
 pub tag_octets-some : (t : Tag) → (b : ℕ) × (w : List ℕ) × (tag_octets t ≡ b ∷ w)
 unfolding tag_octets
@@ -347,7 +347,7 @@ tag-5 t l h = long t _ (omega arith) (digits-5 (number_of t) l h)
 
 pub ruleset tag_forms = (tag-0, tag-1, tag-2, tag-3, tag-4, tag-5)
 
--- The number of a tag, octet by octet.
+-- The number of a tag, byte by byte.
 
 abbrev next : ℕ → ℕ → ℕ
 next n d = 128 * n + d % 128
@@ -372,7 +372,7 @@ number-none n i w h = rw (drop_all i w h) refl
 
 pub ruleset digit_steps = (number-past, number-more, number-last, number-none)
 
--- Tags with the same octets are the same tag.
+-- Tags with the same bytes are the same tag.
 
 pub other : (a b : Tag) → same_tag a b ≡ false → a ≢ b
 other a b differ e = absurd (grind (arith, same_tag-refl a))

@@ -37,7 +37,7 @@ pub utf8_again : (v : List ℕ) → IsUtf8Text v → utf8_read v ≡ Ok v
 unfolding utf8_read
 utf8_again v h = cond-true (is_utf8 v) (fine v) (Err kinds.Utf8) h.utf8
 
--- Texts of printable or ASCII octets are UTF-8
+-- Texts of printable or ASCII bytes are UTF-8
 
 signs_below : (n b : ℕ) (cs : List ℕ) → list_all (λ c. nat_lt c n) cs ≡ true → list_any (λ c. c == b) cs ≡ true → b < n
 signs_below n b [] below e = absurd (false≢true e)
@@ -60,7 +60,7 @@ all_ascii p (b ∷ w) below e (suc i) = all_ascii p w below (and_parts (p b) (li
 unit_below : (u : ℕ) → is_unit u ≡ true → u < 65536
 unit_below u e = grind (arith, nat_tests)
 
--- pairs of octets are those of their characters
+-- pairs of bytes are those of their characters
 pub bmp_octets-units : (w : List ℕ) → IsOctets w → are_pairs w ≡ true → bmp_octets (units w) ≡ w
 unfolding bmp_octets
 bmp_octets-units [] h e = refl
@@ -102,7 +102,7 @@ pub bmp_again : (t : Tag) (us : List ℕ) → IsBmp us → bmp_read t (bmp_octet
 unfolding bmp_read
 bmp_again t us h = grind (arith, nat_tests, units-octets us, are_pairs-octets us)
 
--- What reading octets as UTF-8 gives.
+-- What reading bytes as UTF-8 gives.
 
 pub is_text : (w : List ℕ) → IsUtf8 w → is_utf8 w ≡ true
 is_text = is_utf8-from_IsUtf8

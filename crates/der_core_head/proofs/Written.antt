@@ -60,7 +60,7 @@ default_counted b w = grind (arith, nat_tests)
 pub fit_counted : (n : ℕ) → fit_len n ≡ count n
 fit_counted n = ap count (omega arith)
 
--- the size of a value is the number of its octets, if that is a length
+-- the size of a value is the number of its bytes, if that is a length
 mutual
   unfolding octets_of
 
@@ -105,7 +105,7 @@ pub put_is : (b a : List ℕ) → put b (out a) ≡ Ok (out (a ++ b))
 unfolding put
 put_is b a = refl
 
--- octets one after the other, or at once
+-- bytes one after another, or at once
 in_two : (a b w : List ℕ) (r : Option ℕ) (f : Bool) → (put a (record { written = w; room = r; failed = f }) >>= put b) ≡ put (a ++ b) (record { written = w; room = r; failed = f })
 unfolding put
 in_two a b w r true = refl
@@ -131,7 +131,8 @@ bind-ok r = grind (arith, nat_tests)
 pub ordered_written : {P : Type 0} (how : Step) (f : P → Out → Result Out ErrorKind) (w : P → List ℕ) (xs : List P) (o : Out) → AllInOrder how w xs → write_in_order how f w xs o ≡ write_many f xs o
 ordered_written how f w xs o h = rw (order_followed how w xs h) (bind-ok (write_many f xs o))
 
--- What is written of a valid value are its octets, whatever room the writer has, and whether it failed or not; and its parts are in their ranges
+-- What is written of a valid value are its bytes, whatever room the writer has, and whether it
+-- failed or not; and its parts are in their ranges
 
 -- a writer that has written did not fail
 has_written : (a w : List ℕ) (room : Option ℕ) (failed : Bool) (x : Out) → put a (record { written = w; room = room; failed = failed }) ≡ Ok x → x.failed ≡ false
@@ -145,7 +146,7 @@ put-then a o f g same = go (put a o) (has_written a o.written o.room o.failed)
     go (Ok x) h = same x (h x refl)
     go (Err e) h = refl
 
--- octets, where there are any
+-- bytes, where there are any
 abbrev pub put_some : List ℕ → Out → Result Out ErrorKind
 put_some [] o = Ok o
 put_some (b ∷ w) o = put (b ∷ w) o
@@ -155,7 +156,7 @@ unfolding put
 same_out w None = ap (λ (x : List ℕ). Ok (record { written = x; room = None; failed = false })) (append-nil w)
 same_out w (Some n) = let all : n - 0 ≡ n = omega arith in rw (le-ltb n 0 (omega arith), all, append-nil w) refl
 
--- a writer that did not fail takes no octets, too
+-- a writer that did not fail takes no bytes, too
 pub put_some-put : (b : List ℕ) (o : Out) → o.failed ≡ false → put_some b o ≡ put b o
 put_some-put [] o e = sym (ap (λ f. put [] (record { written = o.written; room = o.room; failed = f })) e ∙ same_out o.written o.room ∙ ap (λ f. Ok (record { written = o.written; room = o.room; failed = f })) (sym e))
 put_some-put (x ∷ b) o e = refl
@@ -186,7 +187,7 @@ unfolding default_write unless
 default_put true w f o e = refl
 default_put false w f o e = e
 
--- octets that are written, whatever wrote them, of what is in its range
+-- bytes that are written, whatever wrote them, of what is in its range
 abbrev Goes : (Out → Result Out ErrorKind) → List ℕ → Type 0 → Type 0
 Goes f w R = IsOctets w × R × ((o : Out) → f o ≡ put_some w o)
 
@@ -260,7 +261,7 @@ put_out b a = put_some-put b (out a) refl ∙ put_is b a
 pub written : (s : Shape) (v : Value s) (a : List ℕ) → IsValid s v → write s v (out a) ≡ Ok (out (a ++ octets_of s v))
 written s v a h = put_written s v (out a) h ∙ put_out (octets_of s v) a
 
--- What is too long to be counted isn't written, and is refused alike.
+-- What is too long to be counted isn't written, and is rejected alike.
 tlv_unsized : (t : Tag) (n : Result ℕ ErrorKind) (f : Out → Result Out ErrorKind) (o : Out) (k : ErrorKind) → tlv_len t n ≡ Err k → write_tlv t n f o ≡ Err k
 unfolding tlv_len head_len write_tlv put_head
 tlv_unsized t (Ok n) f o k e = rw e refl
@@ -289,9 +290,10 @@ pub is_written : {T : Type 0} (s : Shape) (v : Value s) (items : T → List ℕ)
 is_written s v items (Ok x) h e = ap (λ (w : List ℕ). Ok w) (ap (λ (o : Out). o.written) (ok_is (out (octets_of s v)) (out (items x)) (sym (written s v [] h) ∙ e)))
 is_written s v items (Err d) h e = λ memory. absurd (cc (written s v [] h, e memory))
 
--- What an Ok of a call counted or wrote are the octets of the value, whether it is valid or not, and what was written is valid where its parts are in their ranges.
+-- What an Ok of a call counted or wrote are the bytes of the value, whether it is valid or not, and
+-- what was written is valid where its parts are in their ranges.
 
--- an Ok is the number of these octets, and a length can count them
+-- an Ok is the number of these bytes, and a length can count them
 pub counts_octets : (s : Shape) (v : Value s) (n : ℕ) → size s v ≡ Ok n → (n ≡ length (octets_of s v)) × Fits (octets_of s v)
 counts_octets s v n e = grind (arith, nat_tests, counted s v)
 
@@ -299,7 +301,7 @@ counts_octets s v n e = grind (arith, nat_tests, counted s v)
 pub writes_fitting : (s : Shape) (v : Value s) (o z : Out) → write s v o ≡ Ok z → Fits (octets_of s v)
 writes_fitting s v o z e = grind (arith, nat_tests, counted s v, unsized s v o kinds.Overflow)
 
--- an Ok has these octets behind what was written before, and what was in range is valid
+-- an Ok has these bytes after what was written before, and what was in range is valid
 abbrev Does : (Out → Result Out ErrorKind) → List ℕ → Type 0 → Type 0 → Type 0
 Does f w R V = (o z : Out) → f o ≡ Ok z → (z.written ≡ o.written ++ w) × (R → V)
 
@@ -418,7 +420,7 @@ written_valid s v o z e h = (wrote s v o z e).1 h
 pub content_valid : (c : Content) (v : ContentValue c) (o z : Out) → write_content c v o ≡ Ok z → IsContentInRange c v → IsContent c v
 content_valid c v o z e h = (wrote_content c v o z e).1 h
 
--- the members of what was written one after the other
+-- the members of what was written one after another
 pub list_valid : (s : Shape) (v : List (Value s)) (o z : Out) → write_many (write s) v o ≡ Ok z → AllByRecursion (λ x. IsInRange s x) v → AllByRecursion (λ x. IsValid s x) v
 list_valid s v o z e h = (many_done (write s) (octets_of s) (λ x. IsInRange s x) (λ x. IsValid s x) (λ x. wrote s x) v o z e).1 h
 

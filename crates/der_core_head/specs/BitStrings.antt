@@ -1,4 +1,4 @@
--- Bit strings: the number of unused bits, and octets whose unused bits are zero (X.690 8.6, 11.2).
+-- Bit strings: the number of unused bits, and bytes whose unused bits are zero (X.690 8.6, 11.2).
 use Rattle.std.specs.Prelude.{◌≡◌, ℕ, ◌%◌, ◌^◌, List, [], ◌∷◌, Bool, true, Result, Ok, Err, nat_lt}
 use Rattle.std.specs.Prelude.{◌==◌, ◌&&◌, if◌then◌else◌}
 use Rattle.der_core_head.specs.declared.error.ErrorKind.{ErrorKind}
@@ -6,7 +6,7 @@ use Rattle.der_core_head.specs.declared.error.ErrorKind.TheVariants as kinds
 use Rattle.der_core_head.specs.declared.tag.Tag.{Tag}
 use Rattle.der_core_head.specs.Octets.{IsOctets}
 
--- bits: whole octets, of whose last so many bits don't count
+-- bits: whole bytes, of whose last so many bits don't count
 pub record Bits : Type 0 where
   pub unused : ℕ
   pub octets : List ℕ
@@ -16,7 +16,7 @@ last_octet [] = 0
 last_octet (b ∷ []) = b
 last_octet (b ∷ c ∷ w) = last_octet (c ∷ w)
 
--- at most seven bits are unused, none where there is no octet, and they are zero
+-- at most seven bits are unused, none if there is no byte, and they are zero
 abbrev pub are_bits : ℕ → List ℕ → Bool
 are_bits unused [] = unused == 0
 are_bits unused (b ∷ w) = nat_lt unused 8 && (last_octet (b ∷ w) % (2 ^ unused)) == 0

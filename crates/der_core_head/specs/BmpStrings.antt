@@ -1,4 +1,4 @@
--- BMPString: characters below 65536, two octets each, the higher first (X.690 8.23.8).
+-- BMPString: characters below 65536, two bytes each, the higher first (X.690 8.23.8).
 use Rattle.std.specs.Prelude.{◌≡◌, ℕ, ◌+◌, ◌*◌, ◌/◌, ◌%◌, List, [], ◌∷◌, Bool, true, false, Result}
 use Rattle.std.specs.Prelude.{Ok, Err, nat_lt, nat_le, ◌&&◌, ◌||◌, if◌then◌else◌}
 use Rattle.std.specs.List.{list_all, flat_map}
@@ -24,7 +24,7 @@ are_pairs [] = true
 are_pairs (a ∷ []) = false
 are_pairs (a ∷ b ∷ w) = are_pairs w
 
--- the characters that pairs of octets spell
+-- the characters that pairs of bytes encode
 abbrev pub units : List ℕ → List ℕ
 units [] = []
 units (a ∷ []) = []

@@ -16,12 +16,12 @@ use Rattle.der_core_head.specs.Heads.{Head, Fits, length_octets, length_at, head
 
 -- The grammar
 
--- the octets of a tag under BER: those that it has under DER, and 24 for an OCTET STRING in parts
+-- the bytes of a tag under BER: those that it has under DER, and 24 for an OCTET STRING in parts
 -- (8.7.1)
 abbrev pub SpellsTag : Tag → List ℕ → Type 0
 SpellsTag t o = (IsTag t × (o ≡ tag_octets t)) ⊎ ((t ≡ tags.OctetString) × (o ≡ 0x24 ∷ []))
 
--- the bit of a constructed value in the first octet of a tag (8.1.2.5)
+-- the bit of a constructed value in the first byte of a tag (8.1.2.5)
 abbrev pub is_constructed_at : List ℕ → Bool
 is_constructed_at [] = false
 is_constructed_at (b ∷ w) = ((b / 32) % 2) == 1
@@ -31,13 +31,13 @@ abbrev pub IsDefinite : List ℕ → Type 0
 IsDefinite b = (t : Tag) × (o c : List ℕ) × SpellsTag t o × Fits c
     × (b ≡ o ++ (length_octets (length c) ++ c))
 
--- an encoding of indefinite length: a constructed tag, the octet 80, and a body
+-- an encoding of indefinite length: a constructed tag, the byte 80, and a body
 abbrev pub IsIndefinite : (List ℕ → Type 0) → List ℕ → Type 0
 IsIndefinite IsInner b = (t : Tag) × (o c : List ℕ) × SpellsTag t o × (is_constructed_at o ≡ true)
     × IsInner c × (b ≡ o ++ (0x80 ∷ c))
 
 -- the body of an encoding of indefinite length, in which at most so many levels are open, its own
--- among them: encodings, and then two zero octets
+-- among them: encodings, and then two zero bytes
 unfoldable pub IsIndefiniteBody : ℕ → List ℕ → Type 0
 IsIndefiniteBody zero b = ⊥
 IsIndefiniteBody (suc k) b =
@@ -45,15 +45,15 @@ IsIndefiniteBody (suc k) b =
     × AllByRecursion (λ i. IsDefinite i ⊎ IsIndefinite (IsIndefiniteBody k) i) items
     × (b ≡ concat items ++ (0 ∷ 0 ∷ []))
 
--- the octets of a length behind those of a tag and before what follows: the one form of a number,
--- or 80 behind a constructed tag where a body of so many octets follows
+-- the bytes of a length after those of a tag and before what follows: the one form of a number, or
+-- 80 after a constructed tag where a body of that many bytes follows
 abbrev pub SpellsLength : List ℕ → ℕ → List ℕ → List ℕ → Type 0
 SpellsLength o n l r =
     (IsLength n × (l ≡ length_octets n))
     ⊎ ((is_constructed_at o ≡ true) × (l ≡ 0x80 ∷ []) × (b more : List ℕ)
     × IsIndefiniteBody levels_max b × Fits b × (n ≡ length b) × (r ≡ b ++ more))
 
--- octets are a header under BER, and what follows it
+-- bytes are a header under BER, and what follows it
 abbrev pub SpellsHead : Head → List ℕ → List ℕ → Type 0
 SpellsHead h r w = (o l : List ℕ) × SpellsTag h.tag o × SpellsLength o h.len l r
     × (w ≡ o ++ (l ++ r))
@@ -64,7 +64,7 @@ unfoldable pub tag_ber_at : Readings Tag
 tag_ber_at [] = Err kinds.Incomplete
 tag_ber_at (b ∷ w) = if b == 0x24 then Ok (tags.OctetString, w) else tag_at (b ∷ w)
 
--- a tag and the number of its content octets, if it is told
+-- a tag and the number of its content bytes, if it is reported
 pub record Mark : Type 0 where
   pub tag : Tag
   pub len : Option ℕ
@@ -79,7 +79,7 @@ unfoldable pub mark_at : Readings Mark
 mark_at w = tag_ber_at w >>= λ t. length_ber_at (is_constructed_at w) t.0 t.1
     >>= λ n. Ok (record { tag = t.0; len = n.0 }, n.1)
 
--- what stands in a body: the end of a level, the header of a deeper one, or an encoding of definite
+-- what is in a body: the end of a level, the header of a deeper one, or an encoding of definite
 -- length
 pub data Piece : Type 0 where
   ending : Piece
@@ -90,7 +90,7 @@ abbrev pub end_at : Readings Piece
 end_at [] = Err kinds.Incomplete
 end_at (b ∷ w) = if b == 0 then Ok (ending, w) else Err kinds.TagUnknown
 
--- behind a mark
+-- after a mark
 abbrev pub content_at : Option ℕ → Readings Piece
 content_at None w = Ok (opening, w)
 content_at (Some n) w = if nat_lt (length w) n then Err kinds.Incomplete
@@ -100,21 +100,21 @@ unfoldable pub piece_at : Readings Piece
 piece_at [] = Err kinds.Incomplete
 piece_at (b ∷ w) = if b == 0 then end_at w else (mark_at (b ∷ w) >>= λ m. content_at m.0.len m.1)
 
--- how many levels are open behind a piece, and how many more may be
+-- how many levels are open after a piece, and how many more may be
 abbrev pub levels_after : Piece → ℕ → ℕ → Result (ℕ × ℕ) ErrorKind
 levels_after ending levels room = Ok (levels - 1, room + 1)
 levels_after opening levels room = if room == 0 then Err kinds.NestingDepth
     else Ok (levels + 1, room - 1)
 levels_after encoding levels room = Ok (levels, room)
 
--- what is left behind the end of all open levels, which comes within so many pieces
+-- what is left after the end of all open levels, which comes within so many pieces
 unfoldable pub closed_at : ℕ → ℕ → ℕ → List ℕ → Result (List ℕ) ErrorKind
 closed_at pieces zero room w = Ok w
 closed_at zero (suc levels) room w = Err kinds.Incomplete
 closed_at (suc pieces) (suc levels) room w = piece_at w >>= λ p. levels_after p.0 (suc levels) room
     >>= λ l. closed_at pieces l.0 l.1 p.1
 
--- the number of octets of the body at the front
+-- the number of bytes of the body at the prefix
 unfoldable pub body_len_at : List ℕ → Result ℕ ErrorKind
 body_len_at w = closed_at (length w) 1 (levels_max - 1) w
     >>= λ r. if nat_lt length_max (length w - length r) then Err kinds.Overflow
@@ -124,7 +124,7 @@ abbrev pub len_at : Option ℕ → List ℕ → Result ℕ ErrorKind
 len_at None w = body_len_at w
 len_at (Some n) w = Ok n
 
--- a header under BER: an indefinite length is the number of octets of its body, those that end it
+-- a header under BER: an indefinite length is the number of bytes of its body, those that end it
 -- among them
 unfoldable pub head_ber_at : Readings Head
 head_ber_at w = mark_at w >>= λ m. len_at m.0.len m.1

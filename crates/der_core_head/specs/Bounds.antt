@@ -1,5 +1,5 @@
--- Values under a bound of arcs: what has an encoding where one bound stands in place of those that
--- a shape states, and the identifiers that a value holds. Neither plain values nor octets depend on
+-- Values under a bound of arcs: what has an encoding where one bound is in place of those that a
+-- shape states, and the identifiers that a value holds. Neither plain values nor bytes depend on
 -- the bounds in a shape, so one value is judged under any bound.
 use Rattle.std.specs.Prelude.{◌≡◌, ℕ, ◌<◌, ◌≤◌, List, [], ◌∷◌, ◌++◌, length, Some, None, flat_map}
 use Rattle.std.specs.Prelude.{Contains, ⊤}
@@ -76,7 +76,7 @@ abbrev mutual
   IsBodyOf bound (few n s) = IsOf bound s
   IsBodyOf bound (in_order how s) = IsOf bound s
 
--- the identifiers that a value holds, each as its arcs, in the order of its octets; what stands
+-- the identifiers that a value holds, each as its arcs, in the order of its bytes; what stands
 -- inside `any` isn't looked into
 abbrev pub leaf_identifiers : (l : Leaf) → LeafValue l → List (List ℕ)
 leaf_identifiers (identifier bound capacity) v = v ∷ []

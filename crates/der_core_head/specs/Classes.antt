@@ -12,6 +12,6 @@ class_number classes.Application = 1
 class_number classes.ContextSpecific = 2
 class_number classes.Private = 3
 
--- the two highest bits of the first octet of a tag
+-- the two highest bits of the first byte of a tag
 abbrev pub tag_class : Tag → ℕ
 tag_class t = leading_octet t / 64

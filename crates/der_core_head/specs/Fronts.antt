@@ -1,4 +1,4 @@
--- What stands at the front of octets.
+-- What is at the beginning of bytes.
 use Rattle.std.specs.Prelude.{◌≡◌, ◌≤◌, ℕ, List, length, drop, Bool, false, Option, Some, None}
 use Rattle.std.specs.Prelude.{Result, Ok, Err, ◌==◌, ◌&&◌}
 use Rattle.der_core_head.specs.declared.error.Error.{Error}
@@ -9,7 +9,7 @@ use Rattle.der_core_head.specs.Classes.{class_number, tag_class}
 use Rattle.der_core_head.specs.Tags.{number_of}
 use Rattle.der_core_head.specs.Octets.{Readings, ◌>>=◌}
 
--- What was answered, seen by view, is what reading gives, and its octets were counted.
+-- What was returned, seen by view, is what reading gives, and its bytes were counted.
 abbrev pub ReadsFront : {X P : Type 0} → (X → P) → List ℕ → Result (X × ℕ) Error → Readings P
     → Type 0
 ReadsFront view w (Ok x) f = (f w ≡ Ok (view x.0, drop x.1 w)) × (x.1 ≤ length w)
@@ -20,7 +20,7 @@ abbrev pub alone : {P : Type 0} → Result (P × List ℕ) ErrorKind → Result 
 alone (Ok x) = Ok x.0
 alone (Err e) = Err e
 
--- whether a tag that stands there is of that class and has that number
+-- whether a tag that is there is of that class and has that number
 abbrev pub has_number : Class → ℕ → Option Tag → Bool
 has_number class number None = false
 has_number class number (Some t) = (tag_class t == class_number class) && (number_of t == number)

@@ -1,4 +1,4 @@
--- Reading from left to right, with the first fault and the levels that may still be opened. Rules
+-- Reading from left to right, with the first error and the levels that may still be opened. Rules
 -- tell which headers are read; contents are read alike by both. Sets in order are those of DER
 -- (X.690 11.6), and so are headers within them, whatever the rules.
 use Rattle.std.specs.Prelude.{ℕ, zero, suc, List, [], ◌∷◌, length, take, drop, Bool, Option}
@@ -30,12 +30,12 @@ abbrev pub byte_at : Readings ℕ
 byte_at [] = Err kinds.Incomplete
 byte_at (b ∷ w) = Ok (b, w)
 
--- all of the octets have to be read
+-- all of the bytes have to be read
 abbrev pub whole : {P : Type 0} → P × List ℕ → Result (P × List ℕ) ErrorKind
 whole (p, []) = Ok (p, [])
 whole (p, b ∷ bs) = Err kinds.TrailingData
 
--- what a reader of content answers on the next n octets
+-- what a reader of content answers on the next n bytes
 unfoldable pub value_at : {P : Type 0} → Readings P → ℕ → Readings P
 value_at f n w =
     if nat_lt (length w) n then Err kinds.Incomplete
@@ -46,24 +46,24 @@ unfoldable pub tlv_at : {P : Type 0} → EncodingRules → Tag → Readings P �
 tlv_at rules tag f w = head_by rules w >>= λ h. if same_tag h.0.tag tag then value_at f h.0.len h.1
     else Err kinds.TagUnexpected
 
--- a header, and its content as it stands
+-- a header, and its content as it is
 unfoldable pub any_at : EncodingRules → Readings AnyValue
 any_at rules w = head_by rules w >>= λ h. slice_at h.0.len h.1
     >>= λ x. Ok (record { tag = h.0.tag; contents = x.0 }, x.1)
 
--- values up to the end, so many at most; octets behind these are refused as e
+-- values up to the end, so many at most; bytes after these are rejected as e
 unfoldable pub read_many : {P : Type 0} → ErrorKind → Readings P → ℕ → Readings (List P)
 read_many e f n [] = Ok ([], [])
 read_many e f zero (b ∷ bs) = Err e
 read_many e f (suc n) (b ∷ bs) = f (b ∷ bs) >>= λ x. read_many e f n x.1
     >>= λ y. Ok (x.0 ∷ y.0, y.1)
 
--- so many values, one after the other
+-- so many values, one after another
 unfoldable pub read_exactly : {P : Type 0} → Readings P → ℕ → Readings (List P)
 read_exactly f zero w = Ok ([], w)
 read_exactly f (suc n) w = f w >>= λ x. read_exactly f n x.1 >>= λ y. Ok (x.0 ∷ y.0, y.1)
 
--- whether octets may follow one another in a set
+-- whether bytes may follow one another in a set
 abbrev pub ordered : Step → Ordering → Result (Unit {0}) ErrorKind
 ordered above Less = Ok tt
 ordered above Equal = Err kinds.SetDuplicate
@@ -72,16 +72,16 @@ ordered not_below Less = Ok tt
 ordered not_below Equal = Ok tt
 ordered not_below Greater = Err kinds.SetOrdering
 
--- whether octets may stand behind others, or which fault it is
+-- whether bytes may stand after others, or which error it is
 abbrev pub follows : Step → List ℕ → List ℕ → Result (Unit {0}) ErrorKind
 follows how a b = ordered how (slice_cmp nat_cmp a b)
 
--- whether octets may stand behind the last ones, if there are such
+-- whether bytes may stand after the last ones, if there are such
 abbrev pub follows_last : Step → Option (List ℕ) → List ℕ → Result (Unit {0}) ErrorKind
 follows_last how None b = Ok tt
 follows_last how (Some a) b = follows how a b
 
--- values up to the end, whose octets follow one another
+-- values up to the end, whose bytes follow one another
 unfoldable pub read_in_order : {P : Type 0} → Step → (P → List ℕ) → Readings P → Option (List ℕ) → ℕ
     → Readings (List P)
 read_in_order how o f last n [] = Ok ([], [])
@@ -126,7 +126,7 @@ either_at rules a b f g w = tag_by rules w >>= λ t.
     if a t.0 then (f w >>= λ x. Ok (inl x.0, x.1)) else if b t.0
     then (g w >>= λ x. Ok (inr x.0, x.1)) else Err kinds.TagUnexpected
 
--- all of the octets, if they are a content
+-- all of the bytes, if they are a content
 abbrev pub leaf_at : {P : Type 0} → Result P ErrorKind → Result (P × List ℕ) ErrorKind
 leaf_at (Ok v) = Ok (v, [])
 leaf_at (Err e) = Err e
@@ -135,7 +135,7 @@ leaf_at (Err e) = Err e
 abbrev pub kept : {P : Type 0} → List ℕ → P → Result (P × List ℕ) ErrorKind
 kept r v = Ok (v, r)
 
--- reading by those rules, with that many levels to open; a content is read behind its tag
+-- reading by those rules, with that many levels to open; a content is read after its tag
 abbrev mutual
   pub read_by : EncodingRules → (s : Shape) → ℕ → List ℕ → Result (Value s × List ℕ) ErrorKind
   read_by rules (tagged t c) room w = tlv_at rules t (read_content_by rules c t room) w
@@ -186,7 +186,7 @@ abbrev pub plain_list : {A B : Type 0} → (A → B) → List A → List B
 plain_list f [] = []
 plain_list f (x ∷ xs) = f x ∷ plain_list f xs
 
--- all of the octets, which a length can count
+-- all of the bytes, which a length can count
 unfoldable pub read_whole : (s : Shape) → List ℕ → Result (Value s × List ℕ) ErrorKind
 read_whole s w = if nat_lt length_max (length w) then Err kinds.Overflow
     else (read s levels_max w >>= whole)

@@ -10,11 +10,11 @@ use Rattle.der_core_head.specs.Octets.{◌>>=◌, Readings}
 use Rattle.der_core_head.specs.Limits.{IsLength}
 use Rattle.der_core_head.specs.Tags.{tag_octets, tag_at}
 
--- one octet below 128; else how many digits there are in base 256, and these digits
+-- one byte below 128; else how many digits there are in base 256, and these digits
 unfoldable pub length_octets : ℕ → List ℕ
 length_octets n = if nat_lt n 128 then n ∷ [] else (128 + length (digits 256 n)) ∷ digits 256 n
 
--- the header of so many content octets
+-- the header of so many content bytes
 unfoldable pub head_octets : Tag → ℕ → List ℕ
 head_octets t n = tag_octets t ++ length_octets n
 
@@ -22,7 +22,7 @@ head_octets t n = tag_octets t ++ length_octets n
 unfoldable pub tlv : Tag → List ℕ → List ℕ
 tlv t c = head_octets t (length c) ++ c
 
--- no more octets than a length can count
+-- no more bytes than a length can count
 abbrev pub Fits : List ℕ → Type 0
 Fits w = IsLength (length w)
 
@@ -30,13 +30,13 @@ pub record Head : Type 0 where
   pub tag : Tag
   pub len : ℕ
 
--- the number that digits spell, where they and the octet before them are its one form
+-- the number that digits spell, where they and the byte before them are its one form
 abbrev pub shortest : Tag → ℕ → List ℕ → List ℕ → Result (ℕ × List ℕ) ErrorKind
 shortest t first ds w =
     if bytes_eq (length_octets (number_from_digits 256 ds)) (first ∷ ds)
     then Ok (number_from_digits 256 ds, w) else Err (kinds.Length t)
 
--- the number of content octets behind a tag
+-- the number of content bytes after a tag
 unfoldable pub length_at : Tag → Readings ℕ
 length_at t [] = Err kinds.Incomplete
 length_at t (n ∷ w) =

@@ -1,4 +1,4 @@
--- Whole numbers: two's complement in the fewest octets (X.690 8.3, 8.4).
+-- Whole numbers: two's complement in the fewest bytes (X.690 8.3, 8.4).
 use Rattle.std.specs.Prelude.{ℕ, ℤ, pos, negsuc, ◌-◌, ◌<◌, ◌≤◌, ◌^◌, List, [], ◌∷◌, length, map}
 use Rattle.std.specs.Prelude.{Bool, false, not, Result, Ok, Err, nat_lt, ◌==◌, ◌&&◌, ◌||◌}
 use Rattle.std.specs.Prelude.{if◌then◌else◌, Contains, ⊤}
@@ -10,7 +10,7 @@ use Rattle.der_core_head.specs.declared.error.ErrorKind.TheVariants as kinds
 use Rattle.der_core_head.specs.declared.tag.Tag.{Tag}
 use Rattle.der_core_head.specs.Octets.{◌>>=◌}
 
--- a first octet from 128 on would be a negative number's
+-- a first byte from 128 on would be a negative number's
 abbrev pub positive : List ℕ → List ℕ
 positive [] = []
 positive (d ∷ ds) = if nat_lt d 128 then d ∷ ds else 0 ∷ d ∷ ds
@@ -31,7 +31,7 @@ pub data Numbers : Type 0 where
   unsigned : ℕ → Numbers  -- those of so many bits that aren't negative
   signed : ℕ → Numbers  -- those of so many bits in two's complement
   among : List ℕ → Numbers  -- these alone, as in an enumeration
-  within : ℕ → Numbers  -- those of at most so many content octets
+  within : ℕ → Numbers  -- those of at most so many content bytes
 
 abbrev pub IsNumber : Numbers → ℤ → Type 0
 IsNumber every z = ⊤
@@ -50,7 +50,7 @@ abbrev pub is_redundant : List ℕ → Bool
 is_redundant (a ∷ b ∷ ds) = (a == 0 && nat_lt b 128) || (a == 255 && not (nat_lt b 128))
 is_redundant w = false
 
--- the number that octets spell in two's complement
+-- the number that bytes encode in two's complement
 unfoldable pub integer_of : List ℕ → ℤ
 integer_of [] = pos 0
 integer_of (d ∷ ds) = if nat_lt d 128 then pos (number_from_digits 256 (d ∷ ds))

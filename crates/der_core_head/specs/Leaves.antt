@@ -22,7 +22,7 @@ pub data Leaf : Type 0 where
   integer : Numbers → Leaf  -- 8.3, and ENUMERATED, 8.4
   bits : Leaf  -- 8.6, 11.2
   octets : Leaf  -- 8.7
-  identifier : ℕ → ℕ → Leaf  -- 8.19: the bound of arcs, and the greatest number of octets
+  identifier : ℕ → ℕ → Leaf  -- 8.19: the bound of arcs, and the greatest number of bytes
   utc_time : Leaf  -- 11.8
   generalized_time : Leaf  -- 11.7
   text : Repertoire → Leaf  -- 8.23, in that repertoire
@@ -90,7 +90,7 @@ abbrev pub or_malformed : {A : Type 0} → Result A OidError → Result A ErrorK
 or_malformed (Ok x) = Ok x
 or_malformed (Err e) = Err kinds.OidMalformed
 
--- the value that a content spells behind a tag, or its fault
+-- the value that a content spells after a tag, or its error
 abbrev pub leaf_read : (l : Leaf) → Tag → List ℕ → Result (LeafValue l) ErrorKind
 leaf_read boolean t w = bool_read t w
 leaf_read null t w = null_read t w

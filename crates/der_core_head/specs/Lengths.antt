@@ -1,4 +1,4 @@
--- Differences of lengths, and octets and texts that a length can count.
+-- Differences of lengths, and bytes and texts that a length can count.
 use Rattle.std.specs.Prelude.{◌≡◌, ℕ, ◌-◌, List, length, Result, Ok, Err, nat_lt, if◌then◌else◌}
 use Rattle.der_core_head.specs.declared.error.ErrorKind.{ErrorKind}
 use Rattle.der_core_head.specs.declared.error.ErrorKind.TheVariants as kinds
@@ -14,15 +14,15 @@ use Rattle.der_core_head.specs.Writing.{sum_len}
 abbrev pub difference_len : ℕ → ℕ → Result ℕ ErrorKind
 difference_len m n = if nat_lt m n then Err kinds.Overflow else Ok (m - n)
 
--- octets, if a length can count them
+-- bytes, if a length can count them
 abbrev pub counted : List ℕ → Result (List ℕ) ErrorKind
 counted w = if nat_lt length_max (length w) then Err kinds.Overflow else Ok w
 
--- the octets of a text, if a length can count them
+-- the bytes of a text, if a length can count them
 abbrev pub counted_text : List ℕ → Result (List ℕ) ErrorKind
 counted_text w = utf8_read w >>= counted
 
--- Octets added to what was answered, or taken from it; a refusal stays.
+-- Bytes added to what was returned, or taken from it; a refusal stays.
 abbrev pub AddsTo : Result Length Error → Length → Result Length Error → Type 0
 AddsTo (Ok a) b r = GivesNow (λ l. l.value) r (sum_len a.value b.value)
 AddsTo (Err e) b r = r ≡ Err e

@@ -1,4 +1,4 @@
--- How many octets a length can count, and how many levels may be open at once.
+-- How many bytes a length can count, and how many levels may be open at once.
 use Rattle.std.specs.Prelude.{ℕ, suc, ◌<◌}
 
 -- the greatest length: 2^32 - 1

@@ -9,7 +9,7 @@ use Rattle.der_core_head.specs.declared.error.ErrorKind.TheVariants as kinds
 use Rattle.der_core_head.specs.declared.tag.Tag.{Tag}
 use Rattle.der_core_head.specs.BitStrings.{last_octet}
 
--- eight names in an octet, the first in its highest bit
+-- eight names in a byte, the first in its highest bit
 unfoldable pub set_octets : ℕ → List ℕ
 set_octets n = if n == 0 then [] else map (reverse_bits w8) (reverse (digits 256 n))
 
@@ -21,7 +21,7 @@ unused_bits (b ∷ w) = trailing_zeros w8 (last_octet (b ∷ w))
 unfoldable pub named_octets : ℕ → List ℕ
 named_octets n = unused_bits (set_octets n) ∷ set_octets n
 
--- the set that octets spell
+-- the set that bytes encode
 unfoldable pub spelled_set : List ℕ → ℕ
 spelled_set [] = 0
 spelled_set (b ∷ w) = spelled_set w * 256 + reverse_bits w8 b

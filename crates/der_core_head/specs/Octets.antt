@@ -1,9 +1,9 @@
--- Octets, and results that are passed on.
+-- Bytes, and results that are passed on.
 use Rattle.std.specs.Prelude.{ℕ, ◌<◌, List, [], ◌∷◌, Bool, true, Result, Ok, Err, nat_lt, ◌&&◌}
 use Rattle.std.specs.List.{AllByRecursion}
 use Rattle.der_core_head.specs.declared.error.ErrorKind.{ErrorKind}
 
--- each is an octet
+-- each is a byte
 abbrev pub IsOctets : List ℕ → Type 0
 IsOctets w = AllByRecursion (λ b. b < 256) w
 
@@ -17,6 +17,6 @@ abbrev pub ◌>>=◌ : {A B : Type 0} → Result A ErrorKind → (A → Result B
 (Ok x) >>= f = f x
 (Err e) >>= f = Err e
 
--- what reads a value from the front of octets: the value and the rest, or the first fault
+-- what reads a value from the prefix of bytes: the value and the rest, or the first error
 abbrev pub Readings : Type 0 → Type 0
 Readings P = List ℕ → Result (P × List ℕ) ErrorKind

@@ -16,13 +16,13 @@ use Rattle.der_core_head.specs.Limits.{levels_max}
 use Rattle.der_core_head.specs.Grammar.{read_by, read_body_by, read_content_by, value_at, kept}
 use Rattle.der_core_head.specs.Leaves.{Leaf, leaf_read}
 
--- by which rules an input is read, and how many octets it has
+-- by which rules an input is read, and how many bytes it has
 pub record Source : Type 0 where
   pub encoding : EncodingRules
   pub size : ℕ
 
--- the octets up to the end in force, those behind it, the levels that can still be opened, whether
--- a call failed, and the input
+-- the bytes up to the end in force, those after it, the levels that can still be opened, whether a
+-- call failed, and the input
 pub record State : Type 0 where
   pub rest : List ℕ
   pub behind : List ℕ
@@ -30,7 +30,7 @@ pub record State : Type 0 where
   pub failed : Bool
   pub source : Source
 
--- a reader of these octets, by those rules, before any call
+-- a reader of these bytes, by those rules, before any call
 abbrev pub unread : EncodingRules → List ℕ → State
 unread rules w =
     record {
@@ -48,11 +48,11 @@ IsDer s = s.source.encoding ≡ encodings.Der
 abbrev pub IsBer : State → Type 0
 IsBer s = s.source.encoding ≡ encodings.Ber
 
--- what a call may answer: the named fault, or that memory ran out
+-- what a call may answer: the named error, or that memory ran out
 abbrev pub Fails : {Y : Type 0} → ErrorKind → Result Y ErrorKind → Type 0
 Fails e r = e ≢ kinds.OutOfMemory → r ≡ Err e
 
--- so many octets further on
+-- that many bytes further on
 abbrev pub past : ℕ → State → State
 past n s = record s { rest = drop n s.rest }
 
@@ -64,7 +64,7 @@ broken s = record s { failed = true }
 abbrev pub ruled : EncodingRules → State → State
 ruled rules s = record s { source = record { encoding = rules; size = s.source.size } }
 
--- octets r are a rest of octets w: what is left of w behind its first n
+-- bytes r are a rest of bytes w: what is left of w after its first n
 abbrev pub IsRest : List ℕ → List ℕ → Type 0
 IsRest r w = (n : ℕ) × (r ≡ drop n w)
 
@@ -87,14 +87,14 @@ abbrev pub read_body_at : State → (b : Body) → Readings (BodyValue b)
 read_body_at r b = read_body_by r.source.encoding b r.room
 
 -- The call answered what reading gives, seen by view, and moved the reader on. After a refusal the
--- reader has failed, and a failed reader answers that it failed.
+-- reader has failed, and a failed reader returns that it failed.
 abbrev pub Reads : {X P : Type 0} → (X → P) → State → State → Result X Error → Readings P → Type 0
 Reads view old new (Ok x) f = (f old.rest ≡ Ok (view x, new.rest))
     × (new ≡ record old { rest = new.rest }) × (old.failed ≡ false) × IsRest new.rest old.rest
 Reads view old new (Err e) f = (old.failed ≡ false → Fails e.kind (f old.rest)) × Kept old new
     × (old.failed ≡ true → e.kind ≡ kinds.Failed) × (new.failed ≡ true)
 
--- As `Reads`, of a call that takes no memory: after a refusal the reader is where it was, and
+-- As `Reads`, of a call that doesn't allocate: after a refusal the reader is where it was, and
 -- failed.
 abbrev pub ReadsNow : {X P : Type 0} → (X → P) → State → State → Result X Error → Readings P
     → Type 0
@@ -103,7 +103,7 @@ ReadsNow view old new (Ok x) f = (f old.rest ≡ Ok (view x, new.rest))
 ReadsNow view old new (Err e) f = (old.failed ≡ false → f old.rest ≡ Err e.kind)
     × (new ≡ broken old) × (old.failed ≡ true → e.kind ≡ kinds.Failed)
 
--- The call answered what stands there, seen by view, and left the reader as it was.
+-- The call answered what is there, seen by view, and left the reader as it was.
 abbrev pub Peeks : {X P : Type 0} → (X → P) → State → Result X Error → Result P ErrorKind → Type 0
 Peeks view s (Ok x) r = (r ≡ Ok (view x)) × (s.failed ≡ false)
 Peeks view s (Err e) r = (s.failed ≡ false → r ≡ Err e.kind)
@@ -122,7 +122,7 @@ abbrev pub HandsBack : {R T F : Type 0} → (R → State)
 HandsBack {R} {T} state g f = (old : R) (r : Result T Error) (new : R)
     → FnOnceReturnsAtMut g f old r new → Kept (state old) (state new)
 
--- the end is set n octets ahead
+-- the end is set n bytes ahead
 abbrev pub entered : ℕ → State → State
 entered n s = record {
   rest = take n s.rest;
@@ -132,7 +132,7 @@ entered n s = record {
   source = s.source;
 }
 
--- k octets that stand behind the end are given back
+-- k bytes that stand after the end are given back
 abbrev pub restored : ℕ → Bool → State → State
 restored k failed s =
     record {
@@ -149,31 +149,31 @@ Refuses n old kinds.Incomplete = length old.rest < n
 Refuses n old kinds.NestingDepth = (n ≤ length old.rest) × (old.room ≡ 0)
 Refuses n old _ = ⊥
 
--- what setting the end answers: how many octets are behind it that weren't
+-- what setting the end answers: how many bytes are after it that weren't
 abbrev pub Opens : ℕ → State → State → Result Length Error → Type 0
 Opens n old new (Ok taken) = (n + taken.value ≡ length old.rest) × (0 < old.room)
     × (old.room ≤ levels_max) × (old.failed ≡ false) × (new ≡ entered n old)
 Opens n old new (Err e) = (old.failed ≡ false → Refuses n old e.kind) × (new ≡ broken old)
     × (old.failed ≡ true → e.kind ≡ kinds.Failed)
 
--- what giving octets back answers, after a call that failed or not
+-- what giving bytes back answers, after a call that failed or not
 abbrev pub Closes : ℕ → Bool → State → State → Result (Unit {0}) Error → Type 0
 Closes k failed old new (Ok _) = (failed ≡ false → old.rest ≡ [])
     × (new ≡ restored k (old.failed || failed) old)
 Closes k failed old new (Err e) = (failed ≡ false) × (old.rest ≢ []) × (e.kind ≡ kinds.TrailingData)
     × (new ≡ restored k true old)
 
--- What was answered, seen by view, is what reading gives, unless memory ran out.
+-- What was returned, seen by view, is what reading gives, unless memory ran out.
 abbrev pub Gives : {X P : Type 0} → (X → P) → Result X Error → Result P ErrorKind → Type 0
 Gives view (Ok x) r = r ≡ Ok (view x)
 Gives view (Err e) r = Fails e.kind r
 
--- As `Gives`, of a call that takes no memory.
+-- As `Gives`, of a call that doesn't allocate.
 abbrev pub GivesNow : {X P : Type 0} → (X → P) → Result X Error → Result P ErrorKind → Type 0
 GivesNow view (Ok x) r = r ≡ Ok (view x)
 GivesNow view (Err e) r = r ≡ Err e.kind
 
--- The octets of a content were read, whatever leaf they are.
+-- The bytes of a content were read, whatever leaf they are.
 abbrev pub TakesContent : State → State → Result (Bor (List ℕ)) Error → ℕ → Type 0
 TakesContent old new (Ok x) n =
     ((l : Leaf) (t : Tag) (room : ℕ)

@@ -1,5 +1,5 @@
--- The universe of shapes: the syntax of a type, its plain values, and the octets that spell them
--- (X.680 24 to 31, X.690). A shape stands where a value stands, a content behind a header, a body
+-- The universe of shapes: the syntax of a type, its plain values, and the bytes that encode them
+-- (X.680 24 to 31, X.690). A shape stands where a value stands, a content after a header, a body
 -- where values stand inside a value.
 use Rattle.std.specs.Prelude.{◌≡◌, ◌≢◌, ◌≤◌, ℕ, List, [], ◌∷◌, ◌++◌, length, Bool, true, false, ◌⊎◌}
 use Rattle.std.specs.Prelude.{Option, Some, None, bytes_eq, flat_map, ◌||◌, ⊤}
@@ -28,10 +28,10 @@ mutual
     any : Shape
     either : Shape → Shape → Shape
     optional : Shape → Shape
-    defaulted : Shape → List ℕ → Shape  -- the octets are those that never stand
-    nothing : Shape  -- no octets, where a field stands for none
+    defaulted : Shape → List ℕ → Shape  -- the bytes are those that never stand
+    nothing : Shape  -- no bytes, where a field stands for none
 
-  -- what stands behind a header
+  -- what follows a header
   pub data Content : Type 0 where
     leaf : Leaf → Content
     nested : Body → Content
@@ -44,7 +44,7 @@ mutual
     many : Shape → Body
     exactly : ℕ → Shape → Body
     few : ℕ → Shape → Body  -- no more than so many
-    in_order : Step → Shape → Body  -- each member so behind the one before
+    in_order : Step → Shape → Body  -- each member so after the one before
 
 pub record AnyValue : Type 0 where
   pub tag : Tag
@@ -96,7 +96,7 @@ unfoldable pub unless : Bool → List ℕ → List ℕ
 unless true w = []
 unless false w = w
 
--- the octets that spell a value, if it is valid
+-- the bytes that encode a value, if it is valid
 unfoldable mutual
   pub octets_of : (s : Shape) → Value s → List ℕ
   octets_of (tagged t c) v = tlv t (contents c v)
@@ -121,12 +121,12 @@ unfoldable mutual
   body_octets (few n s) v = flat_map (λ x. octets_of s x) v
   body_octets (in_order how s) v = flat_map (λ x. octets_of s x) v
 
--- octets stand so behind others
+-- bytes stand so after others
 abbrev pub Follows : Step → List ℕ → List ℕ → Type 0
 Follows above a b = slice_cmp nat_cmp a b ≡ Less
 Follows not_below a b = slice_cmp nat_cmp a b ≢ Greater
 
--- each encoding stands so behind the one before (11.6)
+-- each encoding stands so after the one before (11.6)
 abbrev pub AllInOrder : {A : Type 0} → Step → (A → List ℕ) → List A → Type 0
 AllInOrder how f [] = ⊤
 AllInOrder how f (x ∷ []) = ⊤
@@ -140,7 +140,7 @@ AllRising f xs = AllInOrder above f xs
 abbrev pub AllAscending : {A : Type 0} → (A → List ℕ) → List A → Type 0
 AllAscending f xs = AllInOrder not_below f xs
 
--- what has an encoding: leaves in their ranges, sets in order, and no more octets than a length can
+-- what has an encoding: leaves in their ranges, sets in order, and no more bytes than a length can
 -- count
 unfoldable mutual
   pub IsValid : (s : Shape) → Value s → Type 0
@@ -167,7 +167,7 @@ unfoldable mutual
   IsBody (in_order how s) v = AllByRecursion (λ x. IsValid s x) v
       × AllInOrder how (λ x. octets_of s x) v
 
--- the octets spell the value
+-- the bytes encode the value
 pub record Spells (s : Shape) (v : Value s) (b : List ℕ) : Type 0 where
   pub valid : IsValid s v
   pub octets : b ≡ octets_of s v

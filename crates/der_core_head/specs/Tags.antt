@@ -1,4 +1,4 @@
--- Tags: their octets, and reading of them (X.690 8.1.2).
+-- Tags: their bytes, and reading of them (X.690 8.1.2).
 use Rattle.std.specs.Prelude.{ℕ, ◌+◌, ◌*◌, ◌/◌, ◌%◌, ◌<◌, List, [], ◌∷◌, Bool, Option, Some, None}
 use Rattle.std.specs.Prelude.{Result, Ok, Err, nat_lt, ◌==◌, ◌&&◌, if◌then◌else◌, find}
 use Rattle.const_oid.specs.Digits.{digits, marked}
@@ -16,7 +16,7 @@ leading class constructed low = 64 * class + (if constructed then 32 else 0) + l
 abbrev pub low_bits : ℕ → ℕ
 low_bits n = if nat_lt n 31 then n else 31
 
--- the first octet of a tag
+-- the first byte of a tag
 abbrev pub leading_octet : Tag → ℕ
 leading_octet tags.Boolean = 0x01
 leading_octet tags.Integer = 0x02
@@ -52,7 +52,7 @@ number_of (tags.ContextSpecific constructed number) = number.value
 number_of (tags.Private constructed number) = number.value
 number_of t = leading_octet t % 32
 
--- the octets of a number for which the leading octet has no room (8.1.2.4)
+-- the bytes of a number for which the leading byte has no room (8.1.2.4)
 abbrev pub number_octets : ℕ → List ℕ
 number_octets n = if nat_lt n 31 then [] else marked (digits 128 n)
 
@@ -63,7 +63,7 @@ tag_octets t = leading_octet t ∷ number_octets (number_of t)
 abbrev pub IsTag : Tag → Type 0
 IsTag t = number_of t < 4294967296
 
--- whether two tags have the same octets
+-- whether two tags have the same bytes
 abbrev pub same_tag : Tag → Tag → Bool
 same_tag a b = (leading_octet a == leading_octet b) && (number_of a == number_of b)
 
@@ -89,7 +89,7 @@ universal_tags =
     ∷ tags.VideotexString ∷ tags.Ia5String ∷ tags.UtcTime ∷ tags.GeneralizedTime
     ∷ tags.VisibleString ∷ tags.GeneralString ∷ tags.BmpString ∷ []
 
--- the one with that octet
+-- the one with that byte
 unfoldable pub universal_tag : ℕ → Option Tag
 universal_tag octet = find (λ t. leading_octet t == octet) universal_tags
 
@@ -100,7 +100,7 @@ class_tag class constructed n =
     else if class == 2 then tags.ContextSpecific constructed (record { value = n })
     else tags.Private constructed (record { value = n })
 
--- a number whose digits before were n: the octet in which it passes 32 bits is the fault
+-- a number whose digits before were n: the byte in which it passes 32 bits is the error
 unfoldable pub digits_at : ℕ → Readings ℕ
 digits_at n [] = Err kinds.Incomplete
 digits_at n (d ∷ w) =

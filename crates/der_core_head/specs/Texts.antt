@@ -1,4 +1,4 @@
--- Character strings: their octets, and which they may have (X.680 41; X.690 8.23).
+-- Character strings: their bytes, and which they may have (X.680 41; X.690 8.23).
 use Rattle.std.specs.Prelude.{◌≡◌, ℕ, List, [], ◌∷◌, Bool, true, Result, Ok, Err, nat_lt, ◌==◌}
 use Rattle.std.specs.Prelude.{◌||◌, if◌then◌else◌}
 use Rattle.std.specs.List.{list_all, list_any}
@@ -9,7 +9,7 @@ use Rattle.der_core_head.specs.declared.error.ErrorKind.TheVariants as kinds
 use Rattle.der_core_head.specs.declared.tag.Tag.{Tag}
 use Rattle.der_core_head.specs.Octets.{IsOctets}
 
--- Which octets a type has.
+-- Which bytes a type has.
 pub data Repertoire : Type 0 where
   printable : Repertoire  -- letters, digits and some signs (X.680 41.4)
   ascii : Repertoire  -- those below 128

@@ -16,8 +16,8 @@ use Rattle.der_core_head.specs.Grammar.{follows_last}
 use Rattle.der_core_head.specs.Tags.{tag_octets}
 use Rattle.der_core_head.specs.Heads.{length_octets, head_octets}
 
--- what was written, how many octets more there is room for (None: no limit), and whether a write
--- was refused
+-- what was written, how many bytes more there is room for (None: no limit), and whether a write was
+-- refused
 pub record Out : Type 0 where
   pub written : List ℕ
   pub room : Option ℕ
@@ -40,7 +40,7 @@ put b o = if o.failed then Err kinds.Failed else if lacks o.room (length b)
 abbrev pub sum_len : ℕ → ℕ → Result ℕ ErrorKind
 sum_len m n = if nat_lt length_max (m + n) then Err kinds.Overflow else Ok (m + n)
 
--- the octets of a header, where a length can count them with the content behind them
+-- the bytes of a header, where a length can count them with the content after them
 unfoldable pub put_head : Tag → ℕ → Out → Result Out ErrorKind
 put_head t n o = sum_len (length (head_octets t n)) n >>= λ _. put (tag_octets t) o
     >>= put (length_octets n)
@@ -66,7 +66,7 @@ unfoldable pub default_len : Bool → Result ℕ ErrorKind → Result ℕ ErrorK
 default_len true n = Ok 0
 default_len false n = n
 
--- the number of octets of a value
+-- the number of bytes of a value
 abbrev mutual
   pub size : (s : Shape) → Value s → Result ℕ ErrorKind
   size (tagged t c) v = tlv_len t (size_content c v)
@@ -100,7 +100,7 @@ abbrev pub write_many : {P : Type 0} → (P → Out → Result Out ErrorKind) �
 write_many f [] o = Ok o
 write_many f (x ∷ xs) o = f x o >>= write_many f xs
 
--- each encoding stands so behind the one before (11.6)
+-- each encoding stands so after the one before (11.6)
 abbrev pub all_follow : {P : Type 0} → Step → (P → List ℕ) → Option (List ℕ) → List P
     → Result (Unit {0}) ErrorKind
 all_follow how w last [] = Ok tt
@@ -141,11 +141,11 @@ abbrev mutual
   write_body (few n s) v o = write_many (write s) v o
   write_body (in_order how s) v o = write_in_order how (write s) (octets_of s) v o
 
--- what a write may answer: the named fault, or that memory ran out where it takes memory
+-- what a write may answer: the named error, or that memory ran out where it allocates
 abbrev pub FailsTaking : {Y : Type 0} → Bool → ErrorKind → Result Y ErrorKind → Type 0
 FailsTaking memory e r = (memory ≡ true → e ≢ kinds.OutOfMemory) → r ≡ Err e
 
--- The call did to a writer, which takes memory or not, what writing does.
+-- The call did to a writer, which allocates or not, what writing does.
 abbrev pub Writes : Bool → Out → Out → Result (Unit {0}) Error → (Out → Result Out ErrorKind)
     → Type 0
 Writes memory old new (Ok _) f = f old ≡ Ok new

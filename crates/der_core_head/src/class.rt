@@ -1,4 +1,4 @@
-//! Classes of tags.
+//! The classes of tags.
 
 ghost use Rattle.std.specs.Prelude.{◌≡◌, ◌*◌, ◌/◌, Some};
 ghost use Rattle.der_core_head.specs.Classes.{class_number};
@@ -6,7 +6,7 @@ ghost use Rattle.der_core_head.specs.TagNames.{class_name};
 
 use std::fmt;
 
-/// The bits of the universal class in the first octet of a tag (X.690 8.1.2.2, table 1).
+/// The bits of the universal class in the first byte of a tag (X.690 8.1.2.2, table 1).
 pub const CLASS_UNIVERSAL: u8 = 0x00;
 
 /// The class bits of tags of the application class.
@@ -18,21 +18,21 @@ pub const CLASS_CONTEXT_SPECIFIC: u8 = 0x80;
 /// The class bits of tags of the private class.
 pub const CLASS_PRIVATE: u8 = 0xc0;
 
-/// The class of a tag: the two highest bits of its first octet (X.690 8.1.2.2).
+/// The class of a tag: the two highest bits of its first byte (X.690 8.1.2.2).
 #[derive(Clone, Copy, Debug, PartialEq, Eq, PartialOrd, Ord, Hash)]
 pub enum Class {
     /// Types that mean the same everywhere.
     Universal,
     /// Types that an application defines.
     Application,
-    /// Types that mean something within one type alone.
+    /// Types whose meaning depends on the type that contains them.
     ContextSpecific,
     /// Types that an organization defines.
     Private,
 }
 
 impl Class {
-    /// The class's bits where they stand in the first octet of a tag, all others zero.
+    /// Returns the bits of the class in the first byte of a tag. All other bits are zero.
     pub fn bits(&self) -> u8
         ensures { result ≡ 64 * class_number self.now }
     {
@@ -44,7 +44,7 @@ impl Class {
         }
     }
 
-    /// The class of a tag with that first octet; its six lower bits don't matter.
+    /// Returns the class of a tag with this first byte. The six lower bits are ignored.
     pub fn from_bits(bits: u8) -> Class
         ensures { class_number result ≡ bits / 64 }
     {

@@ -9,24 +9,24 @@ use crate::error::{Error, ErrorKind};
 use std::fmt;
 use std::str::FromStr;
 
-/// The rules by which octets are read (X.690 8, 10).
+/// The rules by which bytes are decoded (X.690 8, 10).
 #[derive(Clone, Copy, Debug, PartialEq, Eq, PartialOrd, Ord, Hash)]
 pub enum EncodingRules {
-    /// Basic: lengths may be indefinite.
+    /// The basic encoding rules: lengths may be indefinite.
     Ber,
-    /// Distinguished: one encoding a value.
+    /// The distinguished encoding rules: one encoding for each value.
     Der,
 }
 
 impl EncodingRules {
-    /// Whether they are the basic rules.
+    /// Returns whether these are the basic encoding rules.
     pub fn is_ber(self) -> bool
         ensures { IsTrue result ↔ (self ≡ Ber) }
     {
         matches!(self, EncodingRules::Ber)
     }
 
-    /// Whether they are the distinguished rules.
+    /// Returns whether these are the distinguished encoding rules.
     pub fn is_der(self) -> bool
         ensures { IsTrue result ↔ (self ≡ Der) }
     {
@@ -34,7 +34,7 @@ impl EncodingRules {
     }
 }
 
-/// `DER`.
+/// The default is `DER`.
 impl Default for EncodingRules {
     ghost is_default = { λ rules. rules ≡ Der };
 
@@ -43,7 +43,7 @@ impl Default for EncodingRules {
     }
 }
 
-/// `BER`, `ber`, `DER` and `der`; anything else is the error `EncodingRules`.
+/// Parses `BER`, `ber`, `DER` and `der`. Anything else is the error `EncodingRules`.
 impl FromStr for EncodingRules {
     type Err = Error;
 

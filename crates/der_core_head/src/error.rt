@@ -1,4 +1,4 @@
-//! Why octets could not be read or written.
+//! Why bytes can't be decoded, or a value can't be encoded.
 
 ghost use Rattle.std.specs.Prelude.{◌≡◌, ◌≢◌, ◌⊎◌, Some, None, IsSome};
 ghost use Rattle.der_core_head.specs.declared.error.ErrorKind.TheVariants.{OidMalformed, Overflow};
@@ -15,48 +15,48 @@ use std::string::FromUtf8Error;
 /// The kinds of error.
 #[derive(Clone, Copy, Debug, PartialEq, Eq)]
 pub enum ErrorKind {
-    /// A civil date, or its text, that is none or lies outside 1970 to 9999.
+    /// A date or a text that isn't a date, or is outside of 1970 to 9999.
     DateTime,
-    /// The name of no encoding rules.
+    /// A text that isn't the name of encoding rules.
     EncodingRules,
-    /// A reader or a writer that failed before.
+    /// The reader or the writer has failed before.
     Failed,
-    /// Octets run out.
+    /// The input ends too early.
     Incomplete,
-    /// An indefinite length where DER rules.
+    /// An indefinite length under DER.
     IndefiniteLength,
-    /// A length that the type can't have, or that isn't spelled in its shortest form.
+    /// A length that the type can't have, or that isn't in its shortest form.
     Length { tag: Tag },
-    /// More levels than may be open.
+    /// There are more levels of nesting than may be open.
     NestingDepth,
-    /// A value in a spelling that isn't the one that DER allows.
+    /// A value that isn't in the one form that DER allows.
     Noncanonical { tag: Tag },
-    /// An object identifier that is none.
+    /// Bytes that aren't an object identifier.
     OidMalformed,
-    /// An object identifier to which the caller's protocol gives no meaning. No call of these
-    /// crates answers it.
+    /// An object identifier that the caller's protocol doesn't know. No call of these crates
+    /// returns this.
     OidUnknown,
-    /// Out of memory.
+    /// An allocation failed.
     OutOfMemory,
-    /// A sum past the greatest length, or a difference below zero.
+    /// A sum exceeds the greatest length, or a difference is below zero.
     Overflow,
-    /// A length of more than four octets, or more than there is room for.
+    /// A length of more than four bytes, or more bytes than there is room for.
     Overlength,
-    /// A reader that can't do what was asked.
+    /// The reader doesn't support the operation.
     Reader,
-    /// A member of a set that stands twice.
+    /// A set has a member twice.
     SetDuplicate,
-    /// A member of a set below the one before it.
+    /// A member of a set is below the one before it.
     SetOrdering,
-    /// The name of no tag mode.
+    /// A text that isn't the name of a tag mode.
     TagModeUnknown,
-    /// The number of a tag that isn't spelled in its shortest form, or passes 32 bits.
+    /// A tag number that isn't in its shortest form, or exceeds 32 bits.
     TagNumberInvalid,
-    /// Another tag than the one that must stand.
+    /// The tag isn't the expected one.
     TagUnexpected,
-    /// A tag of the universal class that isn't read.
+    /// A tag of the universal class that isn't supported.
     TagUnknown,
-    /// Octets after the last field or value.
+    /// There are bytes after the last field or value.
     TrailingData,
     /// A text that isn't UTF-8.
     Utf8,
@@ -64,20 +64,20 @@ pub enum ErrorKind {
     Value { tag: Tag },
 }
 
-/// An error, with the place in the input where it came up, if that is known.
+/// An error, with its position in the input, if that is known.
 #[derive(Clone, Copy, Debug, PartialEq, Eq)]
 pub struct Error {
     /// What is wrong.
     pub kind: ErrorKind,
-    /// The octet of the whole input at which the fault was found.
+    /// The index in the whole input of the byte at which the error was found.
     pub position: Option<Length>,
 }
 
-/// What a call answers that may be refused.
+/// The result of a call that may fail.
 pub type Result<T> = std::result::Result<T, Error>;
 
 impl ErrorKind {
-    /// The error of this kind at a place in the input.
+    /// Returns the error of this kind at a position of the input.
     pub fn at(self, position: Length) -> Error
         ensures { result ≡ record { kind = self; position = Some position } }
     {
@@ -87,7 +87,7 @@ impl ErrorKind {
         }
     }
 
-    /// The error of this kind at no known place.
+    /// Returns the error of this kind without a position.
     pub fn to_error(self) -> Error
         ensures { result ≡ record { kind = self; position = None } }
     {
@@ -99,7 +99,7 @@ impl ErrorKind {
 }
 
 impl Error {
-    /// The error of a kind at a place in the input.
+    /// Returns the error of a kind at a position of the input.
     pub fn new(kind: ErrorKind, position: Length) -> Error
         ensures { result ≡ record { kind = kind; position = Some position } }
     {
@@ -109,16 +109,17 @@ impl Error {
         }
     }
 
-    /// The error of an input that ends after so many octets, where more must stand.
+    /// Returns the error of an input that ends after this many bytes, although more are required.
     pub fn incomplete(actual_len: Length) -> Error
         ensures { result ≡ record { kind = ErrorKind.Incomplete; position = Some actual_len } }
     {
         ErrorKind::Incomplete.at(actual_len)
     }
 
-    /// The error with a place in the input, where it has none. Out of memory has none.
+    /// Returns the error with a position in the input, unless it has one already. Out of memory has
+    /// none.
     ///
-    /// It isn't inlined, so that a value that was read isn't moved in the pieces of an error.
+    /// This function isn't inlined, so that a decoded value isn't moved in the parts of an error.
     #[inline(never)]
     pub fn found_at(self, place: Length) -> Error
         ensures kind { result.kind ≡ self.kind }
@@ -132,14 +133,14 @@ impl Error {
         }
     }
 
-    /// What is wrong.
+    /// Returns the kind of the error.
     pub fn kind(self) -> ErrorKind
         ensures { result ≡ self.kind }
     {
         self.kind
     }
 
-    /// Where in the input it came up, if that is known.
+    /// Returns the position in the input, if it is known.
     pub fn position(self) -> Option<Length>
         ensures { result ≡ self.position }
     {
@@ -245,7 +246,7 @@ impl fmt::Display for ErrorKind {
     }
 }
 
-/// The kind, and the place where it is known.
+/// Prints the kind, and the position if it is known.
 impl fmt::Display for Error {
     fn fmt<W: fmt::Write>(&self, f: &mut fmt::Formatter<W>) -> fmt::Result {
         let kind = self.kind;

@@ -1,6 +1,6 @@
-//! The laws of reading and spelling, for every shape.
+//! The laws of decoding and encoding, for every shape.
 //!
-//! Each is the contract of a function that does nothing.
+//! Each law is the contract of a function that does nothing.
 
 ghost use Rattle.std.specs.Prelude.{◌≡◌, ◌≢◌, ◌↔◌, ◌≤◌, ◌<◌, ◌⊎◌, ℕ, List, [], ◌++◌, length, take};
 ghost use Rattle.std.specs.Prelude.{drop, true, false, None, Ok, Err};
@@ -21,10 +21,10 @@ ghost use Rattle.der_core_head.specs.Writing.{Out, write};
 ghost use Rattle.der_core_head.specs.Bodies.{IsIndefiniteBody, SpellsHead, body_len_at};
 ghost use Rattle.der_core_head.specs.Bodies.{head_ber_at};
 
-/// No encoding begins another, and no two values have one encoding (X.690 10, 11).
+/// No encoding is a prefix of another, and no two values have the same encoding (X.690 10, 11).
 ///
-/// So it is for each shape that has a header and keeps first tags apart, however many levels it
-/// has.
+/// This holds for each shape that has a header and unambiguous first tags, however many levels of
+/// nesting it has.
 #[tactic(auto, using(crate::proofs::OneEncoding::one_value))]
 pub fn apart_is_lawful()
     ensures { (s : Shape) (v w : Value s) (r t : List ℕ) → is_element s ≡ true → is_apart s ≡ true
@@ -32,10 +32,9 @@ pub fn apart_is_lawful()
         → (v ≡ w) × (r ≡ t) }
 {}
 
-/// What is read is spelled: a value that was read from octets is valid, and the octets are those
-/// that spell it and the rest.
+/// A value that was decoded is valid, and the bytes are its encoding, followed by the remainder.
 ///
-/// The octets are no more than a length can count. Optional values and defaults are read so too.
+/// The bytes are no more than a length can count. This holds for optional values and defaults, too.
 pub fn read_is_spelled()
     ensures valid { (s : Shape) (room : ℕ) (w : List ℕ) (v : Value s) (r : List ℕ)
         → is_apart s ≡ true
@@ -45,8 +44,7 @@ pub fn read_is_spelled()
         → IsOctets w → Fits w → read s room w ≡ Ok (v, r) → w ≡ octets_of s v ++ r }
 {}
 
-/// What is spelled is read: from the octets of a valid value, whatever follows them, reading gives
-/// the value and what follows.
+/// The encoding of a valid value decodes to that value and the remainder, whatever follows it.
 #[tactic(auto, using(crate::proofs::Complete::complete_element))]
 pub fn spelled_is_read()
     ensures { (s : Shape) (room : ℕ) (v : Value s) (r : List ℕ) → is_element s ≡ true
@@ -54,17 +52,18 @@ pub fn spelled_is_read()
         → IsValid s v → read s room (octets_of s v ++ r) ≡ Ok (v, r) }
 {}
 
-/// What is read with so many levels is read alike with more.
+/// What decodes with some levels of nesting decodes alike with more.
 #[tactic(auto, using(crate::proofs::Complete::more_read))]
 pub fn more_levels_read_alike()
     ensures { (s : Shape) (room more : ℕ) (w : List ℕ) (v : Value s) (r : List ℕ) → room ≤ more
         → read s room w ≡ Ok (v, r) → read s more w ≡ Ok (v, r) }
 {}
 
-/// What is written is spelled: after what stood there stand the octets of the value, no more than
-/// a length can count; and the value has an encoding, where its parts are in their ranges.
+/// Encoding appends the encoding of the value, which is no longer than a length can count. The
+/// value has an encoding, if its parts are in their ranges.
 ///
-/// So a value that is too long is refused, and one with a set that doesn't rise (X.690 11.6).
+/// So a value that is too long is rejected, and so is one with a set that isn't in order (X.690
+/// 11.6).
 #[tactic(auto, using(crate::proofs::Written::as_written))]
 pub fn written_is_spelled()
     ensures octets { (s : Shape) (v : Value s) (o z : Out) → write s v o ≡ Ok z
@@ -73,7 +72,7 @@ pub fn written_is_spelled()
         → IsValid s v }
 {}
 
-/// What has an encoding is written, where there is room for any number of octets.
+/// A value that has an encoding is encoded, if there is room for any number of bytes.
 #[tactic(auto, using(crate::proofs::Written::written))]
 pub fn valid_is_written()
     ensures { (s : Shape) (v : Value s) (w : List ℕ) → IsValid s v
@@ -81,8 +80,8 @@ pub fn valid_is_written()
         ≡ Ok (record { written = w ++ octets_of s v; room = None; failed = false }) }
 {}
 
-/// What is written is read: from octets that were written for a value whose parts are in their
-/// ranges, whatever follows them, reading gives the value and what follows.
+/// What was encoded for a value whose parts are in their ranges decodes to that value and the
+/// remainder, whatever follows it.
 #[tactic(auto, using(crate::proofs::Written::as_written))]
 pub fn written_is_read()
     ensures { (s : Shape) (room : ℕ) (v : Value s) (o z : Out) (r : List ℕ) → is_element s ≡ true
@@ -91,8 +90,8 @@ pub fn written_is_read()
         → read s room (z.written ++ r) ≡ Ok (v, r) }
 {}
 
-/// What is read as a header is spelled so, and what is spelled so is read, whatever follows (X.690
-/// 8.1.2, 8.1.3, 10.1).
+/// A header that is decoded is the encoding of the result, and the encoding of a header decodes to
+/// it, whatever follows (X.690 8.1.2, 8.1.3, 10.1).
 pub fn headers_are_spelled()
     ensures spelled { (h : Head) (r w : List ℕ) → IsOctets w → head_at w ≡ Ok (h, r)
         → (w ≡ head_octets h.tag h.len ++ r) × IsTag h.tag × IsLength h.len }
@@ -100,8 +99,8 @@ pub fn headers_are_spelled()
         → head_at (head_octets t n ++ r) ≡ Ok (record { tag = t; len = n }, r) }
 {}
 
-/// Further octets change nothing: the header that stands at the front of octets stands there before
-/// any more of them, and the fault in its place stays the fault, unless it was that octets ran out.
+/// Further bytes change nothing: the header at the beginning of some bytes stays the header when
+/// more bytes follow, and an error stays the error, unless it was that the bytes ran out.
 #[tactic(auto, using(crate::proofs::LeafLaws::headers_stay))]
 pub fn headers_stay()
     ensures read { (h : Head) (r w more : List ℕ) → head_at w ≡ Ok (h, r)
@@ -110,7 +109,7 @@ pub fn headers_stay()
         → head_at (w ++ more) ≡ Err k }
 {}
 
-/// A value's octets, where there are any, begin with one of the first tags that its shape states.
+/// The encoding of a value, if it isn't empty, begins with one of the first tags of its shape.
 #[tactic(auto, using(crate::proofs::Complete::field_first))]
 pub fn values_begin_as_stated()
     ensures { (s : Shape) (v : Value s) → is_apart s ≡ true → IsValid s v
@@ -119,8 +118,8 @@ pub fn values_begin_as_stated()
         × (begins s t ≡ true)) }
 {}
 
-/// Under BER too what is read as a header is spelled so, and what is spelled so is read, whatever
-/// follows; what DER reads, BER reads (X.690 8.1.2, 8.1.3, 8.1.5).
+/// Under BER, too, a header that is decoded is the encoding of the result, and the encoding of a
+/// header decodes to it. What DER accepts, BER accepts (X.690 8.1.2, 8.1.3, 8.1.5).
 pub fn ber_headers_are_spelled()
     ensures spelled { (h : Head) (r w : List ℕ) → IsOctets w → head_ber_at w ≡ Ok (h, r)
         → SpellsHead h r w }
@@ -128,7 +127,7 @@ pub fn ber_headers_are_spelled()
     ensures der { (h : Head) (r w : List ℕ) → head_at w ≡ Ok (h, r) → head_ber_at w ≡ Ok (h, r) }
 {}
 
-/// A body of indefinite length has at least the two octets that end it, and where it ends doesn't
+/// A body of indefinite length has at least the two bytes that end it, and where it ends doesn't
 /// depend on what follows it (X.690 8.1.3.6, 8.1.5).
 #[tactic(auto, using(crate::proofs::BodyLaws::body_ends))]
 pub fn bodies_end_themselves()
@@ -141,26 +140,25 @@ pub fn bodies_end_themselves()
         ≡ Ok (h, take h.len (drop n w) ++ more) }
 {}
 
-/// What is valid under a bound of arcs is what is valid in a shape that states this bound and no
-/// other.
+/// A value is valid under a bound of arcs if and only if it is valid in a shape that states this
+/// bound and no other.
 #[tactic(auto, using(crate::proofs::BoundLaws::own))]
 pub fn bounds_are_those_of_shapes()
     ensures { (bound : ℕ) (s : Shape) (v : Value s) → IsOf bound s
         → IsValid s v ↔ IsValidUnder bound s v }
 {}
 
-/// What has an encoding under one bound of arcs has one under a wider bound, which is the same,
-/// since octets don't depend on bounds.
+/// A value that has an encoding under one bound of arcs has the same encoding under a larger bound.
 #[tactic(auto, using(crate::proofs::BoundLaws::wider))]
 pub fn wider_bounds_keep_encodings()
     ensures { (small large : ℕ) (s : Shape) (v : Value s) → small ≤ large → IsValidUnder small s v
         → IsValidUnder large s v }
 {}
 
-/// What has an encoding under one bound of arcs has one under another, where each arc of its
-/// identifiers is below that one; so what has none under that one holds an identifier with an arc
-/// that isn't below it. And it has one under a bound from 40 up only where each arc is below it:
-/// every second arc is below 40.
+/// A value that has an encoding under one bound of arcs has one under another bound, if each arc of
+/// its object identifiers is below that bound. So a value without an encoding under that bound has
+/// an arc that isn't below it. If the bound is at least 40, the converse holds, too, because every
+/// second arc is below 40.
 #[tactic(auto, using(crate::proofs::BoundLaws::large_arcs))]
 pub fn new_values_hold_large_arcs()
     ensures narrow { (small large : ℕ) (s : Shape) (v : Value s) → IsValidUnder large s v

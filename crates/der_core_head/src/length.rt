@@ -1,4 +1,4 @@
-//! Numbers of octets.
+//! Lengths in bytes.
 
 ghost use Rattle.std.specs.Prelude.{◌≡◌, ◌↔◌, ◌+◌, ◌-◌, ◌≤◌, ℕ, IsTrue, min, Ok, length};
 ghost use Rattle.der_core_head.specs.Heads.{length_octets, head_octets};
@@ -13,42 +13,43 @@ use crate::tag::{Tag, number_of};
 use std::fmt;
 use std::ops::{Add, Sub};
 
-/// A number of octets, from 0 to 2^32 - 1 (X.690 8.1.3).
+/// A length in bytes, from 0 to 2^32 - 1 (X.690 8.1.3).
 #[derive(Clone, Copy, Debug, PartialEq, Eq, PartialOrd, Ord, Hash)]
 pub struct Length {
-    /// The number.
+    /// The number of bytes.
     pub value: u32,
 }
 
 impl Length {
-    /// No octets.
+    /// The length 0.
     pub const ZERO: Length = Length { value: 0 };
 
-    /// One octet.
+    /// The length 1.
     pub const ONE: Length = Length { value: 1 };
 
-    /// The greatest number of octets: 2^32 - 1.
+    /// The greatest length, 2^32 - 1.
     pub const MAX: Length = Length { value: u32::MAX };
 
-    /// So many octets.
+    /// Returns the length of this many bytes.
     pub fn new(value: u32) -> Length
         ensures { result.value ≡ value }
     {
         Length { value }
     }
 
-    /// Whether there are none.
+    /// Returns whether the length is 0.
     pub fn is_zero(self) -> bool
         ensures { IsTrue result ↔ (self.value ≡ 0) }
     {
         self.value == 0
     }
 
-    /// The number of octets of a whole encoding: the header of that tag and this length, and so
-    /// many octets after it (X.690 8.1.1).
+    /// Returns the length of a whole encoding: the header with this tag and this length, and the
+    /// content (X.690 8.1.1).
     ///
     /// # Errors
-    /// `Overflow` from 2^32 on.
+    ///
+    /// - `Overflow`: the length is 2^32 or more.
     pub fn for_tlv(self, tag: Tag) -> Result<Length, Error>
         ensures { GivesNow (λ l. l.value) result
             (sum_len (length (head_octets tag self.value)) self.value) }
@@ -56,14 +57,14 @@ impl Length {
         header_len(tag, self) + self
     }
 
-    /// The sum, or `MAX` where it would pass that.
+    /// Returns the sum, or `MAX` if the sum would exceed it.
     pub fn saturating_add(self, other: Length) -> Length
         ensures { result.value ≡ min (self.value + other.value) length_max }
     {
         Length::new(self.value.saturating_add(other.value))
     }
 
-    /// The difference, or `ZERO` where the other length is greater.
+    /// Returns the difference, or `ZERO` if the other length is greater.
     pub fn saturating_sub(self, other: Length) -> Length
         ensures { result.value ≡ self.value - other.value }
     {
@@ -71,7 +72,7 @@ impl Length {
     }
 }
 
-/// The number of octets of a tag.
+/// Returns the number of bytes of an encoded tag.
 #[tactic(auto, using(crate::proofs::TagLaws::tag_forms))]
 fn tag_len(tag: Tag) -> u32
     ensures octets { result ≡ length (tag_octets tag) }
@@ -87,7 +88,7 @@ fn tag_len(tag: Tag) -> u32
     }
 }
 
-/// The number of octets of a length.
+/// Returns the number of bytes of an encoded length.
 #[tactic(auto, using(crate::proofs::HeadLaws::length_forms))]
 fn length_len(len: Length) -> u32
     ensures octets { result ≡ length (length_octets len.value) }
@@ -102,7 +103,7 @@ fn length_len(len: Length) -> u32
     }
 }
 
-/// The number of octets of a header before so many octets of content.
+/// Returns the number of bytes of a header with this tag and this length of the content.
 #[tactic(auto, unfolding(crate::specs::Heads::head_octets))]
 pub fn header_len(tag: Tag, len: Length) -> Length
     ensures { result.value ≡ length (head_octets tag len.value) }
@@ -110,7 +111,7 @@ pub fn header_len(tag: Tag, len: Length) -> Length
     Length::new(tag_len(tag) + length_len(len))
 }
 
-/// The sum; from 2^32 on it is `Overflow`.
+/// Adds two lengths. A sum of 2^32 or more is `Overflow`.
 impl Add for Length {
     type Output = Result<Length, Error>;
 
@@ -124,7 +125,7 @@ impl Add for Length {
     }
 }
 
-/// The sum of what was answered and more octets; a refusal stays.
+/// Adds a length to a result. An error stays.
 impl Add<Length> for Result<Length, Error> {
     type Output = Result<Length, Error>;
 
@@ -175,7 +176,7 @@ impl Add<usize> for Length {
     }
 }
 
-/// The difference; below 0 it is `Overflow`.
+/// Subtracts a length. A difference below 0 is `Overflow`.
 impl Sub for Length {
     type Output = Result<Length, Error>;
 
@@ -189,7 +190,7 @@ impl Sub for Length {
     }
 }
 
-/// What was answered without so many octets; a refusal stays.
+/// Subtracts a length from a result. An error stays.
 impl Sub<Length> for Result<Length, Error> {
     type Output = Result<Length, Error>;
 
@@ -264,7 +265,7 @@ impl From<u32> for Length {
     }
 }
 
-/// From 2^32 on it is `Overflow`.
+/// Converts a number. 2^32 or more is `Overflow`.
 impl TryFrom<usize> for Length {
     type Error = Error;
 
@@ -284,7 +285,7 @@ impl From<Length> for u32 {
     }
 }
 
-/// A length always fits.
+/// Converts a length, which always fits.
 impl TryFrom<Length> for usize {
     type Error = Error;
 
@@ -295,7 +296,7 @@ impl TryFrom<Length> for usize {
     }
 }
 
-/// The number in decimal.
+/// Prints the number in decimal.
 impl fmt::Display for Length {
     ghost output = { λ l. ⟦<u32 as fmt::Display>⟧.output l.value };
 

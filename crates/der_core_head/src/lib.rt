@@ -1,5 +1,5 @@
-//! What stands below the coding traits: errors, lengths and tags as data, and the
-//! definitions and laws on which reading and writing of DER rest.
+//! The base of the DER crates: errors, lengths and tags as data, and the definitions and laws of
+//! decoding and encoding DER.
 #![tactic(auto)]
 
 mod class;

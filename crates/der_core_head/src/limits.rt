@@ -1,4 +1,4 @@
-//! How many levels may be open at once.
+//! The limit on levels of nesting.
 
-/// The greatest number of levels that may be open, one within the other.
+/// The greatest number of levels of nesting that may be open.
 pub const MAX_LEVELS: usize = 64;

@@ -64,17 +64,17 @@ pub enum Tag {
     GeneralString,
     /// UNIVERSAL 30.
     BmpString,
-    /// APPLICATION, of this number.
+    /// An application tag.
     Application {
         constructed: bool,
         number: TagNumber,
     },
-    /// Context-specific, of this number.
+    /// A context-specific tag.
     ContextSpecific {
         constructed: bool,
         number: TagNumber,
     },
-    /// PRIVATE, of this number.
+    /// A private tag.
     Private {
         constructed: bool,
         number: TagNumber,
@@ -82,12 +82,13 @@ pub enum Tag {
 }
 
 impl Tag {
-    /// The tag at the front of octets under DER (X.690 8.1.2).
+    /// Returns the tag with which the bytes begin, under DER (X.690 8.1.2).
     ///
     /// # Errors
-    /// `Incomplete` where they run out, `TagUnknown` for a tag of the universal class that isn't
-    /// read, `TagNumberInvalid` for a number from 31 on that isn't in its shortest form or passes
-    /// 32 bits.
+    ///
+    /// - `Incomplete`: the bytes end too early.
+    /// - `TagUnknown`: the tag is of the universal class, and isn't supported.
+    /// - `TagNumberInvalid`: a number of 31 or more isn't in its shortest form, or exceeds 32 bits.
     pub fn peek(octets: &[u8]) -> Result<Tag, Error>
         ensures { GivesNow (λ t. t) result (alone (tag_at octets.now)) }
     {
@@ -95,11 +96,12 @@ impl Tag {
         Ok(tag)
     }
 
-    /// Whether the tag at the front of octets under DER is of that class and has that number; where
-    /// there are no octets none is.
+    /// Returns whether the tag with which the bytes begin, under DER, has this class and this
+    /// number. If there are no bytes, it doesn't.
     ///
     /// # Errors
-    /// Those of `peek`.
+    ///
+    /// - The errors of `peek`.
     pub fn peek_matches(octets: &[u8], class: Class, number: TagNumber) -> Result<bool, Error>
         ensures { GivesNow (λ b. b) result
             (matches_at class number.value (peek_at Der octets.now)) }
@@ -111,14 +113,14 @@ impl Tag {
         Ok(tag.class() == class && tag.number().value == number.value)
     }
 
-    /// The class.
+    /// Returns the class of the tag.
     pub fn class(self) -> Class
         ensures { class_number result ≡ tag_class self }
     {
         Class::from_bits(leading_octet_of(self))
     }
 
-    /// The number; that of a tag of the universal class is the number of its type.
+    /// Returns the number of the tag. For the universal class, this is the number of the type.
     pub fn number(self) -> TagNumber
         ensures { result.value ≡ number_of self }
     {
@@ -127,45 +129,46 @@ impl Tag {
         }
     }
 
-    /// Whether the value is constructed (X.690 8.1.2.5).
+    /// Returns whether the value is constructed (X.690 8.1.2.5).
     pub fn is_constructed(self) -> bool
         ensures { result ≡ is_constructed self }
     {
         is_constructed(self)
     }
 
-    /// Whether it is of the universal class.
+    /// Returns whether the tag is of the universal class.
     pub fn is_universal(self) -> bool
         ensures { IsTrue result ↔ (tag_class self ≡ 0) }
     {
         matches!(self.class(), Class::Universal)
     }
 
-    /// Whether it is of the application class.
+    /// Returns whether the tag is of the application class.
     pub fn is_application(self) -> bool
         ensures { IsTrue result ↔ (tag_class self ≡ 1) }
     {
         matches!(self.class(), Class::Application)
     }
 
-    /// Whether it is context-specific.
+    /// Returns whether the tag is context-specific.
     pub fn is_context_specific(self) -> bool
         ensures { IsTrue result ↔ (tag_class self ≡ 2) }
     {
         matches!(self.class(), Class::ContextSpecific)
     }
 
-    /// Whether it is private.
+    /// Returns whether the tag is private.
     pub fn is_private(self) -> bool
         ensures { IsTrue result ↔ (tag_class self ≡ 3) }
     {
         matches!(self.class(), Class::Private)
     }
 
-    /// The tag, if it is the expected one.
+    /// Returns the tag, if it is the expected one.
     ///
     /// # Errors
-    /// `TagUnexpected` for any other.
+    ///
+    /// - `TagUnexpected`: it is another tag.
     #[tactic(auto, using(crate::proofs::TagLaws::tag_equality))]
     pub fn assert_eq(self, expected: Tag) -> Result<Tag, Error>
         ensures ok { IfOk result (λ t. (t ≡ self) × (self ≡ expected)) }
@@ -178,28 +181,28 @@ impl Tag {
         }
     }
 
-    /// The error of a length that a value of this tag can't have.
+    /// Returns the error for a length that a value with this tag can't have.
     pub fn length_error(self) -> ErrorKind
         ensures { result ≡ ErrorKind.Length self }
     {
         ErrorKind::Length { tag: self }
     }
 
-    /// The error of a value of this tag in a spelling that DER doesn't allow.
+    /// Returns the error for a value with this tag that isn't in the form that DER requires.
     pub fn non_canonical_error(self) -> ErrorKind
         ensures { result ≡ ErrorKind.Noncanonical self }
     {
         ErrorKind::Noncanonical { tag: self }
     }
 
-    /// The error of this tag where another must stand: the expected one, if that is known.
+    /// Returns the error for this tag where another one is expected.
     pub fn unexpected_error(self, _expected: Option<Tag>) -> ErrorKind
         ensures { result ≡ ErrorKind.TagUnexpected }
     {
         ErrorKind::TagUnexpected
     }
 
-    /// The error of a value that the type of this tag doesn't have.
+    /// Returns the error for a value that the type of this tag doesn't have.
     pub fn value_error(self) -> ErrorKind
         ensures { result ≡ ErrorKind.Value self }
     {
@@ -207,8 +210,8 @@ impl Tag {
     }
 }
 
-/// The first octet of a tag: its class, whether it is constructed, and five bits of its number, all
-/// of them set for a number from 31 on (8.1.2.2, 8.1.2.4.1).
+/// Returns the first byte of a tag: its class, whether it is constructed, and five bits for its
+/// number, which are all set if the number is 31 or more (8.1.2.2, 8.1.2.4.1).
 pub fn leading_octet_of(tag: Tag) -> u8
     ensures { result ≡ leading_octet tag }
 {
@@ -251,7 +254,7 @@ pub fn leading_octet_of(tag: Tag) -> u8
     class_octet(class, constructed, number)
 }
 
-/// The first octet of a tag of another class than the universal one.
+/// Returns the first byte of a tag that isn't of the universal class.
 fn class_octet(class: u8, constructed: bool, number: TagNumber) -> u8
     requires { class < 4 }
     ensures { result ≡ leading class constructed (low_bits number.value) }
@@ -264,7 +267,7 @@ fn class_octet(class: u8, constructed: bool, number: TagNumber) -> u8
     64 * class + if constructed { 32 } else { 0 } + low
 }
 
-/// The number of a tag. Inlined, so that of a tag that is known it is known.
+/// Returns the number of a tag. It is inlined, so that the number of a known tag is a constant.
 #[inline(always)]
 pub fn number_of(tag: Tag) -> u32
     ensures { result ≡ number_of tag }
@@ -277,7 +280,7 @@ pub fn number_of(tag: Tag) -> u32
     }
 }
 
-/// Whether a tag is one of a constructed value (8.1.2.5).
+/// Returns whether the tag is that of a constructed value (8.1.2.5).
 pub fn is_constructed(tag: Tag) -> bool
     ensures { result ≡ is_constructed tag }
 {
@@ -290,8 +293,8 @@ pub fn is_constructed(tag: Tag) -> bool
     }
 }
 
-/// Whether two tags have the same octets: a leading octet has a number below 31 whole. Inlined, so
-/// that against a tag that is known it is one comparison.
+/// Returns whether two tags have the same encoding. It is inlined, so that a comparison with a
+/// known tag is one instruction.
 #[inline(always)]
 pub fn is_same_tag(a: Tag, b: Tag) -> bool
     ensures { result ≡ same_tag a b }
@@ -300,7 +303,7 @@ pub fn is_same_tag(a: Tag, b: Tag) -> bool
     first == leading_octet_of(b) && (first % 32 < 31 || number_of(a) == number_of(b))
 }
 
-/// Writes the name of a tag of another class than the universal one.
+/// Writes the name of a tag that isn't of the universal class.
 fn write_numbered<W: fmt::Write>(
     class: Class,
     number: TagNumber,
@@ -317,7 +320,8 @@ fn write_numbered<W: fmt::Write>(
     }
 }
 
-/// The name of its type (X.680), or its class, its number and whether it is constructed.
+/// Prints the name of the type (X.680), or the class, the number and whether the value is
+/// constructed.
 impl fmt::Display for Tag {
     ghost output = { λ tag. Some (tag_name tag) };
 

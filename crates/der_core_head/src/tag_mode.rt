@@ -1,4 +1,4 @@
-//! Modes of tags.
+//! The modes of tags.
 
 ghost use Rattle.std.specs.Prelude.{◌≡◌, Some};
 ghost use Rattle.der_core_head.specs.declared.tag_mode.TagMode.TheVariants.{Explicit};
@@ -9,16 +9,16 @@ use crate::error::{Error, ErrorKind};
 use std::fmt;
 use std::str::FromStr;
 
-/// How a tag stands to the tag of its type (X.690 8.14).
+/// How a tag relates to the tag of the type (X.690 8.14).
 #[derive(Clone, Copy, Debug, PartialEq, Eq, PartialOrd, Ord, Hash)]
 pub enum TagMode {
-    /// In front of it.
+    /// The tag is written before that of the type.
     Explicit,
-    /// In its place.
+    /// The tag replaces that of the type.
     Implicit,
 }
 
-/// `EXPLICIT`.
+/// The default is `EXPLICIT`.
 impl Default for TagMode {
     ghost is_default = { λ mode. mode ≡ Explicit };
 
@@ -27,7 +27,7 @@ impl Default for TagMode {
     }
 }
 
-/// `EXPLICIT`, `explicit`, `IMPLICIT` and `implicit`; anything else is `TagModeUnknown`.
+/// Parses `EXPLICIT`, `explicit`, `IMPLICIT` and `implicit`. Anything else is `TagModeUnknown`.
 impl FromStr for TagMode {
     type Err = Error;
 

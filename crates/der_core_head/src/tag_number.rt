@@ -13,14 +13,14 @@ pub struct TagNumber {
 }
 
 impl TagNumber {
-    /// The tag number of that value.
+    /// Returns the tag number with this value.
     pub fn new(value: u32) -> TagNumber
         ensures { result.value ≡ value }
     {
         TagNumber { value }
     }
 
-    /// The tag of the application class with this number.
+    /// Returns the tag of the application class with this number.
     pub fn application(self, constructed: bool) -> Tag
         ensures { result ≡ Tag.Application constructed self }
     {
@@ -30,7 +30,7 @@ impl TagNumber {
         }
     }
 
-    /// The context-specific tag with this number.
+    /// Returns the context-specific tag with this number.
     pub fn context_specific(self, constructed: bool) -> Tag
         ensures { result ≡ Tag.ContextSpecific constructed self }
     {
@@ -40,7 +40,7 @@ impl TagNumber {
         }
     }
 
-    /// The private tag with this number.
+    /// Returns the private tag with this number.
     pub fn private(self, constructed: bool) -> Tag
         ensures { result ≡ Tag.Private constructed self }
     {
@@ -50,7 +50,7 @@ impl TagNumber {
         }
     }
 
-    /// The number.
+    /// Returns the number.
     pub fn value(self) -> u32
         ensures { result ≡ self.value }
     {
@@ -74,7 +74,7 @@ impl From<TagNumber> for u32 {
     }
 }
 
-/// The number in decimal.
+/// Prints the number in decimal.
 impl fmt::Display for TagNumber {
     ghost output = { λ number. ⟦<u32 as fmt::Display>⟧.output number.value };
 

@@ -1,4 +1,4 @@
-//! Tags at the front of octets (X.690 8.1.2).
+//! Decoding tags (X.690 8.1.2).
 
 ghost use Rattle.std.specs.Prelude.{◌≡◌, ◌%◌, ◌<◌, ◌≤◌, ◌∷◌, ◌++◌, ℕ, List, drop, IfOk, IfSome};
 ghost use Rattle.std.specs.Prelude.{IfNone, OnSome, Ok, Err};
@@ -11,13 +11,13 @@ use crate::error::{Error, ErrorKind};
 use crate::tag::Tag;
 use crate::tag_number::TagNumber;
 
-/// The tag of the universal class that an octet spells, if it is one that is read. Inlined, so that
-/// it is a look into a table.
+/// Returns the tag of the universal class with this byte, if it is supported. It is inlined, so
+/// that it is a look into a table.
 #[inline(always)]
 #[tactic(auto, unfolding(crate::specs::Tags::universal_tag))]
 fn universal_tag_of(octet: u8) -> Option<Tag>
     ensures tag { result ≡ universal_tag octet }
-    // Their octets have the class bits clear.
+    // These bytes have clear class bits.
     ensures low { OnSome result (octet < 64) }
 {
     match octet {
@@ -47,7 +47,7 @@ fn universal_tag_of(octet: u8) -> Option<Tag>
     }
 }
 
-/// The tag of another class than the universal one.
+/// Returns a tag that isn't of the universal class.
 pub fn tag_of_class(class: u8, constructed: bool, number: u32) -> Tag
     ensures { result ≡ class_tag class constructed number }
 {
@@ -68,14 +68,14 @@ pub fn tag_of_class(class: u8, constructed: bool, number: u32) -> Tag
     }
 }
 
-/// The tag that one octet spells, if it is one that is read (X.690 8.1.2.2).
+/// Returns the tag with this one byte, if it is supported (X.690 8.1.2.2).
 #[inline(always)]
 #[tactic(auto, unfolding(crate::specs::Tags::tag_at))]
 pub fn short_tag_of(octet: u8) -> Option<Tag>
     ensures some { IfSome result (λ t. (w : List ℕ) → tag_at (octet ∷ w) ≡ Ok (t, w)) }
     ensures unknown { IfNone result
         (octet < 64 → (w : List ℕ) → tag_at (octet ∷ w) ≡ Err ErrorKind.TagUnknown) }
-    // The number follows.
+    // Otherwise the number follows.
     ensures number { IfNone result (64 ≤ octet → octet % 32 ≡ 31) }
 {
     if let Some(tag) = universal_tag_of(octet) {
@@ -87,7 +87,7 @@ pub fn short_tag_of(octet: u8) -> Option<Tag>
     Some(tag_of_class(octet / 64, octet / 32 % 2 == 1, u32::from(octet % 32)))
 }
 
-/// The tag at the front of octets, if it is spelled in one.
+/// Returns the tag with which the bytes begin, if it has one byte.
 #[inline(always)]
 pub fn short_tag_at(octets: &[u8]) -> Option<Tag>
     ensures { IfSome result (λ t. tag_at octets.now ≡ Ok (t, drop 1 octets.now)) }
@@ -99,11 +99,13 @@ pub fn short_tag_at(octets: &[u8]) -> Option<Tag>
     Some(tag)
 }
 
-/// The number that digits in base 128 spell, of which all but the last have the high bit, and how
-/// many they are (8.1.2.4.2).
+/// Returns the number that digits in base 128 encode, and how many digits there are. All digits but
+/// the last have the high bit set (8.1.2.4.2).
 ///
 /// # Errors
-/// `Incomplete` where octets run out, `TagNumberInvalid` where the number passes 32 bits.
+///
+/// - `Incomplete`: the bytes end too early.
+/// - `TagNumberInvalid`: the number exceeds 32 bits.
 #[tactic(auto, using(crate::proofs::TagLaws::digit_steps))]
 fn digits_of(octets: &[u8]) -> Result<(u32, usize), Error>
     ensures { ReadsFront (λ n. n) octets.now result (digits_at 0) }
@@ -123,10 +125,13 @@ fn digits_of(octets: &[u8]) -> Result<(u32, usize), Error>
     Err(Error::from(ErrorKind::Incomplete))
 }
 
-/// The number of a tag in the octets after the leading one, and how many these are (8.1.2.4).
+/// Returns the number of a tag from the bytes after the first one, and how many these are
+/// (8.1.2.4).
 ///
 /// # Errors
-/// Those of its digits, and `TagNumberInvalid` for a leading zero digit or a number below 31.
+///
+/// - The errors of its digits.
+/// - `TagNumberInvalid`: there is a leading zero digit, or the number is below 31.
 #[tactic(auto, unfolding(crate::specs::Tags::number_at))]
 fn tag_number_of(octets: &[u8]) -> Result<(u32, usize), Error>
     ensures { ReadsFront (λ n. n) octets.now result number_at }
@@ -144,10 +149,11 @@ fn tag_number_of(octets: &[u8]) -> Result<(u32, usize), Error>
     Ok((number, count))
 }
 
-/// The tag at the front of octets, and how many octets it takes.
+/// Returns the tag with which the bytes begin, and its length.
 ///
 /// # Errors
-/// Those of `tag_of`.
+///
+/// - The errors of `tag_of`.
 #[tactic(auto, unfolding(crate::specs::Tags::tag_at))]
 fn read_tag(octets: &[u8]) -> Result<(Tag, usize), Error>
     ensures { ReadsFront (λ t. t) octets.now result tag_at }
@@ -167,20 +173,22 @@ fn read_tag(octets: &[u8]) -> Result<(Tag, usize), Error>
     Ok((tag, 1 + count))
 }
 
-/// The tag at the front of octets, and how many octets it takes (X.690 8.1.2).
+/// Returns the tag with which the bytes begin, and its length (X.690 8.1.2).
 ///
 /// # Errors
-/// `Incomplete` where they run out, `TagUnknown` for a tag of the universal class that isn't read,
-/// `TagNumberInvalid` for a number from 31 on that isn't in its shortest form or passes 32 bits.
+///
+/// - `Incomplete`: the bytes end too early.
+/// - `TagUnknown`: the tag is of the universal class, and isn't supported.
+/// - `TagNumberInvalid`: a number of 31 or more isn't in its shortest form, or exceeds 32 bits.
 #[tactic(auto, using(crate::proofs::HeadLaws::tag_fronts))]
 pub fn tag_of(octets: &[u8]) -> Result<(Tag, usize), Error>
-    // What is read is spelled so.
+    // What is accepted is an encoding.
     ensures spelled { IfOk result (λ x.
         IsTag x.0 × (octets.now ≡ tag_octets x.0 ++ drop x.1 octets.now)) }
-    // What is spelled so is read, whatever follows.
+    // An encoding is accepted, whatever follows it.
     ensures only { (t : Tag) (r : List ℕ) → IsTag t → octets.now ≡ tag_octets t ++ r
         → ReadsFront (λ t. t) octets.now result (λ _. Ok (t, r)) }
-    // Which fault it is.
+    // The error is exact.
     ensures exact { ReadsFront (λ t. t) octets.now result tag_at }
 {
     read_tag(octets)

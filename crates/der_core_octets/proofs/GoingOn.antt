@@ -33,7 +33,7 @@ use Rattle.der_core_head.proofs.Written.{put-append}
 pub rest_then : (a b d : List ℕ) → IsRest b a → IsRest d b → IsRest d a
 rest_then a b d m n = (m.0 + n.0, n.1 ∙ ap (drop n.0) m.1 ∙ drop-drop n.0 m.0 a)
 
--- a rest stays one where the same octets stand behind both
+-- a rest stays one where the same bytes stand after both
 pub rest_more : (n : ℕ) (xs ys : List ℕ) → IsRest (drop n xs ++ ys) (xs ++ ys)
 rest_more zero xs ys = (0, refl)
 rest_more (suc n) [] ys = (0, refl)
@@ -57,7 +57,7 @@ reads_after view old mid new (Err d) f g m ready passed e h = (
   h.3,
 )
 
--- an encoding is a header of the wanted tag, and its content
+-- an encoding is a header of the expected tag, and its content
 pub tlv_wanted : {P : Type 0} (rules : EncodingRules) (tag : Tag) (f : Readings P) (w : List ℕ) → tlv_at rules tag f w ≡ (wanted_at tag (head_by rules) w >>= λ h. value_at f h.0.len h.1)
 unfolding tlv_at wanted_at
 tlv_wanted rules tag f w = grind (arith, nat_tests)
@@ -79,9 +79,9 @@ pub opt_stops : {P : Type 0} (rules : EncodingRules) (first : Tag → Bool) (f :
 unfolding opt_at
 opt_stops rules first f w t k e h stops = rw (e, h, stops) refl
 
--- Headers of a wanted tag.
+-- Headers of an expected tag.
 
--- a tag of one octet is told by it
+-- a tag of one byte is reported by it
 pub by_octet : (t : Tag) (first : ℕ) (w : List ℕ) → number_of t < 31 → first ≡ leading_octet t → tag_at (first ∷ w) ≡ Ok (t, w)
 by_octet t first w low e =
     let one : tag_octets t ++ w ≡ first ∷ w = rw (tag-0 t low, e) refl in
@@ -110,7 +110,7 @@ pub wanted_err : (t : Tag) (head : Readings Head) (w : List ℕ) (k : ErrorKind)
 unfolding wanted_at
 wanted_err t head w k e = found_err t (head w) k e
 
--- a tag that stands is the one that stands if octets are left
+-- a tag that stands is the one that stands if bytes are left
 pub peek_ok : (rules : EncodingRules) (w : List ℕ) (t : Tag) → w ≢ [] → alone (tag_by rules w) ≡ Ok t → peek_at rules w ≡ Ok (Some t)
 peek_ok rules [] t left e = absurd (left refl)
 peek_ok rules (b ∷ w) t left e = grind (arith, nat_tests)
@@ -119,12 +119,12 @@ pub peek_err : (rules : EncodingRules) (w : List ℕ) (k : ErrorKind) → w ≢ 
 peek_err rules [] k left e = absurd (left refl)
 peek_err rules (b ∷ w) k left e = grind (arith, nat_tests)
 
--- octets that aren't empty are left
+-- bytes that aren't empty are left
 pub some_left : (x w : List ℕ) (b : Bool) → b ≡ (length x == 0) → b ≡ false → x ≡ w → w ≢ []
 some_left (y ∷ x) w b e f r = λ none. absurd (cc (r, none))
 some_left _ w _ e f r = absurd cc
 
--- A call of a closure between two ends is a reading of the octets between them.
+-- A call of a closure between two ends is a reading of the bytes between them.
 
 pub refused : (t : Tag) (k : ErrorKind) (n : ℕ) (old : State) (s : Body) → Refuses n old k → Fails k (value_at (read_content_at old (nested s) t) n old.rest)
 refused t kinds.Incomplete n old s h = λ _. value_short (read_content_at old (nested s) t) n old.rest h
@@ -154,7 +154,7 @@ left_over p (b ∷ w) h = refl
 pub at_length : (n taken : ℕ) (w : List ℕ) → n + taken ≡ length w → length (drop n w) ≡ taken
 at_length n taken w h = omega (arith, length-drop n w)
 
--- what is left before an end and the octets behind it is a rest of all of them
+-- what is left before an end and the bytes after it is a rest of all of them
 pub rest_closed : (n taken : ℕ) (f : Bool) (old outer new : State) → n + taken ≡ length old.rest → Kept (entered n old) outer → new ≡ restored taken f outer → IsRest new.rest old.rest
 rest_closed n taken f old outer new h k e =
     let behind : take taken outer.behind ≡ drop n old.rest = ap (take taken) k.behind ∙ take_at (drop n old.rest) old.behind taken (at_length n taken old.rest h) in
@@ -200,7 +200,7 @@ trails t s view n taken old outer new (Err d) e h r f reads closes = absurd cc
 
 -- What a call of a closure between two ends gives, by cases of what it answered.
 
--- the reader stands behind a header that was wanted
+-- the reader follows a header that was wanted
 pub enters_wanted : (old mid : State) (t : Tag) (h : Header) → h.tag ≡ t
     → ReadsNow head_of old mid (Ok h) (wanted_at t (head_by old.source.encoding)) → Enters t h.length.value old mid
 enters_wanted old mid t h is front =
@@ -212,7 +212,7 @@ pub by_failed : (b : Bool) {A B : Type 0} → (b ≡ false → A) → (b ≡ tru
 by_failed true a b = inl (refl, b refl)
 by_failed false a b = inr (refl, a refl)
 
--- what is read of the content behind a header that was wanted is read of both
+-- what is read of the content after a header that was wanted is read of both
 pub wanted_reads : {T : Type 0} (t : Tag) (b : Body) (view : T → BodyValue b) (old mid new : State) (h : Header) (r : Result T Error)
     → ReadsNow head_of old mid (Ok h) (wanted_at t (head_by old.source.encoding))
     → Reads view mid new r (value_at (read_content_at mid (nested b) t) h.length.value)
@@ -231,7 +231,7 @@ module _ {R T F : Type 0} (state : R → State) (g : Once F (MutBor R × Unit {0
         | inr h ↦ inr (inl h)
       ]
 
-  -- an end was set, so many octets before the one in force, and f was called there
+  -- an end was set, that many bytes before the one in force, and f was called there
   pub record Ran (taken : ℕ) (inner outer : R) (r : Result T Error) : Type 0 where
     pub enough : n + taken ≡ length old.rest
     pub room : 0 < old.room
@@ -257,7 +257,7 @@ module _ {R T F : Type 0} (state : R → State) (g : Once F (MutBor R × Unit {0
         let P : State → Type 0 = λ s. Reads view s (state outer) r (read_body_at s b) in
         subst P ran.enters (calls inner r outer ran.call)
 
-    -- the octets behind the end were given back
+    -- the bytes after the end were given back
 
     pub kept_there : (r : Result T Error) (failed : Bool) → Ran taken inner outer r → new ≡ restored taken failed (state outer) → Kept old new
     kept_there r failed ran e = is_kept n taken failed old (state outer) new ran.enough ran.room ran.kept e ran.ready
@@ -280,7 +280,7 @@ module _ {R T F : Type 0} (state : R → State) (g : Once F (MutBor R × Unit {0
         → ClosureReads state g f b view → Reads view old new r (value_at (read_content_at old (nested b) t) n)
     nested_reads t b view r ran closes calls = gives t b view n taken old (state outer) new r ran.enough ran.room ran.ready (reads_there b view r ran calls) closes
 
-    -- octets were left before the end
+    -- bytes were left before the end
 
     pub left_refused : (r : Result T Error) (e : Error) → Ran taken inner outer r → Closes taken (is_err r) (state outer) new (Err e) → RefusesNested state g f n old e
     left_refused (Ok x) e ran closes = inr (inr (inr ((outer, x, called (Ok x) ran, closes.1), closes.2)))
@@ -324,7 +324,7 @@ pub is_over : (t : Tag) (n i : ℕ) (front w : List ℕ) (total : Result (List �
 unfolding joined
 is_over t n i front w total past goes so_far = let k : n - i ≡ 0 = omega arith in sym so_far ∙ rw (k, goes) refl
 
--- the parts in the next octets
+-- the parts in the next bytes
 
 pub parts_none : (rules : EncodingRules) (t : Tag) (n : ℕ) (w : List ℕ) (k : ErrorKind) → slice_at n w ≡ Err k → parts_at rules t n w ≡ Err k
 unfolding parts_at

@@ -15,7 +15,7 @@ unfolding mark_at tag_ber_at
 mark-none [] h = refl
 mark-none (b ∷ w) h = absurd (omega arith)
 
--- what is left ends the levels still open as all octets end the first
+-- what is left ends the levels still open as all bytes end the first
 pub record Continues (octets : List ℕ) (levels : ℕ) (rest : List ℕ) : Type 0 where
   pub depth : levels ≤ 64
   pub within : length rest ≤ length octets
@@ -27,7 +27,7 @@ pub record Continues (octets : List ℕ) (levels : ℕ) (rest : List ℕ) : Type
 pub start : (octets : List ℕ) → IsBytes octets → Continues octets 1 octets
 start octets bytes = record { depth = omega arith; within = omega arith; bytes = bytes; pieces = length octets; enough = omega arith; same = refl }
 
--- by the piece at the front
+-- by the piece at the prefix
 front : (octets : List ℕ) (levels : ℕ) (rest : List ℕ) → (c : Continues octets levels rest) → 0 < levels
     → closed_at (length octets) 1 63 octets ≡ (piece_at rest >>= λ p. levels_after p.0 levels (64 - levels) >>= λ l. closed_at (c.pieces - 1) l.0 l.1 p.1)
 front octets zero rest c some = absurd (omega arith)
@@ -52,7 +52,7 @@ finished octets levels rest c none =
     let e : closed_at (length octets) 1 63 octets ≡ Ok rest = sym c.same ∙ ap (λ n. closed_at c.pieces n (64 - n) rest) none in
     rw e refl
 
--- what is left behind so many octets
+-- what is left after that many bytes
 abbrev tail : ℕ → List ℕ → List ℕ
 tail n w = take (length w - n) (drop n w)
 
@@ -97,7 +97,7 @@ skipped octets levels rest n c some e =
 
 -- Reading, by cases of what is there.
 
--- no more octets than that
+-- no more bytes than that
 pub slice_few : (n : ℕ) (w x r : List ℕ) → slice_at n w ≡ Ok (x, r) → length x ≤ n
 unfolding slice_at
 slice_few n w x r e = grind (arith, nat_tests, length-take n w)

@@ -1,4 +1,4 @@
--- Lengths of several octets, and what is read of more octets.
+-- Lengths of several bytes, and what is read of more bytes.
 use Rattle.std.proofs.Common.{◌≡◌, ℕ, ◌+◌, ◌-◌, ◌*◌, ◌<◌, ◌≤◌, Bool, true, false, cond, ltb, eqb, List, [], ◌∷◌, length, get_or, take, drop, ◌%◌, suc, Result, Ok, Err, arith, refl, ap, ◌∙◌, length-drop, inl, inr, IsErr, ◌≢◌, take_all, ◌++◌, IfOk, Option, Some, None, sym}
 use Rattle.der_core_head.specs.declared.error.ErrorKind.{ErrorKind}
 use Rattle.std.proofs.lemmas.Bool.Decides.{nat_tests}
@@ -20,9 +20,9 @@ use Rattle.der_core_octets.specs.Headers.{head_of, AreAlike, Scans}
 use Rattle.std.proofs.lemmas.List.{length-append, drop-append-le}
 use Rattle.der_core_head.proofs.LeafLaws.{read_stays, fault_stays}
 
--- Lengths of two to five octets.
+-- Lengths of two to five bytes.
 
--- the octets behind the first one
+-- the bytes after the first one
 fewest-1 : (t : Tag) (first : ℕ) (w : List ℕ) → first ≡ 129 → 1 ≤ length w → get_or w 0 0 < 256
     → length_at t (first ∷ w) ≡ cond (ltb (get_or w 0 0) 128) (Err (kinds.Length t)) (Ok (get_or w 0 0, drop 1 w))
 fewest-1 t first [] e l a = absurd (omega arith)
@@ -79,12 +79,12 @@ zero-more t first w low high l h z =
       ]
     ]
 
--- Why there is no length
+-- Why there isn't a length
 
 pub is_fault : {A : Type 0} (r : Result A ErrorKind) (k : ErrorKind) → r ≡ Err k → IsErr r
 is_fault r k e = rw e refl
 
--- an octet below 128 is a length
+-- a byte below 128 is a length
 pub fault-first : (t : Tag) (first : ℕ) (w : List ℕ) → IsErr (length_at t (first ∷ w)) → 128 ≤ first
 unfolding length_at
 fault-first t first w e = grind (arith, nat_tests)
@@ -106,9 +106,9 @@ fault-form t first w e low high l =
     form true y e = absurd cc
     form false y e = refl
 
--- by the octet at the front
+-- by the byte at the prefix
 
--- the octets behind it
+-- the bytes after it
 abbrev behind : List ℕ → List ℕ
 behind w = take (length w - 1) (drop 1 w)
 
@@ -149,7 +149,7 @@ fault-shape t (a ∷ w) e l n h s =
     let long : 128 < a = omega (arith, fault-first t a w e, n) in
     fault-form t a w e long (omega arith) (omega arith)
 
--- a header whose tag is one octet
+-- a header whose tag is one byte
 pub plain : (w : List ℕ) (t : Tag) (n count : ℕ) → 1 ≤ length w → ((r : List ℕ) → tag_at (get_or w 0 0 ∷ r) ≡ Ok (t, r))
     → length_at t (behind w) ≡ Ok (n, drop count (behind w)) → head_at w ≡ Ok (record { tag = t; len = n }, drop (1 + count) w)
 unfolding head_at
@@ -162,7 +162,7 @@ plain (a ∷ w) t n count l tag len =
 pub behind-le : (w : List ℕ) (n : ℕ) → 1 ≤ length w → n ≤ length (behind w) → 1 + n ≤ length w
 behind-le w n l h = omega (arith, ap (λ (u : List ℕ). length u) (behind-is w), length-drop 1 w)
 
--- A length alone is read as one behind a tag, but for the fault of a form that isn't the shortest.
+-- A length alone is read as one after a tag, but for the error of a form that isn't the shortest.
 
 pub lone_is : (w : List ℕ) (r : Result (ℕ × List ℕ) ErrorKind) → length_at tags.Null w ≡ r → lone_length_at w ≡ lone r
 unfolding lone_length_at
@@ -181,7 +181,7 @@ lone_spelled w (Err e) bytes h = tt
 pub lone_again : (n : ℕ) (r : List ℕ) → IsLength n → lone_length_at (length_octets n ++ r) ≡ Ok (n, r)
 lone_again n r fits = lone_is (length_octets n ++ r) (Ok (n, r)) (length_again tags.Null n r fits)
 
--- Lengths and headers at the front of octets, as the grammar spells them.
+-- Lengths and headers at the beginning of bytes, as the grammar spells them.
 
 pub length_spelled : (t : Tag) (w : List ℕ) (r : Result (Length × ℕ) Error) → IsBytes w → ReadsFront (λ (l : Length). l.value) w r (length_at t) → IfOk r (λ x. w ≡ length_octets x.0.value ++ drop x.1 w)
 length_spelled t w (Ok x) bytes h = (length_sound t w x.0.value (drop x.1 w) bytes h.0).0
@@ -193,7 +193,7 @@ head_spelled w (Ok x) bytes h =
     (s.1, s.0)
 head_spelled w (Err e) bytes h = tt
 
--- What was scanned is so before any further octets.
+-- What was scanned is so before any further bytes.
 
 pub scans_longer : (w more : List ℕ) (r : Result (Option (Header × ℕ)) Error) → Scans w r → r ≢ Ok None → Scans (w ++ more) r
 scans_longer w more (Ok (Some x)) h other =

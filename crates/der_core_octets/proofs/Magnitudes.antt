@@ -1,4 +1,4 @@
--- The number of a content, octet by octet.
+-- The number of a content, byte by byte.
 use Rattle.std.proofs.Common.{◌≡◌, ℕ, ◌+◌, ◌*◌, ◌-◌, ◌^◌, ◌<◌, ◌≤◌, Bool, true, false, List, ◌∷◌, length, get_or, drop, refl, ap, subst, sym, ◌∙◌, arith, leb, [], Some, Ok, Err, slice_get, pos, lt-ltb, le-ltb, pow_mono, pow-suc, zero, suc, ◌/◌, ◌%◌, ◌++◌, append_assoc}
 use Rattle.std.proofs.lemmas.Bool.Decides.{nat_tests}
 use Rattle.std.specs.Int.Digits.{number_from_digits, number_from_digits_after, AllBelowBase}
@@ -26,7 +26,7 @@ pub magnitude_large : (b : Bool) (n i : ℕ) (w : List ℕ) → i < length w →
 magnitude_large b n i w h large =
     rw (magnitude_more b n i w h) (omega (arith, number_after_ge 256 (256 * n + turn b (get_or w i 0)) (turned b (drop (i + 1) w)) (omega arith)))
 
--- the number of the octets, by the first one
+-- the number of the bytes, by the first one
 pub shortest_is : (t : Tag) (w : List ℕ) (d : ℕ) → slice_get w 0 ≡ Some d → is_redundant w ≡ false
     → shortest_integer t w ≡ Ok (with_sign (leb 128 d) (number_from_digits 256 (turned (leb 128 d) w)))
 unfolding shortest_integer integer_of
@@ -41,7 +41,7 @@ pub signed_large : (k : ℕ) (t : Tag) (w : List ℕ) (b : Bool) (n : ℕ) → s
 signed_large k t w true n e le large = rw (e, le-ltb n (2 ^ (k - 1)) (omega (arith, pow_mono {i = k - 1} {j = 128} (omega arith)))) refl
 signed_large k t w false n e le large = rw (e, le-ltb n (2 ^ (k - 1)) (omega (arith, pow_mono {i = k - 1} {j = 128} (omega arith)))) refl
 
--- Writing, from the last octet on
+-- Writing, from the last byte on
 
 turned-append : (b : Bool) (u w : List ℕ) → turned b (u ++ w) ≡ turned b u ++ turned b w
 turned-append true u w = map-append (λ d. 255 - d) u w

@@ -1,4 +1,4 @@
--- What stands at the front of octets.
+-- What is at the beginning of bytes.
 use Rattle.std.specs.Prelude.{◌≡◌, ◌≢◌, ◌≤◌, ℕ, List, length, drop, Option, Some, None, Result, Ok}
 use Rattle.std.specs.Prelude.{Err, if◌then◌else◌}
 use Rattle.der_core_head.specs.declared.error.Error.{Error}
@@ -12,13 +12,13 @@ use Rattle.der_core_octets.specs.declared.header.Header.{Header}
 abbrev pub head_of : Header → Head
 head_of h = record { tag = h.tag; len = h.length.value }
 
--- a header of a wanted tag, by what reads headers
+-- a header of an expected tag, by what reads headers
 unfoldable pub wanted_at : Tag → Readings Head → Readings Head
 wanted_at tag head w = head w >>= λ h. if same_tag h.0.tag tag then Ok h
     else Err kinds.TagUnexpected
 
--- What was scanned is the header at the front, and its octets were counted; or octets run out
--- within it; or it has another fault.
+-- What was scanned is the header at the prefix, and its bytes were counted; or the bytes run out
+-- within it; or it has another error.
 abbrev pub Scans : List ℕ → Result (Option (Header × ℕ)) Error → Type 0
 Scans w (Ok (Some x)) = (head_at w ≡ Ok (head_of x.0, drop x.1 w)) × (x.1 ≤ length w)
 Scans w (Ok None) = head_at w ≡ Err kinds.Incomplete

@@ -1,4 +1,4 @@
--- Lengths that stand alone, behind no tag (X.690 8.1.3, 10.1).
+-- Lengths that stand alone, after no tag (X.690 8.1.3, 10.1).
 use Rattle.std.specs.Prelude.{ℕ, List, Result, Ok, Err}
 use Rattle.der_core_head.specs.declared.error.ErrorKind.{ErrorKind}
 use Rattle.der_core_head.specs.declared.error.ErrorKind.TheVariants as kinds
@@ -6,7 +6,7 @@ use Rattle.der_core_head.specs.declared.tag.Tag.TheVariants as tags
 use Rattle.der_core_head.specs.Octets.{Readings}
 use Rattle.der_core_head.specs.Heads.{length_at}
 
--- the fault behind no tag: a form that isn't the shortest is too long, and no tag is there to be
+-- the error after no tag: a form that isn't the shortest is too long, and no tag is there to be
 -- named
 abbrev pub lone_fault : ErrorKind → ErrorKind
 lone_fault (kinds.Length t) = kinds.Overlength
@@ -16,6 +16,6 @@ abbrev pub lone : Result (ℕ × List ℕ) ErrorKind → Result (ℕ × List ℕ
 lone (Ok x) = Ok x
 lone (Err k) = Err (lone_fault k)
 
--- the number that is told, as behind any tag
+-- the number that is reported, as after any tag
 unfoldable pub lone_length_at : Readings ℕ
 lone_length_at w = lone (length_at tags.Null w)

@@ -10,11 +10,11 @@ abbrev pub with_sign : Bool → ℕ → ℤ
 with_sign false n = pos n
 with_sign true n = negsuc n
 
--- an octet with each bit turned, or not
+-- a byte with each bit turned, or not
 abbrev pub turn : Bool → ℕ → ℕ
 turn b d = if b then 255 - d else d
 
--- octets, each with each bit turned, or not
+-- bytes, each with each bit turned, or not
 abbrev pub turned : Bool → List ℕ → List ℕ
 turned false w = w
 turned true w = complement w
@@ -24,7 +24,7 @@ abbrev pub IsMagnitude : ℕ → Option ℕ → Type 0
 IsMagnitude n (Some m) = m ≡ n
 IsMagnitude n None = 2 ^ 128 ≤ n
 
--- What was answered is the number that a content spells, whatever its size, or its fault.
+-- What was returned is the number that a content spells, whatever its size, or its error.
 abbrev pub IsWholeNumber : Tag → List ℕ → Result (Bool × Option ℕ) Error → Type 0
 IsWholeNumber t w (Ok x) = (n : ℕ) × (shortest_integer t w ≡ Ok (with_sign x.0 n))
     × IsMagnitude n x.1

@@ -1,4 +1,4 @@
--- What a writer holds after a call, and what is written to a slice or behind octets.
+-- What a writer holds after a call, and what is written to a slice or after bytes.
 use Rattle.std.specs.Prelude.{◌≡◌, ◌+◌, ℕ, List, [], ◌++◌, Bool, true, false, length, take}
 use Rattle.std.specs.Prelude.{Some, None}
 use Rattle.std.specs.Prelude.{Result, Ok, Err, if◌then◌else◌}
@@ -12,14 +12,14 @@ use Rattle.der_core_head.specs.Octets.{◌>>=◌}
 use Rattle.der_core_head.specs.Shapes.{Shape, Value}
 use Rattle.der_core_head.specs.Writing.{Out, put_head, size, write}
 
--- Nothing was written. A writer that failed stays failed, and one that takes no memory has failed.
+-- Nothing was written. A writer that failed stays failed, and one that doesn't allocate has failed.
 pub record IsRefused (memory : Bool) (old new : Out) : Type 0 where
   pub written : new.written ≡ old.written
   pub room : new.room ≡ old.room
   pub stays : old.failed ≡ true → new.failed ≡ true
   pub failed : memory ≡ false → new.failed ≡ true
 
--- These octets stand at the front of what was written.
+-- These bytes are at the beginning of what was written.
 abbrev pub IsFront : List ℕ → Out → Type 0
 IsFront w o = take (length w) o.written ≡ w
 
@@ -28,7 +28,7 @@ abbrev pub Continues : Out → Out → Type 0
 Continues old new = ((w : List ℕ) → IsFront w old → IsFront w new)
     × (old.failed ≡ true → new.failed ≡ true)
 
--- What was added is a prefix of these octets.
+-- What was added is a prefix of these bytes.
 pub record AddsFront (octets : List ℕ) (old new : Out) : Type 0 where
   pub count : ℕ
   pub written : new.written ≡ old.written ++ take count octets
@@ -41,7 +41,7 @@ blank room = record { written = []; room = Some room; failed = false }
 abbrev pub finished : Out → Result (List ℕ) ErrorKind
 finished o = if o.failed then Err kinds.Failed else Ok o.written
 
--- the number of octets of a value, and octets with the value written behind them
+-- the number of bytes of a value, and bytes with the value written after them
 abbrev pub appended : (s : Shape) → Value s → List ℕ → Result (ℕ × List ℕ) ErrorKind
 appended s v w = size s v >>= λ n. write s v (record { written = w; room = None; failed = false })
     >>= λ o. Ok (n, o.written)
@@ -50,7 +50,7 @@ appended s v w = size s v >>= λ n. write s v (record { written = w; room = None
 abbrev pub filled : (Out → Result Out ErrorKind) → ℕ → Result (List ℕ) ErrorKind
 filled f room = f (blank room) >>= finished
 
--- f was called behind the header of a SEQUENCE of n octets, and wrote that many
+-- f was called after the header of a SEQUENCE of n bytes, and wrote that many
 abbrev pub Encloses : {W F : Type 0} → (W → Out)
     → Once F (MutBor W × Unit {0}) (Result (Unit {0}) Error × (MutBor W × Unit {0})) → F → ℕ → Out
     → Out → Type 0

@@ -11,7 +11,7 @@ use Rattle.der_core_head.specs.Heads.{head_at}
 use Rattle.der_core_head.specs.Grammar.{slice_at, kept}
 use Rattle.der_core_octets.specs.Headers.{wanted_at}
 
--- the content of a part, which is an encoding behind that tag by DER
+-- the content of a part, which is an encoding after that tag by DER
 unfoldable pub part_at : Tag → Readings (List ℕ)
 part_at t w = wanted_at t head_at w >>= λ h. slice_at h.0.len h.1
 
@@ -22,7 +22,7 @@ are_closed (a ∷ []) = false
 are_closed (a ∷ b ∷ []) = (a == 0) && (b == 0)
 are_closed (a ∷ b ∷ c ∷ w) = false
 
--- the contents of the parts, no more than n, joined behind what stands in front
+-- the contents of the parts, no more than n, joined after what is in front
 unfoldable pub joined : Tag → ℕ → List ℕ → List ℕ → Result (List ℕ) ErrorKind
 joined t zero front w = if are_closed w then Ok front else Err kinds.TrailingData
 joined t (suc n) front w = if are_closed w then Ok front
@@ -33,6 +33,6 @@ abbrev pub join_by : EncodingRules → Tag → List ℕ → Result (List ℕ) Er
 join_by encodings.Ber t w = joined t (length w) [] w
 join_by encodings.Der t w = Err kinds.TagUnknown
 
--- the parts in the next n octets
+-- the parts in the next n bytes
 unfoldable pub parts_at : EncodingRules → Tag → ℕ → Readings (List ℕ)
 parts_at rules t n w = slice_at n w >>= λ x. join_by rules t x.0 >>= kept x.1

@@ -1,4 +1,4 @@
--- What stands in bodies of indefinite length, as the definitions see it.
+-- What is in bodies of indefinite length, as the definitions see it.
 use Rattle.std.specs.Prelude.{ℕ, Option, Some, None}
 use Rattle.der_core_head.specs.declared.length.Length.{Length}
 use Rattle.der_core_head.specs.Bodies as bodies

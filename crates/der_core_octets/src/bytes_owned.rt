@@ -1,4 +1,4 @@
-//! Owned octets that a length can count.
+//! Owned bytes that a length can count.
 
 ghost use Rattle.std.specs.Prelude.{◌≡◌, ◌↔◌, ◌<◌, [], length, nat_eq, IsTrue, IfOk, Some};
 ghost use Rattle.std.proofs.Common.{refl, rules};
@@ -23,7 +23,7 @@ use std::convert::AsSlice;
 use std::hash::{Hash, Hasher};
 use std::marker::Model;
 
-/// Owned octets, at most `Length::MAX` of them. A contract sees the octets.
+/// Owned bytes, at most `Length::MAX` of them. A contract sees the bytes.
 #[derive(Debug, Drop)]
 pub struct BytesOwned {
     bytes: Vec<u8>,
@@ -41,10 +41,11 @@ impl Model for BytesOwned {
 }
 
 impl BytesOwned {
-    /// These octets.
+    /// Wraps these bytes.
     ///
     /// # Errors
-    /// `Overflow` for 2^32 octets or more.
+    ///
+    /// - `Overflow`: there are 2^32 bytes or more.
     pub fn new(bytes: Vec<u8>) -> Result<BytesOwned, Error>
         ensures { GivesNow (λ b. b) result (counted bytes.items) }
     {
@@ -54,16 +55,21 @@ impl BytesOwned {
         Ok(BytesOwned { bytes })
     }
 
-    /// The contents of the parts of a string in parts, joined (X.690 8.7.3): those after its
-    /// header, each an encoding of `inner_tag` by DER, up to the end of its content, or to a mark
-    /// there that closes an indefinite length (8.1.5). After a refusal the reader has failed.
+    /// Returns the joined contents of the parts of a string in parts (X.690 8.7.3). The parts
+    /// follow its header. Each is an encoding of `inner_tag` by DER. They end with the content, or
+    /// with the mark that closes an indefinite length (8.1.5). After an error the reader has
+    /// failed.
     ///
-    /// A header doesn't tell whether a string is in parts: bit 6 of the octet that stands does.
+    /// A header doesn't say whether a string is in parts; bit 6 of its first byte does.
     ///
     /// # Errors
-    /// `Incomplete` where the content is longer than what is left; `TagUnknown` by DER, where no
-    /// string is in parts (10.2); `TagUnexpected` for a part of another tag, else the first fault
-    /// of a part; `OutOfMemory`; `Failed` where the reader failed before.
+    ///
+    /// - `Incomplete`: the content is longer than the remaining bytes.
+    /// - `TagUnknown`: the rules are DER, which has no strings in parts (10.2).
+    /// - `TagUnexpected`: a part has another tag.
+    /// - The first error of a part.
+    /// - `OutOfMemory`: memory runs out.
+    /// - `Failed`: the reader failed before.
     pub fn decode_value_parts<'a, R: Reader<'a>>(
         alloc: Global,
         reader: &mut R,
@@ -84,10 +90,11 @@ impl BytesOwned {
         }
     }
 
-    /// A copy of octets that a length can count.
+    /// Returns a copy of bytes that a length can count.
     ///
     /// # Errors
-    /// Out of memory.
+    ///
+    /// Fails if memory runs out.
     pub fn copy_of(alloc: Global, octets: &[u8]) -> Result<BytesOwned, AllocError>
         requires { Fits octets.now }
         ensures { IfOk result (λ copy. copy ≡ octets.now) }
@@ -96,24 +103,25 @@ impl BytesOwned {
         Ok(BytesOwned { bytes })
     }
 
-    /// A copy.
+    /// Returns a copy.
     ///
     /// # Errors
-    /// Out of memory.
+    ///
+    /// Fails if memory runs out.
     pub fn clone(&self, alloc: Global) -> Result<BytesOwned, AllocError>
         ensures { IfOk result (λ copy. copy ≡ self.now) }
     {
         BytesOwned::copy_of(alloc, self.as_slice())
     }
 
-    /// The octets, given back.
+    /// Returns the bytes, and consumes the value.
     pub fn into_vec(self) -> Vec<u8>
         ensures { result.items ≡ self }
     {
         self.bytes
     }
 
-    /// The octets.
+    /// Returns the bytes.
     pub fn as_slice(&self) -> &[u8]
         ensures octets { result.now ≡ self.now }
         ensures short { Fits result.now }
@@ -121,14 +129,14 @@ impl BytesOwned {
         self.bytes.as_slice()
     }
 
-    /// How many there are.
+    /// Returns how many there are.
     pub fn len(&self) -> Length
         ensures { result.value ≡ length self.now }
     {
         Length::new(self.bytes.len() as u32)
     }
 
-    /// Whether there are none.
+    /// Returns whether there are none.
     pub fn is_empty(&self) -> bool
         ensures { IsTrue result ↔ (self.now ≡ []) }
     {
@@ -136,7 +144,7 @@ impl BytesOwned {
     }
 }
 
-/// A copy, in memory of the same allocator.
+/// Copies the value with its own allocator.
 impl Clone for BytesOwned {
     ghost is_clone = { λ x y. y ≡ x };
 
@@ -153,7 +161,7 @@ impl AsSlice<u8> for BytesOwned {
     }
 }
 
-/// Whether the octets are equal.
+/// Compares the bytes.
 impl PartialEq for BytesOwned {
     ghost eq = { pointwise nat_eq };
 
@@ -168,7 +176,7 @@ impl Eq for BytesOwned {
     ghost laws = { nat_list_eq_equiv };
 }
 
-/// The order of the octets, as a list.
+/// Orders values by their bytes, as lists.
 impl PartialOrd for BytesOwned {
     ghost partial_cmp = { λ a b. Some (slice_cmp nat_cmp a b) };
 

@@ -1,4 +1,4 @@
-//! Borrowed octets that a length can count.
+//! Borrowed bytes that a length can count.
 
 ghost use Rattle.std.specs.Prelude.{◌≡◌, ◌↔◌, ◌<◌, ◌≤◌, [], length, take, IsTrue, IfOk, IfErr};
 ghost use Rattle.der_core_head.specs.Heads.{Fits};
@@ -7,7 +7,7 @@ ghost use Rattle.der_core_head.specs.Lengths.{counted};
 use der_core_head::{Error, ErrorKind, Length};
 use std::convert::AsSlice;
 
-/// Borrowed octets, at most `Length::MAX` of them.
+/// Borrowed bytes, at most `Length::MAX` of them.
 #[derive(Clone, Copy, Debug, PartialEq, Eq, PartialOrd, Ord, Hash)]
 pub struct BytesRef<'a> {
     bytes: &'a [u8],
@@ -18,13 +18,14 @@ impl<'a> BytesRef<'a> {
     ghost use Rattle.der_core_octets.specs.Held.{held_octets};
     ghost use Rattle.der_core_head.specs.Reading.{GivesNow};
 
-    /// No octets.
+    /// No bytes.
     pub const EMPTY: BytesRef<'static> = BytesRef { bytes: &[] };
 
-    /// These octets.
+    /// Wraps these bytes.
     ///
     /// # Errors
-    /// `Overflow` for 2^32 octets or more.
+    ///
+    /// - `Overflow`: there are 2^32 bytes or more.
     pub fn new(bytes: &'a [u8]) -> Result<BytesRef<'a>, Error>
         ensures { GivesNow held_octets result (counted bytes.now) }
     {
@@ -34,7 +35,7 @@ impl<'a> BytesRef<'a> {
         Ok(BytesRef { bytes })
     }
 
-    /// The octets.
+    /// Returns the bytes.
     pub fn as_slice(&self) -> &'a [u8]
         ensures octets { result.now ≡ held_octets self.now }
         ensures short { Fits result.now }
@@ -42,24 +43,25 @@ impl<'a> BytesRef<'a> {
         self.bytes
     }
 
-    /// How many there are.
+    /// Returns how many there are.
     pub fn len(&self) -> Length
         ensures { result.value ≡ length (held_octets self.now) }
     {
         Length::new(self.bytes.len() as u32)
     }
 
-    /// Whether there are none.
+    /// Returns whether there are none.
     pub fn is_empty(&self) -> bool
         ensures { IsTrue result ↔ (held_octets self.now ≡ []) }
     {
         self.bytes.is_empty()
     }
 
-    /// The first octets.
+    /// Returns the first `len` bytes.
     ///
     /// # Errors
-    /// `Incomplete` where there are fewer, at the place after the last one.
+    ///
+    /// - `Incomplete`: there are fewer; the position is after the last one.
     pub fn prefix(&self, len: Length) -> Result<BytesRef<'a>, Error>
         ensures ok { IfOk result
             (λ front. (len.value ≤ length (held_octets self.now))
@@ -88,7 +90,7 @@ impl AsSlice<u8> for BytesRef<'_> {
     }
 }
 
-/// From 2^32 octets on it is `Overflow`.
+/// Wraps these bytes. 2^32 bytes or more are `Overflow`.
 impl<'a> TryFrom<&'a [u8]> for BytesRef<'a> {
     ghost use Rattle.der_core_octets.specs.Held.{held_octets};
     ghost use Rattle.der_core_head.specs.Reading.{GivesNow};

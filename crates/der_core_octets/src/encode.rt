@@ -1,4 +1,4 @@
-//! Headers as they are written, and numbers of octets.
+//! Encoding headers, and lengths of slices.
 
 ghost use Rattle.std.specs.Prelude.{◌≡◌, ◌<◌, ◌++◌, length};
 ghost use Rattle.der_core_head.specs.Tags.{number_of, tag_octets};
@@ -10,11 +10,12 @@ ghost use Rattle.der_core_octets.specs.Outputs.{AddsFront, Continues};
 use crate::writer::Writer;
 use der_core_head::{Error, Length, Tag, leading_octet_of, number_of};
 
-/// Writes the octets of a tag (X.690 8.1.2).
+/// Writes the encoding of a tag (X.690 8.1.2).
 ///
 /// # Errors
-/// Those of the writer.
-// Inlined, so that a known tag is one octet and nothing that is answered is moved.
+///
+/// - The errors of the writer.
+// Inlined, so that a known tag is one byte and no result is moved.
 #[inline(always)]
 #[tactic(auto, using(der_core_head::proofs::TagLaws::tag_forms, crate::proofs::Added::write_adds))]
 pub fn encode_tag<W: Writer>(writer: &mut W, tag: Tag) -> Result<(), Error>
@@ -40,11 +41,12 @@ pub fn encode_tag<W: Writer>(writer: &mut W, tag: Tag) -> Result<(), Error>
     }
 }
 
-/// Writes the octets of a length (X.690 8.1.3, 10.1).
+/// Writes the encoding of a length (X.690 8.1.3, 10.1).
 ///
 /// # Errors
-/// Those of the writer.
-// Inlined, so that a known tag is one octet and nothing that is answered is moved.
+///
+/// - The errors of the writer.
+// Inlined, so that a known tag is one byte and no result is moved.
 #[inline(always)]
 #[tactic(auto, using(der_core_head::proofs::HeadLaws::length_forms, crate::proofs::Added::write_adds))]
 pub fn encode_length<W: Writer>(writer: &mut W, len: Length) -> Result<(), Error>
@@ -67,10 +69,11 @@ pub fn encode_length<W: Writer>(writer: &mut W, len: Length) -> Result<(), Error
     }
 }
 
-/// Writes a header at once, whose tag has one octet: its number is below 31.
+/// Writes a header whose tag has one byte, which holds for numbers below 31.
 ///
 /// # Errors
-/// Those of the writer.
+///
+/// - The errors of the writer.
 #[inline(always)]
 #[tactic(auto, using(der_core_head::proofs::TagLaws::tag_forms, der_core_head::proofs::HeadLaws::length_forms, crate::proofs::Added::write_adds))]
 fn encode_short_header<W: Writer>(writer: &mut W, tag: Tag, len: Length) -> Result<(), Error>
@@ -99,8 +102,10 @@ fn encode_short_header<W: Writer>(writer: &mut W, tag: Tag, len: Length) -> Resu
 /// Writes a header.
 ///
 /// # Errors
-/// `Overflow` where header and content pass 2^32 - 1 octets together, and those of the writer.
-// Inlined, so that a known tag is one octet and nothing that is answered is moved.
+///
+/// - `Overflow`: the header and the content have more than 2^32 - 1 bytes together.
+/// - The errors of the writer.
+// Inlined, so that a known tag is one byte and no result is moved.
 #[inline(always)]
 #[tactic(auto, using(crate::proofs::Added::first_added, crate::proofs::Added::put_then_added), unfolding(der_core_head::specs::Writing::put_head, der_core_head::specs::Heads::head_octets))]
 pub fn encode_header<W: Writer>(writer: &mut W, tag: Tag, len: Length) -> Result<(), Error>
@@ -117,10 +122,11 @@ pub fn encode_header<W: Writer>(writer: &mut W, tag: Tag, len: Length) -> Result
     encode_length(writer, len)
 }
 
-/// The number of octets of a slice.
+/// Returns the length of a slice.
 ///
 /// # Errors
-/// `Overflow` from 2^32 on.
+///
+/// - `Overflow`: the slice has 2^32 bytes or more.
 pub fn slice_len(octets: &[u8]) -> Result<Length, Error>
     ensures { GivesNow (λ l. l.value) result (fit_len (length octets.now)) }
 {

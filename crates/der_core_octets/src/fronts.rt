@@ -1,4 +1,4 @@
-//! Tags and headers at the front of octets, by either encoding rules.
+//! Decoding tags and headers by BER or DER.
 
 ghost use Rattle.std.specs.Prelude.{◌≡◌, ◌≤◌, length, Ok, IfOk, IfSome};
 ghost use Rattle.der_core_head.specs.declared.encoding_rules.EncodingRules.{EncodingRules};
@@ -11,10 +11,11 @@ use crate::indefinite::{header_ber_of, tag_ber_of};
 use crate::parse::{header_of, short_header_of, short_header_of_tag};
 use der_core_head::{EncodingRules, Error, ErrorKind, Tag, is_same_tag, short_tag_at, tag_of};
 
-/// The tag at the front of octets, and how many octets it takes.
+/// Returns the tag with which the bytes begin, and its length in bytes.
 ///
 /// # Errors
-/// Those of `tag_of`, and under BER those of `tag_ber_of`.
+///
+/// - The errors of `tag_of`, and under BER those of `tag_ber_of`.
 pub fn tag_by(rules: EncodingRules, octets: &[u8]) -> Result<(Tag, usize), Error>
     ensures front { ReadsFront (λ t. t) octets.now result (tag_by rules) }
     ensures within { IfOk result (λ x. x.1 ≤ length octets.now) }
@@ -25,7 +26,8 @@ pub fn tag_by(rules: EncodingRules, octets: &[u8]) -> Result<(Tag, usize), Error
     }
 }
 
-/// The tag at the front of octets, if it is spelled in one. It is the same by both rules.
+/// Returns the tag with which the bytes begin, if it has one byte. The result is the same under
+/// both rules.
 #[inline(always)]
 pub fn short_tag_by_both(octets: &[u8]) -> Option<Tag>
     ensures { IfSome result
@@ -35,10 +37,11 @@ pub fn short_tag_by_both(octets: &[u8]) -> Option<Tag>
     Some(tag)
 }
 
-/// The header at the front of octets, and how many octets its tag and length take.
+/// Returns the header with which the bytes begin, and its length in bytes.
 ///
 /// # Errors
-/// Those of `header_of`, and under BER those of `header_ber_of`.
+///
+/// - The errors of `header_of`, and under BER those of `header_ber_of`.
 pub fn header_by(rules: EncodingRules, octets: &[u8]) -> Result<(Header, usize), Error>
     ensures front { ReadsFront head_of octets.now result (head_by rules) }
     ensures within { IfOk result (λ x. x.1 ≤ length octets.now) }
@@ -49,8 +52,8 @@ pub fn header_by(rules: EncodingRules, octets: &[u8]) -> Result<(Header, usize),
     }
 }
 
-/// The header at the front of octets, and how many octets it takes, if its tag is spelled in one
-/// octet and its length in its shortest form. It is the same by both rules.
+/// Returns the header with which the bytes begin, and its length in bytes, if its tag has one byte
+/// and its length is in its shortest form. The result is the same under both rules.
 #[inline(always)]
 pub fn short_header_by_both(octets: &[u8]) -> Option<(Header, usize)>
     ensures front { IfSome result
@@ -61,8 +64,8 @@ pub fn short_header_by_both(octets: &[u8]) -> Option<(Header, usize)>
     Some(front)
 }
 
-/// The header of a wanted tag at the front of octets, and how many octets it takes, if the tag is
-/// spelled in one octet. It is the same by both rules.
+/// Returns the header with which the bytes begin, and its length in bytes, if it has the expected
+/// tag, which has one byte. The result is the same under both rules.
 #[inline(always)]
 pub fn short_header_of_tag_by_both(tag: Tag, octets: &[u8]) -> Option<(Header, usize)>
     ensures front { IfSome result
@@ -75,10 +78,13 @@ pub fn short_header_of_tag_by_both(tag: Tag, octets: &[u8]) -> Option<(Header, u
     Some(front)
 }
 
-/// The header of a wanted tag at the front of octets, and how many octets its tag and length take.
+/// Returns the header with which the bytes begin, and its length in bytes. It must have the
+/// expected tag.
 ///
 /// # Errors
-/// Those of `header_by`, and then `TagUnexpected` for another tag.
+///
+/// - The errors of `header_by`.
+/// - `TagUnexpected`: the tag is another one.
 #[tactic(auto, using(der_core_head::proofs::TagLaws::same_tags), unfolding(crate::specs::Headers::wanted_at))]
 pub fn any_header_of_tag(
     rules: EncodingRules,

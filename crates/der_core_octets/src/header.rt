@@ -10,45 +10,45 @@ ghost use Rattle.der_core_octets.specs.Headers.{Scans, head_of};
 use crate::parse::header_of;
 use der_core_head::{Error, ErrorKind, Length, Tag};
 
-/// A tag and the number of content octets (X.690 8.1.2, 8.1.3).
+/// A tag and the length of the content (X.690 8.1.2, 8.1.3).
 #[derive(Clone, Copy, Debug, PartialEq, Eq)]
 pub struct Header {
     /// The tag.
     pub tag: Tag,
-    /// How many octets of content stand behind the header.
+    /// The number of content bytes that follow the header.
     pub length: Length,
 }
 
 impl Header {
-    /// The header of that tag before so many octets.
+    /// Returns the header with this tag and this length of the content.
     pub fn new(tag: Tag, length: Length) -> Header
         ensures { result ≡ record { tag = tag; length = length } }
     {
         Header { tag, length }
     }
 
-    /// The tag.
+    /// Returns the tag.
     pub fn tag(&self) -> Tag
         ensures { result ≡ self.now.tag }
     {
         self.tag
     }
 
-    /// The number of content octets.
+    /// Returns the length of the content.
     pub fn length(&self) -> Length
         ensures { result ≡ self.now.length }
     {
         self.length
     }
 
-    /// Whether the tag is one of a constructed value (X.690 8.1.2.5).
+    /// Returns whether the tag is that of a constructed value (X.690 8.1.2.5).
     pub fn is_constructed(&self) -> bool
         ensures { result ≡ is_constructed self.now.tag }
     {
         self.tag.is_constructed()
     }
 
-    /// The header of the same tag before so many octets.
+    /// Returns the header with the same tag and this length of the content.
     pub fn with_length(&self, length: Length) -> Header
         ensures { result ≡ record self.now { length = length } }
     {
@@ -58,14 +58,15 @@ impl Header {
         }
     }
 
-    /// The header at the front of octets under DER, and how many octets it takes; `None` where they
-    /// run out within it.
+    /// Returns the header with which the bytes begin, under DER, and its length in bytes. Returns
+    /// `None` if the bytes end inside the header.
     ///
     /// # Errors
-    /// Those of `peek`, but for `Incomplete`.
+    ///
+    /// - The errors of `peek`, except `Incomplete`.
     pub fn scan(octets: &[u8]) -> Result<Option<(Header, usize)>, Error>
         ensures exact { Scans octets.now result }
-        // What was answered, but `None`, is the answer for every longer input.
+        // A result other than `None` is the result for every longer input.
         ensures longer { result ≢ Ok None → (more : List ℕ) → Scans (octets.now ++ more) result }
     {
         match header_of(octets) {
@@ -77,10 +78,11 @@ impl Header {
         }
     }
 
-    /// The header at the front of octets under DER (X.690 8.1.2, 8.1.3, 10.1).
+    /// Returns the header with which the bytes begin, under DER (X.690 8.1.2, 8.1.3, 10.1).
     ///
     /// # Errors
-    /// Those of its tag, and then of its length: `Incomplete` where octets run out.
+    ///
+    /// - The errors of its tag, and then of its length. `Incomplete` if the bytes end too early.
     pub fn peek(octets: &[u8]) -> Result<Header, Error>
         ensures { GivesNow head_of result (alone (head_at octets.now)) }
     {

@@ -1,4 +1,4 @@
-//! Lengths and headers at the front of octets, as the grammar spells them.
+//! Decoding lengths and headers, with contracts over the grammar.
 
 ghost use Rattle.std.specs.Prelude.{◌≡◌, ◌++◌, ℕ, List, drop, Ok, IfOk};
 ghost use Rattle.der_core_head.specs.Limits.{IsLength};
@@ -13,58 +13,65 @@ use crate::header::Header;
 use crate::parse;
 use der_core_head::{Error, Length, Tag};
 
-/// The length at the front of octets behind a tag, and how many octets it takes (X.690 8.1.3,
-/// 10.1).
+/// Returns the length with which the bytes begin, after a tag, and how many bytes encode it (X.690
+/// 8.1.3, 10.1).
 ///
 /// # Errors
-/// `Incomplete` where they run out, `IndefiniteLength` for the octet 80, `Overlength` for more than
-/// four octets of length, `Length` where fewer would do.
+///
+/// - `Incomplete`: the bytes end too early.
+/// - `IndefiniteLength`: the first byte is `80`.
+/// - `Overlength`: the length has more than four bytes.
+/// - `Length`: fewer bytes would be enough.
 pub fn length_of(tag: Tag, octets: &[u8]) -> Result<(Length, usize), Error>
-    // What is read is spelled so.
+    // What is accepted is an encoding.
     ensures spelled { IfOk result
         (λ x. octets.now ≡ length_octets x.0.value ++ drop x.1 octets.now) }
-    // What is spelled so is read, whatever follows.
+    // An encoding is accepted, whatever follows it.
     ensures only { (n : ℕ) (r : List ℕ) → IsLength n → octets.now ≡ length_octets n ++ r
         → ReadsFront (λ l. l.value) octets.now result (λ _. Ok (n, r)) }
-    // Which fault it is.
+    // The error is exact.
     ensures exact { ReadsFront (λ l. l.value) octets.now result (length_at tag) }
 {
     parse::length_of(tag, octets)
 }
 
-/// The length at the front of octets, after no tag, and how many octets it takes (X.690 8.1.3,
-/// 10.1).
+/// Returns the length with which the bytes begin, without a tag before it, and how many bytes
+/// encode it (X.690 8.1.3, 10.1).
 ///
 /// # Errors
-/// `Incomplete` where they run out, `IndefiniteLength` for the octet 80, `Overlength` for more than
-/// four octets of length, and where fewer would do.
+///
+/// - `Incomplete`: the bytes end too early.
+/// - `IndefiniteLength`: the first byte is `80`.
+/// - `Overlength`: the length has more than four bytes, or fewer bytes would be enough.
 pub fn lone_length_of(octets: &[u8]) -> Result<(Length, usize), Error>
-    // What is read is spelled so.
+    // What is accepted is an encoding.
     ensures spelled { IfOk result
         (λ x. octets.now ≡ length_octets x.0.value ++ drop x.1 octets.now) }
-    // What is spelled so is read, whatever follows.
+    // An encoding is accepted, whatever follows it.
     ensures only { (n : ℕ) (r : List ℕ) → IsLength n → octets.now ≡ length_octets n ++ r
         → ReadsFront (λ l. l.value) octets.now result (λ _. Ok (n, r)) }
-    // Which fault it is.
+    // The error is exact.
     ensures exact { ReadsFront (λ l. l.value) octets.now result lone_length_at }
 {
     parse::lone_length_of(octets)
 }
 
-/// The header at the front of octets, and how many octets it takes (X.690 8.1.2, 8.1.3, 10.1).
+/// Returns the header with which the bytes begin, and its length in bytes (X.690 8.1.2, 8.1.3,
+/// 10.1).
 ///
 /// # Errors
-/// Those of its tag, and then of its length.
+///
+/// - The errors of its tag, and then of its length.
 pub fn header_of(octets: &[u8]) -> Result<(Header, usize), Error>
-    // What is read is spelled so.
+    // What is accepted is an encoding.
     ensures spelled { IfOk result
         (λ x. IsTag x.0.tag
         × (octets.now ≡ head_octets x.0.tag x.0.length.value ++ drop x.1 octets.now)) }
-    // What is spelled so is read, whatever follows.
+    // An encoding is accepted, whatever follows it.
     ensures only { (t : Tag) (n : ℕ) (r : List ℕ) → IsTag t → IsLength n
         → octets.now ≡ head_octets t n ++ r
         → ReadsFront head_of octets.now result (λ _. Ok (record { tag = t; len = n }, r)) }
-    // Which fault it is.
+    // The error is exact.
     ensures exact { ReadsFront head_of octets.now result head_at }
 {
     parse::header_of(octets)

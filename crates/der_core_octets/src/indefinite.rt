@@ -14,11 +14,12 @@ use crate::header::Header;
 use crate::parse::length_of;
 use der_core_head::{Error, ErrorKind, Length, MAX_LEVELS, Tag, tag_of};
 
-/// The tag at the front of octets under BER, and how many octets it takes: the octet 24 too is that
-/// of an OCTET STRING, in parts (X.690 8.1.2, 8.7.1).
+/// Returns the tag with which the bytes begin, under BER, and its length in bytes. The byte `24` is
+/// the tag of an OCTET STRING in parts (X.690 8.1.2, 8.7.1).
 ///
 /// # Errors
-/// Those of [`tag_of`].
+///
+/// - The errors of [`tag_of`].
 #[tactic(auto, unfolding(der_core_head::specs::Bodies::tag_ber_at))]
 pub fn tag_ber_of(octets: &[u8]) -> Result<(Tag, usize), Error>
     ensures { ReadsFront (λ t. t) octets.now result tag_ber_at }
@@ -33,18 +34,21 @@ pub fn tag_ber_of(octets: &[u8]) -> Result<(Tag, usize), Error>
     Ok((tag, count))
 }
 
-/// A tag, and the number of content octets where it is told.
+/// A tag, and the length of the content if it is definite.
 #[derive(Drop)]
 struct Mark {
     tag: Tag,
     length: Option<Length>,
 }
 
-/// The tag and the length octets at the front of octets under BER, and how many octets these are.
+/// Returns the tag and the length with which the bytes begin, under BER, and the number of their
+/// bytes.
 ///
 /// # Errors
-/// Those of the tag, and then of the length: `IndefiniteLength` for the octet 80 behind a tag that
-/// isn't constructed.
+///
+/// - The errors of the tag.
+/// - The errors of the length, and `IndefiniteLength` for the byte `80` after a tag that isn't
+///   constructed.
 #[tactic(auto, unfolding(der_core_head::specs::Bodies::mark_at))]
 fn mark_of(octets: &[u8]) -> Result<(Mark, usize), Error>
     ensures { ReadsFront plain_mark octets.now result mark_at }
@@ -71,22 +75,24 @@ fn mark_of(octets: &[u8]) -> Result<(Mark, usize), Error>
     ))
 }
 
-/// What stands in a body of indefinite length.
+/// An element of a body of indefinite length.
 #[derive(Drop)]
 enum Piece {
-    /// The two zero octets that end a level.
+    /// The two zero bytes that end a level.
     Ending,
-    /// A tag and the octet 80, which open a level.
+    /// A tag and the byte 80, which open a level.
     Opening,
-    /// An encoding of definite length, all of it.
+    /// A complete encoding of definite length.
     Encoding,
 }
 
-/// What stands at the front of a body, and how many octets it takes.
+/// Returns the element with which the body begins, and its length in bytes.
 ///
 /// # Errors
-/// `Incomplete` where octets run out, `TagUnknown` for a zero octet before another that isn't zero,
-/// and those of a header.
+///
+/// - `Incomplete`: the bytes end too early.
+/// - `TagUnknown`: a zero byte comes before one that isn't zero.
+/// - The errors of a header.
 #[tactic(auto, unfolding(der_core_head::specs::Bodies::piece_at))]
 fn piece_of(octets: &[u8]) -> Result<(Piece, usize), Error>
     ensures { ReadsFront plain_piece octets.now result piece_at }
@@ -114,7 +120,7 @@ fn piece_of(octets: &[u8]) -> Result<(Piece, usize), Error>
     Ok((Piece::Encoding, count + len))
 }
 
-/// The number of octets of the body at the front of octets.
+/// Returns the length of the body with which the bytes begin.
 fn body_len_of(octets: &[u8]) -> Result<Length, Error>
     ensures { GivesNow (λ n. n.value) result (body_len_at octets.now) }
 {
@@ -141,18 +147,23 @@ fn body_len_of(octets: &[u8]) -> Result<Length, Error>
     Ok(Length { value: len as u32 })
 }
 
-/// The number of octets of the body of indefinite length at the front of octets, those that end it
-/// among them (X.690 8.1.3.6, 8.1.5).
+/// Returns the length of the body of indefinite length with which the bytes begin, including the
+/// bytes that end it (X.690 8.1.3.6, 8.1.5).
 ///
-/// At most 64 levels are open at once, the body's own among them. The contents of encodings of
+/// At most 64 levels are open at once, including that of the body. The contents of encodings of
 /// definite length aren't looked into.
 ///
 /// # Errors
-/// The first from the left: `Incomplete` where octets run out, `NestingDepth` for a 65th level,
-/// `TagUnknown` for a zero octet before another that isn't zero, the fault of a header inside; and
-/// `Overflow` for a body that no length counts.
+///
+/// The first of these from the left:
+///
+/// - `Incomplete`: the bytes end too early.
+/// - `NestingDepth`: a 65th level is opened.
+/// - `TagUnknown`: a zero byte comes before one that isn't zero.
+/// - The error of a header inside.
+/// - `Overflow`: the body is longer than a length can count.
 pub fn indefinite_length_of(octets: &[u8]) -> Result<Length, Error>
-    // What is counted is a body, with the octets that end it.
+    // The counted bytes are a body, with the bytes that end it.
     ensures body { IfOk result (λ n. IsIndefiniteBody levels_max (take n.value octets.now)) }
     ensures within { IfOk result (λ n. n.value ≤ length octets.now) }
     ensures least { IfOk result (λ n. 2 ≤ n.value) }
@@ -160,40 +171,43 @@ pub fn indefinite_length_of(octets: &[u8]) -> Result<Length, Error>
     ensures counted { (b more : List ℕ) → IsIndefiniteBody levels_max b → Fits b
         → octets.now ≡ b ++ more
         → GivesNow (λ n. n.value) result (Ok (length b)) }
-    // Before any other octets as many are counted.
+    // The result is the same whatever follows the counted bytes.
     ensures alone { IfOk result
         (λ n. (more : List ℕ) → body_len_at (take n.value octets.now ++ more) ≡ Ok n.value) }
-    // Which fault it is.
+    // The error is exact.
     ensures exact { GivesNow (λ n. n.value) result (body_len_at octets.now) }
 {
     let length = body_len_of(octets)?;
     Ok(length)
 }
 
-/// The header at the front of octets under BER, and how many octets its tag and length take.
+/// Returns the header with which the bytes begin, under BER, and the number of bytes of its tag and
+/// length.
 ///
-/// An indefinite length is the number of octets of its body, those that end it among them.
+/// An indefinite length is the length of the body, including the bytes that end it.
 ///
 /// # Errors
-/// The first from the left: those of the tag, of the length, and of a body of indefinite length.
+///
+/// - The first error from the left: that of the tag, of the length, or of a body of indefinite
+///   length.
 pub fn header_ber_of(octets: &[u8]) -> Result<(Header, usize), Error>
-    // What is read is spelled so.
+    // What is accepted is an encoding.
     ensures spelled { IfOk result (λ x. SpellsHead (head_of x.0) (drop x.1 octets.now) octets.now) }
-    // What is spelled so is read.
+    // An encoding is accepted.
     ensures only { (h : Head) (r : List ℕ) → SpellsHead h r octets.now
         → ReadsFront head_of octets.now result (λ w. Ok (h, r)) }
-    // A header is read alike whatever stands behind the octets that are counted.
+    // The result is the same whatever follows the counted bytes.
     ensures alone { IfOk result (λ x. (more : List ℕ)
         → head_ber_at (take x.1 octets.now ++ (take x.0.length.value (drop x.1 octets.now) ++ more))
         ≡ Ok (head_of x.0, take x.0.length.value (drop x.1 octets.now) ++ more)) }
-    // Which fault it is.
+    // The error is exact.
     ensures exact { ReadsFront head_of octets.now result head_ber_at }
 {
     let (header, count) = read_header(octets)?;
     Ok((header, count))
 }
 
-/// The header at the front of octets under BER.
+/// Returns the header with which the bytes begin, under BER.
 #[tactic(auto, unfolding(der_core_head::specs::Bodies::head_ber_at))]
 fn read_header(octets: &[u8]) -> Result<(Header, usize), Error>
     ensures { ReadsFront head_of octets.now result head_ber_at }

@@ -1,4 +1,4 @@
-//! Whole numbers: two's complement in the fewest octets (X.690 8.3).
+//! Integers: two's complement in the fewest bytes (X.690 8.3).
 
 ghost use Rattle.std.specs.Prelude.{◌≡◌, ◌↔◌, ◌<◌, ◌≤◌, ◌-◌, ◌^◌, pos, IsTrue, IfOk, drop};
 ghost use Rattle.std.specs.Int.Digits.{number_from_digits};
@@ -10,11 +10,11 @@ ghost use Rattle.der_core_octets.specs.Numbers.{IsWholeNumber};
 
 use der_core_head::{Error, ErrorKind, Tag};
 
-/// The least number that no octet may follow within 128 bits: 2^120.
+/// The smallest number that can't be followed by another byte within 128 bits: 2^120.
 const LARGE: u128 = 0x0100_0000_0000_0000_0000_0000_0000_0000;
 
-/// The number that octets spell in base 256, each octet turned where it is negative, if the number
-/// fits 128 bits.
+/// Returns the number that the bytes encode in base 256, if it fits 128 bits. For a negative
+/// number, each byte is inverted.
 fn magnitude_of(octets: &[u8], negative: bool) -> Option<u128>
     ensures { IsMagnitude (number_from_digits 256 (turned negative octets.now)) result }
 {
@@ -29,7 +29,7 @@ fn magnitude_of(octets: &[u8], negative: bool) -> Option<u128>
     Some(number)
 }
 
-/// Whether the first nine bits are equal (8.3.2).
+/// Returns whether the first nine bits are equal (8.3.2).
 pub fn has_redundant_octet(octets: &[u8]) -> bool
     ensures { result ≡ is_redundant octets.now }
 {
@@ -39,11 +39,13 @@ pub fn has_redundant_octet(octets: &[u8]) -> bool
     }
 }
 
-/// Whether the number of a content is negative, and the number n that it is, or of which it is
-/// -(n + 1), if n fits 128 bits.
+/// Returns whether the integer is negative, and the number n such that it is n, or -(n + 1) if it
+/// is negative, if n fits 128 bits.
 ///
 /// # Errors
-/// `Length` for no octets, `Noncanonical` where the first nine bits are equal.
+///
+/// - `Length`: there are no bytes.
+/// - `Noncanonical`: the first nine bits are equal.
 #[tactic(auto, unfolding(der_core_head::specs::Integers::shortest_integer, der_core_head::specs::Integers::integer_of))]
 fn whole_number_of(tag: Tag, octets: &[u8]) -> Result<(bool, Option<u128>), Error>
     ensures { IsWholeNumber tag octets.now result }
@@ -58,7 +60,7 @@ fn whole_number_of(tag: Tag, octets: &[u8]) -> Result<(bool, Option<u128>), Erro
     Ok((negative, magnitude_of(octets, negative)))
 }
 
-/// Whether a number has at most so many bits.
+/// Returns whether a number has at most this many bits.
 fn fits(number: u128, bits: u32) -> bool
     requires { bits ≤ 128 }
     ensures { IsTrue result ↔ number < 2 ^ bits }
@@ -66,11 +68,14 @@ fn fits(number: u128, bits: u32) -> bool
     bits == 128 || number < 1 << bits
 }
 
-/// The number that a content spells, of so many bits and not negative.
+/// Returns the integer that a content encodes, which must have at most this many bits and not be
+/// negative.
 ///
 /// # Errors
-/// `Length` for no octets or more bits, `Noncanonical` where fewer octets would do, `Value` for a
-/// negative number.
+///
+/// - `Length`: there are no bytes, or more bits.
+/// - `Noncanonical`: fewer bytes would be enough.
+/// - `Value`: the integer is negative.
 pub fn unsigned_of(tag: Tag, octets: &[u8], bits: u32) -> Result<u128, Error>
     requires { bits ≤ 128 }
     ensures exact { GivesNow (λ n. pos n) result (integer_read (unsigned bits) tag octets.now) }
@@ -89,11 +94,13 @@ pub fn unsigned_of(tag: Tag, octets: &[u8], bits: u32) -> Result<u128, Error>
     Ok(number)
 }
 
-/// The number n that a content spells, or -(n + 1) where it is negative, of so many bits with that
-/// of its sign.
+/// Returns the number n such that the integer of a content is n, or -(n + 1) if it is negative. The
+/// integer must have at most this many bits, including the sign.
 ///
 /// # Errors
-/// `Length` for no octets or more bits, `Noncanonical` where fewer octets would do.
+///
+/// - `Length`: there are no bytes, or more bits.
+/// - `Noncanonical`: fewer bytes would be enough.
 pub fn signed_of(tag: Tag, octets: &[u8], bits: u32) -> Result<(bool, u128), Error>
     requires low { 0 < bits }
     requires high { bits ≤ 128 }
@@ -111,8 +118,8 @@ pub fn signed_of(tag: Tag, octets: &[u8], bits: u32) -> Result<(bool, u128), Err
     Ok((negative, number))
 }
 
-/// The content of a number n, or of -(n + 1) where it is negative: the last octets of the array,
-/// from a place on.
+/// Returns the content of the integer n, or of -(n + 1) if it is negative: an array, and the index
+/// from which its bytes are the content.
 pub fn integer_octets_of(negative: bool, number: u128) -> ([u8; 17], usize)
     ensures octets { drop result.1 result.0 ≡ integer_octets (with_sign negative number) }
     ensures some { result.1 < 17 }
@@ -133,7 +140,7 @@ pub fn integer_octets_of(negative: bool, number: u128) -> ([u8; 17], usize)
     (octets, at)
 }
 
-/// An octet, each bit of it turned where a number is negative.
+/// Returns a byte, with each bit inverted if the number is negative.
 fn turn(octet: u8, negative: bool) -> u8
     ensures { result ≡ turn negative octet }
 {

@@ -1,14 +1,14 @@
-//! The laws of scanning.
+//! The laws of scanning headers.
 //!
-//! Each is the contract of a function that does nothing.
+//! Each law is the contract of a function that does nothing.
 
 ghost use Rattle.std.specs.Prelude.{ℕ, List, ◌++◌, ◌≢◌, None, Option, Result, Ok};
 ghost use Rattle.der_core_head.specs.declared.error.Error.{Error};
 ghost use Rattle.der_core_octets.specs.declared.header.Header.{Header};
 ghost use Rattle.der_core_octets.specs.Headers.{AreAlike, Scans};
 
-/// Octets are scanned in one way, the place of an error aside; and so are those before more of
-/// them, unless they run out.
+/// Scanning has one result, except for the position of an error. The result stays the same when
+/// more bytes follow, unless the bytes ended too early.
 pub fn scanned_in_one_way()
     ensures alike { (w : List ℕ) (r s : Result (Option (Header × ℕ)) Error) → Scans w r → Scans w s
         → AreAlike r s }

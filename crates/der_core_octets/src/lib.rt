@@ -1,5 +1,5 @@
-//! What stands between octets and values: headers and whole numbers in octets (X.690 8.1), what
-//! octets are read from and written to, and octets and texts that a length can count.
+//! The layer between bytes and values: headers and integers (X.690 8.1), readers and writers, and
+//! bytes and texts whose length fits a `Length`.
 #![tactic(auto)]
 
 mod bytes_owned;

@@ -1,4 +1,4 @@
-//! Lengths and headers at the front of octets (X.690 8.1.2, 8.1.3, 10.1).
+//! Decoding lengths and headers (X.690 8.1.2, 8.1.3, 10.1).
 
 ghost use Rattle.std.specs.Prelude.{◌≡◌, ◌+◌, ◌-◌, ◌<◌, ◌≤◌, ◌∷◌, length, drop, IfSome, IfNone};
 ghost use Rattle.std.specs.Prelude.{OnSome, IsErr, Ok, Err};
@@ -13,11 +13,15 @@ use der_core_head::{
     Error, ErrorKind, Length, Tag, leading_octet_of, number_of, short_tag_of, tag_of,
 };
 
-/// The length at the front of octets behind a tag, and how many octets it takes (8.1.3, 10.1).
+/// Returns the length with which the bytes begin, after a tag, and how many bytes encode it (8.1.3,
+/// 10.1).
 ///
 /// # Errors
-/// `Incomplete` where they run out, `IndefiniteLength` for the octet 80, `Overlength` for more than
-/// four octets of length, `Length` where fewer would do.
+///
+/// - `Incomplete`: the bytes end too early.
+/// - `IndefiniteLength`: the first byte is `80`.
+/// - `Overlength`: the length has more than four bytes.
+/// - `Length`: fewer bytes would be enough.
 #[tactic(auto, unfolding(der_core_head::specs::Heads::length_at))]
 pub fn length_of(tag: Tag, octets: &[u8]) -> Result<(Length, usize), Error>
     ensures { ReadsFront (λ l. l.value) octets.now result (length_at tag) }
@@ -28,10 +32,12 @@ pub fn length_of(tag: Tag, octets: &[u8]) -> Result<(Length, usize), Error>
     }
 }
 
-/// The length at the front of octets, after no tag, and how many octets it takes (8.1.3, 10.1).
+/// Returns the length with which the bytes begin, without a tag before it, and how many bytes
+/// encode it (8.1.3, 10.1).
 ///
 /// # Errors
-/// Those of `length_of`, but `Overlength` where fewer octets would do.
+///
+/// - The errors of `length_of`, but `Overlength` if fewer bytes would be enough.
 pub fn lone_length_of(octets: &[u8]) -> Result<(Length, usize), Error>
     ensures { ReadsFront (λ l. l.value) octets.now result lone_length_at }
 {
@@ -41,7 +47,7 @@ pub fn lone_length_of(octets: &[u8]) -> Result<(Length, usize), Error>
     }
 }
 
-/// The fault of a length after no tag.
+/// Returns the error of a length without a tag before it.
 fn without_tag(fault: ErrorKind) -> ErrorKind
     ensures { result ≡ lone_fault fault }
 {
@@ -51,8 +57,8 @@ fn without_tag(fault: ErrorKind) -> ErrorKind
     }
 }
 
-/// The length at the front of octets behind a tag, and how many octets it takes, if a length stands
-/// there in its shortest form.
+/// Returns the length with which the bytes begin, after a tag, and how many bytes encode it, if it
+/// is in its shortest form.
 #[inline(always)]
 #[tactic(auto, unfolding(der_core_head::specs::Heads::length_at))]
 fn shortest_length_of(octets: &[u8]) -> Option<(Length, usize)>
@@ -77,8 +83,8 @@ fn shortest_length_of(octets: &[u8]) -> Option<(Length, usize)>
     Some((length, usize::from(first) - 127))
 }
 
-/// The length that a first octet from 128 on and those after it spell, if they are its shortest
-/// form (8.1.3.5, 10.1).
+/// Returns the length with this first byte, which is at least 128, and these following bytes, if
+/// they are its shortest form (8.1.3.5, 10.1).
 fn long_length_of(first: u8, rest: &[u8]) -> Option<Length>
     requires { 127 < first }
     ensures some { IfSome result
@@ -116,7 +122,7 @@ fn long_length_of(first: u8, rest: &[u8]) -> Option<Length>
     Some(Length { value })
 }
 
-/// Why no length stands at the front of octets behind a tag.
+/// Returns why the bytes, after a tag, don't begin with a length.
 fn length_fault(tag: Tag, octets: &[u8]) -> ErrorKind
     requires { IsErr (length_at tag octets.now) }
     ensures { length_at tag octets.now ≡ Err result }
@@ -137,8 +143,8 @@ fn length_fault(tag: Tag, octets: &[u8]) -> ErrorKind
     ErrorKind::Length { tag }
 }
 
-/// The header at the front of octets, and how many octets it takes, if its tag is spelled in one.
-/// Most headers are so, and the loops that read them have no call for it.
+/// Returns the header with which the bytes begin, and its length in bytes, if its tag has one byte.
+/// Most headers are like this, and the loops that decode headers need no call for them.
 #[inline(always)]
 #[tactic(auto, unfolding(der_core_head::specs::Heads::head_at))]
 pub fn short_header_of(octets: &[u8]) -> Option<(Header, usize)>
@@ -147,14 +153,14 @@ pub fn short_header_of(octets: &[u8]) -> Option<(Header, usize)>
     let [first, rest @ ..] = octets else {
         return None;
     };
-    // The length first, so that what a caller then asks of the tag is asked of its octet.
+    // The length comes first, because the caller then tests the tag by its byte.
     let (length, count) = shortest_length_of(rest)?;
     let tag = short_tag_of(*first)?;
     Some((Header { tag, length }, 1 + count))
 }
 
-/// The header of a wanted tag at the front of octets, and how many octets it takes, if the tag is
-/// spelled in one octet. One comparison tells it, and the tag isn't made from its octet.
+/// Returns the header with which the bytes begin, and its length in bytes, if it has the expected
+/// tag, which has one byte. One comparison decides this.
 #[inline(always)]
 pub fn short_header_of_tag(tag: Tag, octets: &[u8]) -> Option<(Header, usize)>
     ensures front { IfSome result (λ x. ReadsFront head_of octets.now (Ok x) head_at) }
@@ -170,10 +176,11 @@ pub fn short_header_of_tag(tag: Tag, octets: &[u8]) -> Option<(Header, usize)>
     Some((Header { tag, length }, 1 + count))
 }
 
-/// The header at the front of octets, and how many octets it takes.
+/// Returns the header with which the bytes begin, and its length in bytes.
 ///
 /// # Errors
-/// Those of its tag, and then of its length.
+///
+/// - The errors of its tag, and then of its length.
 pub fn header_of(octets: &[u8]) -> Result<(Header, usize), Error>
     ensures { ReadsFront head_of octets.now result head_at }
 {
@@ -186,11 +193,12 @@ pub fn header_of(octets: &[u8]) -> Result<(Header, usize), Error>
     }
 }
 
-/// The header at the front of octets, of any form. It stays out of the loops that read headers, so
-/// that the usual ones cost them little.
+/// Returns a header of any form with which the bytes begin. It isn't inlined into the loops that
+/// decode headers, so that the usual headers cost little.
 ///
 /// # Errors
-/// Those of its tag, and then of its length.
+///
+/// - The errors of its tag, and then of its length.
 #[inline(never)]
 #[tactic(auto, unfolding(der_core_head::specs::Heads::head_at))]
 fn any_header_of(octets: &[u8]) -> Result<(Header, usize), Error>

@@ -9,7 +9,7 @@ use crate::any_header_of_tag;
 use der_core_head::{EncodingRules, Error, ErrorKind, Tag};
 use std::alloc::Global;
 
-/// The content of the part at the front of octets, and how many octets the part takes.
+/// Returns the content of the part with which the bytes begin, and the length of the part.
 #[tactic(auto, unfolding(crate::specs::Parts::part_at))]
 fn part_of(tag: Tag, octets: &[u8]) -> Result<(&[u8], usize), Error>
     ensures front { ReadsFront (λ s. s.now) octets.now result (part_at tag) }
@@ -24,7 +24,7 @@ fn part_of(tag: Tag, octets: &[u8]) -> Result<(&[u8], usize), Error>
     Ok((&rest[..len], count + len))
 }
 
-/// Whether no further part stands there.
+/// Returns whether there is no further part.
 fn are_closed(octets: &[u8]) -> bool
     ensures { result ≡ are_closed octets.now }
 {
@@ -35,7 +35,7 @@ fn are_closed(octets: &[u8]) -> bool
     }
 }
 
-/// The contents of parts by BER, joined.
+/// Returns the joined contents of parts, by BER.
 fn join_parts(alloc: Global, tag: Tag, octets: &[u8]) -> Result<Vec<u8>, Error>
     ensures exact { Gives (λ v. v.items) result (joined tag (length octets.now) [] octets.now) }
     ensures fewer { IfOk result (λ v. length v.items ≤ length octets.now) }
@@ -58,10 +58,13 @@ fn join_parts(alloc: Global, tag: Tag, octets: &[u8]) -> Result<Vec<u8>, Error>
     }
 }
 
-/// The contents of the parts that octets are, joined.
+/// Returns the joined contents of the parts in the bytes.
 ///
 /// # Errors
-/// `TagUnknown` by DER; the first fault of a part, or `OutOfMemory`.
+///
+/// - `TagUnknown`: the rules are DER.
+/// - The first error of a part.
+/// - `OutOfMemory`: memory runs out.
 pub fn join_by(
     alloc: Global,
     rules: EncodingRules,

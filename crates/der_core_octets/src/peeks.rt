@@ -1,4 +1,4 @@
-//! What stands next, without passing over it.
+//! Peeking at the next tag.
 
 ghost use Rattle.der_core_head.specs.Grammar.{peek_at};
 ghost use Rattle.der_core_head.specs.Reading.{Peeks};
@@ -7,10 +7,11 @@ ghost use Rattle.der_core_head.specs.Fronts.{matches_at};
 use crate::reader::Reader;
 use der_core_head::{Class, Error, TagNumber};
 
-/// Whether the tag that stands next is of that class and has that number; at the end none is.
+/// Returns whether the next tag has this class and this number. At the end, it doesn't.
 ///
 /// # Errors
-/// Those of `peek_tag`.
+///
+/// - The errors of `peek_tag`.
 pub fn peek_matches<'a, R: Reader<'a>>(
     reader: &R,
     class: Class,

@@ -1,4 +1,4 @@
-//! Readers.
+//! Readers of bytes.
 
 ghost use Rattle.std.specs.Prelude.{◌≡◌, ◌↔◌, ◌+◌, ◌≤◌, ◌<◌, ◌++◌, ℕ, List, IsTrue, length, take};
 ghost use Rattle.std.specs.Prelude.{[], slice_get, Ok, OnOk, OnErr, IfOk, IfErr, IsSomeAnd, ◌≢◌};
@@ -26,94 +26,99 @@ use crate::{
 use der_core_head::{EncodingRules, Error, ErrorKind, Length, Tag};
 use std::alloc::Global;
 
-/// What octets are read from: octets up to an end that can be set nearer, and a depth of ends.
+/// A source of bytes. It has an end, which can be set nearer for a nested value, and a limit on
+/// such nesting.
 ///
-/// A reader that refused a call that reads has failed: from then on each such call answers
-/// `Failed`, and `is_failed` tells. A call that peeks leaves the reader as it is, also where it is
-/// refused.
+/// A reader that returned an error from a call that reads has failed: each later call that reads
+/// returns `Failed`, and `is_failed` returns `true`. A call that peeks leaves the reader as it is,
+/// even if it returns an error.
 pub trait Reader<'r>: Drop {
     ghost state: { Self → State };
 
-    /// The rules by which headers are read.
+    /// Returns the rules by which headers are decoded.
     fn encoding_rules(&self) -> EncodingRules
         ensures { result ≡ (state self.now).source.encoding };
 
-    /// Sets the rules by which headers are read from then on.
+    /// Sets the rules by which headers are decoded from now on.
     fn set_encoding_rules(&mut self, encoding_rules: EncodingRules)
         ensures { state self.new ≡ ruled encoding_rules (state self.old) };
 
-    /// The number of octets of the whole input.
+    /// Returns the length of the whole input.
     fn input_len(&self) -> Length
         ensures { result.value ≡ (state self.now).source.size };
 
-    /// How many octets of the whole input were passed over.
+    /// Returns the position in the whole input.
     fn position(&self) -> Length
         ensures { IsAt result.value (state self.now) };
 
-    /// How many more ends can be set, one within the other.
+    /// Returns how many more levels of nesting can be opened.
     fn levels_left(&self) -> usize
         ensures left { result ≡ (state self.now).room }
         ensures most { result ≤ levels_max };
 
-    /// Whether a call failed before.
+    /// Returns whether a call has failed before.
     fn is_failed(&self) -> bool
         ensures { result ≡ (state self.now).failed };
 
-    /// The octets up to the end in force.
+    /// Returns the bytes up to the current end.
     fn remaining(&self) -> &'r [u8]
         ensures rest { result.now ≡ (state self.now).rest }
         ensures short { Fits result.now };
 
-    /// Passes over octets.
+    /// Skips this many bytes.
     fn skip(&mut self, len: usize)
         requires { len ≤ length (state self.old).rest }
         ensures { state self.new ≡ past len (state self.old) };
 
-    /// Makes the reader a failed one.
+    /// Marks the reader as failed.
     fn fail(&mut self)
         ensures { state self.new ≡ broken (state self.old) };
 
-    /// Sets the end `len` octets ahead, and answers how many octets it took from the reader.
+    /// Sets the end `len` bytes ahead, and returns by how many bytes it moved.
     ///
     /// # Errors
-    /// `Incomplete` where fewer are left, then `NestingDepth` where 64 ends are set.
+    ///
+    /// - `Incomplete`: fewer bytes are left.
+    /// - `NestingDepth`: 64 ends are set.
     fn begin_nested(&mut self, len: Length) -> Result<Length, Error>
         ensures { Opens len.value (state self.old) (state self.new) result };
 
-    /// Gives the octets back that `begin_nested` took, after what was read there failed or didn't.
+    /// Restores the end that `begin_nested` moved, whether or not reading failed there.
     ///
     /// # Errors
-    /// `TrailingData` where nothing failed and octets are left before the end.
+    ///
+    /// - `TrailingData`: nothing failed, and bytes are left before the end.
     fn end_nested(&mut self, behind: Length, failed: bool) -> Result<(), Error>
         requires behind { behind.value ≤ length (state self.old).behind }
         requires room { (state self.old).room < levels_max }
         ensures { Closes behind.value failed (state self.old) (state self.new) result };
 
-    /// Whether no octets are left.
+    /// Returns whether no bytes are left.
     final fn is_finished(&self) -> bool
         ensures { IsTrue result ↔ ((state self.now).rest ≡ []) }
     {
         self.remaining().is_empty()
     }
 
-    /// How many octets are left.
+    /// Returns the number of bytes that are left.
     final fn remaining_len(&self) -> Length
         ensures { result.value ≡ length (state self.now).rest }
     {
         Length::new(self.remaining().len() as u32)
     }
 
-    /// The next octet, without passing over it. The reader stays as it is.
+    /// Returns the next byte without consuming it. The reader stays as it is.
     final fn peek_byte(&self) -> Option<u8>
         ensures { result ≡ slice_get (state self.now).rest 0 }
     {
         self.remaining().first().copied()
     }
 
-    /// The next octets.
+    /// Returns the next bytes.
     ///
     /// # Errors
-    /// `Incomplete` where fewer are left.
+    ///
+    /// - `Incomplete`: fewer are left.
     final fn read_slice(&mut self, len: Length) -> Result<&'r [u8], Error>
         ensures { ReadsNow (λ s. s.now) (state self.old) (state self.new) result
             (slice_at len.value) }
@@ -130,10 +135,11 @@ pub trait Reader<'r>: Drop {
         Ok(&octets[..len])
     }
 
-    /// The next octet.
+    /// Returns the next byte.
     ///
     /// # Errors
-    /// `Incomplete` where none is left.
+    ///
+    /// - `Incomplete`: none is left.
     final fn read_byte(&mut self) -> Result<u8, Error>
         ensures { ReadsNow (λ b. b) (state self.old) (state self.new) result byte_at }
     {
@@ -147,23 +153,24 @@ pub trait Reader<'r>: Drop {
         Ok(*octet)
     }
 
-    /// The next header, by the rules of the reader.
+    /// Decodes the next header, by the rules of the reader.
     ///
     /// # Errors
-    /// Those of `header_of`, and under BER those of `header_ber_of`.
+    ///
+    /// - The errors of `header_of`, and under BER those of `header_ber_of`.
     #[inline(always)]
     final fn read_header(&mut self) -> Result<Header, Error>
-        // Where DER rules, what is read is spelled so.
+        // Under DER, what is accepted is an encoding.
         ensures spelled { IfOk result (λ h. IsDer (state self.old)
             → IsTag h.tag × ((state self.old).rest
             ≡ head_octets h.tag h.length.value ++ (state self.new).rest)) }
-        // What is spelled so is read, whatever follows.
+        // An encoding is accepted, whatever follows it.
         ensures only { (t : Tag) (n : ℕ) (r : List ℕ) → IsDer (state self.old)
             → (state self.old).failed ≡ false → IsTag t → IsLength n
             → (state self.old).rest ≡ head_octets t n ++ r
             → GivesNow head_of result (Ok (record { tag = t; len = n }))
             × ((state self.new).rest ≡ r) }
-        // Which fault it is.
+        // The error is exact.
         ensures front { ReadsNow head_of (state self.old) (state self.new) result
             (head_by (state self.old).source.encoding) }
     {
@@ -178,10 +185,12 @@ pub trait Reader<'r>: Drop {
         Ok(header)
     }
 
-    /// The next header, by the rules of the reader, which has to be one of that tag.
+    /// Decodes the next header, by the rules of the reader. It must have this tag.
     ///
     /// # Errors
-    /// Those of `read_header`, and then `TagUnexpected` for another tag.
+    ///
+    /// - The errors of `read_header`.
+    /// - `TagUnexpected`: the tag is another one.
     #[inline(always)]
     final fn read_header_of(&mut self, tag: Tag) -> Result<Header, Error>
         ensures front { ReadsNow head_of (state self.old) (state self.new) result
@@ -198,11 +207,12 @@ pub trait Reader<'r>: Drop {
         Ok(Header { tag, length })
     }
 
-    /// The next header, by the rules of the reader, without passing over it. The reader stays as it
-    /// is.
+    /// Returns the next header, by the rules of the reader, without consuming it. The reader stays
+    /// as it is.
     ///
     /// # Errors
-    /// Those of `read_header`.
+    ///
+    /// - The errors of `read_header`.
     final fn peek_header(&self) -> Result<Header, Error>
         ensures { Peeks head_of (state self.now) result
             (alone (head_by (state self.now).source.encoding (state self.now).rest)) }
@@ -217,11 +227,12 @@ pub trait Reader<'r>: Drop {
         }
     }
 
-    /// The next tag, by the rules of the reader, without passing over it. The reader stays as it
-    /// is.
+    /// Returns the next tag, by the rules of the reader, without consuming it. The reader stays as
+    /// it is.
     ///
     /// # Errors
-    /// Those of `tag_of`, and under BER those of `tag_ber_of`.
+    ///
+    /// - The errors of `tag_of`, and under BER those of `tag_ber_of`.
     final fn peek_tag(&self) -> Result<Tag, Error>
         ensures { Peeks (λ t. t) (state self.now) result
             (alone (tag_by (state self.now).source.encoding (state self.now).rest)) }
@@ -236,11 +247,12 @@ pub trait Reader<'r>: Drop {
         }
     }
 
-    /// The next tag, by the rules of the reader, without passing over it, if octets are left. The
-    /// reader stays as it is.
+    /// Returns the next tag, by the rules of the reader, without consuming it, or `None` if no
+    /// bytes are left. The reader stays as it is.
     ///
     /// # Errors
-    /// Those of `peek_tag`.
+    ///
+    /// - The errors of `peek_tag`.
     final fn peek_tag_or_end(&self) -> Result<Option<Tag>, Error>
         ensures { Peeks (λ t. t) (state self.now) result
             (peek_at (state self.now).source.encoding (state self.now).rest) }
@@ -258,11 +270,12 @@ pub trait Reader<'r>: Drop {
         }
     }
 
-    /// The next tag, by the rules of the reader, without passing over it, where a value has to
-    /// stand.
+    /// Returns the next tag, by the rules of the reader, without consuming it, where a value is
+    /// required.
     ///
     /// # Errors
-    /// Those of `peek_tag`. The reader has failed after them.
+    ///
+    /// - The errors of `peek_tag`. The reader has then failed.
     #[inline(always)]
     final fn next_tag(&mut self) -> Result<Tag, Error>
         ensures front { Peeks (λ t. t) (state self.old) result
@@ -278,11 +291,12 @@ pub trait Reader<'r>: Drop {
         Ok(next_any_tag(self)?)
     }
 
-    /// The next tag, by the rules of the reader, without passing over it, if octets are left where
-    /// a value may stand.
+    /// Returns the next tag, by the rules of the reader, without consuming it, or `None` if no
+    /// bytes are left, where a value is optional.
     ///
     /// # Errors
-    /// Those of `peek_tag`. The reader has failed after them.
+    ///
+    /// - The errors of `peek_tag`. The reader has then failed.
     #[inline(always)]
     final fn next_tag_or_end(&mut self) -> Result<Option<Tag>, Error>
         ensures front { Peeks (λ t. t) (state self.old) result
@@ -303,10 +317,12 @@ pub trait Reader<'r>: Drop {
         Ok(Some(tag))
     }
 
-    /// The next octets, copied.
+    /// Returns a copy of the next bytes.
     ///
     /// # Errors
-    /// `Incomplete` where fewer are left, or `OutOfMemory`.
+    ///
+    /// - `Incomplete`: fewer bytes are left.
+    /// - `OutOfMemory`: memory runs out.
     final fn read_vec(&mut self, alloc: Global, len: Length) -> Result<Vec<u8>, Error>
         ensures { Reads (λ v. v.items) (state self.old) (state self.new) result
             (slice_at len.value) }
@@ -321,11 +337,13 @@ pub trait Reader<'r>: Drop {
         }
     }
 
-    /// The octets of the next encoding, its header among them, by the rules of the reader. The
-    /// content isn't looked into.
+    /// Returns the bytes of the next encoding, including its header, by the rules of the reader.
+    /// The content isn't looked into.
     ///
     /// # Errors
-    /// Those of `read_header`, and `Incomplete` where fewer octets of content are left.
+    ///
+    /// - The errors of `read_header`.
+    /// - `Incomplete`: fewer content bytes are left.
     final fn tlv_bytes(&mut self) -> Result<&'r [u8], Error>
         ensures { ReadsNow (λ s. s.now) (state self.old) (state self.new) result
             (encoding_at (head_by (state self.old).source.encoding)) }
@@ -349,11 +367,11 @@ pub trait Reader<'r>: Drop {
         Ok(&octets[..count + len])
     }
 
-    /// Copies the next octets, as many as there is room for, without passing over them. The reader
-    /// stays as it is.
+    /// Fills the buffer with the next bytes, without consuming them. The reader stays as it is.
     ///
     /// # Errors
-    /// `Incomplete` where fewer are left.
+    ///
+    /// - `Incomplete`: fewer bytes are left.
     final fn peek_into(&self, buffer: &mut [u8]) -> Result<(), Error>
         ensures ok { OnOk result
             ((buffer.new ≡ take (length buffer.old) (state self.now).rest)
@@ -379,10 +397,11 @@ pub trait Reader<'r>: Drop {
         Ok(())
     }
 
-    /// Copies the next octets, as many as there is room for, and passes over them.
+    /// Fills the buffer with the next bytes.
     ///
     /// # Errors
-    /// `Incomplete` where fewer are left.
+    ///
+    /// - `Incomplete`: fewer bytes are left.
     final fn read_into(&mut self, buffer: &mut [u8]) -> Result<(), Error>
         ensures reads { ReadsNow (λ _. buffer.new) (state self.old) (state self.new) result
             (slice_at (length buffer.old)) }
@@ -400,10 +419,11 @@ pub trait Reader<'r>: Drop {
         }
     }
 
-    /// Passes over octets.
+    /// Skips this many bytes.
     ///
     /// # Errors
-    /// `Incomplete` where fewer are left.
+    ///
+    /// - `Incomplete`: fewer bytes are left.
     final fn drain(&mut self, amount: Length) -> Result<(), Error>
         ensures { ReadsNow (λ _. take amount.value (state self.old).rest) (state self.old)
             (state self.new) result (slice_at amount.value) }
@@ -419,14 +439,14 @@ pub trait Reader<'r>: Drop {
         Ok(())
     }
 
-    /// How many octets of the whole input were passed over.
+    /// Returns the position in the whole input.
     final fn offset(&self) -> Length
         ensures { IsAt result.value (state self.now) }
     {
         self.position()
     }
 
-    /// An error at the place of the reader, which has failed from then on.
+    /// Returns an error at the position of the reader, and marks the reader as failed.
     final fn error(&mut self, kind: ErrorKind) -> Error
         ensures kind { result.kind ≡ kind }
         ensures place { IsSomeAnd result.position (λ p. IsAt p.value (state self.old)) }
@@ -440,34 +460,39 @@ pub trait Reader<'r>: Drop {
         }
     }
 
-    /// Whether octets can be lent as they stand: they can.
+    /// Returns whether bytes can be borrowed from the input, which is always `true`.
     final fn can_read_slice() -> bool
         ensures { IsTrue result }
     {
         true
     }
 
-    /// Calls `f` on the reader with its end set `len` octets ahead, and wants all of these read.
+    /// Calls `f` on the reader with its end set `len` bytes ahead. `f` must read all of these
+    /// bytes.
     ///
     /// # Errors
-    /// `Incomplete` where fewer are left, `NestingDepth` where 64 ends are set, what `f` answers,
-    /// `TrailingData` where it leaves octets.
+    ///
+    /// - `Incomplete`: fewer bytes are left.
+    /// - `NestingDepth`: 64 ends are set.
+    /// - The error of `f`.
+    /// - `TrailingData`: `f` leaves bytes.
     final fn read_nested<T: Drop, F: FnOnce(&mut Self) -> Result<T, Error>>(
         &mut self,
         len: Length,
         f: F,
     ) -> Result<T, Error>
         requires callable { F.IsAlwaysCallable f }
-        // The closure gives back the same reader, with the same end, and further on.
+        // The closure returns the same reader, with the same end, at the same or a later position.
         requires hands_back { HandsBack state F.FnOnce f }
-        // The octets were passed over, and the end and the levels are those before.
+        // The bytes were consumed, and the end and the levels are as before.
         ensures moved { OnOk result (IsNested len.value (state self.old) (state self.new)) }
-        // The answer is that of the closure, which left nothing up to the end set for it.
+        // The result is that of the closure, which left no bytes before the end that was set for
+        // it.
         ensures ran { IfOk result (λ x. Answered state F.FnOnce f len.value (state self.old) x) }
         ensures kept { OnErr result (Kept (state self.old) (state self.new)) }
         ensures failed { OnErr result ((state self.new).failed ≡ true) }
         ensures refused { IfErr result (RefusesNested state F.FnOnce f len.value (state self.old)) }
-        // What the closure reads of a body, this reads of a content.
+        // If the closure decodes a body, this call decodes a content.
         ensures reads { (t : Tag) (b : Body) (view : T → BodyValue b)
             → ClosureReads state F.FnOnce f b view
             → Reads view (state self.old) (state self.new) result
@@ -479,10 +504,11 @@ pub trait Reader<'r>: Drop {
         outcome
     }
 
-    /// Calls `f` on the content behind a header that was read, and wants all of it read.
+    /// Calls `f` on the content after a header that was decoded. `f` must read all of it.
     ///
     /// # Errors
-    /// Those of `read_nested`.
+    ///
+    /// - The errors of `read_nested`.
     final fn read_value<T: Drop, F: FnOnce(&mut Self) -> Result<T, Error>>(
         &mut self,
         header: Header,
@@ -507,20 +533,23 @@ pub trait Reader<'r>: Drop {
         Ok(value)
     }
 
-    /// Calls `f` on the content of the SEQUENCE that stands next, and wants all of it read.
+    /// Calls `f` on the content of the next SEQUENCE. `f` must read all of it.
     ///
     /// # Errors
-    /// Those of `read_header`, `TagUnexpected` for another tag, and those of `read_nested`.
+    ///
+    /// - The errors of `read_header`.
+    /// - `TagUnexpected`: the tag is another one.
+    /// - The errors of `read_nested`.
     final fn sequence<T: Drop, F: FnOnce(&mut Self) -> Result<T, Error>>(
         &mut self,
         f: F,
     ) -> Result<T, Error>
         requires callable { F.IsAlwaysCallable f }
         requires hands_back { HandsBack state F.FnOnce f }
-        // By either rules a header of a SEQUENCE stands there, and it and its content were passed
-        // over.
+        // Under either rules, the header of a SEQUENCE was next, and it and its content were
+        // consumed.
         ensures moved { OnOk result (IsEnclosed Tag.Sequence (state self.old) (state self.new)) }
-        // The answer is that of the closure, which left nothing of the content.
+        // The result is that of the closure, which left nothing of the content.
         ensures ran { IfOk result
             (λ x. AnsweredIn Tag.Sequence state F.FnOnce f (state self.old) x) }
         ensures kept { Kept (state self.old) (state self.new) }
@@ -535,10 +564,12 @@ pub trait Reader<'r>: Drop {
         Ok(value)
     }
 
-    /// That nothing is left to read.
+    /// Checks that nothing is left to read.
     ///
     /// # Errors
-    /// `Failed` where the reader failed before, `TrailingData` where octets are left.
+    ///
+    /// - `Failed`: the reader failed before.
+    /// - `TrailingData`: bytes are left.
     final fn finish(&self) -> Result<(), Error>
         ensures ok { OnOk result
             (((state self.now).rest ≡ []) × ((state self.now).failed ≡ false)) }
@@ -558,11 +589,12 @@ pub trait Reader<'r>: Drop {
     }
 }
 
-/// The next tag, of any form, where a value has to stand. It stays out of the calls that choose by
-/// a tag, so that the usual ones cost them little.
+/// Returns the next tag, of any form, where a value is required. It isn't inlined into the calls
+/// that choose by a tag, so that the usual tags cost little.
 ///
 /// # Errors
-/// Those of `peek_tag`. The reader has failed after them.
+///
+/// - The errors of `peek_tag`. The reader has then failed.
 #[inline(never)]
 fn next_any_tag<'r, R: Reader<'r>>(reader: &mut R) -> Result<Tag, Error>
     ensures front { Peeks (λ t. t) (R.state reader.old) result
@@ -579,11 +611,12 @@ fn next_any_tag<'r, R: Reader<'r>>(reader: &mut R) -> Result<Tag, Error>
     }
 }
 
-/// The next header, of any form. It stays out of the calls that read headers, so that the usual
-/// ones cost them little.
+/// Decodes the next header, of any form. It isn't inlined into the calls that decode headers, so
+/// that the usual headers cost little.
 ///
 /// # Errors
-/// Those of `read_header`.
+///
+/// - The errors of `read_header`.
 #[inline(never)]
 fn read_any_header<'r, R: Reader<'r>>(reader: &mut R) -> Result<Header, Error>
     ensures spelled { IfOk result (λ h. IsDer (R.state reader.old)
@@ -608,11 +641,12 @@ fn read_any_header<'r, R: Reader<'r>>(reader: &mut R) -> Result<Header, Error>
     }
 }
 
-/// The next header of a wanted tag, of any form. It stays out of the calls that read headers, so
-/// that the usual ones cost them little.
+/// Decodes the next header, of any form, which must have the expected tag. It isn't inlined into
+/// the calls that decode headers, so that the usual headers cost little.
 ///
 /// # Errors
-/// Those of `read_header_of`.
+///
+/// - The errors of `read_header_of`.
 #[inline(never)]
 fn read_any_header_of<'r, R: Reader<'r>>(reader: &mut R, tag: Tag) -> Result<Header, Error>
     ensures front { ReadsNow head_of (R.state reader.old) (R.state reader.new) result

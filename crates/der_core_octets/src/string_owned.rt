@@ -1,4 +1,4 @@
-//! Owned text that a length can count.
+//! Owned text whose length fits a `Length`.
 
 ghost use Rattle.std.specs.Prelude.{◌≡◌, ◌↔◌, ◌<◌, [], length, nat_eq, IsTrue, IfOk, Some, true};
 ghost use Rattle.std.proofs.Common.{refl, rules};
@@ -22,7 +22,7 @@ use std::convert::AsStr;
 use std::hash::{Hash, Hasher};
 use std::marker::Model;
 
-/// Owned text, at most `Length::MAX` octets of UTF-8. A contract sees its octets.
+/// Owned text, at most `Length::MAX` bytes of UTF-8. A contract sees its bytes.
 #[derive(Debug, Drop)]
 pub struct StringOwned {
     text: String,
@@ -41,10 +41,11 @@ impl Model for StringOwned {
 }
 
 impl StringOwned {
-    /// This text.
+    /// Wraps this text.
     ///
     /// # Errors
-    /// `Overflow` for 2^32 octets or more.
+    ///
+    /// - `Overflow`: it has 2^32 bytes or more.
     pub fn new(text: String) -> Result<StringOwned, Error>
         ensures { GivesNow (λ s. s) result (counted (string_bytes text)) }
     {
@@ -54,10 +55,13 @@ impl StringOwned {
         Ok(StringOwned { text })
     }
 
-    /// The text of these octets.
+    /// Returns the text of these bytes.
     ///
     /// # Errors
-    /// `Utf8` where they are no UTF-8, then `Overflow` for 2^32 octets or more, or `OutOfMemory`.
+    ///
+    /// - `Utf8`: they aren't UTF-8.
+    /// - `Overflow`: 2^32 bytes or more.
+    /// - `OutOfMemory`: memory runs out.
     pub fn from_bytes(alloc: Global, bytes: &[u8]) -> Result<StringOwned, Error>
         ensures { Gives (λ s. s) result (counted_text bytes.now) }
     {
@@ -69,10 +73,11 @@ impl StringOwned {
         Ok(StringOwned { text })
     }
 
-    /// A copy of a text that a length can count.
+    /// Returns a copy of a text that a length can count.
     ///
     /// # Errors
-    /// Out of memory.
+    ///
+    /// Fails if memory runs out.
     pub fn copy_of(alloc: Global, text: &str) -> Result<StringOwned, AllocError>
         requires { Fits text.now }
         ensures { IfOk result (λ copy. copy ≡ text.now) }
@@ -81,24 +86,25 @@ impl StringOwned {
         Ok(StringOwned { text })
     }
 
-    /// A copy.
+    /// Returns a copy.
     ///
     /// # Errors
-    /// Out of memory.
+    ///
+    /// Fails if memory runs out.
     pub fn clone(&self, alloc: Global) -> Result<StringOwned, AllocError>
         ensures { IfOk result (λ copy. copy ≡ self.now) }
     {
         StringOwned::copy_of(alloc, self.as_str())
     }
 
-    /// The text, given back.
+    /// Returns the text, and consumes the value.
     pub fn into_string(self) -> String
         ensures { string_bytes result ≡ self }
     {
         self.text
     }
 
-    /// The text.
+    /// Returns the text.
     pub fn as_str(&self) -> &str
         ensures text { result.now ≡ self.now }
         ensures short { Fits result.now }
@@ -106,7 +112,7 @@ impl StringOwned {
         self.text.as_str()
     }
 
-    /// The octets.
+    /// Returns the bytes.
     #[tactic(auto, using(der_core_head::proofs::TextLaws::utf8_reads))]
     pub fn as_bytes(&self) -> &[u8]
         ensures octets { result.now ≡ self.now }
@@ -116,14 +122,14 @@ impl StringOwned {
         self.text.as_str().as_bytes()
     }
 
-    /// How many octets there are.
+    /// Returns the number of bytes.
     pub fn len(&self) -> Length
         ensures { result.value ≡ length self.now }
     {
         Length::new(self.text.as_bytes().len() as u32)
     }
 
-    /// Whether there are none.
+    /// Returns whether there are none.
     pub fn is_empty(&self) -> bool
         ensures { IsTrue result ↔ (self.now ≡ []) }
     {
@@ -131,7 +137,7 @@ impl StringOwned {
     }
 }
 
-/// A copy, in memory of the same allocator.
+/// Copies the value with its own allocator.
 impl Clone for StringOwned {
     ghost is_clone = { λ x y. y ≡ x };
 
@@ -148,7 +154,7 @@ impl AsStr for StringOwned {
     }
 }
 
-/// Texts are equal where their octets are.
+/// Compares the bytes.
 impl PartialEq for StringOwned {
     ghost eq = { pointwise nat_eq };
 
@@ -163,7 +169,7 @@ impl Eq for StringOwned {
     ghost laws = { nat_list_eq_equiv };
 }
 
-/// The order of the octets.
+/// Orders texts by their bytes.
 impl PartialOrd for StringOwned {
     ghost partial_cmp = { λ a b. Some (slice_cmp nat_cmp a b) };
 

@@ -1,4 +1,4 @@
-//! Borrowed text that a length can count.
+//! Borrowed text whose length fits a `Length`.
 
 ghost use Rattle.std.specs.Prelude.{◌≡◌, ◌↔◌, ◌<◌, [], length, IsTrue, true};
 ghost use Rattle.std.specs.Str.{is_utf8};
@@ -9,7 +9,7 @@ use der_core_head::{Error, ErrorKind, Length};
 use std::convert::AsStr;
 use std::str;
 
-/// Borrowed text, at most `Length::MAX` octets of UTF-8.
+/// Borrowed text, at most `Length::MAX` bytes of UTF-8.
 #[derive(Clone, Copy, Debug, PartialEq, Eq, PartialOrd, Ord, Hash)]
 pub struct StringRef<'a> {
     text: &'a str,
@@ -20,10 +20,11 @@ impl<'a> StringRef<'a> {
     ghost use Rattle.der_core_octets.specs.Held.{held_text};
     ghost use Rattle.der_core_head.specs.Reading.{GivesNow};
 
-    /// This text.
+    /// Wraps this text.
     ///
     /// # Errors
-    /// `Overflow` for 2^32 octets or more.
+    ///
+    /// - `Overflow`: it has 2^32 bytes or more.
     pub fn new(text: &'a str) -> Result<StringRef<'a>, Error>
         ensures { GivesNow held_text result (counted text.now) }
     {
@@ -33,10 +34,12 @@ impl<'a> StringRef<'a> {
         Ok(StringRef { text })
     }
 
-    /// The text of these octets.
+    /// Returns the text of these bytes.
     ///
     /// # Errors
-    /// `Utf8` where they are no UTF-8, then `Overflow` for 2^32 octets or more.
+    ///
+    /// - `Utf8`: they aren't UTF-8.
+    /// - `Overflow`: 2^32 bytes or more.
     #[tactic(auto, using(der_core_head::proofs::TextLaws::utf8_reads))]
     pub fn from_bytes(bytes: &'a [u8]) -> Result<StringRef<'a>, Error>
         ensures { GivesNow held_text result (counted_text bytes.now) }
@@ -45,7 +48,7 @@ impl<'a> StringRef<'a> {
         StringRef::new(text)
     }
 
-    /// The text.
+    /// Returns the text.
     pub fn as_str(&self) -> &'a str
         ensures text { result.now ≡ held_text self.now }
         ensures short { Fits result.now }
@@ -53,7 +56,7 @@ impl<'a> StringRef<'a> {
         self.text
     }
 
-    /// The octets.
+    /// Returns the bytes.
     #[tactic(auto, using(der_core_head::proofs::TextLaws::utf8_reads))]
     pub fn as_bytes(&self) -> &'a [u8]
         ensures octets { result.now ≡ held_text self.now }
@@ -63,14 +66,14 @@ impl<'a> StringRef<'a> {
         self.text.as_bytes()
     }
 
-    /// How many octets there are.
+    /// Returns the number of bytes.
     pub fn len(&self) -> Length
         ensures { result.value ≡ length (held_text self.now) }
     {
         Length::new(self.text.len() as u32)
     }
 
-    /// Whether there are none.
+    /// Returns whether there are none.
     pub fn is_empty(&self) -> bool
         ensures { IsTrue result ↔ (held_text self.now ≡ []) }
     {

@@ -1,4 +1,4 @@
-//! Writers.
+//! Writers of bytes.
 
 ghost use Rattle.std.specs.Prelude.{◌≡◌, [], ◌∷◌, None, length, Bool, true, false, OnErr};
 ghost use Rattle.der_core_head.specs.Writing.{Out, Writes, put};
@@ -6,27 +6,32 @@ ghost use Rattle.der_core_octets.specs.Outputs.{Continues, IsRefused};
 
 use der_core_head::Error;
 
-/// What octets are written to.
+/// A destination of bytes.
 pub trait Writer: Drop {
     ghost out: { Self → Out };
 
-    /// Whether a write may be refused because memory runs out.
+    /// Whether a write may fail because memory runs out.
     ghost takes_memory: { Bool };
 
-    /// Appends octets.
+    /// Appends bytes.
     ///
     /// # Errors
-    /// `Failed` where the writer failed before, `Overlength` where there is no room, `OutOfMemory`.
-    /// Nothing was written then, and a writer that takes no memory has failed.
+    ///
+    /// - `Failed`: the writer failed before.
+    /// - `Overlength`: there isn't enough room.
+    /// - `OutOfMemory`: memory runs out.
+    ///
+    /// If a call fails, nothing is written, and a writer that doesn't allocate has failed.
     fn write(&mut self, octets: &[u8]) -> Result<(), Error>
         ensures exact { Writes takes_memory (out self.old) (out self.new) result (put octets.now) }
         ensures refused { OnErr result (IsRefused takes_memory (out self.old) (out self.new)) }
         ensures kept { Continues (out self.old) (out self.new) };
 
-    /// Appends an octet.
+    /// Appends a byte.
     ///
     /// # Errors
-    /// Those of `write`.
+    ///
+    /// - The errors of `write`.
     final fn write_byte(&mut self, octet: u8) -> Result<(), Error>
         ensures exact { Writes takes_memory (out self.old) (out self.new) result
             (put (octet ∷ [])) }

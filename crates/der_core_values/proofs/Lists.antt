@@ -9,9 +9,9 @@ use Rattle.der_core_octets.specs.CoreHead.Reading.{State, IsRest, Kept, Fails, r
 use Rattle.der_core_octets.proofs.CoreHead.Results.{plain-append}
 use Rattle.der_core_octets.proofs.GoingOn.{frame_then, kept_then, rest_then}
 
--- Values that are read one after the other, as a loop does.
+-- Values that are read one after another, as a loop does.
 
--- a value in front of those that are read behind it
+-- a value before those that are read after it
 abbrev pub led : {P : Type 0} → P → Result (List P × List ℕ) ErrorKind → Result (List P × List ℕ) ErrorKind
 led x r = r >>= λ y. Ok (x ∷ y.0, y.1)
 
@@ -53,7 +53,7 @@ module _ {A : Type 0} {s : Shape} {plain : A → Value s} {start now : State} {v
   pub reached_end : {w : List ℕ} → left ≡ Ok ([], w) → all ≡ Ok (plain_list plain values, w)
   reached_end {w} is = sym h.total ∙ ap (with_front plain values) is ∙ ap (λ (p : List _). Ok (p, w)) (append-nil (plain_list plain values))
 
-  -- what a reader that failed behind these is
+  -- what a reader that failed after these is
   pub reached_refused : {k : ErrorKind} {new : State} → start.failed ≡ false → Fails k all → Kept now new → new.failed ≡ true
       → (start.failed ≡ false → Fails k all) × Kept start new × (start.failed ≡ true → k ≡ kinds.Failed) × (new.failed ≡ true)
   reached_refused {k} {new} ready fault kept failed = (λ _. fault, kept_then start now new h.same h.passed kept, λ f. absurd (cc (f, ready)), failed)
@@ -81,7 +81,7 @@ unfolding read_many
 many_over z F n i [] le some = absurd (some refl)
 many_over z F n i (b ∷ w) le some = let k : n - i ≡ 0 = omega arith in rw k refl
 
--- So many values, one behind another
+-- So many values, one after another
 
 exactly_step : {P : Type 0} (F : Readings P) (n i : ℕ) (w : List ℕ) → i < n → read_exactly F (n - i) w ≡ (F w >>= λ x. read_exactly F (n - (i + 1)) x.1 >>= λ y. Ok (x.0 ∷ y.0, y.1))
 unfolding read_exactly
@@ -97,7 +97,7 @@ pub exactly_end : {P : Type 0} (F : Readings P) (n i : ℕ) (w : List ℕ) → n
 unfolding read_exactly
 exactly_end F n i w le = let k : n - i ≡ 0 = omega arith in rw k refl
 
--- The values of a set, whose octets are in order
+-- The values of a set, whose bytes are in order
 
 order_step : {P : Type 0} (how : Step) (o : P → List ℕ) (F : Readings P) (last : Option (List ℕ)) (n i : ℕ) (w : List ℕ) → i < n → w ≢ []
     → read_in_order how o F last (n - i) w ≡ (F w >>= λ x. follows_last how last (o x.0) >>= λ _. read_in_order how o F (Some (o x.0)) (n - (i + 1)) x.1 >>= λ y. Ok (x.0 ∷ y.0, y.1))
@@ -126,13 +126,13 @@ unfolding read_in_order
 order_over how o F last n i [] le some = absurd (some refl)
 order_over how o F last n i (b ∷ w) le some = let k : n - i ≡ 0 = omega arith in rw k refl
 
--- Values that are read one after the other, as a loop does, each as it follows the one before.
+-- Values that are read one after another, as a loop does, each as it follows the one before.
 
 -- what is read of all, from the start on
 abbrev pub all_in_turn : Step → (s : Shape) → State → Result (List (Value s) × List ℕ) ErrorKind
 all_in_turn how s start = read_in_order how (octets_of s) (read s start.room) None (length start.rest) start.rest
 
--- these values were read since the start, so many, and the last of these octets
+-- these values were read since the start, so many, and the last of these bytes
 pub record InTurn {A : Type 0} (how : Step) (s : Shape) (plain : A → Value s) (start : State) (last : Option (List ℕ)) (now : State) (values : List A) (i : ℕ) : Type 0 where
   pub reached : Reached s plain start now values (read_in_order how (octets_of s) (read s start.room) last (length start.rest - i) now.rest) (all_in_turn how s start)
 

@@ -52,7 +52,7 @@ module _ (ns : List ℕ) (small : AreOctets ns) where
   other_shortest t false (pos n) k e h = absurd (h (sym (not_fine (nat_lt n (2 ^ 8)) (pos n) (kinds.Length t) k e).1))
   other_shortest t false (negsuc n) k e h = e
 
-  -- another fault
+  -- another error
   pub other : (t : Tag) (w : List ℕ) (k : ErrorKind) → integer_read (unsigned 8) t w ≡ Err k → k ≢ kinds.Length t → integer_read (among ns) t w ≡ Err k
   unfolding shortest_integer
   other t [] k e h = absurd (h (sym cc))
@@ -73,7 +73,7 @@ module _ (ns : List ℕ) (small : AreOctets ns) where
   known t [] n b h e = absurd cc
   known t (d ∷ ds) n b h e = fine_shortest t (is_redundant (d ∷ ds)) (integer_of (d ∷ ds)) n b h e
 
--- no octets
+-- no bytes
 pub empty : (ns : Numbers) (t : Tag) (w : List ℕ) → length w < 1 → integer_read ns t w ≡ Err (kinds.Length t)
 unfolding shortest_integer
 empty ns t [] h = refl

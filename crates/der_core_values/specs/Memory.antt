@@ -1,4 +1,4 @@
--- What a call answers that takes memory or not.
+-- What a call returns that allocates or not.
 use Rattle.std.specs.Prelude.{Bool, true, false, Result}
 use Rattle.der_core_octets.specs.CoreHead.declared.error.Error.{Error}
 use Rattle.der_core_octets.specs.CoreHead.declared.error.ErrorKind.{ErrorKind}

@@ -1,4 +1,4 @@
-//! SEQUENCE OF with so many values (X.690 8.10).
+//! SEQUENCE OF with a fixed number of values (X.690 8.10).
 
 ghost use Rattle.der_core_values.specs.Both.{both_true};
 ghost use Rattle.der_core_octets.specs.CoreHead.declared.tag.Tag.TheVariants.{Sequence};
@@ -51,7 +51,7 @@ impl<T: AsRead, const N: usize> AsReadValue for [T; N] {
     ghost as_read_value = { same_list T.as_read };
 }
 
-/// `Incomplete` where fewer values stand. The values wait in a vector, which takes memory.
+/// Fewer values are `Incomplete`. The values are collected in a vector, which allocates.
 impl<'a, R: Reader<'a>, T: Decode<'a, R>, const N: usize> DecodeFields<'a, R> for [T; N] {
     fn decode_fields(alloc: Global, reader: &mut R) -> Result<[T; N], Error> {
         if reader.is_failed() {
@@ -78,7 +78,7 @@ impl<'a, R: Reader<'a>, T: Decode<'a, R>, const N: usize> DecodeFields<'a, R> fo
     }
 }
 
-/// `Incomplete` where fewer values stand, and `TrailingData` where more do.
+/// Fewer values are `Incomplete`, and more are `TrailingData`.
 impl<'a, R: Reader<'a>, T: Decode<'a, R>, const N: usize> DecodeValue<'a, R> for [T; N] {
     fn decode_value(alloc: Global, reader: &mut R, header: Header) -> Result<[T; N], Error> {
         read_fields(alloc, reader, header)

@@ -1,4 +1,4 @@
-//! Octets that stand as they are, whatever tag is before them (X.690 8.7).
+//! Contents that are kept as they are, whatever tag they have (X.690 8.7).
 
 ghost use Rattle.std.specs.Prelude.{◌≡◌, false};
 ghost use Rattle.der_core_octets.specs.CoreHead.Grammar.{slice_at, value_at};
@@ -65,12 +65,14 @@ impl Octets for BytesOwned {
     }
 }
 
-/// The octets of the content behind a header, copied as they stand, whatever they are, by either
-/// rules. Under BER the content of a string in parts is so the encodings of its parts. After a
-/// refusal the reader has failed.
+/// Returns a copy of the content bytes after a header, under either rules. Under BER, the content
+/// of a string in parts is the encodings of its parts. After an error the reader has failed.
 ///
 /// # Errors
-/// `Incomplete` where there are fewer, or `OutOfMemory`; `Failed` where the reader failed before.
+///
+/// - `Incomplete`: there are fewer bytes.
+/// - `OutOfMemory`: memory runs out.
+/// - `Failed`: the reader failed before.
 pub fn decode_octets<'a, R: Reader<'a>>(
     alloc: Global,
     reader: &mut R,
@@ -78,7 +80,7 @@ pub fn decode_octets<'a, R: Reader<'a>>(
 ) -> Result<BytesOwned, Error>
     ensures octets { Reads (λ bytes. bytes) (R.state reader.old) (R.state reader.new) result
         (slice_at header.length.value) }
-    // The answer is what reading a content gives.
+    // The result is what decoding a content gives.
     ensures content { Reads (λ bytes. bytes) (R.state reader.old) (R.state reader.new) result
         (value_at (read_content_at (R.state reader.old) (leaf octets) header.tag)
         header.length.value) }
@@ -86,7 +88,7 @@ pub fn decode_octets<'a, R: Reader<'a>>(
     copy_content(alloc, reader, header)
 }
 
-/// The octets of the content behind a header, copied.
+/// Returns a copy of the content bytes after a header.
 fn copy_content<'a, R: Reader<'a>>(
     alloc: Global,
     reader: &mut R,

@@ -15,50 +15,56 @@ use std::alloc::Global;
 pub trait FixedTag {
     ghost fixed_tag: { Tag };
 
-    /// The tag of the type's values.
+    /// Returns the tag of the type's values.
     fn tag() -> Tag
         ensures { result ≡ fixed_tag };
 }
 
-/// What the values of a type are, and which octets spell them.
+/// A type with its abstract values and their encodings.
 pub trait Shaped {
     ghost shape: { Shape };
 
     ghost plain: { Self → Value shape };
 
-    /// What is written for a value: itself, unless a profile spells it in another way.
+    /// The value that is encoded: itself, unless a profile re-encodes it.
     ghost written: { Self → Value shape };
 }
 
-/// What is read from octets, with its header.
+/// A type that is decoded from bytes, with its header.
 pub trait Decode<'a, R: Reader<'a>>: Shaped + Drop {
-    /// The value that stands next, whose headers are read by the rules of the reader. After a
-    /// refusal the reader has failed.
+    /// Decodes the next value. Headers are decoded by the rules of the reader. After an error the
+    /// reader has failed.
     ///
     /// # Errors
-    /// The first error met in reading, or `OutOfMemory`; `Failed` where the reader failed before.
+    ///
+    /// - The first error that decoding meets.
+    /// - `OutOfMemory`: memory runs out.
+    /// - `Failed`: the reader failed before.
     fn decode(alloc: Global, reader: &mut R) -> Result<Self, Error>
         ensures { Reads Self.plain (R.state reader.old) (R.state reader.new) result
             (read_at (R.state reader.old) Self.shape) };
 }
 
-/// What the values of a type are, and which octets spell their contents.
+/// A type with its abstract values and the encodings of their contents.
 pub trait ShapedValue {
     ghost content: { Content };
 
     ghost value_plain: { Self → ContentValue content };
 
-    /// What is written for a value: itself, unless a profile spells it in another way.
+    /// The value that is encoded: itself, unless a profile re-encodes it.
     ghost value_written: { Self → ContentValue content };
 }
 
-/// What is read from the octets behind a header.
+/// A type that is decoded from the bytes after a header.
 pub trait DecodeValue<'a, R: Reader<'a>>: ShapedValue + Drop {
-    /// The value whose content stands next, behind a header that was read. After a refusal the
-    /// reader has failed.
+    /// Decodes the next content, after a header that was decoded. After an error the reader has
+    /// failed.
     ///
     /// # Errors
-    /// The first error met in reading, or `OutOfMemory`; `Failed` where the reader failed before.
+    ///
+    /// - The first error that decoding meets.
+    /// - `OutOfMemory`: memory runs out.
+    /// - `Failed`: the reader failed before.
     fn decode_value(alloc: Global, reader: &mut R, header: Header) -> Result<Self, Error>
         ensures { Reads Self.value_plain (R.state reader.old) (R.state reader.new) result
             (value_at (read_content_at (R.state reader.old) Self.content header.tag)
@@ -73,11 +79,14 @@ impl<T: ShapedValue + FixedTag> Shaped for T {
     ghost written = { T.value_written };
 }
 
-/// The value of the type's tag that stands next.
+/// Decodes the next value, which must have the tag of the type.
 ///
 /// # Errors
-/// `TagUnexpected` for another tag; else the first error met in reading, or `OutOfMemory`; `Failed`
-/// where the reader failed before.
+///
+/// - `TagUnexpected`: the tag is another one.
+/// - The first error that decoding meets.
+/// - `OutOfMemory`: memory runs out.
+/// - `Failed`: the reader failed before.
 #[inline(always)]
 #[tactic(auto, unfolding(crate::specs::Opened::tlv_at))]
 fn decode_tagged<'a, R: Reader<'a>, T: DecodeValue<'a, R> + FixedTag>(
@@ -92,7 +101,7 @@ fn decode_tagged<'a, R: Reader<'a>, T: DecodeValue<'a, R> + FixedTag>(
 }
 
 impl<'a, R: Reader<'a>, T: DecodeValue<'a, R> + FixedTag> Decode<'a, R> for T {
-    /// A fault without a place of its own is found at the header.
+    /// An error without a position gets that of the header.
     #[inline(always)]
     fn decode(alloc: Global, reader: &mut R) -> Result<T, Error> {
         let place = reader.position();
@@ -103,9 +112,9 @@ impl<'a, R: Reader<'a>, T: DecodeValue<'a, R> + FixedTag> Decode<'a, R> for T {
     }
 }
 
-/// Whether a value may begin with a tag.
+/// A type that knows with which tags its values may begin.
 pub trait Choice: Shaped {
-    /// Whether the tag is one of those that a value of the type begins with.
+    /// Returns whether a value of the type may begin with this tag.
     fn can_decode(tag: Tag) -> bool
         ensures { result ≡ begins Self.shape tag };
 }

@@ -1,4 +1,4 @@
-//! How a type says in which way its values are coded.
+//! The ways in which types can be described.
 
 pub use crate::integers::AsInteger;
 pub use crate::leaf_ways::{AsLeaf, AsOctets, EncodeLeaf, Octets};

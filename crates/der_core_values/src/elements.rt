@@ -1,16 +1,16 @@
-//! Types each of whose values has one spelling, and types that are written as they are read.
+//! Types whose values have one encoding each, and types that are encoded as they are decoded.
 
 ghost use Rattle.std.specs.Prelude.{◌≡◌, true, refl};
 ghost use Rattle.der_core_octets.specs.CoreHead.Spelling.{is_apart, is_element, is_content_apart};
 
 use crate::decode::{FixedTag, Shaped, ShapedValue};
 
-/// A type whose values are told apart by their first tags, so that each has one spelling.
+/// A type whose first tags are unambiguous, so that each value has one encoding.
 pub trait Member: Shaped {
     ghost apart: { is_apart Self.shape ≡ true };
 }
 
-/// A type whose contents are told apart by the first tags in them, so that each value has one.
+/// A type whose contents are reported apart by the first tags in them, so that each value has one.
 pub trait ApartValue: ShapedValue {
     ghost apart_value: { is_content_apart Self.content ≡ true };
 }
@@ -34,12 +34,12 @@ impl<T: ShapedValue + FixedTag> Element for T {
     ghost element = { refl };
 }
 
-/// Behind one tag values are told apart as their contents are.
+/// After one tag values are reported apart as their contents are.
 impl<T: ApartValue + FixedTag> Member for T {
     ghost apart = { T.apart_value };
 }
 
-/// Behind one tag values are written as their contents are.
+/// After one tag values are written as their contents are.
 impl<T: AsReadValue + FixedTag> AsRead for T {
     ghost as_read = { T.as_read_value };
 }

@@ -10,20 +10,24 @@ use crate::decode::{FixedTag, Shaped, ShapedValue};
 use der_core_octets::core_head::{Error, Length};
 use der_core_octets::{Writer, encode_header};
 
-/// What is written as octets, with its header.
+/// A type that is encoded as bytes, with its header.
 pub trait Encode: Shaped {
-    /// The number of octets of a value.
+    /// Returns the length of the encoding.
     ///
     /// # Errors
-    /// `Overflow` from 2^32 on.
+    ///
+    /// - `Overflow`: the length is 2^32 or more.
     fn encoded_len(&self) -> Result<Length, Error>
         ensures { GivesNow (λ l. l.value) result (size Self.shape (Self.written self.now)) };
 
-    /// Writes a value.
+    /// Encodes a value.
     ///
     /// # Errors
-    /// `Overflow` where a length passes 2^32 - 1, `SetOrdering` and `SetDuplicate` where a strict
-    /// set in the value doesn't rise (X.690 11.6), and those of the writer.
+    ///
+    /// - `Overflow`: a length exceeds 2^32 - 1.
+    /// - `SetOrdering`, `SetDuplicate`: a strict set in the value isn't in ascending order (X.690
+    ///   11.6).
+    /// - The errors of the writer.
     fn encode<W: Writer>(&self, writer: &mut W) -> Result<(), Error>
         ensures exact { Writes W.takes_memory (W.out writer.old) (W.out writer.new) result
             (write Self.shape (Self.written self.now)) }
@@ -32,21 +36,25 @@ pub trait Encode: Shaped {
             (W.out writer.new) };
 }
 
-/// What is written behind a header.
+/// A type whose content is encoded after a header.
 pub trait EncodeValue: ShapedValue {
-    /// The number of octets of the content.
+    /// Returns the length of the content.
     ///
     /// # Errors
-    /// `Overflow` from 2^32 on.
+    ///
+    /// - `Overflow`: the length is 2^32 or more.
     fn value_len(&self) -> Result<Length, Error>
         ensures { GivesNow (λ l. l.value) result
             (size_content Self.content (Self.value_written self.now)) };
 
-    /// Writes the content.
+    /// Encodes the content.
     ///
     /// # Errors
-    /// `Overflow` where a length passes 2^32 - 1, `SetOrdering` and `SetDuplicate` where a strict
-    /// set in the value doesn't rise (X.690 11.6), and those of the writer.
+    ///
+    /// - `Overflow`: a length exceeds 2^32 - 1.
+    /// - `SetOrdering`, `SetDuplicate`: a strict set in the value isn't in ascending order (X.690
+    ///   11.6).
+    /// - The errors of the writer.
     fn encode_value<W: Writer>(&self, writer: &mut W) -> Result<(), Error>
         ensures exact { Writes W.takes_memory (W.out writer.old) (W.out writer.new) result
             (write_content Self.content (Self.value_written self.now)) }
@@ -56,7 +64,7 @@ pub trait EncodeValue: ShapedValue {
 }
 
 impl<T: EncodeValue + FixedTag> Encode for T {
-    // Inlined, so that what is answered isn't moved.
+    // Inlined, so that the result isn't moved.
     #[inline(always)]
     #[tactic(auto, unfolding(crate::specs::Opened::tlv_len, crate::specs::Opened::head_len))]
     fn encoded_len(&self) -> Result<Length, Error> {
@@ -64,7 +72,7 @@ impl<T: EncodeValue + FixedTag> Encode for T {
         len.for_tlv(T::tag())
     }
 
-    // Inlined, so that what is answered isn't moved.
+    // Inlined, so that the result isn't moved.
     #[inline(always)]
     #[tactic(auto, using(der_core_octets::proofs::Added::none_added, der_core_octets::proofs::Added::header_adds, der_core_octets::proofs::Added::content_adds), unfolding(crate::specs::Opened::write_tlv))]
     fn encode<W: Writer>(&self, writer: &mut W) -> Result<(), Error> {

@@ -9,17 +9,18 @@ use der_core_octets::core_head::Error;
 use der_core_octets::{Header, Reader};
 use std::alloc::Global;
 
-/// The fields of a record or of a list, and what its values are.
+/// The fields of a record or of a list, and the abstract values of the type.
 pub trait Fields {
     ghost fields: { Body };
 
     ghost fields_plain: { Self → BodyValue fields };
 
-    /// What is written for a value: itself, unless a profile spells it in another way.
+    /// The value that is encoded: itself, unless a profile re-encodes it.
     ghost fields_written: { Self → BodyValue fields };
 }
 
-/// The fields of a type that is written as it is read, and what its values are. It has `Fields`.
+/// The fields of a type that is encoded as it is decoded, and its abstract values. Such a type
+/// implements `Fields`.
 pub trait FieldsView {
     ghost body: { Body };
 
@@ -43,12 +44,15 @@ impl<T: FieldsView> AsReadFields for T {
     ghost as_read_fields = { λ _. refl };
 }
 
-/// What is read as the fields of a record or of a list.
+/// A type that is decoded as the fields of a record or of a list.
 pub trait DecodeFields<'a, R: Reader<'a>>: Fields {
-    /// The fields that stand next. After a refusal the reader has failed.
+    /// Decodes the next fields. After an error the reader has failed.
     ///
     /// # Errors
-    /// The first error met in reading, or `OutOfMemory`; `Failed` where the reader failed before.
+    ///
+    /// - The first error that decoding meets.
+    /// - `OutOfMemory`: memory runs out.
+    /// - `Failed`: the reader failed before.
     fn decode_fields(alloc: Global, reader: &mut R) -> Result<Self, Error>
         ensures { Reads Self.fields_plain (R.state reader.old) (R.state reader.new) result
             (read_body_at (R.state reader.old) Self.fields) };
@@ -63,26 +67,31 @@ pub trait FieldRow {
 
     ghost fields_plain: { Self → BodyValue fields };
 
-    /// What is written for a row: itself, unless a profile spells a field in another way.
+    /// The row that is encoded: itself, unless a profile re-encodes a field.
     ghost fields_written: { Self → BodyValue fields };
 }
 
 /// A row that is read, field after field.
 pub trait DecodeRow<'a, R: Reader<'a>>: FieldRow {
-    /// The fields that stand next. After a refusal the reader has failed.
+    /// Decodes the next fields. After an error the reader has failed.
     ///
     /// # Errors
-    /// Those of `DecodeFields::decode_fields`.
+    ///
+    /// - The errors of `DecodeFields::decode_fields`.
     fn decode_row(alloc: Global, reader: &mut R) -> Result<Self, Error>
         ensures { Reads Self.fields_plain (R.state reader.old) (R.state reader.new) result
             (read_body_at (R.state reader.old) Self.fields) };
 }
 
-/// Reads the fields that a header announces, all of its octets.
+/// Decodes the fields after a header, which must use the whole content.
 ///
 /// # Errors
-/// `Incomplete` where there are fewer octets, `NestingDepth` where 64 levels are open, the first
-/// fault of the fields, `TrailingData` where octets are left after them, or `OutOfMemory`.
+///
+/// - `Incomplete`: there are fewer bytes than the header says.
+/// - `NestingDepth`: 64 levels are open.
+/// - The first error of the fields.
+/// - `TrailingData`: bytes are left after them.
+/// - `OutOfMemory`: memory runs out.
 pub fn read_fields<'a, R: Reader<'a>, T: DecodeFields<'a, R> + Drop>(
     alloc: Global,
     reader: &mut R,

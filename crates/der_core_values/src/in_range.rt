@@ -1,7 +1,8 @@
-//! Types each of whose values has its parts in their ranges, so that an encoding of it can fail
-//! only by its length or by the order of a set.
+//! Types whose values always have their parts in range. Encoding such a value can fail only because
+//! of its length or of the order of a set.
 //!
-//! Each is a law of the values of a type, and stands as the contract of a call that does nothing.
+//! Each of these is a law about the values of a type, stated as the contract of a function that
+//! does nothing.
 
 ghost use Rattle.der_core_octets.specs.CoreHead.Octets.{IsOctets};
 ghost use Rattle.der_core_octets.specs.CoreHead.Texts.{IsUtf8Text};
@@ -13,38 +14,38 @@ use der_core_octets::core_head::number_of;
 
 /// A type whose values are in range.
 pub trait InRange: Shaped {
-    /// What is written for a value is in range.
+    /// The value that is encoded is in range.
     fn in_range(&self)
         ensures { IsInRange Self.shape (Self.written self.now) };
 }
 
 /// A type whose contents are in range.
 pub trait InRangeValue: ShapedValue {
-    /// What is written for the content of a value is in range.
+    /// The content that is encoded is in range.
     fn value_in_range(&self)
         ensures { IsContentInRange Self.content (Self.value_written self.now) };
 }
 
 /// A row of fields that are in range.
 pub trait InRangeFields: FieldRow {
-    /// What is written for the fields of a value is in range.
+    /// The fields that are encoded are in range.
     fn fields_in_range(&self)
         ensures { IsBodyInRange Self.fields (Self.fields_written self.now) };
 }
 
-/// What a slice holds are octets.
+/// A slice of bytes is in range.
 pub fn octets_in_range(octets: &[u8])
     ensures { IsOctets octets.now }
 {}
 
-/// What a text holds are octets of UTF-8.
+/// A text is in range: its bytes are UTF-8.
 pub fn text_in_range(text: &str)
     ensures { IsUtf8Text text.now }
 {
     octets_in_range(text.as_bytes());
 }
 
-/// Behind one tag values are in range as their contents are.
+/// After one tag values are in range as their contents are.
 impl<T: InRangeValue + FixedTag> InRange for T {
     fn in_range(&self) {
         let _number = number_of(T::tag());

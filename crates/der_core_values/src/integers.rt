@@ -1,4 +1,4 @@
-//! Whole numbers: two's complement in the fewest octets (X.690 8.3).
+//! Whole numbers: two's complement in the fewest bytes (X.690 8.3).
 
 ghost use Rattle.std.specs.Prelude.{◌≡◌, ℤ, pos, false, refl};
 ghost use Rattle.der_core_octets.specs.CoreHead.declared.tag.Tag.TheVariants as tags;
@@ -17,20 +17,22 @@ use std::alloc::Global;
 
 /// A type of whole numbers.
 pub trait Integer: Drop {
-    /// Which numbers it has.
+    /// The numbers of the type.
     ghost numbers: { Numbers };
 
     ghost number: { Self → ℤ };
 
-    /// The number that a content spells.
+    /// Returns the number that a content encodes.
     ///
     /// # Errors
-    /// `Length` for no octets, `Noncanonical` where fewer octets would do, `Value` or `Length` for
-    /// a number that the type doesn't have.
+    ///
+    /// - `Length`: there are no bytes, or the number is too large for the type.
+    /// - `Noncanonical`: fewer bytes would be enough.
+    /// - `Value`: the type doesn't have the number.
     fn from_integer(tag: Tag, octets: &[u8]) -> Result<Self, Error>
         ensures { GivesNow number result (integer_read numbers tag octets.now) };
 
-    /// Whether it is negative, and the number n that it is, or of which it is -(n + 1).
+    /// Returns whether it is negative, and the number n that it is, or of which it is -(n + 1).
     fn sign_and_bits(&self) -> (bool, u128)
         ensures value { number self.now ≡ with_sign result.0 result.1 }
         // The type has it.
@@ -51,7 +53,7 @@ impl<'a, T: Integer> Leaf<'a> for T {
     }
 }
 
-/// As an INTEGER: two's complement in the fewest octets (X.690 8.3).
+/// As an INTEGER: two's complement in the fewest bytes (X.690 8.3).
 pub struct AsInteger;
 
 impl<T: Integer> Way<T> for AsInteger {

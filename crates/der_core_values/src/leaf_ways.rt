@@ -1,4 +1,4 @@
-//! Ways of types whose content is no list of values.
+//! Ways of types whose content isn't a list of values.
 
 ghost use Rattle.std.specs.Prelude.{◌≡◌, refl};
 ghost use Rattle.der_core_octets.specs.CoreHead.Leaves.{leaf_contents, IsLeafValue};
@@ -13,16 +13,16 @@ use der_core_octets::core_head::{Error, Length};
 use der_core_octets::{Header, Reader, Writer, slice_len};
 use std::alloc::Global;
 
-/// A type whose values hold the octets of their content.
+/// A type whose values hold the bytes of their content.
 pub trait Octets: Primitive {
-    /// The octets of the content.
+    /// Returns the content bytes.
     fn content(&self) -> &[u8]
         ensures content { result.now ≡ leaf_contents Self.kind (Self.leaf_plain self.now) }
         // The value is in range.
         ensures in_range { IsLeafValue Self.kind (Self.leaf_plain self.now) };
 }
 
-/// As the octets that a value holds. Its tag is the type's own.
+/// As the bytes that a value holds. Its tag is the type's own.
 pub struct AsOctets;
 
 impl<T: Octets> Way<T> for AsOctets {
@@ -49,7 +49,7 @@ impl<T: Octets> AsReadWay<T> for AsOctets {
 }
 
 impl<'a, R: Reader<'a>, T: Octets + Leaf<'a>> DecodeWay<'a, R, T> for AsOctets {
-    // Inlined, so that what is answered isn't moved.
+    // Inlined, so that the result isn't moved.
     #[inline(always)]
     fn decode_by(alloc: Global, reader: &mut R, header: Header) -> Result<T, Error> {
         decode_leaf(alloc, reader, header)
@@ -62,20 +62,22 @@ impl<T: Octets> RangeWay<T> for AsOctets {
     }
 }
 
-/// A type that writes the octets of a content which its values don't hold.
+/// A type that encodes a content which its values don't store.
 pub trait EncodeLeaf: Primitive {
-    /// The number of octets of the content.
+    /// Returns the length of the content.
     ///
     /// # Errors
-    /// `Overflow` from 2^32 on.
+    ///
+    /// - `Overflow`: the length is 2^32 or more.
     fn leaf_len(&self) -> Result<Length, Error>
         ensures { GivesNow (λ l. l.value) result
             (size_content (leaf Self.kind) (Self.leaf_plain self.now)) };
 
-    /// Writes the content.
+    /// Encodes the content.
     ///
     /// # Errors
-    /// Those of the writer.
+    ///
+    /// - The errors of the writer.
     fn encode_leaf<W: Writer>(&self, writer: &mut W) -> Result<(), Error>
         ensures exact { Writes W.takes_memory (W.out writer.old) (W.out writer.new) result
             (write_content (leaf Self.kind) (Self.leaf_plain self.now)) }
@@ -84,8 +86,8 @@ pub trait EncodeLeaf: Primitive {
             (W.out writer.old) (W.out writer.new) };
 }
 
-/// As a content that the type reads from octets and writes. Its tag, its range and its order are
-/// the type's own.
+/// As a content that the type reads from bytes and writes. Its tag, its range and its order are the
+/// type's own.
 pub struct AsLeaf;
 
 impl<T: EncodeLeaf> Way<T> for AsLeaf {
@@ -111,7 +113,7 @@ impl<T: EncodeLeaf> AsReadWay<T> for AsLeaf {
 }
 
 impl<'a, R: Reader<'a>, T: EncodeLeaf + Leaf<'a>> DecodeWay<'a, R, T> for AsLeaf {
-    // Inlined, so that what is answered isn't moved.
+    // Inlined, so that the result isn't moved.
     #[inline(always)]
     fn decode_by(alloc: Global, reader: &mut R, header: Header) -> Result<T, Error> {
         decode_leaf(alloc, reader, header)

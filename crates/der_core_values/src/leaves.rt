@@ -1,4 +1,4 @@
-//! Values whose content is no list of values.
+//! Values whose content isn't a list of values.
 
 ghost use Rattle.std.specs.Prelude.{◌≡◌, Bool, true, false, IfOk, IfErr, Err};
 ghost use Rattle.der_core_octets.specs.CoreHead.Heads.{Fits};
@@ -12,33 +12,36 @@ use der_core_octets::core_head::{Error, Tag};
 use der_core_octets::{Header, Reader};
 use std::alloc::Global;
 
-/// A type whose content is no list of values.
+/// A type whose content isn't a list of values.
 pub trait Primitive {
-    /// Which primitive type it is.
+    /// The primitive type.
     ghost kind: { LeafKind };
 
     ghost leaf_plain: { Self → LeafValue kind };
 }
 
-/// A type whose values are read from the octets of their content.
+/// A type whose values are read from the bytes of their content.
 pub trait Leaf<'a>: Primitive + Drop {
-    /// Whether reading may be refused because memory runs out.
+    /// Whether decoding may fail because memory runs out.
     ghost takes_memory: { Bool } = { true };
 
-    /// The value whose content the octets behind a tag are, so many as a length can count.
+    /// Decodes a content after its tag. The content is no longer than a length can count.
     ///
     /// # Errors
-    /// The fault of the octets, or `OutOfMemory`.
+    ///
+    /// - The error of the bytes.
+    /// - `OutOfMemory`: memory runs out.
     fn from_content(alloc: Global, tag: Tag, octets: &'a [u8]) -> Result<Self, Error>
         requires { Fits octets.now }
         ensures { GivesTaking takes_memory Self.leaf_plain result
             (leaf_read Self.kind tag octets.now) };
 }
 
-/// The octets of the content behind a header.
+/// Returns the content bytes after a header.
 ///
 /// # Errors
-/// `Incomplete` where there are fewer.
+///
+/// - `Incomplete`: there are fewer bytes.
 pub fn read_content<'a, R: Reader<'a>>(reader: &mut R, header: Header) -> Result<&'a [u8], Error>
     ensures takes { TakesContent (R.state reader.old) (R.state reader.new) result
         header.length.value }
@@ -47,10 +50,13 @@ pub fn read_content<'a, R: Reader<'a>>(reader: &mut R, header: Header) -> Result
     reader.read_slice(header.length)
 }
 
-/// Reads a value from the octets of its content. After a refusal the reader has failed.
+/// Decodes a value from its content. After an error the reader has failed.
 ///
 /// # Errors
-/// `Incomplete` where there are fewer octets, their fault, or `OutOfMemory`.
+///
+/// - `Incomplete`: there are fewer bytes.
+/// - The error of the bytes.
+/// - `OutOfMemory`: memory runs out.
 #[inline(always)]
 pub fn decode_leaf<'a, R: Reader<'a>, T: Leaf<'a>>(
     alloc: Global,
@@ -60,7 +66,7 @@ pub fn decode_leaf<'a, R: Reader<'a>, T: Leaf<'a>>(
     ensures reads { Reads T.leaf_plain (R.state reader.old) (R.state reader.new) result
         (value_at (read_content_at (R.state reader.old) (leaf T.kind) header.tag)
         header.length.value) }
-    // Where the type takes no memory, it is the fault of the octets.
+    // If the type doesn't allocate, the error is that of the bytes.
     ensures fault { T.takes_memory ≡ false → IfErr result (λ e. (R.state reader.old).failed ≡ false
         → value_at (read_content_at (R.state reader.old) (leaf T.kind) header.tag)
         header.length.value

@@ -1,5 +1,5 @@
-//! What the values of a type are, which octets spell them, and the traits by which they are read
-//! and written.
+//! The abstract values of types, their encodings, and the traits that decode and encode them; the
+//! types of the language.
 #![tactic(auto)]
 
 mod absent;

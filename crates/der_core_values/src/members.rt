@@ -1,4 +1,4 @@
-//! Encodings of members, one after the other.
+//! Encodings of members, one after another.
 
 ghost use Rattle.der_core_octets.specs.CoreHead.Shapes.{body_octets, many};
 ghost use Rattle.der_core_octets.specs.CoreHead.Grammar.{plain_list};
@@ -10,10 +10,11 @@ use crate::encode::Encode;
 use der_core_octets::Writer;
 use der_core_octets::core_head::{Error, Length};
 
-/// The number of octets of the encodings.
+/// Returns the total length of the encodings.
 ///
 /// # Errors
-/// `Overflow` from 2^32 on.
+///
+/// - `Overflow`: the length is 2^32 or more.
 pub fn members_len<T: Encode>(members: &[T]) -> Result<Length, Error>
     ensures { GivesNow (λ l. l.value) result
         (size_body (many T.shape) (plain_list T.written members.now)) }
@@ -25,10 +26,12 @@ pub fn members_len<T: Encode>(members: &[T]) -> Result<Length, Error>
     Ok(len)
 }
 
-/// Writes the encodings.
+/// Encodes the members, one after another.
 ///
 /// # Errors
-/// `Overflow` where a length passes 2^32 - 1, and those of the writer.
+///
+/// - `Overflow`: a length exceeds 2^32 - 1.
+/// - The errors of the writer.
 pub fn encode_members<T: Encode, W: Writer>(members: &[T], writer: &mut W) -> Result<(), Error>
     ensures exact { Writes W.takes_memory (W.out writer.old) (W.out writer.new) result
         (write_body (many T.shape) (plain_list T.written members.now)) }

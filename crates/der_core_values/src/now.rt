@@ -10,11 +10,15 @@ use der_core_octets::Reader;
 use der_core_octets::core_head::Error;
 use std::alloc::Global;
 
-/// The value of the type's tag that stands next. After a refusal the reader has failed.
+/// Decodes the next value, which must have the tag of the type. After an error the reader has
+/// failed.
 ///
 /// # Errors
-/// `TagUnexpected` for another tag; else the first error met in reading, or, of a type that takes
-/// memory, `OutOfMemory`; `Failed` where the reader failed before.
+///
+/// - `TagUnexpected`: the tag is another one.
+/// - The first error that decoding meets.
+/// - `OutOfMemory`: the type allocates, and memory runs out.
+/// - `Failed`: the reader failed before.
 #[tactic(auto, unfolding(crate::specs::Opened::tlv_at))]
 pub fn decode_leaf_of_tag<'a, R: Reader<'a>, T: Leaf<'a> + FixedTag>(
     alloc: Global,
@@ -22,7 +26,7 @@ pub fn decode_leaf_of_tag<'a, R: Reader<'a>, T: Leaf<'a> + FixedTag>(
 ) -> Result<T, Error>
     ensures reads { Reads T.leaf_plain (R.state reader.old) (R.state reader.new) result
         (read_at (R.state reader.old) (tagged T.fixed_tag (leaf T.kind))) }
-    // Where the type takes no memory, it is the fault of the octets.
+    // If the type doesn't allocate, the error is that of the bytes.
     ensures fault { T.takes_memory ≡ false → IfErr result (λ e. (R.state reader.old).failed ≡ false
         → read_at (R.state reader.old) (tagged T.fixed_tag (leaf T.kind)) (R.state reader.old).rest
         ≡ Err e.kind) }

@@ -18,7 +18,7 @@ use std::alloc::Global;
 use std::marker::PhantomData;
 
 /// A type each of whose values has a number of eight bits. It is coded by `AsNumbered`: any other
-/// number is refused as `Value`.
+/// number is rejected as `Value`.
 pub trait Numbered: Drop {
     /// The numbers that values have.
     ghost known_numbers: { List ℕ };
@@ -26,14 +26,14 @@ pub trait Numbered: Drop {
     /// The number of a value.
     ghost known_number: { Self → ℕ };
 
-    /// The value of a number; none for a number that no value has.
+    /// Returns the value with a number, or `None` if no value has it.
     fn from_number(number: u8) -> Option<Self>
         ensures known { IfSome result (λ v. known_number v ≡ number) }
         ensures named { IfSome result
             (λ v. list_any (λ m. m == known_number v) known_numbers ≡ true) }
         ensures unknown { IfNone result (AllByRecursion (λ m. number ≢ m) known_numbers) };
 
-    /// The number of the value.
+    /// Returns the number of the value.
     fn to_number(&self) -> u8
         ensures value { result ≡ known_number self.now }
         ensures named { list_any (λ m. m == result) known_numbers ≡ true };
@@ -98,7 +98,7 @@ impl FixedTag for EnumeratedTag {
     }
 }
 
-/// As the INTEGER that the number of a value is; or behind the tag of `K`, as an ENUMERATED.
+/// The way of an INTEGER with named numbers, or, with the tag of `K`, of an ENUMERATED.
 pub struct AsNumbered<K = IntegerTag> {
     tag: PhantomData<K>,
 }

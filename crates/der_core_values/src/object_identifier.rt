@@ -31,7 +31,7 @@ impl<const MAX_SIZE: usize> Primitive for ObjectIdentifier<MAX_SIZE> {
     ghost leaf_plain = { λ oid. oid };
 }
 
-/// The octets of the arcs (X.690 8.19), no more than the capacity.
+/// The content is the encoding of the arcs (X.690 8.19), which must not exceed the capacity.
 impl<'a, const MAX_SIZE: usize> Leaf<'a> for ObjectIdentifier<MAX_SIZE> {
     ghost takes_memory = { false };
 

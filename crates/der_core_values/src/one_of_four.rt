@@ -15,21 +15,21 @@ use std::alloc::Global;
 
 /// A value of one of four types that begin with different tags (CHOICE, X.680 29).
 ///
-/// The first tag decides which type is read: it is read as a `OneOf2` of the first type and of the
+/// The first tag decides which type is decoded, as for a `OneOf2` of the first type and of the
 /// `OneOf3` of the others.
 #[derive(Debug, Drop)]
 pub enum OneOf4<A, B, C, D> {
     /// A value of the first type.
     First(A),
-    /// A value of the second one.
+    /// A value of the second type.
     Second(B),
-    /// A value of the third one.
+    /// A value of the third type.
     Third(C),
-    /// A value of the fourth one.
+    /// A value of the fourth type.
     Fourth(D),
 }
 
-/// A value of one of five types: of the first three, or `Fourth` one of the others, as
+/// A value of one of five types: the first three, or one of the others in `Fourth`, such as
 /// `Fourth(First(d))`.
 pub type OneOf5<A, B, C, D, E> = OneOf4<A, B, C, OneOf2<D, E>>;
 

@@ -14,20 +14,21 @@ use std::alloc::Global;
 
 /// A value of one of two types that begin with different tags (CHOICE, X.680 29).
 ///
-/// The first tag decides which type is read: the first of the two whose values may begin with it.
-/// Where neither may, the tag is refused as `TagUnexpected`.
+/// The first tag decides which type is decoded: the first of the two whose values may begin with
+/// it. If neither may, the error is `TagUnexpected`.
 ///
-/// An enum with names of its own gives its shape and its reading by the `OneOf2` to `OneOf9` of the
-/// types that it holds, and `Member`, that its first tags differ, by computation.
+/// An enum with names of its own gets its shape and its decoder from the `OneOf2` to `OneOf9` of
+/// its types. `Member` states that its first tags differ, which is computed.
 #[derive(Debug, Drop)]
 pub enum OneOf2<A, B> {
     /// A value of the first type.
     First(A),
-    /// A value of the second one.
+    /// A value of the second type.
     Second(B),
 }
 
-/// A value of one of three types: the first, or one of the others, as `Second(First(b))`.
+/// A value of one of three types: the first, or one of the others in `Second`, such as
+/// `Second(First(b))`.
 pub type OneOf3<A, B, C> = OneOf2<A, OneOf2<B, C>>;
 
 impl<A: Shaped, B: Shaped> Shaped for OneOf2<A, B> {

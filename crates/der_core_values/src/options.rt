@@ -1,4 +1,4 @@
-//! What may be left out.
+//! Optional values.
 
 ghost use Rattle.der_core_octets.specs.CoreHead.Shapes.{optional};
 ghost use Rattle.der_core_octets.specs.CoreHead.Grammar.{plain_option};
@@ -34,7 +34,7 @@ impl<'a, R: Reader<'a>, T: Decode<'a, R> + Choice> Decode<'a, R> for Option<T> {
 }
 
 impl<T: Encode> Encode for Option<T> {
-    // Inlined, so that what is answered isn't moved.
+    // Inlined, so that the result isn't moved.
     #[inline(always)]
     fn encoded_len(&self) -> Result<Length, Error> {
         match self {
@@ -43,7 +43,7 @@ impl<T: Encode> Encode for Option<T> {
         }
     }
 
-    // Inlined, so that what is answered isn't moved.
+    // Inlined, so that the result isn't moved.
     #[inline(always)]
     #[tactic(auto, using(der_core_octets::proofs::Added::none_added), unfolding(crate::specs::Opened::octets_of))]
     fn encode<W: Writer>(&self, writer: &mut W) -> Result<(), Error> {

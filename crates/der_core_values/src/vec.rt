@@ -41,9 +41,9 @@ impl<T: Shaped> ShapedValue for Vec<T> {
     ghost value_written = { λ v. plain_list T.written v.items };
 }
 
-/// For how many values room is taken before they are read: for those that stand there, up to 64 of
-/// them, where each has a tag of one octet and fewer than 128 octets of content. Others find room
-/// as they come.
+/// Returns for how many values to allocate before they are decoded: for those in the input, up to
+/// 64, as long as each has a tag of one byte and fewer than 128 content bytes. Memory for others is
+/// allocated as they are decoded.
 fn room_for(octets: &[u8]) -> usize {
     let mut left = octets;
     for count in 0..64 {

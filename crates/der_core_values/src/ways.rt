@@ -19,27 +19,30 @@ use der_core_octets::core_head::{Error, Length, Tag};
 use der_core_octets::{Header, Reader, Writer};
 use std::alloc::Global;
 
-/// What the values of a type are, which octets spell their contents, and how these are written.
+/// A way of describing a type: its abstract values, the encodings of their contents, and how they
+/// are encoded.
 pub trait Way<T> {
     ghost content_by: { Content };
 
     ghost plain_by: { T → ContentValue content_by };
 
-    /// What is written for a value: itself, unless a profile spells it in another way.
+    /// The value that is encoded: itself, unless a profile re-encodes it.
     ghost written_by: { T → ContentValue content_by };
 
-    /// What `EncodeValue::value_len` answers.
+    /// Returns the result of `EncodeValue::value_len`.
     ///
     /// # Errors
-    /// `Overflow` from 2^32 on.
+    ///
+    /// - `Overflow`: the length is 2^32 or more.
     fn len_by(value: &T) -> Result<Length, Error>
         ensures { GivesNow (λ l. l.value) result
             (size_content content_by (written_by value.now)) };
 
-    /// What `EncodeValue::encode_value` does.
+    /// Does what `EncodeValue::encode_value` does.
     ///
     /// # Errors
-    /// Those of `EncodeValue::encode_value`.
+    ///
+    /// - The errors of `EncodeValue::encode_value`.
     fn encode_by<W: Writer>(value: &T, writer: &mut W) -> Result<(), Error>
         ensures exact { Writes W.takes_memory (W.out writer.old) (W.out writer.new) result
             (write_content content_by (written_by value.now)) }
@@ -47,24 +50,24 @@ pub trait Way<T> {
         ensures front { AddsFront (contents content_by (written_by value.now)) (W.out writer.old)
             (W.out writer.new) };
 
-    /// Contents are told apart by the first tags in them, so that each value has one.
+    /// Contents are reported apart by the first tags in them, so that each value has one.
     ghost apart_by: { is_content_apart content_by ≡ true };
 }
 
-/// A type that names the way in which its values are coded (`AsRecord`, `AsField`, `AsOctets`,
+/// A type that names the way in which its values are encoded (`AsRecord`, `AsField`, `AsOctets`,
 /// `AsLeaf` or `AsInteger`).
 ///
-/// What its way doesn't say of it (the tag of a leaf, say) the type says by an impl of its own. It
-/// is read where it is `Drop`.
+/// The type implements itself what its way doesn't give, such as the tag of a primitive type. It is
+/// decoded if it is `Drop`.
 pub trait Described: Sized {
     type By: Way<Self>;
 }
 
-/// The one tag of a type's values.
+/// A way whose types have one tag.
 pub trait TagWay<T> {
     ghost tag_by: { Tag };
 
-    /// The tag.
+    /// Returns the tag.
     fn tag_of() -> Tag
         ensures { result ≡ tag_by };
 }
@@ -74,12 +77,13 @@ pub trait AsReadWay<T>: Way<T> {
     ghost as_read_by: { (v : T) → Self.written_by v ≡ Self.plain_by v };
 }
 
-/// How a content is read.
+/// A way that decodes contents.
 pub trait DecodeWay<'a, R: Reader<'a>, T>: Way<T> {
-    /// What `DecodeValue::decode_value` answers.
+    /// Returns the result of `DecodeValue::decode_value`.
     ///
     /// # Errors
-    /// Those of `DecodeValue::decode_value`.
+    ///
+    /// - The errors of `DecodeValue::decode_value`.
     fn decode_by(alloc: Global, reader: &mut R, header: Header) -> Result<T, Error>
         ensures { Reads Self.plain_by (R.state reader.old) (R.state reader.new) result
             (value_at (read_content_at (R.state reader.old) Self.content_by header.tag)
@@ -88,7 +92,7 @@ pub trait DecodeWay<'a, R: Reader<'a>, T>: Way<T> {
 
 /// Contents are in range.
 pub trait RangeWay<T>: Way<T> {
-    /// What is written for the content of a value is in range.
+    /// The content that is encoded is in range.
     fn range_by(value: &T)
         ensures { IsContentInRange Self.content_by (Self.written_by value.now) };
 }
@@ -127,7 +131,7 @@ impl<'a, R: Reader<'a>, T: Described + Drop> DecodeValue<'a, R> for T
 where
     T::By: DecodeWay<'a, R, T>,
 {
-    // Inlined, so that what is answered isn't moved.
+    // Inlined, so that the result isn't moved.
     #[inline(always)]
     fn decode_value(alloc: Global, reader: &mut R, header: Header) -> Result<T, Error> {
         <T::By as DecodeWay<'a, R, T>>::decode_by(alloc, reader, header)
@@ -135,13 +139,13 @@ where
 }
 
 impl<T: Described> EncodeValue for T {
-    // Inlined, so that what is answered isn't moved.
+    // Inlined, so that the result isn't moved.
     #[inline(always)]
     fn value_len(&self) -> Result<Length, Error> {
         <T::By as Way<T>>::len_by(self)
     }
 
-    // Inlined, so that what is answered isn't moved.
+    // Inlined, so that the result isn't moved.
     #[inline(always)]
     fn encode_value<W: Writer>(&self, writer: &mut W) -> Result<(), Error> {
         <T::By as Way<T>>::encode_by(self, writer)

@@ -12,26 +12,27 @@ use der_core_octets::{Header, Reader, Writer};
 use std::alloc::Global;
 use std::marker::PhantomData;
 
-/// A type of one field, which is made of a value of that field.
+/// A type of one field, which is made from a value of that field.
 pub trait Wraps<F>: From<F> {
     ghost inner: { Self → F };
 
-    /// The field.
+    /// Returns the field.
     fn inner(&self) -> &F
         ensures { result.now ≡ inner self.now };
 
-    /// What is made of a value has it as its field.
+    /// A value that is made from a field has that field.
     ghost made: { (field : F) (value : Self) → Self.from_gives field value → inner value ≡ field };
 }
 
-/// The value whose field it is.
+/// Returns the value whose field it is.
 fn wrapped<F, T: Wraps<F>>(field: F) -> T
     ensures { T.inner result ≡ field }
 {
     T::from(field)
 }
 
-/// As its field, of type `F`: its tag, its content, its range and its order are those of the field.
+/// The way of a type of one field of type `F`: it has the tag, the content, the range and the order
+/// of its field.
 pub struct AsField<F> {
     of: PhantomData<F>,
 }

@@ -1,5 +1,5 @@
 //! Laws of typed values: a borrowed value and its owned form agree, dates are in the order of their
-//! seconds, a set's octets don't depend on the order of insertions, what is written behind a tag is
+//! seconds, a set's bytes don't depend on the order of insertions, what is written after a tag is
 //! read back. Each is a function with nothing to run, and its contract is the law.
 
 ghost use Rattle.std.specs.Prelude.{ℕ};

@@ -48,7 +48,7 @@ pub as_err : (rules : EncodingRules) (t : Tag) (c : Content) (a : AnyValue) (k :
     → Fails k (value_at (read_content_by rules c a.tag 64) (length a.contents) a.contents) → Fails k (content_by rules t c a)
 as_err rules t c a k e h = λ memory. as_is rules t c a e ∙ ap alone (h memory)
 
--- what a reader of the content, behind its header, reads is what any value is read as
+-- what a reader of the content, after its header, reads is what any value is read as
 pub read_ok : (rules : EncodingRules) (t : Tag) (c : Content) (a : AnyValue) (v : ContentValue c) (r : List ℕ) (by : EncodingRules) (tag : Tag) (n room : ℕ) (w : List ℕ)
     → by ≡ rules → tag ≡ a.tag → n ≡ length a.contents → room ≡ 64 → w ≡ a.contents
     → same_tag a.tag t ≡ true → value_at (read_content_by by c tag room) n w ≡ Ok (v, r) → content_by rules t c a ≡ Ok v
@@ -59,7 +59,7 @@ pub read_err : (rules : EncodingRules) (t : Tag) (c : Content) (a : AnyValue) (k
     → same_tag a.tag t ≡ true → Fails k (value_at (read_content_by by c tag room) n w) → Fails k (content_by rules t c a)
 read_err rules t c a k by tag n room w o p q s u e h = as_err rules t c a k e (λ memory. rw (o, p, q, s, u) at (h memory))
 
--- A content that a length can count is read as a text as octets are.
+-- A content that a length can count is read as a text as bytes are.
 
 pub text_from-short : (r : Repertoire) (t : Tag) (w : List ℕ) → Fits w → text_from r t w ≡ text_read r t w
 text_from-short r t w few = rw (le-ltb length_max (length w) (omega arith)) refl

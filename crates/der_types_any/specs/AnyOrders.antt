@@ -1,5 +1,5 @@
--- The order of any values: that of the leading octets of their tags, then of the tags' numbers,
--- then of the contents.
+-- The order of any values: that of the leading bytes of their tags, then of the tags' numbers, then
+-- of the contents.
 use Rattle.std.specs.Prelude.{◌≡◌, ℕ, List, [], ◌∷◌, ◌++◌, nat_eq, true}
 use Rattle.std.proofs.Common.{ap}
 use Rattle.std.specs.Cmp.{IsTotalOrder, on_total}
@@ -11,7 +11,7 @@ use Rattle.std.specs.declared.cmp.Ordering.{Ordering}
 use Rattle.der_types_text.specs.Der.Tags.{leading_octet, number_of}
 use Rattle.der_types_text.specs.Der.Shapes.{AnyValue}
 
--- what is compared: the leading octet of the tag, its number, the content
+-- what is compared: the leading byte of the tag, its number, the content
 abbrev pub any_key : AnyValue → List ℕ
 any_key a = leading_octet a.tag ∷ number_of a.tag ∷ a.contents
 

@@ -19,21 +19,21 @@ use Rattle.der_types_text.specs.Der.Fronts.{alone}
 use Rattle.der_types_numbers.specs.Numbers.{if_countable}
 
 -- the value of a type that any value is read as by given rules, where the tag is that of the type,
--- or the fault
+-- or the error
 unfoldable pub content_by : EncodingRules → Tag → (c : Content) → AnyValue
     → Result (ContentValue c) ErrorKind
 content_by rules t c a = if same_tag a.tag t
     then alone (read_content_by rules c a.tag 64 a.contents >>= whole) else Err kinds.TagUnexpected
 
--- the value of a type that any value is read as by DER, or the fault
+-- the value of a type that any value is read as by DER, or the error
 abbrev pub content_as : Tag → (c : Content) → AnyValue → Result (ContentValue c) ErrorKind
 content_as t c a = content_by encodings.Der t c a
 
--- the value of a type whose content is no list of values, or the fault
+-- the value of a type whose content isn't a list of values, or the error
 unfoldable pub leaf_as : Tag → (l : Leaf) → AnyValue → Result (LeafValue l) ErrorKind
 leaf_as t l a = if same_tag a.tag t then leaf_read l a.tag a.contents else Err kinds.TagUnexpected
 
--- an answer that is the number of an INTEGER, among those of a type, or the fault
+-- an answer that is the number of an INTEGER, among those of a type, or the error
 abbrev pub IntegerGives : {X : Type 0} → Numbers → (X → ℤ) → AnyValue → Result X Error → Type 0
 IntegerGives numbers number a r = GivesNow number r (leaf_as tags.Integer (integer numbers) a)
 
@@ -42,6 +42,6 @@ unfoldable pub written_as : Tag → (c : Content) → ContentValue c → Result 
 written_as t c v = write_content c v (record { written = []; room = None; failed = false })
     >>= λ o. if_countable o.written (record { tag = t; contents = o.written })
 
--- a tag and a content, if a length can count its octets
+-- a tag and a content, if a length can count its bytes
 unfoldable pub any_from : Tag → List ℕ → Result AnyValue ErrorKind
 any_from t w = if_countable w (record { tag = t; contents = w })

@@ -31,10 +31,10 @@ use std::cmp::Ordering;
 use std::hash::{Hash, Hasher};
 use std::marker::Model;
 
-/// Any value (X.680 3.8.1), as it stands: its tag, and the octets of its content, fewer than 2^32,
-/// which aren't looked into.
+/// Any value (X.680 3.8.1), as it is: its tag, and the bytes of its content, fewer than 2^32, which
+/// aren't looked into.
 ///
-/// Contracts see the tag and the octets.
+/// Contracts see the tag and the bytes.
 #[derive(Debug, Drop)]
 pub struct Any {
     tag: Tag,
@@ -53,7 +53,7 @@ impl Model for Any {
     ghost invariant = { IsAny };
 }
 
-/// The octets that writing the content of a value gives.
+/// Returns the bytes that writing the content of a value gives.
 fn content_octets<T: EncodeValue>(alloc: Global, value: &T) -> Result<Vec<u8>, Error>
     ensures { Gives (λ v. record { written = v.items; room = None; failed = false }) result
         (write_content T.content (T.value_written value.now)
@@ -65,10 +65,11 @@ fn content_octets<T: EncodeValue>(alloc: Global, value: &T) -> Result<Vec<u8>, E
 }
 
 impl Any {
-    /// The value of a tag and a content.
+    /// Returns the value of a tag and a content.
     ///
     /// # Errors
-    /// `Overflow` for 2^32 octets or more.
+    ///
+    /// - `Overflow`: 2^32 bytes or more.
     pub fn new(tag: Tag, bytes: Vec<u8>) -> Result<Any, Error>
         ensures ok { IfOk result (λ a. IsLength (vec_len bytes)
             × (a ≡ record { tag = tag; contents = bytes.items })) }
@@ -92,10 +93,12 @@ impl Any {
         }
     }
 
-    /// The tag and the content of a value.
+    /// Returns the tag and the content of a value.
     ///
     /// # Errors
-    /// `Overflow` where a length passes 2^32 - 1, or `OutOfMemory`.
+    ///
+    /// - `Overflow`: a length exceeds 2^32 - 1.
+    /// - `OutOfMemory`: memory runs out.
     #[tactic(auto, unfolding(crate::specs::Contents::written_as, der_types_numbers::specs::Numbers::if_countable))]
     pub fn encode_from<T: EncodeValue + FixedTag>(alloc: Global, value: &T) -> Result<Any, Error>
         ensures { Gives (λ a. a) result
@@ -118,31 +121,32 @@ impl Any {
         })
     }
 
-    /// A copy.
+    /// Returns a copy.
     ///
     /// # Errors
-    /// Out of memory.
+    ///
+    /// Fails if memory runs out.
     pub fn clone(&self, alloc: Global) -> Result<Any, AllocError>
         ensures { IfOk result (λ a. a ≡ self.now) }
     {
         Any::copy_of(alloc, &self.to_ref())
     }
 
-    /// The tag.
+    /// Returns the tag.
     pub fn tag(&self) -> Tag
         ensures { result ≡ self.now.tag }
     {
         self.tag
     }
 
-    /// The content octets.
+    /// Returns the content bytes.
     pub fn value(&self) -> &[u8]
         ensures { result.now ≡ self.now.contents }
     {
         self.bytes.as_slice()
     }
 
-    /// The header.
+    /// Returns the header.
     pub fn header(&self) -> Header
         ensures tag { result.tag ≡ self.now.tag }
         ensures length { result.length.value ≡ length self.now.contents }
@@ -150,18 +154,20 @@ impl Any {
         self.to_ref().header()
     }
 
-    /// Whether it is NULL.
+    /// Returns whether it is NULL.
     pub fn is_null(&self) -> bool
         ensures { IsTrue result ↔ (self.now ≡ record { tag = Tag.Null; contents = [] }) }
     {
         self.to_ref().is_null()
     }
 
-    /// The value of a type that has this tag and this content.
+    /// Returns the value of a type that has this tag and this content.
     ///
     /// # Errors
-    /// `TagUnexpected` for another tag than the type's; else the first fault of the content, or
-    /// `OutOfMemory`.
+    ///
+    /// - `TagUnexpected`: another tag than the type's.
+    /// - The first error of the content.
+    /// - `OutOfMemory`: memory runs out.
     pub fn decode_as<'a, T: DecodeValue<'a, SliceReader<'a>> + FixedTag>(
         &'a self,
         alloc: Global,
@@ -177,18 +183,20 @@ impl Any {
             → are_enough (tagged T.fixed_tag T.content) levels_max ≡ true
             → Spells (tagged T.fixed_tag T.content) v (octets_of any self.now)
             → Gives T.value_plain result (Ok v) }
-        // Which fault it is.
+        // The error is exact.
         ensures exact { Gives T.value_plain result (content_as T.fixed_tag T.content self.now) }
     {
         Ok(self.to_ref().decode_as(alloc)?)
     }
 
-    /// The value of a type that has this tag and this content, in which headers are read by these
-    /// rules.
+    /// Returns the value of a type that has this tag and this content, in which headers are read by
+    /// these rules.
     ///
     /// # Errors
-    /// `TagUnexpected` for another tag than the type's, the first fault of the content, or
-    /// `OutOfMemory`.
+    ///
+    /// - `TagUnexpected`: another tag than the type's.
+    /// - The first error of the content.
+    /// - `OutOfMemory`: memory runs out.
     pub fn decode_as_encoding<'a, T: DecodeValue<'a, SliceReader<'a>> + FixedTag>(
         &'a self,
         alloc: Global,
@@ -203,8 +211,10 @@ impl Any {
     /// Calls `f` on a reader of the content of this SEQUENCE, and wants all of it read.
     ///
     /// # Errors
-    /// `TagUnexpected` where it is no SEQUENCE, what `f` answers, `TrailingData` where `f` leaves
-    /// octets.
+    ///
+    /// - `TagUnexpected`: it isn't SEQUENCE.
+    /// - The error of `f`.
+    /// - `TrailingData`: `f` leaves bytes.
     pub fn sequence<'a, T: Drop, F: FnOnce(&mut SliceReader<'a>) -> Result<T, Error>>(
         &'a self,
         f: F,
@@ -218,7 +228,7 @@ impl Any {
             (unread EncodingRules.Der self.now.contents) x) }
         ensures tag { same_tag self.now.tag Tag.Sequence ≡ false
             → IsErrAnd result (λ e. e.kind ≡ ErrorKind.TagUnexpected) }
-        // Why a SEQUENCE is refused: what the closure answers, or that it left octets.
+        // Why a SEQUENCE is rejected: what the closure returns, or that it left bytes.
         ensures refused { same_tag self.now.tag Tag.Sequence ≡ true
             → IfErr result
             (RefusesNested (λ s. s) F.FnOnce f (length self.now.contents)
@@ -232,21 +242,21 @@ impl Any {
         Ok(value)
     }
 
-    /// The order of two contents as lists of octets, whatever the tags. It is always answered.
+    /// Returns the order of two contents as lists of bytes, whatever the tags. It always succeeds.
     pub fn value_cmp(&self, other: &Any) -> Result<Ordering, Error>
         ensures { result ≡ Ok (octets_cmp self.now.contents other.now.contents) }
     {
         self.to_ref().value_cmp(&other.to_ref())
     }
 
-    /// The value, lent.
+    /// Returns the value, borrowed.
     pub fn to_ref(&self) -> AnyRef<'_>
         ensures { any_lent result ≡ self.now }
     {
         AnyRef::trusted(self.tag, self.bytes.as_slice())
     }
 
-    /// The value, lent.
+    /// Returns the value, borrowed.
     pub fn owned_to_ref(&self) -> AnyRef<'_>
         ensures { any_lent result ≡ self.now }
     {
@@ -254,7 +264,7 @@ impl Any {
     }
 }
 
-/// A copy, in memory of the same allocator.
+/// Copies the value with its own allocator.
 impl Clone for Any {
     ghost is_clone = { λ x y. y ≡ x };
 
@@ -287,7 +297,7 @@ impl Eq for Any {
     ghost laws = { on_equiv any_key nat_list_eq_equiv };
 }
 
-/// The order of the tags' leading octets, then of their numbers, then of the contents.
+/// The order of the tags' leading bytes, then of their numbers, then of the contents.
 impl PartialOrd for Any {
     ghost partial_cmp = { λ a b. Some (any_cmp a b) };
 
@@ -312,7 +322,7 @@ impl Ord for Any {
     }
 }
 
-/// The leading octet of the tag, its number, and the content.
+/// The leading byte of the tag, its number, and the content.
 impl Hash for Any {
     ghost hash_input = { any_fed };
 
@@ -353,20 +363,20 @@ impl<'a, R: Reader<'a>> Decode<'a, R> for Any {
 }
 
 impl Encode for Any {
-    // Inlined, so that what is answered isn't moved.
+    // Inlined, so that the result isn't moved.
     #[inline(always)]
     fn encoded_len(&self) -> Result<Length, Error> {
         self.to_ref().encoded_len()
     }
 
-    // Inlined, so that what is answered isn't moved.
+    // Inlined, so that the result isn't moved.
     #[inline(always)]
     fn encode<W: Writer>(&self, writer: &mut W) -> Result<(), Error> {
         self.to_ref().encode(writer)
     }
 }
 
-/// The tags, then the lengths, then the contents, octet by octet.
+/// The tags, then the lengths, then the contents, byte by byte.
 impl DerOrd for Any {
     fn der_cmp(&self, other: &Self) -> Result<Ordering, Error> {
         self.to_ref().der_cmp(&other.to_ref())

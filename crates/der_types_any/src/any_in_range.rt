@@ -1,4 +1,4 @@
-//! Any value is in range: its tag has a number that fits, its content are octets.
+//! Any value is in range: its tag has a number that fits, its content are bytes.
 
 use crate::any::Any;
 use crate::any_ref::AnyRef;

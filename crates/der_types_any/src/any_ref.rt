@@ -31,8 +31,8 @@ use std::alloc::{AllocError, Global};
 use std::cmp::Ordering;
 use std::hash::{Hash, Hasher};
 
-/// Any value (X.680 3.8.1), as it stands: its tag, and the octets of its content, fewer than 2^32,
-/// which aren't looked into; lent.
+/// Any value (X.680 3.8.1), as it is: its tag, and the bytes of its content, fewer than 2^32, which
+/// aren't looked into; borrowed.
 #[derive(Clone, Copy, Debug)]
 pub struct AnyRef<'a> {
     tag: Tag,
@@ -49,10 +49,11 @@ impl<'a> AnyRef<'a> {
         bytes: &[],
     };
 
-    /// The value of a tag and a content.
+    /// Returns the value of a tag and a content.
     ///
     /// # Errors
-    /// `Overflow` for 2^32 octets or more.
+    ///
+    /// - `Overflow`: 2^32 bytes or more.
     pub fn new(tag: Tag, bytes: &'a [u8]) -> Result<AnyRef<'a>, Error>
         ensures ok { IfOk result
             (λ a. Fits bytes.now × (any_lent a ≡ record { tag = tag; contents = bytes.now })) }
@@ -65,7 +66,7 @@ impl<'a> AnyRef<'a> {
         Ok(AnyRef { tag, bytes })
     }
 
-    /// Octets that are known to be few enough, behind a tag.
+    /// Bytes that are known to be few enough, after a tag.
     pub(crate) fn trusted(tag: Tag, bytes: &'a [u8]) -> AnyRef<'a>
         requires { Fits bytes.now }
         ensures { any_lent result ≡ record { tag = tag; contents = bytes.now } }
@@ -73,14 +74,14 @@ impl<'a> AnyRef<'a> {
         AnyRef { tag, bytes }
     }
 
-    /// The tag.
+    /// Returns the tag.
     pub fn tag(&self) -> Tag
         ensures { result ≡ (any_lent self.now).tag }
     {
         self.tag
     }
 
-    /// The content octets.
+    /// Returns the content bytes.
     pub fn value(&self) -> &'a [u8]
         ensures contents { result.now ≡ (any_lent self.now).contents }
         ensures short { Fits result.now }
@@ -88,7 +89,7 @@ impl<'a> AnyRef<'a> {
         self.bytes
     }
 
-    /// The header.
+    /// Returns the header.
     pub fn header(&self) -> Header
         ensures tag { result.tag ≡ (any_lent self.now).tag }
         ensures length { result.length.value ≡ length (any_lent self.now).contents }
@@ -99,18 +100,20 @@ impl<'a> AnyRef<'a> {
         }
     }
 
-    /// Whether it is NULL.
+    /// Returns whether it is NULL.
     pub fn is_null(&self) -> bool
         ensures { IsTrue result ↔ (any_lent self.now ≡ record { tag = Tag.Null; contents = [] }) }
     {
         matches!(self.tag, Tag::Null) && self.bytes.is_empty()
     }
 
-    /// The value of a type that has this tag and this content.
+    /// Returns the value of a type that has this tag and this content.
     ///
     /// # Errors
-    /// `TagUnexpected` for another tag than the type's; else the first fault of the content, or
-    /// `OutOfMemory`.
+    ///
+    /// - `TagUnexpected`: another tag than the type's.
+    /// - The first error of the content.
+    /// - `OutOfMemory`: memory runs out.
     pub fn decode_as<T: DecodeValue<'a, SliceReader<'a>> + FixedTag>(
         &self,
         alloc: Global,
@@ -127,19 +130,21 @@ impl<'a> AnyRef<'a> {
             → are_enough (tagged T.fixed_tag T.content) levels_max ≡ true
             → Spells (tagged T.fixed_tag T.content) v (octets_of any (any_lent self.now))
             → Gives T.value_plain result (Ok v) }
-        // Which fault it is.
+        // The error is exact.
         ensures exact { Gives T.value_plain result
             (content_as T.fixed_tag T.content (any_lent self.now)) }
     {
         self.decode_as_encoding(alloc, EncodingRules::Der)
     }
 
-    /// The value of a type that has this tag and this content, in which headers are read by these
-    /// rules.
+    /// Returns the value of a type that has this tag and this content, in which headers are read by
+    /// these rules.
     ///
     /// # Errors
-    /// `TagUnexpected` for another tag than the type's, the first fault of the content, or
-    /// `OutOfMemory`.
+    ///
+    /// - `TagUnexpected`: another tag than the type's.
+    /// - The first error of the content.
+    /// - `OutOfMemory`: memory runs out.
     #[tactic(auto, unfolding(crate::specs::Contents::content_by))]
     pub fn decode_as_encoding<T: DecodeValue<'a, SliceReader<'a>> + FixedTag>(
         &self,
@@ -160,8 +165,10 @@ impl<'a> AnyRef<'a> {
     /// Calls `f` on a reader of the content of this SEQUENCE, and wants all of it read.
     ///
     /// # Errors
-    /// `TagUnexpected` where it is no SEQUENCE, what `f` answers, `TrailingData` where `f` leaves
-    /// octets.
+    ///
+    /// - `TagUnexpected`: it isn't SEQUENCE.
+    /// - The error of `f`.
+    /// - `TrailingData`: `f` leaves bytes.
     pub fn sequence<T: Drop, F: FnOnce(&mut SliceReader<'a>) -> Result<T, Error>>(
         &self,
         f: F,
@@ -175,7 +182,7 @@ impl<'a> AnyRef<'a> {
             (unread EncodingRules.Der (any_lent self.now).contents) x) }
         ensures tag { same_tag (any_lent self.now).tag Tag.Sequence ≡ false
             → IsErrAnd result (λ e. e.kind ≡ ErrorKind.TagUnexpected) }
-        // Why a SEQUENCE is refused: what the closure answers, or that it left octets.
+        // Why a SEQUENCE is rejected: what the closure returns, or that it left bytes.
         ensures refused { same_tag (any_lent self.now).tag Tag.Sequence ≡ true
             → IfErr result
             (RefusesNested (λ s. s) F.FnOnce f (length (any_lent self.now).contents)
@@ -193,7 +200,7 @@ impl<'a> AnyRef<'a> {
         Ok(value)
     }
 
-    /// The order of two contents as lists of octets, whatever the tags. It is always answered.
+    /// Returns the order of two contents as lists of bytes, whatever the tags. It always succeeds.
     pub fn value_cmp(&self, other: &AnyRef<'_>) -> Result<Ordering, Error>
         ensures { result
             ≡ Ok (octets_cmp (any_lent self.now).contents (any_lent other.now).contents) }
@@ -202,10 +209,11 @@ impl<'a> AnyRef<'a> {
         Ok(order)
     }
 
-    /// A copy of the value that owns its octets.
+    /// A copy of the value that owns its bytes.
     ///
     /// # Errors
-    /// Out of memory.
+    ///
+    /// Fails if memory runs out.
     // Inlined, so that the value is made where it is kept.
     #[inline(always)]
     pub fn ref_to_owned(&self, alloc: Global) -> Result<Any, AllocError>
@@ -215,7 +223,7 @@ impl<'a> AnyRef<'a> {
     }
 }
 
-/// The value, lent.
+/// The value, borrowed.
 impl<'a> From<&'a Any> for AnyRef<'a> {
     ghost use Rattle.der_types_any.specs.Anys.{any_lent};
 
@@ -245,7 +253,7 @@ impl<'a> Eq for AnyRef<'a> {
     ghost laws = { on_equiv key_lent nat_list_eq_equiv };
 }
 
-/// The order of the tags' leading octets, then of their numbers, then of the contents.
+/// The order of the tags' leading bytes, then of their numbers, then of the contents.
 impl<'a> PartialOrd for AnyRef<'a> {
     ghost use Rattle.der_types_any.specs.Anys.{any_lent};
 
@@ -277,7 +285,7 @@ impl<'a> Ord for AnyRef<'a> {
     }
 }
 
-/// The leading octet of the tag, its number, and the content.
+/// The leading byte of the tag, its number, and the content.
 impl<'a> Hash for AnyRef<'a> {
     ghost use Rattle.der_types_any.specs.Anys.{any_lent};
 
@@ -311,7 +319,7 @@ impl<'a> Choice for AnyRef<'a> {
 }
 
 impl<'a, R: Reader<'a>> Decode<'a, R> for AnyRef<'a> {
-    // Inlined, so that what is answered isn't moved.
+    // Inlined, so that the result isn't moved.
     #[inline(always)]
     #[tactic(auto, unfolding(crate::specs::Opened::any_at))]
     fn decode(_alloc: Global, reader: &mut R) -> Result<AnyRef<'a>, Error> {
@@ -325,7 +333,7 @@ impl<'a, R: Reader<'a>> Decode<'a, R> for AnyRef<'a> {
 }
 
 impl<'a> Encode for AnyRef<'a> {
-    // Inlined, so that what is answered isn't moved.
+    // Inlined, so that the result isn't moved.
     #[inline(always)]
     #[tactic(auto, unfolding(crate::specs::Opened::tlv_len, crate::specs::Opened::head_len))]
     fn encoded_len(&self) -> Result<Length, Error> {
@@ -333,7 +341,7 @@ impl<'a> Encode for AnyRef<'a> {
         header_len(self.tag, len) + len
     }
 
-    // Inlined, so that what is answered isn't moved.
+    // Inlined, so that the result isn't moved.
     #[inline(always)]
     #[tactic(auto, using(crate::proofs::Cited::none_added), unfolding(crate::specs::Opened::write_tlv))]
     fn encode<W: Writer>(&self, writer: &mut W) -> Result<(), Error> {
@@ -343,7 +351,7 @@ impl<'a> Encode for AnyRef<'a> {
     }
 }
 
-/// The tags, then the lengths, then the contents, octet by octet.
+/// The tags, then the lengths, then the contents, byte by byte.
 impl<'a> DerOrd for AnyRef<'a> {
     fn der_cmp(&self, other: &Self) -> Result<Ordering, Error> {
         let content = OctetStringRef::of_content(self.bytes);
@@ -353,8 +361,8 @@ impl<'a> DerOrd for AnyRef<'a> {
 }
 
 impl<'a> FirstTag for AnyRef<'a> {
-    #[tactic(auto, using(crate::proofs::Cited::any_starts))]
     fn first_tag(&self) -> Option<Tag> {
+        let _number = number_of(self.tag);
         Some(self.tag)
     }
 }

@@ -6,10 +6,11 @@ ghost use Rattle.der_types_text.specs.Der.Tags.{same_tag};
 use der_types_text::der::making::is_same_tag;
 use der_types_text::der::{Error, ErrorKind, Tag};
 
-/// That a tag is the one that must stand.
+/// That a tag is the one that is required.
 ///
 /// # Errors
-/// `TagUnexpected`.
+///
+/// - `TagUnexpected`.
 #[tactic(auto, using(crate::proofs::Cited::same_tags))]
 pub fn check_tag(actual: Tag, expected: Tag) -> Result<(), Error>
     ensures same { IsOk result ↔ (same_tag actual expected ≡ true) }

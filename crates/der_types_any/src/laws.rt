@@ -15,7 +15,7 @@ use std::cmp::{Ord, PartialEq};
 use std::hash::Hash;
 
 /// Both forms are read and refused alike, for they have one shape; they have the same encoding, are
-/// equal to the same values, are hashed alike, and stand in the same orders, their own and that of
+/// equal to the same values, are hashed alike, and are in the same orders, their own and that of
 /// encodings.
 pub fn any_forms_agree()
     ensures read { ⟦<AnyRef<'static> as Shaped>⟧.shape ≡ ⟦<Any as Shaped>⟧.shape }

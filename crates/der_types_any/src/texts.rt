@@ -87,7 +87,7 @@ impl<'a> TryFrom<&'a Any> for &'a str {
     }
 }
 
-/// The octets of a GeneralString.
+/// The bytes of a GeneralString.
 impl<'a> TryFrom<AnyRef<'a>> for GeneralStringRef<'a> {
     type Error = Error;
 
@@ -142,7 +142,7 @@ impl<'a> From<GeneralStringRef<'a>> for AnyRef<'a> {
     }
 }
 
-/// The value as one of any type, where a length can count its octets.
+/// The value as one of any type, where a length can count its bytes.
 impl<'a> TryFrom<&'a str> for AnyRef<'a> {
     type Error = Error;
 

@@ -1,4 +1,4 @@
-//! Any value as a truth value, NULL, an identifier, a string of bits or octets or a SEQUENCE, and
+//! Any value as a truth value, NULL, an identifier, a string of bits or bytes or a SEQUENCE, and
 //! back. An owned value is decoded as an `AnyRef` to it is.
 
 ghost use Rattle.std.specs.Prelude.{◌≡◌, []};
@@ -107,7 +107,7 @@ impl<'a> From<Null> for AnyRef<'a> {
     }
 }
 
-/// The identifier of an OBJECT IDENTIFIER, whose octets are no more than the capacity.
+/// The identifier of an OBJECT IDENTIFIER, whose bytes are no more than the capacity.
 impl<'a, const MAX_SIZE: usize> TryFrom<AnyRef<'a>> for ObjectIdentifier<MAX_SIZE> {
     type Error = Error;
 
@@ -156,7 +156,7 @@ impl<'a> TryFrom<&'a Any> for BitStringRef<'a> {
     }
 }
 
-/// The octets of an OCTET STRING.
+/// The bytes of an OCTET STRING.
 impl<'a> TryFrom<AnyRef<'a>> for OctetStringRef<'a> {
     type Error = Error;
 
@@ -181,8 +181,8 @@ impl<'a> TryFrom<&'a Any> for OctetStringRef<'a> {
     }
 }
 
-/// The value as one of any type. A `BitStringRef` isn't lent so, since its number of unused bits is
-/// in no slice: `Any::encode_from` copies it.
+/// The value as one of any type. A `BitStringRef` isn't borrowed so, since its number of unused
+/// bits is in no slice: `Any::encode_from` copies it.
 impl<'a> From<OctetStringRef<'a>> for AnyRef<'a> {
     ghost from_gives = { λ x a. any_lent a
         ≡ record { tag = tags.OctetString; contents = octets_lent x } };

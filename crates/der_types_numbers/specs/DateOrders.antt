@@ -62,7 +62,7 @@ after_year_cmp c d =
     two_digits_cmp c.second d.second (90 ∷ []) (90 ∷ [])
     ∙ then_equal (nat_cmp c.second d.second)))))
 
--- the octets of a GeneralizedTime are in the order of its date
+-- the bytes of a GeneralizedTime are in the order of its date
 pub generalized_octets_cmp : (c d : Civil)
     → slice_cmp nat_cmp (generalized_octets c) (generalized_octets d) ≡ civil_cmp c d
 unfolding generalized_octets

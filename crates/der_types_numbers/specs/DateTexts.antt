@@ -28,12 +28,12 @@ ReadsDate text (Ok d) = text ≡ date_text d
 ReadsDate text (Err e) = (e.kind ≡ kinds.DateTime)
     × ((c : Civil) → is_civil c ≡ true → text ≢ date_text c)
 
--- the octets behind a mark
+-- the bytes after a mark
 abbrev pub behind_mark : ℕ → List ℕ → Option (List ℕ)
 behind_mark m [] = None
 behind_mark m (o ∷ w) = if o == m then Some w else None
 
--- reading of the time behind a day, number by number
+-- reading of the time after a day, number by number
 abbrev pub time_at : ℕ → ℕ → ℕ → List ℕ → Option Civil
 time_at year month day w =
     option_and_then
@@ -50,7 +50,7 @@ time_at year month day w =
     }) second.1)
     (two_at r5)) (behind_mark 58 minute.1)) (two_at r4)) (behind_mark 58 hour.1)) (two_at w)
 
--- reading of a day and the time behind it, number by number
+-- reading of a day and the time after it, number by number
 unfoldable pub text_at : List ℕ → Option Civil
 text_at w =
     option_and_then

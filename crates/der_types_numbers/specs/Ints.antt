@@ -32,7 +32,7 @@ pub record IsUint (n : UintInside) : Type 0 where
 abbrev pub natural_lent : UintRef → ℕ
 natural_lent n = number_from_digits 256 n.bytes.now
 
--- the content octets
+-- the content bytes
 abbrev pub content_lent : IntRef → List ℕ
 content_lent n = integer_octets (integer_lent n)
 

@@ -1,4 +1,4 @@
--- The orders of whole numbers: by the number of content octets and then by the octets; those that
+-- The orders of whole numbers: by the number of content bytes and then by the bytes; those that
 -- aren't negative are in the order of the numbers.
 use Rattle.std.specs.Prelude.{◌≡◌, ℕ, ℤ, pos, ◌/◌, ◌%◌, ◌<◌, ◌≤◌, zero, suc, List}
 use Rattle.std.specs.Prelude.{[], ◌∷◌, ◌++◌, length, nat_eq}
@@ -23,7 +23,7 @@ use Rattle.der_core.specs.Orders.{contents_cmp}
 use Rattle.der_core.proofs.OrderLaws.{split_cmp, after_cmp}
 use Rattle.der_core.proofs.OrderLaws.{then_equal, octets_cmp-append, splits_lengths}
 
--- The order of whole numbers of either sign: the number of content octets, and then the octets.
+-- The order of whole numbers of either sign: the number of content bytes, and then the bytes.
 abbrev pub integer_cmp : ℤ → ℤ → Ordering
 integer_cmp a b = sized_cmp (integer_octets a) (integer_octets b)
 
@@ -45,7 +45,7 @@ integer_order v w p q e =
     (ap (nat_cmp (length (integer_octets v))) (sym e)
     ∙ tied_itself nat_cmp_total (length (integer_octets v)))
 
--- one digit more on both sides
+-- one more digit on both sides
 sized_push : (a b : List ℕ) (x y : ℕ) → sized_cmp (a ++ x ∷ []) (b ++ y ∷ [])
     ≡ ordering_then (sized_cmp a b) (nat_cmp x y)
 sized_push a b x y =

@@ -1,4 +1,4 @@
--- Whole numbers of octets in which some may be left out (X.690 8.3.2).
+-- Whole numbers of bytes in which some may be left out (X.690 8.3.2).
 use Rattle.std.specs.Prelude.{ℕ, ℤ, pos, List, [], ◌∷◌, length, Bool, false, nat_lt, ◌==◌, not}
 use Rattle.std.specs.Prelude.{Result, Ok, Err, if◌then◌else◌}
 use Rattle.std.specs.Int.Digits.{number_from_digits}
@@ -8,16 +8,16 @@ use Rattle.der_core.specs.ErrorTypes.ErrorKind.TheVariants as kinds
 use Rattle.der_core.specs.TagTypes.Tag.TheVariants.{Integer}
 use Rattle.der_core.specs.Integers.{integer_of, integer_octets}
 
--- a number, if its content has no more octets than a length can count
+-- a number, if its content has no more bytes than a length can count
 unfoldable pub if_countable : {A : Type 0} → List ℕ → A → Result A ErrorKind
 if_countable content n = if nat_lt length_max (length content) then Err kinds.Overflow else Ok n
 
--- the number that octets spell in two's complement, the fewest or more
+-- the number that bytes encode in two's complement, the fewest or more
 unfoldable pub signed_number : List ℕ → Result ℤ ErrorKind
 signed_number [] = Err (kinds.Length Integer)
 signed_number (d ∷ ds) = if_countable (integer_octets (integer_of (d ∷ ds))) (integer_of (d ∷ ds))
 
--- the number of octets that are digits in base 256, with leading zeros or without
+-- the number of bytes that are digits in base 256, with leading zeros or without
 unfoldable pub unsigned_number : List ℕ → Result ℕ ErrorKind
 unsigned_number [] = Err (kinds.Length Integer)
 unsigned_number (d ∷ ds) = if_countable (integer_octets (pos (number_from_digits 256 (d ∷ ds))))

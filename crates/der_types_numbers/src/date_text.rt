@@ -8,14 +8,14 @@ ghost use Rattle.der_core.specs.TagTypes.Tag.{Tag as AnyTag};
 use crate::date_time::DateTime;
 use std::ops::RangeInclusive;
 
-/// Whether an octet lies in a range, both ends included.
+/// Returns whether a byte lies in a range, both ends included.
 pub fn const_contains_u8(range: RangeInclusive<u8>, item: u8) -> bool
     ensures { IsTrue result ↔ ((range.start ≤ item) × (item ≤ range.end)) }
 {
     item >= *range.start() && item <= *range.end()
 }
 
-/// The number that a digit spells.
+/// Returns the value of a digit.
 fn digit(octet: u8) -> Option<u8>
     ensures value { result ≡ digit_at octet }
     ensures bound { IfSome result (λ d. d ≤ 9) }
@@ -27,7 +27,7 @@ fn digit(octet: u8) -> Option<u8>
     }
 }
 
-/// The number that two digits spell, and the octets after them.
+/// Returns the value of two digits, and the bytes after them.
 pub(crate) fn two(octets: &[u8]) -> Option<(u8, &[u8])>
     ensures value { option_map (λ p. (p.0, p.1.now)) result ≡ two_at octets.now }
     ensures bound { IfSome result (λ p. p.0 < 100) }
@@ -40,7 +40,8 @@ pub(crate) fn two(octets: &[u8]) -> Option<(u8, &[u8])>
     Some((10 * tens + ones, rest))
 }
 
-/// The date of a year whose month, day, hour, minute and second are spelled by ten digits and `Z`.
+/// Returns the date with this year, whose month, day, hour, minute and second are ten digits
+/// followed by `Z`.
 #[inline(always)]
 #[tactic(auto, unfolding(crate::specs::Opened::civil_at))]
 pub(crate) fn date_of(year: u16, octets: &[u8]) -> Option<DateTime>
@@ -60,7 +61,7 @@ pub(crate) fn date_of(year: u16, octets: &[u8]) -> Option<DateTime>
     DateTime::new(year, month, day, hour, minutes, seconds).ok()
 }
 
-/// The two digits of a number below 100.
+/// Returns the two digits of a number below 100.
 pub(crate) fn two_digits(number: u8) -> [u8; 2]
     requires { number < 100 }
     ensures { result ≡ two_digits number }
@@ -68,7 +69,7 @@ pub(crate) fn two_digits(number: u8) -> [u8; 2]
     [b'0' + number / 10, b'0' + number % 10]
 }
 
-/// The octets after a mark.
+/// Returns the bytes after a mark.
 fn behind(octets: &[u8], mark: u8) -> Option<&[u8]>
     ensures { option_map (λ rest. rest.now) result ≡ behind_mark mark octets.now }
 {
@@ -78,7 +79,7 @@ fn behind(octets: &[u8], mark: u8) -> Option<&[u8]>
     if *first == mark { Some(rest) } else { None }
 }
 
-/// The date of a text `YYYY-MM-DDTHH:MM:SSZ`.
+/// Parses a date of the form `YYYY-MM-DDTHH:MM:SSZ`.
 #[tactic(auto, unfolding(crate::specs::DateTexts::text_at))]
 pub(crate) fn date_of_text(text: &[u8]) -> Option<DateTime>
     ensures { result ≡ text_at text.now }
@@ -94,7 +95,7 @@ pub(crate) fn date_of_text(text: &[u8]) -> Option<DateTime>
     time_of_text(year, month, day, rest)
 }
 
-/// The date of a day and the text of a time, `HH:MM:SSZ`.
+/// Returns the date with this day, and a time of the form `HH:MM:SSZ`.
 fn time_of_text(year: u16, month: u8, day: u8, text: &[u8]) -> Option<DateTime>
     ensures { result ≡ time_at year month day text.now }
 {
@@ -111,7 +112,7 @@ fn time_of_text(year: u16, month: u8, day: u8, text: &[u8]) -> Option<DateTime>
     DateTime::new(year, month, day, hour, minutes, seconds).ok()
 }
 
-/// The text of a date, `YYYY-MM-DDTHH:MM:SSZ`.
+/// Returns the text of a date, `YYYY-MM-DDTHH:MM:SSZ`.
 #[tactic(auto, unfolding(crate::specs::DateTexts::date_text))]
 pub(crate) fn text_of_date(date: DateTime) -> [u8; 20]
     ensures { result ≡ date_text date }

@@ -46,7 +46,7 @@ impl Model for DateTime {
     ghost inverse = { inside_of };
 }
 
-/// How many days a month has, from 1 for January.
+/// Returns the number of days of a month. January is 1.
 fn month_length(year: u16, month: u8) -> u8
     ensures { result ≡ days_in_month year month }
 {
@@ -58,7 +58,7 @@ fn month_length(year: u16, month: u8) -> u8
     }
 }
 
-/// The year of a day of the calendar from 1970 on.
+/// Returns the year of a day of the calendar from 1970 on.
 fn unsigned_year(date: Date) -> u16
     requires { pos 0 ≤ℤ epoch_day date }
     ensures { pos result ≡ date.year }
@@ -67,8 +67,8 @@ fn unsigned_year(date: Date) -> u16
 }
 
 impl DateTime {
-    /// 9999-12-31T23:59:59Z, the last date, which RFC 5280 4.1.2.5 takes for a certificate without
-    /// an end.
+    /// 9999-12-31T23:59:59Z, the last date, which RFC 5280 4.1.2.5 uses for a certificate without
+    /// an expiration date.
     pub const INFINITY: DateTime = DateTime {
         year: 9999,
         month: 12,
@@ -78,10 +78,12 @@ impl DateTime {
         seconds: 59,
     };
 
-    /// The date of a day of the calendar from 1970 to 9999, and of a second of it.
+    /// Returns the date with this day, from 1970 to 9999, and this time.
     ///
     /// # Errors
-    /// `DateTime` for what is no date, or lies outside these years. A second 60 is none.
+    ///
+    /// - `DateTime`: there is no such date, or it is outside of these years. A second 60 is an
+    ///   error.
     pub fn new(
         year: u16,
         month: u8,
@@ -133,7 +135,7 @@ impl DateTime {
         }
     }
 
-    /// The year, from 1970 to 9999.
+    /// Returns the year, from 1970 to 9999.
     pub fn year(&self) -> u16
         ensures value { result ≡ self.now.year }
         ensures bound { result ≤ 9999 }
@@ -141,7 +143,7 @@ impl DateTime {
         self.year
     }
 
-    /// The month, from 1 for January to 12.
+    /// Returns the month, from 1 for January to 12.
     pub fn month(&self) -> u8
         ensures value { result ≡ self.now.month }
         ensures bound { result ≤ 12 }
@@ -149,7 +151,7 @@ impl DateTime {
         self.month
     }
 
-    /// The day of the month, from 1.
+    /// Returns the day of the month. The first is 1.
     pub fn day(&self) -> u8
         ensures value { result ≡ self.now.day }
         ensures bound { result ≤ 31 }
@@ -157,7 +159,7 @@ impl DateTime {
         self.day
     }
 
-    /// The hour, from 0 to 23.
+    /// Returns the hour, from 0 to 23.
     pub fn hour(&self) -> u8
         ensures value { result ≡ self.now.hour }
         ensures bound { result ≤ 23 }
@@ -165,7 +167,7 @@ impl DateTime {
         self.hour
     }
 
-    /// The minute, from 0 to 59.
+    /// Returns the minute, from 0 to 59.
     pub fn minutes(&self) -> u8
         ensures value { result ≡ self.now.minute }
         ensures bound { result ≤ 59 }
@@ -173,7 +175,7 @@ impl DateTime {
         self.minutes
     }
 
-    /// The second, from 0 to 59.
+    /// Returns the second, from 0 to 59.
     pub fn seconds(&self) -> u8
         ensures value { result ≡ self.now.second }
         ensures bound { result ≤ 59 }
@@ -181,7 +183,7 @@ impl DateTime {
         self.seconds
     }
 
-    /// The day of the calendar.
+    /// Returns the day of the calendar.
     fn date(&self) -> Date
         ensures { epoch_day result ≡ pos (unix_days self.now) }
     {
@@ -192,7 +194,7 @@ impl DateTime {
         }
     }
 
-    /// Whether the date lies in the years that UTCTime spells, which end with 2049.
+    /// Returns whether the date is in the years of UTCTime, which end with 2049.
     pub(crate) fn is_before_2050(&self) -> bool
         ensures year { IsTrue result ↔ (self.now.year ≤ 2049) }
         ensures seconds { IsTrue result ↔ (unix_seconds self.now < 2_524_608_000) }
@@ -200,7 +202,8 @@ impl DateTime {
         self.year < 2050
     }
 
-    /// The seconds since 1970-01-01T00:00:00Z, leap seconds left out, from 0 to 253402300799.
+    /// Returns the seconds since 1970-01-01T00:00:00Z, leap seconds left out, from 0 to
+    /// 253402300799.
     #[tactic(auto, unfolding(crate::specs::Seconds::unix_seconds))]
     pub fn unix_seconds(&self) -> u64
         ensures value { result ≡ unix_seconds self.now }
@@ -213,17 +216,18 @@ impl DateTime {
             + u64::from(self.seconds)
     }
 
-    /// The time since 1970-01-01T00:00:00Z, leap seconds left out.
+    /// Returns the time since 1970-01-01T00:00:00Z, leap seconds left out.
     pub fn unix_duration(&self) -> Duration
         ensures { as_nanos result ≡ unix_seconds self.now * 1_000_000_000 }
     {
         Duration::from_secs(self.unix_seconds())
     }
 
-    /// The date so many seconds after 1970-01-01T00:00:00Z, leap seconds left out.
+    /// Returns the date this many seconds after 1970-01-01T00:00:00Z, without leap seconds.
     ///
     /// # Errors
-    /// `DateTime` after 253402300799 seconds, which is 9999-12-31T23:59:59Z.
+    ///
+    /// - `DateTime`: more than 253402300799 seconds, which is 9999-12-31T23:59:59Z.
     pub fn from_unix_seconds(seconds: u64) -> Result<DateTime, Error>
         ensures range { IsOk result ↔ (seconds ≤ last_second) }
         ensures ok { IfOk result (λ d. unix_seconds d ≡ seconds) }
@@ -246,11 +250,12 @@ impl DateTime {
         )
     }
 
-    /// The date so long after 1970-01-01T00:00:00Z, leap seconds and fractions of a second left
-    /// out.
+    /// Returns the date this long after 1970-01-01T00:00:00Z, without leap seconds and fractions of
+    /// a second.
     ///
     /// # Errors
-    /// `DateTime` after 9999-12-31T23:59:59Z.
+    ///
+    /// - `DateTime`: the date is after 9999-12-31T23:59:59Z.
     pub fn from_unix_duration(duration: Duration) -> Result<DateTime, Error>
         ensures range { IsOk result ↔ (as_nanos duration < (last_second + 1) * 1_000_000_000) }
         ensures ok { IfOk result (λ d. unix_seconds d ≡ as_nanos duration / 1_000_000_000) }

@@ -1,4 +1,4 @@
-//! The values of each type are in range: each is a date of the calendar, to 2049 for UTCTime.
+//! The values of each type are in range: each is a date of the calendar, up to 2049 for UTCTime.
 
 use crate::date_time::DateTime;
 use crate::generalized_time::GeneralizedTime;

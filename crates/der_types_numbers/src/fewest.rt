@@ -1,4 +1,4 @@
-//! The fewest octets of a number (X.690 8.3.2).
+//! Integers in the fewest bytes (X.690 8.3.2).
 
 ghost use Rattle.std.specs.Prelude.{◌≡◌, ◌<◌, pos, length, false, IfOk};
 ghost use Rattle.std.specs.Int.Digits.{number_from_digits};
@@ -15,7 +15,7 @@ use der_core::{Error, Writer};
 use std::alloc::{AllocError, Global};
 use std::cmp::Ordering;
 
-/// The fewest octets of the same number in two's complement.
+/// Returns the same integer in the fewest bytes of two's complement.
 #[tactic(auto, using(crate::proofs::Naturals::shorter))]
 pub fn fewest_signed(octets: &[u8]) -> &[u8]
     requires { 0 < length octets.now }
@@ -31,7 +31,7 @@ pub fn fewest_signed(octets: &[u8]) -> &[u8]
     rest
 }
 
-/// Whether the first of two octets or more is zero.
+/// Returns whether the first of two bytes or more is zero.
 fn begins_with_zero(octets: &[u8]) -> bool
     ensures { result ≡ has_leading_zero octets.now }
 {
@@ -41,7 +41,7 @@ fn begins_with_zero(octets: &[u8]) -> bool
     }
 }
 
-/// The digits of the same number in base 256, without leading zeros; zero is one digit.
+/// Returns the digits of the same number in base 256, without leading zeros; zero is one digit.
 pub fn fewest_unsigned(octets: &[u8]) -> &[u8]
     requires { 0 < length octets.now }
     ensures digits { result.now ≡ digits 256 (number_from_digits 256 octets.now) }
@@ -55,7 +55,8 @@ pub fn fewest_unsigned(octets: &[u8]) -> &[u8]
     rest
 }
 
-/// Whether the first bit of octets is one: as two's complement they would be a negative number.
+/// Returns whether the first bit of bytes is one: as two's complement they would be a negative
+/// number.
 pub fn begins_with_one_bit(octets: &[u8]) -> bool
     ensures { result ≡ is_first_bit_set octets.now }
 {
@@ -65,7 +66,7 @@ pub fn begins_with_one_bit(octets: &[u8]) -> bool
     }
 }
 
-/// How many octets the content of a number has whose digits in base 256 these are.
+/// Returns the length of the content of the number with these digits in base 256.
 #[tactic(auto, using(crate::proofs::Naturals::natural_contents))]
 pub fn content_len(octets: &[u8]) -> usize
     requires { octets.now ≡ digits 256 (number_from_digits 256 octets.now) }
@@ -78,8 +79,8 @@ pub fn content_len(octets: &[u8]) -> usize
     }
 }
 
-/// The octet that stands before the digits of a number in base 256, if one does: a zero where their
-/// first bit is one.
+/// Returns the byte that comes before the digits of a number in base 256, if there is one: a zero,
+/// if their first bit is one.
 #[tactic(auto, using(crate::proofs::Naturals::natural_contents))]
 pub fn lead_of(octets: &[u8]) -> Option<u8>
     requires { octets.now ≡ digits 256 (number_from_digits 256 octets.now) }
@@ -93,10 +94,11 @@ pub fn lead_of(octets: &[u8]) -> Option<u8>
     }
 }
 
-/// The content of a number whose digits in base 256 these are.
+/// Returns the content of the number with these digits in base 256.
 ///
 /// # Errors
-/// Out of memory.
+///
+/// Fails if memory runs out.
 #[tactic(auto, using(crate::proofs::Naturals::natural_contents))]
 pub fn content_of(alloc: Global, octets: &[u8]) -> Result<Vec<u8>, AllocError>
     requires { octets.now ≡ digits 256 (number_from_digits 256 octets.now) }
@@ -112,10 +114,11 @@ pub fn content_of(alloc: Global, octets: &[u8]) -> Result<Vec<u8>, AllocError>
     Ok(content)
 }
 
-/// Writes the content of a number whose digits in base 256 these are.
+/// Encodes the content of the number with these digits in base 256.
 ///
 /// # Errors
-/// Those of the writer.
+///
+/// - The errors of the writer.
 pub fn encode_natural<W: Writer>(writer: &mut W, octets: &[u8]) -> Result<(), Error>
     requires { octets.now ≡ digits 256 (number_from_digits 256 octets.now) }
     ensures exact { Writes W.takes_memory (W.out writer.old) (W.out writer.new) result
@@ -130,7 +133,7 @@ pub fn encode_natural<W: Writer>(writer: &mut W, octets: &[u8]) -> Result<(), Er
     writer.write(octets)
 }
 
-/// The order of the number of octets, and then of the octets.
+/// Compares the lengths, and then the bytes.
 pub fn sized_cmp(octets: &[u8], other: &[u8]) -> Ordering
     ensures { result ≡ orders.sized_cmp octets.now other.now }
 {

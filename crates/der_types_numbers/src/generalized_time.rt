@@ -39,33 +39,34 @@ impl Model for GeneralizedTime {
 }
 
 impl GeneralizedTime {
-    /// The number of content octets.
+    /// The number of content bytes.
     pub const LENGTH: usize = 15;
 
-    /// 9999-12-31T23:59:59Z, the last time, which RFC 5280 4.1.2.5 takes for a certificate without
-    /// an end.
+    /// 9999-12-31T23:59:59Z, the last time, which RFC 5280 4.1.2.5 uses for a certificate without
+    /// an expiration date.
     pub const INFINITY: GeneralizedTime = GeneralizedTime {
         date_time: DateTime::INFINITY,
     };
 
-    /// The time of a date.
+    /// Returns the time of a date.
     pub fn from_date_time(date_time: DateTime) -> GeneralizedTime
         ensures { result ≡ date_time }
     {
         GeneralizedTime { date_time }
     }
 
-    /// The date.
+    /// Returns the date.
     pub fn to_date_time(&self) -> DateTime
         ensures { result ≡ self.now }
     {
         self.date_time
     }
 
-    /// The time so long after 1970-01-01T00:00:00Z; a fraction of a second is left out.
+    /// Returns the time this long after 1970-01-01T00:00:00Z. A fraction of a second is left out.
     ///
     /// # Errors
-    /// `DateTime` after 9999-12-31T23:59:59Z.
+    ///
+    /// - `DateTime`: the time is after 9999-12-31T23:59:59Z.
     pub fn from_unix_duration(duration: Duration) -> Result<GeneralizedTime, Error>
         ensures range { IsOk result ↔ (as_nanos duration < (last_second + 1) * 1_000_000_000) }
         ensures ok { IfOk result (λ t. unix_seconds t ≡ as_nanos duration / 1_000_000_000) }
@@ -75,17 +76,18 @@ impl GeneralizedTime {
         Ok(GeneralizedTime { date_time })
     }
 
-    /// The time since 1970-01-01T00:00:00Z, leap seconds left out.
+    /// Returns the time since 1970-01-01T00:00:00Z, leap seconds left out.
     pub fn to_unix_duration(&self) -> Duration
         ensures { as_nanos result ≡ unix_seconds self.now * 1_000_000_000 }
     {
         self.date_time.unix_duration()
     }
 
-    /// The time that a content spells behind a tag.
+    /// Decodes the content of a time, after its tag.
     ///
     /// # Errors
-    /// `Value` where the octets spell no date.
+    ///
+    /// - `Value`: the bytes aren't a date.
     #[tactic(auto, unfolding(crate::specs::Opened::generalized_read))]
     pub fn of_content(tag: Tag, octets: &[u8]) -> Result<GeneralizedTime, Error>
         ensures { GivesNow (λ t. t) result (leaf_read generalized_time tag octets.now) }
@@ -102,7 +104,7 @@ impl GeneralizedTime {
         Ok(GeneralizedTime { date_time })
     }
 
-    /// The content octets.
+    /// Returns the content bytes.
     #[tactic(auto, unfolding(crate::specs::Opened::generalized_octets))]
     pub(crate) fn to_content(&self) -> [u8; 15]
         ensures { result ≡ generalized_octets self.now }

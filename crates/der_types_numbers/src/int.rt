@@ -26,7 +26,7 @@ use std::cmp::Ordering;
 use std::hash::{Hash, Hasher};
 use std::marker::Model;
 
-/// INTEGER of any size (X.690 8.3): two's complement in the fewest octets, fewer than 2^32.
+/// INTEGER of any size (X.690 8.3): two's complement in the fewest bytes, fewer than 2^32.
 ///
 /// Contracts see the number.
 #[derive(Debug, Drop)]
@@ -47,11 +47,14 @@ impl Model for Int {
 }
 
 impl Int {
-    /// The number that octets spell in two's complement, the most significant octet first. The
-    /// octets that count for nothing are left out.
+    /// Returns the number that bytes encode in two's complement, the most significant byte first.
+    /// The bytes that count for nothing are left out.
     ///
     /// # Errors
-    /// `Length` for no octets; `Overflow` where 2^32 octets or more are left; `OutOfMemory`.
+    ///
+    /// - `Length`: no bytes.
+    /// - `Overflow`: 2^32 bytes or more are left.
+    /// - `OutOfMemory`: memory runs out.
     pub fn new(alloc: Global, bytes: &[u8]) -> Result<Int, Error>
         ensures { Gives (λ n. n) result (signed_number bytes.now) }
     {
@@ -59,7 +62,7 @@ impl Int {
         Ok(Int::copy_of(alloc, &lent)?)
     }
 
-    /// The number of a borrowed one.
+    /// Returns an owned copy of a borrowed integer.
     pub(crate) fn copy_of(alloc: Global, lent: &IntRef<'_>) -> Result<Int, AllocError>
         ensures { IfOk result (λ n. n ≡ integer_lent lent.now) }
     {
@@ -67,17 +70,18 @@ impl Int {
         Ok(Int { bytes })
     }
 
-    /// A copy.
+    /// Returns a copy.
     ///
     /// # Errors
-    /// Out of memory.
+    ///
+    /// Fails if memory runs out.
     pub fn clone(&self, alloc: Global) -> Result<Int, AllocError>
         ensures { IfOk result (λ n. n ≡ self.now) }
     {
         Int::copy_of(alloc, &self.owned_to_ref())
     }
 
-    /// The content octets: two's complement, the most significant octet first.
+    /// Returns the content bytes: two's complement, the most significant byte first.
     pub fn as_bytes(&self) -> &[u8]
         ensures octets { result.now ≡ integer_octets self.now }
         ensures number { integer_of result.now ≡ self.now }
@@ -85,28 +89,28 @@ impl Int {
         self.owned_to_ref().as_bytes()
     }
 
-    /// The number of content octets.
+    /// Returns the number of content bytes.
     pub fn len(&self) -> Length
         ensures { result.value ≡ length (integer_octets self.now) }
     {
         self.owned_to_ref().len()
     }
 
-    /// Whether there are no content octets, which never is.
+    /// Returns whether there aren't a content bytes, which never is.
     pub fn is_empty(&self) -> bool
         ensures { result ≡ false }
     {
         self.bytes.as_slice().is_empty()
     }
 
-    /// The number, lent.
+    /// Returns the number, borrowed.
     pub fn owned_to_ref(&self) -> IntRef<'_>
         ensures { integer_lent result ≡ self.now }
     {
         IntRef::trusted(self.bytes.as_slice())
     }
 
-    /// Octets that are known to be the content of a number.
+    /// Wraps bytes that are known to be the content of an integer.
     fn trusted(bytes: Vec<u8>) -> Int
         requires content { bytes.items ≡ integer_octets (integer_of bytes.items) }
         requires some { 0 < vec_len bytes }
@@ -137,7 +141,7 @@ impl From<Uint> for Int {
     }
 }
 
-/// A copy, in memory of the same allocator.
+/// Copies the value with its own allocator.
 impl Clone for Int {
     ghost is_clone = { λ x y. y ≡ x };
 
@@ -146,7 +150,7 @@ impl Clone for Int {
     }
 }
 
-/// Whether the numbers are equal.
+/// Compares the integers.
 impl PartialEq for Int {
     ghost eq = { λ a b. pointwise nat_eq (integer_octets a) (integer_octets b) };
 
@@ -161,7 +165,7 @@ impl Eq for Int {
     ghost laws = { on_equiv integer_octets nat_list_eq_equiv };
 }
 
-/// The order of the number of content octets, and then of the octets.
+/// Compares the lengths of the contents, and then the contents.
 impl PartialOrd for Int {
     ghost partial_cmp = { λ a b. Some (integer_cmp a b) };
 
@@ -186,7 +190,7 @@ impl Ord for Int {
     }
 }
 
-/// The content octets.
+/// The content bytes.
 impl Hash for Int {
     ghost hash_input = { λ n. fed.slice fed.u8 (integer_octets n) };
 
@@ -216,7 +220,7 @@ impl Primitive for Int {
     ghost leaf_plain = { λ x. x };
 }
 
-/// Two's complement in the fewest octets.
+/// Two's complement in the fewest bytes.
 impl<'a> Leaf<'a> for Int {
     fn from_content(alloc: Global, tag: Tag, octets: &'a [u8]) -> Result<Int, Error> {
         let lent = IntRef::from_content(alloc, tag, octets)?;

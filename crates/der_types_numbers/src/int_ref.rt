@@ -24,7 +24,8 @@ use std::alloc::{AllocError, Global};
 use std::cmp::Ordering;
 use std::hash::{Hash, Hasher};
 
-/// INTEGER of any size (X.690 8.3): two's complement in the fewest octets, fewer than 2^32; lent.
+/// A borrowed INTEGER of any size (X.690 8.3): two's complement in the fewest bytes, fewer than
+/// 2^32.
 #[derive(Clone, Copy, Debug)]
 pub struct IntRef<'a> {
     bytes: &'a [u8],
@@ -37,11 +38,13 @@ pub struct IntRef<'a> {
 impl<'a> IntRef<'a> {
     ghost use Rattle.der_types_numbers.specs.Ints.{integer_lent};
 
-    /// The number that octets spell in two's complement, the most significant octet first. The
-    /// octets that count for nothing are left out.
+    /// Returns the number that bytes encode in two's complement, the most significant byte first.
+    /// The bytes that count for nothing are left out.
     ///
     /// # Errors
-    /// `Length` for no octets; `Overflow` where 2^32 octets or more are left.
+    ///
+    /// - `Length`: no bytes.
+    /// - `Overflow`: 2^32 bytes or more are left.
     #[tactic(auto, unfolding(crate::specs::Numbers::signed_number, crate::specs::Numbers::if_countable))]
     pub fn new(bytes: &'a [u8]) -> Result<IntRef<'a>, Error>
         ensures { GivesNow integer_lent result (signed_number bytes.now) }
@@ -56,7 +59,7 @@ impl<'a> IntRef<'a> {
         Ok(IntRef { bytes })
     }
 
-    /// The content octets: two's complement, the most significant octet first.
+    /// Returns the content bytes: two's complement, the most significant byte first.
     pub fn as_bytes(&self) -> &'a [u8]
         ensures octets { result.now ≡ integer_octets (integer_lent self.now) }
         ensures number { integer_of result.now ≡ integer_lent self.now }
@@ -67,34 +70,37 @@ impl<'a> IntRef<'a> {
         self.bytes
     }
 
-    /// The number of content octets.
+    /// Returns the number of content bytes.
     pub fn len(&self) -> Length
         ensures { result.value ≡ length (integer_octets (integer_lent self.now)) }
     {
         Length::new(self.as_bytes().len() as u32)
     }
 
-    /// Whether there are no content octets, which never is.
+    /// Returns whether there aren't a content bytes, which never is.
     pub fn is_empty(&self) -> bool
         ensures { result ≡ false }
     {
         self.bytes.is_empty()
     }
 
-    /// A copy of the number that owns its octets.
+    /// Returns an owned copy of the integer.
     ///
     /// # Errors
-    /// Out of memory.
+    ///
+    /// Fails if memory runs out.
     pub fn ref_to_owned(&self, alloc: Global) -> Result<Int, AllocError>
         ensures { IfOk result (λ n. n ≡ integer_lent self.now) }
     {
         Int::copy_of(alloc, self)
     }
 
-    /// The number that a content spells behind a tag.
+    /// Decodes the content of an integer, after its tag.
     ///
     /// # Errors
-    /// `Length` for no octets, `Noncanonical` where fewer would do.
+    ///
+    /// - `Length`: there are no bytes.
+    /// - `Noncanonical`: fewer bytes would be enough.
     #[tactic(auto, unfolding(crate::specs::Opened::shortest_integer))]
     pub fn of_content(tag: Tag, octets: &'a [u8]) -> Result<IntRef<'a>, Error>
         requires { Fits octets.now }
@@ -109,7 +115,7 @@ impl<'a> IntRef<'a> {
         Ok(IntRef { bytes: octets })
     }
 
-    /// Octets that are known to be the content of a number.
+    /// Wraps bytes that are known to be the content of an integer.
     pub(crate) fn trusted(bytes: &'a [u8]) -> IntRef<'a>
         requires content { bytes.now ≡ integer_octets (integer_of bytes.now) }
         requires some { 0 < length bytes.now }
@@ -121,13 +127,13 @@ impl<'a> IntRef<'a> {
     }
 }
 
-/// What is seen as a whole number.
+/// A type that can be borrowed as an integer.
 pub trait AsIntRef {
     ghost as_integer: { Self → ℤ };
 
     ghost use Rattle.der_types_numbers.specs.Ints.{integer_lent};
 
-    /// The number.
+    /// Returns the number.
     fn as_int_ref(&self) -> IntRef<'_>
         ensures { integer_lent result ≡ as_integer self.now };
 }
@@ -142,7 +148,7 @@ impl<'a> AsIntRef for IntRef<'a> {
     }
 }
 
-/// Whether the numbers are equal.
+/// Compares the integers.
 impl<'a> PartialEq for IntRef<'a> {
     ghost use Rattle.der_types_numbers.specs.Ints.{content_lent};
 
@@ -161,7 +167,7 @@ impl<'a> Eq for IntRef<'a> {
     ghost laws = { on_equiv content_lent nat_list_eq_equiv };
 }
 
-/// The order of the number of content octets, and then of the octets.
+/// Compares the lengths of the contents, and then the contents.
 impl<'a> PartialOrd for IntRef<'a> {
     ghost use Rattle.der_types_numbers.specs.Ints.{integer_lent};
 
@@ -191,7 +197,7 @@ impl<'a> Ord for IntRef<'a> {
     }
 }
 
-/// The content octets.
+/// The content bytes.
 impl<'a> Hash for IntRef<'a> {
     ghost use Rattle.der_types_numbers.specs.Ints.{content_lent};
 
@@ -227,7 +233,7 @@ impl<'a> Primitive for IntRef<'a> {
     ghost leaf_plain = { integer_lent };
 }
 
-/// Two's complement in the fewest octets.
+/// Two's complement in the fewest bytes.
 impl<'a> Leaf<'a> for IntRef<'a> {
     ghost takes_memory = { false };
 
@@ -242,5 +248,5 @@ impl<'a> Octets for IntRef<'a> {
     }
 }
 
-/// Two's complement in the fewest octets (X.690 8.3), as octets: 128, `00 80`, is below 127, `7F`.
+/// Two's complement in the fewest bytes (X.690 8.3), as bytes: 128, `00 80`, is below 127, `7F`.
 impl<'a> Ordered for IntRef<'a> {}

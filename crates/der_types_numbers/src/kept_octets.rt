@@ -1,4 +1,4 @@
-//! Lists of octets, few of them in place.
+//! Lists of bytes, of which short ones are kept in place.
 
 ghost use Rattle.std.specs.Prelude.{◌≡◌, ◌≤◌, length, nat_eq, IfOk};
 ghost use Rattle.std.specs.Cmp.{partial_equiv_from_equiv};
@@ -8,7 +8,7 @@ use std::alloc::{AllocError, Global};
 use std::fmt;
 use std::marker::Model;
 
-/// A list of octets. A copy of up to 32 of them needs no memory.
+/// A list of bytes. A copy of up to 32 of them needs no memory.
 ///
 /// Contracts see the list.
 #[derive(Drop)]
@@ -17,18 +17,18 @@ pub struct KeptOctets {
     alloc: Global,
 }
 
-/// Where the octets are kept: in place, as so many of an array, or in memory of their own.
+/// The storage of the bytes: in place, or in memory of their own.
 #[derive(Drop)]
 enum Store {
     Few(InPlace),
     Many(Vec<u8>),
 }
 
-/// The first octets of an array, so many.
+/// The first bytes of an array, and their number.
 #[derive(Drop)]
 struct InPlace {
     bytes: [u8; 32],
-    // None; with it the octets lie as words do, and are moved in few of them.
+    // Empty; it aligns the bytes to words, so that they are moved in few of them.
     words: [u64; 0],
     len: usize,
 }
@@ -45,7 +45,7 @@ impl Model for KeptOctets {
 }
 
 impl KeptOctets {
-    /// The octets of a list, in its memory.
+    /// Returns the bytes of a list, which keeps its memory.
     pub fn of(bytes: Vec<u8>) -> KeptOctets
         ensures { result ≡ bytes.items }
     {
@@ -55,10 +55,11 @@ impl KeptOctets {
         }
     }
 
-    /// A copy of octets.
+    /// Returns a copy of bytes.
     ///
     /// # Errors
-    /// Out of memory, for more than 32 of them.
+    ///
+    /// Fails if memory runs out, for more than 32 bytes.
     pub fn copy_of(alloc: Global, octets: &[u8]) -> Result<KeptOctets, AllocError>
         ensures { IfOk result (λ o. o ≡ octets.now) }
     {
@@ -69,7 +70,7 @@ impl KeptOctets {
         Ok(KeptOctets::of(bytes))
     }
 
-    /// A copy of up to 32 octets, in place.
+    /// Returns a copy of up to 32 bytes, in place.
     fn few(alloc: Global, octets: &[u8]) -> KeptOctets
         requires { length octets.now ≤ 32 }
         ensures { result ≡ octets.now }
@@ -86,7 +87,7 @@ impl KeptOctets {
         }
     }
 
-    /// The octets.
+    /// Returns the bytes.
     #[inline]
     pub fn as_slice(&self) -> &[u8]
         ensures { result.now ≡ self.now }
@@ -97,13 +98,13 @@ impl KeptOctets {
         }
     }
 
-    /// The allocator of the memory that copies need.
+    /// Returns the allocator for copies.
     pub fn allocator(&self) -> &Global {
         &self.alloc
     }
 }
 
-/// Whether the octets are the same. Up to eight of them in place are told by one look.
+/// Compares the bytes. Up to eight of them in place are compared at once.
 impl PartialEq for KeptOctets {
     ghost eq = { pointwise nat_eq };
 
@@ -125,7 +126,7 @@ impl PartialEq for KeptOctets {
     }
 }
 
-/// The octets, as a slice of them is shown.
+/// The bytes, as a slice of them is shown.
 impl fmt::Debug for KeptOctets {
     fn fmt<W: fmt::Write>(&self, f: &mut fmt::Formatter<W>) -> fmt::Result {
         fmt::Debug::fmt(self.as_slice(), f)

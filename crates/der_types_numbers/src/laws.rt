@@ -1,6 +1,6 @@
-//! Laws of whole numbers: a borrowed number and its owned form agree.
+//! Laws about integers: a borrowed integer and its owned form agree.
 //!
-//! What the calls that both have answer is said at each in the same words.
+//! The comments of the calls that both have say the same in the same words.
 
 ghost use Rattle.std.specs.Prelude.{◌≡◌};
 ghost use Rattle.der_core.specs.Shapes.{contents};
@@ -14,7 +14,7 @@ use der_core::ShapedValue;
 use std::hash::Hash;
 
 /// A borrowed whole number and its owned form have the same content, are equal to the same numbers,
-/// stand in the same order and are hashed alike. Nothing is done.
+/// are in the same order and are hashed alike. Nothing is done.
 pub fn integer_forms_agree()
     ensures contents { (n : IntRef) → contents ⟦<IntRef<'static> as ShapedValue>⟧.content
         (⟦<IntRef<'static> as ShapedValue>⟧.value_plain n)
@@ -29,7 +29,7 @@ pub fn integer_forms_agree()
 {}
 
 /// A borrowed number that isn't negative and its owned form have the same content, are equal to the
-/// same numbers, stand in the same order and are hashed alike. Nothing is done.
+/// same numbers, are in the same order and are hashed alike. Nothing is done.
 pub fn natural_forms_agree()
     ensures contents { (n : UintRef) → contents ⟦<UintRef<'static> as ShapedValue>⟧.content
         (⟦<UintRef<'static> as ShapedValue>⟧.value_plain n)

@@ -25,8 +25,8 @@ use std::cmp::Ordering;
 use std::hash::{Hash, Hasher};
 use std::marker::Model;
 
-/// INTEGER of any size that isn't negative (X.690 8.3): two's complement in the fewest octets,
-/// fewer than 2^32.
+/// INTEGER of any size that isn't negative (X.690 8.3): two's complement in the fewest bytes, fewer
+/// than 2^32.
 ///
 /// Contracts see the number.
 #[derive(Debug, Drop)]
@@ -47,12 +47,14 @@ impl Model for Uint {
 }
 
 impl Uint {
-    /// The number of these digits in base 256, the most significant first. Leading zeros are left
-    /// out.
+    /// Returns the number of these digits in base 256, the most significant first. Leading zeros
+    /// are left out.
     ///
     /// # Errors
-    /// `Length` for no octets; `Overflow` where the content would have 2^32 octets or more;
-    /// `OutOfMemory`.
+    ///
+    /// - `Length`: no bytes.
+    /// - `Overflow`: the content would have 2^32 bytes or more.
+    /// - `OutOfMemory`: memory runs out.
     pub fn new(alloc: Global, bytes: &[u8]) -> Result<Uint, Error>
         ensures { Gives (λ n. n) result (unsigned_number bytes.now) }
     {
@@ -60,7 +62,7 @@ impl Uint {
         Ok(Uint::copy_of(alloc, &lent)?)
     }
 
-    /// The number of a borrowed one.
+    /// Returns an owned copy of a borrowed number.
     #[tactic(auto, using(crate::proofs::Naturals::contents))]
     pub(crate) fn copy_of(alloc: Global, lent: &UintRef<'_>) -> Result<Uint, AllocError>
         ensures { IfOk result (λ n. n ≡ natural_lent lent.now) }
@@ -69,45 +71,46 @@ impl Uint {
         Ok(Uint { bytes })
     }
 
-    /// A copy.
+    /// Returns a copy.
     ///
     /// # Errors
-    /// Out of memory.
+    ///
+    /// Fails if memory runs out.
     pub fn clone(&self, alloc: Global) -> Result<Uint, AllocError>
         ensures { IfOk result (λ n. n ≡ self.now) }
     {
         Uint::copy_of(alloc, &self.owned_to_ref())
     }
 
-    /// The digits in base 256, the most significant first, without leading zeros.
+    /// Returns the digits in base 256, the most significant first, without leading zeros.
     pub fn as_bytes(&self) -> &[u8]
         ensures { result.now ≡ digits 256 self.now }
     {
         self.owned_to_ref().as_bytes()
     }
 
-    /// The number of those digits.
+    /// Returns the number of those digits.
     pub fn len(&self) -> Length
         ensures { result.value ≡ length (digits 256 self.now) }
     {
         self.owned_to_ref().len()
     }
 
-    /// Whether there are no digits, which never is.
+    /// Returns whether there aren't digits, which never is.
     pub fn is_empty(&self) -> bool
         ensures { result ≡ false }
     {
         self.bytes.is_empty()
     }
 
-    /// The number, lent.
+    /// Returns the number, borrowed.
     pub fn owned_to_ref(&self) -> UintRef<'_>
         ensures { natural_lent result ≡ self.now }
     {
         UintRef::trusted(fewest_unsigned(self.bytes.as_slice()))
     }
 
-    /// The content octets, given back.
+    /// Returns the content bytes, and consumes the value.
     pub(crate) fn into_content(self) -> Vec<u8>
         ensures octets { result.items ≡ integer_octets (pos self) }
         ensures short { Fits result.items }
@@ -125,7 +128,7 @@ impl AsUintRef for Uint {
     }
 }
 
-/// A copy, in memory of the same allocator.
+/// Copies the value with its own allocator.
 impl Clone for Uint {
     ghost is_clone = { λ x y. y ≡ x };
 
@@ -134,7 +137,7 @@ impl Clone for Uint {
     }
 }
 
-/// Whether the numbers are equal.
+/// Compares the numbers.
 impl PartialEq for Uint {
     ghost eq = { λ a b. pointwise nat_eq (digits 256 a) (digits 256 b) };
 
@@ -149,7 +152,7 @@ impl Eq for Uint {
     ghost laws = { on_equiv (digits 256) nat_list_eq_equiv };
 }
 
-/// The order of the numbers.
+/// Compares the numbers.
 impl PartialOrd for Uint {
     ghost partial_cmp = { λ a b. Some (nat_cmp a b) };
 
@@ -205,7 +208,7 @@ impl Primitive for Uint {
     ghost leaf_plain = { λ n. pos n };
 }
 
-/// Two's complement in the fewest octets, of a number that isn't negative.
+/// The content is two's complement in the fewest bytes, of a number that isn't negative.
 impl<'a> Leaf<'a> for Uint {
     fn from_content(alloc: Global, tag: Tag, octets: &'a [u8]) -> Result<Uint, Error> {
         let lent = UintRef::from_content(alloc, tag, octets)?;
@@ -219,5 +222,5 @@ impl Octets for Uint {
     }
 }
 
-/// The digits, after a zero where their first bit is one (X.690 8.3).
+/// Compares the digits, after a zero if their first bit is one (X.690 8.3).
 impl Ordered for Uint {}

@@ -26,9 +26,9 @@ use std::alloc::{AllocError, Global};
 use std::cmp::Ordering;
 use std::hash::{Hash, Hasher};
 
-/// INTEGER of any size that isn't negative (X.690 8.3), lent: its digits in base 256, without
-/// leading zeros. The content begins with a zero octet where the first digit is 128 or more, and
-/// has fewer than 2^32 octets.
+/// A borrowed INTEGER of any size that isn't negative (X.690 8.3): its digits in base 256, without
+/// leading zeros. The content begins with a zero byte if the first digit is 128 or more, and has
+/// fewer than 2^32 bytes.
 #[derive(Clone, Copy, Debug)]
 pub struct UintRef<'a> {
     bytes: &'a [u8],
@@ -41,11 +41,13 @@ pub struct UintRef<'a> {
 impl<'a> UintRef<'a> {
     ghost use Rattle.der_types_numbers.specs.Ints.{natural_lent};
 
-    /// The number of these digits in base 256, the most significant first. Leading zeros are left
-    /// out.
+    /// Returns the number of these digits in base 256, the most significant first. Leading zeros
+    /// are left out.
     ///
     /// # Errors
-    /// `Length` for no octets; `Overflow` where the content would have 2^32 octets or more.
+    ///
+    /// - `Length`: no bytes.
+    /// - `Overflow`: the content would have 2^32 bytes or more.
     #[tactic(auto, unfolding(crate::specs::Numbers::unsigned_number, crate::specs::Numbers::if_countable))]
     pub fn new(bytes: &'a [u8]) -> Result<UintRef<'a>, Error>
         ensures { GivesNow natural_lent result (unsigned_number bytes.now) }
@@ -60,7 +62,7 @@ impl<'a> UintRef<'a> {
         Ok(UintRef::trusted(digits))
     }
 
-    /// The digits in base 256, the most significant first, without leading zeros.
+    /// Returns the digits in base 256, the most significant first, without leading zeros.
     pub fn as_bytes(&self) -> &'a [u8]
         ensures digits { result.now ≡ digits 256 (natural_lent self.now) }
         ensures number { number_from_digits 256 result.now ≡ natural_lent self.now }
@@ -70,34 +72,38 @@ impl<'a> UintRef<'a> {
         self.bytes
     }
 
-    /// The number of those digits.
+    /// Returns the number of those digits.
     pub fn len(&self) -> Length
         ensures { result.value ≡ length (digits 256 (natural_lent self.now)) }
     {
         Length::new(self.bytes.len() as u32)
     }
 
-    /// Whether there are no digits, which never is.
+    /// Returns whether there aren't digits, which never is.
     pub fn is_empty(&self) -> bool
         ensures { result ≡ false }
     {
         self.bytes.is_empty()
     }
 
-    /// A copy of the number that owns its octets.
+    /// Returns an owned copy of the number.
     ///
     /// # Errors
-    /// Out of memory.
+    ///
+    /// Fails if memory runs out.
     pub fn ref_to_owned(&self, alloc: Global) -> Result<Uint, AllocError>
         ensures { IfOk result (λ n. n ≡ natural_lent self.now) }
     {
         Uint::copy_of(alloc, self)
     }
 
-    /// The number that a content spells behind a tag.
+    /// Decodes the content of a number, after its tag.
     ///
     /// # Errors
-    /// `Length` for no octets, `Noncanonical` where fewer would do, `Value` for a negative number.
+    ///
+    /// - `Length`: there are no bytes.
+    /// - `Noncanonical`: fewer bytes would be enough.
+    /// - `Value`: the number is negative.
     #[tactic(auto, using(crate::proofs::Naturals::natural_reads))]
     pub fn of_content(tag: Tag, octets: &'a [u8]) -> Result<UintRef<'a>, Error>
         requires { Fits octets.now }
@@ -116,7 +122,7 @@ impl<'a> UintRef<'a> {
         Ok(UintRef::trusted(fewest_unsigned(octets)))
     }
 
-    /// Digits that are known to be those of a number.
+    /// Wraps digits that are known to be those of a number.
     pub(crate) fn trusted(bytes: &'a [u8]) -> UintRef<'a>
         requires some { 0 < length bytes.now }
         requires digits { bytes.now ≡ digits 256 (number_from_digits 256 bytes.now) }
@@ -127,13 +133,13 @@ impl<'a> UintRef<'a> {
     }
 }
 
-/// What is seen as a whole number that isn't negative.
+/// A type that can be borrowed as an integer that isn't negative.
 pub trait AsUintRef {
     ghost as_natural: { Self → ℕ };
 
     ghost use Rattle.der_types_numbers.specs.Ints.{natural_lent};
 
-    /// The number.
+    /// Returns the number.
     fn as_uint_ref(&self) -> UintRef<'_>
         ensures { natural_lent result ≡ as_natural self.now };
 }
@@ -148,7 +154,7 @@ impl<'a> AsUintRef for UintRef<'a> {
     }
 }
 
-/// Whether the numbers are equal.
+/// Compares the numbers.
 impl<'a> PartialEq for UintRef<'a> {
     ghost use Rattle.der_types_numbers.specs.Ints.{digits_lent};
 
@@ -167,7 +173,7 @@ impl<'a> Eq for UintRef<'a> {
     ghost laws = { on_equiv digits_lent nat_list_eq_equiv };
 }
 
-/// The order of the numbers.
+/// Compares the numbers.
 impl<'a> PartialOrd for UintRef<'a> {
     ghost use Rattle.der_types_numbers.specs.Ints.{natural_lent};
 
@@ -235,7 +241,7 @@ impl<'a> Primitive for UintRef<'a> {
     ghost leaf_plain = { λ n. pos (natural_lent n) };
 }
 
-/// Two's complement in the fewest octets, of a number that isn't negative.
+/// The content is two's complement in the fewest bytes, of a number that isn't negative.
 impl<'a> Leaf<'a> for UintRef<'a> {
     ghost takes_memory = { false };
 

@@ -20,10 +20,10 @@ use std::time::Duration;
 
 /// UTCTime (X.690 11.8, RFC 5280 4.1.2.5.1): `YYMMDDHHMMSSZ`, from 1970 to 2049.
 ///
-/// The years 00 to 49 are those from 2000, 70 to 99 those from 1970; 50 to 69 are refused.
+/// The years 00 to 49 mean 2000 to 2049, and 70 to 99 mean 1970 to 1999; 50 to 69 are rejected.
 ///
-/// Its own order is that of time. The order of its contents is another one: `00` of 2000 is below
-/// `99` of 1999.
+/// Values are ordered by time. The order of their contents is another one: `00` for 2000 is below
+/// `99` for 1999.
 #[derive(Clone, Copy, Debug, PartialEq, Eq, PartialOrd, Ord, Hash)]
 pub struct UtcTime {
     date_time: DateTime,
@@ -44,16 +44,17 @@ impl Model for UtcTime {
 }
 
 impl UtcTime {
-    /// The number of content octets.
+    /// The number of content bytes.
     pub const LENGTH: usize = 13;
 
-    /// The last year that UTCTime spells.
+    /// The last year of UTCTime.
     pub const MAX_YEAR: u16 = 2049;
 
-    /// The time of a date.
+    /// Returns the time of a date.
     ///
     /// # Errors
-    /// `Value` for a year after 2049.
+    ///
+    /// - `Value`: the year is after 2049.
     pub fn from_date_time(date_time: DateTime) -> Result<UtcTime, Error>
         ensures years { IsOk result ↔ (date_time.year ≤ 2049) }
         ensures seconds { IsOk result ↔ (unix_seconds date_time < 2_524_608_000) }
@@ -66,7 +67,7 @@ impl UtcTime {
         Ok(UtcTime { date_time })
     }
 
-    /// The date, to 2049.
+    /// Returns the date, to 2049.
     pub fn to_date_time(&self) -> DateTime
         ensures date { result ≡ self.now }
         ensures years { result.year ≤ 2049 }
@@ -74,10 +75,12 @@ impl UtcTime {
         self.date_time
     }
 
-    /// The time so long after 1970-01-01T00:00:00Z; a fraction of a second is left out.
+    /// Returns the time this long after 1970-01-01T00:00:00Z. A fraction of a second is left out.
     ///
     /// # Errors
-    /// `DateTime` after 9999-12-31T23:59:59Z, `Value` for a year after 2049.
+    ///
+    /// - `DateTime`: the time is after 9999-12-31T23:59:59Z.
+    /// - `Value`: the year is after 2049.
     pub fn from_unix_duration(duration: Duration) -> Result<UtcTime, Error>
         ensures range { IsOk result ↔ (as_nanos duration < 2_524_608_000_000_000_000) }
         ensures ok { IfOk result (λ t. unix_seconds t ≡ as_nanos duration / 1_000_000_000) }
@@ -90,17 +93,18 @@ impl UtcTime {
         UtcTime::from_date_time(date_time)
     }
 
-    /// The time since 1970-01-01T00:00:00Z, leap seconds left out.
+    /// Returns the time since 1970-01-01T00:00:00Z, leap seconds left out.
     pub fn to_unix_duration(&self) -> Duration
         ensures { as_nanos result ≡ unix_seconds self.now * 1_000_000_000 }
     {
         self.date_time.unix_duration()
     }
 
-    /// The time that a content spells behind a tag.
+    /// Decodes the content of a time, after its tag.
     ///
     /// # Errors
-    /// `Value` where the octets spell no date.
+    ///
+    /// - `Value`: the bytes aren't a date.
     #[tactic(auto, unfolding(crate::specs::Opened::utc_read))]
     pub fn of_content(tag: Tag, octets: &[u8]) -> Result<UtcTime, Error>
         ensures { GivesNow (λ t. t) result (leaf_read utc_time tag octets.now) }
@@ -115,7 +119,7 @@ impl UtcTime {
         Ok(UtcTime { date_time })
     }
 
-    /// The content octets.
+    /// Returns the content bytes.
     #[tactic(auto, unfolding(crate::specs::Opened::utc_octets))]
     pub(crate) fn to_content(&self) -> [u8; 13]
         ensures { result ≡ utc_octets self.now }
@@ -218,8 +222,8 @@ impl From<&UtcTime> for DateTime {
     }
 }
 
-/// `YYMMDDHHMMSSZ`. It isn't the order of time: the years from 2000 stand before those of the
-/// century before.
+/// Compares the contents, `YYMMDDHHMMSSZ`. This isn't the order of time: the years from 2000 on
+/// come before those of the century before.
 impl ValueOrd for UtcTime {
     #[tactic(auto, using(der_core::proofs::OrderLaws::leaf_contents))]
     fn value_cmp(&self, other: &Self) -> Result<Ordering, Error> {

@@ -88,7 +88,7 @@ rises s [] all asc = tt
 rises s (x ∷ []) all asc = tt
 rises s (x ∷ y ∷ xs) all asc = (asc.0 all.0 all.1.0, rises s (y ∷ xs) all.1 asc.1)
 
--- members in ascending order join to the same octets, however they were put in order
+-- members in ascending order join to the same bytes, however they were put in order
 pub one_arrangement : (s : Shape) (xs ys : List (Value s)) → AllValid s (λ v. v) xs → AllValid s (λ v. v) ys → Ascends s (λ v. v) xs → Ascends s (λ v. v) ys → IsPermutation xs ys
     → flat_map (octets_of s) xs ≡ flat_map (octets_of s) ys
 one_arrangement s xs ys all same_all asc same_asc moved =
@@ -116,7 +116,7 @@ module _ {A : Type 0} (s : Shape) (f : A → Value s) where
         filter-append (is_of b) ys rest ∙ ap (λ (u : List A). u ++ filter (is_of b) rest) (p.equals (front_all (λ x. IsValid s (f x)) xs rest all) b) ∙ sym (filter-append (is_of b) xs rest);
   }
 
-  -- One more item, behind its equals
+  -- One more item, after its equals
 
   differs : (b : List ℕ) (y z : A) → octets_of s (f y) ≡ b → octets_cmp (octets_of s (f y)) (octets_of s (f z)) ≡ Less → is_of b z ≡ false
   differs b y z e less = grind (arith, nat_tests, (bytes_eq-Decides (octets_of s (f z)) b).0, tied_itself nat_list_cmp_total (octets_of s (f y)))
@@ -127,7 +127,7 @@ module _ {A : Type 0} (s : Shape) (f : A → Value s) where
       let next = less_on (octets_of s (f y)) (octets_of s (f z)) (octets_of s (f w)) (octets_cmp (octets_of s (f z)) (octets_of s (f w))) less refl (asc.0 all.0 all.1.0) in
       rw (differs b y z e less, none_equal b y w ws e next all.1 asc.1) refl
 
-  -- what stands behind the place of an item
+  -- what follows the place of an item
   behind_it : (b : List ℕ) (y : A) (zs : List A) → IsValid s (f y) → AllValid s f zs → Ascends s f zs → ((z : A) → 0 < length zs → z ≡ get_or zs 0 z → octets_cmp (octets_of s (f y)) (octets_of s (f z)) ≡ Less)
       → filter (is_of b) (y ∷ zs) ≡ filter (is_of b) (zs ++ y ∷ [])
   behind_it b y [] v all asc less = refl
@@ -210,7 +210,7 @@ module _ {A : Type 0} (s : Shape) (f : A → Value s) where
         some = λ valid. t.some (valid_at s f all count y h.within (get_or_default all count x y h.within) valid, valid_moved (take count all) new h.arranged.same (recursion_from_All V (take count all) (All-take V count all (All-from_recursion V all valid))));
       }
 
-  -- Items that came behind members
+  -- Items that came after members
 
   gained_front : (old items : List A) (count : ℕ) → length old ≤ count → take count (old ++ items) ≡ old ++ take (count - length old) items
   gained_front old items count le =
@@ -234,7 +234,7 @@ module _ {A : Type 0} (s : Shape) (f : A → Value s) where
         why = inr (h.1.why x (get_or_default items k y x within ∙ sym (get_or-append_right old items (length old) count x refl h.1.least)));
       }
 
-  -- for want of memory the first one is refused
+  -- for out of memory the first one is rejected
   pub stops_at_once : (old items : List A) (e : Error) → 0 < length items → e.kind ≡ kinds.OutOfMemory → StopsIn s f old items old e
   stops_at_once old [] e some none = absurd (omega arith)
   stops_at_once old (y ∷ ys) e some none = record {
@@ -246,7 +246,7 @@ module _ {A : Type 0} (s : Shape) (f : A → Value s) where
     why = inl none;
   }
 
-  -- no member is refused where there is none
+  -- no member is rejected where there is none
   pub some_members : (xs : List A) (e : Error) → IsOutOfOrder s f xs e ⊎ TooLong s f xs e → 0 < length xs
   some_members [] e h = elim h [ inl o ↦ absurd (o.falls tt tt) | inr t ↦ absurd (t.some tt) ]
   some_members (x ∷ xs) e h = omega arith
@@ -325,7 +325,7 @@ module _ {A : Type 0} (s : Shape) (f : A → Value s) where
   places_ascend [] places ys some asc are = absurd (omega arith)
   places_ascend (x ∷ xs) places ys some asc are = subst (Ascends s f) (sym (are x)) (ascends_from places (x ∷ xs) x asc)
 
-  -- what a sort of places gives, of members that are told apart by paths
+  -- what a sort of places gives, of members that are reported apart by paths
   pub sorted_from : (xs us : List A) (places ps : List ℕ) (ys : List A) → us ≡ xs → ps ≡ places → 0 < length xs → IsPermutation (range_with_len 0 (length us)) places → (AllValid s f us → KeepsPlaces s f us places) → AscendsAt s f us places (length places)
       → ((d : A) → ys ≡ members_at xs d ps) → IsArranged s f xs ys × Ascends s f ys
   sorted_from xs us places ps ys same order some moved stable asc are =
@@ -336,7 +336,7 @@ module _ {A : Type 0} (s : Shape) (f : A → Value s) where
 
 -- Members that are taken one by one from where they stand
 
--- those whose places aren't among the first of these still stand there
+-- those whose places aren't among the first of these still are there
 abbrev pub Untaken : {A : Type 0} → List A → List ℕ → ℕ → List (Option A) → Type 0
 Untaken {A} xs places count apart = (q : ℕ) (d : A) → q < length xs → ((j : ℕ) → j < count → get_or places j 0 ≢ q) → get_or apart q None ≡ Some (get_or xs q d)
 
@@ -349,7 +349,7 @@ places_below n places same = All-permutation (λ p. p < n) (range_with_len 0 n) 
 abbrev Differ : List ℕ → Type 0
 Differ l = (j k d : ℕ) → j < length l → k < length l → get_or l j d ≡ get_or l k d → j ≡ k
 
--- where what stands at k stood before two were exchanged
+-- where what is at k stood before two were exchanged
 source : (f g : ℕ → ℕ) (a b k : ℕ) → Swapped f g a b → (m : ℕ) × (g k ≡ f m) × (((k ≡ a) × (m ≡ b)) ⊎ (((k ≡ b) × (m ≡ a)) ⊎ ((k ≡ a → ⊥) × (k ≡ b → ⊥) × (m ≡ k))))
 source f g a b k w =
     elim (cases_eq k a) [
@@ -375,7 +375,7 @@ places_differ n places same =
     omega (arith, e, get_or-range_with_len 0 n j d (omega (arith, long)), get_or-range_with_len 0 n k d (omega (arith, long)))) differ_swapped places same
 
 module _ {A : Type 0} (xs : List A) (places : List ℕ) (count : ℕ) (apart : List (Option A)) where
-  -- the next one stands there
+  -- the next one is there
   pub untaken_here : IsPermutation (range_with_len 0 (length xs)) places → count < length places → Untaken xs places count apart → (d : A) → get_or apart (get_or places count 0) None ≡ Some (get_or xs (get_or places count 0) d)
   untaken_here same lt left d = left (get_or places count 0) d (places_below (length xs) places same count 0 lt) (λ j before e.
       let k = places_differ (length xs) places same j count 0 (omega arith) lt e in

@@ -1,4 +1,5 @@
--- Members read one after the other: those that ascend, those that rise, no more than so many, and in whichever order.
+-- Members read one after another: those that ascend, those that rise, no more than so many, and in
+-- whichever order.
 use Rattle.std.proofs.Common.{◌≡◌, ◌≤◌, ℕ, zero, suc, true, List, [], ◌∷◌, length, take, drop, Result, Ok, inr, ◌⊎◌, refl, sym, ap, subst, ◌∙◌, flat_map, IsPermutation, le-ltb, append-nil, take-append-drop, arith, ◌+◌, ◌<◌, ◌++◌, Option, Some, None, ◌≢◌, length-append}
 use Rattle.std.specs.List.{AllByRecursion}
 use Rattle.std.proofs.lemmas.List.Sorted.{IsPermutation-sym, IsPermutation-trans, length_permutation}
@@ -27,7 +28,7 @@ use Rattle.der_core.specs.Limits.{levels_max}
 use Rattle.der_core.proofs.Lists.{InTurn, all_in_turn, none_in_turn, on_in_turn, done_in_turn}
 use Rattle.der_types_sets.specs.Ascending.{JoinsAscending, IsCount, first_of, values_at}
 
--- Members that stand in any order.
+-- Members that are in any order.
 
 -- At plain values
 
@@ -49,7 +50,7 @@ inner rules b t (suc m) n w v r e =
     let q = bind_ok (read_body_by rules b m (take n w)) whole (v, []) (value_sound (read_content_by rules (nested b) t (suc m)) n w v r e).1 in
     (m, q.1 ∙ ap (λ (p : BodyValue b × List ℕ). Ok p) (whole_ok q.0 (v, []) q.2).0)
 
--- The octets join the encodings of the members.
+-- The bytes join the encodings of the members.
 pub record Joins (s : Shape) (v : List (Value s)) (w : List ℕ) : Type 0 where
   pub valid : AllValid s (λ x. x) v
   pub octets_are : w ≡ flat_map (octets_of s) v
@@ -71,7 +72,7 @@ many_joins s t old n v r apart bytes fits der e =
     let i = inner encodings.Der (many s) t old.room n old.rest v r (as_der (many s) t old n der ∙ e) in
     joins kinds.TrailingData s i.0 (length (take n old.rest)) (take n old.rest) v apart (bytes_take n old.rest bytes) (fits_take n old.rest fits) i.1
 
--- What is spelled so is read, as it stands
+-- What is spelled so is read, as it is
 
 pub value_is : {P : Type 0} (F : Readings P) (n : ℕ) (w : List ℕ) (v : P) → n ≤ length w → F (take n w) ≡ Ok (v, []) → value_at F n w ≡ Ok (v, drop n w)
 unfolding value_at
@@ -102,7 +103,7 @@ module _ {A : Type 0} (s : Shape) (written plain : A → Value s) (agree : (x : 
   pub not_too_long : (read : List A) (e : Error) → TooLong s written read e → AllValid s (λ v. v) (plain_list plain read) → ⊥
   not_too_long read e long valid = long.some (subst (λ (f : A → Value s). AllValid s f read) (sym views) (valid-plain s plain read valid))
 
-  -- a set with a member that is too long is refused by BER alone
+  -- a set with a member that is too long is rejected by BER alone
   pub by_ber : (old : State) (read : List A) (e : Error) (r : Result (List (Value s) × List ℕ) ErrorKind) → TooLong s written read e → (IsDer old → AllValid s (λ v. v) (plain_list plain read)) → Fails e.kind r ⊎ (IsBer old × TooLong s written read e)
   by_ber old read e r long valid = go old.source.encoding refl
     where
@@ -113,14 +114,14 @@ module _ {A : Type 0} (s : Shape) (written plain : A → Value s) (agree : (x : 
   set_ascends : (set : List A) → Ascends s written set → Ascends s (λ v. v) (plain_list plain set)
   set_ascends set asc = ascends-plain s plain set (subst (λ (f : A → Value s). Ascends s f set) views asc)
 
-  -- what was read is an arrangement of what stands there
+  -- what was read is an arrangement of what is there
   pub loose : (w : List ℕ) (read set : List A) → Joins s (plain_list plain read) w → IsPermutation read set → Ascends s written set → Loose s (plain_list plain set) w
   loose w read set h same asc = record { spelled = plain_list plain read; valid = h.valid; octets_are = h.octets_are; same = plain_permutation plain read set same; ascend = set_ascends set asc }
 
   pub spells_loosely : (b : List ℕ) (read set : List A) → Spells (tagged tags.Set (nested (many s))) (plain_list plain read) b → IsPermutation read set → Ascends s written set → SpellsLoosely s (plain_list plain set) b
   spells_loosely b read set h same asc = record { spelled = plain_list plain read; spells = h; same = plain_permutation plain read set same; ascend = set_ascends set asc }
 
-  -- no other list of members is spelled by the octets
+  -- no other list of members is spelled by the bytes
   pub only_set : (spelled v : List (Value s)) (read set : List A) → is_element s ≡ true → is_apart s ≡ true → AllValid s (λ x. x) spelled → IsPermutation spelled v → Ascends s (λ x. x) v
       → spelled ≡ plain_list plain read → IsPermutation read set → Ascends s written set → v ≡ plain_list plain set
   only_set spelled v read set element apart valid moved asc is same ascend =
@@ -144,7 +145,7 @@ pub members_valid : (s : Shape) (v : List (Value s)) (b : List ℕ) → Spells (
 unfolding IsValid IsContent IsBody
 members_valid s v b h = h.valid.0
 
--- Members that stand in any order, no more than so many.
+-- Members that are in any order, no more than so many.
 
 pub length_plain_list : {A P : Type 0} (f : A → P) (xs : List A) → length (plain_list f xs) ≡ length xs
 length_plain_list f [] = refl
@@ -178,7 +179,7 @@ many_few k s v b most loose =
 
 -- As a loop reads them
 
--- so many values were read since a start, the last of these octets
+-- so many values were read since a start, the last of these bytes
 pub record Counted (s : Shape) (start : State) (last : Option (List ℕ)) (now : State) (count : ℕ) : Type 0 where
   pub values : List (Value s)
   pub long : length values ≡ count

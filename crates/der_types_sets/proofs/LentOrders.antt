@@ -1,4 +1,5 @@
--- A set that is lent: what it writes and how it is compared, its members in a list, their range.
+-- A set that is borrowed: what it writes and how it is compared, its members in a list, their
+-- range.
 use Rattle.std.proofs.Common.{◌≡◌, ℕ, zero, suc, ◌<◌, eqb, Bool, false, List, [], ◌∷◌, ◌++◌, length, None, Result, Ok, Err, refl, sym, ap, subst, ◌∙◌, arith, ◌+◌, ◌≤◌, true, get_or, take, drop, drop-cons, Some, ◌⊎◌, inl, inr, ◌≢◌, flat_map, slice_get, Ordering, Less, Bor, Option, bytes_eq, nat_cmp, Equal, Greater, append_assoc}
 use Rattle.std.specs.List.{AllByRecursion}
 use Rattle.std.proofs.lemmas.Bool.Decides.{nat_tests, Decides-eqb}
@@ -32,12 +33,12 @@ use Rattle.der_core.specs.ErrorTypes.ErrorKind.TheVariants as kinds
 use Rattle.std.proofs.lemmas.Bool.{cases_lt}
 use Rattle.der_core.proofs.BoundLaws.{both_all}
 
--- What a lent set writes: its octets, where it has any, and else the encodings of its values.
+-- What a borrowed set writes: its bytes, where it has any, and else the encodings of its values.
 
 pub some_at : (n : ℕ) → eqb n 0 ≡ false → 0 < n
 some_at n e = grind (arith, nat_tests)
 
--- The members are those of the values, or those that octets spell
+-- The members are those of the values, or those that bytes encode
 
 pub of_values : {A : Type 0} (s : Shape) (f : A → Value s) (l : Lent A) → IsLent s f l → length l.octets ≡ 0 → members_lent s f l ≡ plain_list f l.values
 of_values s f l h none =
@@ -103,12 +104,12 @@ octets_written memory s f l old new r h some writes =
     subst (λ (v : List (Value s)). Writes memory old new r (write_in_order not_below (write s) (octets_of s) v)) (sym (of_octets s f l h some))
     (writes_ordered memory s v old new r (λ _. h.joined.ascend) (writes_same memory old new r (write_many (write s) v) (put l.octets) same writes))
 
--- the octets are those of the content
+-- the bytes are those of the content
 pub octets_lent : {A : Type 0} (s : Shape) (f : A → Value s) (l : Lent A) → IsLent s f l → 0 < length l.octets → l.octets ≡ contents (nested (in_order not_below s)) (members_lent s f l)
 unfolding contents
 octets_lent s f l h some = h.joined.octets_are ∙ ap (body_octets (many s)) (sym (of_octets s f l h some))
 
--- The order of contents, whichever way sets are lent.
+-- The order of contents, whichever way sets are borrowed.
 
 -- Into memory a value is written, or its encoding passes what a length can count, or a strict set in it doesn't rise.
 -- what was written into memory, or that something is out of order
@@ -116,7 +117,7 @@ abbrev IsPlaced : Result Out ErrorKind → Type 0
 IsPlaced (Ok x) = (w : List ℕ) × (x ≡ out w)
 IsPlaced (Err k) = IsMisplaced k
 
--- no other fault, where the length can be counted
+-- no other error, where the length can be counted
 abbrev Places : Result ℕ ErrorKind → (Out → Result Out ErrorKind) → Type 0
 Places r f = (n : ℕ) → r ≡ Ok n → (w : List ℕ) → IsPlaced (f (out w))
 
@@ -200,7 +201,7 @@ mutual
   body_placed (few n s) v = many_placed (write s) (size s) (λ x. write_placed s x) v 0
   body_placed (in_order how s) v = in_order_placed how (write s) (octets_of s) v (many_len (size s) v 0) (many_placed (write s) (size s) (λ x. write_placed s x) v 0)
 
--- which fault it is, where nothing was written before
+-- which error it is, where nothing was written before
 write_faults : (s : Shape) (v : Value s) (k : ErrorKind) → write s v (out []) ≡ Err k → IsMisplaced k ⊎ ((k ≡ kinds.Overflow) × (size s v ≡ Err kinds.Overflow))
 write_faults s v k e = go (size s v) refl
   where
@@ -211,12 +212,12 @@ write_faults s v k e = go (size s v) refl
         let same = unsized s v (out []) d h in
         inr (cc (same, e, over), cc (h, over))
 
--- Lists of octets
+-- Lists of bytes
 
 cmp-behind : (a r t : List ℕ) → octets_cmp (a ++ r) (a ++ t) ≡ octets_cmp r t
 cmp-behind a r t = octets_cmp-append a a r t (splits_lengths a a refl) ∙ ap (λ o. ordering_then o (octets_cmp r t)) (octets_cmp-self a)
 
--- what does not begin with some octets is ordered by these alone
+-- what does not begin with some bytes is ordered by these alone
 cmp-unlike : (a r b : List ℕ) → ((rest : List ℕ) → b ≢ a ++ rest) → octets_cmp (a ++ r) b ≡ octets_cmp a b
 cmp-unlike [] r b unlike = absurd (unlike b refl)
 cmp-unlike (x ∷ a) r [] unlike = refl
@@ -228,7 +229,7 @@ starts_with w items behind h = strip_prefix_is Decides-eqb w items (Some behind)
 pub starts_otherwise : (w items : List ℕ) → pointwise eqb (take (length items) w) items ≡ false → (rest : List ℕ) → w ≢ items ++ rest
 starts_otherwise w items h = strip_prefix_is Decides-eqb w items None h
 
--- One encoding after another against octets
+-- One encoding after another against bytes
 
 -- the order of all is that of what is left
 pub record Remains {A : Type 0} (s : Shape) (f : A → Value s) (v : List A) (b : List ℕ) (i : ℕ) (w : List ℕ) : Type 0 where
@@ -303,7 +304,7 @@ pub inside_long : (P : Error → Type 0) (t : Tag) (c : Content) (v w : ContentV
 inside_long P t c v w e (inl other) = inl other
 inside_long P t c v w e (inr over) = inr (long_inside t t c v w e over)
 
--- What is lent and what is owned
+-- What is borrowed and what is owned
 
 pub lent_content : {A : Type 0} (s : Shape) (f : A → Value s) (l : Lent A) (xs : List A) → IsLent s f l → members_lent s f l ≡ plain_list f xs → 0 < length l.octets → l.octets ≡ body_octets (many s) (plain_list f xs)
 unfolding body_octets
@@ -320,7 +321,7 @@ same_number f xs v e = ap (λ (u : List _). length u) e ∙ length_plain_list f 
 pub same_member : {A P : Type 0} (f : A → P) (xs : List A) (v : List P) (i : ℕ) → v ≡ plain_list f xs → slice_get v i ≡ plain_option f (slice_get xs i)
 same_member f xs v i e = ap (λ (u : List _). slice_get u i) e ∙ plain-get f xs i
 
--- The members of a lent set, in a list of their own.
+-- The members of a borrowed set, in a list of their own.
 
 plain-ascends : {A : Type 0} (s : Shape) (f : A → Value s) (xs : List A) → Ascends s (λ v. v) (plain_list f xs) → Ascends s f xs
 plain-ascends s f [] h = tt
@@ -351,7 +352,8 @@ taken_ascend {A} s written plain agree l xs h same =
     let P : (A → Value s) → Type 0 = λ f. plain_list f xs ≡ members_lent s f l in
     plain-ascends s written xs (subst (Ascends s (λ x. x)) (sym (subst P (sym (views s written plain agree)) same)) (lent-ascends s written l h))
 
--- The members of a lent set are in range: values by their type, and what octets spell since it was read.
+-- The members of a borrowed set are in range: values by their type, and what bytes encode since it
+-- was read.
 
 pub lent_in_range : {A : Type 0} (s : Shape) (f : A → Value s) (l : Lent A) → IsLent s f l → AllByRecursion (IsInRange s) (plain_list f l.values) → AllByRecursion (IsInRange s) (members_lent s f l)
 lent_in_range s f l h values = both_all (IsInRange s) (plain_list f l.values) (members_spelled s l) values (list_in_range s (members_spelled s l) h.joined.valid)

@@ -1,4 +1,4 @@
--- Members in ascending order, one more at a time, and in turn those of a set that is lent.
+-- Members in ascending order, one more at a time, and in turn those of a set that is borrowed.
 use Rattle.std.proofs.Common.{◌≡◌, ℕ, zero, suc, ◌+◌, ◌-◌, ◌<◌, ◌≤◌, List, [], ◌∷◌, ◌++◌, length, get_or, take, drop, refl, ap, sym, subst, ◌∙◌, arith, Result, Ok, ◌≢◌, Ordering, Greater, IsPermutation, true, Err, slice_get, Some, None, le-ltb}
 use Rattle.std.specs.List.{AllZip, insert}
 use Rattle.std.specs.Ordering.{ordering_reverse}
@@ -146,9 +146,9 @@ same_copies C xs ys h same = absurd h
 
 -- Contents whose members ascend, as a reader and an iterator go over them.
 
--- One member of those that octets spell
+-- One member of those that bytes encode
 
--- the first value, and those behind it
+-- the first value, and those after it
 pub record FirstSpelled (s : Shape) (n : ℕ) (w : List ℕ) (v : Value s) (r : List ℕ) : Type 0 where
   pub all : values_at (read s levels_max) n w ≡ v ∷ values_at (read s levels_max) (n - 1) r
   pub left : IsSpelled s (n - 1) r

@@ -1,4 +1,4 @@
--- What contracts see of a borrowed set: its members, lent as values or as the octets that spell
+-- What contracts see of a borrowed set: its members, borrowed as values or as the bytes that encode
 -- them.
 use Rattle.std.specs.Prelude.{◌≡◌, ◌≢◌, ℕ, ◌<◌, List, [], ◌++◌, length, slice_get, Option, None}
 use Rattle.std.specs.Prelude.{Some, false, Result, Err, MatchOption, MatchResult, refl, ◌∷◌, ◌⊎◌}
@@ -16,7 +16,7 @@ use Rattle.der_core.specs.Same.{same_list}
 use Rattle.der_types_sets.specs.Sets.{Ascends}
 use Rattle.der_types_sets.specs.Ascending.{JoinsAscending, values_at}
 
--- values, and octets that spell so many values behind them; there are never both
+-- values, and bytes that encode so many values after them; there are never both
 pub record Lent (A : Type 0) : Type 0 where
   pub values : List A
   pub octets : List ℕ
@@ -28,7 +28,7 @@ lent_code {A} c =
     (λ l. (l.values, (l.octets, l.count)))
     (λ p. record { values = p.0; octets = p.1.0; count = p.1.1 }) (λ _. refl)
 
--- the members that octets spell
+-- the members that bytes encode
 abbrev pub members_spelled : {A : Type 0} (s : Shape) → Lent A → List (Value s)
 members_spelled s l = values_at (read s levels_max) l.count l.octets
 
@@ -41,17 +41,17 @@ pub same_lent : {A : Type 0} (s : Shape) {f g : A → Value s} → ((x : A) → 
     → members_lent s f l ≡ members_lent s g l
 same_lent s h l = ap (λ v. v ++ members_spelled s l) (same_list h l.values)
 
--- Octets that a length can count begin with so many members.
+-- Bytes that a length can count begin with so many members.
 pub record IsSpelled (s : Shape) (count : ℕ) (octets : List ℕ) : Type 0 where
   pub many : length (values_at (read s levels_max) count octets) ≡ count
   pub short : Fits octets
 
--- never both, and the octets spell as many as are said
+-- never both, and the bytes encode as many as are said
 pub record HasMembers {A : Type 0} (s : Shape) (l : Lent A) : Type 0 where
   pub one : 0 < l.count → length l.values ≡ 0
   pub spelled : IsSpelled s l.count l.octets
 
--- The members are in order, and no more octets follow; no member is spelled by no octets.
+-- The members are in order, and no more bytes follow; no member is spelled by no bytes.
 pub record IsLent {A : Type 0} (s : Shape) (f : A → Value s) (l : Lent A) : Type 0 where
   pub has : HasMembers s l
   pub some : 0 < l.count → 0 < length l.octets
@@ -66,7 +66,7 @@ IsWantOfMemory e = e.kind ≡ kinds.OutOfMemory
 abbrev pub IsMisplaced : ErrorKind → Type 0
 IsMisplaced k = (k ≡ kinds.SetOrdering) ⊎ (k ≡ kinds.SetDuplicate)
 
--- One of the values is refused where it is written, since a strict set in it doesn't rise.
+-- One of the values is rejected where it is written, since a strict set in it doesn't rise.
 pub record HasFalling (s : Shape) (v : List (Value s)) (k : ErrorKind) : Type 0 where
   pub misplaced : IsMisplaced k
   pub index : ℕ
@@ -80,7 +80,7 @@ abbrev pub IsUnwritten : (s : Shape) → List (Value s) → Error → Type 0
 IsUnwritten s v e = (IsWantOfMemory e ⊎ HasFalling s v e.kind)
     ⊎ ((e.kind ≡ kinds.Overflow) × (size_body (many s) v ≡ Err kinds.Overflow))
 
--- One of two sets lends values and the other octets, so that values are written to be compared.
+-- One of two sets lends values and the other bytes, so that values are written to be compared.
 abbrev pub AreLentApart : {A : Type 0} → Lent A → Lent A → Type 0
 AreLentApart l m = ((length l.octets ≡ 0) × (0 < length m.octets))
     ⊎ ((0 < length l.octets) × (length m.octets ≡ 0))
@@ -90,8 +90,8 @@ AreLentApart l m = ((length l.octets ≡ 0) × (0 < length m.octets))
 abbrev pub IsUncompared : (s : Shape) → List (Value s) → List (Value s) → Error → Type 0
 IsUncompared s v w e = IsWantOfMemory e ⊎ (HasFalling s v e.kind ⊎ HasFalling s w e.kind)
 
--- A call from l gave the first member and left the others, or gave None where nothing was left.
--- Where there was no memory it left nothing.
+-- A call from l gave the first member and left the others, or gave None if nothing was left. Where
+-- there was no memory it left nothing.
 abbrev pub YieldsMember : {A : Type 0} (s : Shape) → (A → Value s) → Lent A
     → Option (Result A Error) → Lent A → Type 0
 YieldsMember s f l r t =

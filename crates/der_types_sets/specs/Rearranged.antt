@@ -7,7 +7,7 @@ use Rattle.der_core.specs.Shapes.{Shape, Value, octets_of}
 use Rattle.der_core.specs.Orders.{octets_cmp}
 use Rattle.der_types_sets.specs.Sets.{NotAbove}
 
--- the member at a place, where there is one
+-- the member at a place, if there is one
 abbrev pub member_at : {A : Type 0} → List A → A → ℕ → A
 member_at xs d place = slice_index_or xs place d
 

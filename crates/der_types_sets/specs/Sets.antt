@@ -31,7 +31,7 @@ Ascends s f [] = ⊤
 Ascends s f (x ∷ []) = ⊤
 Ascends s f (x ∷ y ∷ xs) = NotAbove s f x y × Ascends s f (y ∷ xs)
 
--- The octets join the encodings in any order, and the members are their ascending arrangement.
+-- The bytes join the encodings in any order, and the members are their ascending arrangement.
 pub record Loose (s : Shape) (members : List (Value s)) (octets : List ℕ) : Type 0 where
   pub spelled : List (Value s)
   pub valid : AllValid s (λ v. v) spelled
@@ -39,23 +39,23 @@ pub record Loose (s : Shape) (members : List (Value s)) (octets : List ℕ) : Ty
   pub same : IsPermutation spelled members
   pub ascend : Ascends s (λ v. v) members
 
--- The octets are a SET with such a content.
+-- The bytes are a SET with such a content.
 pub record SpellsLoosely (s : Shape) (members : List (Value s)) (octets : List ℕ) : Type 0 where
   pub spelled : List (Value s)
   pub spells : Spells (tagged tags.Set (nested (many s))) spelled octets
   pub same : IsPermutation spelled members
   pub ascend : Ascends s (λ v. v) members
 
--- what stands before the place i is not above x
+-- what comes before the place i is not above x
 abbrev pub Behind : {A : Type 0} (s : Shape) → (A → Value s) → List A → A → ℕ → Type 0
 Behind {A} s f xs x i = (y : A) (k : ℕ) → i ≡ suc k → y ≡ slice_index_or xs k y → NotAbove s f y x
 
--- x is below what stands at the place i
+-- x is below what is at the place i
 abbrev pub Before : {A : Type 0} (s : Shape) → (A → Value s) → List A → A → ℕ → Type 0
 Before {A} s f xs x i = (y : A) → i < length xs → y ≡ slice_index_or xs i y → IsBelow s f x y
 
--- The place of x is i: behind what is not above x, and so behind its equals, and in front of what
--- is above x.
+-- The place of x is i: after what is not above x, and so after its equals, and before what is above
+-- x.
 pub record IsPlace {A : Type 0} (s : Shape) (f : A → Value s) (xs : List A) (x : A) (i : ℕ) : Type 0
   where
     pub within : i ≤ length xs
@@ -72,8 +72,8 @@ pub record TooLong {A : Type 0} (s : Shape) (f : A → Value s) (xs : List A) (e
     pub kind : e.kind ≡ kinds.Overflow
     pub some : AllValid s f xs → ⊥
 
--- The call answered what reading gives, arranged, and moved the reader on; by BER it is refused too
--- where an encoding of a member is too long to be compared.
+-- The call answered what reading gives, arranged, and moved the reader on; by BER it is rejected
+-- too where an encoding of a member is too long to be compared.
 abbrev pub ReadsArranged : {A : Type 0} (s : Shape) → (A → Value s) → (A → Value s) → State → State
     → Result (List A) Error → Readings (List (Value s)) → List A → Type 0
 ReadsArranged s plain written old new (Ok set) f read =
@@ -99,7 +99,7 @@ pub record IsOutOfOrder {A : Type 0} (s : Shape) (f : A → Value s) (xs : List 
   pub kind : e.kind ≡ kinds.SetOrdering
   pub falls : AllValid s f xs → Ascends s f xs → ⊥
 
--- members of one encoding stand in ys in the order that they have in xs
+-- members of one encoding are in ys in the order that they have in xs
 abbrev pub KeepsEquals : {A : Type 0} (s : Shape) → (A → Value s) → List A → List A → Type 0
 KeepsEquals s f xs ys = (b : List ℕ) → filter (λ x. bytes_eq (octets_of s (f x)) b) ys
     ≡ filter (λ x. bytes_eq (octets_of s (f x)) b) xs
@@ -109,7 +109,7 @@ pub record IsArranged {A : Type 0} (s : Shape) (f : A → Value s) (xs ys : List
   pub same : IsPermutation xs ys
   pub equals : AllValid s f xs → KeepsEquals s f xs ys
 
--- the items went into the set, behind the members that equal them and in the order in which they
+-- the items went into the set, after the members that equal them and in the order in which they
 -- came
 abbrev pub Gains : {A : Type 0} (s : Shape) → (A → Value s) → List A → List A → List A → Type 0
 Gains s f old items new = IsArranged s f (old ++ items) new
@@ -122,7 +122,7 @@ StopsAt {U} {T} {A} s f becomes steps items old new e =
     (it : T) × (xs : List A) × (x : A) × (rest : T) × becomes items it
     × YieldsThen steps it xs (Some x) rest × Gains s f old xs new × IsRefusal s f (x ∷ new) e
 
--- An item of a list is refused, and those before it were placed.
+-- An item of a list is rejected, and those before it were placed.
 pub record StopsIn {A : Type 0} (s : Shape) (f : A → Value s) (old items new : List A)
     (e : Error) : Type 0 where
   pub front : List A
@@ -133,7 +133,7 @@ pub record StopsIn {A : Type 0} (s : Shape) (f : A → Value s) (old items new :
   pub why : IsRefusal s f (refused ∷ new) e
 
 -- Of old, whose first members were in order, so many are arranged as new, and the next one is
--- refused.
+-- rejected.
 pub record StopsBehind {A : Type 0} (s : Shape) (f : A → Value s) (first : ℕ) (old new : List A)
     (count : ℕ) (e : Error) : Type 0 where
   pub least : first ≤ count

@@ -1,4 +1,4 @@
-//! Members of a SET OF as they stand.
+//! Members of a SET OF as they are.
 
 ghost use Rattle.der_core.specs.TagTypes.Tag.TheVariants.{Set};
 

@@ -14,10 +14,11 @@ use der_core::{Decode, Error, ErrorKind, Length, Member, Reader, SliceReader};
 use std::alloc::Global;
 use std::cmp::Ordering;
 
-/// Whether octets that stand at a place may follow those before them.
+/// Whether bytes that are at a place may follow those before them.
 ///
 /// # Errors
-/// `SetOrdering` for lower ones.
+///
+/// - `SetOrdering`: lower ones.
 fn check_behind(last: Option<&[u8]>, octets: &[u8], place: Length) -> Result<(), Error>
     ensures { GivesNow (λ x. x) result (follows_last not_below (octets_at last.entry) octets.now) }
 {
@@ -30,11 +31,12 @@ fn check_behind(last: Option<&[u8]>, octets: &[u8], place: Length) -> Result<(),
     }
 }
 
-/// How many members octets have by DER, of which none is below the one before it, where so many
-/// levels can be opened in them.
+/// Returns how many members bytes have by DER, of which none is below the one before it, where so
+/// many levels can be opened in them.
 ///
 /// # Errors
-/// The first fault of a member, `SetOrdering` where it stands wrong, or `OutOfMemory`.
+///
+/// The first error of a member, `SetOrdering` if it stands wrong, or `OutOfMemory`.
 pub(crate) fn count_ascending<'a, T: Decode<'a, SliceReader<'a>> + Member>(
     alloc: Global,
     octets: &'a [u8],

@@ -1,4 +1,4 @@
-//! The members of a list, lent one after another.
+//! The members of a list, borrowed one after another.
 
 use std::slice::Iter;
 

@@ -1,4 +1,4 @@
-//! The order of values one after another, and of octets.
+//! The order of values one after another, and of bytes.
 
 ghost use Rattle.std.specs.Prelude.{◌≡◌, Ok, Err, IfErr};
 ghost use Rattle.der_core.specs.Shapes.{many, IsBody, body_octets};
@@ -11,11 +11,13 @@ use der_core::{Encode, Error, ToDer};
 use std::alloc::Global;
 use std::cmp::Ordering;
 
-/// The order of the joined encodings of values, and of octets. One encoding at a time is in memory.
+/// Returns the order of the joined encodings of values, and of bytes. One encoding at a time is in
+/// memory.
 ///
 /// # Errors
-/// `Overflow` where an encoding has 2^32 octets or more, `SetOrdering` or `SetDuplicate` where a
-/// strict set in a value doesn't rise, or `OutOfMemory`.
+///
+/// `Overflow` if an encoding has 2^32 bytes or more, `SetOrdering` or `SetDuplicate` if a strict
+/// set in a value doesn't rise, or `OutOfMemory`.
 pub(crate) fn joined_cmp<T: Encode>(
     alloc: Global,
     values: &[T],

@@ -8,10 +8,11 @@ ghost use Rattle.der_types_sets.specs.Sets.{IsArranged, StopsBehind};
 use der_core::{DerOrd, Error, ErrorKind, Member};
 use std::cmp::Ordering;
 
-/// The place of an item among members that ascend, after those that are not above it.
+/// Returns the place of an item among members that ascend, after those that are not above it.
 ///
 /// # Errors
-/// `Overflow` where an encoding has 2^32 octets or more.
+///
+/// - `Overflow`: an encoding has 2^32 bytes or more.
 pub fn place_of<T: DerOrd + Member>(members: &[T], item: &T) -> Result<usize, Error>
     ensures place { IfOk result (IsPlace T.shape T.written members.now item.now) }
     ensures refused { IfErr result (TooLong T.shape T.written (item.now ∷ members.now)) }
@@ -19,7 +20,7 @@ pub fn place_of<T: DerOrd + Member>(members: &[T], item: &T) -> Result<usize, Er
     let mut low = 0;
     let mut high = members.len();
     while low < high {
-        // The last member comes first: most items stand behind it.
+        // The last member comes first: most items stand after it.
         let middle = if high == members.len() {
             high - 1
         } else {
@@ -36,8 +37,9 @@ pub fn place_of<T: DerOrd + Member>(members: &[T], item: &T) -> Result<usize, Er
 /// Whether an item may follow members that ascend.
 ///
 /// # Errors
-/// `SetOrdering` for an item below the last member, `Overflow` where an encoding has 2^32 octets or
-/// more.
+///
+/// - `SetOrdering`: an item below the last member.
+/// - `Overflow`: an encoding has 2^32 bytes or more.
 pub(crate) fn check_last<T: DerOrd + Member>(members: &[T], item: &T) -> Result<(), Error>
     ensures ok { OnOk result (IsPlace T.shape T.written members.now item.now (length members.now)) }
     ensures refused { IfErr result
@@ -53,10 +55,12 @@ pub(crate) fn check_last<T: DerOrd + Member>(members: &[T], item: &T) -> Result<
     }
 }
 
-/// Whether no member is below the one before it. It takes no memory.
+/// Whether no member is below the one before it. It doesn't allocate.
 ///
 /// # Errors
-/// `SetOrdering` where one is, `Overflow` where an encoding has 2^32 octets or more.
+///
+/// - `SetOrdering`: one is.
+/// - `Overflow`: an encoding has 2^32 bytes or more.
 pub(crate) fn check_ascending<T: DerOrd + Member>(members: &[T]) -> Result<(), Error>
     ensures ok { OnOk result (Ascends T.shape T.written members.now) }
     ensures refused { IfErr result (λ e. IsOutOfOrder T.shape T.written members.now e
@@ -78,11 +82,14 @@ fn last_to<T>(items: &mut [T], place: usize)
 }
 
 /// Brings members into ascending order, of which the first ones are in order, equal ones as they
-/// stand. It takes no memory.
+/// are. It doesn't allocate.
 ///
 /// # Errors
-/// `Overflow` where an encoding has 2^32 octets or more, with the number of members in front of the
-/// one that is refused. These are in order then, and the others where they were.
+///
+/// - `Overflow`: an encoding has 2^32 bytes or more, with the number of members before the one that
+///   is rejected.
+///
+/// These are in order then, and the others where they were.
 pub(crate) fn arrange_from<T: DerOrd + Member>(
     members: &mut [T],
     first: usize,
@@ -107,10 +114,11 @@ pub(crate) fn arrange_from<T: DerOrd + Member>(
     Ok(())
 }
 
-/// Brings members into ascending order. It takes no memory.
+/// Brings members into ascending order. It doesn't allocate.
 ///
 /// # Errors
-/// `Overflow` where an encoding has 2^32 octets or more.
+///
+/// - `Overflow`: an encoding has 2^32 bytes or more.
 pub(crate) fn arrange<T: DerOrd + Member>(members: &mut [T]) -> Result<(), Error>
     ensures same { IsPermutation members.old members.new }
     ensures ok { OnOk result (Ascends T.shape T.written members.new) }

@@ -45,7 +45,7 @@ impl<T, const N: usize> Model for SequenceOf<T, N> {
 }
 
 impl<T: Default, const N: usize> SequenceOf<T, N> {
-    /// The list without members.
+    /// Returns the list without members.
     pub fn new() -> SequenceOf<T, N>
         ensures { result ≡ [] }
     {
@@ -59,7 +59,7 @@ impl<T, const N: usize> SequenceOf<T, N> {
     ghost use Rattle.std.specs.Borrow.{sem};
     ghost use Rattle.der_types_sets.specs.Lends.{lends_members};
 
-    /// The members, for writing.
+    /// Returns the members, for writing.
     pub fn as_mut_slice(&mut self) -> &mut [T]
         ensures* writes_back { sem 𝓛 (lends_members T.row N.row self.entry result) }
         ensures members { result.now ≡ self.old }
@@ -67,21 +67,21 @@ impl<T, const N: usize> SequenceOf<T, N> {
         self.members.as_mut_slice()
     }
 
-    /// The members.
+    /// Returns the members.
     pub fn as_slice(&self) -> &[T]
         ensures { result.now ≡ self.now }
     {
         self.members.as_slice()
     }
 
-    /// The member at an index, if there is one.
+    /// Returns the member at an index, if there is one.
     pub fn get(&self, index: usize) -> Option<&T>
         ensures { option_copied result ≡ slice_get self.now index }
     {
         self.members.as_slice().get(index)
     }
 
-    /// The members, as a vector of bounded room.
+    /// Returns the members, as a vector of bounded room.
     pub fn into_inner(self) -> ArrayVec<T, N>
         ensures { result.items ≡ self }
     {
@@ -89,21 +89,21 @@ impl<T, const N: usize> SequenceOf<T, N> {
         members
     }
 
-    /// The members, lent one after another.
+    /// Returns the members, borrowed one after another.
     pub fn iter(&self) -> SequenceOfIter<'_, T>
         ensures { iter_rest result ≡ self.now }
     {
         self.members.as_slice().iter()
     }
 
-    /// Whether there is no member.
+    /// Returns whether there isn't a member.
     pub fn is_empty(&self) -> bool
         ensures { result ≡ (length self.now == 0) }
     {
         self.members.is_empty()
     }
 
-    /// The number of members.
+    /// Returns the number of members.
     pub fn len(&self) -> usize
         ensures { result ≡ length self.now }
     {
@@ -115,7 +115,10 @@ impl<T: Drop, const N: usize> SequenceOf<T, N> {
     /// Appends an item.
     ///
     /// # Errors
-    /// `Overlength` where there are `N` members. The list stays then.
+    ///
+    /// - `Overlength`: there are `N` members.
+    ///
+    /// The list stays then.
     pub fn add(&mut self, item: T) -> Result<(), Error>
         ensures room { IsOk result ↔ (length self.old < N) }
         ensures ok { OnOk result (self.new ≡ self.old ++ item ∷ []) }
@@ -158,7 +161,8 @@ impl<T: Shaped, const N: usize> ShapedValue for SequenceOf<T, N> {
 impl<'a, R: Reader<'a>, T: Decode<'a, R> + Default, const N: usize> DecodeFields<'a, R>
     for SequenceOf<T, N> {
     /// # Errors
-    /// `Overlength` where more than `N` values stand: the next one isn't looked at.
+    ///
+    /// - `Overlength`: more than `N` values stand: the next one isn't looked at.
     fn decode_fields(alloc: Global, reader: &mut R) -> Result<SequenceOf<T, N>, Error> {
         if reader.is_failed() {
             return Err(Error::from(ErrorKind::Failed));
@@ -222,7 +226,7 @@ impl<T: Encode, const N: usize> EncodeValue for SequenceOf<T, N> {
     }
 }
 
-/// The encodings of the members, one after the other.
+/// The encodings of the members, one after another.
 impl<T: DerOrd, const N: usize> ValueOrd for SequenceOf<T, N> {
     #[tactic(auto, unfolding(crate::specs::Opened::contents, crate::specs::Opened::IsContent, crate::specs::Opened::body_octets, crate::specs::Opened::IsBody))]
     fn value_cmp(&self, other: &Self) -> Result<Ordering, Error> {

@@ -60,7 +60,7 @@ impl<T: Shaped, const N: usize> Model for SetOf<T, N> {
 }
 
 impl<T: Shaped + Default, const N: usize> SetOf<T, N> {
-    /// The empty set.
+    /// Returns the empty set.
     pub fn new() -> SetOf<T, N>
         ensures { result ≡ [] }
     {
@@ -71,7 +71,7 @@ impl<T: Shaped + Default, const N: usize> SetOf<T, N> {
 }
 
 impl<T: Shaped, const N: usize> SetOf<T, N> {
-    /// The members, in ascending order of their encodings.
+    /// Returns the members, in ascending order of their encodings.
     pub fn as_slice(&self) -> &[T]
         ensures members { result.now ≡ self.now }
         ensures ascend { Ascends T.shape T.written result.now }
@@ -79,14 +79,14 @@ impl<T: Shaped, const N: usize> SetOf<T, N> {
         self.members.as_slice()
     }
 
-    /// The member at an index, if there is one.
+    /// Returns the member at an index, if there is one.
     pub fn get(&self, index: usize) -> Option<&T>
         ensures { option_copied result ≡ slice_get self.now index }
     {
         self.members.as_slice().get(index)
     }
 
-    /// The members, in ascending order of their encodings.
+    /// Returns the members, in ascending order of their encodings.
     pub fn into_inner(self) -> ArrayVec<T, N>
         ensures members { result.items ≡ self }
         ensures ascend { Ascends T.shape T.written result.items }
@@ -95,14 +95,14 @@ impl<T: Shaped, const N: usize> SetOf<T, N> {
         members
     }
 
-    /// The members, lent one after another.
+    /// Returns the members, borrowed one after another.
     pub fn iter(&self) -> SetOfIter<'_, T>
         ensures { iter_rest result ≡ self.now }
     {
         self.members.as_slice().iter()
     }
 
-    /// The set, lent.
+    /// Returns the set, borrowed.
     pub fn owned_to_ref(&self) -> SetOfRef<'_, T>
         ensures members { members_lent T.shape T.plain result ≡ plain_list T.plain self.now }
         ensures written { members_lent T.shape T.written result ≡ plain_list T.written self.now }
@@ -110,14 +110,14 @@ impl<T: Shaped, const N: usize> SetOf<T, N> {
         SetOfRef::of_values(self.members.as_slice())
     }
 
-    /// Whether there is no member.
+    /// Returns whether there isn't a member.
     pub fn is_empty(&self) -> bool
         ensures { result ≡ (length self.now == 0) }
     {
         self.members.is_empty()
     }
 
-    /// The number of members.
+    /// Returns the number of members.
     pub fn len(&self) -> usize
         ensures { result ≡ length self.now }
     {
@@ -126,9 +126,10 @@ impl<T: Shaped, const N: usize> SetOf<T, N> {
 }
 
 impl<T: Shaped + Clone + Drop + Default, const N: usize> SetOf<T, N> {
-    /// A copy, of a type whose copies are the same. The set itself owns no memory.
+    /// Returns a copy, of a type whose copies are the same. The set itself owns no memory.
     ///
     /// # Errors
+    ///
     /// Out of memory, for the members.
     #[tactic(auto, using(crate::proofs::SetSteps::same_copies))]
     pub fn clone(&self) -> Result<SetOf<T, N>, AllocError>
@@ -144,8 +145,11 @@ impl<T: DerOrd + Member + Drop, const N: usize> SetOf<T, N> {
     /// Places an item in order, after members that equal it.
     ///
     /// # Errors
-    /// `Overlength` where there are `N` members, `Overflow` where an encoding has 2^32 octets or
-    /// more. The set stays then.
+    ///
+    /// - `Overlength`: there are `N` members.
+    /// - `Overflow`: an encoding has 2^32 bytes or more.
+    ///
+    /// The set stays then.
     #[tactic(auto, using(crate::proofs::SetSteps::put_ascends, crate::proofs::SetSteps::put_same))]
     pub fn insert(&mut self, item: T) -> Result<(), Error>
         ensures ok { OnOk result (IsPermutation (item ∷ self.old) self.new) }
@@ -167,8 +171,12 @@ impl<T: DerOrd + Member + Drop, const N: usize> SetOf<T, N> {
     /// Appends an item that isn't below the last member.
     ///
     /// # Errors
-    /// `Overlength` where there are `N` members, `SetOrdering` for an item below the last member,
-    /// `Overflow` where an encoding has 2^32 octets or more. The set stays then.
+    ///
+    /// - `Overlength`: there are `N` members.
+    /// - `SetOrdering`: an item below the last member.
+    /// - `Overflow`: an encoding has 2^32 bytes or more.
+    ///
+    /// The set stays then.
     #[tactic(auto, using(crate::proofs::SetSteps::last_ascends))]
     pub fn insert_ordered(&mut self, item: T) -> Result<(), Error>
         ensures ok { OnOk result (self.new ≡ self.old ++ item ∷ []) }
@@ -189,12 +197,13 @@ impl<T: DerOrd + Member + Drop, const N: usize> SetOf<T, N> {
 }
 
 impl<T: DerOrd + Member + Default + Drop, const N: usize> SetOf<T, N> {
-    /// The members of a content, which stand there in any order. Members past the `N`th aren't
-    /// looked at.
+    /// Returns the members of a content, which are there in any order. Members past the `N`th
+    /// aren't looked at.
     ///
     /// # Errors
-    /// The first fault of the members, `Overlength` for more than `N`, or `OutOfMemory`; `Failed`
-    /// where the reader failed before; by BER `Overflow` too, where an encoding has 2^32 octets or
+    ///
+    /// The first error of the members, `Overlength` for more than `N`, or `OutOfMemory`; `Failed`
+    /// if the reader failed before; by BER `Overflow` too, where an encoding has 2^32 bytes or
     /// more.
     pub fn decode_value<'a, R: Reader<'a>>(
         alloc: Global,
@@ -203,7 +212,7 @@ impl<T: DerOrd + Member + Default + Drop, const N: usize> SetOf<T, N> {
     ) -> Result<SetOf<T, N>, Error>
     where
         T: Decode<'a, R> + AsRead,
-        // The members that were read, in the order in which they stand there, are those of the set.
+        // The members that were read, in the order in which they are there, are those of the set.
         ensures reads { (read : List T)
             × ReadsArranged T.shape T.plain T.written (R.state reader.old)
             (R.state reader.new) result
@@ -222,7 +231,7 @@ impl<T: DerOrd + Member + Default + Drop, const N: usize> SetOf<T, N> {
             → Loose T.shape v (take header.length.value (R.state reader.old).rest) → length v ≤ N
             → Gives (plain_list T.plain) result (Ok v) }
     {
-        // What is read from octets by DER has an encoding.
+        // What is read from bytes by DER has an encoding.
         let before = reader.remaining();
         let _octets = &before[..];
         let read = SequenceOf::<T, N>::decode_value(alloc, reader, header)?;
@@ -235,17 +244,19 @@ impl<T: DerOrd + Member + Default + Drop, const N: usize> SetOf<T, N> {
         }
     }
 
-    /// The set that octets spell by DER, all of the octets, whose members stand in any order.
+    /// Returns the set that bytes encode by DER, all of the bytes, whose members are in any order.
     /// Members past the `N`th aren't looked at.
     ///
     /// # Errors
-    /// `Overflow` for 2^32 octets or more, else the first error met in reading, among them
-    /// `Overlength` for more than `N` members, `TrailingData` where octets are left after the set,
-    /// or `OutOfMemory`.
+    ///
+    /// - `Overflow`: 2^32 bytes or more.
+    /// - The first error that decoding meets, among them `Overlength` for more than `N` members.
+    /// - `TrailingData`: bytes are left after the set.
+    /// - `OutOfMemory`: memory runs out.
     pub fn from_der<'a>(alloc: Global, bytes: &'a [u8]) -> Result<SetOf<T, N>, Error>
     where
         T: Decode<'a, SliceReader<'a>> + AsRead,
-        // What is read is spelled so.
+        // What is accepted is an encoding.
         ensures spelled { is_element T.shape ≡ true
             → IfOk result (λ set. SpellsLoosely T.shape (plain_list T.plain set) bytes.now) }
         // What is spelled so is read, if there is room, unless memory runs out.
@@ -253,7 +264,7 @@ impl<T: DerOrd + Member + Default + Drop, const N: usize> SetOf<T, N> {
             → are_enough (tagged Set (nested (few N T.shape))) levels_max ≡ true
             → SpellsLoosely T.shape v bytes.now → length v ≤ N
             → Gives (plain_list T.plain) result (Ok v) }
-        // Which fault it is.
+        // The error is exact.
         ensures refused { is_element T.shape ≡ true
             → IfErr result
             (λ e. Fails e.kind (read_whole (tagged Set (nested (few N T.shape))) bytes.now)) }
@@ -263,10 +274,11 @@ impl<T: DerOrd + Member + Default + Drop, const N: usize> SetOf<T, N> {
         Ok(set)
     }
 
-    /// The set of the members of a list. No memory is taken.
+    /// Returns the set of the members of a list. It doesn't allocate.
     ///
     /// # Errors
-    /// `Overflow` where an encoding has 2^32 octets or more.
+    ///
+    /// - `Overflow`: an encoding has 2^32 bytes or more.
     fn arranged(list: SequenceOf<T, N>) -> Result<SetOf<T, N>, Error>
         ensures ok { IfOk result (IsPermutation list) }
         ensures ascend { IfOk result (Ascends T.shape T.written) }
@@ -306,7 +318,7 @@ impl<T: Encode, const N: usize> EncodeValue for SetOf<T, N> {
     }
 }
 
-/// The encodings of the members, one after the other.
+/// The encodings of the members, one after another.
 impl<T: DerOrd, const N: usize> ValueOrd for SetOf<T, N> {
     #[tactic(auto, unfolding(crate::specs::Opened::contents, crate::specs::Opened::IsContent, crate::specs::Opened::body_octets, crate::specs::Opened::IsBody))]
     fn value_cmp(&self, other: &Self) -> Result<Ordering, Error> {
@@ -382,10 +394,11 @@ impl<T: Shaped + Hash, const N: usize> Hash for SetOf<T, N> {
     }
 }
 
-/// These members, in ascending order. No memory is taken.
+/// These members, in ascending order. It doesn't allocate.
 ///
 /// # Errors
-/// `Overflow` where an encoding has 2^32 octets or more.
+///
+/// - `Overflow`: an encoding has 2^32 bytes or more.
 impl<T: DerOrd + Member + Drop, const N: usize> TryFrom<[T; N]> for SetOf<T, N> {
     type Error = Error;
 

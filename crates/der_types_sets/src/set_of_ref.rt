@@ -31,9 +31,9 @@ use std::cmp::Ordering;
 use std::marker::Model;
 
 /// SET OF (X.690 8.12), borrowed: members of which no encoding is below the one before it (X.690
-/// 11.6), equal ones kept; lent as values, or as the octets of a content.
+/// 11.6), equal ones kept; borrowed as values, or as the bytes of a content.
 ///
-/// Contracts see the values, the octets, and how many members these spell.
+/// Contracts see the values, the bytes, and how many members these spell.
 #[derive(Debug, Drop)]
 pub struct SetOfRef<'a, T: Shaped> {
     values: &'a [T],
@@ -55,7 +55,7 @@ impl<'a, T: Shaped> Model for SetOfRef<'a, T> {
 }
 
 impl<'a, T: Shaped> SetOfRef<'a, T> {
-    /// The set of values in ascending order.
+    /// Returns the set of values in ascending order.
     pub(crate) fn of_values(values: &'a [T]) -> SetOfRef<'a, T>
         requires { Ascends T.shape T.written values.now }
         ensures members { members_lent T.shape T.plain result ≡ plain_list T.plain values.now }
@@ -68,21 +68,21 @@ impl<'a, T: Shaped> SetOfRef<'a, T> {
         }
     }
 
-    /// The members, read or copied one after another.
+    /// Returns the members, read or copied one after another.
     pub fn iter(&self, alloc: Global) -> SetOfRefIter<'a, T>
         ensures { result ≡ self.now }
     {
         SetOfRefIter::of(alloc, self.values, self.octets, self.count)
     }
 
-    /// Whether there is no member.
+    /// Returns whether there isn't a member.
     pub fn is_empty(&self) -> bool
         ensures { result ≡ (length (members_lent T.shape T.plain self.now) == 0) }
     {
         self.len() == 0
     }
 
-    /// The number of members.
+    /// Returns the number of members.
     pub fn len(&self) -> usize
         ensures { result ≡ length (members_lent T.shape T.plain self.now) }
     {
@@ -94,7 +94,7 @@ impl<'a, T: Shaped> SetOfRef<'a, T> {
     }
 }
 
-/// An error in octets that stand at a place of the input: its own place counts from there.
+/// Returns an error in bytes that are at a place of the input: its own place counts from there.
 pub(crate) fn further_on(error: Error, place: Length) -> Error
     ensures { result.kind ≡ error.kind }
 {
@@ -106,15 +106,16 @@ pub(crate) fn further_on(error: Error, place: Length) -> Error
 }
 
 impl<'a, T: Decode<'a, SliceReader<'a>> + Member> SetOfRef<'a, T> {
-    /// The set of the members that stand up to the end in force, which ascend, equal ones among
-    /// them.
+    /// Returns the set of the members that stand up to the end in force, which ascend, equal ones
+    /// among them.
     ///
-    /// The octets are read by DER, also where the reader reads by BER, since they are kept as they
-    /// stand; the levels that the reader has left can be opened in them.
+    /// The bytes are read by DER, also where the reader reads by BER, since they are kept as they
+    /// are; the levels that the reader has left can be opened in them.
     ///
     /// # Errors
-    /// The first fault of the members, `SetOrdering` where one is below the one before it, or
-    /// `OutOfMemory`; `Failed` where the reader failed before.
+    ///
+    /// The first error of the members, `SetOrdering` if one is below the one before it, or
+    /// `OutOfMemory`; `Failed` if the reader failed before.
     pub fn decode_members<R: Reader<'a>>(
         alloc: Global,
         reader: &mut R,
@@ -122,11 +123,11 @@ impl<'a, T: Decode<'a, SliceReader<'a>> + Member> SetOfRef<'a, T> {
         ensures reads { Reads (members_lent T.shape T.plain) (R.state reader.old)
             (R.state reader.new) result
             (read_body_at (R.state reader.old) (ascending T.shape)) }
-        // What is read is spelled so.
+        // What is accepted is an encoding.
         ensures spelled { IfOk result
             (λ set. JoinsAscending T.shape (members_lent T.shape T.plain set)
             (R.state reader.old).rest) }
-        // What is spelled so is read, unless memory runs out.
+        // An encoding is accepted, unless memory runs out.
         ensures only { (v : List (Value T.shape)) → is_element T.shape ≡ true → is_apart T.shape
             ≡ true → are_enough T.shape (R.state reader.old).room ≡ true
             → (R.state reader.old).failed ≡ false
@@ -137,7 +138,7 @@ impl<'a, T: Decode<'a, SliceReader<'a>> + Member> SetOfRef<'a, T> {
             return Err(Error::from(ErrorKind::Failed));
         }
         let place = reader.position();
-        // What is read from octets has an encoding.
+        // What is read from bytes has an encoding.
         let octets = reader.remaining();
         let _octets = &octets[..];
         match count_ascending::<T>(alloc, octets, reader.levels_left()) {
@@ -158,11 +159,12 @@ impl<'a, T: Decode<'a, SliceReader<'a>> + Member> SetOfRef<'a, T> {
 }
 
 impl<'a, T: Decode<'a, SliceReader<'a>> + Member + Clone> SetOfRef<'a, T> {
-    /// The member at an index, if there is one, read or copied. A copy has the plain value of what
-    /// it is a copy of. Of the members before it none is copied.
+    /// Returns the member at an index, if there is one, read or copied. A copy has the plain value
+    /// of what it is a copy of. Of the members before it none is copied.
     ///
     /// # Errors
-    /// `OutOfMemory`.
+    ///
+    /// - `OutOfMemory`: memory runs out.
     pub fn get(&self, alloc: Global, index: usize) -> Result<Option<T>, Error>
         requires { (x y : T) → T.is_clone x y → T.plain y ≡ T.plain x }
         ensures ok { IfOk result (λ member. plain_option T.plain member
@@ -190,11 +192,12 @@ impl<'a, T: Decode<'a, SliceReader<'a>> + Member + Clone> SetOfRef<'a, T> {
         Ok(Some(member))
     }
 
-    /// The set of the same members, read or copied. A copy has the plain value of what it is a copy
-    /// of.
+    /// Returns the set of the same members, read or copied. A copy has the plain value of what it
+    /// is a copy of.
     ///
     /// # Errors
-    /// `OutOfMemory`.
+    ///
+    /// - `OutOfMemory`: memory runs out.
     pub fn ref_to_owned(&self, alloc: Global) -> Result<SetOfVec<T>, Error>
     where
         T: AsRead,
@@ -212,7 +215,7 @@ impl<'a, T: Decode<'a, SliceReader<'a>> + Member + Clone> SetOfRef<'a, T> {
     }
 }
 
-/// A second holder of the loans. No memory is taken.
+/// A second holder of the loans. It doesn't allocate.
 impl<'a, T: Shaped> Clone for SetOfRef<'a, T> {
     ghost is_clone = { λ x y. y ≡ x };
 
@@ -223,7 +226,7 @@ impl<'a, T: Shaped> Clone for SetOfRef<'a, T> {
     }
 }
 
-/// The set, lent once more.
+/// The set, borrowed once more.
 impl<'a, 'b, T: Shaped> From<&'b SetOfRef<'a, T>> for SetOfRef<'a, T> {
     ghost from_gives = { λ set same. same ≡ set.now };
 
@@ -236,11 +239,12 @@ impl<'a, 'b, T: Shaped> From<&'b SetOfRef<'a, T>> for SetOfRef<'a, T> {
     }
 }
 
-/// Values in ascending order, equal ones kept. No memory is taken.
+/// Values in ascending order, equal ones kept. It doesn't allocate.
 ///
 /// # Errors
-/// `SetOrdering` where one is below the one before it, `Overflow` where an encoding has 2^32 octets
-/// or more.
+///
+/// - `SetOrdering`: one is below the one before it.
+/// - `Overflow`: an encoding has 2^32 bytes or more.
 impl<'a, T: DerOrd + Member> TryFrom<&'a [T]> for SetOfRef<'a, T> {
     type Error = Error;
 
@@ -313,10 +317,11 @@ impl<'a, T: AsRead> AsReadValue for SetOfRef<'a, T> {
 }
 
 impl<'a, T: Encode> SetOfRef<'a, T> {
-    /// The number of octets of the content.
+    /// Returns the number of bytes of the content.
     ///
     /// # Errors
-    /// `Overflow` from 2^32 on.
+    ///
+    /// - `Overflow`: the length is 2^32 or more.
     fn content_len(&self) -> Result<Length, Error>
         ensures { GivesNow (λ l. l.value) result
             (size_body (many T.shape) (members_lent T.shape T.written self.now)) }
@@ -330,7 +335,7 @@ impl<'a, T: Encode> SetOfRef<'a, T> {
     }
 }
 
-/// The octets of a content are written as they stand.
+/// The bytes of a content are written as they are.
 ///
 /// Values ascend since they were compared, and so their order isn't looked at again.
 impl<'a, T: Encode + InRange> EncodeValue for SetOfRef<'a, T> {
@@ -355,12 +360,13 @@ impl<'a, T: InRange> InRangeValue for SetOfRef<'a, T> {
 }
 
 impl<'a, T: DerOrd + Encode> SetOfRef<'a, T> {
-    /// The order of the contents of two sets, as lists of octets, whatever their lengths. Memory is
-    /// taken where one lends values and the other octets.
+    /// Returns the order of the contents of two sets, as lists of bytes, whatever their lengths.
+    /// Memory is taken where one lends values and the other bytes.
     ///
     /// # Errors
-    /// `Overflow` where the content of one of the two has 2^32 octets or more, `SetOrdering` or
-    /// `SetDuplicate` where a strict set in a value doesn't rise, or `OutOfMemory`.
+    ///
+    /// `Overflow` if the content of one of the two has 2^32 bytes or more, `SetOrdering` or
+    /// `SetDuplicate` if a strict set in a value doesn't rise, or `OutOfMemory`.
     pub fn value_cmp(&self, alloc: Global, other: &SetOfRef<'a, T>) -> Result<Ordering, Error>
         // An answer comes wherever both sets have a content, unless memory runs out.
         ensures order { is_body_apart (many T.shape) ≡ true
@@ -369,7 +375,7 @@ impl<'a, T: DerOrd + Encode> SetOfRef<'a, T> {
             → Gives (λ o. o) result
             (Ok (contents_cmp (nested (many T.shape)) (members_lent T.shape T.written self.now)
             (members_lent T.shape T.written other.now))) }
-        // Where both lend values, or both octets, nothing but a length is refused.
+        // Where both lend values, or both bytes, nothing but a length is rejected.
         ensures refused { IfErr result
             (λ e. (AreLentApart self.now other.now
             × IsUncompared T.shape (members_lent T.shape T.written self.now)
@@ -390,12 +396,14 @@ impl<'a, T: DerOrd + Encode> SetOfRef<'a, T> {
         Ok(self.octets.cmp(other.octets))
     }
 
-    /// The order of the encodings of two sets, as lists of octets: that of the lengths, then that
-    /// of the contents (X.690 11.6). Memory is taken where one lends values and the other octets.
+    /// Returns the order of the encodings of two sets, as lists of bytes: that of the lengths, then
+    /// that of the contents (X.690 11.6). Memory is taken where one lends values and the other
+    /// bytes.
     ///
     /// # Errors
-    /// `Overflow` where the encoding of one of the two has 2^32 octets or more, `SetOrdering` or
-    /// `SetDuplicate` where a strict set in a value doesn't rise, or `OutOfMemory`.
+    ///
+    /// `Overflow` if the encoding of one of the two has 2^32 bytes or more, `SetOrdering` or
+    /// `SetDuplicate` if a strict set in a value doesn't rise, or `OutOfMemory`.
     pub fn der_cmp(&self, alloc: Global, other: &SetOfRef<'a, T>) -> Result<Ordering, Error>
         // An answer comes wherever both sets have an encoding, unless memory runs out.
         ensures order { is_body_apart (many T.shape) ≡ true
@@ -407,7 +415,7 @@ impl<'a, T: DerOrd + Encode> SetOfRef<'a, T> {
             (encodings_cmp (tagged Set (nested (many T.shape)))
             (members_lent T.shape T.written self.now)
             (members_lent T.shape T.written other.now))) }
-        // Where both lend values, or both octets, nothing but a length is refused.
+        // Where both lend values, or both bytes, nothing but a length is rejected.
         ensures refused { IfErr result
             (λ e. (AreLentApart self.now other.now
             × IsUncompared T.shape (members_lent T.shape T.written self.now)

@@ -11,7 +11,7 @@ use std::alloc::Global;
 use std::fmt;
 use std::marker::Model;
 
-/// The members of a `SetOfRef`, in order. Where there is no memory for one, the error is the last
+/// The members of a `SetOfRef`, in order. Where memory runs out for one, the error is the last
 /// item.
 #[derive(Drop)]
 pub struct SetOfRefIter<'a, T: Shaped> {
@@ -35,7 +35,7 @@ impl<'a, T: Shaped> Model for SetOfRefIter<'a, T> {
 }
 
 impl<'a, T: Shaped> SetOfRefIter<'a, T> {
-    /// Over values, and then over so many members that octets spell.
+    /// Over values, and then over so many members that bytes encode.
     pub(crate) fn of(
         alloc: Global,
         values: &'a [T],
@@ -64,10 +64,11 @@ impl<'a, T: Shaped> SetOfRefIter<'a, T> {
     }
 }
 
-/// The first of so many members that octets spell, and the octets after it.
+/// Returns the first of so many members that bytes encode, and the bytes after it.
 ///
 /// # Errors
-/// `OutOfMemory`.
+///
+/// - `OutOfMemory`: memory runs out.
 fn first_member<'a, T: Decode<'a, SliceReader<'a>> + Member>(
     alloc: Global,
     octets: &'a [u8],
@@ -141,7 +142,7 @@ impl<'a, T: Decode<'a, SliceReader<'a>> + Member + Clone> Iterator for SetOfRefI
 
 impl<'a, T: Decode<'a, SliceReader<'a>> + Member + Clone> ExactSizeIterator
     for SetOfRefIter<'a, T> {
-    /// The number of members that are yet to come, where there is memory for each.
+    /// Returns the number of members that are yet to come, where there is memory for each.
     fn len(&self) -> usize {
         if self.count == 0 {
             self.values.len()
@@ -151,7 +152,7 @@ impl<'a, T: Decode<'a, SliceReader<'a>> + Member + Clone> ExactSizeIterator
     }
 }
 
-/// The values, the octets and the number of members that are left.
+/// The values, the bytes and the number of members that are left.
 impl<'a, T: Shaped + fmt::Debug> fmt::Debug for SetOfRefIter<'a, T> {
     fn fmt<W: fmt::Write>(&self, f: &mut fmt::Formatter<W>) -> fmt::Result {
         f.debug_struct("SetOfRefIter")

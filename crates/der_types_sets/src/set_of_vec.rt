@@ -63,7 +63,7 @@ impl<T: Shaped> Model for SetOfVec<T> {
 }
 
 impl<T: Shaped> SetOfVec<T> {
-    /// The set of members in ascending order.
+    /// Returns the set of members in ascending order.
     pub(crate) fn of_members(members: Vec<T>) -> SetOfVec<T>
         requires { Ascends T.shape T.written members.items }
         ensures { result ≡ members.items }
@@ -71,7 +71,7 @@ impl<T: Shaped> SetOfVec<T> {
         SetOfVec { members }
     }
 
-    /// The empty set.
+    /// Returns the empty set.
     pub fn new(alloc: Global) -> SetOfVec<T>
         ensures { result ≡ [] }
     {
@@ -80,7 +80,7 @@ impl<T: Shaped> SetOfVec<T> {
         }
     }
 
-    /// The members, in ascending order of their encodings.
+    /// Returns the members, in ascending order of their encodings.
     pub fn as_slice(&self) -> &[T]
         ensures members { result.now ≡ self.now }
         ensures ascend { Ascends T.shape T.written result.now }
@@ -88,14 +88,14 @@ impl<T: Shaped> SetOfVec<T> {
         self.members.as_slice()
     }
 
-    /// The member at an index, if there is one.
+    /// Returns the member at an index, if there is one.
     pub fn get(&self, index: usize) -> Option<&T>
         ensures { option_copied result ≡ slice_get self.now index }
     {
         self.members.as_slice().get(index)
     }
 
-    /// The members, in ascending order of their encodings.
+    /// Returns the members, in ascending order of their encodings.
     pub fn into_vec(self) -> Vec<T>
         ensures members { result.items ≡ self }
         ensures ascend { Ascends T.shape T.written result.items }
@@ -104,14 +104,14 @@ impl<T: Shaped> SetOfVec<T> {
         members
     }
 
-    /// The members, lent one after another.
+    /// Returns the members, borrowed one after another.
     pub fn iter(&self) -> SetOfIter<'_, T>
         ensures { iter_rest result ≡ self.now }
     {
         self.members.as_slice().iter()
     }
 
-    /// The set, lent.
+    /// Returns the set, borrowed.
     pub fn owned_to_ref(&self) -> SetOfRef<'_, T>
         ensures members { members_lent T.shape T.plain result ≡ plain_list T.plain self.now }
         ensures written { members_lent T.shape T.written result ≡ plain_list T.written self.now }
@@ -119,21 +119,21 @@ impl<T: Shaped> SetOfVec<T> {
         SetOfRef::of_values(self.members.as_slice())
     }
 
-    /// The empty set.
+    /// Returns the empty set.
     pub fn default(alloc: Global) -> SetOfVec<T>
         ensures { result ≡ [] }
     {
         SetOfVec::new(alloc)
     }
 
-    /// Whether there is no member.
+    /// Returns whether there isn't a member.
     pub fn is_empty(&self) -> bool
         ensures { result ≡ (length self.now == 0) }
     {
         self.members.is_empty()
     }
 
-    /// The number of members.
+    /// Returns the number of members.
     pub fn len(&self) -> usize
         ensures { result ≡ length self.now }
     {
@@ -142,10 +142,11 @@ impl<T: Shaped> SetOfVec<T> {
 }
 
 impl<T: Shaped + Clone + Drop> SetOfVec<T> {
-    /// A copy, of a type whose copies are the same.
+    /// Returns a copy, of a type whose copies are the same.
     ///
     /// # Errors
-    /// Out of memory.
+    ///
+    /// Fails if memory runs out.
     pub fn clone(&self, alloc: Global) -> Result<SetOfVec<T>, AllocError>
         requires { (x y : T) → T.is_clone x y → y ≡ x }
         ensures { IfOk result (λ set. set ≡ self.now) }
@@ -159,7 +160,11 @@ impl<T: DerOrd + Member + Drop> SetOfVec<T> {
     /// Places an item in order, after members that equal it.
     ///
     /// # Errors
-    /// `Overflow` where an encoding has 2^32 octets or more, or `OutOfMemory`. The set stays then.
+    ///
+    /// - `Overflow`: an encoding has 2^32 bytes or more.
+    /// - `OutOfMemory`: memory runs out.
+    ///
+    /// The set stays then.
     #[tactic(auto, using(crate::proofs::SetSteps::put_ascends, crate::proofs::SetSteps::put_same))]
     pub fn insert(&mut self, item: T) -> Result<(), Error>
         ensures ok { OnOk result (IsPermutation (item ∷ self.old) self.new) }
@@ -176,8 +181,12 @@ impl<T: DerOrd + Member + Drop> SetOfVec<T> {
     /// Appends an item that isn't below the last member.
     ///
     /// # Errors
-    /// `SetOrdering` for an item below the last member, `Overflow` where an encoding has 2^32
-    /// octets or more, or `OutOfMemory`. The set stays then.
+    ///
+    /// - `SetOrdering`: an item below the last member.
+    /// - `Overflow`: an encoding has 2^32 bytes or more.
+    /// - `OutOfMemory`: memory runs out.
+    ///
+    /// The set stays then.
     #[tactic(auto, using(crate::proofs::SetSteps::last_ascends))]
     pub fn insert_ordered(&mut self, item: T) -> Result<(), Error>
         ensures ok { OnOk result (self.new ≡ self.old ++ item ∷ []) }
@@ -192,12 +201,14 @@ impl<T: DerOrd + Member + Drop> SetOfVec<T> {
         Ok(())
     }
 
-    /// The set of these members, in ascending order, equal ones in the order in which they stand.
+    /// Returns the set of these members, in ascending order, equal ones in the order in which they
+    /// stand.
     ///
     /// It takes n log n comparisons, and as many moves where there is memory for a sort.
     ///
     /// # Errors
-    /// `Overflow` where an encoding has 2^32 octets or more; never `OutOfMemory`.
+    ///
+    /// - `Overflow`: an encoding has 2^32 bytes or more; never `OutOfMemory`.
     pub fn from_vec(members: Vec<T>) -> Result<SetOfVec<T>, Error>
         ensures ok { IfOk result (IsPermutation members.items) }
         ensures equals { IfOk result (λ set. AllValid T.shape T.written members.items
@@ -215,8 +226,11 @@ impl<T: DerOrd + Member + Drop> SetOfVec<T> {
     /// It takes n log n comparisons, and as many moves where there is memory for a sort.
     ///
     /// # Errors
-    /// `Overflow` where the encoding of an item or of a member has 2^32 octets or more, or
-    /// `OutOfMemory`. The items before the refused one have been placed then, and no other.
+    ///
+    /// - `Overflow`: the encoding of an item or of a member has 2^32 bytes or more.
+    /// - `OutOfMemory`: memory runs out.
+    ///
+    /// The items before the refused one have been placed then, and no other.
     pub fn extend<I: IntoIterator<Item = T>>(&mut self, items: I) -> Result<(), Error>
         requires { (it : I.IntoIter) → I.into_iter_gives items it → I.IntoIter.can_next it
             × IsFinite (I.IntoIter.remaining it) }
@@ -255,10 +269,12 @@ impl<T: DerOrd + Member + Drop> SetOfVec<T> {
         arrange_behind_first(&mut self.members, first)
     }
 
-    /// The set of the items, equal ones in the order in which they come.
+    /// Returns the set of the items, equal ones in the order in which they come.
     ///
     /// # Errors
-    /// `Overflow` where an encoding has 2^32 octets or more, or `OutOfMemory`.
+    ///
+    /// - `Overflow`: an encoding has 2^32 bytes or more.
+    /// - `OutOfMemory`: memory runs out.
     pub fn from_iter<I: IntoIterator<Item = T>>(
         alloc: Global,
         items: I,
@@ -277,11 +293,12 @@ impl<T: DerOrd + Member + Drop> SetOfVec<T> {
         Ok(set)
     }
 
-    /// The members of a content, which stand there in any order.
+    /// Returns the members of a content, which are there in any order.
     ///
     /// # Errors
-    /// The first fault of the members, or `OutOfMemory`; `Failed` where the reader failed before;
-    /// by BER `Overflow` too, where an encoding has 2^32 octets or more.
+    ///
+    /// The first error of the members, or `OutOfMemory`; `Failed` if the reader failed before; by
+    /// BER `Overflow` too, where an encoding has 2^32 bytes or more.
     pub fn decode_value<'a, R: Reader<'a>>(
         alloc: Global,
         reader: &mut R,
@@ -289,7 +306,7 @@ impl<T: DerOrd + Member + Drop> SetOfVec<T> {
     ) -> Result<SetOfVec<T>, Error>
     where
         T: Decode<'a, R> + AsRead,
-        // The members that were read, in the order in which they stand there, are those of the set.
+        // The members that were read, in the order in which they are there, are those of the set.
         ensures reads { (read : List T)
             × ReadsArranged T.shape T.plain T.written (R.state reader.old)
             (R.state reader.new) result
@@ -300,7 +317,7 @@ impl<T: DerOrd + Member + Drop> SetOfVec<T> {
             → IfOk result
             (λ set. Loose T.shape (plain_list T.plain set)
             (take header.length.value (R.state reader.old).rest)) }
-        // What is spelled so is read, unless memory runs out.
+        // An encoding is accepted, unless memory runs out.
         ensures only { (v : List (Value T.shape)) → is_element T.shape ≡ true
             → are_content_enough (nested (many T.shape)) (R.state reader.old).room ≡ true
             → IsDer (R.state reader.old) → (R.state reader.old).failed ≡ false
@@ -308,7 +325,7 @@ impl<T: DerOrd + Member + Drop> SetOfVec<T> {
             → Loose T.shape v (take header.length.value (R.state reader.old).rest)
             → Gives (plain_list T.plain) result (Ok v) }
     {
-        // What is read from octets by DER has an encoding.
+        // What is read from bytes by DER has an encoding.
         let before = reader.remaining();
         let _octets = &before[..];
         let members = Vec::<T>::decode_value(alloc, reader, header)?;
@@ -321,22 +338,25 @@ impl<T: DerOrd + Member + Drop> SetOfVec<T> {
         }
     }
 
-    /// The set that octets spell by DER, all of the octets, whose members stand in any order.
+    /// Returns the set that bytes encode by DER, all of the bytes, whose members are in any order.
     ///
     /// # Errors
-    /// `Overflow` for 2^32 octets or more, else the first error met in reading, `TrailingData` if
-    /// octets are left after the set, or `OutOfMemory`.
+    ///
+    /// - `Overflow`: 2^32 bytes or more.
+    /// - The first error that decoding meets.
+    /// - `TrailingData`: bytes are left after the set.
+    /// - `OutOfMemory`: memory runs out.
     pub fn from_der<'a>(alloc: Global, bytes: &'a [u8]) -> Result<SetOfVec<T>, Error>
     where
         T: Decode<'a, SliceReader<'a>> + AsRead,
-        // What is read is spelled so.
+        // What is accepted is an encoding.
         ensures spelled { is_element T.shape ≡ true
             → IfOk result (λ set. SpellsLoosely T.shape (plain_list T.plain set) bytes.now) }
-        // What is spelled so is read, unless memory runs out.
+        // An encoding is accepted, unless memory runs out.
         ensures only { (v : List (Value T.shape)) → is_element T.shape ≡ true
             → are_enough (tagged Set (nested (many T.shape))) levels_max ≡ true
             → SpellsLoosely T.shape v bytes.now → Gives (plain_list T.plain) result (Ok v) }
-        // Which fault it is.
+        // The error is exact.
         ensures refused { is_element T.shape ≡ true
             → IfErr result
             (λ e. Fails e.kind (read_whole (tagged Set (nested (many T.shape))) bytes.now)) }
@@ -346,12 +366,13 @@ impl<T: DerOrd + Member + Drop> SetOfVec<T> {
         Ok(set)
     }
 
-    /// The members of a content in which each encoding is above the one before (X.690 11.6), which
-    /// is a rule of DER: they are read by DER, whatever the rules of the reader.
+    /// Returns the members of a content in which each encoding is above the one before (X.690
+    /// 11.6), which is a rule of DER: they are read by DER, whatever the rules of the reader.
     ///
     /// # Errors
-    /// The first fault of the members, `SetDuplicate` or `SetOrdering` where one stands wrong, or
-    /// `OutOfMemory`; `Failed` where the reader failed before.
+    ///
+    /// The first error of the members, `SetDuplicate` or `SetOrdering` if one stands wrong, or
+    /// `OutOfMemory`; `Failed` if the reader failed before.
     pub fn decode_value_strict<'a, R: Reader<'a>>(
         alloc: Global,
         reader: &mut R,
@@ -399,7 +420,7 @@ impl<T: Encode> EncodeValue for SetOfVec<T> {
     }
 }
 
-/// The encodings of the members, one after the other.
+/// The encodings of the members, one after another.
 impl<T: DerOrd> ValueOrd for SetOfVec<T> {
     #[tactic(auto, unfolding(crate::specs::Opened::contents, crate::specs::Opened::IsContent))]
     fn value_cmp(&self, other: &Self) -> Result<Ordering, Error> {
@@ -469,7 +490,8 @@ impl<T: Shaped + Hash> Hash for SetOfVec<T> {
 /// These members, in ascending order, as `from_vec` answers.
 ///
 /// # Errors
-/// `Overflow` where an encoding has 2^32 octets or more.
+///
+/// - `Overflow`: an encoding has 2^32 bytes or more.
 impl<T: DerOrd + Member + Drop> TryFrom<Vec<T>> for SetOfVec<T> {
     type Error = Error;
 

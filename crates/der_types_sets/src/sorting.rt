@@ -18,7 +18,7 @@ use std::alloc::{AllocError, Global};
 use std::cmp::Ordering;
 use std::mem;
 
-/// The order of the encodings of two members, where they have one.
+/// Returns the order of the encodings of two members, where they have one.
 fn order_of<T: DerOrd + Member>(member: &T, other: &T) -> Ordering
     ensures { IsValid T.shape (T.written member.now) → IsValid T.shape (T.written other.now)
         → result ≡ encodings_cmp T.shape (T.written member.now) (T.written other.now) }
@@ -26,15 +26,15 @@ fn order_of<T: DerOrd + Member>(member: &T, other: &T) -> Ordering
     member.der_cmp(other).unwrap_or(Ordering::Equal)
 }
 
-/// The member at a place, and another one where there is none.
+/// Returns the member at a place, and another one where there is none.
 fn at<'m, T>(members: &'m [T], place: usize, other: &'m T) -> &'m T
     ensures { result.now ≡ member_at members.now other.now place }
 {
     members.get(place).unwrap_or(other)
 }
 
-/// The order of the encodings of the members at two places, where they have one. For a place at
-/// which none stands it is that of the first member.
+/// Returns the order of the encodings of the members at two places, where they have one. For a
+/// place at which none stands it is that of the first member.
 fn order_at<T: DerOrd + Member>(members: &[T], place: usize, other: usize) -> Ordering
     ensures { AllValid T.shape T.written members.now
         → result ≡ octets_cmp (member_encoding T.shape T.written members.now place)
@@ -46,7 +46,8 @@ fn order_at<T: DerOrd + Member>(members: &[T], place: usize, other: usize) -> Or
     order_of(at(members, place, first), at(members, other, first))
 }
 
-/// Whether no member at a place is above that at the next place, where each can be compared.
+/// Returns whether no member at a place is above that at the next place, where each can be
+/// compared.
 fn ascend_at<T: DerOrd + Member>(members: &[T], places: &[usize]) -> bool
     ensures { IsTrue result → AscendsAt T.shape T.written members.now places.now
         (length places.now) }
@@ -64,15 +65,15 @@ fn ascend_at<T: DerOrd + Member>(members: &[T], places: &[usize]) -> bool
     true
 }
 
-/// The places of so many members, as they stand.
+/// Returns the places of so many members, as they are.
 fn places(alloc: Global, count: usize) -> Result<Vec<usize>, AllocError>
     ensures { IfOk result (λ places. places.items ≡ range_with_len 0 count) }
 {
     (0..count).collect::<Vec<usize>>(alloc)
 }
 
-/// The places of members in ascending order of their encodings, those of equal ones as they stand.
-/// There are none where there is no memory for them, or where members can't be compared.
+/// Returns the places of members in ascending order of their encodings, those of equal ones as they
+/// are. There are none if memory runs out for them, or where members can't be compared.
 fn ascending_places<T: DerOrd + Member>(alloc: Global, members: &[T]) -> Option<Vec<usize>>
     ensures same { IfSome result
         (λ places. IsPermutation (range_with_len 0 (length members.now)) places.items) }
@@ -111,7 +112,7 @@ fn take_at<T: Drop>(apart: &mut [Option<T>], places: &[usize], taken: &mut Vec<T
         ≡ members_at xs d places.now }
 {
     for count in 0..places.len() {
-        // No place comes twice, so a member still stands there.
+        // No place comes twice, so a member still is there.
         let Some(member) = apart[places[count]].take() else {
             return;
         };
@@ -137,7 +138,7 @@ fn rearrange<T: Drop>(
     Ok(())
 }
 
-/// Sorts members by their encodings, equal ones as they stand, if there is memory and each can be
+/// Sorts members by their encodings, equal ones as they are, if there is memory and each can be
 /// compared. Else none moves.
 fn sort<T: DerOrd + Member + Drop>(members: &mut Vec<T>) -> bool
     requires { 0 < length members.old.items }
@@ -157,14 +158,17 @@ fn sort<T: DerOrd + Member + Drop>(members: &mut Vec<T>) -> bool
 }
 
 /// Brings members into ascending order, of which the first ones are in order, equal ones as they
-/// stand.
+/// are.
 ///
 /// It takes n log n comparisons, and as many moves where there is memory for a sort. Where there is
 /// none, or where members can't be compared, they are placed one by one.
 ///
 /// # Errors
-/// `Overflow` where an encoding has 2^32 octets or more. The members in front of the one that is
-/// refused are in order then, and it and those after it are gone.
+///
+/// - `Overflow`: an encoding has 2^32 bytes or more.
+///
+/// The members before the one that is rejected are in order then, and it and those after it are
+/// gone.
 pub(crate) fn arrange_behind_first<T: DerOrd + Member + Drop>(
     members: &mut Vec<T>,
     first: usize,

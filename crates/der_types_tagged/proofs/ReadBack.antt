@@ -31,7 +31,7 @@ unfolding octets_of tlv IsValid
 header_again t c v r h =
     ap head_at (append_assoc (head_octets t (length (contents c v))) (contents c v) r) ∙ head_again t (length (contents c v)) (contents c v ++ r) h.1 (fits_contents t (contents c v) h.2)
 
--- a header of the class, and what stands behind it
+-- a header of the class, and what follows it
 number_is : (class room : ℕ) (s : Shape) (v : Value s) (w q r : List ℕ) (h : Head) → head_at w ≡ Ok (h, q)
     → read (explicit_field class (number_of h.tag) s) room w ≡ Ok (v, r) → numbered_at encodings.Der class s room w ≡ Ok ((number_of h.tag, v), r)
 unfolding numbered_at

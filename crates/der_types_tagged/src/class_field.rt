@@ -30,10 +30,10 @@ use der_core::{
 use std::alloc::{AllocError, Global};
 use std::cmp::Ordering;
 
-/// A value behind a tag of a class, which `CLASS` tells by its bits in the first octet of a tag
+/// A value after a tag of a class, which `CLASS` tells by its bits in the first byte of a tag
 /// (X.690 8.1.2.2): `CLASS_APPLICATION`, `CLASS_CONTEXT_SPECIFIC` or `CLASS_PRIVATE`.
 ///
-/// The tag stands in front of the value's own tag or in its place (X.680 31, X.690 8.14).
+/// The tag comes before the value's own tag or in its place (X.680 31, X.690 8.14).
 #[derive(Debug, Drop, PartialEq, Eq)]
 pub struct ClassField<T, const CLASS: u8> {
     /// The number of the tag.
@@ -64,11 +64,14 @@ impl<T: Clone, const CLASS: u8> Clone for ClassField<T, CLASS> {
 }
 
 impl<T, const CLASS: u8> ClassField<T, CLASS> {
-    /// The value behind a tag of that number in front of its own, if that tag stands next
-    /// (X.690 8.14.2). Where another tag or the end stands nothing is read.
+    /// Returns the value after a tag of that number before its own, if that tag stands next (X.690
+    /// 8.14.2). Where another tag or the end stands nothing is read.
     ///
     /// # Errors
-    /// The first error met in reading, or `OutOfMemory`; `Failed` where the reader failed before.
+    ///
+    /// - The first error that decoding meets.
+    /// - `OutOfMemory`: memory runs out.
+    /// - `Failed`: the reader failed before.
     pub fn decode_explicit<'a, R: Reader<'a>>(
         alloc: Global,
         reader: &mut R,
@@ -97,12 +100,15 @@ impl<T, const CLASS: u8> ClassField<T, CLASS> {
         }))
     }
 
-    /// The value behind a tag of that number in place of its own, if that tag stands next, in the
-    /// form of the value's own tag (X.690 8.14.3). Where another tag or the end stands nothing is
-    /// read.
+    /// Returns the value after a tag of that number in place of its own, if that tag stands next,
+    /// in the form of the value's own tag (X.690 8.14.3). Where another tag or the end stands
+    /// nothing is read.
     ///
     /// # Errors
-    /// The first error met in reading, or `OutOfMemory`; `Failed` where the reader failed before.
+    ///
+    /// - The first error that decoding meets.
+    /// - `OutOfMemory`: memory runs out.
+    /// - `Failed`: the reader failed before.
     pub fn decode_implicit<'a, R: Reader<'a>>(
         alloc: Global,
         reader: &mut R,
@@ -130,12 +136,13 @@ impl<T, const CLASS: u8> ClassField<T, CLASS> {
         }))
     }
 
-    /// The value behind a tag of the class, whatever its number, in front of its own
-    /// (X.690 8.14.2).
+    /// Returns the value after a tag of the class, whatever its number, before its own (X.690
+    /// 8.14.2).
     ///
     /// # Errors
-    /// `TagUnexpected` behind a tag of another class, or of a primitive value; else the first error
-    /// met in reading, or `OutOfMemory`; `Failed` where the reader failed before.
+    ///
+    /// `TagUnexpected` after a tag of another class, or of a primitive value; else the first error
+    /// that decoding meets, or `OutOfMemory`; `Failed` if the reader failed before.
     #[tactic(auto, unfolding(crate::specs::Fields::numbered_at))]
     pub fn decode<'a, R: Reader<'a>>(
         alloc: Global,
@@ -168,7 +175,7 @@ impl<T, const CLASS: u8> ClassField<T, CLASS> {
         })
     }
 
-    /// Whether a tag is of the class.
+    /// Returns whether a tag is of the class.
     pub fn can_decode(tag: Tag) -> bool
         requires { IsClass CLASS }
         ensures { IsTrue result ↔ (tag_class tag ≡ CLASS / 64) }
@@ -176,7 +183,7 @@ impl<T, const CLASS: u8> ClassField<T, CLASS> {
         leading_octet_of(tag) / 64 == CLASS / 64
     }
 
-    /// The field, lent.
+    /// Returns the field, borrowed.
     pub fn owned_to_ref(&self) -> ClassFieldRef<'_, T, CLASS>
         ensures number { result.tag_number ≡ self.now.tag_number }
         ensures mode { result.tag_mode ≡ self.now.tag_mode }
@@ -200,10 +207,11 @@ impl<T: Tagged, const CLASS: u8> Tagged for ClassField<T, CLASS> {
 }
 
 impl<T: EncodeValue + FixedTag, const CLASS: u8> ClassField<T, CLASS> {
-    /// The number of content octets.
+    /// Returns the number of content bytes.
     ///
     /// # Errors
-    /// `Overflow` from 2^32 on.
+    ///
+    /// - `Overflow`: the length is 2^32 or more.
     pub fn value_len(&self) -> Result<Length, Error>
         ensures explicit { self.now.tag_mode ≡ TagMode.Explicit
             → GivesNow (λ l. l.value) result
@@ -219,7 +227,9 @@ impl<T: EncodeValue + FixedTag, const CLASS: u8> ClassField<T, CLASS> {
     /// Writes the content.
     ///
     /// # Errors
-    /// `Overflow` where a length passes 2^32 - 1, and those of the writer.
+    ///
+    /// - `Overflow`: a length exceeds 2^32 - 1.
+    /// - The errors of the writer.
     pub fn encode_value<W: Writer>(&self, writer: &mut W) -> Result<(), Error>
         ensures explicit { self.now.tag_mode ≡ TagMode.Explicit
             → Writes W.takes_memory (W.out writer.old) (W.out writer.new) result
@@ -240,10 +250,11 @@ impl<T: EncodeValue + FixedTag, const CLASS: u8> ClassField<T, CLASS> {
         encode_value_of_field(writer, self.tag_mode, &self.value)
     }
 
-    /// The number of octets, header and content.
+    /// Returns the number of bytes, header and content.
     ///
     /// # Errors
-    /// `Overflow` from 2^32 on.
+    ///
+    /// - `Overflow`: the length is 2^32 or more.
     pub fn encoded_len(&self) -> Result<Length, Error>
         ensures explicit { self.now.tag_mode ≡ TagMode.Explicit
             → GivesNow (λ l. l.value) result
@@ -260,7 +271,9 @@ impl<T: EncodeValue + FixedTag, const CLASS: u8> ClassField<T, CLASS> {
     /// Writes header and content.
     ///
     /// # Errors
-    /// `Overflow` where a length passes 2^32 - 1, and those of the writer.
+    ///
+    /// - `Overflow`: a length exceeds 2^32 - 1.
+    /// - The errors of the writer.
     pub fn encode<W: Writer>(&self, writer: &mut W) -> Result<(), Error>
         ensures explicit { self.now.tag_mode ≡ TagMode.Explicit
             → Writes W.takes_memory (W.out writer.old) (W.out writer.new) result
@@ -282,12 +295,14 @@ impl<T: EncodeValue + FixedTag, const CLASS: u8> ClassField<T, CLASS> {
         encode_field(writer, CLASS, self.tag_mode, self.tag_number, &self.value)
     }
 
-    /// The octets of header and content.
+    /// Returns the bytes of header and content.
     ///
     /// # Errors
-    /// `Overflow` where a length passes 2^32 - 1, or `OutOfMemory`.
+    ///
+    /// - `Overflow`: a length exceeds 2^32 - 1.
+    /// - `OutOfMemory`: memory runs out.
     pub fn to_der(&self, alloc: Global) -> Result<Vec<u8>, Error>
-        // A valid value has an encoding, and it is the answer unless memory runs out.
+        // The encoding of a valid value is the result, unless memory runs out.
         ensures explicit { self.now.tag_mode ≡ TagMode.Explicit
             → IsValid
             (explicit_field CLASS self.now.tag_number.value (tagged T.fixed_tag T.content))
@@ -304,7 +319,7 @@ impl<T: EncodeValue + FixedTag, const CLASS: u8> ClassField<T, CLASS> {
             (Ok
             (octets_of (implicit_field CLASS self.now.tag_number.value T.fixed_tag T.content)
             (T.value_written self.now.value))) }
-        // Which fault it is.
+        // The error is exact.
         ensures exact_explicit { self.now.tag_mode ≡ TagMode.Explicit
             → Gives (λ v. record { written = v.items; room = None; failed = false }) result
             (write (explicit_field CLASS self.now.tag_number.value (tagged T.fixed_tag T.content))
@@ -320,13 +335,14 @@ impl<T: EncodeValue + FixedTag, const CLASS: u8> ClassField<T, CLASS> {
     }
 }
 
-/// Fields of one mode are compared; another mode would put another content behind the tag.
+/// Fields of one mode are compared; another mode would put another content after the tag.
 impl<T: ValueOrd + EncodeValue + FixedTag, const CLASS: u8> ClassField<T, CLASS> {
-    /// The order of the contents of two fields of one mode, as lists of octets, whatever their
-    /// lengths.
+    /// Returns the order of the contents of two fields of one mode, as lists of bytes, whatever
+    /// their lengths.
     ///
     /// # Errors
-    /// `Overflow` where the content of one of the two has 2^32 octets or more.
+    ///
+    /// - `Overflow`: the content of one of the two has 2^32 bytes or more.
     pub fn value_cmp(&self, other: &ClassField<T, CLASS>) -> Result<Ordering, Error>
         requires { self.now.tag_mode ≡ other.now.tag_mode }
         // An answer comes wherever both values have a content.
@@ -360,11 +376,12 @@ impl<T: ValueOrd + EncodeValue + FixedTag, const CLASS: u8> ClassField<T, CLASS>
         value_cmp_of_fields(self.tag_mode, &self.value, &other.value)
     }
 
-    /// The order of the encodings of two fields of one mode, as lists of octets: that of the tags,
-    /// then that of the lengths, then that of the contents (X.690 11.6). No memory is taken.
+    /// Returns the order of the encodings of two fields of one mode, as lists of bytes: that of the
+    /// tags, then that of the lengths, then that of the contents (X.690 11.6). It doesn't allocate.
     ///
     /// # Errors
-    /// `Overflow` where the encoding of one of the two has 2^32 octets or more.
+    ///
+    /// - `Overflow`: the encoding of one of the two has 2^32 bytes or more.
     pub fn der_cmp(&self, other: &ClassField<T, CLASS>) -> Result<Ordering, Error>
         requires { self.now.tag_mode ≡ other.now.tag_mode }
         // An answer comes wherever both values have an encoding.

@@ -1,4 +1,4 @@
-//! Lent values after tags of one class.
+//! Borrowed values after tags of one class.
 
 ghost use Rattle.std.specs.Prelude.{◌≡◌, [], Ok, None, false, IsOk, IfOk, ⊤};
 ghost use Rattle.der_core.specs.Shapes.{nested, only, tagged, IsValid, contents, octets_of};
@@ -15,10 +15,10 @@ use crate::fields::{
 use der_core::{EncodeValue, Error, FixedTag, Length, Tag, TagMode, TagNumber, Tagged, Writer};
 use std::alloc::{AllocError, Global};
 
-/// A lent value behind a tag of a class, which `CLASS` tells by its bits in the first octet of a
+/// A borrowed value after a tag of a class, which `CLASS` tells by its bits in the first byte of a
 /// tag (X.690 8.1.2.2): `CLASS_APPLICATION`, `CLASS_CONTEXT_SPECIFIC` or `CLASS_PRIVATE`.
 ///
-/// The tag stands in front of the value's own tag or in its place (X.680 31, X.690 8.14).
+/// The tag comes before the value's own tag or in its place (X.680 31, X.690 8.14).
 #[derive(Debug, PartialEq, Eq)]
 pub struct ClassFieldRef<'a, T, const CLASS: u8> {
     /// The number of the tag.
@@ -52,9 +52,10 @@ impl<'a, T: Tagged, const CLASS: u8> Tagged for ClassFieldRef<'a, T, CLASS> {
 }
 
 impl<'a, T: Clone, const CLASS: u8> ClassFieldRef<'a, T, CLASS> {
-    /// The field, owned, with a clone of its value.
+    /// Returns the field, owned, with a clone of its value.
     ///
     /// # Errors
+    ///
     /// Where the clone finds no memory.
     pub fn ref_to_owned(&self) -> Result<ClassField<T, CLASS>, AllocError>
         ensures number { IfOk result (λ f. f.tag_number ≡ self.now.tag_number) }
@@ -72,10 +73,11 @@ impl<'a, T: Clone, const CLASS: u8> ClassFieldRef<'a, T, CLASS> {
 }
 
 impl<'a, T: EncodeValue + FixedTag, const CLASS: u8> ClassFieldRef<'a, T, CLASS> {
-    /// The number of content octets.
+    /// Returns the number of content bytes.
     ///
     /// # Errors
-    /// `Overflow` from 2^32 on.
+    ///
+    /// - `Overflow`: the length is 2^32 or more.
     pub fn value_len(&self) -> Result<Length, Error>
         ensures explicit { self.now.tag_mode ≡ TagMode.Explicit
             → GivesNow (λ l. l.value) result
@@ -91,7 +93,9 @@ impl<'a, T: EncodeValue + FixedTag, const CLASS: u8> ClassFieldRef<'a, T, CLASS>
     /// Writes the content.
     ///
     /// # Errors
-    /// `Overflow` where a length passes 2^32 - 1, and those of the writer.
+    ///
+    /// - `Overflow`: a length exceeds 2^32 - 1.
+    /// - The errors of the writer.
     pub fn encode_value<W: Writer>(&self, writer: &mut W) -> Result<(), Error>
         ensures explicit { self.now.tag_mode ≡ TagMode.Explicit
             → Writes W.takes_memory (W.out writer.old) (W.out writer.new) result
@@ -112,10 +116,11 @@ impl<'a, T: EncodeValue + FixedTag, const CLASS: u8> ClassFieldRef<'a, T, CLASS>
         encode_value_of_field(writer, self.tag_mode, self.value)
     }
 
-    /// The number of octets, header and content.
+    /// Returns the number of bytes, header and content.
     ///
     /// # Errors
-    /// `Overflow` from 2^32 on.
+    ///
+    /// - `Overflow`: the length is 2^32 or more.
     pub fn encoded_len(&self) -> Result<Length, Error>
         ensures explicit { self.now.tag_mode ≡ TagMode.Explicit
             → GivesNow (λ l. l.value) result
@@ -132,7 +137,9 @@ impl<'a, T: EncodeValue + FixedTag, const CLASS: u8> ClassFieldRef<'a, T, CLASS>
     /// Writes header and content.
     ///
     /// # Errors
-    /// `Overflow` where a length passes 2^32 - 1, and those of the writer.
+    ///
+    /// - `Overflow`: a length exceeds 2^32 - 1.
+    /// - The errors of the writer.
     pub fn encode<W: Writer>(&self, writer: &mut W) -> Result<(), Error>
         ensures explicit { self.now.tag_mode ≡ TagMode.Explicit
             → Writes W.takes_memory (W.out writer.old) (W.out writer.new) result
@@ -154,12 +161,14 @@ impl<'a, T: EncodeValue + FixedTag, const CLASS: u8> ClassFieldRef<'a, T, CLASS>
         encode_field(writer, CLASS, self.tag_mode, self.tag_number, self.value)
     }
 
-    /// The octets of header and content.
+    /// Returns the bytes of header and content.
     ///
     /// # Errors
-    /// `Overflow` where a length passes 2^32 - 1, or `OutOfMemory`.
+    ///
+    /// - `Overflow`: a length exceeds 2^32 - 1.
+    /// - `OutOfMemory`: memory runs out.
     pub fn to_der(&self, alloc: Global) -> Result<Vec<u8>, Error>
-        // A valid value has an encoding, and it is the answer unless memory runs out.
+        // The encoding of a valid value is the result, unless memory runs out.
         ensures explicit { self.now.tag_mode ≡ TagMode.Explicit
             → IsValid
             (explicit_field CLASS self.now.tag_number.value (tagged T.fixed_tag T.content))
@@ -176,7 +185,7 @@ impl<'a, T: EncodeValue + FixedTag, const CLASS: u8> ClassFieldRef<'a, T, CLASS>
             (Ok
             (octets_of (implicit_field CLASS self.now.tag_number.value T.fixed_tag T.content)
             (T.value_written self.now.value.now))) }
-        // Which fault it is.
+        // The error is exact.
         ensures exact_explicit { self.now.tag_mode ≡ TagMode.Explicit
             → Gives (λ v. record { written = v.items; room = None; failed = false }) result
             (write (explicit_field CLASS self.now.tag_number.value (tagged T.fixed_tag T.content))

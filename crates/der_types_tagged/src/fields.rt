@@ -18,7 +18,7 @@ use der_core::{
 use std::alloc::Global;
 use std::cmp::Ordering;
 
-/// The tag of a field with a value of that tag.
+/// Returns the tag of a field with a value of that tag.
 pub fn tag_of_field(class: u8, mode: TagMode, number: TagNumber, own: Tag) -> Tag
     ensures { result ≡ field_tag class mode number.value own }
 {
@@ -28,7 +28,7 @@ pub fn tag_of_field(class: u8, mode: TagMode, number: TagNumber, own: Tag) -> Ta
     }
 }
 
-/// The number of content octets.
+/// Returns the number of content bytes.
 pub fn value_len_of_field<T: EncodeValue + FixedTag>(
     mode: TagMode,
     value: &T,
@@ -71,7 +71,7 @@ pub fn encode_value_of_field<W: Writer, T: EncodeValue + FixedTag>(
     }
 }
 
-/// The number of octets.
+/// Returns the number of bytes.
 pub fn len_of_field<T: EncodeValue + FixedTag>(
     class: u8,
     mode: TagMode,
@@ -125,7 +125,7 @@ pub fn encode_field<W: Writer, T: EncodeValue + FixedTag>(
     }
 }
 
-/// The octets of a field.
+/// Returns the bytes of a field.
 pub fn der_of_field<T: EncodeValue + FixedTag>(
     alloc: Global,
     class: u8,
@@ -161,7 +161,7 @@ pub fn der_of_field<T: EncodeValue + FixedTag>(
     }
 }
 
-/// The order of the contents of two fields of one mode.
+/// Returns the order of the contents of two fields of one mode.
 pub fn value_cmp_of_fields<T: ValueOrd + EncodeValue + FixedTag>(
     mode: TagMode,
     value: &T,
@@ -193,7 +193,7 @@ pub fn value_cmp_of_fields<T: ValueOrd + EncodeValue + FixedTag>(
     }
 }
 
-/// The order of two fields of one class and mode.
+/// Returns the order of two fields of one class and mode.
 pub fn der_cmp_of_fields<T: ValueOrd + EncodeValue + FixedTag>(
     class: u8,
     mode: TagMode,
@@ -276,7 +276,7 @@ impl<'a, T: DerOrd> ValueOrd for Whole<'a, T> {
     }
 }
 
-/// The number of octets of a content and its header.
+/// Returns the number of bytes of a content and its header.
 #[tactic(auto, unfolding(crate::specs::Opened::tlv_len, crate::specs::Opened::head_len))]
 pub fn len_behind<T: EncodeValue>(tag: Tag, value: &T) -> Result<Length, Error>
     ensures { GivesNow (λ l. l.value) result
@@ -286,7 +286,7 @@ pub fn len_behind<T: EncodeValue>(tag: Tag, value: &T) -> Result<Length, Error>
     len.for_tlv(tag)
 }
 
-/// The octets that writing a header and a content gives.
+/// Returns the bytes that writing a header and a content gives.
 fn written_behind<T: EncodeValue>(alloc: Global, tag: Tag, value: &T) -> Result<Vec<u8>, Error>
     ensures { Gives (λ v. record { written = v.items; room = None; failed = false }) result
         (write (tagged tag T.content) (T.value_written value.now)
@@ -297,7 +297,7 @@ fn written_behind<T: EncodeValue>(alloc: Global, tag: Tag, value: &T) -> Result<
     Ok(out)
 }
 
-/// A header and a content.
+/// Returns a header and a content.
 pub fn der_behind<T: EncodeValue>(alloc: Global, tag: Tag, value: &T) -> Result<Vec<u8>, Error>
     ensures spelled { IsValid (tagged tag T.content) (T.value_written value.now)
         → Gives (λ v. v.items) result

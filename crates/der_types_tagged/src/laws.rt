@@ -1,6 +1,6 @@
 //! The laws of fields after tags.
 //!
-//! Each is the contract of a function that does nothing.
+//! Each law is the contract of a function that does nothing.
 
 ghost use Rattle.std.specs.Prelude.{◌≡◌, ◌/◌, ◌++◌, ℕ, List, [], true, false, Some, None, Ok, Err};
 ghost use Rattle.der_core.specs.ErrorTypes.ErrorKind.{ErrorKind};

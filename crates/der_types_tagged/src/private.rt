@@ -4,8 +4,8 @@ use crate::class_field::ClassField;
 use crate::class_field_ref::ClassFieldRef;
 use der_core::CLASS_PRIVATE;
 
-/// A value behind a tag of the private class, `[PRIVATE n]` (X.680 31, X.690 8.1.2.2, 8.14).
+/// A value after a tag of the private class, `[PRIVATE n]` (X.680 31, X.690 8.1.2.2, 8.14).
 pub type Private<T> = ClassField<T, CLASS_PRIVATE>;
 
-/// A lent value behind a tag of the private class.
+/// A borrowed value after a tag of the private class.
 pub type PrivateRef<'a, T> = ClassFieldRef<'a, T, CLASS_PRIVATE>;

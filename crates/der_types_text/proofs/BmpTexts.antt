@@ -1,4 +1,4 @@
--- Texts that any octets spell, pairs of octets, and the characters that they spell.
+-- Texts that any bytes encode, pairs of bytes, and the characters that they spell.
 use Rattle.std.proofs.Common.{◌≡◌, ℕ, zero, suc, ◌<◌, ◌%◌, Bool, true, false, List, [], ◌∷◌, ◌++◌, length, get_or, Ok, Err, refl, ap, sym, ◌∙◌, arith, nat_eq, encode_utf8_all, chars, IsUtf8}
 use Rattle.std.specs.Cmp.Lexicographic.{pointwise}
 use Rattle.std.specs.List.{list_all}
@@ -19,7 +19,7 @@ use Rattle.der_core.specs.Octets.{IsOctets}
 use Rattle.der_core.specs.TagTypes.Tag.{Tag}
 use Rattle.der_core.specs.Texts.{any_octet, is_within, text_read}
 
--- pairs are an even number of octets
+-- pairs are an even number of bytes
 pub are_pairs-even : (w : List ℕ) → are_pairs w ≡ nat_eq (length w % 2) 0
 are_pairs-even [] = refl
 are_pairs-even (a ∷ []) = refl
@@ -27,7 +27,7 @@ are_pairs-even (a ∷ b ∷ w) =
     let e : length (a ∷ b ∷ w) % 2 ≡ length w % 2 = omega arith in
     rw e (are_pairs-even w)
 
--- octets that are pairs are those of their characters
+-- bytes that are pairs are those of their characters
 pub are_bmp-spelled : (w : List ℕ) → IsBytes w → are_bmp w ≡ true → w ≡ bmp_octets (units w)
 are_bmp-spelled w h e = sym (bmp_octets-units w (octets_are w h) (and_parts (are_pairs w) (list_all is_unit (units w)) e).0)
 
@@ -39,7 +39,7 @@ bmp_octets-push us u = flat_map-append unit_octets us (u ∷ [])
 pub list_all-push : (p : ℕ → Bool) (us : List ℕ) (u : ℕ) → list_all p us ≡ true → p u ≡ true → list_all p (us ++ u ∷ []) ≡ true
 list_all-push p us u h e = list_all-append p us (u ∷ []) ∙ rw (h, e) refl
 
--- one that is refused
+-- one that is rejected
 pub list_all-refused : (p : ℕ → Bool) (xs : List ℕ) (i c : ℕ) → i < length xs → c ≡ get_or xs i c → p c ≡ false → list_all p xs ≡ false
 list_all-refused p [] i c h at e = absurd (omega arith)
 list_all-refused p (x ∷ xs) zero c h at e = rw (ap p (sym at) ∙ e) refl
@@ -47,7 +47,7 @@ list_all-refused p (x ∷ xs) (suc i) c h at e =
     let more = list_all-refused p xs i c (omega arith) at e in
     grind (arith, nat_tests)
 
--- equal octets, equal characters
+-- equal bytes, equal characters
 pub pointwise-bmp_octets : (us vs : List ℕ) → pointwise nat_eq (bmp_octets us) (bmp_octets vs) ≡ pointwise nat_eq us vs
 pointwise-bmp_octets us vs =
     let octets = slice_eq-Decides Decides-eqb (bmp_octets us) (bmp_octets vs) (pointwise nat_eq (bmp_octets us) (bmp_octets vs)) refl in
@@ -65,7 +65,7 @@ pub ruleset pairs = (are_pairs-even, are_bmp-spelled)
 
 -- The characters of a BMPString are characters of a text.
 
--- octets are of one list of characters
+-- bytes are of one list of characters
 pub one_string : (us vs : List ℕ) → bmp_octets us ≡ bmp_octets vs → us ≡ vs
 one_string us vs e = sym (units-octets us) ∙ ap units e ∙ units-octets vs
 
@@ -102,7 +102,7 @@ ascii_octets p (b ∷ w) below e =
     let small = below b parts.0 in
     (omega arith, ascii_octets p w below parts.1)
 
--- Any octets are a text of any octets.
+-- Any bytes are a text of any bytes.
 
 pub all_within : (w : List ℕ) → list_all (is_within any_octet) w ≡ true
 all_within [] = refl

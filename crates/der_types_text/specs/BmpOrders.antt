@@ -11,7 +11,7 @@ use Rattle.der_core.specs.OrdLaws.{octets_order}
 use Rattle.der_core.proofs.OrderLaws.{split_cmp}
 use Rattle.der_core.proofs.OrderLaws.{then_assoc}
 
--- characters are in the order of their octets, of which the higher stands first
+-- characters are in the order of their bytes, of which the higher stands first
 pub bmp_octets_cmp : (us vs : List ℕ) → slice_cmp nat_cmp (bmp_octets us) (bmp_octets vs)
     ≡ slice_cmp nat_cmp us vs
 unfolding bmp_octets

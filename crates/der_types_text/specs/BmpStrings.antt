@@ -9,7 +9,7 @@ use Rattle.der_core.specs.TagTypes.Tag.TheVariants as tags
 use Rattle.der_core.specs.BmpStrings.{is_unit, IsBmp, bmp_octets, bmp_read, are_pairs, units}
 use Rattle.der_types_text.specs.declared.bmp_string.BmpString.TheInside.{Inside}
 
--- pairs of octets, each a character
+-- pairs of bytes, each a character
 abbrev pub are_bmp : List ℕ → Bool
 are_bmp w = are_pairs w && list_all is_unit (units w)
 
@@ -20,10 +20,10 @@ pub record IsBmpString (s : Inside) : Type 0 where
   pub spelled : s.bytes.items ≡ bmp_octets (units s.bytes.items)
   pub characters : IsBmp (units s.bytes.items)
 
--- the characters of octets that a length can count, or the fault
+-- the characters of bytes that a length can count, or the error
 abbrev pub ucs2_from : List ℕ → Result (List ℕ) ErrorKind
 ucs2_from w = if nat_lt length_max (length w) then Err kinds.Overflow else bmp_read tags.BmpString w
 
--- characters that a BMPString may have, or the fault
+-- characters that a BMPString may have, or the error
 abbrev pub bmp_from : List ℕ → Result (List ℕ) ErrorKind
 bmp_from cs = if list_all is_unit cs then Ok cs else Err (kinds.Value tags.BmpString)

@@ -17,9 +17,9 @@ use std::convert::{AsSlice, AsStr};
 use std::fmt;
 use std::marker::{Model, PhantomData};
 
-/// A text of a character string type whose characters are ASCII, fewer than 2^32 (X.680 41).
+/// A text of a string type whose characters are ASCII, of fewer than 2^32 bytes (X.680 41).
 ///
-/// Contracts see the list of its octets, by which texts are equal and ordered.
+/// Contracts see the list of its bytes. Texts are compared by their bytes.
 #[derive(Drop)]
 #[derive_where(PartialEq, Eq, PartialOrd, Ord, Hash)]
 pub struct AsciiString<T: AsciiType> {
@@ -42,7 +42,7 @@ impl<T: AsciiType> Model for AsciiString<T> {
 }
 
 impl<T: AsciiType> AsciiString<T> {
-    /// A copy of a borrowed text.
+    /// Returns an owned copy of a borrowed text.
     pub(crate) fn from_ref(
         alloc: Global,
         text: AsciiStringRef<'_, T>,
@@ -56,11 +56,13 @@ impl<T: AsciiType> AsciiString<T> {
         })
     }
 
-    /// The text of these octets.
+    /// Returns the text with these bytes.
     ///
     /// # Errors
-    /// `Overflow` for 2^32 octets or more, `Value` where an octet is no character of the type, or
-    /// `OutOfMemory`.
+    ///
+    /// - `Overflow`: there are 2^32 bytes or more.
+    /// - `Value`: a byte isn't a character of the type.
+    /// - `OutOfMemory`: memory runs out.
     pub fn new(alloc: Global, input: &[u8]) -> Result<AsciiString<T>, Error>
         ensures ok { IfOk result (λ t. t ≡ input.now) }
         ensures exact { Gives (λ t. t) result (text_from T.repertoire T.string_tag input.now) }
@@ -69,17 +71,18 @@ impl<T: AsciiType> AsciiString<T> {
         Ok(AsciiString::from_ref(alloc, text)?)
     }
 
-    /// A copy.
+    /// Returns a copy.
     ///
     /// # Errors
-    /// Out of memory.
+    ///
+    /// Fails if memory runs out.
     pub fn clone(&self, alloc: Global) -> Result<AsciiString<T>, AllocError>
         ensures { IfOk result (λ t. t ≡ self.now) }
     {
         AsciiString::from_ref(alloc, self.owned_to_ref())
     }
 
-    /// The text.
+    /// Returns the text.
     pub fn as_str(&self) -> &str
         ensures text { result.now ≡ self.now }
         ensures valid { IsText T.repertoire result.now }
@@ -88,35 +91,35 @@ impl<T: AsciiType> AsciiString<T> {
         self.owned_to_ref().as_str()
     }
 
-    /// The octets of the text.
+    /// Returns the bytes of the text.
     pub fn as_bytes(&self) -> &[u8]
         ensures { result.now ≡ self.now }
     {
         self.text.as_bytes()
     }
 
-    /// The number of octets.
+    /// Returns the number of bytes.
     pub fn len(&self) -> usize
         ensures { result ≡ length self.now }
     {
         self.text.as_bytes().len()
     }
 
-    /// Whether there is no character.
+    /// Returns whether there isn't a character.
     pub fn is_empty(&self) -> bool
         ensures { IsTrue result ↔ (self.now ≡ []) }
     {
         self.text.is_empty()
     }
 
-    /// The text itself.
+    /// Returns the text itself.
     pub fn into_string(self) -> String
         ensures { string_bytes result ≡ self }
     {
         self.text.into_string()
     }
 
-    /// The text, borrowed.
+    /// Returns the text, borrowed.
     pub fn owned_to_ref(&self) -> AsciiStringRef<'_, T>
         ensures { result.text.now ≡ self.now }
     {
@@ -127,7 +130,7 @@ impl<T: AsciiType> AsciiString<T> {
     }
 }
 
-/// The text, where its octets are characters of the type and a length can count them.
+/// Wraps a text whose bytes are characters of the type, and fewer than 2^32.
 impl<T: AsciiType> TryFrom<String> for AsciiString<T> {
     type Error = Error;
 
@@ -177,7 +180,7 @@ impl<T: AsciiType> Primitive for AsciiString<T> {
     ghost leaf_plain = { λ t. t };
 }
 
-/// The octets of the text.
+/// The content is the bytes of the text.
 impl<'a, T: AsciiType> Leaf<'a> for AsciiString<T> {
     fn from_content(alloc: Global, tag: Tag, octets: &'a [u8]) -> Result<AsciiString<T>, Error> {
         let text = AsciiStringRef::<T>::spelled_by(tag, octets)?;
@@ -192,10 +195,10 @@ impl<T: AsciiType> Octets for AsciiString<T> {
     }
 }
 
-/// The octets of the text (X.690 8.23.5).
+/// Compares the bytes of the texts (X.690 8.23.5).
 impl<T: AsciiType> Ordered for AsciiString<T> {}
 
-/// A copy, in memory of the same allocator.
+/// Copies the value with its own allocator.
 impl<T: AsciiType> Clone for AsciiString<T> {
     ghost is_clone = { λ x y. y ≡ x };
 

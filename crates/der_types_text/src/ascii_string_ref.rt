@@ -19,17 +19,17 @@ use std::convert::{AsSlice, AsStr};
 use std::fmt;
 use std::marker::PhantomData;
 
-/// Whether all octets are characters of the type.
+/// Returns whether all bytes are characters of the type.
 fn are_characters<T: AsciiType>(octets: &[u8]) -> bool
     ensures { result ≡ list_all (is_within T.repertoire) octets.now }
 {
     octets.iter().all(|octet| T::has_character(*octet))
 }
 
-/// A borrowed text of a character string type whose characters are ASCII, fewer than 2^32 (X.680
+/// A borrowed text of a string type whose characters are ASCII, of fewer than 2^32 bytes (X.680
 /// 41).
 ///
-/// Texts are equal where their octets are, and in the order of these.
+/// Texts are compared by their bytes.
 #[derive_where(PartialEq, Eq, PartialOrd, Ord, Hash)]
 pub struct AsciiStringRef<'a, T: AsciiType> {
     /// The characters.
@@ -53,10 +53,11 @@ impl<'a, T: AsciiType> Clone for AsciiStringRef<'a, T> {
 impl<'a, T: AsciiType> Copy for AsciiStringRef<'a, T> {}
 
 impl<'a, T: AsciiType> AsciiStringRef<'a, T> {
-    /// The text that the octets spell behind a tag.
+    /// Decodes the content of a text, after its tag.
     ///
     /// # Errors
-    /// `Value` with the tag where an octet is no character of the type.
+    ///
+    /// - `Value` with the tag: a byte isn't a character of the type.
     #[tactic(auto, unfolding(crate::specs::Opened::text_read))]
     pub(crate) fn spelled_by(tag: Tag, octets: &'a [u8]) -> Result<AsciiStringRef<'a, T>, Error>
         requires { Fits octets.now }
@@ -66,7 +67,7 @@ impl<'a, T: AsciiType> AsciiStringRef<'a, T> {
         if !are_characters::<T>(octets) {
             return Err(Error::from(ErrorKind::Value { tag }));
         }
-        // SAFETY: each octet is a character of the repertoire, which is part of ASCII.
+        // SAFETY: each byte is a character of the repertoire, which is part of ASCII.
         let text = unsafe { str::from_utf8_unchecked(octets) };
         Ok(AsciiStringRef {
             text,
@@ -74,10 +75,12 @@ impl<'a, T: AsciiType> AsciiStringRef<'a, T> {
         })
     }
 
-    /// The text of these octets.
+    /// Returns the text with these bytes.
     ///
     /// # Errors
-    /// `Overflow` for 2^32 octets or more, `Value` where an octet is no character of the type.
+    ///
+    /// - `Overflow`: there are 2^32 bytes or more.
+    /// - `Value`: a byte isn't a character of the type.
     pub fn new(input: &'a [u8]) -> Result<AsciiStringRef<'a, T>, Error>
         ensures ok { IfOk result (λ t. t.text.now ≡ input.now) }
         ensures exact { GivesNow (λ t. t.text.now) result
@@ -87,7 +90,7 @@ impl<'a, T: AsciiType> AsciiStringRef<'a, T> {
         Ok(AsciiStringRef::spelled_by(T::tag(), input)?)
     }
 
-    /// The text.
+    /// Returns the text.
     pub fn as_str(&self) -> &'a str
         ensures text { result.now ≡ self.now.text.now }
         ensures valid { IsText T.repertoire result.now }
@@ -96,31 +99,32 @@ impl<'a, T: AsciiType> AsciiStringRef<'a, T> {
         self.text
     }
 
-    /// The octets of the text.
+    /// Returns the bytes of the text.
     pub fn as_bytes(&self) -> &'a [u8]
         ensures { result.now ≡ self.now.text.now }
     {
         self.text.as_bytes()
     }
 
-    /// The number of octets.
+    /// Returns the number of bytes.
     pub fn len(&self) -> usize
         ensures { result ≡ length self.now.text.now }
     {
         self.text.len()
     }
 
-    /// Whether there is no character.
+    /// Returns whether there isn't a character.
     pub fn is_empty(&self) -> bool
         ensures { IsTrue result ↔ (self.now.text.now ≡ []) }
     {
         self.text.is_empty()
     }
 
-    /// A copy of the text that owns its octets.
+    /// Returns an owned copy of the text.
     ///
     /// # Errors
-    /// Out of memory.
+    ///
+    /// Fails if memory runs out.
     pub fn ref_to_owned(&self, alloc: Global) -> Result<AsciiString<T>, AllocError>
         ensures { IfOk result (λ t. t ≡ self.now.text.now) }
     {
@@ -144,7 +148,7 @@ impl<'a, T: AsciiType> From<&AsciiStringRef<'a, T>> for AsciiStringRef<'a, T> {
     }
 }
 
-/// The octets of the text.
+/// The bytes of the text.
 impl<'a, T: AsciiType> From<AsciiStringRef<'a, T>> for &'a [u8] {
     ghost from_gives = { λ t s. s.now ≡ t.text.now };
 
@@ -208,7 +212,7 @@ impl<'a, T: AsciiType> Octets for AsciiStringRef<'a, T> {
     }
 }
 
-/// The octets of the text (X.690 8.23.5).
+/// Compares the bytes of the texts (X.690 8.23.5).
 impl<'a, T: AsciiType> Ordered for AsciiStringRef<'a, T> {}
 
 impl<'a, T: AsciiType> OrdIsValueOrd for AsciiStringRef<'a, T> {

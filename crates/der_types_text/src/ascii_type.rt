@@ -6,22 +6,22 @@ ghost use Rattle.der_core.specs.Texts.{Repertoire, is_within};
 
 use der_core::Tag;
 
-/// A character string type whose characters are ASCII, one octet each (X.680 41, X.690 8.23): its
+/// A character string type whose characters are ASCII, one byte each (X.680 41, X.690 8.23): its
 /// tag, and which characters it has.
 pub trait AsciiType {
     ghost string_tag: { Tag };
 
-    /// The octets of its characters.
+    /// The bytes of its characters.
     ghost repertoire: { Repertoire };
 
-    /// The tag of the type.
+    /// Returns the tag of the type.
     fn tag() -> Tag
         ensures { result ≡ string_tag };
 
-    /// The name of the type, with which its `Debug` text begins.
+    /// Returns the name of the type, with which its `Debug` text begins.
     fn name() -> &'static str;
 
-    /// Whether an octet is a character of the type.
+    /// Returns whether a byte is a character of the type.
     fn has_character(octet: u8) -> bool
         ensures { result ≡ is_within repertoire octet };
 

@@ -1,4 +1,4 @@
-//! The characters of a BMPString, one after another.
+//! Iterating over the characters of a BMPString.
 
 ghost use Rattle.std.specs.Prelude.{◌≡◌, ◌<◌, true, MatchOption};
 ghost use Rattle.std.specs.Iterator.{YieldsFirst, item_count};
@@ -6,7 +6,7 @@ ghost use Rattle.der_core.specs.BmpStrings.{IsBmp, is_unit, units};
 
 use std::marker::Model;
 
-/// The characters of a BMPString as numbers, in order.
+/// An iterator over the characters of a BMPString, as numbers.
 #[derive(Debug, Drop)]
 pub struct BmpCodepoints<'a> {
     octets: &'a [u8],
@@ -23,7 +23,7 @@ impl<'a> Model for BmpCodepoints<'a> {
 }
 
 impl<'a> BmpCodepoints<'a> {
-    /// The code units of pairs of octets, the higher first.
+    /// Returns the code units of pairs of bytes, the higher first.
     pub(crate) fn of(octets: &'a [u8]) -> BmpCodepoints<'a>
         ensures { result ≡ units octets.now }
     {
@@ -47,7 +47,7 @@ impl<'a> Iterator for BmpCodepoints<'a> {
     }
 }
 
-/// The characters of a BMPString, in order.
+/// An iterator over the characters of a BMPString.
 #[derive(Debug, Drop)]
 pub struct BmpChars<'a> {
     codepoints: BmpCodepoints<'a>,
@@ -65,17 +65,17 @@ impl<'a> Model for BmpChars<'a> {
     ghost invariant = { AreChars };
 }
 
-/// The character of a number that is no half of a surrogate pair.
+/// Returns the character with a number that isn't half of a surrogate pair.
 fn char_of(unit: u16) -> char
     requires { is_unit unit ≡ true }
     ensures { result ≡ unit }
 {
-    // SAFETY: a unit is below 2^16 and no half of a surrogate pair, so it is a scalar value.
+    // SAFETY: a unit is below 2^16 and isn't half of a surrogate pair, so it is a scalar value.
     unsafe { char::from_u32_unchecked(u32::from(unit)) }
 }
 
 impl<'a> BmpChars<'a> {
-    /// The code units of pairs of octets, the higher first.
+    /// Returns the code units of pairs of bytes, the higher first.
     pub(crate) fn of(octets: &'a [u8]) -> BmpChars<'a>
         requires { IsBmp (units octets.now) }
         ensures { result ≡ units octets.now }

@@ -27,8 +27,8 @@ use std::fmt;
 use std::hash::{Hash, Hasher};
 use std::marker::Model;
 
-/// An owned BMPString (X.680 41, X.690 8.23.8): characters below 10000 hex, two octets each, the
-/// higher first. None is a half of a surrogate pair.
+/// An owned BMPString (X.680 41, X.690 8.23.8): characters below 10000 hex, in two bytes each, the
+/// higher byte first. None is half of a surrogate pair.
 ///
 /// Contracts see the list of its characters.
 #[derive(Drop)]
@@ -48,7 +48,7 @@ impl Model for BmpString {
     ghost invariant = { IsBmpString };
 }
 
-/// Whether the characters of pairs of octets are none of them a half of a surrogate pair.
+/// Returns whether no pair of bytes is half of a surrogate pair.
 fn has_no_half(octets: &[u8]) -> bool
     ensures { result ≡ list_all is_unit (units octets.now) }
 {
@@ -60,7 +60,7 @@ fn has_no_half(octets: &[u8]) -> bool
     true
 }
 
-/// Whether octets are pairs, each a character.
+/// Returns whether bytes are pairs, each a character.
 #[tactic(auto, using(crate::proofs::BmpTexts::pairs))]
 fn are_characters(octets: &[u8]) -> bool
     ensures exact { result ≡ are_bmp octets.now }
@@ -70,7 +70,7 @@ fn are_characters(octets: &[u8]) -> bool
     octets.len() % 2 == 0 && has_no_half(octets)
 }
 
-/// A character as a number, where it has two octets.
+/// Returns a character as a number, if it fits two bytes.
 fn unit_of(character: char) -> Option<u16>
     ensures { MatchOption result (is_unit character ≡ false) (λ unit. (unit ≡ character)
         × (is_unit character ≡ true)) }
@@ -78,7 +78,7 @@ fn unit_of(character: char) -> Option<u16>
     u16::try_from(u32::from(character)).ok()
 }
 
-/// Appends the octets of a character.
+/// Appends the bytes of a character.
 fn push_unit(octets: &mut Vec<u8>, unit: u16) -> Result<(), AllocError>
     ensures { OnOk result (octets.new.items ≡ octets.old.items ++ unit_octets unit) }
 {
@@ -86,10 +86,12 @@ fn push_unit(octets: &mut Vec<u8>, unit: u16) -> Result<(), AllocError>
     Ok(())
 }
 
-/// The octets of the characters of a text.
+/// Returns the bytes of the characters of a text.
 ///
 /// # Errors
-/// `Value` for a character from 10000 hex on, or `OutOfMemory`.
+///
+/// - `Value`: a character is 10000 hex or above.
+/// - `OutOfMemory`: memory runs out.
 fn octets_of(alloc: Global, text: &str) -> Result<Vec<u8>, Error>
     ensures ok { IfOk result (λ v. v.items ≡ bmp_octets (chars text.now)) }
     ensures exact { Gives (λ v. units v.items) result (bmp_from (chars text.now)) }
@@ -107,11 +109,12 @@ fn octets_of(alloc: Global, text: &str) -> Result<Vec<u8>, Error>
 }
 
 impl BmpString {
-    /// The string of these octets.
+    /// Returns the string with these bytes.
     ///
     /// # Errors
-    /// `Overflow` for 2^32 octets or more, `Value` for an odd number of octets, and where a pair is
-    /// a half of a surrogate pair.
+    ///
+    /// - `Overflow`: there are 2^32 bytes or more.
+    /// - `Value`: the number of bytes is odd, or a pair is half of a surrogate pair.
     #[tactic(auto, unfolding(crate::specs::Opened::bmp_read))]
     pub fn from_ucs2(bytes: Vec<u8>) -> Result<BmpString, Error>
         ensures { GivesNow (λ s. s) result (ucs2_from bytes.items) }
@@ -128,10 +131,12 @@ impl BmpString {
         }
     }
 
-    /// The string of a text's characters.
+    /// Returns the string with the characters of a text.
     ///
     /// # Errors
-    /// `Value` for a character from 10000 hex on, or `OutOfMemory`.
+    ///
+    /// - `Value`: a character is 10000 hex or above.
+    /// - `OutOfMemory`: memory runs out.
     pub fn from_utf8(alloc: Global, text: &str) -> Result<BmpString, Error>
         ensures { Gives (λ s. s) result (bmp_from (chars text.now)) }
     {
@@ -139,20 +144,23 @@ impl BmpString {
         Ok(BmpString { bytes })
     }
 
-    /// The string of a text's characters, as `from_utf8`.
+    /// Returns the string with the characters of a text, as `from_utf8` does.
     ///
     /// # Errors
-    /// `Value` for a character from 10000 hex on, or `OutOfMemory`.
+    ///
+    /// - `Value`: a character is 10000 hex or above.
+    /// - `OutOfMemory`: memory runs out.
     pub fn from_str(alloc: Global, text: &str) -> Result<BmpString, Error>
         ensures { Gives (λ s. s) result (bmp_from (chars text.now)) }
     {
         BmpString::from_utf8(alloc, text)
     }
 
-    /// A copy.
+    /// Returns a copy.
     ///
     /// # Errors
-    /// Out of memory.
+    ///
+    /// Fails if memory runs out.
     pub fn clone(&self, alloc: Global) -> Result<BmpString, AllocError>
         ensures { IfOk result (λ s. s ≡ self.now) }
     {
@@ -160,28 +168,28 @@ impl BmpString {
         Ok(BmpString { bytes })
     }
 
-    /// The content octets: the characters, two octets each, the higher first.
+    /// Returns the content bytes: the characters, two bytes each, the higher first.
     pub fn as_bytes(&self) -> &[u8]
         ensures { result.now ≡ bmp_octets self.now }
     {
         self.bytes.as_slice()
     }
 
-    /// The content octets themselves.
+    /// Returns the content bytes themselves.
     pub fn into_bytes(self) -> Vec<u8>
         ensures { result.items ≡ bmp_octets self }
     {
         self.bytes
     }
 
-    /// The characters, in order.
+    /// Returns the characters, in order.
     pub fn chars(&self) -> BmpChars<'_>
         ensures { result ≡ self.now }
     {
         BmpChars::of(self.bytes.as_slice())
     }
 
-    /// The characters as numbers, in order.
+    /// Returns the characters as numbers, in order.
     pub fn codepoints(&self) -> BmpCodepoints<'_>
         ensures { result ≡ self.now }
     {
@@ -215,7 +223,7 @@ impl Primitive for BmpString {
     ghost leaf_plain = { λ s. s };
 }
 
-/// The characters, two octets each.
+/// The characters, two bytes each.
 impl<'a> Leaf<'a> for BmpString {
     #[tactic(auto, unfolding(crate::specs::Opened::bmp_read))]
     fn from_content(alloc: Global, tag: Tag, octets: &'a [u8]) -> Result<BmpString, Error> {
@@ -234,10 +242,10 @@ impl Octets for BmpString {
     }
 }
 
-/// The octets of the characters (X.690 8.23.8).
+/// Compares the bytes of the characters (X.690 8.23.8).
 impl Ordered for BmpString {}
 
-/// A copy, in memory of the same allocator.
+/// Copies the value with its own allocator.
 impl Clone for BmpString {
     ghost is_clone = { λ x y. y ≡ x };
 
@@ -247,7 +255,7 @@ impl Clone for BmpString {
     }
 }
 
-/// Strings are equal where their characters are.
+/// Compares the characters.
 impl PartialEq for BmpString {
     ghost eq = { pointwise nat_eq };
 
@@ -262,7 +270,7 @@ impl Eq for BmpString {
     ghost laws = { nat_list_eq_equiv };
 }
 
-/// The order of their characters, which is that of their octets.
+/// The order of their characters, which is that of their bytes.
 impl PartialOrd for BmpString {
     ghost partial_cmp = { λ a b. Some (slice_cmp nat_cmp a b) };
 

@@ -15,20 +15,21 @@ use der_core::{Error, FixedTag, Leaf, OrdIsValueOrd, Tag};
 use std::alloc::Global;
 use std::convert::AsSlice;
 
-/// A borrowed GeneralString (X.680 41, X.690 8.23.5): any octets, fewer than 2^32, whose character
+/// A borrowed GeneralString (X.680 41, X.690 8.23.5): any bytes, fewer than 2^32, whose character
 /// sets are left to the reader.
 #[derive(Clone, Copy, Debug, PartialEq, Eq, PartialOrd, Ord, Hash)]
 pub struct GeneralStringRef<'a> {
-    /// The octets.
+    /// The bytes.
     bytes: &'a [u8],
     ghost short: { Fits bytes.now },
 }
 
 impl<'a> GeneralStringRef<'a> {
-    /// The string of these octets.
+    /// Returns the string of these bytes.
     ///
     /// # Errors
-    /// `Overflow` for 2^32 octets or more.
+    ///
+    /// - `Overflow`: 2^32 bytes or more.
     pub fn new(bytes: &'a [u8]) -> Result<GeneralStringRef<'a>, Error>
         ensures ok { IfOk result (λ s. s.bytes.now ≡ bytes.now) }
         ensures exact { GivesNow (λ s. s.bytes.now) result (counted bytes.now) }
@@ -37,21 +38,21 @@ impl<'a> GeneralStringRef<'a> {
         Ok(GeneralStringRef { bytes })
     }
 
-    /// The octets.
+    /// Returns the bytes.
     pub fn as_bytes(&self) -> &'a [u8]
         ensures { result.now ≡ self.now.bytes.now }
     {
         self.bytes
     }
 
-    /// The number of octets.
+    /// Returns the number of bytes.
     pub fn len(&self) -> usize
         ensures { result ≡ length self.now.bytes.now }
     {
         self.bytes.len()
     }
 
-    /// Whether there is no octet.
+    /// Returns whether there isn't a byte.
     pub fn is_empty(&self) -> bool
         ensures { IsTrue result ↔ (self.now.bytes.now ≡ []) }
     {
@@ -95,7 +96,7 @@ impl<'a> Primitive for GeneralStringRef<'a> {
     ghost leaf_plain = { λ s. s.bytes.now };
 }
 
-/// Any octets.
+/// Any bytes.
 impl<'a> Leaf<'a> for GeneralStringRef<'a> {
     ghost takes_memory = { false };
 
@@ -116,7 +117,7 @@ impl<'a> Octets for GeneralStringRef<'a> {
     }
 }
 
-/// The octets (X.690 8.23.5).
+/// The bytes (X.690 8.23.5).
 impl<'a> Ordered for GeneralStringRef<'a> {}
 
 impl<'a> OrdIsValueOrd for GeneralStringRef<'a> {

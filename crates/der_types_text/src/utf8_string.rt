@@ -17,10 +17,10 @@ use std::alloc::{AllocError, Global};
 use std::convert::{AsSlice, AsStr};
 use std::fmt;
 
-/// A borrowed UTF8String (X.680 41, X.690 8.23.10): any characters, in UTF-8, of fewer than 2^32
-/// octets.
+/// A borrowed UTF8String (X.680 41, X.690 8.23.10): any characters in UTF-8, of fewer than 2^32
+/// bytes.
 ///
-/// Its owned form is `String`. Texts are equal where their octets are, and in the order of these.
+/// Its owned form is `String`. Texts are compared by their bytes.
 #[derive(Clone, Copy, PartialEq, Eq, PartialOrd, Ord, Hash)]
 pub struct Utf8StringRef<'a> {
     /// The characters.
@@ -28,10 +28,11 @@ pub struct Utf8StringRef<'a> {
     ghost short: { Fits text.now },
 }
 
-/// The text whose UTF-8 the octets are.
+/// Returns the text whose UTF-8 the bytes are.
 ///
 /// # Errors
-/// `Utf8` where they are none.
+///
+/// - `Utf8`: they are none.
 #[tactic(auto, using(crate::proofs::Cited::utf8_reads))]
 fn utf8_of(octets: &[u8]) -> Result<&str, Error>
     ensures same { IfOk result (λ s. s.now ≡ octets.now) }
@@ -41,10 +42,12 @@ fn utf8_of(octets: &[u8]) -> Result<&str, Error>
 }
 
 impl<'a> Utf8StringRef<'a> {
-    /// The text of these octets.
+    /// Returns the text of these bytes.
     ///
     /// # Errors
-    /// `Overflow` for 2^32 octets or more, `Utf8` where they aren't UTF-8.
+    ///
+    /// - `Overflow`: 2^32 bytes or more.
+    /// - `Utf8`: they aren't UTF-8.
     pub fn new(input: &'a [u8]) -> Result<Utf8StringRef<'a>, Error>
         ensures ok { IfOk result (λ t. t.text.now ≡ input.now) }
         ensures exact { GivesNow (λ t. t.text.now) result (utf8_from input.now) }
@@ -54,38 +57,39 @@ impl<'a> Utf8StringRef<'a> {
         Ok(Utf8StringRef { text })
     }
 
-    /// The text.
+    /// Returns the text.
     pub fn as_str(&self) -> &'a str
         ensures { result.now ≡ self.now.text.now }
     {
         self.text
     }
 
-    /// The octets of the text.
+    /// Returns the bytes of the text.
     pub fn as_bytes(&self) -> &'a [u8]
         ensures { result.now ≡ self.now.text.now }
     {
         self.text.as_bytes()
     }
 
-    /// The number of octets.
+    /// Returns the number of bytes.
     pub fn len(&self) -> usize
         ensures { result ≡ length self.now.text.now }
     {
         self.text.len()
     }
 
-    /// Whether there is no character.
+    /// Returns whether there isn't a character.
     pub fn is_empty(&self) -> bool
         ensures { IsTrue result ↔ (self.now.text.now ≡ []) }
     {
         self.text.is_empty()
     }
 
-    /// A copy of the text that owns its octets.
+    /// Returns an owned copy of the text.
     ///
     /// # Errors
-    /// Out of memory.
+    ///
+    /// Fails if memory runs out.
     pub fn ref_to_owned(&self, alloc: Global) -> Result<String, AllocError>
         ensures { IfOk result (λ s. string_bytes s ≡ self.now.text.now) }
     {
@@ -93,7 +97,7 @@ impl<'a> Utf8StringRef<'a> {
     }
 }
 
-/// The text, where a length can count its octets.
+/// Wraps a text whose length a `Length` can count.
 impl<'a> TryFrom<&'a str> for Utf8StringRef<'a> {
     type Error = Error;
 
@@ -105,7 +109,7 @@ impl<'a> TryFrom<&'a str> for Utf8StringRef<'a> {
     }
 }
 
-/// The text, where a length can count its octets.
+/// Wraps a text whose length a `Length` can count.
 impl<'a> TryFrom<&'a String> for Utf8StringRef<'a> {
     type Error = Error;
 
@@ -163,7 +167,7 @@ impl<'a> Primitive for Utf8StringRef<'a> {
     ghost leaf_plain = { λ t. t.text.now };
 }
 
-/// The octets of the text.
+/// The content is the bytes of the text.
 impl<'a> Leaf<'a> for Utf8StringRef<'a> {
     ghost takes_memory = { false };
 
@@ -184,7 +188,7 @@ impl<'a> Octets for Utf8StringRef<'a> {
     }
 }
 
-/// The octets of the text (X.690 8.23.10).
+/// Compares the bytes of the texts (X.690 8.23.10).
 impl<'a> Ordered for Utf8StringRef<'a> {}
 
 impl<'a> OrdIsValueOrd for Utf8StringRef<'a> {

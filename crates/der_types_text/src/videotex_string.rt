@@ -8,8 +8,8 @@ use crate::ascii_string_ref::AsciiStringRef;
 use crate::ascii_type::AsciiType;
 use der_core::Tag;
 
-/// The characters of VideotexString (X.680 41): of its code pages the octets below 80 hex, which
-/// are read as ASCII. Other octets are refused.
+/// The characters of VideotexString (X.680 41). Of its code pages, only the bytes below 80 hex are
+/// accepted, as ASCII.
 #[derive(Clone, Copy, Debug, PartialEq, Eq)]
 pub struct Videotex;
 

@@ -1,4 +1,4 @@
--- Sets of named bits, octet by octet.
+-- Sets of named bits, byte by byte.
 use Rattle.std.proofs.Common.{◌≡◌, ℕ, ◌*◌, ◌%◌, ◌≤◌, true, List, [], ◌∷◌, length, arith, suc, ◌-◌, get_or, refl, sym, ◌∙◌, ap, Bool, map, zero, ◌+◌, ◌/◌, ◌<◌, ◌^◌, false, ◌++◌, take, drop, inl, inr, Ok, Err, nat_lt, ◌==◌, ◌&&◌, not, slice_set, append-nil, pow_mono, drop-cons}
 use Rattle.std.proofs.lemmas.Bool.{and_parts, ltb-true, eqb-true, eq-eqb, cases_eq}
 use Rattle.der_core.specs.BitStrings.{are_bits, last_octet}
@@ -21,7 +21,7 @@ use Rattle.der_core.proofs.IntegerLaws.{set_octets-zero, set_octets-step, named_
 pub runs : (f : ℕ → Bool) (p n : ℕ) → length (map f (range_with_len p n)) ≡ n
 runs f p n = length-map (range_with_len p n) f ∙ length-range_with_len p n
 
--- The last octet is the one at the last place.
+-- The last byte is the one at the last place.
 pub last_place : (xs : List ℕ) → last_octet xs ≡ get_or xs (length xs - 1) 0
 last_place [] = refl
 last_place (x ∷ []) = refl
@@ -41,7 +41,7 @@ few_unused u (b ∷ w) e = let n = ltb-true u 8 (and_parts _ _ e).0 in omega ari
 none_of : (n : ℕ) → n ≡ 0 → length (set_octets n) ≡ 0
 none_of n e = ap (λ m. length (set_octets m)) e ∙ ap (λ (w : List ℕ). length w) set_octets-zero
 
--- a number below 256 to the k has at most k octets
+-- a number below 256 to the k has at most k bytes
 pub set_octets-short : (k n : ℕ) → n < 256 ^ k → length (set_octets n) ≤ k
 set_octets-short zero n h = omega (arith, none_of n (omega arith))
 set_octets-short (suc k) n h = elim (cases_eq n 0) [
@@ -55,7 +55,7 @@ pub ends : (u : ℕ) (w : List ℕ) → 0 < length w → ends_in_one u w ≡ (no
 ends u [] h = absurd (omega arith)
 ends u (b ∷ w) h = ap (λ o. not (o == 0) && (u == trailing_zeros w8 o)) (last_place (b ∷ w))
 
--- the octet before those that were read
+-- the byte before those that were read
 pub spelled_set-before : (w : List ℕ) (i : ℕ) → i < length w → spelled_set (drop i w) ≡ spelled_set (drop (i + 1) w) * 256 + reverse_bits w8 (get_or w i 0)
 unfolding spelled_set
 spelled_set-before w i h =
@@ -70,7 +70,7 @@ contents : (u : ℕ) (w : List ℕ) (n : ℕ) → u ∷ w ≡ named_octets n →
 unfolding named_octets
 contents u w n e = cc
 
--- more octets than the names have
+-- more bytes than the names have
 pub named_long : (names : ℕ) (t : Tag) (u : ℕ) (w : List ℕ) → names ≤ 64 → IsBytes (u ∷ w) → 8 < length w → ends_in_one u w ≡ true → named_read names t (u ∷ w) ≡ Err (kinds.Value t)
 unfolding named_read
 named_long names t u w few bytes long ends = by (nat_lt (spelled_set w) (2 ^ names)) refl
@@ -84,7 +84,7 @@ named_long names t u w few bytes long ends = by (nat_lt (spelled_set w) (2 ^ nam
         let short = set_octets-short 8 (spelled_set w) (omega arith) in
         absurd (omega (arith, ap (λ (x : List ℕ). length x) same))
 
--- a content of more than eight octets is no set of up to 64 names
+-- a content of more than eight bytes isn't a set of up to 64 names
 pub content_long : (names : ℕ) (t : Tag) (w : List ℕ) → 0 < length w → names ≤ 64 → IsBytes w → 8 < length (take (length w - 1) (drop 1 w))
     → ends_in_one (get_or w 0 0) (take (length w - 1) (drop 1 w)) ≡ true → named_read names t w ≡ Err (kinds.Value t)
 content_long names t [] some few bytes long ends = absurd (omega arith)

@@ -1,4 +1,4 @@
--- What contracts see of bit strings: the number of unused bits and the octets; and the bits
+-- What contracts see of bit strings: the number of unused bits and the bytes; and the bits
 -- themselves.
 use Rattle.std.specs.Prelude.{◌≡◌, Bool, true, List, map}
 use Rattle.std.specs.List.{range_with_len}

@@ -1,4 +1,4 @@
--- The bits of octets (X.690 8.6.2): the first is the most significant one of the first octet.
+-- The bits of bytes (X.690 8.6.2): the first is the most significant one of the first byte.
 use Rattle.std.specs.Prelude.{ℕ, ◌*◌, ◌-◌, ◌/◌, ◌%◌, ◌^◌, Bool, List, length, map, ◌==◌, get_or}
 use Rattle.std.specs.List.{range_with_len}
 use Rattle.der_core.specs.BitStrings.{Bits}

@@ -1,4 +1,4 @@
-//! Bit strings of some lengths alone.
+//! Bit strings whose length is restricted.
 
 ghost use Rattle.std.specs.Prelude.{◌≡◌, ◌≤◌, ◌↔◌, ℕ, IsOk, IfErr};
 
@@ -12,18 +12,19 @@ pub trait AllowedLenBitString {
     /// The greatest number of bits.
     ghost greatest: { ℕ };
 
-    /// The least number of bits.
+    /// Returns the least number of bits.
     fn min_bit_len() -> u16
         ensures { result ≡ least };
 
-    /// The greatest number of bits.
+    /// Returns the greatest number of bits.
     fn max_bit_len() -> u16
         ensures { result ≡ greatest };
 
-    /// That a number of bits is within the bounds.
+    /// Checks that a number of bits is within the bounds.
     ///
     /// # Errors
-    /// `Length` where it is not.
+    ///
+    /// - `Length`: it isn't.
     fn check_bit_len(bit_len: u16) -> Result<(), Error>
         ensures within { IsOk result ↔ ((least ≤ bit_len) × (bit_len ≤ greatest)) }
         ensures refused { IfErr result (λ e. e.kind ≡ ErrorKind.Length Tag.BitString) }

@@ -17,10 +17,10 @@ use der_core::{BytesOwned, EncodeValue, Error, ErrorKind, FixedTag, Leaf, Length
 use std::alloc::{AllocError, Global};
 use std::marker::Model;
 
-/// BIT STRING (X.690 8.6, 11.2): octets, fewer than 2^32, of whose last one up to seven bits are
+/// BIT STRING (X.690 8.6, 11.2): bytes, fewer than 2^32, of whose last one up to seven bits are
 /// unused and zero.
 ///
-/// Contracts see the number of unused bits and the octets.
+/// Contracts see the number of unused bits and the bytes.
 #[derive(Debug, Drop, PartialEq, Eq, PartialOrd, Ord, Hash)]
 pub struct BitString {
     unused_bits: u8,
@@ -45,11 +45,13 @@ impl BitString {
     /// The greatest number of unused bits.
     pub const MAX_UNUSED_BITS: u8 = BitStringRef::MAX_UNUSED_BITS;
 
-    /// The bits of these octets but for so many at the end.
+    /// Returns the bits of these bytes, except for the unused ones at the end.
     ///
     /// # Errors
-    /// `Value` for more than seven unused bits, for unused bits of no octet, and where an unused
-    /// bit isn't zero; then `Overflow` for 2^32 octets or more.
+    ///
+    /// - `Value`: there are more than seven unused bits, or unused bits of no byte, or an unused
+    ///   bit isn't zero.
+    /// - `Overflow`: there are 2^32 bytes or more.
     pub fn new(unused_bits: u8, bytes: Vec<u8>) -> Result<BitString, Error>
         ensures bits { IsOk result
             ↔ ((are_bits unused_bits bytes.items ≡ true) × IsLength (vec_len bytes)) }
@@ -64,10 +66,11 @@ impl BitString {
         Ok(BitString { unused_bits, bytes })
     }
 
-    /// All bits of these octets.
+    /// All bits of these bytes.
     ///
     /// # Errors
-    /// `Overflow` for 2^32 octets or more.
+    ///
+    /// - `Overflow`: 2^32 bytes or more.
     #[tactic(auto, using(crate::proofs::NamedSteps::all_bits))]
     pub fn from_bytes(bytes: Vec<u8>) -> Result<BitString, Error>
         ensures ok { IfOk result (λ b. IsLength (vec_len bytes)
@@ -82,7 +85,7 @@ impl BitString {
         })
     }
 
-    /// The bits of a borrowed one.
+    /// Returns an owned copy of a borrowed bit string.
     pub(crate) fn copy_of(alloc: Global, lent: &BitStringRef<'_>) -> Result<BitString, AllocError>
         ensures { IfOk result (λ b. b ≡ bits_lent lent.now) }
     {
@@ -93,45 +96,46 @@ impl BitString {
         })
     }
 
-    /// A copy.
+    /// Returns a copy.
     ///
     /// # Errors
-    /// Out of memory.
+    ///
+    /// Fails if memory runs out.
     pub fn clone(&self, alloc: Global) -> Result<BitString, AllocError>
         ensures { IfOk result (λ b. b ≡ self.now) }
     {
         BitString::copy_of(alloc, &self.owned_to_ref())
     }
 
-    /// The number of unused bits, from 0 to 7.
+    /// Returns the number of unused bits, from 0 to 7.
     pub fn unused_bits(&self) -> u8
         ensures { result ≡ self.now.unused }
     {
         self.unused_bits
     }
 
-    /// Whether a bit is unused.
+    /// Returns whether a bit is unused.
     pub fn has_unused_bits(&self) -> bool
         ensures { IsTrue result ↔ (self.now.unused ≢ 0) }
     {
         self.owned_to_ref().has_unused_bits()
     }
 
-    /// The number of bits, the unused ones left out.
+    /// Returns the number of bits, the unused ones left out.
     pub fn bit_len(&self) -> usize
         ensures { result ≡ bit_count self.now }
     {
         self.owned_to_ref().bit_len()
     }
 
-    /// Whether there are no bits.
+    /// Returns whether there aren't bits.
     pub fn is_empty(&self) -> bool
         ensures { IsTrue result ↔ (self.now.octets ≡ []) }
     {
         self.bytes.is_empty()
     }
 
-    /// The octets, if no bit is unused.
+    /// Returns the bytes, if no bit is unused.
     pub fn as_bytes(&self) -> Option<&[u8]>
         ensures some { IfSome result (λ w. (self.now.unused ≡ 0) × (w.now ≡ self.now.octets)) }
         ensures none { IfNone result (self.now.unused ≢ 0) }
@@ -139,21 +143,21 @@ impl BitString {
         self.owned_to_ref().as_bytes()
     }
 
-    /// The octets, whose unused bits are zero.
+    /// Returns the bytes, whose unused bits are zero.
     pub fn raw_bytes(&self) -> &[u8]
         ensures { result.now ≡ self.now.octets }
     {
         self.bytes.as_slice()
     }
 
-    /// The bits, in order.
+    /// Returns the bits, in order.
     pub fn bits(&self) -> BitStringIter<'_>
         ensures { bits_left result ≡ bit_list self.now }
     {
         self.owned_to_ref().bits()
     }
 
-    /// The bit at a place, counted from 0, if there is one.
+    /// Returns the bit at an index, if there is one.
     pub fn get(&self, index: usize) -> Option<bool>
         ensures inside { index < bit_count self.now → result ≡ Some (bit_at self.now.octets index) }
         ensures outside { bit_count self.now ≤ index → result ≡ None }
@@ -161,7 +165,7 @@ impl BitString {
         self.owned_to_ref().get(index)
     }
 
-    /// The bits, lent.
+    /// Returns the bits, borrowed.
     pub fn owned_to_ref(&self) -> BitStringRef<'_>
         ensures { bits_lent result ≡ self.now }
     {
@@ -169,7 +173,7 @@ impl BitString {
     }
 }
 
-/// A copy, in memory of the same allocator.
+/// Copies the value with its own allocator.
 impl Clone for BitString {
     ghost is_clone = { λ x y. y ≡ x };
 
@@ -200,7 +204,7 @@ impl Primitive for BitString {
     ghost leaf_plain = { λ x. x };
 }
 
-/// The number of unused bits, and the octets.
+/// The number of unused bits, and the bytes.
 impl<'a> Leaf<'a> for BitString {
     fn from_content(alloc: Global, tag: Tag, octets: &'a [u8]) -> Result<BitString, Error> {
         let lent = BitStringRef::from_content(alloc, tag, octets)?;

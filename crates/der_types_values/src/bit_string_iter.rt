@@ -1,4 +1,4 @@
-//! The bits of a bit string, one after another.
+//! Iterating over the bits of a bit string.
 
 ghost use Rattle.std.specs.Prelude.{◌≡◌, ◌<◌, ◌≤◌, ◌+◌, ◌*◌, ◌^◌, length};
 ghost use Rattle.der_core.specs.Heads.{Fits};
@@ -6,7 +6,7 @@ ghost use Rattle.der_core.specs.Heads.{Fits};
 use crate::bits::bit_of;
 use std::iter::FusedIterator;
 
-/// The bits of a bit string that are yet to come, the most significant one of each octet first.
+/// An iterator over the bits of a bit string. The most significant bit of each byte comes first.
 #[derive(Clone, Copy, Debug)]
 pub struct BitStringIter<'a> {
     bytes: &'a [u8],
@@ -22,7 +22,7 @@ impl<'a> BitStringIter<'a> {
     ghost use Rattle.std.specs.List.{range_with_len};
     ghost use Rattle.der_types_values.specs.BitStrings.{bits_left};
 
-    /// The first so many bits of octets.
+    /// Returns an iterator over the first `left` bits of the bytes.
     pub(crate) fn of(bytes: &'a [u8], left: usize) -> BitStringIter<'a>
         requires inside { left ≤ 8 * length bytes.now }
         requires short { Fits bytes.now }
@@ -69,7 +69,7 @@ impl<'a> Iterator for BitStringIter<'a> {
 }
 
 impl<'a> ExactSizeIterator for BitStringIter<'a> {
-    /// The number of bits that are yet to come.
+    /// Returns the number of remaining bits.
     #[tactic(auto, using(crate::proofs::NamedSteps::runs))]
     fn len(&self) -> usize {
         self.left

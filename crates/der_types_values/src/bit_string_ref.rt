@@ -18,8 +18,8 @@ use der_core::making::{encode_behind, len_behind};
 use der_core::{Error, ErrorKind, FixedTag, Leaf, Length, Tag, Writer};
 use std::alloc::{AllocError, Global};
 
-/// BIT STRING (X.690 8.6, 11.2): octets, fewer than 2^32, of whose last one up to seven bits are
-/// unused and zero; lent.
+/// A borrowed BIT STRING (X.690 8.6, 11.2): fewer than 2^32 bytes, of which up to seven bits of the
+/// last one are unused and zero.
 #[derive(Clone, Copy, Debug, PartialEq, Eq, PartialOrd, Ord, Hash)]
 pub struct BitStringRef<'a> {
     unused_bits: u8,
@@ -34,11 +34,13 @@ impl<'a> BitStringRef<'a> {
     /// The greatest number of unused bits.
     pub const MAX_UNUSED_BITS: u8 = 7;
 
-    /// The bits of these octets but for so many at the end.
+    /// Returns the bits of these bytes, except for the unused ones at the end.
     ///
     /// # Errors
-    /// `Value` for more than seven unused bits, for unused bits of no octet, and where an unused
-    /// bit isn't zero; then `Overflow` for 2^32 octets or more.
+    ///
+    /// - `Value`: there are more than seven unused bits, or unused bits of no byte, or an unused
+    ///   bit isn't zero.
+    /// - `Overflow`: there are 2^32 bytes or more.
     pub fn new(unused_bits: u8, bytes: &'a [u8]) -> Result<BitStringRef<'a>, Error>
         ensures bits { IsOk result ↔ ((are_bits unused_bits bytes.now ≡ true) × (Fits bytes.now)) }
         ensures ok { IfOk result
@@ -52,10 +54,11 @@ impl<'a> BitStringRef<'a> {
         Ok(BitStringRef { unused_bits, bytes })
     }
 
-    /// All bits of these octets.
+    /// All bits of these bytes.
     ///
     /// # Errors
-    /// `Overflow` for 2^32 octets or more.
+    ///
+    /// - `Overflow`: 2^32 bytes or more.
     #[tactic(auto, using(crate::proofs::NamedSteps::all_bits))]
     pub fn from_bytes(bytes: &'a [u8]) -> Result<BitStringRef<'a>, Error>
         ensures ok { IfOk result
@@ -72,21 +75,21 @@ impl<'a> BitStringRef<'a> {
         })
     }
 
-    /// The number of unused bits, from 0 to 7.
+    /// Returns the number of unused bits, from 0 to 7.
     pub fn unused_bits(&self) -> u8
         ensures { result ≡ (bits_lent self.now).unused }
     {
         self.unused_bits
     }
 
-    /// Whether a bit is unused.
+    /// Returns whether a bit is unused.
     pub fn has_unused_bits(&self) -> bool
         ensures { IsTrue result ↔ ((bits_lent self.now).unused ≢ 0) }
     {
         self.unused_bits != 0
     }
 
-    /// The number of bits, the unused ones left out.
+    /// Returns the number of bits, the unused ones left out.
     #[tactic(auto, using(crate::proofs::NamedSteps::few_unused))]
     pub fn bit_len(&self) -> usize
         ensures { result ≡ bit_count (bits_lent self.now) }
@@ -94,21 +97,21 @@ impl<'a> BitStringRef<'a> {
         8 * self.bytes.len() - usize::from(self.unused_bits)
     }
 
-    /// The number of octets.
+    /// Returns the number of bytes.
     pub fn byte_len(&self) -> Length
         ensures { result.value ≡ length (bits_lent self.now).octets }
     {
         Length::new(self.bytes.len() as u32)
     }
 
-    /// Whether there are no bits.
+    /// Returns whether there aren't bits.
     pub fn is_empty(&self) -> bool
         ensures { IsTrue result ↔ ((bits_lent self.now).octets ≡ []) }
     {
         self.bytes.is_empty()
     }
 
-    /// The octets, if no bit is unused.
+    /// Returns the bytes, if no bit is unused.
     pub fn as_bytes(&self) -> Option<&'a [u8]>
         ensures some { IfSome result (λ w. ((bits_lent self.now).unused ≡ 0)
             × (w.now ≡ (bits_lent self.now).octets)) }
@@ -121,7 +124,7 @@ impl<'a> BitStringRef<'a> {
         }
     }
 
-    /// The octets, whose unused bits are zero.
+    /// Returns the bytes, whose unused bits are zero.
     pub fn raw_bytes(&self) -> &'a [u8]
         ensures octets { result.now ≡ (bits_lent self.now).octets }
         ensures bits { are_bits (bits_lent self.now).unused result.now ≡ true }
@@ -130,14 +133,14 @@ impl<'a> BitStringRef<'a> {
         self.bytes
     }
 
-    /// The bits, in order.
+    /// Returns the bits, in order.
     pub fn bits(&self) -> BitStringIter<'a>
         ensures { bits_left result ≡ bit_list (bits_lent self.now) }
     {
         BitStringIter::of(self.bytes, self.bit_len())
     }
 
-    /// The bit at a place, counted from 0, if there is one.
+    /// Returns the bit at an index, if there is one.
     pub fn get(&self, index: usize) -> Option<bool>
         ensures inside { index < bit_count (bits_lent self.now)
             → result ≡ Some (bit_at (bits_lent self.now).octets index) }
@@ -150,20 +153,23 @@ impl<'a> BitStringRef<'a> {
         }
     }
 
-    /// A copy of the bits that owns its octets.
+    /// Returns an owned copy of the bit string.
     ///
     /// # Errors
-    /// Out of memory.
+    ///
+    /// Fails if memory runs out.
     pub fn ref_to_owned(&self, alloc: Global) -> Result<BitString, AllocError>
         ensures { IfOk result (λ b. b ≡ bits_lent self.now) }
     {
         BitString::copy_of(alloc, self)
     }
 
-    /// The bits that a content spells behind a tag.
+    /// Decodes the content of a bit string, after its tag.
     ///
     /// # Errors
-    /// `Length` for no octets, `Value` where bits can't be unused.
+    ///
+    /// - `Length`: there are no bytes.
+    /// - `Value`: the unused bits are invalid.
     #[tactic(auto, unfolding(crate::specs::Opened::bits_read))]
     pub fn of_content(tag: Tag, octets: &'a [u8]) -> Result<BitStringRef<'a>, Error>
         requires { Fits octets.now }
@@ -179,7 +185,7 @@ impl<'a> BitStringRef<'a> {
         Ok(BitStringRef { unused_bits, bytes })
     }
 
-    /// Octets whose unused bits are known to be zero.
+    /// Bytes whose unused bits are known to be zero.
     pub(crate) fn trusted(unused_bits: u8, bytes: &'a [u8]) -> BitStringRef<'a>
         requires unused { are_bits unused_bits bytes.now ≡ true }
         requires short { Fits bytes.now }
@@ -189,7 +195,7 @@ impl<'a> BitStringRef<'a> {
     }
 }
 
-/// All bits of a slice of fewer than 2^32 octets.
+/// Wraps all bits of a slice of fewer than 2^32 bytes.
 impl<'a> TryFrom<&'a [u8]> for BitStringRef<'a> {
     ghost use Rattle.std.specs.Prelude.{◌≡◌, ◌<◌, length, MatchResult};
     ghost use Rattle.der_core.specs.Limits.{length_max};
@@ -229,7 +235,7 @@ impl<'a> Primitive for BitStringRef<'a> {
     ghost leaf_plain = { bits_lent };
 }
 
-/// The number of unused bits, and the octets.
+/// The number of unused bits, and the bytes.
 impl<'a> Leaf<'a> for BitStringRef<'a> {
     ghost takes_memory = { false };
 
@@ -249,13 +255,13 @@ impl<'a> EncodeLeaf for BitStringRef<'a> {
     }
 }
 
-/// What is seen as a bit string.
+/// A type that can be borrowed as a bit string.
 pub trait AsBitStringRef {
     ghost as_bits: { Self → Bits };
 
     ghost use Rattle.der_types_values.specs.BitStrings.{bits_lent};
 
-    /// The bits.
+    /// Returns the bits.
     fn as_bit_string_ref(&self) -> BitStringRef<'_>
         ensures { bits_lent result ≡ as_bits self.now };
 }

@@ -1,4 +1,4 @@
-//! Octets as bits, the most significant one of each first (X.690 8.6.2).
+//! Bytes as bits, the most significant one of each first (X.690 8.6.2).
 
 ghost use Rattle.std.specs.Prelude.{◌≡◌, ◌<◌, ◌*◌, ◌↔◌, length, true, false, IsOk, IfErr};
 ghost use Rattle.der_core.specs.Limits.{length_max};
@@ -9,7 +9,7 @@ ghost use Rattle.der_types_values.specs.Bits.{bit_at};
 use crate::bit_string_ref::BitStringRef;
 use der_core::{Error, ErrorKind, Length, Tag};
 
-/// The last octet, or 0 where there is none.
+/// Returns the last byte, or 0 if there is none.
 #[tactic(auto, using(crate::proofs::NamedSteps::last_place))]
 fn last_of(octets: &[u8]) -> u8
     ensures { result ≡ last_octet octets.now }
@@ -20,7 +20,8 @@ fn last_of(octets: &[u8]) -> u8
     }
 }
 
-/// Whether so many bits of the octets may be unused: at most seven, none of no octet, and all zero.
+/// Returns whether this many bits of the bytes can be unused: at most seven, none if there is no
+/// byte, and all of them zero.
 pub fn may_be_unused(unused_bits: u8, octets: &[u8]) -> bool
     ensures { result ≡ are_bits unused_bits octets.now }
 {
@@ -30,11 +31,13 @@ pub fn may_be_unused(unused_bits: u8, octets: &[u8]) -> bool
     unused_bits <= BitStringRef::MAX_UNUSED_BITS && last_of(octets) % (1u8 << unused_bits) == 0
 }
 
-/// That so many bits of the octets may be unused, and that there are not too many octets.
+/// Checks that this many bits of the bytes can be unused, and that there aren't too many bytes.
 ///
 /// # Errors
-/// `Value` for more than seven unused bits, for unused bits of no octet, and where an unused bit
-/// isn't zero; then `Overflow` for 2^32 octets or more.
+///
+/// - `Value`: there are more than seven unused bits, or unused bits of no byte, or an unused bit
+///   isn't zero.
+/// - `Overflow`: there are 2^32 bytes or more.
 pub fn check_bits(unused_bits: u8, octets: &[u8]) -> Result<(), Error>
     ensures bits { IsOk result ↔ ((are_bits unused_bits octets.now ≡ true) × (Fits octets.now)) }
     ensures value { are_bits unused_bits octets.now ≡ false
@@ -53,7 +56,7 @@ pub fn check_bits(unused_bits: u8, octets: &[u8]) -> Result<(), Error>
     Ok(())
 }
 
-/// The bit at a place, counted from 0.
+/// Returns the bit at an index.
 pub fn bit_of(octets: &[u8], index: usize) -> bool
     requires { index < 8 * length octets.now }
     ensures { result ≡ bit_at octets.now index }

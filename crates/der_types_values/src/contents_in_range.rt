@@ -1,4 +1,4 @@
-//! The values of each type are in range: contents are octets, unused bits zero, and set bits named.
+//! The values of each type are in range: contents are bytes, unused bits zero, and set bits named.
 
 use crate::bit_string::BitString;
 use crate::bit_string_ref::{AsBitStringRef, BitStringRef};

@@ -17,19 +17,19 @@ use std::cmp::Ordering;
 
 /// A type of sets of named bits (X.680 22.2): its first bits have a name each, at most 64 of them.
 pub trait NamedBits: Flags + Copy {
-    /// How many names there are.
+    /// The number of names.
     ghost names: { ℕ };
 
-    /// How many names there are, from 0 to 64.
+    /// Returns the number of names, from 0 to 64.
     fn names() -> u32
         ensures value { result ≡ names }
         ensures few { result ≤ 64 };
 
-    /// The number whose bit i tells whether name i is in the set.
+    /// Returns the number whose bit i says whether name i is in the set.
     fn to_number(&self) -> u64
         ensures { result ≡ Self.set_of self.now };
 
-    /// The set of which a number tells.
+    /// Returns the set of a number.
     fn from_number(number: u64) -> Self
         requires { number < 2 ^ names }
         ensures { Self.set_of result ≡ number };
@@ -59,7 +59,7 @@ impl<F: NamedBits> Clone for FlagSet<F> {
 
 impl<F: NamedBits> Copy for FlagSet<F> {}
 
-/// Sets of the same names are equal.
+/// Compares the sets.
 impl<F: NamedBits> PartialEq for FlagSet<F> {
     ghost eq = { λ x y. nat_eq (F.set_of x.flags) (F.set_of y.flags) };
 
@@ -75,7 +75,7 @@ impl<F: NamedBits> Eq for FlagSet<F> {
     ghost laws = { on_equiv (λ x. F.set_of x.flags) nat_eq_equiv };
 }
 
-/// Whether the last bit that counts is one, and of no octets none is unused.
+/// Returns whether the last bit that counts is one, and of no bytes none is unused.
 #[tactic(auto, using(crate::proofs::NamedSteps::ends))]
 fn ends_in_one(unused: u8, octets: &[u8]) -> bool
     ensures { result ≡ ends_in_one unused octets.now }
@@ -86,7 +86,7 @@ fn ends_in_one(unused: u8, octets: &[u8]) -> bool
     }
 }
 
-/// The set of which octets tell, the first name in the highest bit of the first octet.
+/// Returns the number of a set whose first name is the highest bit of the first byte.
 fn number_of(octets: &[u8]) -> u64
     requires { length octets.now ≤ 8 }
     ensures { result ≡ spelled_set octets.now }
@@ -99,10 +99,12 @@ fn number_of(octets: &[u8]) -> u64
     number
 }
 
-/// The set of which a content tells, of so many names.
+/// Decodes the content of a set of named bits, with this many names.
 ///
 /// # Errors
-/// `Length` for no octets, `Value` where the last bit isn't one or a bit has no name.
+///
+/// - `Length`: there are no bytes.
+/// - `Value`: the last bit isn't one, or a bit has no name.
 #[tactic(auto, unfolding(crate::specs::Opened::named_read))]
 fn read_named(tag: Tag, octets: &[u8], names: u32) -> Result<u64, Error>
     requires { names ≤ 64 }
@@ -125,7 +127,7 @@ fn read_named(tag: Tag, octets: &[u8], names: u32) -> Result<u64, Error>
     Ok(number)
 }
 
-/// The content of a set: the first octets of the array, so many.
+/// Returns the content of a set: an array, and the number of bytes in it.
 fn named_octets_of(number: u64) -> ([u8; 9], usize)
     ensures octets { take result.1 result.0 ≡ named_octets number }
     ensures few { result.1 ≤ 9 }
@@ -159,7 +161,7 @@ impl<F: NamedBits> FlagSet<F> {
         FlagSet { flags: F::all() }
     }
 
-    /// The names of a flag. Each of its bits has a name.
+    /// Returns the set of the names of a flag. Each of its bits has a name.
     pub fn from_flag(flag: F) -> FlagSet<F>
         requires { F.set_of flag < 2 ^ F.names }
         ensures { result.flags ≡ flag }
@@ -167,14 +169,14 @@ impl<F: NamedBits> FlagSet<F> {
         FlagSet { flags: flag }
     }
 
-    /// Whether each name of a flag is in the set.
+    /// Returns whether the set contains each name of a flag.
     pub fn contains(&self, flag: F) -> bool
         ensures { result ≡ (bit_and (F.set_of self.now.flags) (F.set_of flag) == F.set_of flag) }
     {
         self.flags.contains(flag)
     }
 
-    /// The names that either has.
+    /// Returns the names that either has.
     pub fn union(self, other: FlagSet<F>) -> FlagSet<F>
         ensures { F.set_of result.flags ≡ bit_or (F.set_of self.flags) (F.set_of other.flags) }
     {
@@ -202,7 +204,7 @@ impl<F: NamedBits> Primitive for FlagSet<F> {
     ghost leaf_plain = { λ s. F.set_of s.flags };
 }
 
-/// The bits up to the last one, and how many bits of the last octet are unused.
+/// The content is the bits up to the last one, after the number of unused bits of the last byte.
 impl<'a, F: NamedBits> Leaf<'a> for FlagSet<F> {
     ghost takes_memory = { false };
 

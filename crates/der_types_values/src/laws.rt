@@ -1,6 +1,6 @@
-//! Laws of octet strings and of bit strings: a borrowed value and its owned form agree.
+//! Laws about octet strings and bit strings: a borrowed value and its owned form agree.
 //!
-//! What the calls that both have answer is said at each in the same words.
+//! The comments of the calls that both have say the same in the same words.
 
 ghost use Rattle.std.specs.Prelude.{◌≡◌};
 ghost use Rattle.der_core.specs.Shapes.{contents};
@@ -15,7 +15,7 @@ use der_core::ShapedValue;
 use std::hash::Hash;
 
 /// A borrowed octet string and its owned form have the same content, are equal to the same octet
-/// strings, stand in the same order and are hashed alike. Nothing is done.
+/// strings, are in the same order and are hashed alike. Nothing is done.
 pub fn octet_forms_agree()
     ensures contents { (o : OctetStringRef)
         → contents ⟦<OctetStringRef<'static> as ShapedValue>⟧.content
@@ -31,7 +31,7 @@ pub fn octet_forms_agree()
 {}
 
 /// A borrowed bit string and its owned form have the same content, are equal to the same bit
-/// strings, stand in the same order and are hashed alike. Nothing is done.
+/// strings, are in the same order and are hashed alike. Nothing is done.
 pub fn bit_forms_agree()
     ensures contents { (b : BitStringRef)
         → contents ⟦<BitStringRef<'static> as ShapedValue>⟧.content

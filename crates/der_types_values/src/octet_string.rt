@@ -13,9 +13,9 @@ use std::alloc::{AllocError, Global};
 use std::convert::AsSlice;
 use std::marker::Model;
 
-/// OCTET STRING (X.690 8.7): any octets, fewer than 2^32.
+/// OCTET STRING (X.690 8.7): any bytes, fewer than 2^32.
 ///
-/// Contracts see the octets.
+/// Contracts see the bytes.
 #[derive(Debug, Drop, PartialEq, Eq, PartialOrd, Ord, Hash)]
 pub struct OctetString {
     bytes: BytesOwned,
@@ -34,10 +34,11 @@ impl Model for OctetString {
 }
 
 impl OctetString {
-    /// These octets.
+    /// These bytes.
     ///
     /// # Errors
-    /// `Overflow` for 2^32 octets or more.
+    ///
+    /// - `Overflow`: 2^32 bytes or more.
     pub fn new(bytes: Vec<u8>) -> Result<OctetString, Error>
         ensures ok { IfOk result (λ o. IsLength (vec_len bytes) × (o ≡ bytes.items)) }
         ensures err { IfErr result (λ e. (length_max < vec_len bytes)
@@ -47,7 +48,7 @@ impl OctetString {
         Ok(OctetString { bytes })
     }
 
-    /// The octets of a borrowed one.
+    /// Returns an owned copy of a borrowed octet string.
     pub(crate) fn copy_of(
         alloc: Global,
         lent: &OctetStringRef<'_>,
@@ -58,24 +59,25 @@ impl OctetString {
         Ok(OctetString { bytes })
     }
 
-    /// A copy.
+    /// Returns a copy.
     ///
     /// # Errors
-    /// Out of memory.
+    ///
+    /// Fails if memory runs out.
     pub fn clone(&self, alloc: Global) -> Result<OctetString, AllocError>
         ensures { IfOk result (λ o. o ≡ self.now) }
     {
         OctetString::copy_of(alloc, &self.owned_to_ref())
     }
 
-    /// The octets.
+    /// Returns the bytes.
     pub fn as_bytes(&self) -> &[u8]
         ensures { result.now ≡ self.now }
     {
         self.bytes.as_slice()
     }
 
-    /// The octets, given back.
+    /// Returns the bytes, and consumes the value.
     pub fn into_bytes(self) -> Vec<u8>
         ensures { result.items ≡ self }
     {
@@ -83,21 +85,21 @@ impl OctetString {
         bytes.into_vec()
     }
 
-    /// The number of octets.
+    /// Returns the number of bytes.
     pub fn len(&self) -> Length
         ensures { result.value ≡ length self.now }
     {
         self.bytes.len()
     }
 
-    /// Whether there are no octets.
+    /// Returns whether there aren't bytes.
     pub fn is_empty(&self) -> bool
         ensures { IsTrue result ↔ (self.now ≡ []) }
     {
         self.bytes.is_empty()
     }
 
-    /// The octets, lent.
+    /// Returns the bytes, borrowed.
     pub fn owned_to_ref(&self) -> OctetStringRef<'_>
         ensures { octets_lent result ≡ self.now }
     {
@@ -105,7 +107,7 @@ impl OctetString {
     }
 }
 
-/// The octets.
+/// The bytes.
 impl AsSlice<u8> for OctetString {
     ghost items = { λ o. o };
 
@@ -114,7 +116,7 @@ impl AsSlice<u8> for OctetString {
     }
 }
 
-/// The octets, given back.
+/// Returns the bytes, and consumes the value.
 impl From<OctetString> for Vec<u8> {
     ghost from_gives = { λ string bytes. bytes.items ≡ string };
 
@@ -123,7 +125,7 @@ impl From<OctetString> for Vec<u8> {
     }
 }
 
-/// A copy, in memory of the same allocator.
+/// Copies the value with its own allocator.
 impl Clone for OctetString {
     ghost is_clone = { λ x y. y ≡ x };
 
@@ -151,7 +153,7 @@ impl Primitive for OctetString {
     ghost leaf_plain = { λ x. x };
 }
 
-/// The octets.
+/// The bytes.
 impl<'a> Leaf<'a> for OctetString {
     fn from_content(alloc: Global, tag: Tag, octets: &'a [u8]) -> Result<OctetString, Error> {
         let bytes = BytesOwned::from_content(alloc, tag, octets)?;
@@ -165,5 +167,5 @@ impl Octets for OctetString {
     }
 }
 
-/// The octets themselves (X.690 8.7).
+/// The bytes themselves (X.690 8.7).
 impl Ordered for OctetString {}

@@ -18,7 +18,7 @@ use der_core::{Decode, Error, ErrorKind, FixedTag, FromDer, Leaf, Length, SliceR
 use std::alloc::{AllocError, Global};
 use std::convert::AsSlice;
 
-/// OCTET STRING (X.690 8.7): any octets, fewer than 2^32, lent.
+/// OCTET STRING (X.690 8.7): any bytes, fewer than 2^32, borrowed.
 #[derive(Clone, Copy, Debug, PartialEq, Eq, PartialOrd, Ord, Hash)]
 pub struct OctetStringRef<'a> {
     bytes: &'a [u8],
@@ -28,10 +28,11 @@ pub struct OctetStringRef<'a> {
 impl<'a> OctetStringRef<'a> {
     ghost use Rattle.der_types_values.specs.OctetStrings.{octets_lent};
 
-    /// These octets.
+    /// These bytes.
     ///
     /// # Errors
-    /// `Overflow` for 2^32 octets or more.
+    ///
+    /// - `Overflow`: 2^32 bytes or more.
     pub fn new(bytes: &'a [u8]) -> Result<OctetStringRef<'a>, Error>
         ensures ok { IfOk result (λ o. Fits bytes.now × (octets_lent o ≡ bytes.now)) }
         ensures err { IfErr result (λ e. (length_max < length bytes.now)
@@ -43,7 +44,7 @@ impl<'a> OctetStringRef<'a> {
         Ok(OctetStringRef { bytes })
     }
 
-    /// The string of a content that a length can count.
+    /// Wraps a content, whose length a `Length` can count.
     pub fn of_content(bytes: &'a [u8]) -> OctetStringRef<'a>
         requires { Fits bytes.now }
         ensures { octets_lent result ≡ bytes.now }
@@ -51,7 +52,7 @@ impl<'a> OctetStringRef<'a> {
         OctetStringRef { bytes }
     }
 
-    /// The octets.
+    /// Returns the bytes.
     pub fn as_bytes(&self) -> &'a [u8]
         ensures octets { result.now ≡ octets_lent self.now }
         ensures short { Fits result.now }
@@ -59,44 +60,46 @@ impl<'a> OctetStringRef<'a> {
         self.bytes
     }
 
-    /// The number of octets.
+    /// Returns the number of bytes.
     pub fn len(&self) -> Length
         ensures { result.value ≡ length (octets_lent self.now) }
     {
         Length::new(self.bytes.len() as u32)
     }
 
-    /// Whether there are no octets.
+    /// Returns whether there aren't bytes.
     pub fn is_empty(&self) -> bool
         ensures { IsTrue result ↔ (octets_lent self.now ≡ []) }
     {
         self.bytes.is_empty()
     }
 
-    /// The value that the octets spell, all of the octets.
+    /// Returns the value that the bytes encode. All bytes are used.
     ///
     /// # Errors
-    /// The first error met in reading, `TrailingData` where octets are left after the value, or
+    ///
+    /// The first error that decoding meets, `TrailingData` if bytes are left after the value, or
     /// `OutOfMemory`.
     pub fn decode_into<T: Decode<'a, SliceReader<'a>>>(&self, alloc: Global) -> Result<T, Error>
-        // What is read is spelled so.
+        // What is accepted is an encoding.
         ensures spelled { is_apart T.shape ≡ true
             → IfOk result (λ v. Spells T.shape (T.plain v) (octets_lent self.now)) }
-        // What is spelled so is read, unless memory runs out.
+        // An encoding is accepted, unless memory runs out.
         ensures only { (v : Value T.shape) → is_apart T.shape ≡ true → are_enough T.shape levels_max
             ≡ true
             → Spells T.shape v (octets_lent self.now) → Gives T.plain result (Ok v) }
-        // Which fault it is.
+        // The error is exact.
         ensures exact { Gives (λ v. (T.plain v, [])) result
             (read_whole T.shape (octets_lent self.now)) }
     {
         T::from_der(alloc, self.bytes)
     }
 
-    /// A copy of the octets that owns its octets.
+    /// Returns an owned copy of the octet string.
     ///
     /// # Errors
-    /// Out of memory.
+    ///
+    /// Fails if memory runs out.
     pub fn ref_to_owned(&self, alloc: Global) -> Result<OctetString, AllocError>
         ensures { IfOk result (λ o. o ≡ octets_lent self.now) }
     {
@@ -104,7 +107,7 @@ impl<'a> OctetStringRef<'a> {
     }
 }
 
-/// The octets.
+/// The bytes.
 impl<'a> AsSlice<u8> for OctetStringRef<'a> {
     ghost use Rattle.der_types_values.specs.OctetStrings.{octets_lent};
 
@@ -115,7 +118,7 @@ impl<'a> AsSlice<u8> for OctetStringRef<'a> {
     }
 }
 
-/// The octets of a slice, fewer than 2^32.
+/// Wraps the bytes of a slice, which must be fewer than 2^32.
 impl<'a> TryFrom<&'a [u8]> for OctetStringRef<'a> {
     ghost use Rattle.std.specs.Prelude.{◌≡◌, ◌<◌, length, MatchResult};
     ghost use Rattle.der_core.specs.Limits.{length_max};
@@ -154,7 +157,7 @@ impl<'a> Primitive for OctetStringRef<'a> {
     ghost leaf_plain = { octets_lent };
 }
 
-/// The octets.
+/// The bytes.
 impl<'a> Leaf<'a> for OctetStringRef<'a> {
     ghost takes_memory = { false };
 
@@ -174,5 +177,5 @@ impl<'a> Octets for OctetStringRef<'a> {
     }
 }
 
-/// The octets themselves (X.690 8.7).
+/// The bytes themselves (X.690 8.7).
 impl<'a> Ordered for OctetStringRef<'a> {}

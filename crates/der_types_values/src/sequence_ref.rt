@@ -1,4 +1,4 @@
-//! SEQUENCE, as it stands, borrowed.
+//! SEQUENCE, as it is, borrowed.
 
 ghost use Rattle.std.specs.Prelude.{◌≡◌, ◌<◌, length, IfOk, IfErr, false};
 ghost use Rattle.der_core.specs.Limits.{length_max};
@@ -17,8 +17,7 @@ pub trait Sequence: FixedTag {
     ghost is_sequence: { Self.fixed_tag ≡ SequenceTag };
 }
 
-/// SEQUENCE (X.690 8.9): the octets of its content, fewer than 2^32, which aren't looked into;
-/// lent.
+/// A borrowed SEQUENCE (X.690 8.9): its content, fewer than 2^32 bytes, which isn't decoded.
 #[derive(Clone, Copy, Debug, PartialEq, Eq, PartialOrd, Ord, Hash)]
 pub struct SequenceRef<'a> {
     bytes: &'a [u8],
@@ -28,10 +27,11 @@ pub struct SequenceRef<'a> {
 impl<'a> SequenceRef<'a> {
     ghost use Rattle.der_types_values.specs.Sequences.{fields_lent};
 
-    /// The SEQUENCE of this content.
+    /// Returns the SEQUENCE of this content.
     ///
     /// # Errors
-    /// `Overflow` for 2^32 octets or more.
+    ///
+    /// - `Overflow`: 2^32 bytes or more.
     pub fn new(bytes: &'a [u8]) -> Result<SequenceRef<'a>, Error>
         ensures ok { IfOk result (λ s. Fits bytes.now × (fields_lent s ≡ bytes.now)) }
         ensures err { IfErr result (λ e. (length_max < length bytes.now)
@@ -43,7 +43,7 @@ impl<'a> SequenceRef<'a> {
         Ok(SequenceRef { bytes })
     }
 
-    /// The SEQUENCE of a content that a length can count.
+    /// Wraps a content, whose length a `Length` can count.
     pub fn of_content(bytes: &'a [u8]) -> SequenceRef<'a>
         requires { Fits bytes.now }
         ensures { fields_lent result ≡ bytes.now }
@@ -51,7 +51,7 @@ impl<'a> SequenceRef<'a> {
         SequenceRef { bytes }
     }
 
-    /// The content octets.
+    /// Returns the content bytes.
     pub fn as_bytes(&self) -> &'a [u8]
         ensures octets { result.now ≡ fields_lent self.now }
         ensures short { Fits result.now }
@@ -60,7 +60,7 @@ impl<'a> SequenceRef<'a> {
     }
 }
 
-/// The content octets.
+/// The content bytes.
 impl<'a> AsSlice<u8> for SequenceRef<'a> {
     ghost use Rattle.der_types_values.specs.Sequences.{fields_lent};
 
@@ -99,7 +99,7 @@ impl<'a> Primitive for SequenceRef<'a> {
     ghost leaf_plain = { fields_lent };
 }
 
-/// The content, as it stands.
+/// The content, as it is.
 impl<'a> Leaf<'a> for SequenceRef<'a> {
     ghost takes_memory = { false };
 
@@ -115,5 +115,5 @@ impl<'a> Octets for SequenceRef<'a> {
     }
 }
 
-/// The content, as it stands.
+/// The content, as it is.
 impl<'a> Ordered for SequenceRef<'a> {}

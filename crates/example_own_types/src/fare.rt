@@ -3,6 +3,7 @@
 ghost use Rattle.std.specs.Prelude.{[], ◌∷◌, refl};
 ghost use Rattle.example_own_types.specs.declared.fare.Fare.TheVariants as fares;
 
+use der_core::DefaultNumber;
 use der_core::describing::{AsEnumerated, Described, Numbered, Ordered};
 
 /// ```text
@@ -41,3 +42,14 @@ impl Numbered for Fare {
 }
 
 impl Ordered for Fare {}
+
+/// A field with a default has `Full` as its default.
+impl DefaultNumber for Fare {
+    ghost default_number = { 0 };
+
+    fn default_named() -> Fare {
+        Fare::Full
+    }
+
+    ghost small = { refl };
+}

@@ -4,6 +4,8 @@ ghost use Rattle.std.specs.Prelude.{◌≡◌, refl};
 ghost use Rattle.std.proofs.Common.{inl, inr};
 ghost use Rattle.example_own_types.specs.declared.holder.Holder.TheVariants as holders;
 
+use der_core::describing::LentField;
+use der_core::making::{cases_cmp, cases_tag};
 use der_core::{
     Choice, Decode, DerOrd, Element, Encode, EncodeRef, Error, FirstTag, Length, Member, OneOf2,
     Reader, Shaped, Tag, Writer,
@@ -25,9 +27,9 @@ type Cases = OneOf2<u32, String>;
 type CasesRef<'a> = OneOf2<EncodeRef<'a, u32>, EncodeRef<'a, String>>;
 
 impl Holder {
-    /// The alternative that stands, lent.
+    /// Returns a reference to the alternative.
     fn cases<'a>(&'a self) -> CasesRef<'a>
-        ensures { ⟦<CasesRef<'a> as Shaped>⟧.written result
+        ensures { ⟦<CasesRef<'a> as LentField>⟧.written result
             ≡ ⟦<Holder as Shaped>⟧.written self.now }
     {
         match self {
@@ -68,11 +70,11 @@ impl<'a, R: Reader<'a>> Decode<'a, R> for Holder {
 
 impl Encode for Holder {
     fn encoded_len(&self) -> Result<Length, Error> {
-        self.cases().encoded_len()
+        self.cases().field_len()
     }
 
     fn encode<W: Writer>(&self, writer: &mut W) -> Result<(), Error> {
-        self.cases().encode(writer)
+        self.cases().encode_field(writer)
     }
 }
 
@@ -87,12 +89,12 @@ impl Member for Holder {
 /// The tags, then the contents.
 impl DerOrd for Holder {
     fn der_cmp(&self, other: &Self) -> Result<Ordering, Error> {
-        self.cases().der_cmp(&other.cases())
+        cases_cmp(&self.cases(), &other.cases())
     }
 }
 
 impl FirstTag for Holder {
     fn first_tag(&self) -> Option<Tag> {
-        self.cases().first_tag()
+        cases_tag(&self.cases())
     }
 }

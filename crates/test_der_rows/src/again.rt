@@ -8,7 +8,7 @@ use der_core::{Error, ErrorKind};
 use der_types::SetOfVec;
 use std::alloc::Global;
 
-/// What is written of the set that these members fill, as the word asks.
+/// Returns what is written of the set that these members fill, as the word asks.
 pub fn answer(alloc: Global, word: &str, octets: &[u8]) -> Result<String, Refusal> {
     let members: Vec<Small> = list_of(alloc, octets)?;
     let members = members.as_slice();
@@ -19,7 +19,7 @@ pub fn answer(alloc: Global, word: &str, octets: &[u8]) -> Result<String, Refusa
     }
 }
 
-/// What is written of the set that was filled.
+/// Returns what is written of the set that was filled.
 fn set_written(
     alloc: Global,
     outcome: Result<SetOfVec<Small>, Refusal>,
@@ -27,7 +27,7 @@ fn set_written(
     written(alloc, &outcome?)
 }
 
-/// Whether a call found no memory.
+/// Returns whether a call found no memory.
 fn found_no_memory(outcome: Result<(), Error>) -> Result<bool, Refusal> {
     match outcome {
         Ok(()) => Ok(false),
@@ -47,7 +47,7 @@ fn place(set: &mut SetOfVec<Small>, word: &str, member: Small) -> Result<(), Err
     }
 }
 
-/// The set into which the members are placed one by one.
+/// Returns the set into which the members are placed one by one.
 fn placed(alloc: Global, word: &str, members: &[Small]) -> Result<SetOfVec<Small>, Refusal> {
     let mut set = SetOfVec::new(alloc);
     for member in members {
@@ -73,8 +73,8 @@ fn place_again(
     Ok(place(set, word, member)?)
 }
 
-/// The set that is extended by the members: where there is no memory, by those after the ones that
-/// were placed.
+/// Returns the set that is extended by the members: if memory runs out, by those after the ones
+/// that were placed.
 fn extended(alloc: Global, members: &[Small]) -> Result<SetOfVec<Small>, Refusal> {
     let mut set = SetOfVec::new(alloc);
     if found_no_memory(set.extend(members.iter().copied()))? {
@@ -87,7 +87,7 @@ fn extended(alloc: Global, members: &[Small]) -> Result<SetOfVec<Small>, Refusal
     Ok(set)
 }
 
-/// Whether a set has these members and no others.
+/// Returns whether a set has these members and no others.
 fn is_of(alloc: Global, set: &SetOfVec<Small>, members: &[Small]) -> Result<bool, Refusal> {
     let same = SetOfVec::from_vec(members.to_vec(alloc)?)?;
     Ok(set.as_slice() == same.as_slice())

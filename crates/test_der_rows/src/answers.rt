@@ -19,8 +19,8 @@ pub fn answer<W: Write>(alloc: Global, line: &str, out: &mut W) -> io::Result<()
     }
 }
 
-/// What is answered after `ok`: of `why` and `place`, what the refusal of the question after them
-/// tells.
+/// Returns what is returned after `ok`: of `why` and `place`, what the refusal of the question
+/// after them tells.
 fn answer_of(alloc: Global, line: &str) -> Result<String, Refusal> {
     match line.split_once(' ') {
         Some(("why", question)) => refusal_of(alloc, question)?.reason(alloc),
@@ -29,7 +29,7 @@ fn answer_of(alloc: Global, line: &str) -> Result<String, Refusal> {
     }
 }
 
-/// Why a question is refused.
+/// Returns why a question is rejected.
 fn refusal_of(alloc: Global, question: &str) -> Result<Refusal, Refusal> {
     match answer_of_words(alloc, question) {
         Ok(_) => Err(Refusal::Unread),
@@ -37,7 +37,7 @@ fn refusal_of(alloc: Global, question: &str) -> Result<Refusal, Refusal> {
     }
 }
 
-/// The answer by the first page of words that knows the first word.
+/// Returns the answer by the first page of words that knows the first word.
 fn answer_of_words(alloc: Global, line: &str) -> Result<String, Refusal> {
     let (word, rest) = front_of(line);
     match word {

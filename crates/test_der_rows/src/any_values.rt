@@ -12,7 +12,7 @@ use der_types::{
 };
 use std::alloc::Global;
 
-/// The answer of a type that this page names.
+/// Returns the answer of a type that this page names.
 pub fn answer(alloc: Global, kind: &str, question: &Question<'_>) -> Result<String, Refusal> {
     match kind {
         "Any" => answer_of_any(alloc, question),
@@ -21,7 +21,7 @@ pub fn answer(alloc: Global, kind: &str, question: &Question<'_>) -> Result<Stri
     }
 }
 
-/// The answer of any values, whose contents are compared whatever their tags.
+/// Returns the answer of any values, whose contents are compared whatever their tags.
 fn answer_of_any(alloc: Global, question: &Question<'_>) -> Result<String, Refusal> {
     match question.asked {
         Asked::Contents => {
@@ -38,13 +38,13 @@ fn answer_of_any(alloc: Global, question: &Question<'_>) -> Result<String, Refus
 pub enum Conversion {
     /// That of a value that is owned.
     Owned,
-    /// That of a value that is lent.
+    /// That of a value that is borrowed.
     Lent,
     /// The first, and then that which makes any value of what it gave.
     Again,
 }
 
-/// The answer to a question about what any value is read as, or is made of.
+/// Returns the answer to a question about what any value is read as, or is made of.
 pub fn answer_of_conversions(
     alloc: Global,
     word: &str,
@@ -57,7 +57,7 @@ pub fn answer_of_conversions(
     answer_of_conversion(alloc, word, kind, &FromDer::from_der(alloc, octets)?)
 }
 
-/// The answer to a question about what any value is read as, or is converted to.
+/// Returns the answer to a question about what any value is read as, or is converted to.
 fn answer_of_conversion(
     alloc: Global,
     word: &str,
@@ -80,7 +80,7 @@ fn answer_of_conversion(
     leaves::answer(alloc, kind, &question)
 }
 
-/// What is written of the value that any value is converted to.
+/// Returns what is written of the value that any value is converted to.
 pub fn converted<
     'a,
     T: TryFrom<&'a Any, Error = Error>
@@ -104,8 +104,8 @@ fn again<'a, T: TryFrom<&'a Any, Error = Error> + EncodeValue + FixedTag + Drop>
     Any::encode_from(alloc, &T::try_from(any)?)
 }
 
-/// What is written of any value that is made of the value that octets spell, and lends what that
-/// lends.
+/// Returns what is written of any value that is made of the value that bytes encode, and lends what
+/// that lends.
 fn lent_from(alloc: Global, kind: &str, octets: &[u8]) -> Result<String, Refusal> {
     match kind {
         "IntRef" => lent_from_value::<IntRef>(alloc, octets),
@@ -120,7 +120,7 @@ fn lent_from(alloc: Global, kind: &str, octets: &[u8]) -> Result<String, Refusal
     }
 }
 
-/// What is written of any value that is made of a value.
+/// Returns what is written of any value that is made of a value.
 fn lent_from_value<'a, T: Described + FixedTag + Into<AnyRef<'a>> + Drop>(
     alloc: Global,
     octets: &'a [u8],
@@ -133,7 +133,7 @@ where
     written_in(alloc, Ok(any))
 }
 
-/// What is written of any value that is made of a text.
+/// Returns what is written of any value that is made of a text.
 fn lent_from_text(alloc: Global, octets: &[u8]) -> Result<String, Refusal> {
     let text: &str = read(alloc, octets)?;
     written_in(alloc, AnyRef::try_from(text))

@@ -15,9 +15,9 @@ use der_types::{
 };
 use std::alloc::{AllocError, Global};
 
-/// A value of which a copy is made that owns its octets.
+/// A value of which a copy is made that owns its bytes.
 trait Copied<O> {
-    /// The copy.
+    /// Returns the copy.
     fn copied(&self, alloc: Global) -> Result<O, AllocError>;
 }
 
@@ -124,7 +124,7 @@ impl Copied<SequenceOf<Small, 2>> for SequenceOf<Small, 2> {
     }
 }
 
-/// What is written of the copies of the value that octets spell by DER.
+/// Returns what is written of the copies of the value that bytes encode by DER.
 pub fn answer(alloc: Global, kind: &str, octets: &[u8]) -> Result<String, Refusal> {
     match kind {
         "Any" => copies::<Any, Any>(alloc, octets),
@@ -142,7 +142,7 @@ pub fn answer(alloc: Global, kind: &str, octets: &[u8]) -> Result<String, Refusa
     }
 }
 
-/// The copies of a text, of a list, of a set, or of a field.
+/// Returns the copies of a text, of a list, of a set, or of a field.
 fn answer_of_texts(alloc: Global, kind: &str, octets: &[u8]) -> Result<String, Refusal> {
     match kind {
         "PrintableString" => copies_of_leaf::<PrintableString, PrintableString>(alloc, octets),
@@ -166,7 +166,8 @@ fn answer_of_texts(alloc: Global, kind: &str, octets: &[u8]) -> Result<String, R
     }
 }
 
-/// What is written of a copy of a value whose type names its way, and of a copy of that copy.
+/// Returns what is written of a copy of a value whose type names its way, and of a copy of that
+/// copy.
 fn copies_of_leaf<
     'a,
     T: Described + FixedTag + Copied<O> + Drop,
@@ -178,7 +179,7 @@ where
     copies::<T, O>(alloc, octets)
 }
 
-/// What is written of the copy of a value, and of the copy of that copy.
+/// Returns what is written of the copy of a value, and of the copy of that copy.
 fn copies<'a, T: Decode<'a, SliceReader<'a>> + Copied<O>, O: Clone + Encode + Drop>(
     alloc: Global,
     octets: &'a [u8],
@@ -187,7 +188,7 @@ fn copies<'a, T: Decode<'a, SliceReader<'a>> + Copied<O>, O: Clone + Encode + Dr
     both_written(alloc, value.copied(alloc))
 }
 
-/// What is written of a copy, and of a copy of it.
+/// Returns what is written of a copy, and of a copy of it.
 fn both_written<O: Clone + Encode + Drop>(
     alloc: Global,
     copy: Result<O, AllocError>,
@@ -200,7 +201,7 @@ fn both_written<O: Clone + Encode + Drop>(
     )
 }
 
-/// What is written of a copy.
+/// Returns what is written of a copy.
 fn copy_written<T: Encode + Drop>(
     alloc: Global,
     copy: Result<T, AllocError>,
@@ -208,7 +209,7 @@ fn copy_written<T: Encode + Drop>(
     written(alloc, &copy?)
 }
 
-/// What is written of a copy of a set, and of the set of its members.
+/// Returns what is written of a copy of a set, and of the set of its members.
 fn copies_of_set(alloc: Global, octets: &[u8]) -> Result<String, Refusal> {
     let set = SetOfVec::<Small>::from_der(alloc, octets)?;
     let first = copy_written(alloc, set.clone(alloc));
@@ -219,20 +220,20 @@ fn copies_of_set(alloc: Global, octets: &[u8]) -> Result<String, Refusal> {
     )
 }
 
-/// What is written of a copy of a set of bounded room.
+/// Returns what is written of a copy of a set of bounded room.
 fn copies_of_few(alloc: Global, octets: &[u8]) -> Result<String, Refusal> {
     let set = SetOf::<Small, 2>::from_der(alloc, octets)?;
     copy_written(alloc, set.clone())
 }
 
-/// What is written of a copy of a set that is lent, and of the set of its members.
+/// Returns what is written of a copy of a set that is borrowed, and of the set of its members.
 fn copies_of_lent(alloc: Global, octets: &[u8]) -> Result<String, Refusal> {
     let set: SetOfRef<Small> = read_lent(alloc, octets, EncodingRules::Der)?;
     let first = copy_written(alloc, set.clone());
     joined(first, " ", written_in(alloc, set.ref_to_owned(alloc)))
 }
 
-/// The member at a place of a set that is lent.
+/// Returns the member at a place of a set that is borrowed.
 pub fn answer_of_member(alloc: Global, place: &str, octets: &[u8]) -> Result<String, Refusal> {
     let place = usize::from(place.parse::<u8>()?);
     let set: SetOfRef<Small> = read_lent(alloc, octets, EncodingRules::Der)?;

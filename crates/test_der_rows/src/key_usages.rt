@@ -118,7 +118,7 @@ impl NamedBits for KeyUsages {
     ghost known = { unfold known_from in refl };
 }
 
-/// The answer of sets of key usages, whose text is their names.
+/// Returns the answer of sets of key usages, whose text is their names.
 pub fn answer(alloc: Global, question: &Question<'_>) -> Result<String, Refusal> {
     match question.asked {
         Asked::Text => Ok(names_of(alloc, read(alloc, question.first)?)?),
@@ -126,7 +126,7 @@ pub fn answer(alloc: Global, question: &Question<'_>) -> Result<String, Refusal>
     }
 }
 
-/// The names of a set, in the order of their bits.
+/// Returns the names of a set, in the order of their bits.
 fn names_of(alloc: Global, usages: FlagSet<KeyUsages>) -> Result<String, AllocError> {
     let mut names = String::new(alloc);
     for flag in KeyUsages::FLAGS {
@@ -140,7 +140,7 @@ fn names_of(alloc: Global, usages: FlagSet<KeyUsages>) -> Result<String, AllocEr
     Ok(names)
 }
 
-/// The set of the names in a text, of which `ALL` is each of them.
+/// Returns the set of the names in a text, of which `ALL` is each of them.
 pub fn named(names: &str) -> Result<FlagSet<KeyUsages>, Refusal> {
     let mut usages = FlagSet::empty();
     for name in names.split_whitespace() {
@@ -149,7 +149,7 @@ pub fn named(names: &str) -> Result<FlagSet<KeyUsages>, Refusal> {
     Ok(usages)
 }
 
-/// The set of one name, or of all.
+/// Returns the set of one name, or of all.
 fn usage(name: &str) -> Result<FlagSet<KeyUsages>, Refusal> {
     let usage = match name {
         "ALL" => return Ok(FlagSet::full()),

@@ -6,8 +6,8 @@ use crate::shown::{front_of, octets_of};
 use crate::{again, any_values, contents, copies, leaves, lists};
 use std::alloc::Global;
 
-/// The answer to a question about a type, whose octets stand after its name. They are held here,
-/// and lent to all pages.
+/// Returns the answer to a question about a type, whose bytes stand after its name. They are held
+/// here, and borrowed to all pages.
 pub fn answer(alloc: Global, word: &str, rest: &str) -> Result<String, Refusal> {
     let (kind, rest) = front_of(rest);
     let (first, second) = front_of(rest);
@@ -16,8 +16,8 @@ pub fn answer(alloc: Global, word: &str, rest: &str) -> Result<String, Refusal> 
     answer_of(alloc, word, kind, first.as_slice(), second.as_slice())
 }
 
-/// The answer to a question about a type and octets: of `member` the type is a place, of `again` a
-/// word.
+/// Returns the answer to a question about a type and bytes: of `member` the type is a place, of
+/// `again` a word.
 fn answer_of(
     alloc: Global,
     word: &str,

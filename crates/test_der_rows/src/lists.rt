@@ -15,7 +15,7 @@ use der_types::{FlagSet, OctetStringRef, SequenceOf, SetOf, SetOfRef, SetOfVec};
 use std::alloc::Global;
 use std::hash::Hash;
 
-/// The answer of a type that this page names, or one after it.
+/// Returns the answer of a type that this page names, or one after it.
 pub fn answer(alloc: Global, kind: &str, question: &Question<'_>) -> Result<String, Refusal> {
     match kind {
         "Small" => answer_with_contents::<Small>(alloc, question),
@@ -36,8 +36,8 @@ pub fn answer(alloc: Global, kind: &str, question: &Question<'_>) -> Result<Stri
     }
 }
 
-/// The answer of a set or of sets that are lent, or of a type after them. The members are any
-/// here: what is asked of them is checked once, at the call, and not for each set of them.
+/// Returns the answer of a set or of sets that are borrowed, or of a type after them. The members
+/// are any here: what is asked of them is checked once, at the call, and not for each set of them.
 fn answer_around<
     'a,
     T: AsRead
@@ -65,7 +65,7 @@ fn answer_around<
 
 /// A set or a list that has its own functions for reading.
 trait Members<'a>: Sized {
-    /// The value that octets spell by these rules, all of the octets.
+    /// Returns the value that bytes encode by these rules, all of the bytes.
     fn read(alloc: Global, octets: &'a [u8], rules: EncodingRules) -> Result<Self, Error>;
 }
 
@@ -95,7 +95,7 @@ impl<
     }
 }
 
-/// A reader behind the header of a value of this tag, and that header.
+/// Returns a reader after the header of a value of this tag, and that header.
 fn opened(
     octets: &[u8],
     rules: EncodingRules,
@@ -107,7 +107,7 @@ fn opened(
     Ok((reader, header))
 }
 
-/// The answer of a set or a list that is read and written.
+/// Returns the answer of a set or a list that is read and written.
 fn answer_of_members_read<'a, T: Members<'a> + Encode + Drop>(
     alloc: Global,
     question: &Question<'a>,
@@ -120,7 +120,7 @@ fn answer_of_members_read<'a, T: Members<'a> + Encode + Drop>(
     written_in(alloc, T::read(alloc, question.first, rules))
 }
 
-/// The answer of a set, which is compared, and has an order of its own.
+/// Returns the answer of a set, which is compared, and has an order of its own.
 fn answer_of_set<'a, T: Members<'a> + EncodeValue + FixedTag + Hash + Ord + ValueOrd + Drop>(
     alloc: Global,
     question: &Question<'a>,
@@ -135,7 +135,7 @@ fn answer_of_set<'a, T: Members<'a> + EncodeValue + FixedTag + Hash + Ord + Valu
     }
 }
 
-/// The order of two sets.
+/// Returns the order of two sets.
 fn order_of_sets<T: EncodeValue + FixedTag + Hash + Ord + ValueOrd>(
     alloc: Global,
     asked: Asked<'_>,
@@ -150,8 +150,8 @@ fn order_of_sets<T: EncodeValue + FixedTag + Hash + Ord + ValueOrd>(
     }
 }
 
-/// The answer of a borrowed set of members of a type. A function that names a borrowed set of
-/// borrowed sets gets no proof, and so the set is named here, as one of any members.
+/// Returns the answer of a borrowed set of members of a type. A function that names a borrowed set
+/// of borrowed sets gets no proof, and so the set is named here, as one of any members.
 fn answer_of_lent_members<'a, T: Decode<'a, SliceReader<'a>> + Encode + InRange + Member + 'a>(
     alloc: Global,
     question: &Question<'a>,
@@ -159,7 +159,8 @@ fn answer_of_lent_members<'a, T: Decode<'a, SliceReader<'a>> + Encode + InRange 
     answer_of_value::<SetOfRef<T>>(alloc, question)
 }
 
-/// The answer of a borrowed set: of the octets of a SET OF, or of the values of a SEQUENCE OF.
+/// Returns the answer of a borrowed set: of the bytes of a SET OF, or of the values of a SEQUENCE
+/// OF.
 fn answer_of_lent(alloc: Global, question: &Question<'_>) -> Result<String, Refusal> {
     let first_values = values_of(alloc, question.first)?;
     let second_values = values_of(alloc, question.second)?;
@@ -177,7 +178,7 @@ fn answer_of_lent(alloc: Global, question: &Question<'_>) -> Result<String, Refu
     }
 }
 
-/// The order of two borrowed sets.
+/// Returns the order of two borrowed sets.
 fn order_of_lent(
     alloc: Global,
     asked: Asked<'_>,
@@ -191,7 +192,7 @@ fn order_of_lent(
     }
 }
 
-/// The values of a SEQUENCE OF; none where other octets stand.
+/// Returns the values of a SEQUENCE OF; none if other bytes stand.
 fn values_of(alloc: Global, octets: &[u8]) -> Result<Vec<Small>, Error> {
     if octets.starts_with(b"\x30") {
         list_of(alloc, octets)
@@ -200,7 +201,7 @@ fn values_of(alloc: Global, octets: &[u8]) -> Result<Vec<Small>, Error> {
     }
 }
 
-/// The values of the list that octets spell. They are any here, as for `answer_around`.
+/// Returns the values of the list that bytes encode. They are any here, as for `answer_around`.
 pub fn list_of<'a, T: Decode<'a, SliceReader<'a>>>(
     alloc: Global,
     octets: &'a [u8],
@@ -208,7 +209,7 @@ pub fn list_of<'a, T: Decode<'a, SliceReader<'a>>>(
     Vec::from_der(alloc, octets)
 }
 
-/// The borrowed set of these octets, or of the values that they spell as a SEQUENCE OF.
+/// Returns the borrowed set of these bytes, or of the values that they spell as a SEQUENCE OF.
 fn lent<'a>(
     alloc: Global,
     octets: &'a [u8],
@@ -221,7 +222,7 @@ fn lent<'a>(
     read_lent(alloc, octets, rules)
 }
 
-/// The borrowed set that octets spell by these rules.
+/// Returns the borrowed set that bytes encode by these rules.
 pub fn read_lent<'a, T: Decode<'a, SliceReader<'a>> + Member>(
     alloc: Global,
     octets: &'a [u8],
@@ -233,7 +234,7 @@ pub fn read_lent<'a, T: Decode<'a, SliceReader<'a>> + Member>(
     SetOfRef::from_ber(alloc, octets)
 }
 
-/// The answer to a question about members of a set that are read or placed.
+/// Returns the answer to a question about members of a set that are read or placed.
 pub fn answer_of_members(
     alloc: Global,
     word: &str,
@@ -249,7 +250,8 @@ pub fn answer_of_members(
     }
 }
 
-/// What is written of the set of members with one tag, or of the list that it is converted to.
+/// Returns what is written of the set of members with one tag, or of the list that it is converted
+/// to.
 fn written_set<
     'a,
     T: DecodeValue<'a, SliceReader<'a>>
@@ -274,7 +276,7 @@ fn written_set<
     }
 }
 
-/// What is written of the list that a set is converted to.
+/// Returns what is written of the list that a set is converted to.
 fn listed<T: Encode + Member + Drop>(
     alloc: Global,
     outcome: Result<SetOfVec<T>, Error>,
@@ -282,7 +284,7 @@ fn listed<T: Encode + Member + Drop>(
     written(alloc, &Vec::from(outcome?))
 }
 
-/// The set that is filled as the word asks.
+/// Returns the set that is filled as the word asks.
 fn gathered<T: DerOrd + Member + Drop>(
     alloc: Global,
     word: &str,
@@ -295,7 +297,7 @@ fn gathered<T: DerOrd + Member + Drop>(
     }
 }
 
-/// The set of a content in which the members stand in any order.
+/// Returns the set of a content in which the members are in any order.
 fn loose<'a, T: AsRead + Decode<'a, SliceReader<'a>> + DerOrd + Member + Drop>(
     alloc: Global,
     octets: &'a [u8],
@@ -307,7 +309,7 @@ fn loose<'a, T: AsRead + Decode<'a, SliceReader<'a>> + DerOrd + Member + Drop>(
     Ok(set)
 }
 
-/// The set of a content in which the members rise.
+/// Returns the set of a content in which the members rise.
 fn strict<'a, T: AsRead + Decode<'a, SliceReader<'a>> + DerOrd + Member + Drop>(
     alloc: Global,
     octets: &'a [u8],
@@ -319,7 +321,7 @@ fn strict<'a, T: AsRead + Decode<'a, SliceReader<'a>> + DerOrd + Member + Drop>(
     Ok(set)
 }
 
-/// The set into which the members were inserted, one after another.
+/// Returns the set into which the members were inserted, one after another.
 fn inserted<T: DerOrd + Member + Drop>(
     alloc: Global,
     members: Vec<T>,
@@ -331,7 +333,7 @@ fn inserted<T: DerOrd + Member + Drop>(
     Ok(set)
 }
 
-/// The set to which the members were appended, one after another.
+/// Returns the set to which the members were appended, one after another.
 fn appended<T: DerOrd + Member + Drop>(
     alloc: Global,
     members: Vec<T>,

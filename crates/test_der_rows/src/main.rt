@@ -1,4 +1,4 @@
-//! Answers questions about octets: a line of standard input each, a line of standard output for
+//! Returns questions about bytes: a line of standard input each, a line of standard output for
 //! each.
 //!
 //! | Question | Answer |
@@ -62,7 +62,7 @@
 //! | an empty line, or one that begins with `#` | the same line |
 //! | any other, also one of an unknown type | `?` |
 //!
-//! What is refused is answered `refused KIND`, and `memory` where there is not enough.
+//! What is rejected is returned `refused KIND`, and `memory` where there is not enough.
 #![tactic(auto)]
 
 mod again;

@@ -18,7 +18,7 @@ use std::marker::PhantomData;
 /// A row of a number, of a flag that may be absent, and of a text.
 type Flagged<'a> = (u8, (Option<bool>, (&'a str, ())));
 
-/// The answer of a type that this page names, or one after it.
+/// Returns the answer of a type that this page names, or one after it.
 pub fn answer(alloc: Global, kind: &str, question: &Question<'_>) -> Result<String, Refusal> {
     match kind {
         "Option<bool>" => answer_as_with_debug::<Option<bool>>(alloc, question),
@@ -34,7 +34,7 @@ pub fn answer(alloc: Global, kind: &str, question: &Question<'_>) -> Result<Stri
     }
 }
 
-/// The answer of a list or an array.
+/// Returns the answer of a list or an array.
 fn answer_of_lists(alloc: Global, kind: &str, question: &Question<'_>) -> Result<String, Refusal> {
     match kind {
         "Vec<bool>" => answer_of_value::<Vec<bool>>(alloc, question),
@@ -47,7 +47,7 @@ fn answer_of_lists(alloc: Global, kind: &str, question: &Question<'_>) -> Result
     }
 }
 
-/// The answer of a set whose members stand in order, by the name of its members.
+/// Returns the answer of a set whose members are in order, by the name of its members.
 fn answer_of_sets(alloc: Global, kind: &str, question: &Question<'_>) -> Result<String, Refusal> {
     match kind {
         "StrictSetOf<()>" => answer_of_set::<()>(alloc, question),
@@ -68,7 +68,7 @@ fn answer_of_sets(alloc: Global, kind: &str, question: &Question<'_>) -> Result<
     }
 }
 
-/// The answer of a set of members of a type with one tag, which stand in order.
+/// Returns the answer of a set of members of a type with one tag, which are in order.
 fn answer_of_set<
     'a,
     T: DecodeValue<'a, SliceReader<'a>>

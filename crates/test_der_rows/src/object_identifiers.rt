@@ -1,4 +1,4 @@
-//! Object identifiers: their octets, texts and arcs.
+//! Object identifiers: their bytes, texts and arcs.
 
 use crate::refusals::Refusal;
 use crate::shown::{debugged, hex_of, name_of, octets_of, shown};
@@ -9,7 +9,7 @@ use std::num::ParseIntError;
 
 type Identifier = ObjectIdentifier<39>;
 
-/// The answer to a question of these words.
+/// Returns the answer to a question of these words.
 pub fn answer(alloc: Global, word: &str, rest: &str) -> Result<String, Refusal> {
     match word {
         "oid" => octets_in(alloc, rest.parse()),
@@ -22,24 +22,24 @@ pub fn answer(alloc: Global, word: &str, rest: &str) -> Result<String, Refusal> 
     }
 }
 
-/// The octets of the identifier of an outcome.
+/// Returns the bytes of the identifier of an outcome.
 fn octets_in(alloc: Global, outcome: const_oid::Result<Identifier>) -> Result<String, Refusal> {
     hex_of(alloc, outcome?.as_bytes())
 }
 
-/// The identifier of octets.
+/// Returns the identifier of bytes.
 fn of_octets(alloc: Global, digits: &str) -> Result<String, Refusal> {
     let octets = octets_of(alloc, digits)?;
     shown(alloc, Identifier::try_from(octets.as_slice())?)
 }
 
-/// What the identifier prints for debugging that octets lend.
+/// Returns what the identifier prints for debugging that bytes lend.
 fn debug_of(alloc: Global, digits: &str) -> Result<String, Refusal> {
     let octets = octets_of(alloc, digits)?;
     debugged(alloc, Ok(ObjectIdentifierRef::try_from(octets.as_slice())?))
 }
 
-/// The octets of the identifier of arcs with spaces between them.
+/// Returns the bytes of the identifier of arcs with spaces between them.
 fn of_arcs(alloc: Global, text: &str) -> Result<String, Refusal> {
     let mut arcs = Vec::new(alloc);
     for arc in text.split_whitespace() {
@@ -48,7 +48,8 @@ fn of_arcs(alloc: Global, text: &str) -> Result<String, Refusal> {
     octets_in(alloc, Identifier::from_arcs(arcs.iter().copied()))
 }
 
-/// The answer to a question about the identifier of a text, and about what stands after the text.
+/// Returns the answer to a question about the identifier of a text, and about what follows the
+/// text.
 fn of_text(alloc: Global, word: &str, rest: &str) -> Result<String, Refusal> {
     let (text, other) = rest.split_once(' ').unwrap_or((rest, ""));
     let identifier = Identifier::new(text)?;
@@ -64,7 +65,7 @@ fn of_text(alloc: Global, word: &str, rest: &str) -> Result<String, Refusal> {
     }
 }
 
-/// The arc at a place.
+/// Returns the arc at a place.
 fn arc_of(
     alloc: Global,
     identifier: &Identifier,
@@ -73,7 +74,7 @@ fn arc_of(
     or_none(alloc, identifier.arc(place?))
 }
 
-/// The identifier of one arc more.
+/// Returns the identifier of one more arc.
 fn child_of(
     alloc: Global,
     identifier: &Identifier,
@@ -82,7 +83,7 @@ fn child_of(
     shown(alloc, identifier.push_arc(arc?)?)
 }
 
-/// The order of two identifiers.
+/// Returns the order of two identifiers.
 fn order_with(
     alloc: Global,
     identifier: &Identifier,
@@ -91,7 +92,7 @@ fn order_with(
     shown(alloc, name_of(identifier.cmp(&other?)))
 }
 
-/// Whether an identifier starts with another.
+/// Returns whether an identifier starts with another.
 fn starts_with(
     alloc: Global,
     identifier: &Identifier,
@@ -100,7 +101,8 @@ fn starts_with(
     shown(alloc, identifier.starts_with(other?))
 }
 
-/// The parent and how many arcs it has, and whether no more than so many octets were tested for it.
+/// Returns the parent and how many arcs it has, and whether no more than that many bytes were
+/// tested for it.
 fn counted(
     alloc: Global,
     identifier: &Identifier,
@@ -115,7 +117,7 @@ fn counted(
     Ok(format!(in alloc; "{parent} {len} {within}")?)
 }
 
-/// The order of two identifiers that are lent as octets.
+/// Returns the order of two identifiers that are borrowed as bytes.
 fn order_of_refs(alloc: Global, rest: &str) -> Result<String, Refusal> {
     let (first, second) = rest.split_once(' ').ok_or(Refusal::Unread)?;
     let first = octets_of(alloc, first)?;
@@ -123,14 +125,14 @@ fn order_of_refs(alloc: Global, rest: &str) -> Result<String, Refusal> {
     order_of_octets(alloc, first.as_slice(), second.as_slice())
 }
 
-/// The order of the identifiers that octets lend.
+/// Returns the order of the identifiers that bytes lend.
 fn order_of_octets(alloc: Global, first: &[u8], second: &[u8]) -> Result<String, Refusal> {
     let first = ObjectIdentifierRef::from_bytes(first)?;
     let second = ObjectIdentifierRef::from_bytes(second)?;
     shown(alloc, name_of(first.cmp(&second)))
 }
 
-/// What a database of three entries tells.
+/// Returns what a database of three entries tells.
 fn named(alloc: Global, word: &str, text: &str) -> Result<String, Refusal> {
     let common_name = Identifier::from_bytes_unwrap(&[0x55, 4, 3]);
     let country_name = Identifier::from_bytes_unwrap(&[0x55, 4, 6]);
@@ -142,7 +144,7 @@ fn named(alloc: Global, word: &str, text: &str) -> Result<String, Refusal> {
     told(alloc, word, text, &Database::new(&entries))
 }
 
-/// What a database tells.
+/// Returns what a database tells.
 fn told(alloc: Global, word: &str, text: &str, database: &Database<'_>) -> Result<String, Refusal> {
     match word {
         "oid-name" => or_none(alloc, database.by_oid(&Identifier::new(text)?)),
@@ -152,7 +154,7 @@ fn told(alloc: Global, word: &str, text: &str, database: &Database<'_>) -> Resul
     }
 }
 
-/// The names of an identifier, with blanks between them.
+/// Returns the names of an identifier, with blanks between them.
 fn names_of(
     alloc: Global,
     identifier: &Identifier,
@@ -168,7 +170,7 @@ fn names_of(
     Ok(names)
 }
 
-/// What stands, or `none`.
+/// Returns what stands, or `none`.
 fn or_none<T: Display + Drop>(alloc: Global, value: Option<T>) -> Result<String, Refusal> {
     match value {
         Some(value) => shown(alloc, value),

@@ -18,21 +18,21 @@ use std::hash::{DefaultHasher, Hash, Hasher};
 /// What is asked of values.
 #[derive(Clone, Copy)]
 pub enum Asked<'a> {
-    /// What is written of the value that octets spell by DER.
+    /// What is written of the value that bytes encode by DER.
     Der,
-    /// What is written of the value that octets spell by BER.
+    /// What is written of the value that bytes encode by BER.
     Ber,
-    /// The order of the values that octets spell by DER, as that of their encodings.
+    /// The order of the values that bytes encode by DER, as that of their encodings.
     Order,
-    /// The order of the values that octets spell by DER, as that of their contents.
+    /// The order of the values that bytes encode by DER, as that of their contents.
     Contents,
-    /// The order of the values that octets spell by DER, as that of their type, and their hashes.
+    /// The order of the values that bytes encode by DER, as that of their type, and their hashes.
     Compare,
-    /// What the value prints that octets spell by DER.
+    /// What the value prints that bytes encode by DER.
     Text,
-    /// What is written of the value that octets begin with by DER, and the octets after it.
+    /// What is written of the value that bytes begin with by DER, and the bytes after it.
     Front,
-    /// What a reader of the octets answers to a first call, and to a second one.
+    /// What a reader of the bytes answers to a first call, and to a second one.
     Twice,
     /// What is written of the value that has the tag and the content of any value, by these rules.
     As(&'a Any, EncodingRules),
@@ -40,8 +40,8 @@ pub enum Asked<'a> {
     Converted(&'a Any, Conversion),
 }
 
-/// A question about the values that octets spell: the second are none where one value is asked
-/// about, and both where it is any value.
+/// A question about the values that bytes encode: the second are none if one value is asked about,
+/// and both where it is any value.
 #[derive(Clone, Copy)]
 pub struct Question<'a> {
     pub asked: Asked<'a>,
@@ -50,13 +50,13 @@ pub struct Question<'a> {
 }
 
 impl Question<'_> {
-    /// Whether what is asked about is any value, and no octets.
+    /// Returns whether what is asked about is any value, and no bytes.
     pub fn is_of_any(&self) -> bool {
         matches!(self.asked, Asked::As(_, _) | Asked::Converted(_, _))
     }
 }
 
-/// What a word asks of values.
+/// Returns what a word asks of values.
 pub fn asked_by(word: &str) -> Result<Asked<'_>, Refusal> {
     match word {
         "der" => Ok(Asked::Der),
@@ -71,7 +71,7 @@ pub fn asked_by(word: &str) -> Result<Asked<'_>, Refusal> {
     }
 }
 
-/// The two values that the octets of a question spell by DER.
+/// Returns the two values that the bytes of a question spell by DER.
 fn values_of<'a, T: Decode<'a, SliceReader<'a>> + Drop>(
     alloc: Global,
     question: &Question<'a>,
@@ -81,7 +81,7 @@ fn values_of<'a, T: Decode<'a, SliceReader<'a>> + Drop>(
     Ok((first, second))
 }
 
-/// The answer of a type that is read and written.
+/// Returns the answer of a type that is read and written.
 pub fn answer_of<'a, T: Decode<'a, SliceReader<'a>> + Encode>(
     alloc: Global,
     question: &Question<'a>,
@@ -95,7 +95,7 @@ pub fn answer_of<'a, T: Decode<'a, SliceReader<'a>> + Encode>(
     }
 }
 
-/// What is written of the value at the front of octets, and the octets after it.
+/// Returns what is written of the value at the beginning of bytes, and the bytes after it.
 fn front_written<T: Encode + Drop>(
     alloc: Global,
     front: Result<(T, &[u8]), Error>,
@@ -104,7 +104,8 @@ fn front_written<T: Encode + Drop>(
     joined(written(alloc, &value), " ", hex_of(alloc, behind))
 }
 
-/// What is written of the two values that one reader of the octets reads, or why it reads none.
+/// Returns what is written of the two values that one reader of the bytes reads, or why it reads
+/// none.
 fn read_twice<'a, T: Decode<'a, SliceReader<'a>> + Encode + Drop>(
     alloc: Global,
     octets: &'a [u8],
@@ -115,7 +116,7 @@ fn read_twice<'a, T: Decode<'a, SliceReader<'a>> + Encode + Drop>(
     joined(first, "; ", second)
 }
 
-/// The answer of a type that is compared, too.
+/// Returns the answer of a type that is compared, too.
 pub fn answer_as<'a, T: Decode<'a, SliceReader<'a>> + DerOrd + Encode>(
     alloc: Global,
     question: &Question<'a>,
@@ -129,7 +130,7 @@ pub fn answer_as<'a, T: Decode<'a, SliceReader<'a>> + DerOrd + Encode>(
     }
 }
 
-/// The answer of a type that is compared, and prints for debugging.
+/// Returns the answer of a type that is compared, and prints for debugging.
 pub fn answer_as_with_debug<'a, T: Decode<'a, SliceReader<'a>> + DerOrd + Encode + Debug>(
     alloc: Global,
     question: &Question<'a>,
@@ -140,8 +141,8 @@ pub fn answer_as_with_debug<'a, T: Decode<'a, SliceReader<'a>> + DerOrd + Encode
     }
 }
 
-/// The answer of a type with one tag. Of such a type the traits of its contents are asked for,
-/// since each that is asked for costs the check of every type that is named.
+/// Returns the answer of a type with one tag. Of such a type the traits of its contents are asked
+/// for, since each that is asked for costs the check of every type that is named.
 pub fn answer_of_value<'a, T: DecodeValue<'a, SliceReader<'a>> + EncodeValue + FixedTag>(
     alloc: Global,
     question: &Question<'a>,
@@ -153,7 +154,7 @@ pub fn answer_of_value<'a, T: DecodeValue<'a, SliceReader<'a>> + EncodeValue + F
     }
 }
 
-/// The answer of a type with one tag that prints for debugging, too.
+/// Returns the answer of a type with one tag that prints for debugging, too.
 pub fn answer_with_debug<'a, T: DecodeValue<'a, SliceReader<'a>> + EncodeValue + FixedTag + Debug>(
     alloc: Global,
     question: &Question<'a>,
@@ -164,7 +165,7 @@ pub fn answer_with_debug<'a, T: DecodeValue<'a, SliceReader<'a>> + EncodeValue +
     }
 }
 
-/// The answer of a type with one tag whose contents are compared too.
+/// Returns the answer of a type with one tag whose contents are compared too.
 pub fn answer_with_contents<
     'a,
     T: DecodeValue<'a, SliceReader<'a>> + EncodeValue + FixedTag + ValueOrd,
@@ -179,7 +180,7 @@ pub fn answer_with_contents<
     }
 }
 
-/// The answer of a type with one tag that is compared, and prints for debugging.
+/// Returns the answer of a type with one tag that is compared, and prints for debugging.
 pub fn answer_of_plain<
     'a,
     T: DecodeValue<'a, SliceReader<'a>> + EncodeValue + FixedTag + ValueOrd + Debug,
@@ -190,7 +191,7 @@ pub fn answer_of_plain<
     }
 }
 
-/// The answer of such a type that any value is converted to.
+/// Returns the answer of such a type that any value is converted to.
 pub fn answer_of_converted<
     'a,
     T: DecodeValue<'a, SliceReader<'a>>
@@ -207,8 +208,8 @@ pub fn answer_of_converted<
     }
 }
 
-/// The answer of such a type that names the way in which its values are coded. Of these the way is
-/// asked for, since all that the way gives is then checked once, and not for each type.
+/// Returns the answer of such a type that names the way in which its values are coded. Of these the
+/// way is asked for, since all that the way gives is then checked once, and not for each type.
 pub fn answer_of_number<
     'a,
     T: Ordered
@@ -224,7 +225,7 @@ where
     answer_of_converted::<T>(alloc, question)
 }
 
-/// The answer of a type with one tag that has an order of its own, too.
+/// Returns the answer of a type with one tag that has an order of its own, too.
 pub fn answer_with_order<
     'a,
     T: DecodeValue<'a, SliceReader<'a>> + EncodeValue + FixedTag + Hash + Ord + ValueOrd,
@@ -238,7 +239,7 @@ pub fn answer_with_order<
     }
 }
 
-/// The answer of such a type that any value is converted to.
+/// Returns the answer of such a type that any value is converted to.
 pub fn answer_of_lent<
     'a,
     T: DecodeValue<'a, SliceReader<'a>>
@@ -256,7 +257,7 @@ pub fn answer_of_lent<
     }
 }
 
-/// The answer of a type with an order of its own that names its way.
+/// Returns the answer of a type with an order of its own that names its way.
 pub fn answer_of_ordered<'a, T: Ordered + FixedTag + Hash + Ord + Drop>(
     alloc: Global,
     question: &Question<'a>,
@@ -267,7 +268,7 @@ where
     answer_with_order::<T>(alloc, question)
 }
 
-/// The answer of such a type that any value is converted to.
+/// Returns the answer of such a type that any value is converted to.
 pub fn answer_of_ordered_lent<
     'a,
     T: Ordered
@@ -284,7 +285,7 @@ where
     answer_of_lent::<T>(alloc, question)
 }
 
-/// The answer of such a type that prints, and names its way.
+/// Returns the answer of such a type that prints, and names its way.
 pub fn answer_with_text<'a, T: Ordered + FixedTag + Hash + Ord + Display + Drop>(
     alloc: Global,
     question: &Question<'a>,
@@ -298,7 +299,7 @@ where
     }
 }
 
-/// The answer of such a type that any value is converted to.
+/// Returns the answer of such a type that any value is converted to.
 pub fn answer_of_lent_text<
     'a,
     T: Ordered
@@ -319,7 +320,7 @@ where
     }
 }
 
-/// The order of two values by their type, and whether their hashes are the same.
+/// Returns the order of two values by their type, and whether their hashes are the same.
 pub fn compared<T: Hash + Ord>(alloc: Global, first: &T, second: &T) -> Result<String, Refusal> {
     let order = name_of(first.cmp(second));
     let hashes = if hash_of(first) == hash_of(second) {
@@ -330,7 +331,7 @@ pub fn compared<T: Hash + Ord>(alloc: Global, first: &T, second: &T) -> Result<S
     Ok(format!(in alloc; "{order} {hashes}")?)
 }
 
-/// What a hasher makes of a value.
+/// Returns what a hasher makes of a value.
 fn hash_of<T: Hash>(value: &T) -> u64 {
     let mut state = DefaultHasher::new();
     value.hash(&mut state);

@@ -12,14 +12,14 @@ use der_types::SetOfRef;
 use std::alloc::Global;
 use std::marker::PhantomData;
 
-/// What the steps answer that a reader of octets takes.
+/// Returns what the steps answer that a reader of bytes takes.
 pub fn answer(alloc: Global, rest: &str) -> Result<String, Refusal> {
     let (octets, steps) = rest.split_once(' ').ok_or(Refusal::Unread)?;
     let octets = octets_of(alloc, octets)?;
     answers_of(alloc, octets.as_slice(), steps)
 }
 
-/// What the steps answer, one after another.
+/// Returns what the steps answer, one after another.
 fn answers_of(alloc: Global, octets: &[u8], steps: &str) -> Result<String, Refusal> {
     let mut reader = SliceReader::new(octets)?;
     let mut answers = String::new(alloc);
@@ -39,7 +39,7 @@ pub fn add(answers: &mut String, answer: Result<String, Refusal>) -> Result<(), 
     Ok(answers.push_str(answer.as_str())?)
 }
 
-/// What a step answers: a name, and after a colon how many octets it is about.
+/// Returns what a step answers: a name, and after a colon how many bytes it is about.
 fn answer_of_step(
     alloc: Global,
     reader: &mut SliceReader<'_>,
@@ -51,7 +51,7 @@ fn answer_of_step(
     }
 }
 
-/// What a step answers that is about so many octets.
+/// Returns what a step answers that is about that many bytes.
 fn answer_of_count(
     alloc: Global,
     reader: &mut SliceReader<'_>,
@@ -70,7 +70,7 @@ fn answer_of_count(
     }
 }
 
-/// Fills octets with those that stand next.
+/// Fills bytes with those that stand next.
 fn fill(reader: &mut SliceReader<'_>, name: &str, octets: &mut [u8]) -> Result<(), Refusal> {
     match name {
         "peek-into" => Ok(reader.peek_into(octets)?),
@@ -79,7 +79,7 @@ fn fill(reader: &mut SliceReader<'_>, name: &str, octets: &mut [u8]) -> Result<(
     }
 }
 
-/// What a step answers that is about the reader as it stands.
+/// Returns what a step answers that is about the reader as it is.
 fn answer_of_name(
     alloc: Global,
     reader: &mut SliceReader<'_>,
@@ -99,7 +99,7 @@ fn answer_of_name(
     }
 }
 
-/// What a step answers that is about the octets that stand next.
+/// Returns what a step answers that is about the bytes that stand next.
 fn answer_of_octets(
     alloc: Global,
     reader: &mut SliceReader<'_>,
@@ -120,7 +120,7 @@ fn answer_of_octets(
     }
 }
 
-/// The value that a step reads.
+/// Returns the value that a step reads.
 fn answer_of_values<'a>(
     alloc: Global,
     reader: &mut SliceReader<'a>,
@@ -140,7 +140,7 @@ fn answer_of_values<'a>(
     }
 }
 
-/// How many members the set has that stands next, and is lent: values, or sets of them.
+/// Returns the number of members of the set that is next, and is borrowed: values, or sets of them.
 fn answer_of_sets<'a, T: Decode<'a, SliceReader<'a>> + Element + Member + 'a>(
     alloc: Global,
     reader: &mut SliceReader<'a>,
@@ -152,7 +152,7 @@ fn answer_of_sets<'a, T: Decode<'a, SliceReader<'a>> + Element + Member + 'a>(
     }
 }
 
-/// How many members the set has that stands next, and is lent.
+/// Returns the number of members of the set that is next, and is borrowed.
 fn answer_of_lent<'a, T: Decode<'a, SliceReader<'a>> + Member + 'a>(
     alloc: Global,
     reader: &mut SliceReader<'a>,
@@ -161,19 +161,19 @@ fn answer_of_lent<'a, T: Decode<'a, SliceReader<'a>> + Member + 'a>(
     shown(alloc, set.len())
 }
 
-/// The value that has no octets.
+/// Returns the value that has no bytes.
 fn nothing(alloc: Global, reader: &mut SliceReader<'_>) -> Result<String, Refusal> {
     let PhantomData = PhantomData::<u8>::decode(alloc, reader)?;
     done(alloc, Ok(()))
 }
 
-/// The flag that stands next.
+/// Returns the flag that is next.
 fn flag_of(alloc: Global, reader: &mut SliceReader<'_>) -> Result<String, Refusal> {
     let flag = reader.decode::<bool>(alloc)?;
     shown(alloc, flag)
 }
 
-/// The number that stands between fields of no octets.
+/// Returns the number that stands between fields of no bytes.
 fn fields_of(alloc: Global, reader: &mut SliceReader<'_>) -> Result<String, Refusal> {
     let (PhantomData, (number, PhantomData)) = <(
         PhantomData<bool>,
@@ -182,32 +182,32 @@ fn fields_of(alloc: Global, reader: &mut SliceReader<'_>) -> Result<String, Refu
     shown(alloc, number)
 }
 
-/// The octet that a copy of the reader reads next.
+/// Returns the byte that a copy of the reader reads next.
 fn byte_of_copy(alloc: Global, reader: &SliceReader<'_>) -> Result<String, Refusal> {
     let mut copy = reader.clone()?;
     printed(alloc, copy.read_byte())
 }
 
-/// The octets of the content that stands next, as they stand.
+/// Returns the bytes of the content that is next, as they are.
 fn content_of(alloc: Global, reader: &mut SliceReader<'_>) -> Result<String, Refusal> {
     let header = reader.read_header()?;
     let octets = decode_octets(alloc, reader, header)?;
     hex_of(alloc, octets.as_slice())
 }
 
-/// The octets of the string that stands next, put together of its parts.
+/// Returns the bytes of the string that is next, put together of its parts.
 fn parts_of(alloc: Global, reader: &mut SliceReader<'_>) -> Result<String, Refusal> {
     let header = reader.read_header()?;
     let octets = BytesOwned::decode_value_parts(alloc, reader, header, Tag::OctetString)?;
     hex_of(alloc, octets.as_slice())
 }
 
-/// Whether the tag of this class stands next that has the number 4.
+/// Returns whether the tag of this class stands next that has the number 4.
 fn matches(alloc: Global, reader: &mut SliceReader<'_>, class: Class) -> Result<String, Refusal> {
     printed(alloc, peek_matches(reader, class, TagNumber::new(4)))
 }
 
-/// The number behind the context-specific tag 0, if that stands next.
+/// Returns the number after the context-specific tag 0, if that is next.
 fn answer_of_tagged(
     alloc: Global,
     reader: &mut SliceReader<'_>,
@@ -217,7 +217,7 @@ fn answer_of_tagged(
     debugged(alloc, Ok(number))
 }
 
-/// The two octets of a SEQUENCE of 2 octets.
+/// Returns the two bytes of a SEQUENCE of 2 bytes.
 fn two_octets(reader: &mut SliceReader<'_>) -> Result<(u8, u8), Error> {
     reader.sequence(|inner| {
         let first = inner.read_byte()?;

@@ -12,18 +12,18 @@ use std::num::ParseIntError;
 pub enum Refusal {
     /// The question is none, or of no type that is known.
     Unread,
-    /// Out of memory.
+    /// Memory ran out.
     Memory,
     /// A call that found no memory changed something.
     Changed,
-    /// The octets spell no value of the type, or its values aren't written.
+    /// The bytes encode no value of the type, or its values aren't written.
     Der(Error),
-    /// The text, octets or arcs spell no identifier.
+    /// The text, bytes or arcs spell no identifier.
     Identifier(const_oid::Error),
 }
 
 impl Refusal {
-    /// What the kind of the error after it prints.
+    /// Returns what the kind of the error after it prints.
     pub fn reason(self, alloc: Global) -> Result<String, Refusal> {
         match self {
             Refusal::Der(error) => shown(alloc, error.kind),
@@ -32,7 +32,7 @@ impl Refusal {
         }
     }
 
-    /// Where in the input the error after it was found.
+    /// Returns where in the input the error after it was found.
     pub fn place(self, alloc: Global) -> Result<String, Refusal> {
         match self {
             Refusal::Der(

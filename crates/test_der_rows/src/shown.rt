@@ -1,4 +1,4 @@
-//! What is answered of values, and of outcomes that may be refusals.
+//! What is returned of values, and of outcomes that may be refusals.
 //!
 //! Each answer is one call. A `?` costs the check more than a call, and most where a value is held
 //! that has to be dropped.
@@ -10,12 +10,12 @@ use std::alloc::Global;
 use std::cmp::Ordering;
 use std::fmt::{Debug, Display};
 
-/// What a value prints.
+/// Returns what a value prints.
 pub fn shown<T: Display + Drop>(alloc: Global, value: T) -> Result<String, Refusal> {
     Ok(value.to_string(alloc)?)
 }
 
-/// What the value of an outcome prints.
+/// Returns what the value of an outcome prints.
 pub fn printed<T: Display + Drop>(
     alloc: Global,
     outcome: Result<T, Error>,
@@ -23,7 +23,7 @@ pub fn printed<T: Display + Drop>(
     shown(alloc, outcome?)
 }
 
-/// What the value of an outcome prints for debugging.
+/// Returns what the value of an outcome prints for debugging.
 pub fn debugged<T: Debug + Drop>(
     alloc: Global,
     outcome: Result<T, Error>,
@@ -32,22 +32,22 @@ pub fn debugged<T: Debug + Drop>(
     Ok(format!(in alloc; "{value:?}")?)
 }
 
-/// Octets, in hex.
+/// Bytes, in hex.
 pub fn hex_of(alloc: Global, octets: &[u8]) -> Result<String, Refusal> {
     Ok(hex::encode(alloc, octets)?)
 }
 
-/// The octets of an outcome, in hex.
+/// Returns the bytes of an outcome, in hex.
 pub fn hex_in(alloc: Global, outcome: Result<Vec<u8>, Error>) -> Result<String, Refusal> {
     hex_of(alloc, outcome?.as_slice())
 }
 
-/// The octets of a value, in hex.
+/// Returns the bytes of a value, in hex.
 pub fn written<T: Encode>(alloc: Global, value: &T) -> Result<String, Refusal> {
     hex_in(alloc, value.to_der(alloc))
 }
 
-/// The octets of the value of an outcome, in hex.
+/// Returns the bytes of the value of an outcome, in hex.
 pub fn written_in<T: Encode + Drop>(
     alloc: Global,
     outcome: Result<T, Error>,
@@ -55,8 +55,8 @@ pub fn written_in<T: Encode + Drop>(
     written(alloc, &outcome?)
 }
 
-/// The value of a type that names its way, which octets spell by DER. What the way gives is then
-/// checked here, and not for each type.
+/// Returns the value of a type that names its way, which bytes encode by DER. What the way gives is
+/// then checked here, and not for each type.
 pub fn read<'a, T: Described + FixedTag + Drop>(alloc: Global, octets: &'a [u8]) -> Result<T, Error>
 where
     T::By: DecodeWay<'a, SliceReader<'a>, T>,
@@ -64,7 +64,7 @@ where
     value_in(alloc, octets)
 }
 
-/// The value of a type with one tag, which octets spell by DER.
+/// Returns the value of a type with one tag, which bytes encode by DER.
 fn value_in<'a, T: DecodeValue<'a, SliceReader<'a>> + FixedTag>(
     alloc: Global,
     octets: &'a [u8],
@@ -72,7 +72,7 @@ fn value_in<'a, T: DecodeValue<'a, SliceReader<'a>> + FixedTag>(
     T::from_der(alloc, octets)
 }
 
-/// What is answered, or why nothing is.
+/// Returns what is returned, or why nothing is.
 pub fn or_refusal(alloc: Global, answer: Result<String, Refusal>) -> Result<String, Refusal> {
     match answer {
         Err(refusal) => shown(alloc, refusal),
@@ -81,7 +81,7 @@ pub fn or_refusal(alloc: Global, answer: Result<String, Refusal>) -> Result<Stri
 }
 
 /// Two answers, and what stands between them. Each is held here alone, and the first refusal is
-/// told.
+/// reported.
 pub fn joined(
     first: Result<String, Refusal>,
     between: &str,
@@ -93,18 +93,18 @@ pub fn joined(
     Ok(text)
 }
 
-/// What is answered of an outcome that gives nothing.
+/// Returns what is returned of an outcome that gives nothing.
 pub fn done(alloc: Global, outcome: Result<(), Error>) -> Result<String, Refusal> {
     outcome?;
     shown(alloc, "done")
 }
 
-/// The name of the order of an outcome.
+/// Returns the name of the order of an outcome.
 pub fn named(alloc: Global, outcome: Result<Ordering, Error>) -> Result<String, Refusal> {
     shown(alloc, name_of(outcome?))
 }
 
-/// The name of an order.
+/// Returns the name of an order.
 pub fn name_of(order: Ordering) -> &'static str {
     match order {
         Ordering::Less => "Less",
@@ -113,12 +113,12 @@ pub fn name_of(order: Ordering) -> &'static str {
     }
 }
 
-/// The octets that hexadecimal digits spell.
+/// Returns the bytes that hexadecimal digits spell.
 pub fn octets_of(alloc: Global, digits: &str) -> Result<Vec<u8>, Refusal> {
     Ok(hex::decode(alloc, digits.as_bytes())?)
 }
 
-/// A text up to its first blank, and what stands after that.
+/// Returns a text up to its first blank, and what follows that.
 pub fn front_of(text: &str) -> (&str, &str) {
     text.split_once(' ').unwrap_or((text, ""))
 }

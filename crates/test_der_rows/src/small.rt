@@ -1,4 +1,4 @@
-//! A type of whole numbers from 0 to 255, of one's own.
+//! A type of whole numbers from 0 to 255, of your own.
 
 ghost use Rattle.std.specs.Prelude.{pos};
 ghost use Rattle.der_types.specs.Integers.{unsigned};

@@ -134,12 +134,12 @@ impl Debug for Behind {
     }
 }
 
-/// The answer of the record, which isn't compared.
+/// Returns the answer of the record, which isn't compared.
 pub fn answer(alloc: Global, question: &Question<'_>) -> Result<String, Refusal> {
     record::answer_and_debug::<TenFields>(alloc, question)
 }
 
-/// A choice as one that is compared.
+/// Returns a choice as one that is compared.
 fn alternatives(choice: &NumberOrText) -> OneOf2<EncodeRef<'_, u8>, EncodeRef<'_, String>> {
     match choice {
         NumberOrText::Number(number) => OneOf2::First(EncodeRef(number)),
@@ -147,7 +147,7 @@ fn alternatives(choice: &NumberOrText) -> OneOf2<EncodeRef<'_, u8>, EncodeRef<'_
     }
 }
 
-/// The answer of the choice, which is compared alone.
+/// Returns the answer of the choice, which is compared alone.
 pub fn answer_of_choice(alloc: Global, question: &Question<'_>) -> Result<String, Refusal> {
     match question.asked {
         Asked::Order => {

@@ -9,8 +9,8 @@ use der_core::{
 };
 use std::alloc::Global;
 
-/// What the steps answer that a writer to so many octets takes, then what it wrote, and then what
-/// stands in the slice.
+/// Returns what the steps answer that a writer to that many bytes takes, then what it wrote, and
+/// then what is in the slice.
 pub fn answer(alloc: Global, rest: &str) -> Result<String, Refusal> {
     let (room, steps) = rest.split_once(' ').ok_or(Refusal::Unread)?;
     let mut octets = vec![in alloc; 0u8; room.parse::<usize>()?]?;
@@ -18,7 +18,7 @@ pub fn answer(alloc: Global, rest: &str) -> Result<String, Refusal> {
     joined(answers, "; ", hex_of(alloc, octets.as_slice()))
 }
 
-/// What the steps answer, one after another, and then what was written.
+/// Returns what the steps answer, one after another, and then what was written.
 fn answers_of(alloc: Global, octets: &mut [u8], steps: &str) -> Result<String, Refusal> {
     let mut writer = SliceWriter::new(octets);
     let mut answers = String::new(alloc);
@@ -29,7 +29,7 @@ fn answers_of(alloc: Global, octets: &mut [u8], steps: &str) -> Result<String, R
     Ok(answers)
 }
 
-/// What was written, or why there is nothing.
+/// Returns what was written, or why there is nothing.
 fn octets_written(alloc: Global, outcome: Result<&[u8], Error>) -> Result<String, Refusal> {
     match outcome {
         Ok(written) => hex_of(alloc, written),
@@ -37,7 +37,7 @@ fn octets_written(alloc: Global, outcome: Result<&[u8], Error>) -> Result<String
     }
 }
 
-/// What a step answers, or why it is refused.
+/// Returns what a step answers, or why it is rejected.
 fn answer_or_refusal(
     alloc: Global,
     writer: &mut SliceWriter<'_>,
@@ -50,7 +50,7 @@ fn answer_or_refusal(
     }
 }
 
-/// What a step answers that is about these octets, or why it is refused.
+/// Returns what a step answers that is about these bytes, or why it is rejected.
 fn taken(
     alloc: Global,
     writer: &mut SliceWriter<'_>,
@@ -63,7 +63,7 @@ fn taken(
     }
 }
 
-/// What a step answers: a name, and the octets that it is about.
+/// Returns what a step answers: a name, and the bytes that it is about.
 fn answer_of_step(
     writer: &mut SliceWriter<'_>,
     name: &str,
@@ -80,13 +80,13 @@ fn answer_of_step(
     }
 }
 
-/// What a step answers that gives nothing.
+/// Returns what a step answers that gives nothing.
 fn done(outcome: Result<(), Error>) -> Result<&'static str, Refusal> {
     outcome?;
     Ok("done")
 }
 
-/// What a step answers that has no octets.
+/// Returns what a step answers that has no bytes.
 fn answer_of_name(writer: &mut SliceWriter<'_>, name: &str) -> Result<&'static str, Refusal> {
     match name {
         "true" => done(writer.encode(&true)),
@@ -99,7 +99,7 @@ fn answer_of_name(writer: &mut SliceWriter<'_>, name: &str) -> Result<&'static s
     }
 }
 
-/// What a step answers that is about a number.
+/// Returns what a step answers that is about a number.
 fn answer_of_number(
     writer: &mut SliceWriter<'_>,
     name: &str,
@@ -116,8 +116,8 @@ fn answer_of_number(
     }
 }
 
-/// What the step answers that writes a SEQUENCE whose length is the first octet, and whose content
-/// the others are.
+/// Returns what the step answers that writes a SEQUENCE whose length is the first byte, and whose
+/// content the others are.
 fn sequence_of(writer: &mut SliceWriter<'_>, octets: &[u8]) -> Result<&'static str, Refusal> {
     let [len, content @ ..] = octets else {
         return Err(Refusal::Unread);
@@ -125,8 +125,8 @@ fn sequence_of(writer: &mut SliceWriter<'_>, octets: &[u8]) -> Result<&'static s
     done(writer.sequence(Length::from(*len), |inner| inner.write(content)))
 }
 
-/// What of a number is written to a slice of so many octets, which are 09 before, and what then
-/// stands there.
+/// Returns what of a number is written to a slice of that many bytes, which are 09 before, and what
+/// then is there.
 pub fn answer_of_slices(alloc: Global, word: &str, rest: &str) -> Result<String, Refusal> {
     let (room, octets) = rest.split_once(' ').ok_or(Refusal::Unread)?;
     let number = number_of(alloc, octets)?;
@@ -135,18 +135,18 @@ pub fn answer_of_slices(alloc: Global, word: &str, rest: &str) -> Result<String,
     joined(written, " ", hex_of(alloc, room.as_slice()))
 }
 
-/// What is written of a number to the front of a slice, in hex.
+/// Returns what is written of a number to the prefix of a slice, in hex.
 fn written_hex(alloc: Global, word: &str, number: u8, room: &mut [u8]) -> Result<String, Refusal> {
     hex_of(alloc, written_to(word, number, room)?)
 }
 
-/// The number that octets spell.
+/// Returns the number that bytes encode.
 fn number_of(alloc: Global, octets: &str) -> Result<u8, Refusal> {
     let octets = octets_of(alloc, octets)?;
     Ok(read(alloc, octets.as_slice())?)
 }
 
-/// What is written of a number to the front of a slice, with its header or without.
+/// Returns what is written of a number to the prefix of a slice, with its header or without.
 fn written_to<'a>(word: &str, number: u8, room: &'a mut [u8]) -> Result<&'a [u8], Refusal> {
     match word {
         "slice" => Ok(number.encode_to_slice(room)?),
@@ -155,7 +155,7 @@ fn written_to<'a>(word: &str, number: u8, room: &'a mut [u8]) -> Result<&'a [u8]
     }
 }
 
-/// What stands in a vector of octets when a number was written after them, and how many octets
+/// Returns what is in a vector of bytes when a number was written after them, and how many bytes
 /// that has.
 pub fn answer_of_vectors(alloc: Global, rest: &str) -> Result<String, Refusal> {
     let (octets, number) = rest.split_once(' ').ok_or(Refusal::Unread)?;
@@ -169,7 +169,7 @@ pub fn answer_of_vectors(alloc: Global, rest: &str) -> Result<String, Refusal> {
     )
 }
 
-/// How many octets were written of a number, and the tag and the length of its header.
+/// Returns how many bytes were written of a number, and the tag and the length of its header.
 fn lengths_of(alloc: Global, len: Result<Length, Error>, number: u8) -> Result<String, Refusal> {
     let len = len?;
     let header = value_header(&EncodeValueRef(&number))?;

@@ -94,7 +94,7 @@ not_placed f r xs x e made all valid (inr (inl twice)) =
     inr (subst (λ (q : Result PlainAttribute ErrorKind). IsNotAdded q (plain_list f xs) (errors.Asn1 e)) (sym made) (inr (twice.0, twice.1 all valid)))
 not_placed f r xs x e made all valid (inr (inr long)) = absurd (long.1 all valid)
 
--- why there is no attribute that asks for extensions
+-- why there isn't an attribute that asks for extensions
 pub not_asked : (r : Result PlainAttribute ErrorKind) (e : DerError) → Fails e.kind r → IsWantOfMemory (errors.Asn1 e) ⊎ HasNoAttribute r (errors.Asn1 e)
 not_asked r e h = or_memory e.kind (λ enough. subst (λ (q : Result PlainAttribute ErrorKind). HasNoAttribute q (errors.Asn1 e)) (sym (h enough)) refl)
 

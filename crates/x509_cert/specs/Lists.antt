@@ -29,7 +29,7 @@ PlainEntry = BodyValue (revoked_cert_fields 0 None)
 abbrev pub PlainList : Type 0
 PlainList = BodyValue (tbs_cert_list_fields 0 None)
 
--- TBSCertList, whose serial numbers have at most so many content octets, if there is such a number
+-- TBSCertList, whose serial numbers have at most so many content bytes, if there is such a number
 abbrev pub list_part : Option ℕ → Shape
 list_part limit = sequence (tbs_cert_list_fields Bound limit)
 
@@ -52,13 +52,13 @@ abbrev pub authority_key : Shape
 authority_key = sequence (authority_key_identifier_fields Bound)
 
 -- the authority key identifier of a certificate, where it has one, or else the identifier of the
--- certified key alone: the SHA-1 digest of its octets (4.2.1.2)
+-- certified key alone: the SHA-1 digest of its bytes (4.2.1.2)
 abbrev pub given_or_made : PublicKey → Option (Bool × PlainAuthority) → PlainAuthority
 given_or_made k None = (Some (sha1 (key_bits k).octets), (None, (None, tt)))
 given_or_made k (Some found) = found.1
 
--- The key under which an issuer signs lists: its own authority key identifier. Two are refused, and
--- one whose content isn't an encoding.
+-- The key under which an issuer signs lists: its own authority key identifier. Two are rejected,
+-- and one whose content isn't an encoding.
 abbrev pub issuing_key : Tbs → Result PlainAuthority ErrorKind
 issuing_key t =
     only_value authority_key (identifier_of types.authority_key_identifier)
@@ -77,7 +77,7 @@ abbrev pub key_extension : PlainAuthority → PlainExtension
 key_extension a = extension_of (id_ce 35) false authority_key a
 
 -- Why a list has no such extensions: its issuer has no such key, or one of the two has no encoding,
--- as where a length passes 2^32 - 1.
+-- as where a length exceeds 2^32 - 1.
 abbrev pub HasNoExtensions : ℕ → Result PlainAuthority ErrorKind → ErrorKind → Type 0
 HasNoExtensions n (Err fault) kind = kind ≡ fault
 HasNoExtensions n (Ok key) kind =

@@ -19,7 +19,7 @@ PlainInfo = BodyValue (cert_req_info_fields 0)
 abbrev pub request_part : Shape
 request_part = sequence (cert_req_info_fields Bound)
 
--- why an attribute isn't added: there is none, it has no encoding, as where it has 2^32 octets or
+-- why an attribute isn't added: there is none, it has no encoding, as where it has 2^32 bytes or
 -- more, or it stands among these
 abbrev pub IsNotAdded : Result PlainAttribute ErrorKind → List PlainAttribute → Error → Type 0
 IsNotAdded (Err kind) others e = IsOfKind kind e
@@ -28,7 +28,7 @@ IsNotAdded (Ok a) others e =
     ⊎ (IsOfKind kinds.SetDuplicate e × (stands_among (attribute Bound) a others ≡ true))
 
 -- the other attributes with the request for extensions among them, where a length can count its
--- octets (RFC 2985 5.4.2)
+-- bytes (RFC 2985 5.4.2)
 abbrev pub with_request : Result PlainAttribute ErrorKind → List PlainAttribute
     → List PlainAttribute
 with_request (Ok a) others = placed (attribute Bound) a others
@@ -48,7 +48,7 @@ abbrev pub IsRequested : PlainName → List PlainExtension → List PlainAttribu
 IsRequested subject extensions attributes key = IsOk (extension_req_attribute Bound extensions)
     × IsValid request_part (request_of subject extensions attributes key)
 
--- an attribute can't be made, or has no encoding, as where it has 2^32 octets or more
+-- an attribute can't be made, or has no encoding, as where it has 2^32 bytes or more
 abbrev pub HasNoAttribute : Result PlainAttribute ErrorKind → Error → Type 0
 HasNoAttribute (Err kind) e = IsOfKind kind e
 HasNoAttribute (Ok a) e = IsUnwritten (attribute Bound) a e

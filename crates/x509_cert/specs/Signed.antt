@@ -1,4 +1,4 @@
--- What is signed, and where it stands in what is made of it (RFC 5280 5.1.1; RFC 2986 4.2).
+-- What is signed, and where it is in what is made of it (RFC 5280 5.1.1; RFC 2986 4.2).
 use Rattle.std.specs.Prelude.{ℕ, List, length, take, drop}
 use Rattle.x509_cert_anchors.specs.Oid.Bound.{Bound}
 use Rattle.x509_cert_anchors.specs.Der.TagTypes.Tag.TheVariants as tags
@@ -13,18 +13,18 @@ use Rattle.x509_cert_lists.specs.CertParts.Grammar.{algorithm_identifier, bit_st
 abbrev pub signed_fields : Shape → Body
 signed_fields s = field s (field (algorithm_identifier Bound) (field bit_string done))
 
--- the octets of the whole
+-- the bytes of the whole
 abbrev pub whole_octets : (s : Shape) → BodyValue (signed_fields s) → List ℕ
 whole_octets s v = octets_of (sequence (signed_fields s)) v
 
--- where in the octets of the whole the signed part begins: behind the outer header
+-- where in the bytes of the whole the signed part begins: after the outer header
 unfoldable pub signed_start : (s : Shape) → BodyValue (signed_fields s) → ℕ
 signed_start s v = length (head_octets tags.Sequence (length (body_octets (signed_fields s) v)))
 
--- how many octets the signed part has
+-- how many bytes the signed part has
 unfoldable pub signed_length : (s : Shape) → BodyValue (signed_fields s) → ℕ
 signed_length s v = length (octets_of s v.0)
 
--- the octets at the place of the signed part
+-- the bytes at the place of the signed part
 abbrev pub octets_in_place : (s : Shape) → BodyValue (signed_fields s) → List ℕ
 octets_in_place s v = take (signed_length s v) (drop (signed_start s v) (whole_octets s v))

@@ -1,5 +1,5 @@
-//! Builders of certificates, CRLs and requests: what a signer is handed are the octets
-//! of the signed part of what comes out (RFC 5280 4, 5; RFC 2986 4).
+//! Builders for certificates, CRLs and CSRs. The bytes that a signer gets are those of the signed
+//! part of the result (RFC 5280 4, 5; RFC 2986 4).
 
 pub mod profile;
 

@@ -5,8 +5,8 @@ pub use x509_cert_builders::cert_certificates::{
 };
 pub use x509_cert_lists::cert_parts::{Profile, Raw, Rfc5280, Version};
 
-/// Certificates, each of which signs the next one (X.509 7.7, RFC 6066 10.1). Nothing says so of a
-/// value of this type: it is read and written as any list of certificates.
+/// A list of certificates, meant as a path in which each one signs the next (X.509 7.7, RFC 6066
+/// 10.1). Nothing checks that: the type is decoded and encoded as any list of certificates.
 ///
 /// ```text
 /// PkiPath ::= SEQUENCE OF Certificate

@@ -40,10 +40,10 @@ use x509_cert_lists::cert_parts::{
 use x509_cert_lists::types::BitString;
 use x509_cert_lists::{CertificateList, RevokedCert, TbsCertList};
 
-/// A builder of CRLs (RFC 5280 5.1). The list has version 2, a number, and the
-/// identifier of the key under which it is signed.
+/// A builder for CRLs (RFC 5280 5.1). The CRL has version 2, a CRL number, and an authority key
+/// identifier.
 ///
-/// Contracts see what is settled of the list, and the part that was made last.
+/// Contracts see the fields that are set, and the part that was made last.
 #[derive(Drop)]
 pub struct CrlBuilder<P = Rfc5280> {
     issuer: Name,
@@ -62,7 +62,7 @@ impl<P> Model for CrlBuilder<P> {
     ghost view = { list_state };
 }
 
-/// The identifier of a key alone.
+/// Returns an authority key identifier that has only the identifier of a key.
 fn authority_identifier_of(
     alloc: Global,
     key: &SubjectPublicKeyInfo,
@@ -78,7 +78,8 @@ fn authority_identifier_of(
     Ok(AuthorityKeyIdentifier::try_from_key(alloc, &key)?)
 }
 
-/// The key under which an issuer signs: its own authority key identifier, or else one of its key.
+/// Returns the key under which an issuer signs: its own authority key identifier, or else one of
+/// its key.
 fn issuing_key(
     alloc: Global,
     issuer: &TbsCertificate,
@@ -93,7 +94,7 @@ fn issuing_key(
     Ok(identifier)
 }
 
-/// The extensions of a list of an issuer: its number, and the key under which it is signed.
+/// Returns the extensions of an issuer's CRL: the CRL number and the authority key identifier.
 #[tactic(auto, using(crate::proofs::RequestParts::no_key, crate::proofs::RequestParts::no_number, crate::proofs::RequestParts::no_authority))]
 fn own_extensions(
     alloc: Global,
@@ -113,11 +114,11 @@ fn own_extensions(
 }
 
 impl<P: Profile> CrlBuilder<P> {
-    /// A builder of a list that this issuer makes at this time, with this number, of no
-    /// certificates.
+    /// Returns a builder for a CRL of this issuer, with this date and this number, and without
+    /// entries.
     ///
-    /// The key under which it is signed is told by the issuer's own authority key identifier; where
-    /// it has none, by the digest of its key.
+    /// The authority key identifier is copied from that of the issuer's certificate. If the
+    /// certificate has none, it is the digest of the issuer's key.
     ///
     /// As in `crates/example_build_certificates/src/main.rt`:
     ///
@@ -129,8 +130,11 @@ impl<P: Profile> CrlBuilder<P> {
     /// ```
     ///
     /// # Errors
-    /// `Failed` where the issuer has two authority key identifiers; the first fault of its one;
-    /// `Overflow` where a length passes 2^32 - 1; `OutOfMemory`.
+    ///
+    /// - `Failed`: the issuer has two authority key identifiers.
+    /// - The first error of its authority key identifier.
+    /// - `Overflow`: a length exceeds 2^32 - 1.
+    /// - `OutOfMemory`: memory runs out.
     pub fn new_with_this_update(
         alloc: Global,
         issuer: &Certificate,
@@ -163,8 +167,7 @@ impl<P: Profile> CrlBuilder<P> {
         })
     }
 
-    /// The builder of the same list, which says when the next one is made at the latest, or doesn't
-    /// say it.
+    /// Sets the date by which the next CRL is issued, or removes it.
     pub fn with_next_update(mut self, next_update: Option<Time>) -> CrlBuilder<P>
         ensures { result ≡ record self { next_update = plain_option time_value next_update } }
     {
@@ -172,11 +175,12 @@ impl<P: Profile> CrlBuilder<P> {
         self
     }
 
-    /// Adds certificates that were revoked, after those that are there, in the order in which they
-    /// come. The field then stands in the list, also where there are none.
+    /// Adds entries for revoked certificates after the present ones, in their order. The CRL then
+    /// has the list of entries, even if it is empty.
     ///
     /// # Errors
-    /// Out of memory. The builder is then as it was.
+    ///
+    /// Fails if memory runs out. The builder is then as it was.
     pub fn with_certificates<I: Iterator<Item = RevokedCert<P>>>(
         &mut self,
         alloc: Global,
@@ -197,7 +201,7 @@ impl<P: Profile> CrlBuilder<P> {
         Ok(())
     }
 
-    /// Appends certificates to those of the list, which then has that field.
+    /// Appends entries to those of the CRL, which then has the list of entries.
     fn append(&mut self, mut more: Vec<RevokedCert<P>>) -> Result<(), Error>
         ensures added { OnOk result
             (self.new
@@ -214,7 +218,7 @@ impl<P: Profile> CrlBuilder<P> {
         Ok(())
     }
 
-    /// The part that a signer of this algorithm signs.
+    /// Returns the part that a signer of this algorithm signs.
     fn part_for(
         &self,
         alloc: Global,

@@ -1,7 +1,7 @@
-//! Laws of certificates, of their parts, of names and their texts, of CRLs, requests
-//! and trust anchors, for every bound of arcs and every profile, and of timestamps.
+//! Laws about certificates, their parts, names and their texts, CRLs, CSRs and trust anchors, for
+//! every bound of arcs and every profile, and about timestamps.
 //!
-//! Each is the contract of a function that does nothing.
+//! Each law is the contract of a function that does nothing.
 
 ghost use Rattle.std.specs.Prelude.{◌≤◌, ◌↔◌, ℕ, List, Option, None, pos};
 ghost use Rattle.x509_cert_anchors.specs.Oid.Bound.{Bound};
@@ -55,8 +55,8 @@ pub use x509_cert_lists::cert_parts::laws::{
 };
 pub use x509_cert_lists::laws::{attributes_are_of_their_types, equality_of_lists_is_of_values};
 
-/// Octets spell a CRL, a request or a trust anchor under a narrow bound of arcs exactly
-/// where they spell it under a wider one and each arc of its identifiers is below the narrow one.
+/// Bytes encode a CRL, a CSR or a trust anchor under a smaller bound of arcs exactly if they encode
+/// it under a larger bound and each arc of its identifiers is below the smaller one.
 pub fn wider_bounds_keep_types()
     ensures lists { (small large : ℕ) (limit : Option ℕ)
         (l : BodyValue (certificate_list_fields 0 None)) (w : List ℕ) → 40 ≤ small
@@ -72,7 +72,7 @@ pub fn wider_bounds_keep_types()
         × AreBelow small (identifiers_of (trust_anchor_choice 0 None) a)) }
 {}
 
-/// `==` of what extensions hold is of its plain values.
+/// `==` of the contents of extensions compares their abstract values.
 pub fn equality_of_extensions_is_of_values()
     ensures general_names { IsByValue ⟦<GeneralName as PartialEq>⟧ ⟦<GeneralName as Shaped>⟧
         × IsByValue ⟦<OtherName as PartialEq>⟧ ⟦<OtherName as Shaped>⟧

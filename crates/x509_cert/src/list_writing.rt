@@ -1,8 +1,9 @@
-//! What is signed, written: what an Ok holds are the octets of a value that has an encoding.
+//! Encoding the signed parts of CRLs and CSRs. The bytes of an `Ok` are those of a value that has
+//! an encoding.
 //!
-//! The parts of a list that is signed are in their ranges, so that it can fail to have an encoding
-//! only by its length. Any serial number may stand in it, whatever the profile reads. Each is a law
-//! of the values of a type, and stands as the contract of a call that does nothing.
+//! The parts of the signed part are in their ranges, so it can lack an encoding only because of its
+//! length. It may contain any serial number, whatever the profile accepts. Each of these is a law
+//! about the values of a type, stated as the contract of a function that does nothing.
 
 ghost use Rattle.std.specs.Prelude.{◌≡◌, ◌⊎◌, None, IfOk, IfErr};
 ghost use Rattle.std.specs.List.{AllByRecursion};
@@ -21,7 +22,7 @@ use x509_cert_builders::Error;
 use x509_cert_lists::cert_parts::{Extensions, Profile};
 use x509_cert_lists::{RevokedCert, TbsCertList};
 
-/// The octets of a value.
+/// Returns the bytes of a value.
 pub(crate) fn written<T: Encode + InRange>(alloc: Global, value: &T) -> Result<Vec<u8>, Error>
     ensures octets { IfOk result (λ v. v.items ≡ octets_of T.shape (T.written value.now)) }
     ensures valid { IfOk result (λ _. IsValid T.shape (T.written value.now)) }
@@ -33,7 +34,7 @@ pub(crate) fn written<T: Encode + InRange>(alloc: Global, value: &T) -> Result<V
     Ok(octets)
 }
 
-/// The octets of a list, which has an encoding whatever serial numbers are read.
+/// Returns the bytes of a CRL, which has an encoding whatever serial numbers are accepted.
 pub(crate) fn list_written<P: Profile>(
     alloc: Global,
     part: &TbsCertList<P>,
@@ -83,7 +84,7 @@ fn field_in_range(made: &Option<Extensions>)
     }
 }
 
-/// The parts of a list are.
+/// The parts of a CRL are in range.
 pub(crate) fn list_in_range<P: Profile>(part: &TbsCertList<P>)
     ensures { IsInRange (list_part None) (tbs_cert_list_plain part.now) }
 {

@@ -31,8 +31,8 @@ use x509_cert_lists::request::Version;
 use x509_cert_lists::types::BitString;
 use x509_cert_lists::{AsAttribute, CertReq, CertReqInfo, ExtensionReq, TryFromExtensionReq};
 
-/// A builder of CSRs (RFC 2986). The extensions that are asked for stand in one
-/// attribute, which is made at each `finalize`.
+/// A builder of CSRs (RFC 2986). The extensions that are asked for are in one attribute, which is
+/// made at each `finalize`.
 ///
 /// Contracts see whose key it is, the extensions that are asked for, the other attributes, and the
 /// part that was made last.
@@ -58,7 +58,7 @@ impl Model for RequestBuilder {
     ghost invariant = { λ b. AllValid (attribute Bound) attribute_plain b.attributes.values.items };
 }
 
-/// The attribute that asks for these extensions (RFC 2985 5.4.2), which has an encoding.
+/// Returns the attribute that asks for these extensions (RFC 2985 5.4.2), which has an encoding.
 fn attribute_for(alloc: Global, extensions: Extensions) -> Result<Attribute, Error>
     ensures made { IfOk result
         (λ a. extension_req_attribute Bound (extensions_plain extensions.items)
@@ -73,8 +73,7 @@ fn attribute_for(alloc: Global, extensions: Extensions) -> Result<Attribute, Err
 }
 
 impl RequestBuilder {
-    /// A builder of a request for a certificate of this subject, that asks for no extension. It is
-    /// never refused.
+    /// Returns a builder for a CSR of this subject, without extensions. It never fails.
     pub fn new(alloc: Global, subject: Name) -> Result<RequestBuilder, Error>
         ensures made { IfOk result (λ b. b ≡ record {
           subject = name_plain subject;
@@ -94,10 +93,11 @@ impl RequestBuilder {
         })
     }
 
-    /// Asks for the extension that a value gives, after those that are asked for.
+    /// Adds an extension to those that the CSR asks for.
     ///
     /// # Errors
-    /// Those of the value, and out of memory. The builder is then as it was.
+    ///
+    /// - The errors of the value, and out of memory. The builder is then as it was.
     pub fn add_extension<E: ToExtension>(
         &mut self,
         alloc: Global,
@@ -120,11 +120,15 @@ impl RequestBuilder {
         }
     }
 
-    /// Adds an attribute that holds a value, at its place in the ascending order of encodings.
+    /// Adds an attribute at its position in the ascending order of encodings.
     ///
     /// # Errors
-    /// `SetDuplicate` where it stands there, `Overflow` where it has 2^32 octets or more, and out
-    /// of memory. The builder is then as it was.
+    ///
+    /// - `SetDuplicate`: the CSR has the attribute already.
+    /// - `Overflow`: the attribute has 2^32 bytes or more.
+    /// - `OutOfMemory`: memory runs out.
+    ///
+    /// The builder is then as it was.
     pub fn add_attribute<A: AsAttribute>(&mut self, alloc: Global, value: &A) -> Result<(), Error>
         ensures added { OnOk result
             ((a : PlainAttribute)
@@ -146,7 +150,7 @@ impl RequestBuilder {
         Ok(())
     }
 
-    /// The part that a signer of this key signs.
+    /// Returns the part that a signer of this key signs.
     fn part_for(&self, alloc: Global, key: &SubjectPublicKeyInfo) -> Result<CertReqInfo, Error>
         ensures made { IfOk result (λ i. cert_req_info_plain i
             ≡ request_of self.now.subject self.now.extensions self.now.attributes
@@ -189,8 +193,8 @@ impl Builder for RequestBuilder {
 
     ghost is_same_otherwise = { λ b c. c ≡ record b { finalized = c.finalized } };
 
-    // The signed part of a request holds no algorithm (RFC 2986 4.1): the signature's is that of
-    // its signer.
+    // The signed part of a CSR has no algorithm (RFC 2986 4.1), so the algorithm of the signature
+    // is that of its signer.
     ghost algorithm_for = { λ _ signer. signer };
 
     ghost signed_part = { λ r. cert_req_info_plain r.info };

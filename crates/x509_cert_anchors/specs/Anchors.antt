@@ -1,5 +1,5 @@
 -- Trust anchors (RFC 5914 2). Each shape takes the bound of arcs and the greatest number of content
--- octets of a serial number, if there is such a number.
+-- bytes of a serial number, if there is such a number.
 use Rattle.std.specs.Prelude.{ℕ, ◌^◌, List, [], ◌∷◌, Bool, Option, None, codes}
 use Rattle.std.proofs.Common.{inl, inr}
 use Rattle.der_core.specs.TagTypes.Tag.TheVariants as tags
@@ -51,7 +51,7 @@ anchor_numbers = 1 ∷ []
 abbrev pub anchor_version : Shape
 anchor_version = tagged tags.Integer (leaf (integer (among anchor_numbers)))
 
--- the octets of v1, which never stand
+-- the bytes of v1, which never stand
 abbrev pub first_anchor_version_octets : List ℕ
 first_anchor_version_octets = 2 ∷ 1 ∷ 1 ∷ []
 

@@ -23,7 +23,7 @@ impl Described for Version {
     type By = AsNumbered;
 }
 
-/// Any other number is refused as `Value`.
+/// Any other number is rejected as `Value`.
 impl Numbered for Version {
     ghost known_numbers = { anchor_numbers };
 

@@ -15,7 +15,7 @@ use x509_cert_general_names::NameConstraints;
 use x509_cert_policies::CertificatePolicies;
 use x509_cert_policies::cert_parts::{Extension, Profile};
 
-/// A copy of a text.
+/// Returns a copy of a text.
 fn copy_of_text(text: &String, alloc: Global) -> Result<String, AllocError>
     ensures { IfOk result (λ t. string_bytes t ≡ string_bytes text.now) }
 {
@@ -23,7 +23,7 @@ fn copy_of_text(text: &String, alloc: Global) -> Result<String, AllocError>
 }
 
 impl<P: Profile> CertPathControls<P> {
-    /// A copy. Out of memory is the only error.
+    /// Returns a copy. The only error is that memory runs out.
     pub fn clone(&self, alloc: Global) -> Result<CertPathControls<P>, AllocError>
         ensures { IsCopy self.now result cert_path_controls_plain }
     {
@@ -39,7 +39,7 @@ impl<P: Profile> CertPathControls<P> {
 }
 
 impl<P: Profile> TrustAnchorInfo<P> {
-    /// A copy. Out of memory is the only error.
+    /// Returns a copy. The only error is that memory runs out.
     pub fn clone(&self, alloc: Global) -> Result<TrustAnchorInfo<P>, AllocError>
         ensures { IsCopy self.now result trust_anchor_info_plain }
     {
@@ -56,7 +56,7 @@ impl<P: Profile> TrustAnchorInfo<P> {
 }
 
 impl<P: Profile> TrustAnchorChoice<P> {
-    /// A copy. Out of memory is the only error.
+    /// Returns a copy. The only error is that memory runs out.
     pub fn clone(&self, alloc: Global) -> Result<TrustAnchorChoice<P>, AllocError>
         ensures { IsCopy self.now result trust_anchor_plain }
     {

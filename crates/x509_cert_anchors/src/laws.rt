@@ -1,6 +1,6 @@
 //! Laws of trust anchors, for every bound of arcs and every profile, beside those of certificates.
 //!
-//! Each is the contract of a function that does nothing.
+//! Each law is the contract of a function that does nothing.
 
 ghost use Rattle.std.specs.Prelude.{ℕ, Option, Bool};
 ghost use Rattle.der_core.specs.Shapes.{IsValid};

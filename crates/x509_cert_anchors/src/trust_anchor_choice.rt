@@ -2,15 +2,19 @@
 
 ghost use Rattle.std.specs.Prelude.{◌≡◌, refl};
 ghost use Rattle.der_core.specs.Oid.Bound.{Bound};
+ghost use Rattle.der_core.specs.Shapes.{Value};
 ghost use Rattle.x509_cert_anchors.specs.Anchors.{trust_anchor_choice, trust_anchor_by};
 ghost use Rattle.x509_cert_anchors.specs.AnchorViews.{trust_anchor_plain};
 
 use crate::trust_anchor_info::TrustAnchorInfo;
+use der_core::describing::{LentField, ReadCase, Whole};
+use der_core::making::{cases_cmp, cases_tag};
 use der_core::{
-    Choice, Decode, Element, Encode, EncodeRef, Error, Explicit, Length, Member, OneOf3, Reader,
-    Shaped, Tag, Writer, case,
+    Choice, Decode, DerOrd, Element, Encode, EncodeRef, Error, Explicit, FirstTag, Length, Member,
+    OneOf3, Reader, Shaped, Tag, Writer, case,
 };
 use std::alloc::Global;
+use std::cmp::Ordering;
 use x509_cert_certificates::{CertificateInner, TbsCertificateInner};
 use x509_cert_policies::cert_parts::{Profile, Rfc5280};
 
@@ -34,7 +38,7 @@ pub enum TrustAnchorChoice<P = Rfc5280> {
 }
 
 type Cases<P> = OneOf3<
-    CertificateInner<P>,
+    Whole<CertificateInner<P>>,
     Explicit<TbsCertificateInner<P>, 1>,
     Explicit<TrustAnchorInfo<P>, 2>,
 >;
@@ -46,10 +50,11 @@ type CasesRef<'a, P> = OneOf3<
 >;
 
 impl<P: Profile> TrustAnchorChoice<P> {
-    /// The alternative that stands, lent.
+    /// Returns a reference to the alternative.
     fn cases<'a>(&'a self) -> CasesRef<'a, P>
-        ensures { ⟦<CasesRef<'a, P> as Shaped>⟧.written result
-            ≡ trust_anchor_by P.respells (trust_anchor_plain self.now) }
+        ensures { ◌≡◌ {A = Value (trust_anchor_choice Bound P.serial_limit)}
+            (⟦<CasesRef<'a, P> as LentField>⟧.written result)
+            (trust_anchor_by P.respells (trust_anchor_plain self.now)) }
     {
         match self {
             TrustAnchorChoice::Certificate(value) => case!(1 of 3: EncodeRef(value)),
@@ -77,8 +82,8 @@ impl<P: Profile> Choice for TrustAnchorChoice<P> {
 
 impl<'a, R: Reader<'a>, P: Profile> Decode<'a, R> for TrustAnchorChoice<P> {
     fn decode(alloc: Global, reader: &mut R) -> Result<TrustAnchorChoice<P>, Error> {
-        match <Cases<P>>::decode(alloc, reader)? {
-            case!(1 of 3: value) => Ok(TrustAnchorChoice::Certificate(value)),
+        match <Cases<P>>::read_case(alloc, reader)? {
+            case!(1 of 3: Whole(value)) => Ok(TrustAnchorChoice::Certificate(value)),
             case!(2 of 3: value) => Ok(TrustAnchorChoice::TbsCertificate(value.value)),
             case!(3 of 3: value) => Ok(TrustAnchorChoice::TaInfo(value.value)),
         }
@@ -87,11 +92,11 @@ impl<'a, R: Reader<'a>, P: Profile> Decode<'a, R> for TrustAnchorChoice<P> {
 
 impl<P: Profile> Encode for TrustAnchorChoice<P> {
     fn encoded_len(&self) -> Result<Length, Error> {
-        self.cases().encoded_len()
+        self.cases().field_len()
     }
 
     fn encode<W: Writer>(&self, writer: &mut W) -> Result<(), Error> {
-        self.cases().encode(writer)
+        self.cases().encode_field(writer)
     }
 }
 
@@ -101,4 +106,17 @@ impl<P: Profile> Element for TrustAnchorChoice<P> {
 
 impl<P: Profile> Member for TrustAnchorChoice<P> {
     ghost apart = { refl };
+}
+
+/// The tags, then the contents.
+impl<P: Profile> DerOrd for TrustAnchorChoice<P> {
+    fn der_cmp(&self, other: &Self) -> Result<Ordering, Error> {
+        cases_cmp(&self.cases(), &other.cases())
+    }
+}
+
+impl<P: Profile> FirstTag for TrustAnchorChoice<P> {
+    fn first_tag(&self) -> Option<Tag> {
+        cases_tag(&self.cases())
+    }
 }

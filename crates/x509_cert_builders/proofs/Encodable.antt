@@ -57,7 +57,7 @@ unfolding tlv head_octets length_octets
 short_tlv t c l =
     rw (lt-ltb (length c) 128 l) (omega (arith, length-append (tag_octets t) (length c ∷ []), length-append (tag_octets t ++ length c ∷ []) c))
 
--- a short content fits behind its header
+-- a short content fits after its header
 small : (t : Tag) (c : List ℕ) → length (tag_octets t) ≤ 5 → length c < 128 → Fits (tlv t c)
 small t c h l = omega (arith, h, l, short_tlv t c l)
 
@@ -129,7 +129,7 @@ unfolding IsValid IsContent IsBody tlv head_octets length_octets tag_octets cont
 purposes_valid true = ((purpose false, (purpose true, tt)), omega arith, omega arith)
 purposes_valid false = ((purpose false, tt), omega arith, omega arith)
 
--- octets that are a digest
+-- bytes that are a digest
 abbrev pub IsDigest : List ℕ → Type 0
 IsDigest w = (m : List ℕ) × (w ≡ sha1 m)
 
@@ -144,14 +144,14 @@ identifier_valid w d = subst (λ v. IsValid octet_string v) (sym d.1) (key_fits 
 pub is_digest : (m w : List ℕ) → w ≡ sha1 m → IsDigest w
 is_digest m w e = (m, e)
 
--- Signed parts: whether they have an encoding, and the octets at their place.
+-- Signed parts: whether they have an encoding, and the bytes at their place.
 
--- the octets don't depend on the profile by which serial numbers are read
+-- the bytes don't depend on the profile by which serial numbers are read
 pub raw_octets : (t : Tbs) → octets_of (tbs_certificate Bound (Some 21)) t ≡ octets_of part_shape t
 unfolding octets_of body_octets contents
 raw_octets t = refl
 
--- the part that was made last stands in a certificate into which it was put back
+-- the part that was made last is in a certificate into which it was put back
 pub put_back : (o : Option Finalized) (f : PlainFields) (t : Tbs)
     → plain_option (λ l. signed_part f (algorithm_plain l.algorithm) (extensions_plain l.extensions.items)) o ≡ Some t
     → plain_option written_part (plain_option (finalized_plain f) o) ≡ Some (written_part t)
@@ -194,7 +194,7 @@ made_valid f a es t e h valid =
     let here : IsPartInRange (signed_part f a es) = subst IsPartInRange e h in
     subst (λ (u : Tbs). IsInRange part_shape (written_part u) → IsValid part_shape (written_part u)) e valid (written_in_range f a es here)
 
--- Identifiers each of whose arcs is one octet.
+-- Identifiers each of whose arcs is one byte.
 
 abbrev AreShort : List ℕ → Type 0
 AreShort arcs = AllByRecursion (λ n. n < 128) arcs
@@ -214,7 +214,7 @@ short_arcs arcs h = ap (λ w. read_arcs Bound 0 w) (sym (short_octets arcs h)) �
 pub read_x500 : (m n : ℕ) → m < 128 → n < 128 → read_identifier Bound 39 (85 ∷ m ∷ n ∷ []) ≡ Ok (2 ∷ 5 ∷ m ∷ n ∷ [])
 read_x500 m n g h = ap (λ r. with_arc 2 (with_arc 5 r)) (short_arcs (m ∷ n ∷ []) (g, (h, tt)))
 
--- The uses of a subscriber's key, one after the other.
+-- The uses of a subscriber's key, one after another.
 
 abbrev with_use : Bool → ℕ → ℕ → ℕ
 with_use stands uses more = if stands then bit_or uses more else uses

@@ -24,7 +24,7 @@ or_unwritten s v w kind valid fault = or_memory {X = HasNoEncoding s v kind} kin
 pub not_made : (s : Shape) (v : Value s) (kind : ErrorKind) → IsNotMade s v kind → (kind ≡ kinds.OutOfMemory) ⊎ HasNoEncoding s v kind
 not_made s v kind h = or_memory kind (λ enough. record { invalid = λ valid. enough (h.valid valid); fault = h.fault enough })
 
--- The name of a module, as another name and as a general name, and why it is refused.
+-- The name of a module, as another name and as a general name, and why it is rejected.
 
 abbrev as_general : Result PlainOther ErrorKind → Result PlainGeneralName ErrorKind
 as_general r = r >>= λ n. Ok (inl n)
@@ -33,7 +33,7 @@ as_general r = r >>= λ n. Ok (inl n)
 pub module_named : (arcs version serial : List ℕ) (r : Result PlainOther ErrorKind) → arcs ≡ version → module_held Bound (arcs, (serial, tt)) ≡ r → module_name version serial ≡ as_general r
 module_named arcs version serial r same e = ap as_general (subst (λ (a : List ℕ). module_held Bound (a, (serial, tt)) ≡ r) same e)
 
--- want of memory is among the reasons
+-- out of memory is among the reasons
 pub want_fails : {X : Type 0} (r : Result X ErrorKind) (e : Error) → IsWantOfMemory e → FailsAs r e
 want_fails r (errors.Asn1 e) h = λ other. absurd (other h)
 want_fails r _ h = absurd h

@@ -132,7 +132,7 @@ module _ (n kept ws more : PlainName) (r : List TypeAndValue) (next : ws ≡ r �
   pub next_stays : all_stays n ≡ true → list_all may_stay r ≡ true
   next_stays all = (this_stays all).1
 
-  -- where all attributes that are left are short, the next relative name's are, and those behind it
+  -- where all attributes that are left are short, the next relative name's are, and those after it
   these_short : AreShort (attributes_left n) → AreShort (left_of r) × AreShort (attributes_left more)
   these_short all = all_parts (IsValid (type_and_value Bound)) (left_of r) (attributes_left more) (here.short all)
 
@@ -214,7 +214,7 @@ checked_all repeats n types c =
     let end : n ≡ c.seen = c.whole ∙ append-nil c.seen in
     (λ i h. c.right i (subst (λ m. i < length m) end h), c.types ∙ ap name_types (sym end))
 
--- each type may stand there, and one that must is missing
+-- each type may be there, and one that must is missing
 pub lacking : (n : PlainName) → IsNamed false n → foreign_type (name_types n) ≡ None → has_required (name_types n) ≡ false → NamesAuthority {X = Unit {0}} n (Err errors.MissingAttributes)
 lacking n named none lacks = inr (inl (named, inr (none, lacks, refl)))
 

@@ -36,12 +36,12 @@ abbrev pub is_of_module : PlainGeneralName → Bool
 is_of_module (inl n) = owned_eq n.0 module_arcs
 is_of_module (inr n) = false
 
--- the module that a name of this kind holds, or its first fault; other names hold none
+-- the module that a name of this kind holds, or its first error; other names hold none
 abbrev pub module_of : PlainGeneralName → Result PlainModule ErrorKind
 module_of (inl n) = content_as Sequence (nested (hardware_module_name_fields Bound)) n.1.0
 module_of (inr n) = Err kinds.Failed
 
--- the module that the first name of this kind holds, or its first fault
+-- the module that the first name of this kind holds, or its first error
 abbrev pub first_module : List PlainGeneralName → Result PlainModule ErrorKind
 first_module [] = Err kinds.Failed
 first_module (n ∷ more) = if is_of_module n then module_of n else first_module more
@@ -57,7 +57,7 @@ abbrev pub MayNotHave : Option (List PlainGeneralName) → Error → Type 0
 MayNotHave None e = ⊥
 MayNotHave (Some names) e = FailsAs (first_module names) e
 
--- the name of a module of this type and this serial number, if a length can count its octets
+-- the name of a module of this type and this serial number, if a length can count its bytes
 abbrev pub module_name : List ℕ → List ℕ → Result PlainGeneralName ErrorKind
 module_name arcs serial = module_held Bound (arcs, (serial, tt)) >>= λ n. Ok (inl n)
 
@@ -84,8 +84,8 @@ device_extensions names subject issuer_key = authority_key_extension issuer_key
 abbrev pub device_names : DevId → Option (List PlainGeneralName)
 device_names d = plain_option (λ v. plain_list general_name_plain v.0.items) d.subject_alt_name
 
--- alternative names have no encoding, as where a length passes 2^32 - 1, and this is the first
--- fault in writing them
+-- alternative names have no encoding, as where a length exceeds 2^32 - 1, and this is the first
+-- error in writing them
 abbrev pub IsUnnameable : Option (List PlainGeneralName) → Error → Type 0
 IsUnnameable None e = ⊥
 IsUnnameable (Some names) e = IsUnwritten (sequence_of (general_name Bound)) names e

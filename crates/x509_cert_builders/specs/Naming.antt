@@ -38,7 +38,7 @@ ordered_types =
 abbrev pub is_among : List (List ℕ) → List ℕ → Bool
 is_among types t = list_any (λ u. owned_eq u t) types
 
--- how many of the types whose order is laid down stand before a type; all of them where it is none
+-- how many of the types whose order is laid down come before a type; all of them where it is none
 -- of them
 abbrev pub rank_of : List ℕ → ℕ
 rank_of t = position_or_len (λ u. owned_eq u t) ordered_types
@@ -46,13 +46,12 @@ rank_of t = position_or_len (λ u. owned_eq u t) ordered_types
 abbrev pub is_ordered : List ℕ → Bool
 is_ordered t = nat_lt (rank_of t) (length ordered_types)
 
--- whether a type may stand behind one that stands before it in a name
+-- whether a type may be after one that comes before it in a name
 abbrev pub may_follow : List ℕ → List ℕ → Bool
 may_follow t before = not (is_ordered t) || not (is_ordered before)
     || nat_lt (rank_of before) (rank_of t)
 
--- the type of an RDN's attribute, behind attributes of these types; or why the RDN may not stand
--- there
+-- the type of an RDN's attribute, after attributes of these types; or why the RDN may not be there
 abbrev pub type_behind : Bool → List (List ℕ) → List TypeAndValue → Result (List ℕ) Error
 type_behind repeats before [] = Err errors.NonUniqueRdn
 type_behind repeats before (a ∷ []) =
@@ -60,12 +59,11 @@ type_behind repeats before (a ∷ []) =
     else if list_all (may_follow a.0) before then Ok a.0 else Err (errors.InvalidAttribute a.0)
 type_behind repeats before (a ∷ b ∷ more) = Err errors.NonUniqueRdn
 
--- the type of the RDN at a place of a name, behind those before it, or why it may not
--- stand there
+-- the type of the RDN at a place of a name, after those before it, or why it may not be there
 abbrev pub type_at : Bool → PlainName → ℕ → Result (List ℕ) Error
 type_at repeats n i = type_behind repeats (name_types (take i n)) (get_or n i [])
 
--- every RDN may stand where it stands
+-- every RDN may be where it stands
 abbrev pub IsNamed : Bool → PlainName → Type 0
 IsNamed repeats n = (i : ℕ) → i < length n → IsOk (type_at repeats n i)
 
@@ -91,7 +89,7 @@ has_required types = is_among types country && is_among types organization
 abbrev pub foreign_type : List (List ℕ) → Option (List ℕ)
 foreign_type types = find (λ t. not (is_among authority_types t)) types
 
--- why attributes of these types, each once, are no name of an authority
+-- why attributes of these types, each once, aren't a name of an authority
 abbrev pub IsAuthorityFault : List (List ℕ) → Error → Type 0
 IsAuthorityFault types e =
     ((t : List ℕ) × (foreign_type types ≡ Some t) × (e ≡ errors.InvalidAttribute t))

@@ -45,7 +45,7 @@ digital_signature = 2 ^ 0
 abbrev pub cert_and_crl_sign : ℕ
 cert_and_crl_sign = 2 ^ 5 + 2 ^ 6
 
--- what an authority's key is for; one that answers about the state of certificates signs its
+-- what an authority's key is for; one that returns about the state of certificates signs its
 -- answers (7.1.2.10.7)
 abbrev pub authority_uses : Bool → ℕ
 authority_uses answers = if answers then cert_and_crl_sign + digital_signature

@@ -53,7 +53,7 @@ algorithm_of_last (Some t) a = tbs_inner_algorithm t
 abbrev pub as_written : PlainCertificate → PlainCertificate
 as_written c = certificate_by true c
 
--- the octets at the place of the signed part in what is written of a certificate
+-- the bytes at the place of the signed part in what is written of a certificate
 abbrev pub certificate_octets_in_place : PlainCertificate → List ℕ
 certificate_octets_in_place c =
     let w = as_written c in

@@ -59,7 +59,7 @@ abbrev pub left_of : List TypeAndValue → List TypeAndValue
 left_of [] = []
 left_of (a ∷ more) = if may_stay a then a ∷ left_of more else left_of more
 
--- the RDNs of which something is left, behind those that stand behind
+-- the RDNs of which something is left, after those that stand after
 abbrev pub relative_in_front : List TypeAndValue → PlainName → PlainName
 relative_in_front [] more = more
 relative_in_front (a ∷ r) more = (a ∷ r) ∷ more
@@ -77,7 +77,7 @@ attributes_left n = flat_map left_of n
 abbrev pub AreShort : List TypeAndValue → Type 0
 AreShort r = AllByRecursion (IsValid (type_and_value Bound)) r
 
--- the fault of one that has none, as where it has 2^32 octets or more
+-- the error of one that has none, as where it has 2^32 bytes or more
 abbrev pub HasLongAttribute : List TypeAndValue → Error → Type 0
 HasLongAttribute r e = IsOfKind kinds.Overflow e × (AreShort r → ⊥)
 

@@ -5,11 +5,11 @@ use Rattle.std.specs.List.{list_all}
 use Rattle.x509_cert_certificates.specs.Oid.Orders.{owned_cmp}
 use Rattle.x509_cert_builders.specs.Naming.{is_among, may_follow, rank_of}
 
--- a set has a type exactly where it is among these
+-- a set has a type exactly if it is among these
 abbrev pub HasTypes : List (List ℕ) → BTreeSet (List ℕ) → Type 0
 HasTypes types seen = (t : List ℕ) → contains owned_cmp seen t ≡ is_among types t
 
--- a type may stand behind all of these exactly where its rank is this one or greater
+-- a type may be after all of these exactly if its rank is this one or greater
 abbrev pub IsLeastRank : List (List ℕ) → ℕ → Type 0
 IsLeastRank types least = (t : List ℕ)
     → list_all (may_follow t) types ≡ nat_le least (rank_of t)

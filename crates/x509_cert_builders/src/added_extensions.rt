@@ -88,7 +88,7 @@ pub(crate) fn add_identifier<'a>(
     Ok(())
 }
 
-/// Adds whether the subject is an authority, and how many may stand below it (4.2.1.9).
+/// Adds whether the subject is an authority, and how many may be below it (4.2.1.9).
 #[tactic(auto, using(crate::proofs::Encodable::constraints_valid))]
 pub(crate) fn add_constraints(
     alloc: Global,
@@ -127,7 +127,7 @@ pub(crate) fn add_usage(
     Ok(())
 }
 
-/// Adds that servers, and maybe clients, are told by it (4.2.1.12).
+/// Adds that servers, and maybe clients, are reported by it (4.2.1.12).
 #[tactic(auto, using(crate::proofs::Encodable::purposes_valid))]
 pub(crate) fn add_purposes(
     alloc: Global,
@@ -163,8 +163,8 @@ pub(crate) fn joined(
     Ok(all)
 }
 
-/// What an authority's key is for: it signs certificates and lists, and maybe answers about the
-/// state of certificates.
+/// Returns what an authority's key is for: it signs certificates and lists, and maybe answers about
+/// the state of certificates.
 pub(crate) fn authority_usage(emits_ocsp_response: bool) -> KeyUsage
     ensures { result.0.flags.0 ≡ authority_uses emits_ocsp_response }
 {
@@ -176,7 +176,7 @@ pub(crate) fn authority_usage(emits_ocsp_response: bool) -> KeyUsage
     KeyUsage(uses)
 }
 
-/// The purposes of who proves to be a server, and maybe a client, or stands above such.
+/// Returns the purposes of who proves to be a server, and maybe a client, or stands above such.
 pub(crate) fn purposes_of(alloc: Global, clients: bool) -> Result<ExtendedKeyUsage, Error>
     ensures purposes { IfOk result (λ u. plain_list (λ a. a) u.0.items ≡ purposes clients) }
     ensures refused { IfErr result IsWantOfMemory }

@@ -9,9 +9,10 @@ use x509_cert_certificates::cert_names::attribute_types::{
 };
 use x509_cert_certificates::oid::ObjectIdentifier;
 
-/// The types whose order in a name is laid down, in that order: between country and organization
-/// `stateOrProvinceName`, `localityName`, `postalCode` and `streetAddress`, after it `surname`,
-/// `givenName` and `organizationalUnitName` (CA/Browser Forum, Baseline Requirements 7.1.4.2).
+/// Returns the types whose order in a name is laid down, in that order: between country and
+/// organization `stateOrProvinceName`, `localityName`, `postalCode` and `streetAddress`, after it
+/// `surname`, `givenName` and `organizationalUnitName` (CA/Browser Forum, Baseline Requirements
+/// 7.1.4.2).
 pub(crate) fn ordered_types() -> [ObjectIdentifier<39>; 11]
     ensures { result ≡ ordered_types }
 {
@@ -30,7 +31,7 @@ pub(crate) fn ordered_types() -> [ObjectIdentifier<39>; 11]
     ]
 }
 
-/// The types that the name of an authority may have (7.1.2.10.2).
+/// Returns the types that the name of an authority may have (7.1.2.10.2).
 pub(crate) fn authority_types() -> [ObjectIdentifier<39>; 7]
     ensures { result ≡ authority_types }
 {

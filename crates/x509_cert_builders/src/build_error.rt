@@ -1,4 +1,4 @@
-//! Why a certificate, a list or a request could not be made.
+//! Why a certificate, a CRL or a CSR can't be made.
 
 ghost use Rattle.std.specs.Prelude.{◌≡◌};
 ghost use Rattle.x509_cert_builders.specs.declared.build_error.Error.TheVariants.{Asn1, Signature};
@@ -8,31 +8,31 @@ use crate::sign_error::SignError;
 use std::alloc::{AllocError, AllocFailed};
 use x509_cert_certificates::oid::ObjectIdentifier;
 
-/// Why a certificate, a list or a request could not be made.
+/// Why a certificate, a CRL or a CSR can't be made.
 #[derive(Debug, Drop, thiserror::Error)]
 pub enum Error {
-    /// A fault in DER, or out of memory.
+    /// An error of DER, or memory ran out.
     #[error("ASN.1: {0}")]
     Asn1(x509_cert_certificates::der::Error),
-    /// The signer gives no signature.
+    /// The signer returned no signature.
     #[error("signature: {0}")]
     Signature(SignError),
-    /// An RDN that hasn't exactly one attribute.
+    /// An RDN doesn't have exactly one attribute.
     #[error("a relative name hasn't exactly one attribute")]
     NonUniqueRdn,
-    /// A type of attribute that the name has twice.
+    /// An attribute type occurs twice in the name.
     #[error("a type of attribute stands twice")]
     NonUniqueATV,
-    /// A type of attribute that may not stand there.
+    /// An attribute type isn't allowed in the name.
     #[error("attribute {oid} may not stand there")]
     InvalidAttribute {
         /// The type.
         oid: ObjectIdentifier<39>,
     },
-    /// A type of attribute that the name must have and hasn't.
+    /// A required attribute type is missing.
     #[error("an attribute is missing")]
     MissingAttributes,
-    /// A kind of certificate that the profile doesn't make.
+    /// The profile doesn't make this kind of certificate.
     #[error("no such certificate is made")]
     Unsupported,
 }

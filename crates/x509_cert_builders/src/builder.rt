@@ -1,4 +1,4 @@
-//! Builders.
+//! The builder trait.
 
 use crate::build_error::Error;
 use crate::signer::Signer;
@@ -6,8 +6,8 @@ use rand_core::CryptoRng;
 use std::alloc::Global;
 use x509_cert_certificates::types::BitString;
 
-/// What makes a signed thing: the octets that a signer is handed are those of the signed part of
-/// what comes out.
+/// A builder of a signed value. The bytes that the signer gets are those of the signed part of the
+/// result.
 pub trait Builder: Sized + Drop {
     ghost use Rattle.std.specs.Prelude.{◌≡◌, ◌⊎◌, ℕ, List, Option, Some, None, IfOk, IfErr, OnOk};
     ghost use Rattle.x509_cert_certificates.specs.Der.BitStrings.{Bits};
@@ -16,50 +16,54 @@ pub trait Builder: Sized + Drop {
     ghost use Rattle.x509_cert_builders.specs.Refusals.{IsFailed, IsUnsigned, IsWantOfMemory};
     ghost use Rattle.x509_cert_builders.specs.declared.build_error.Error.{Error};
 
-    /// What is made.
+    /// The type of the result.
     type Output;
 
-    /// The shape of what is to be signed.
+    /// The shape of the part that is signed.
     ghost part_shape: { Shape };
 
-    /// The part that is to be signed, by the state of the builder and a signer's key and algorithm.
+    /// The part that is signed, given the state of the builder and the signer's key and algorithm.
     ghost to_sign: { Self → PublicKey → Algorithm → Value part_shape };
 
-    /// What holds besides of a part that was made, as that it has an encoding.
+    /// What else holds for a part that was made, such as that it has an encoding.
     ghost is_valid: { Self → PublicKey → Algorithm → Type 0 };
 
-    /// Why there may be none, besides out of memory.
+    /// Why there may be no part, except that memory runs out.
     ghost faults: { Self → PublicKey → Algorithm → Error → Type 0 };
 
-    /// The part that was made last, if one was.
+    /// The part that was made last, if there is one.
     ghost finalized: { Self → Option (Value part_shape) };
 
-    /// What holds of two builders of which all but the part that was made last is the same.
+    /// A relation of two builders that differ only in the part that was made last.
     ghost is_same_otherwise: { Self → Self → Type 0 } = { λ _ _. Unit {0} };
 
-    /// The algorithm of the signature of what is made of that part, by that of the signer whose
-    /// signature it is.
+    /// The signature algorithm of the result for that part, given the algorithm of the signer.
     ghost algorithm_for: { Self → Algorithm → Algorithm };
 
-    /// The signed part of what was made.
+    /// The signed part of the result.
     ghost signed_part: { Self.Output → Value part_shape };
 
-    /// The octets at its place in what is written of what was made.
+    /// The bytes of the signed part in the encoding of the result.
     ghost signed_octets: { Self.Output → List ℕ };
 
-    /// The algorithm of the signature of what was made.
+    /// The signature algorithm of the result.
     ghost outer_algorithm: { Self.Output → Algorithm };
 
-    /// The signature of what was made.
+    /// The signature of the result.
     ghost bits: { Self.Output → Bits };
 
-    /// Returns the bytes to be signed. The builder keeps what they encode for `assemble` and stays
-    /// as it is otherwise. So a second call for the same signer returns the same bytes, and what is
-    /// added between two calls is in the bytes of the second, beside what was added before.
+    /// Returns the bytes to be signed. The builder keeps the part that they encode for `assemble`,
+    /// and is otherwise unchanged. So a second call for the same signer returns the same bytes.
+    /// What is added between two calls is in the bytes of the second call, with what was added
+    /// before.
     ///
     /// # Errors
-    /// `Asn1` with `Overflow` where a length passes 2^32 - 1, with `OutOfMemory`, and those of the
-    /// profile. The builder is then as it was.
+    ///
+    /// - `Asn1` with `Overflow`: a length exceeds 2^32 - 1.
+    /// - `Asn1` with `OutOfMemory`: memory runs out.
+    /// - The errors of the profile.
+    ///
+    /// After an error the builder is as it was.
     fn finalize<S: Signer>(&mut self, alloc: Global, signer: &S) -> Result<Vec<u8>, Error>
         ensures octets { IfOk result
             (λ v. v.items
@@ -79,10 +83,12 @@ pub trait Builder: Sized + Drop {
         ensures refused { IfErr result (λ e. IsWantOfMemory e
             ⊎ faults self.old (S.public_key signer.now) (S.signs_by signer.now) e) };
 
-    /// What was finalized last, with this signature. Nothing is written.
+    /// Returns the part that was finalized last, with this signature. Nothing is encoded.
     ///
     /// # Errors
-    /// `Asn1` with `Failed` where nothing was finalized, and with `OutOfMemory`.
+    ///
+    /// - `Asn1` with `Failed`: nothing was finalized.
+    /// - `Asn1` with `OutOfMemory`: memory runs out.
     fn assemble<S: Signer>(
         self,
         alloc: Global,
@@ -97,10 +103,12 @@ pub trait Builder: Sized + Drop {
         ensures unready { finalized self ≡ None → IfErr result IsFailed }
         ensures refused { IfErr result (λ e. IsWantOfMemory e ⊎ (finalized self ≡ None)) };
 
-    /// What the builder makes, signed.
+    /// Builds and signs the result.
     ///
     /// # Errors
-    /// Those of `finalize` and of `assemble`, and `Signature` where the signer gives none.
+    ///
+    /// - The errors of `finalize` and of `assemble`.
+    /// - `Signature`: the signer returns no signature.
     fn build<S: Signer>(mut self, alloc: Global, signer: &S) -> Result<Self::Output, Error>
         ensures part { IfOk result
             (λ x. signed_part x ≡ to_sign self (S.public_key signer.now) (S.signs_by signer.now)) }
@@ -120,10 +128,11 @@ pub trait Builder: Sized + Drop {
         Ok(self.assemble(alloc, signature, signer)?)
     }
 
-    /// As `build`, with what a generator of random octets gives.
+    /// Builds and signs the result as `build` does, with a random number generator for the signer.
     ///
     /// # Errors
-    /// Those of `build`.
+    ///
+    /// - The errors of `build`.
     fn build_with_rng<S: Signer, R: CryptoRng>(
         mut self,
         alloc: Global,

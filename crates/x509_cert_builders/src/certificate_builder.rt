@@ -41,7 +41,7 @@ use x509_cert_certificates::{Certificate, TbsCertificate};
 use x509_cert_extensions::ToExtension;
 
 /// A builder of certificates (RFC 5280 4.1), whose names and extensions its profile tells.
-/// Extensions that are added stand before those of the profile.
+/// Extensions that are added come before those of the profile.
 ///
 /// Contracts see its profile, what is settled, the extensions that were added, and the part that
 /// was made last.
@@ -70,7 +70,7 @@ impl<P> Model for CertificateBuilder<P> {
 }
 
 impl<P: BuilderProfile + Drop> CertificateBuilder<P> {
-    /// A builder of a certificate with this number, these dates and this key.
+    /// Returns a builder of a certificate with this number, these dates and this key.
     ///
     /// As in `crates/example_build_certificates/src/answering.rt`:
     ///
@@ -83,7 +83,8 @@ impl<P: BuilderProfile + Drop> CertificateBuilder<P> {
     /// ```
     ///
     /// # Errors
-    /// Those of the profile, and out of memory.
+    ///
+    /// - The errors of the profile, and out of memory.
     pub fn new(
         alloc: Global,
         profile: P,
@@ -128,7 +129,10 @@ impl<P: BuilderProfile + Drop> CertificateBuilder<P> {
     /// Adds the extension that a value gives.
     ///
     /// # Errors
-    /// Those of the value, and out of memory. The builder is then as it was.
+    ///
+    /// - The errors of the value, and out of memory.
+    ///
+    /// The builder is then as it was.
     pub fn add_extension<E: ToExtension>(
         &mut self,
         alloc: Global,
@@ -152,7 +156,7 @@ impl<P: BuilderProfile + Drop> CertificateBuilder<P> {
     }
 }
 
-/// The extensions that a profile adds to a part, of this signer.
+/// Returns the extensions that a profile adds to a part, of this signer.
 fn profiled<P: BuilderProfile, S: Signer>(
     alloc: Global,
     profile: &P,

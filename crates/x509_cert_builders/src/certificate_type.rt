@@ -36,15 +36,15 @@ pub enum CertificateType {
     ExtendedValidation,
 }
 
-/// Whether the subject of a subscriber whose domains were validated may have attributes of this
-/// type (7.1.2.7.2).
+/// Returns whether the subject of a subscriber whose domains were validated may have attributes of
+/// this type (7.1.2.7.2).
 fn may_stay(oid: &ObjectIdentifier<39>) -> bool
     ensures { result ≡ is_among (country ∷ common_name ∷ []) oid.now }
 {
     *oid == types::country() || *oid == types::common_name()
 }
 
-/// Whether the subject of a subscriber whose domains were validated may have all of these
+/// Returns whether the subject of a subscriber whose domains were validated may have all of these
 /// attributes.
 pub fn all_stay(attributes: &[AttributeTypeAndValue]) -> bool
     ensures { result ≡ list_all may_stay (relative_plain attributes.now) }
@@ -57,7 +57,7 @@ pub fn all_stay(attributes: &[AttributeTypeAndValue]) -> bool
     true
 }
 
-/// The attributes of an RDN that stay.
+/// Returns the attributes of an RDN that stay.
 #[tactic(auto, using(crate::proofs::Subjects::plain_pushed, crate::proofs::Subjects::left_more, crate::proofs::Subjects::left_same, crate::proofs::Subjects::distinct_more, crate::proofs::Subjects::distinct_same))]
 fn attributes_left(
     alloc: Global,
@@ -77,7 +77,7 @@ fn attributes_left(
     Ok(left)
 }
 
-/// What is left of an RDN.
+/// Returns what is left of an RDN.
 #[tactic(auto, using(crate::proofs::Cited::plain_permutation, crate::proofs::Subjects::left_whole))]
 fn left_of(
     alloc: Global,
@@ -99,7 +99,7 @@ fn left_of(
     Ok(RelativeDistinguishedName::try_from_vec(attributes)?)
 }
 
-/// What is left of a name: the RDNs of which something is left.
+/// Returns what is left of a name: the RDNs of which something is left.
 #[tactic(auto, using(crate::proofs::Subjects::left_none, crate::proofs::Subjects::left_all))]
 fn name_left(alloc: Global, name: &Name) -> Result<Name, Error>
     ensures left { IfOk result
@@ -121,12 +121,13 @@ fn name_left(alloc: Global, name: &Name) -> Result<Name, Error>
 }
 
 impl CertificateType {
-    /// A subscriber of this name whose domains were validated. Attributes but countries and common
-    /// names are left out, and RDNs of which nothing is left (7.1.2.7.2). The domains
-    /// stand in a certificate only where they are added to its builder.
+    /// Returns a subscriber of this name whose domains were validated. Attributes but countries and
+    /// common names are left out, and RDNs of which nothing is left (7.1.2.7.2). The domains are in
+    /// a certificate only if they are added to its builder.
     ///
     /// # Errors
-    /// Out of memory, or `Asn1` with `Overflow` where an attribute has 2^32 octets or more.
+    ///
+    /// Out of memory, or `Asn1` with `Overflow` if an attribute has 2^32 bytes or more.
     pub fn domain_validated(
         alloc: Global,
         subject: Name,
@@ -147,7 +148,7 @@ impl CertificateType {
         Ok(CertificateType::DomainValidated(DomainValidated { subject, names }))
     }
 
-    /// A copy. Out of memory is the only error.
+    /// Returns a copy. The only error is that memory runs out.
     pub fn clone(&self, alloc: Global) -> Result<CertificateType, AllocError>
         ensures { IsCopy self.now result type_plain }
     {

@@ -37,7 +37,7 @@ pub struct DevId {
     pub(crate) subject_alt_name: Option<SubjectAltName>,
 }
 
-/// Whether a name is that of a module of hardware.
+/// Returns whether a name is that of a module of hardware.
 fn is_of_module(alloc: Global, name: &GeneralName) -> Result<bool, Error>
     ensures other { is_of_module (general_name_plain name.now) ≡ false → result ≡ Ok false }
     ensures held { is_of_module (general_name_plain name.now) ≡ true
@@ -67,12 +67,13 @@ fn check_module(alloc: Global, names: &[GeneralName]) -> Result<(), Error>
 }
 
 impl DevId {
-    /// The profile of a device of this name. Where it has alternative names, one of them is the
-    /// name of its module of hardware (8.10.4).
+    /// Returns the profile of a device of this name. Where it has alternative names, one of them is
+    /// the name of its module of hardware (8.10.4).
     ///
     /// # Errors
-    /// `Asn1` with `Failed` where there are names, none of them that of a module; that of the first
-    /// name of a module which is none (`HardwareModuleName::from_other_name`); out of memory.
+    ///
+    /// - `Asn1`: with `Failed` if there are names, none of them that of a module; that of the first
+    ///   name of a module which is none (`HardwareModuleName::from_other_name`); out of memory.
     pub fn new(
         alloc: Global,
         issuer: Name,
@@ -105,12 +106,13 @@ impl DevId {
         })
     }
 
-    /// The profile of a device whose key, the first that it had, is kept in a Trusted Platform
-    /// Module of this version and this serial number (TPM 2.0 Keys for Device Identity and
+    /// Returns the profile of a device whose key, the first that it had, is kept in a Trusted
+    /// Platform Module of this version and this serial number (TPM 2.0 Keys for Device Identity and
     /// Attestation).
     ///
     /// # Errors
-    /// `Asn1` with `Overflow` where a length passes 2^32 - 1, and with `OutOfMemory`.
+    ///
+    /// - `Asn1`: with `Overflow` if a length exceeds 2^32 - 1, and with `OutOfMemory`.
     #[tactic(auto, using(crate::proofs::Faults::want_fails))]
     pub fn idevid_tpm(
         alloc: Global,

@@ -18,7 +18,7 @@ pub struct DomainValidated {
 }
 
 impl DomainValidated {
-    /// A copy. Out of memory is the only error.
+    /// Returns a copy. The only error is that memory runs out.
     pub fn clone(&self, alloc: Global) -> Result<DomainValidated, AllocError>
         ensures { IsCopy self.now result domains_plain }
     {

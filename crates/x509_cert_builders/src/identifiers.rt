@@ -6,7 +6,7 @@ ghost use Rattle.x509_cert_builders.specs.Profiles.{id_kp, rsa_encryption, ellip
 use x509_cert_certificates::cert_parts::AlgorithmIdentifier;
 use x509_cert_certificates::oid::ObjectIdentifier;
 
-/// What stands in place of an algorithm until one is told.
+/// Returns what is in place of an algorithm until one is reported.
 pub(crate) fn no_algorithm() -> AlgorithmIdentifier {
     AlgorithmIdentifier {
         oid: ObjectIdentifier::from_bytes_unwrap(&[0]),
@@ -14,7 +14,7 @@ pub(crate) fn no_algorithm() -> AlgorithmIdentifier {
     }
 }
 
-/// The identifier of these two numbers below 2.5 (X.500).
+/// Returns the identifier of these two numbers below 2.5 (X.500).
 #[tactic(auto, using(crate::proofs::Encodable::read_x500))]
 pub(crate) fn x500(arc: u8, number: u8) -> ObjectIdentifier<39>
     requires arc { arc < 128 }

@@ -12,7 +12,7 @@ use std::alloc::Global;
 use x509_cert_certificates::cert_names::{Name, attribute_types as types};
 use x509_cert_certificates::oid::ObjectIdentifier;
 
-/// The types of a name that keeps the rules of all names, in its order.
+/// Returns the types of a name that keeps the rules of all names, in its order.
 #[tactic(auto, using(crate::proofs::Subjects::checked_none, crate::proofs::Subjects::checked_more, crate::proofs::Subjects::checked_fault, crate::proofs::Subjects::checked_all))]
 fn types_of(
     alloc: Global,
@@ -30,13 +30,14 @@ fn types_of(
     Ok(found.into_types())
 }
 
-/// Checks the rules of all names (7.1.4.1): each RDN has exactly one attribute, no type
-/// stands twice but where that is allowed, and the types whose order is laid down stand in that
-/// order, each at most once.
+/// Checks the rules of all names (7.1.4.1): each RDN has exactly one attribute, no type stands
+/// twice but where that is allowed, and the types whose order is laid down are in that order, each
+/// at most once.
 ///
 /// # Errors
-/// At the first RDN that breaks a rule: `NonUniqueRdn`, `NonUniqueATV`, or
-/// `InvalidAttribute` with its type; or out of memory.
+///
+/// At the first RDN that breaks a rule: `NonUniqueRdn`, `NonUniqueATV`, or `InvalidAttribute` with
+/// its type; or out of memory.
 pub fn check_names_encoding(alloc: Global, name: &Name, multiple_allowed: bool) -> Result<(), Error>
     ensures { Names multiple_allowed (name_plain name.now) result }
 {
@@ -44,14 +45,14 @@ pub fn check_names_encoding(alloc: Global, name: &Name, multiple_allowed: bool) 
     Ok(())
 }
 
-/// Whether a type is among these.
+/// Returns whether a type is among these.
 fn is_among(types: &[ObjectIdentifier<39>], oid: &ObjectIdentifier<39>) -> bool
     ensures { result ≡ is_among types.now oid.now }
 {
     types.contains(oid)
 }
 
-/// The first type that the name of an authority may not have.
+/// Returns the first type that the name of an authority may not have.
 fn foreign_type(
     allowed: &[ObjectIdentifier<39>],
     found: &[ObjectIdentifier<39>],
@@ -66,7 +67,7 @@ fn foreign_type(
     None
 }
 
-/// Whether these are all types that the name of an authority must have.
+/// Returns whether these are all types that the name of an authority must have.
 fn has_required(found: &[ObjectIdentifier<39>]) -> bool
     ensures { result ≡ has_required found.now }
 {

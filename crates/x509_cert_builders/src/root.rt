@@ -26,10 +26,11 @@ pub struct Root {
 }
 
 impl Root {
-    /// The profile of a root of this name.
+    /// Returns the profile of a root of this name.
     ///
     /// # Errors
-    /// Those of `ca_certificate_naming`.
+    ///
+    /// - The errors of `ca_certificate_naming`.
     pub fn new(alloc: Global, emits_ocsp_response: bool, subject: Name) -> Result<Root, Error>
         ensures naming { NamesAuthority (name_plain subject) result }
         ensures subject { IfOk result (λ r. ⟦<Root as BuilderProfile>⟧.subject_name r

@@ -9,10 +9,10 @@ use thiserror::Error;
 /// Why a signer gives no signature.
 #[derive(Clone, Copy, Debug, PartialEq, Eq, Error)]
 pub enum SignError {
-    /// The signer doesn't sign these octets.
+    /// The signer doesn't sign these bytes.
     #[error("the signer refuses")]
     Refused,
-    /// Out of memory.
+    /// Memory ran out.
     #[error("out of memory")]
     OutOfMemory,
 }

@@ -1,4 +1,4 @@
-//! Signers.
+//! The signer trait.
 
 use crate::sign_error::SignError;
 use rand_core::CryptoRng;
@@ -6,11 +6,11 @@ use std::alloc::Global;
 use x509_cert_certificates::cert_parts::{AlgorithmIdentifier, SubjectPublicKeyInfo};
 use x509_cert_certificates::types::BitString;
 
-/// A key that signs, wherever it is kept.
+/// A signing key, wherever it is kept.
 ///
-/// Key and algorithm are values of the signer. Which bits it may answer is one relation of octets
-/// and bits, whether it is given a generator or not; a scheme whose bits are no function of the
-/// octets relates more than one to them.
+/// The key and the algorithm are values of the signer. The signatures that it may return are one
+/// relation of bytes and signatures, with or without a random number generator. If a scheme has
+/// several signatures for the same bytes, the relation has all of them.
 pub trait Signer {
     ghost use Rattle.std.specs.Prelude.{◌≡◌, ℕ, List, IfOk, IfErr};
     ghost use Rattle.x509_cert_certificates.specs.Der.BitStrings.{Bits};
@@ -18,39 +18,42 @@ pub trait Signer {
     ghost use Rattle.x509_cert_certificates.specs.CertParts.Views.{algorithm_plain, key_plain};
     ghost use Rattle.x509_cert_builders.specs.declared.sign_error.SignError.TheVariants.{Refused};
 
-    /// The key under which the bits are judged.
+    /// The public key of the signatures.
     ghost public_key: { Self → PublicKey };
 
-    /// The algorithm by which they are judged.
+    /// The algorithm of the signatures.
     ghost signs_by: { Self → Algorithm };
 
-    /// The bits that it may answer on octets.
+    /// The signatures that it may return for some bytes.
     ghost signs: { Self → List ℕ → Bits → Type 0 };
 
-    /// The octets that it may refuse to sign.
+    /// The bytes that it may refuse to sign.
     ghost may_refuse: { Self → List ℕ → Type 0 };
 
-    /// The key under which the bits are judged.
+    /// Returns the public key of the signatures.
     fn key_info(&self) -> &SubjectPublicKeyInfo
         ensures { key_plain result.now ≡ public_key self.now };
 
-    /// The algorithm by which they are judged.
+    /// Returns the algorithm of the signatures.
     fn algorithm(&self) -> &AlgorithmIdentifier
         ensures { algorithm_plain result.now ≡ signs_by self.now };
 
-    /// The signature of these octets.
+    /// Signs these bytes.
     ///
     /// # Errors
-    /// `Refused`, on octets of which the signer states that it may refuse them, or `OutOfMemory`.
+    ///
+    /// - `Refused`: the signer refuses these bytes, which it states that it may.
+    /// - `OutOfMemory`: memory runs out.
     fn sign(&self, alloc: Global, octets: &[u8]) -> Result<BitString, SignError>
         ensures bits { IfOk result (λ b. signs self.now octets.now b) }
         ensures refused { IfErr result (λ e. e ≡ Refused → may_refuse self.now octets.now) };
 
-    /// The signature of these octets, with what a generator of random octets gives. A signer that
-    /// takes no random octets leaves this out.
+    /// Signs these bytes, with a random number generator. A signer that needs no random numbers
+    /// leaves this function out.
     ///
     /// # Errors
-    /// Those of `sign`.
+    ///
+    /// - The errors of `sign`.
     fn sign_with_rng<R: CryptoRng>(
         &self,
         alloc: Global,

@@ -23,7 +23,7 @@ pub struct Subordinate {
     pub issuer: Name,
     /// Whose certificate it is.
     pub subject: Name,
-    /// How many authorities may stand below it, if that is bounded.
+    /// How many authorities may be below it, if that is bounded.
     pub path_len_constraint: Option<u8>,
     /// Whether its key signs answers about the state of certificates, too.
     pub emits_ocsp_response: bool,

@@ -35,7 +35,7 @@ pub struct Subscriber {
     pub enable_data_encipherment: bool,
 }
 
-/// The uses, and one more where it stands.
+/// Returns the uses, and one more where it stands.
 fn with_use(uses: FlagSet<KeyUsages>, more: KeyUsages, stands: bool) -> FlagSet<KeyUsages>
     requires { more.0 < 2 ^ 9 }
     ensures { result.flags.0 ≡ (if stands then bit_or uses.flags.0 more.0 else uses.flags.0) }
@@ -47,7 +47,7 @@ fn with_use(uses: FlagSet<KeyUsages>, more: KeyUsages, stands: bool) -> FlagSet<
 }
 
 impl Subscriber {
-    /// What its key is for.
+    /// Returns what its key is for.
     #[tactic(auto, using(crate::proofs::Encodable::joined_uses))]
     fn usage<'a>(&self, key: &SubjectPublicKeyInfoRef<'a>) -> KeyUsage
         ensures { result.0.flags.0 ≡ subscriber_uses self.now.enable_data_encipherment
@@ -86,7 +86,8 @@ impl BuilderProfile for Subscriber {
     }
 
     /// # Errors
-    /// `Unsupported` for all kinds but `DomainValidated`, and out of memory.
+    ///
+    /// - `Unsupported`: all kinds but `DomainValidated`, and out of memory.
     fn get_subject(&self, alloc: Global) -> Result<Name, Error> {
         let CertificateType::DomainValidated(validated) = &self.certificate_type else {
             return Err(Error::Unsupported);

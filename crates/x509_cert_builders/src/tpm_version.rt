@@ -18,7 +18,7 @@ pub enum TpmVersion {
 }
 
 impl TpmVersion {
-    /// The identifier.
+    /// Returns the identifier.
     pub(crate) fn to_oid(&self) -> ObjectIdentifier<39>
         ensures { result ≡ version_arcs self.now }
     {

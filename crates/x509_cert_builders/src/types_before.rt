@@ -15,7 +15,7 @@ use std::marker::Model;
 use x509_cert_certificates::cert_names::RelativeDistinguishedName;
 use x509_cert_certificates::oid::ObjectIdentifier;
 
-/// How many of these types stand before a type; all of them where it is none of them.
+/// Returns how many of these types come before a type; all of them where it is none of them.
 fn rank_among(types: &[ObjectIdentifier<39>], oid: &ObjectIdentifier<39>) -> usize
     ensures { result ≡ position_or_len (λ u. owned_eq u oid.now) types.now }
 {
@@ -27,7 +27,7 @@ fn rank_among(types: &[ObjectIdentifier<39>], oid: &ObjectIdentifier<39>) -> usi
     types.len()
 }
 
-/// The least rank that an ordered type may have after these types and one more.
+/// Returns the least rank that an ordered type may have after these types and one more.
 fn least_behind(ordered: &[ObjectIdentifier<39>], oid: &ObjectIdentifier<39>, least: usize) -> usize
     ensures { ordered.now ≡ ordered_types → (types : List (List ℕ)) → IsLeastRank types least
         → IsLeastRank (types ++ oid.now ∷ []) result }
@@ -48,7 +48,7 @@ pub(crate) struct TypesBefore {
     seen: BTreeSet<ObjectIdentifier<39>, Global>,
     // The types whose order is laid down.
     ordered: [ObjectIdentifier<39>; 11],
-    // The least rank in that order which a type behind all these may have.
+    // The least rank in that order which a type after all these may have.
     least: usize,
 }
 
@@ -74,24 +74,27 @@ impl TypesBefore {
         }
     }
 
-    /// Whether a type is among these.
+    /// Returns whether a type is among these.
     fn has(&self, oid: &ObjectIdentifier<39>) -> bool
         ensures { result ≡ is_among self.now oid.now }
     {
         self.seen.contains(oid)
     }
 
-    /// Whether a type may stand after all of these.
+    /// Returns whether a type may be after all of these.
     fn may_be_followed_by(&self, oid: &ObjectIdentifier<39>) -> bool
         ensures { result ≡ list_all (may_follow oid.now) self.now }
     {
         self.least <= rank_among(&self.ordered, oid)
     }
 
-    /// The type of an RDN's attribute, after attributes of these types.
+    /// Returns the type of an RDN's attribute, after attributes of these types.
     ///
     /// # Errors
-    /// `NonUniqueRdn`, `NonUniqueATV`, or `InvalidAttribute` with the type.
+    ///
+    /// - `NonUniqueRdn`.
+    /// - `NonUniqueATV`.
+    /// - `InvalidAttribute`: with the type.
     pub(crate) fn type_behind(
         &self,
         relative: &RelativeDistinguishedName,
@@ -112,10 +115,11 @@ impl TypesBefore {
         Ok(oid)
     }
 
-    /// The types before, and one more after them.
+    /// Returns the types before, and one more after them.
     ///
     /// # Errors
-    /// Out of memory.
+    ///
+    /// Fails if memory runs out.
     pub(crate) fn and(self, oid: ObjectIdentifier<39>) -> Result<TypesBefore, AllocError>
         ensures { IfOk result (λ t. t ≡ self ++ oid ∷ []) }
     {
@@ -136,7 +140,7 @@ impl TypesBefore {
         })
     }
 
-    /// The types alone.
+    /// Returns the types alone.
     pub(crate) fn into_types(self) -> Vec<ObjectIdentifier<39>>
         ensures { result.items ≡ self }
     {

@@ -74,7 +74,7 @@ octets_same bound limit c h =
 
 -- Certificates under two bounds of arcs.
 
--- the octets are the same, and what is valid is judged by the bound of its shape
+-- the bytes are the same, and what is valid is judged by the bound of its shape
 pub bounds_alike : (bound : ℕ) (limit : Option ℕ) (c : PlainCertificate) → (IsValid (certificate bound limit) c ↔ IsValidUnder bound (certificate 0 limit) c) × (octets_of (certificate bound limit) c ≡ octets_of (certificate 0 limit) c)
 unfolding IsValid IsValidUnder octets_of
 bounds_alike bound limit c = ((λ h. h, λ h. h), refl)
@@ -89,7 +89,7 @@ certificates limit = record {
   enough = λ b. refl;
 }
 
--- Certificates one behind the other
+-- Certificates one after another
 
 each_wider : (small large : ℕ) (limit : Option ℕ) → small ≤ large → (cs : List PlainCertificate) → AllByRecursion (λ c. IsValid (certificate small limit) c) cs
     → AllByRecursion (λ c. IsValid (certificate large limit) c) cs

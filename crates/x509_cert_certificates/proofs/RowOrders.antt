@@ -1,5 +1,5 @@
 -- The length, the order and the first tag of the fields that a record lends are those of its own.
-use Rattle.std.proofs.Common.{◌≡◌, Option, Result, Ok, subst, IfErr, Ordering}
+use Rattle.std.proofs.Common.{◌≡◌, Option, Result, Ok, subst, IfOk, IfErr, Ordering}
 use Rattle.der_core.specs.ErrorTypes.Error.{Error}
 use Rattle.der_core.specs.LengthTypes.Length.{Length}
 use Rattle.der_core.specs.TagTypes.Tag.{Tag}
@@ -17,10 +17,15 @@ pub compared : (b : Body) (v w x y : BodyValue b) (r : Result Ordering Error) �
 compared b v w x y r d e h =
     subst (λ (a : BodyValue b). IsBody b a → IsBody b y → r ≡ Ok (bodies_cmp b a y)) d (subst (λ (a : BodyValue b). IsBody b v → IsBody b a → r ≡ Ok (bodies_cmp b v a)) e h)
 
+pub told : (b : Body) (v w x y : BodyValue b) (r : Result Ordering Error) → v ≡ x → w ≡ y
+    → IfOk r (λ o. o ≡ bodies_cmp b v w) → IfOk r (λ o. o ≡ bodies_cmp b x y)
+told b v w x y r d e h =
+    subst (λ (a : BodyValue b). IfOk r (λ o. o ≡ bodies_cmp b a y)) d (subst (λ (a : BodyValue b). IfOk r (λ o. o ≡ bodies_cmp b v a)) e h)
+
 pub overflowing : (b : Body) (v w x y : BodyValue b) (r : Result Ordering Error) → v ≡ x → w ≡ y
     → IfErr r (λ e. Overflows e (size_body b v) (size_body b w)) → IfErr r (λ e. Overflows e (size_body b x) (size_body b y))
 overflowing b v w x y r d e h =
     subst (λ (a : BodyValue b). IfErr r (λ f. Overflows f (size_body b a) (size_body b y))) d (subst (λ (a : BodyValue b). IfErr r (λ f. Overflows f (size_body b v) (size_body b a))) e h)
 
-pub started : (b : Body) (v w : BodyValue b) (t : Option Tag) → v ≡ w → (IsBody b v → StartsWith (body_begins b) t (body_octets b v)) → IsBody b w → StartsWith (body_begins b) t (body_octets b w)
-started b v w t e h = subst (λ (a : BodyValue b). IsBody b a → StartsWith (body_begins b) t (body_octets b a)) e h
+pub started : (b : Body) (v w : BodyValue b) (t : Option Tag) → v ≡ w → StartsWith (body_begins b) t (body_octets b v) → StartsWith (body_begins b) t (body_octets b w)
+started b v w t e h = subst (λ (a : BodyValue b). StartsWith (body_begins b) t (body_octets b a)) e h

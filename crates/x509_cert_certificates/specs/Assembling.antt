@@ -48,12 +48,12 @@ abbrev pub has_any : List PlainExtension → Bool
 has_any [] = false
 has_any (e ∷ more) = true
 
--- the extensions, where there is one (4.1.2.9: SIZE (1..MAX))
+-- the extensions, if there is one (4.1.2.9: SIZE (1..MAX))
 abbrev pub extensions_if_any : List PlainExtension → Option (List PlainExtension)
 extensions_if_any [] = None
 extensions_if_any (e ∷ more) = Some (e ∷ more)
 
--- the extensions of a part; none where the field is absent
+-- the extensions of a part; none if the field is absent
 abbrev pub extensions_in : Tbs → List PlainExtension
 extensions_in t = extensions_in_field (tbs_extensions t)
 

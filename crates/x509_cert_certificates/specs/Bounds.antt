@@ -5,12 +5,12 @@ use Rattle.der_core.specs.Bounds.{identifiers_of, HoldsLarge}
 use Rattle.der_core.specs.Shapes.{IsValid, octets_of}
 use Rattle.x509_cert_certificates.specs.Certificates.{PlainCertificate, certificate}
 
--- the identifiers that stand in a certificate: those of its algorithms, of the attributes of its
+-- the identifiers that are in a certificate: those of its algorithms, of the attributes of its
 -- names and of its extensions, in turn
 unfoldable pub certificate_identifiers : PlainCertificate → List (List ℕ)
 certificate_identifiers c = identifiers_of (certificate 0 None) c
 
--- octets that spell certificates, one behind the other
+-- bytes that encode certificates, one after another
 pub record SpellsEach (bound : ℕ) (limit : Option ℕ) (cs : List PlainCertificate)
     (w : List ℕ) : Type 0 where
   pub valid : AllByRecursion (λ c. IsValid (certificate bound limit) c) cs

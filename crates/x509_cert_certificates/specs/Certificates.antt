@@ -1,5 +1,5 @@
 -- Certificates (RFC 5280 4.1). Each shape takes the bound of arcs and the greatest number of
--- content octets of a serial number, if there is such a number.
+-- content bytes of a serial number, if there is such a number.
 use Rattle.std.specs.Prelude.{ℕ, ℤ, List, [], length, Bool, Option, None}
 use Rattle.std.specs.Option.{option_map_or}
 use Rattle.der_core.specs.TagTypes.Tag.TheVariants as tags
@@ -45,7 +45,7 @@ certificate_fields bound limit =
 abbrev pub certificate : ℕ → Option ℕ → Shape
 certificate bound limit = sequence (certificate_fields bound limit)
 
--- as they are read under `Raw`, which reads serial numbers of any number of octets
+-- as they are read under `Raw`, which reads serial numbers of any number of bytes
 abbrev pub raw_tbs_fields : ℕ → Body
 raw_tbs_fields bound = tbs_fields bound None
 
@@ -134,15 +134,15 @@ subject c = tbs_subject (tbs c)
 abbrev pub public_key : PlainCertificate → PublicKey
 public_key c = tbs_public_key (tbs c)
 
--- none where the field is absent
+-- none if the field is absent
 abbrev pub extensions_of : PlainCertificate → List PlainExtension
 extensions_of c = option_map_or (λ es. es) (tbs_extensions (tbs c)) []
 
--- the octets of a certificate, of whatever profile
+-- the bytes of a certificate, of whatever profile
 abbrev pub certificate_octets : ℕ → PlainCertificate → List ℕ
 certificate_octets bound c = octets_of (raw_certificate bound) c
 
--- The place of the signed part in them (4.1.1.3): it stands behind the outer header.
+-- The place of the signed part in them (4.1.1.3): it follows the outer header.
 unfoldable pub signed_start : ℕ → PlainCertificate → ℕ
 signed_start bound c =
     length (head_octets tags.Sequence (length (body_octets (certificate_fields bound None) c)))

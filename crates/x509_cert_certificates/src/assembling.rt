@@ -1,5 +1,5 @@
-//! Certificates while they are made. Their fields are private, so that nothing changes a
-//! certificate: a new one is made of a part that is laid bare and completed here.
+//! Making certificates. The fields of a certificate are private, so that nothing can change it. A
+//! new one is made here, from a part that is prepared and then completed.
 
 ghost use Rattle.std.specs.Prelude.{◌≡◌, pos};
 ghost use Rattle.der_core.specs.Grammar.{plain_option};
@@ -22,7 +22,7 @@ use x509_cert_parts::{
     AlgorithmIdentifier, Extensions, SerialNumber, SubjectPublicKeyInfo, Validity, Version,
 };
 
-/// The part that a profile is handed: of version 3, by this algorithm, and without extensions.
+/// Returns the part that a profile gets: version 3, with this algorithm, and without extensions.
 /// Unique identifiers are never made (RFC 5280 4.1.2.8).
 pub fn bare_part<P>(
     serial_number: SerialNumber<P>,
@@ -56,7 +56,7 @@ pub fn bare_part<P>(
     }
 }
 
-/// Makes the part what a profile is handed, by this algorithm.
+/// Turns the part into the one that a profile gets, with this algorithm.
 pub fn lay_bare<P>(part: &mut TbsCertificateInner<P>, algorithm: AlgorithmIdentifier)
     ensures { tbs_plain part.new ≡ bare_part (fields_of (tbs_plain part.old))
         (algorithm_plain algorithm) }
@@ -68,7 +68,7 @@ pub fn lay_bare<P>(part: &mut TbsCertificateInner<P>, algorithm: AlgorithmIdenti
     part.extensions = None;
 }
 
-/// The extensions, where there is one (RFC 5280 4.1.2.9).
+/// Returns the extensions, if there is one (RFC 5280 4.1.2.9).
 fn listed(extensions: Extensions) -> Option<Extensions>
     ensures { plain_option (λ v. extensions_plain v.items) result
         ≡ extensions_if_any (extensions_plain extensions.items) }
@@ -79,7 +79,7 @@ fn listed(extensions: Extensions) -> Option<Extensions>
     Some(extensions)
 }
 
-/// The version of a part of so many extensions (4.1.2.1).
+/// Returns the version of a part with these extensions (4.1.2.1).
 fn version_for(extensions: &Extensions) -> Version
     ensures { pos (version_number result)
         ≡ version_of (has_any (extensions_plain extensions.now.items)) }
@@ -101,7 +101,7 @@ pub fn complete<P>(part: &mut TbsCertificateInner<P>, extensions: Extensions)
     part.extensions = listed(extensions);
 }
 
-/// Takes the extensions out of a part again.
+/// Removes the extensions from a part, and returns them.
 pub fn take_extensions<P>(alloc: Global, part: &mut TbsCertificateInner<P>) -> Extensions
     ensures taken { extensions_plain result.items ≡ extensions_in (tbs_plain part.old) }
     ensures fields { fields_of (tbs_plain part.new) ≡ fields_of (tbs_plain part.old) }
@@ -112,7 +112,7 @@ pub fn take_extensions<P>(alloc: Global, part: &mut TbsCertificateInner<P>) -> E
     }
 }
 
-/// The certificate of a part, by the signature of it.
+/// Returns the certificate with this part and its signature.
 pub fn certificate_of<P>(
     tbs_certificate: TbsCertificateInner<P>,
     signature_algorithm: AlgorithmIdentifier,

@@ -9,13 +9,14 @@ use std::alloc::{AllocError, Global};
 pub trait CertDigest {
     ghost use Rattle.std.specs.Prelude.{◌≡◌, ℕ, List, IfOk};
 
-    // The digest of octets.
+    // The digest of bytes.
     ghost digest_of: { List ℕ → List ℕ };
 
-    /// The digest of these octets.
+    /// Returns the digest of these bytes.
     ///
     /// # Errors
-    /// Out of memory.
+    ///
+    /// Fails if memory runs out.
     fn digest(alloc: Global, octets: &[u8]) -> Result<Vec<u8>, AllocError>
         ensures { IfOk result (λ d. d.items ≡ digest_of octets.now) };
 }

@@ -31,11 +31,11 @@ use x509_cert_parts::{AlgorithmIdentifier, Profile, Rfc5280};
 #[derive(Drop)]
 #[derive_where(Debug, PartialEq, Eq)]
 pub struct CertificateInner<P = Rfc5280> {
-    /// What is signed.
+    /// The TBSCertificate.
     pub(crate) tbs_certificate: TbsCertificateInner<P>,
     /// The algorithm by which it is signed.
     pub(crate) signature_algorithm: AlgorithmIdentifier,
-    /// The issuer's signature of the octets of what is signed.
+    /// The issuer's signature over the bytes of the TBSCertificate.
     pub(crate) signature: BitString,
 }
 
@@ -71,7 +71,7 @@ impl<P: Profile> Rows for CertificateInner<P> {
 }
 
 impl<P: Profile> CertificateInner<P> {
-    /// Reads a certificate, all of the octets.
+    /// Decodes a certificate from all bytes.
     ///
     /// As in `crates/example_subject_of_certificate/src/main.rt`:
     ///
@@ -81,35 +81,40 @@ impl<P: Profile> CertificateInner<P> {
     /// ```
     ///
     /// # Errors
-    /// The first error met in reading, or `OutOfMemory`.
+    ///
+    /// - The first error that decoding meets.
+    /// - `OutOfMemory`: memory runs out.
     pub fn from_der(alloc: Global, bytes: &[u8]) -> Result<CertificateInner<P>, Error>
-        // What is read is spelled so.
+        // What is accepted is an encoding.
         ensures spelled { IfOk result
             (λ c. Spells (certificate Bound P.serial_limit) (certificate_plain c)
             bytes.now) }
-        // What is refused for another reason than out of memory is spelled by no certificate.
+        // If an error isn't that memory ran out, the bytes encode no certificate.
         ensures refused { IfErr result (λ e. e.kind ≢ ErrorKind.OutOfMemory → (c : PlainCertificate)
             → Spells (certificate Bound P.serial_limit) c bytes.now → ⊥) }
-        // Which fault it is.
+        // The error is exact.
         ensures exact { Gives (λ c. (certificate_plain c, [])) result
             (read_whole (certificate Bound P.serial_limit) bytes.now) }
     {
         FromDer::from_der(alloc, bytes)
     }
 
-    /// The digest of the certificate's encoding, as its profile has it written.
+    /// Returns the digest of the certificate's encoding, in which the profile decides how dates are
+    /// encoded.
     ///
     /// # Errors
-    /// Those of `to_der`. A certificate that was read is refused only when out of memory.
+    ///
+    /// - The errors of `to_der`. For a certificate that was decoded, the only one is that memory
+    ///   runs out.
     pub fn hash<D: CertDigest>(&self, alloc: Global) -> Result<Vec<u8>, Error>
         ensures ok { IfOk result (λ d. d.items ≡ D.digest_of (octets_of
             (certificate Bound P.serial_limit)
             (certificate_by P.respells (certificate_plain self.now)))) }
-        // A certificate that has an encoding is refused only when out of memory.
+        // For a certificate that has an encoding, the only error is that memory runs out.
         ensures valid { IsValid (certificate Bound P.serial_limit)
             (certificate_by P.respells (certificate_plain self.now))
             → IfErr result (λ e. e.kind ≡ ErrorKind.OutOfMemory) }
-        // Any other is refused for the fault with which its writing ends, too.
+        // Any other is rejected for the error with which its writing ends, too.
         ensures fault { IfErr result (λ e. Fails e.kind (write (certificate Bound P.serial_limit)
             (certificate_by P.respells (certificate_plain self.now))
             (record { written = []; room = None; failed = false }))) }
@@ -120,21 +125,21 @@ impl<P: Profile> CertificateInner<P> {
 }
 
 impl<P> CertificateInner<P> {
-    /// The part that is signed.
+    /// Returns the part that is signed.
     pub fn tbs_certificate(&self) -> &TbsCertificateInner<P>
         ensures { tbs_plain result.now ≡ tbs (certificate_plain self.now) }
     {
         &self.tbs_certificate
     }
 
-    /// The algorithm of the signature.
+    /// Returns the signature algorithm.
     pub fn signature_algorithm(&self) -> &AlgorithmIdentifier
         ensures { algorithm_plain result.now ≡ outer_algorithm (certificate_plain self.now) }
     {
         &self.signature_algorithm
     }
 
-    /// The signature.
+    /// Returns the signature.
     pub fn signature(&self) -> &BitString
         ensures { result.now ≡ signature_bits (certificate_plain self.now) }
     {

@@ -1,5 +1,5 @@
-//! Copies of certificates. The largest field is copied last, so that little is
-//! dropped where memory ends.
+//! Copies of certificates. The largest field is copied last, so that little is dropped if memory
+//! runs out.
 
 ghost use Rattle.der_core.specs.Copies.{IsCopy};
 ghost use Rattle.x509_cert_certificates.specs.Views.{certificate_plain, tbs_plain};
@@ -12,7 +12,7 @@ use x509_cert_parts::types::BitString;
 use x509_cert_parts::{Extension, Validity};
 
 impl<P> CertificateInner<P> {
-    /// A copy. Out of memory is the only error.
+    /// Returns a copy. The only error is that memory runs out.
     pub fn clone(&self, alloc: Global) -> Result<CertificateInner<P>, AllocError>
         ensures { IsCopy self.now result certificate_plain }
     {
@@ -25,7 +25,7 @@ impl<P> CertificateInner<P> {
 }
 
 impl<P> TbsCertificateInner<P> {
-    /// A copy. Out of memory is the only error.
+    /// Returns a copy. The only error is that memory runs out.
     pub fn clone(&self, alloc: Global) -> Result<TbsCertificateInner<P>, AllocError>
         ensures { IsCopy self.now result tbs_plain }
     {

@@ -1,8 +1,8 @@
-//! Laws of certificates, for every bound of arcs and every profile.
+//! Laws about certificates, for every bound of arcs and every profile.
 //!
-//! Each is the contract of a function that does nothing. With these and the laws of `der_core`
-//! certificates are lawful: no encoding begins another, no two have one encoding, and what is read
-//! is spelled.
+//! Each law is the contract of a function that does nothing. With these and the laws of `der_core`,
+//! no encoding of a certificate is a prefix of another, no two certificates have the same encoding,
+//! and what is decoded is what the bytes encode.
 
 ghost use Rattle.std.specs.Prelude.{◌≡◌, ◌⊎◌, ◌∷◌, ◌++◌, map, ◌≤◌, ◌↔◌, ℕ, List, [], Option, Bool};
 ghost use Rattle.std.specs.Prelude.{true, false, Ok, Err, take, drop};
@@ -33,7 +33,7 @@ use crate::certificate::CertificateInner;
 use crate::tbs_certificate::TbsCertificateInner;
 use std::cmp::PartialEq;
 
-/// First tags keep the fields of a certificate apart, at eight levels or more.
+/// First tags tell the fields of a certificate apart, and eight levels of nesting are enough.
 pub fn certificates_are_apart()
     ensures signed { (bound : ℕ) (limit : Option ℕ)
         → (is_apart (tbs_certificate bound limit) ≡ true)
@@ -42,15 +42,16 @@ pub fn certificates_are_apart()
         × (are_enough (certificate bound limit) 8 ≡ true) }
 {}
 
-/// At its place in a certificate's octets the signed part is its own encoding (RFC 5280 4.1.1.3).
+/// The bytes at the position of the TBSCertificate in a certificate's encoding are its encoding
+/// (RFC 5280 4.1.1.3).
 pub fn signed_part_stands_in_place()
     ensures { (bound : ℕ) (c : PlainCertificate)
         → take (signed_length bound c) (drop (signed_start bound c) (certificate_octets bound c))
         ≡ octets_of (raw_tbs_certificate bound) (tbs c) }
 {}
 
-/// A certificate that has an encoding has one where its dates are re-encoded, and it is the same
-/// one exactly where no date was a GeneralizedTime through 2049 (RFC 5280 4.1.2.5).
+/// A certificate that has an encoding also has one with its dates re-encoded. The two are the same
+/// exactly if no date was a GeneralizedTime through 2049 (RFC 5280 4.1.2.5).
 pub fn respelled_certificates_are_spelled()
     ensures valid { (bound : ℕ) (limit : Option ℕ) (r : Bool) (c : PlainCertificate)
         → IsValid (certificate bound limit) c
@@ -63,8 +64,8 @@ pub fn respelled_certificates_are_spelled()
         × (is_early_generalized (not_after (tbs_validity (tbs c))) ≡ false)) }
 {}
 
-/// Octets that spell a certificate under one bound of arcs spell the same certificate under a wider
-/// one; the octets of a certificate are the same under each.
+/// Bytes that encode a certificate under one bound of arcs encode the same certificate under a
+/// larger bound. The encoding of a certificate doesn't depend on the bound.
 pub fn wider_bounds_keep_certificates()
     ensures spelled { (small large : ℕ) (limit : Option ℕ) (c : PlainCertificate) (w : List ℕ)
         → small ≤ large
@@ -73,8 +74,8 @@ pub fn wider_bounds_keep_certificates()
         → octets_of (certificate small limit) c ≡ octets_of (certificate large limit) c }
 {}
 
-/// Octets that are read as a certificate under one bound of arcs are read as the same certificate
-/// under a wider one: all of them, and from the front of more.
+/// Bytes that decode to a certificate under one bound of arcs decode to the same certificate under
+/// a larger bound, both as a whole and as a prefix.
 pub fn wider_bounds_read_certificates_alike()
     ensures whole { (small large : ℕ) (limit : Option ℕ) (c : PlainCertificate) (w : List ℕ)
         → small ≤ large → IsOctets w
@@ -86,9 +87,9 @@ pub fn wider_bounds_read_certificates_alike()
         ≡ Ok (c, r) }
 {}
 
-/// Octets that spell a certificate under one bound of arcs spell it under another, where each arc
-/// of its identifiers is below that one. So a certificate that is read under a wide bound alone
-/// holds an identifier with an arc that isn't below the narrow one.
+/// Bytes that encode a certificate under one bound of arcs encode it under another bound, if each
+/// arc of its identifiers is below that bound. So a certificate that is accepted only under the
+/// larger bound has an arc that isn't below the smaller one.
 pub fn newly_read_certificates_hold_a_large_arc()
     ensures narrow { (small large : ℕ) (limit : Option ℕ) (c : PlainCertificate) (w : List ℕ)
         → Spells (certificate large limit) c w
@@ -122,9 +123,9 @@ pub fn identifiers_stand_in_turn()
         ∷ (map extension_arcs (extensions_of c) ++ (algorithm_arcs (outer_algorithm c) ∷ []))))) }
 {}
 
-/// Octets that spell certificates one after the other under one bound of arcs spell the same ones
-/// under a wider bound; and what spells some under a wide bound spells them under a narrow one, or
-/// one of them holds an identifier with an arc that isn't below it.
+/// Bytes that encode a sequence of certificates under one bound of arcs encode the same ones under
+/// a larger bound. Bytes that encode some under the larger bound encode them under the smaller one,
+/// or one of them has an arc that isn't below the smaller bound.
 pub fn wider_bounds_keep_chains()
     ensures kept { (small large : ℕ) (limit : Option ℕ) (cs : List PlainCertificate) (w : List ℕ)
         → small ≤ large

@@ -1,7 +1,8 @@
-//! The signed part of a certificate.
+//! The TBSCertificate of a certificate.
 
 ghost use Rattle.std.specs.Prelude.{◌≡◌, pos, refl};
 ghost use Rattle.der_core.specs.Oid.Bound.{Bound};
+ghost use Rattle.der_core.specs.Shapes.{BodyValue};
 ghost use Rattle.der_core.specs.Grammar.{plain_option};
 ghost use Rattle.x509_cert_names.specs.Views.{name_plain};
 ghost use Rattle.x509_cert_parts.specs.Views.{version_number, validity_plain, algorithm_plain};
@@ -16,12 +17,12 @@ ghost use Rattle.x509_cert_certificates.specs.Certificates.{tbs_public_key, tbs_
 ghost use Rattle.x509_cert_certificates.specs.Certificates.{tbs_subject_unique_id, tbs_extensions};
 ghost use Rattle.x509_cert_certificates.specs.Views.{tbs_plain};
 
-use der_core::describing::{AsRecord, DecodeRow, Described, FieldRow, RowUser, Rows};
+use der_core::describing::{AsRecord, DecodeRow, Described, LentRow, RowUser, Rows};
 use der_core::making::{explicit_of, explicit_ref, implicit_of, implicit_ref};
 use der_core::oid::AssociatedOid;
 use der_core::{
-    Decode, DecodeFields, EncodeFields, EncodeRef, Error, Explicit, Fields, FieldsOrd, Implicit,
-    ImplicitRef, Length, Reader, SliceReader, Tag, WithDefault, Writer,
+    Decode, DecodeFields, EncodeRef, Error, Explicit, Fields, Implicit, ImplicitRef, Length,
+    Reader, SliceReader, Tag, WithDefault, Writer,
 };
 use std::alloc::Global;
 use std::cmp::Ordering;
@@ -32,8 +33,8 @@ use x509_cert_parts::{
     SubjectPublicKeyInfo, Validity, Version, filter_extensions, get_extension,
 };
 
-/// The part of a certificate that is signed (RFC 5280 4.1.2). Any version is read beside any
-/// fields, and a list of no extensions.
+/// A TBSCertificate, the part of a certificate that is signed (RFC 5280 4.1.2). Any version is
+/// accepted with any fields, and so is an empty list of extensions.
 ///
 /// ```text
 /// TBSCertificate ::= SEQUENCE {
@@ -51,9 +52,9 @@ use x509_cert_parts::{
 #[derive(Drop)]
 #[derive_where(Debug, PartialEq, Eq)]
 pub struct TbsCertificateInner<P = Rfc5280> {
-    /// The version, which says which fields it may have.
+    /// The version, which determines the fields that are allowed.
     pub(crate) version: Version,
-    /// The number, which an issuer gives once.
+    /// The serial number, which is unique for each issuer.
     pub(crate) serial_number: SerialNumber<P>,
     /// The algorithm by which it is signed, the same as outside the signed part.
     pub(crate) signature: AlgorithmIdentifier,
@@ -65,18 +66,18 @@ pub struct TbsCertificateInner<P = Rfc5280> {
     pub(crate) subject: Name,
     /// The key that is certified.
     pub(crate) subject_public_key_info: SubjectPublicKeyInfo,
-    /// Bits that tell the issuer from others of the name.
+    /// Bits that distinguish the issuer from others with the same name.
     pub(crate) issuer_unique_id: Option<BitString>,
-    /// Bits that tell the subject from others of the name.
+    /// Bits that distinguish the subject from others with the same name.
     pub(crate) subject_unique_id: Option<BitString>,
-    /// What else is said of it.
+    /// The extensions.
     pub(crate) extensions: Option<Extensions>,
 }
 
 /// The signed part by the profile of RFC 5280.
 pub type TbsCertificate = TbsCertificateInner<Rfc5280>;
 
-/// The version behind its tag.
+/// The version after its tag.
 type Numbered = WithDefault<Explicit<Version, 0>>;
 
 type Row<P> = (
@@ -123,15 +124,15 @@ type LastRef<'a> = (
     ),
 );
 
-/// The fields from the validity on, lent. They are a type of their own, since no clause can say
+/// The fields from the validity on, borrowed. They are a type of their own, since no clause can say
 /// what a row of ten fields is.
 #[derive(Drop)]
 struct BehindRef<'a, P>(&'a TbsCertificateInner<P>);
 
 impl<P: Profile> TbsCertificateInner<P> {
-    /// The fields in their order, lent.
+    /// Returns the fields in their order, borrowed.
     fn row<'a>(&'a self) -> RowRef<'a, P>
-        ensures { ⟦<RowRef<'a, P> as FieldRow>⟧.fields_written result
+        ensures { ⟦<RowRef<'a, P> as LentRow>⟧.fields_written result
             ≡ tbs_by P.respells (tbs_plain self.now) }
     {
         let version = WithDefault {
@@ -151,10 +152,11 @@ impl<P: Profile> TbsCertificateInner<P> {
         )
     }
 
-    /// The fields from the validity on in their order, lent.
+    /// Returns the fields from the validity on in their order, borrowed.
     fn behind<'a>(&'a self) -> BehindRow<'a, P>
-        ensures { ⟦<BehindRow<'a, P> as FieldRow>⟧.fields_written result
-            ≡ tbs_from_validity (tbs_by P.respells (tbs_plain self.now)) }
+        ensures { ◌≡◌ {A = BodyValue (from_validity Bound)}
+            (⟦<BehindRow<'a, P> as LentRow>⟧.fields_written result)
+            (tbs_from_validity (tbs_by P.respells (tbs_plain self.now))) }
     {
         let last = (
             implicit_ref(&self.issuer_unique_id),
@@ -173,31 +175,25 @@ impl<P: Profile> TbsCertificateInner<P> {
     }
 }
 
-impl<'a, P: Profile> FieldRow for BehindRef<'a, P> {
+impl<'a, P: Profile> LentRow for BehindRef<'a, P> {
     ghost fields = { from_validity Bound };
 
-    ghost fields_plain = { λ b. tbs_from_validity (tbs_plain b.0.now) };
-
     ghost fields_written = { λ b. tbs_from_validity (tbs_by P.respells (tbs_plain b.0.now)) };
-}
 
-impl<'a, P: Profile> EncodeFields for BehindRef<'a, P> {
-    fn fields_len(&self) -> Result<Length, Error> {
-        self.0.behind().fields_len()
+    fn row_len(&self) -> Result<Length, Error> {
+        self.0.behind().row_len()
     }
 
-    fn encode_fields<W: Writer>(&self, writer: &mut W) -> Result<(), Error> {
-        self.0.behind().encode_fields(writer)
-    }
-}
-
-impl<'a, P: Profile> FieldsOrd for BehindRef<'a, P> {
-    fn fields_cmp(&self, other: &Self) -> Result<Ordering, Error> {
-        self.0.behind().fields_cmp(&other.0.behind())
+    fn encode_row<W: Writer>(&self, writer: &mut W) -> Result<(), Error> {
+        self.0.behind().encode_row(writer)
     }
 
-    fn fields_tag(&self) -> Option<Tag> {
-        self.0.behind().fields_tag()
+    fn row_cmp(&self, other: &Self) -> Result<Ordering, Error> {
+        self.0.behind().row_cmp(&other.0.behind())
+    }
+
+    fn row_tag(&self) -> Option<Tag> {
+        self.0.behind().row_tag()
     }
 }
 
@@ -210,7 +206,7 @@ impl<P: Profile> Fields for TbsCertificateInner<P> {
 }
 
 impl<'a, R: Reader<'a>, P: Profile> DecodeFields<'a, R> for TbsCertificateInner<P> {
-    // Not inlined, so that its fields are moved into their places once.
+    // Not inlined, so that its fields are moved into place once.
     #[inline(never)]
     fn decode_fields(alloc: Global, reader: &mut R) -> Result<TbsCertificateInner<P>, Error> {
         let (version, (serial_number, (signature, (issuer, behind)))) = <Row<P>>::decode_row(
@@ -238,7 +234,6 @@ impl<P: Profile> Described for TbsCertificateInner<P> {
 }
 
 impl<P: Profile> Rows for TbsCertificateInner<P> {
-    #[tactic(auto, using(der_core::proofs::Rows::lent))]
     fn with_rows<U: RowUser>(&self, other: &Self, user: &mut U) -> U::Answer {
         user.take(&self.row(), &other.row())
     }
@@ -247,21 +242,21 @@ impl<P: Profile> Rows for TbsCertificateInner<P> {
 }
 
 impl<P> TbsCertificateInner<P> {
-    /// The version.
+    /// Returns the version.
     pub fn version(&self) -> Version
         ensures { pos (version_number result) ≡ tbs_version (tbs_plain self.now) }
     {
         self.version
     }
 
-    /// The number that its issuer gave it.
+    /// Returns the number that its issuer gave it.
     pub fn serial_number(&self) -> &SerialNumber<P>
         ensures { result.now ≡ tbs_serial (tbs_plain self.now) }
     {
         &self.serial_number
     }
 
-    /// The algorithm of the signature, as it is signed.
+    /// Returns the signature algorithm in the TBSCertificate.
     pub fn signature(&self) -> &AlgorithmIdentifier
         ensures { algorithm_plain result.now ≡ tbs_inner_algorithm (tbs_plain self.now) }
     {
@@ -289,28 +284,28 @@ impl<P> TbsCertificateInner<P> {
         &self.subject
     }
 
-    /// The key that it certifies.
+    /// Returns the key that it certifies.
     pub fn subject_public_key_info(&self) -> &SubjectPublicKeyInfo
         ensures { key_plain result.now ≡ tbs_public_key (tbs_plain self.now) }
     {
         &self.subject_public_key_info
     }
 
-    /// What tells issuers of one name apart (RFC 5280 4.1.2.8).
+    /// Returns the bits that distinguish issuers with the same name (RFC 5280 4.1.2.8).
     pub fn issuer_unique_id(&self) -> &Option<BitString>
         ensures { result.now ≡ tbs_issuer_unique_id (tbs_plain self.now) }
     {
         &self.issuer_unique_id
     }
 
-    /// What tells subjects of one name apart (RFC 5280 4.1.2.8).
+    /// Returns the bits that distinguish subjects with the same name (RFC 5280 4.1.2.8).
     pub fn subject_unique_id(&self) -> &Option<BitString>
         ensures { result.now ≡ tbs_subject_unique_id (tbs_plain self.now) }
     {
         &self.subject_unique_id
     }
 
-    /// The extensions, in their order (RFC 5280 4.2).
+    /// Returns the extensions, in their order (RFC 5280 4.2).
     pub fn extensions(&self) -> Option<&Extensions>
         ensures { plain_option (λ r. extensions_plain r.now.items) result
             ≡ tbs_extensions (tbs_plain self.now) }
@@ -318,8 +313,8 @@ impl<P> TbsCertificateInner<P> {
         self.extensions.as_ref()
     }
 
-    /// The value of the only extension of the identifier of `T`, and whether it is critical; none
-    /// where no extension has the identifier.
+    /// Looks for the extension with the OID of `T`. Returns whether it is critical, and its value,
+    /// or `None` if there is no such extension.
     ///
     /// As in `crates/example_extensions_of_certificate/src/main.rt`:
     ///
@@ -329,8 +324,10 @@ impl<P> TbsCertificateInner<P> {
     /// ```
     ///
     /// # Errors
-    /// `Failed` where two have it (RFC 5280 4.2 forbids that). Else those of `T`, whose encoding
-    /// the content has to be, or `OutOfMemory`.
+    ///
+    /// - `Failed`: there are two such extensions, which RFC 5280 4.2 forbids.
+    /// - The errors of `T`, whose encoding the content must be.
+    /// - `OutOfMemory`: memory runs out.
     pub fn get_extension<'a, T: AssociatedOid + Decode<'a, SliceReader<'a>>>(
         &'a self,
         alloc: Global,
@@ -345,8 +342,8 @@ impl<P> TbsCertificateInner<P> {
         }
     }
 
-    /// The values of all extensions of the identifier of `T`, each with whether it is critical, in
-    /// their order.
+    /// Returns an iterator over all extensions with the OID of `T`, in their order: whether each is
+    /// critical, and its value.
     pub fn filter_extensions<'a, T: AssociatedOid>(&'a self, alloc: Global) -> ExtensionsOf<'a, T>
         ensures { extensions_plain result.left.now
             ≡ extensions_in_field (tbs_extensions (tbs_plain self.now)) }

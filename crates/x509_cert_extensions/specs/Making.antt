@@ -11,8 +11,8 @@ use Rattle.x509_cert_policies.specs.CertParts.Grammar.{PlainExtension}
 abbrev pub extension_of : List ℕ → Bool → (s : Shape) → Value s → PlainExtension
 extension_of arcs critical s v = (arcs, (critical, (octets_of s v, tt)))
 
--- why none is made of a value: for out of memory, or for the fault with which its writing ends;
--- of one that has an encoding, only when out of memory
+-- why none is made of a value: for out of memory, or for the error with which its writing ends; of
+-- one that has an encoding, only when out of memory
 pub record IsNotMade (s : Shape) (v : Value s) (k : ErrorKind) : Type 0 where
   pub valid : IsValid s v → k ≡ OutOfMemory
   pub fault : Fails k (write s v (record { written = []; room = None; failed = false }))

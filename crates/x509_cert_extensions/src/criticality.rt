@@ -29,7 +29,7 @@ pub trait Criticality {
     // Whether it is, of a subject and the extensions that are there.
     ghost is_critical: { Self → PlainName → List PlainExtension → Bool };
 
-    /// Whether it is, beside a subject's name and the extensions that are there.
+    /// Returns whether it is, beside a subject's name and the extensions that are there.
     fn criticality(&self, subject: &Name, extensions: &[Extension]) -> bool
         ensures { result ≡ is_critical self.now (name_plain subject.now)
             (extensions_plain extensions.now) };
@@ -43,7 +43,7 @@ pub trait Marking {
 
     ghost marking: { Marking };
 
-    /// Whether it is critical beside a subject's name.
+    /// Returns whether it is critical beside a subject's name.
     fn is_critical_beside(subject: &Name) -> bool
         ensures { result ≡ marks marking (name_plain subject.now) };
 }

@@ -18,11 +18,12 @@ use x509_cert_policies::types::Uint;
 pub struct CrlNumber(pub Uint);
 
 impl CrlNumber {
-    /// This number. A list may have one of up to 20 octets (RFC 5280 5.2.3): `From<Uint>` makes
+    /// This number. A list may have one of up to 20 bytes (RFC 5280 5.2.3): `From<Uint>` makes
     /// those of more than 16.
     ///
     /// # Errors
-    /// Out of memory.
+    ///
+    /// Fails if memory runs out.
     pub fn try_from_u128(alloc: Global, number: u128) -> Result<CrlNumber, Error>
         ensures { Gives (λ n. pos n.0) result (Ok (pos number)) }
     {

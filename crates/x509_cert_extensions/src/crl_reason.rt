@@ -41,7 +41,7 @@ impl Described for CrlReason {
     type By = AsEnumerated;
 }
 
-/// Any other number is refused as `Value`.
+/// Any other number is rejected as `Value`.
 impl Numbered for CrlReason {
     ghost known_numbers = { reason_numbers };
 

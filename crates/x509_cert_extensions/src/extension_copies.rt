@@ -18,7 +18,7 @@ use x509_cert_general_names::{AccessDescription, DistributionPoint, GeneralName}
 use x509_cert_policies::der::making::copies_of;
 
 impl AuthorityInfoAccessSyntax {
-    /// A copy. Out of memory is the only error.
+    /// Returns a copy. The only error is that memory runs out.
     pub fn clone(&self, alloc: Global) -> Result<AuthorityInfoAccessSyntax, AllocError>
         ensures { IsCopy self.now result (λ x. plain_list access_description_plain x.0.items) }
     {
@@ -31,7 +31,7 @@ impl AuthorityInfoAccessSyntax {
 }
 
 impl SubjectInfoAccessSyntax {
-    /// A copy. Out of memory is the only error.
+    /// Returns a copy. The only error is that memory runs out.
     pub fn clone(&self, alloc: Global) -> Result<SubjectInfoAccessSyntax, AllocError>
         ensures { IsCopy self.now result (λ x. plain_list access_description_plain x.0.items) }
     {
@@ -40,7 +40,7 @@ impl SubjectInfoAccessSyntax {
 }
 
 impl CrlDistributionPoints {
-    /// A copy. Out of memory is the only error.
+    /// Returns a copy. The only error is that memory runs out.
     pub fn clone(&self, alloc: Global) -> Result<CrlDistributionPoints, AllocError>
         ensures { IsCopy self.now result (λ x. plain_list distribution_point_plain x.0.items) }
     {
@@ -49,7 +49,7 @@ impl CrlDistributionPoints {
 }
 
 impl FreshestCrl {
-    /// A copy. Out of memory is the only error.
+    /// Returns a copy. The only error is that memory runs out.
     pub fn clone(&self, alloc: Global) -> Result<FreshestCrl, AllocError>
         ensures { IsCopy self.now result (λ x. plain_list distribution_point_plain x.0.items) }
     {
@@ -58,7 +58,7 @@ impl FreshestCrl {
 }
 
 impl IssuerAltName {
-    /// A copy. Out of memory is the only error.
+    /// Returns a copy. The only error is that memory runs out.
     pub fn clone(&self, alloc: Global) -> Result<IssuerAltName, AllocError>
         ensures { IsCopy self.now result (λ x. plain_list general_name_plain x.0.items) }
     {
@@ -67,7 +67,7 @@ impl IssuerAltName {
 }
 
 impl SubjectAltName {
-    /// A copy. Out of memory is the only error.
+    /// Returns a copy. The only error is that memory runs out.
     pub fn clone(&self, alloc: Global) -> Result<SubjectAltName, AllocError>
         ensures { IsCopy self.now result (λ x. plain_list general_name_plain x.0.items) }
     {
@@ -76,7 +76,7 @@ impl SubjectAltName {
 }
 
 impl SubjectDirectoryAttributes {
-    /// A copy. Out of memory is the only error.
+    /// Returns a copy. The only error is that memory runs out.
     pub fn clone(&self, alloc: Global) -> Result<SubjectDirectoryAttributes, AllocError>
         ensures { IsCopy self.now result (λ x. plain_list attribute_plain x.0.items) }
     {
@@ -85,7 +85,7 @@ impl SubjectDirectoryAttributes {
 }
 
 impl ExtendedKeyUsage {
-    /// A copy. Out of memory is the only error.
+    /// Returns a copy. The only error is that memory runs out.
     pub fn clone(&self, alloc: Global) -> Result<ExtendedKeyUsage, AllocError>
         ensures { IsCopy self.now result (λ x. x.0.items) }
     {
@@ -94,7 +94,7 @@ impl ExtendedKeyUsage {
 }
 
 impl SubjectKeyIdentifier {
-    /// A copy. Out of memory is the only error.
+    /// Returns a copy. The only error is that memory runs out.
     pub fn clone(&self, alloc: Global) -> Result<SubjectKeyIdentifier, AllocError>
         ensures { IsCopy self.now result (λ x. x.0) }
     {
@@ -103,7 +103,7 @@ impl SubjectKeyIdentifier {
 }
 
 impl CrlNumber {
-    /// A copy. Out of memory is the only error.
+    /// Returns a copy. The only error is that memory runs out.
     pub fn clone(&self, alloc: Global) -> Result<CrlNumber, AllocError>
         ensures { IsCopy self.now result (λ x. x.0) }
     {
@@ -112,7 +112,7 @@ impl CrlNumber {
 }
 
 impl BaseCrlNumber {
-    /// A copy. Out of memory is the only error.
+    /// Returns a copy. The only error is that memory runs out.
     pub fn clone(&self, alloc: Global) -> Result<BaseCrlNumber, AllocError>
         ensures { IsCopy self.now result (λ x. x.0) }
     {

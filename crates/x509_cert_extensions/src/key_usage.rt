@@ -80,63 +80,63 @@ impl NamedBits for KeyUsages {
 pub struct KeyUsage(pub FlagSet<KeyUsages>);
 
 impl KeyUsage {
-    /// Whether data are signed with the key, but for certificates and lists.
+    /// Returns whether data are signed with the key, but for certificates and lists.
     pub fn digital_signature(&self) -> bool
         ensures { result ≡ has_bit (bit_of bits.digital_signature) self.now.0.flags.0 }
     {
         self.0.contains(KeyUsages::DigitalSignature)
     }
 
-    /// Whether signatures with the key bind their signer.
+    /// Returns whether signatures with the key bind their signer.
     pub fn non_repudiation(&self) -> bool
         ensures { result ≡ has_bit (bit_of bits.non_repudiation) self.now.0.flags.0 }
     {
         self.0.contains(KeyUsages::NonRepudiation)
     }
 
-    /// Whether keys are enciphered with it.
+    /// Returns whether keys are enciphered with it.
     pub fn key_encipherment(&self) -> bool
         ensures { result ≡ has_bit (bit_of bits.key_encipherment) self.now.0.flags.0 }
     {
         self.0.contains(KeyUsages::KeyEncipherment)
     }
 
-    /// Whether data are enciphered with it.
+    /// Returns whether data are enciphered with it.
     pub fn data_encipherment(&self) -> bool
         ensures { result ≡ has_bit (bit_of bits.data_encipherment) self.now.0.flags.0 }
     {
         self.0.contains(KeyUsages::DataEncipherment)
     }
 
-    /// Whether keys are agreed upon with it.
+    /// Returns whether keys are agreed upon with it.
     pub fn key_agreement(&self) -> bool
         ensures { result ≡ has_bit (bit_of bits.key_agreement) self.now.0.flags.0 }
     {
         self.0.contains(KeyUsages::KeyAgreement)
     }
 
-    /// Whether certificates are signed with it.
+    /// Returns whether certificates are signed with it.
     pub fn key_cert_sign(&self) -> bool
         ensures { result ≡ has_bit (bit_of bits.key_cert_sign) self.now.0.flags.0 }
     {
         self.0.contains(KeyUsages::KeyCertSign)
     }
 
-    /// Whether lists of revoked certificates are signed with it.
+    /// Returns whether lists of revoked certificates are signed with it.
     pub fn crl_sign(&self) -> bool
         ensures { result ≡ has_bit (bit_of bits.crl_sign) self.now.0.flags.0 }
     {
         self.0.contains(KeyUsages::CRLSign)
     }
 
-    /// Whether a key that is agreed upon only enciphers.
+    /// Returns whether a key that is agreed upon only enciphers.
     pub fn encipher_only(&self) -> bool
         ensures { result ≡ has_bit (bit_of bits.encipher_only) self.now.0.flags.0 }
     {
         self.0.contains(KeyUsages::EncipherOnly)
     }
 
-    /// Whether a key that is agreed upon only deciphers.
+    /// Returns whether a key that is agreed upon only deciphers.
     pub fn decipher_only(&self) -> bool
         ensures { result ≡ has_bit (bit_of bits.decipher_only) self.now.0.flags.0 }
     {

@@ -40,16 +40,17 @@ pub use to_extension::ToExtension;
 pub mod cert_general_names {
     pub use x509_cert_general_names::{
         AccessDescription, AuthorityKeyIdentifier, DistributionPoint, DistributionPointName,
-        EdiPartyName, GeneralName, GeneralNames, GeneralSubtree, HardwareModuleName,
-        IssuingDistributionPoint, NameConstraints, OtherName, ReasonFlags, Reasons,
+        EdiPartyName, GeneralName, GeneralNames, GeneralSubtree, GeneralSubtrees,
+        HardwareModuleName, IssuingDistributionPoint, NameConstraints, OtherName, ReasonFlags,
+        Reasons,
     };
 }
 
 /// The names of `x509_cert_policies` that the crates above use.
 pub mod policy_types {
     pub use x509_cert_policies::{
-        BasicConstraints, CertificatePolicies, InhibitAnyPolicy, PolicyConstraints,
-        PolicyInformation, PolicyMapping, PolicyMappings, PolicyQualifierInfo,
-        PrivateKeyUsagePeriod, timestamps,
+        BasicConstraints, CertificatePolicies, CpsUri, DisplayText, InhibitAnyPolicy,
+        NoticeReference, PolicyConstraints, PolicyInformation, PolicyMapping, PolicyMappings,
+        PolicyQualifierInfo, PrivateKeyUsagePeriod, UserNotice, timestamps,
     };
 }

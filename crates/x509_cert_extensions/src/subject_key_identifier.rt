@@ -20,10 +20,11 @@ use x509_cert_policies::types::OctetString;
 pub struct SubjectKeyIdentifier(pub OctetString);
 
 impl SubjectKeyIdentifier {
-    /// The identifier of a key (`key_identifier_of`).
+    /// Returns the identifier of a key (`key_identifier_of`).
     ///
     /// # Errors
-    /// Out of memory.
+    ///
+    /// Fails if memory runs out.
     pub fn try_from_key<'a>(alloc: Global, key: &SubjectPublicKeyInfoRef<'a>) -> Result<Self, Error>
         ensures ok { IfOk result (λ i. i.0 ≡ key_identifier (key_lent key.now)) }
         ensures err { IfErr result (λ e. e.kind ≡ ErrorKind.OutOfMemory) }

@@ -29,10 +29,11 @@ pub trait ToExtension {
     // For which values nothing is made, and why.
     ghost refused: { Self → Self.Error → Type 0 };
 
-    /// The extension, beside a subject's name and the extensions that are there.
+    /// Returns the extension, beside a subject's name and the extensions that are there.
     ///
     /// # Errors
-    /// The fault with which the writing of the value ends, or out of memory.
+    ///
+    /// The error with which the writing of the value ends, or out of memory.
     fn to_extension(
         self,
         alloc: Global,
@@ -45,7 +46,7 @@ pub trait ToExtension {
         ensures err { IfErr result (λ e. refused self e) };
 }
 
-/// The extension of an identifier whose content is the encoding of a value.
+/// Returns the extension of an identifier whose content is the encoding of a value.
 fn extension_of<T: Encode>(
     alloc: Global,
     identifier: ObjectIdentifier<39>,
@@ -65,7 +66,7 @@ fn extension_of<T: Encode>(
     })
 }
 
-/// A lent value with the identifier and the criticality of its type.
+/// A borrowed value with the identifier and the criticality of its type.
 impl<'a, T: Encode + AssociatedOid + Criticality> ToExtension for &'a T {
     type Error = Error;
 

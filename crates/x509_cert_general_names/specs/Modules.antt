@@ -33,12 +33,12 @@ abbrev pub HoldsModule : ℕ → PlainOther → PlainModule → Type 0
 HoldsModule bound n m =
     Spells (sequence (hardware_module_name_fields bound)) m (octets_of any n.1.0)
 
--- the module that the value of a name is read as, or its first fault
+-- the module that the value of a name is read as, or its first error
 abbrev pub module_read : ℕ → PlainOther → Result (Option PlainModule) ErrorKind
 module_read bound n = content_as Sequence (nested (hardware_module_name_fields bound)) n.1.0
     >>= λ m. Ok (Some m)
 
--- the name that holds a module, if a length can count its octets
+-- the name that holds a module, if a length can count its bytes
 abbrev pub module_held : ℕ → PlainModule → Result PlainOther ErrorKind
 module_held bound m = written_as Sequence (nested (hardware_module_name_fields bound)) m
     >>= λ v. Ok (module_arcs, (v, tt))

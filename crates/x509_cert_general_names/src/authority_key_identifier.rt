@@ -55,7 +55,6 @@ impl Described for AuthorityKeyIdentifier {
 }
 
 impl Rows for AuthorityKeyIdentifier {
-    #[tactic(auto, using(der_core::proofs::Rows::lent))]
     fn with_rows<U: RowUser>(&self, other: &Self, user: &mut U) -> U::Answer {
         lend!(self, other, user;
             key_identifier: implicit 0 optional, authority_cert_issuer: implicit 1 optional,
@@ -66,10 +65,11 @@ impl Rows for AuthorityKeyIdentifier {
 }
 
 impl AuthorityKeyIdentifier {
-    /// The identifier of a key (`key_identifier_of`) alone.
+    /// Returns the identifier of a key (`key_identifier_of`) alone.
     ///
     /// # Errors
-    /// Out of memory.
+    ///
+    /// Fails if memory runs out.
     pub fn try_from_key<'a>(alloc: Global, key: &SubjectPublicKeyInfoRef<'a>) -> Result<Self, Error>
         ensures ok { IfOk result (λ i. i ≡ record {
           key_identifier = Some (key_identifier (key_lent key.now));
@@ -87,11 +87,12 @@ impl AuthorityKeyIdentifier {
     }
 }
 
-/// The SHA-1 digest (FIPS 180-4) of the octets of the key's bit string, without the count of unused
-/// bits.
+/// Returns the SHA-1 digest (FIPS 180-4) of the bytes of the key's bit string, without the count of
+/// unused bits.
 ///
 /// # Errors
-/// Out of memory.
+///
+/// Fails if memory runs out.
 pub fn key_identifier_of<'a>(
     alloc: Global,
     key: &SubjectPublicKeyInfoRef<'a>,

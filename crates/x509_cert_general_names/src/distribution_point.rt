@@ -24,7 +24,7 @@ use std::alloc::Global;
 pub struct DistributionPoint {
     /// The name.
     pub distribution_point: Option<DistributionPointName>,
-    /// The reasons for which certificates stand in the list. Without them, all.
+    /// The reasons for which certificates are in the list. Without them, all.
     pub reasons: Option<ReasonFlags>,
     /// The list's issuer, where another than the certificate's.
     pub crl_issuer: Option<GeneralNames>,
@@ -50,7 +50,6 @@ impl Described for DistributionPoint {
 }
 
 impl Rows for DistributionPoint {
-    #[tactic(auto, using(der_core::proofs::Rows::lent))]
     fn with_rows<U: RowUser>(&self, other: &Self, user: &mut U) -> U::Answer {
         lend!(self, other, user;
             distribution_point: explicit 0 optional, reasons: implicit 1 optional,

@@ -6,6 +6,8 @@ ghost use Rattle.x509_cert_general_names.specs.GeneralNames.{distribution_point_
 ghost use Rattle.x509_cert_general_names.specs.GeneralNameViews.{distribution_point_name_plain};
 
 use crate::general_name::GeneralNames;
+use der_core::describing::{LentField, ReadCase};
+use der_core::making::{cases_cmp, cases_tag};
 use der_core::{
     AsRead, Choice, Decode, DerOrd, Element, Encode, Error, FirstTag, Implicit, ImplicitRef,
     Length, Member, OneOf2, Reader, Shaped, Tag, Writer,
@@ -37,9 +39,9 @@ type CasesRef<'a> = OneOf2<
 >;
 
 impl DistributionPointName {
-    /// The alternative that stands, lent.
+    /// Returns a reference to the alternative.
     fn cases<'a>(&'a self) -> CasesRef<'a>
-        ensures { ⟦<CasesRef<'a> as Shaped>⟧.written result
+        ensures { ⟦<CasesRef<'a> as LentField>⟧.written result
             ≡ distribution_point_name_plain self.now }
     {
         match self {
@@ -65,7 +67,7 @@ impl Choice for DistributionPointName {
 
 impl<'a, R: Reader<'a>> Decode<'a, R> for DistributionPointName {
     fn decode(alloc: Global, reader: &mut R) -> Result<DistributionPointName, Error> {
-        match Cases::decode(alloc, reader)? {
+        match Cases::read_case(alloc, reader)? {
             OneOf2::First(value) => Ok(Self::FullName(value.value)),
             OneOf2::Second(value) => Ok(Self::NameRelativeToCRLIssuer(value.value)),
         }
@@ -74,11 +76,11 @@ impl<'a, R: Reader<'a>> Decode<'a, R> for DistributionPointName {
 
 impl Encode for DistributionPointName {
     fn encoded_len(&self) -> Result<Length, Error> {
-        self.cases().encoded_len()
+        self.cases().field_len()
     }
 
     fn encode<W: Writer>(&self, writer: &mut W) -> Result<(), Error> {
-        self.cases().encode(writer)
+        self.cases().encode_field(writer)
     }
 }
 
@@ -97,12 +99,12 @@ impl AsRead for DistributionPointName {
 /// The tags, then the contents.
 impl DerOrd for DistributionPointName {
     fn der_cmp(&self, other: &Self) -> Result<Ordering, Error> {
-        self.cases().der_cmp(&other.cases())
+        cases_cmp(&self.cases(), &other.cases())
     }
 }
 
 impl FirstTag for DistributionPointName {
     fn first_tag(&self) -> Option<Tag> {
-        self.cases().first_tag()
+        cases_tag(&self.cases())
     }
 }

@@ -43,7 +43,6 @@ impl Described for EdiPartyName {
 }
 
 impl Rows for EdiPartyName {
-    #[tactic(auto, using(der_core::proofs::Rows::lent))]
     fn with_rows<U: RowUser>(&self, other: &Self, user: &mut U) -> U::Answer {
         lend!(self, other, user; name_assigner: explicit 0 optional, party_name: explicit 1)
     }

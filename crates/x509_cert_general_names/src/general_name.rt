@@ -11,6 +11,8 @@ ghost use Rattle.x509_cert_general_names.specs.declared.general_name.GeneralName
 
 use crate::edi_party_name::EdiPartyName;
 use crate::other_name::OtherName;
+use der_core::describing::{LentField, ReadCase};
+use der_core::making::{cases_cmp, cases_tag};
 use der_core::oid::ObjectIdentifier;
 use der_core::{
     AsRead, Choice, Decode, DerOrd, Element, Encode, EncodeRef, Error, Explicit, FirstTag,
@@ -78,7 +80,7 @@ type CasesRef<'a> = OneOf8<
     ImplicitRef<'a, ObjectIdentifier<39>, 8>,
 >;
 
-/// The octets of an address, in the order of the network.
+/// Returns the bytes of an address, in the order of the network.
 fn octets_of(alloc: Global, address: IpAddr) -> Result<Vec<u8>, AllocError>
     ensures octets { IfOk result (λ v. v.items ≡ address_octets address) }
     ensures few { IfOk result (λ v. vec_len v ≤ 16) }
@@ -90,10 +92,11 @@ fn octets_of(alloc: Global, address: IpAddr) -> Result<Vec<u8>, AllocError>
 }
 
 impl GeneralName {
-    /// The name of an address: its four octets (RFC 791 3.1), or its sixteen (RFC 4291 2).
+    /// Returns the name of an address: its four bytes (RFC 791 3.1), or its sixteen (RFC 4291 2).
     ///
     /// # Errors
-    /// Out of memory.
+    ///
+    /// Fails if memory runs out.
     pub fn from_ip(alloc: Global, address: IpAddr) -> Result<GeneralName, Error>
         ensures ok { IfOk result (λ n. n ≡ names.IpAddress (address_octets address)) }
         ensures err { IfErr result (λ e. e.kind ≡ OutOfMemory) }
@@ -102,9 +105,9 @@ impl GeneralName {
         Ok(GeneralName::IpAddress(OctetString::new(octets)?))
     }
 
-    /// The alternative that stands, lent.
+    /// Returns a reference to the alternative.
     fn cases<'a>(&'a self) -> CasesRef<'a>
-        ensures { ⟦<CasesRef<'a> as Shaped>⟧.written result ≡ general_name_plain self.now }
+        ensures { ⟦<CasesRef<'a> as LentField>⟧.written result ≡ general_name_plain self.now }
     {
         match self {
             GeneralName::OtherName(value) => case!(1 of 8: ImplicitRef { value: value }),
@@ -139,7 +142,7 @@ impl Choice for GeneralName {
 
 impl<'a, R: Reader<'a>> Decode<'a, R> for GeneralName {
     fn decode(alloc: Global, reader: &mut R) -> Result<GeneralName, Error> {
-        match Cases::decode(alloc, reader)? {
+        match Cases::read_case(alloc, reader)? {
             case!(1 of 8: value) => Ok(GeneralName::OtherName(value.value)),
             case!(2 of 8: value) => Ok(GeneralName::Rfc822Name(value.value)),
             case!(3 of 8: value) => Ok(GeneralName::DnsName(value.value)),
@@ -154,11 +157,11 @@ impl<'a, R: Reader<'a>> Decode<'a, R> for GeneralName {
 
 impl Encode for GeneralName {
     fn encoded_len(&self) -> Result<Length, Error> {
-        self.cases().encoded_len()
+        self.cases().field_len()
     }
 
     fn encode<W: Writer>(&self, writer: &mut W) -> Result<(), Error> {
-        self.cases().encode(writer)
+        self.cases().encode_field(writer)
     }
 }
 
@@ -177,13 +180,13 @@ impl AsRead for GeneralName {
 /// The tags, then the contents.
 impl DerOrd for GeneralName {
     fn der_cmp(&self, other: &Self) -> Result<Ordering, Error> {
-        self.cases().der_cmp(&other.cases())
+        cases_cmp(&self.cases(), &other.cases())
     }
 }
 
 impl FirstTag for GeneralName {
     fn first_tag(&self) -> Option<Tag> {
-        self.cases().first_tag()
+        cases_tag(&self.cases())
     }
 }
 

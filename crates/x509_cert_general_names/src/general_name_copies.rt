@@ -15,7 +15,7 @@ use x509_cert_parts::SerialNumber;
 use x509_cert_parts::types::OctetString;
 
 impl OtherName {
-    /// A copy. Out of memory is the only error.
+    /// Returns a copy. The only error is that memory runs out.
     pub fn clone(&self, alloc: Global) -> Result<OtherName, AllocError>
         ensures { IsCopy self.now result views.other_name_plain }
     {
@@ -27,7 +27,7 @@ impl OtherName {
 }
 
 impl EdiPartyName {
-    /// A copy. Out of memory is the only error.
+    /// Returns a copy. The only error is that memory runs out.
     pub fn clone(&self, alloc: Global) -> Result<EdiPartyName, AllocError>
         ensures { IsCopy self.now result views.edi_party_name_plain }
     {
@@ -39,7 +39,7 @@ impl EdiPartyName {
 }
 
 impl GeneralName {
-    /// A copy. Out of memory is the only error.
+    /// Returns a copy. The only error is that memory runs out.
     pub fn clone(&self, alloc: Global) -> Result<GeneralName, AllocError>
         ensures { IsCopy self.now result views.general_name_plain }
     {
@@ -59,7 +59,7 @@ impl GeneralName {
 }
 
 impl DistributionPointName {
-    /// A copy. Out of memory is the only error.
+    /// Returns a copy. The only error is that memory runs out.
     pub fn clone(&self, alloc: Global) -> Result<DistributionPointName, AllocError>
         ensures { IsCopy self.now result views.distribution_point_name_plain }
     {
@@ -75,7 +75,7 @@ impl DistributionPointName {
 }
 
 impl AuthorityKeyIdentifier {
-    /// A copy. Out of memory is the only error.
+    /// Returns a copy. The only error is that memory runs out.
     pub fn clone(&self, alloc: Global) -> Result<AuthorityKeyIdentifier, AllocError>
         ensures { IsCopy self.now result views.authority_key_identifier_plain }
     {
@@ -96,7 +96,7 @@ impl AuthorityKeyIdentifier {
 }
 
 impl DistributionPoint {
-    /// A copy. Out of memory is the only error.
+    /// Returns a copy. The only error is that memory runs out.
     pub fn clone(&self, alloc: Global) -> Result<DistributionPoint, AllocError>
         ensures { IsCopy self.now result views.distribution_point_plain }
     {
@@ -113,7 +113,7 @@ impl DistributionPoint {
 }
 
 impl AccessDescription {
-    /// A copy. Out of memory is the only error.
+    /// Returns a copy. The only error is that memory runs out.
     pub fn clone(&self, alloc: Global) -> Result<AccessDescription, AllocError>
         ensures { IsCopy self.now result views.access_description_plain }
     {
@@ -125,7 +125,7 @@ impl AccessDescription {
 }
 
 impl GeneralSubtree {
-    /// A copy. Out of memory is the only error.
+    /// Returns a copy. The only error is that memory runs out.
     pub fn clone(&self, alloc: Global) -> Result<GeneralSubtree, AllocError>
         ensures { IsCopy self.now result views.general_subtree_plain }
     {
@@ -138,7 +138,7 @@ impl GeneralSubtree {
 }
 
 impl NameConstraints {
-    /// A copy. Out of memory is the only error.
+    /// Returns a copy. The only error is that memory runs out.
     pub fn clone(&self, alloc: Global) -> Result<NameConstraints, AllocError>
         ensures { IsCopy self.now result views.name_constraints_plain }
     {
@@ -158,7 +158,7 @@ impl NameConstraints {
 }
 
 impl IssuingDistributionPoint {
-    /// A copy. Out of memory is the only error.
+    /// Returns a copy. The only error is that memory runs out.
     pub fn clone(&self, alloc: Global) -> Result<IssuingDistributionPoint, AllocError>
         ensures { IsCopy self.now result views.issuing_distribution_point_plain }
     {
@@ -178,7 +178,7 @@ impl IssuingDistributionPoint {
 }
 
 impl HardwareModuleName {
-    /// A copy. Out of memory is the only error.
+    /// Returns a copy. The only error is that memory runs out.
     pub fn clone(&self, alloc: Global) -> Result<HardwareModuleName, AllocError>
         ensures { IsCopy self.now result views.hardware_module_name_plain }
     {

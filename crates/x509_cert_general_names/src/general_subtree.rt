@@ -49,7 +49,6 @@ impl Described for GeneralSubtree {
 }
 
 impl Rows for GeneralSubtree {
-    #[tactic(auto, using(der_core::proofs::Rows::lent))]
     fn with_rows<U: RowUser>(&self, other: &Self, user: &mut U) -> U::Answer {
         lend!(self, other, user; base, minimum: implicit 0 default, maximum: implicit 1 optional)
     }

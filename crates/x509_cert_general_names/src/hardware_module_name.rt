@@ -33,29 +33,31 @@ pub struct HardwareModuleName {
 }
 
 impl HardwareModuleName {
-    /// The module that another name holds; none where it is of another kind.
+    /// Returns the module that another name holds; none if it is of another kind.
     ///
     /// # Errors
-    /// `TagUnexpected` where the value of the name is no SEQUENCE, the first fault of its content,
-    /// or `OutOfMemory`.
+    ///
+    /// - `TagUnexpected`: the value of the name isn't SEQUENCE.
+    /// - The first error of its content.
+    /// - `OutOfMemory`: memory runs out.
     pub fn from_other_name(alloc: Global, other_name: &OtherName) -> Result<Option<Self>, Error>
         // A name of another kind holds none.
         ensures other { is_of_module (other_name_plain other_name.now) ≡ false → result ≡ Ok None }
-        // A name of a module holds a module, or is refused.
+        // A name of a module holds a module, or is rejected.
         ensures held { is_of_module (other_name_plain other_name.now) ≡ true → IfOk result IsSome }
-        // The module that is answered is spelled by the value.
+        // The module that is returned is spelled by the value.
         ensures spelled { HasEncoding (other_name_plain other_name.now)
             → IfOk result
             (λ o.
             IfSome o
             (λ m. HoldsModule Bound (other_name_plain other_name.now)
             (hardware_module_name_plain m))) }
-        // A module that is spelled by the value is answered, unless memory runs out.
+        // A module that is spelled by the value is returned, unless memory runs out.
         ensures only { (m : PlainModule) → is_of_module (other_name_plain other_name.now) ≡ true
             → HasEncoding (other_name_plain other_name.now)
             → HoldsModule Bound (other_name_plain other_name.now) m
             → Gives (plain_option hardware_module_name_plain) result (Ok (Some m)) }
-        // Which fault it is.
+        // The error is exact.
         ensures exact { is_of_module (other_name_plain other_name.now) ≡ true
             → Gives (plain_option hardware_module_name_plain) result
             (module_read Bound (other_name_plain other_name.now)) }

@@ -11,7 +11,7 @@ use der_core::describing::{AsRecord, Described, FieldsView, RowUser, Rows};
 use der_core::{DecodeFields, Error, Reader, lend, read_row};
 use std::alloc::Global;
 
-/// What stands in a list of revoked certificates (RFC 5280 5.2.5).
+/// What is in a list of revoked certificates (RFC 5280 5.2.5).
 ///
 /// ```text
 /// IssuingDistributionPoint ::= SEQUENCE {
@@ -30,7 +30,7 @@ pub struct IssuingDistributionPoint {
     pub only_contains_user_certs: bool,
     /// Whether it holds certificates of authorities alone.
     pub only_contains_ca_certs: bool,
-    /// The reasons for which certificates stand in it, if not all.
+    /// The reasons for which certificates are in it, if not all.
     pub only_some_reasons: Option<ReasonFlags>,
     /// Whether it holds certificates of other issuers too.
     pub indirect_crl: bool,

@@ -46,7 +46,6 @@ impl Described for NameConstraints {
 }
 
 impl Rows for NameConstraints {
-    #[tactic(auto, using(der_core::proofs::Rows::lent))]
     fn with_rows<U: RowUser>(&self, other: &Self, user: &mut U) -> U::Answer {
         lend!(self, other, user;
             permitted_subtrees: implicit 0 optional, excluded_subtrees: implicit 1 optional)

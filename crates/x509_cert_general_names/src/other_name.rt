@@ -31,10 +31,12 @@ pub struct OtherName {
 }
 
 impl OtherName {
-    /// The name that holds this module.
+    /// Returns the name that holds this module.
     ///
     /// # Errors
-    /// `Overflow` where the module has 2^32 octets or more, or `OutOfMemory`.
+    ///
+    /// - `Overflow`: the module has 2^32 bytes or more.
+    /// - `OutOfMemory`: memory runs out.
     pub fn try_from(alloc: Global, named: &HardwareModuleName) -> Result<OtherName, Error>
         ensures { Gives other_name_plain result
             (module_held Bound (hardware_module_name_plain named.now)) }
@@ -64,7 +66,6 @@ impl Described for OtherName {
 }
 
 impl Rows for OtherName {
-    #[tactic(auto, using(der_core::proofs::Rows::lent))]
     fn with_rows<U: RowUser>(&self, other: &Self, user: &mut U) -> U::Answer {
         lend!(self, other, user; type_id, value: explicit 0)
     }

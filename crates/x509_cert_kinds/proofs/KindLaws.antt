@@ -1,4 +1,4 @@
--- The octets of the identifiers of kinds (X.690 8.19).
+-- The bytes of the identifiers of kinds (X.690 8.19).
 use Rattle.std.proofs.Common.{◌≡◌, ◌≢◌, ◌↔◌, ℕ, List, [], ◌∷◌, Option, Some, None, IfSome, IfNone, length, true, false, slice_index_or, refl, sym, ap, ◌∙◌, arith}
 use Rattle.std.specs.Cmp.Lexicographic.{bytes_decides}
 use Rattle.std.proofs.lemmas.Bool.{false_from_ne_true}
@@ -58,7 +58,7 @@ module _ (below octets : ℕ → List ℕ) (spelled : (kind : ExtensionKind) (n 
   unknown_below (Some kind) unknown = unknown
   unknown_below None unknown = λ kind. is_no_kind arcs kind (λ same. unknown kind ((spelled kind n).1 (sym same ∙ e)))
 
--- the octets of a kind are an arc below one of them, or those of timestamps
+-- the bytes of a kind are an arc below one of them, or those of timestamps
 pub none_of : (w : List ℕ) → ((n : ℕ) → w ≢ ce_octets n) → ((n : ℕ) → w ≢ pe_octets n) → w ≢ octets_of kinds.SignedCertificateTimestamps → (kind : ExtensionKind) → w ≢ octets_of kind
 unfolding identifier_octets arc_octets digits digits_within marked
 none_of w ce pe timestamps kinds.AuthorityInfoAccess = pe 1

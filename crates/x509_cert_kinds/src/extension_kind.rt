@@ -64,7 +64,7 @@ pub enum ExtensionKind {
     SignedCertificateTimestamps,
 }
 
-// The octets of 2.5.29, of 1.3.6.1.5.5.7.1, and of 1.3.6.1.4.1.11129.2.4.2 (X.690 8.19).
+// The bytes of 2.5.29, of 1.3.6.1.5.5.7.1, and of 1.3.6.1.4.1.11129.2.4.2 (X.690 8.19).
 const ID_CE: [u8; 2] = [0x55, 0x1d];
 
 const ID_PE: [u8; 7] = [0x2b, 6, 1, 5, 5, 7, 1];
@@ -92,7 +92,7 @@ impl ExtensionKind {
     }
 }
 
-// The last octet, where the others are these.
+// Returns the last byte, where the others are these.
 fn arc_below(front: &[u8], octets: &[u8]) -> Option<u8>
     ensures some { IfSome result (λ arc. octets.now ≡ front.now ++ arc ∷ []) }
     ensures none { IfNone result ((arc : ℕ) → octets.now ≢ front.now ++ arc ∷ []) }
@@ -106,7 +106,7 @@ fn arc_below(front: &[u8], octets: &[u8]) -> Option<u8>
     Some(*arc)
 }
 
-// The kind whose identifier is this arc below id-ce.
+// Returns the kind whose identifier is this arc below id-ce.
 fn below_ce(arc: u8) -> Option<ExtensionKind>
     ensures known { IfSome result (λ kind. arcs_of kind ≡ id_ce arc) }
     ensures unknown { IfNone result ((kind : ExtensionKind) → arcs_of kind ≢ id_ce arc) }
@@ -138,7 +138,7 @@ fn below_ce(arc: u8) -> Option<ExtensionKind>
     }
 }
 
-// The kind whose identifier is this arc below id-pe.
+// Returns the kind whose identifier is this arc below id-pe.
 fn below_pe(arc: u8) -> Option<ExtensionKind>
     ensures known { IfSome result (λ kind. arcs_of kind ≡ id_pe arc) }
     ensures unknown { IfNone result ((kind : ExtensionKind) → arcs_of kind ≢ id_pe arc) }

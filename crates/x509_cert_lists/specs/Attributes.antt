@@ -9,7 +9,7 @@ use Rattle.der_core.specs.Shapes.{defaulted, nothing}
 use Rattle.x509_cert_parts.specs.Types.Contents.{written_as}
 use Rattle.x509_cert_names.specs.Names.{PlainAttribute}
 
--- a value's tag and content, if a length can count its octets; a field that may be absent has none
+-- a value's tag and content, if a length can count its bytes; a field that may be absent has none
 abbrev pub any_of : (s : Shape) → Value s → Result AnyValue ErrorKind
 any_of (tagged t c) v = written_as t c v
 any_of any v = Ok v

@@ -1,6 +1,5 @@
--- CRLs (RFC 5280 5.1) and CSRs (RFC 2986 4). Each shape takes the
--- bound of arcs, and where a serial number stands in it the greatest number of its content octets,
--- if there is such a number.
+-- CRLs (RFC 5280 5.1) and CSRs (RFC 2986 4). Each shape takes the bound of arcs, and where a serial
+-- number is in it the greatest number of its content bytes, if there is such a number.
 use Rattle.std.specs.Prelude.{ℕ, List, [], ◌∷◌, true, Option, None, Result, Ok}
 use Rattle.der_core.specs.ErrorTypes.ErrorKind.{ErrorKind}
 use Rattle.der_core.specs.TagTypes.Tag.TheVariants as tags
@@ -85,7 +84,7 @@ abbrev pub extension_req_arcs : List ℕ
 extension_req_arcs = 1 ∷ 2 ∷ 840 ∷ 113549 ∷ 1 ∷ 9 ∷ 14 ∷ []
 
 -- the attribute of that type whose one value is the list of these extensions, if a length can count
--- its octets
+-- its bytes
 abbrev pub extension_req_attribute : ℕ → List PlainExtension → Result PlainAttribute ErrorKind
 extension_req_attribute bound es = written_as tags.Sequence (extension_req_content bound) es
     >>= λ v. Ok (extension_req_arcs, (v ∷ [], tt))

@@ -12,17 +12,20 @@ pub trait AsAttribute: AssociatedOid + Encode {
     ghost use Rattle.x509_cert_names.specs.Views.{attribute_plain};
     ghost use Rattle.x509_cert_lists.specs.Attributes.{any_of, attribute_of};
 
-    /// The tag and the content of the value.
+    /// Returns the tag and the content of the value.
     ///
     /// # Errors
-    /// `Overflow` where it has 2^32 octets or more, or `OutOfMemory`.
+    ///
+    /// - `Overflow`: it has 2^32 bytes or more.
+    /// - `OutOfMemory`: memory runs out.
     fn to_any(&self, alloc: Global) -> Result<Any, Error>
         ensures { Gives (λ a. a) result (any_of Self.shape (Self.written self.now)) };
 
-    /// The attribute of the type's identifier that holds the value alone.
+    /// Returns the attribute of the type's identifier that holds the value alone.
     ///
     /// # Errors
-    /// Those of `to_any`.
+    ///
+    /// - The errors of `to_any`.
     fn to_attribute(&self, alloc: Global) -> Result<Attribute, Error>
         ensures { Gives attribute_plain result
             (attribute_of Self.oid_arcs (any_of Self.shape (Self.written self.now))) }

@@ -58,17 +58,18 @@ impl Rows for CertReq {
 }
 
 impl CertReq {
-    /// Reads a request, all of the octets.
+    /// Reads a request, all of the bytes.
     ///
     /// # Errors
-    /// The first error met in reading, or `OutOfMemory`.
+    ///
+    /// The first error that decoding meets, or `OutOfMemory`.
     pub fn try_from_bytes(alloc: Global, bytes: &[u8]) -> Result<CertReq, Error>
-        // What is read is spelled so.
+        // What is accepted is an encoding.
         ensures spelled { IfOk result (λ r. Spells (cert_req Bound) (cert_req_plain r) bytes.now) }
-        // What is refused for another reason than out of memory is spelled by no request.
+        // What is rejected for another reason than out of memory is spelled by no request.
         ensures refused { IfErr result (λ e. e.kind ≢ ErrorKind.OutOfMemory
             → (r : Value (cert_req 0)) → Spells (cert_req Bound) r bytes.now → ⊥) }
-        // Which fault it is.
+        // The error is exact.
         ensures exact { Gives (λ r. (cert_req_plain r, [])) result
             (read_whole (cert_req Bound) bytes.now) }
     {

@@ -60,19 +60,20 @@ impl<P: Profile> Rows for CertificateList<P> {
 }
 
 impl<P: Profile> CertificateList<P> {
-    /// Reads a list, all of the octets.
+    /// Reads a list, all of the bytes.
     ///
     /// # Errors
-    /// The first error met in reading, or `OutOfMemory`.
+    ///
+    /// The first error that decoding meets, or `OutOfMemory`.
     pub fn from_der(alloc: Global, bytes: &[u8]) -> Result<CertificateList<P>, Error>
-        // What is read is spelled so.
+        // What is accepted is an encoding.
         ensures spelled { IfOk result
             (λ l. Spells (certificate_list Bound P.serial_limit) (certificate_list_plain l)
             bytes.now) }
-        // What is refused for another reason than out of memory is spelled by no list.
+        // What is rejected for another reason than out of memory is spelled by no list.
         ensures refused { IfErr result (λ e. e.kind ≢ ErrorKind.OutOfMemory → (l : PlainList)
             → Spells (certificate_list Bound P.serial_limit) l bytes.now → ⊥) }
-        // Which fault it is.
+        // The error is exact.
         ensures exact { Gives (λ l. (certificate_list_plain l, [])) result
             (read_whole (certificate_list Bound P.serial_limit) bytes.now) }
     {

@@ -100,18 +100,22 @@ impl AsMut<Vec<Extension>> for ExtensionReq {
 
 /// What a request for extensions is made into.
 pub trait TryFromExtensionReq: Sized {
-    /// What stands for the request.
+    /// Returns what stands for the request.
     ///
     /// # Errors
-    /// Those of the type, and `OutOfMemory`.
+    ///
+    /// - The errors of the type.
+    /// - `OutOfMemory`: memory runs out.
     fn try_from_extension_req(alloc: Global, request: ExtensionReq) -> Result<Self, Error>;
 }
 
 impl TryFromExtensionReq for Attribute {
-    /// The attribute `extensionRequest` whose one value is the list of the extensions.
+    /// Returns the attribute `extensionRequest` whose one value is the list of the extensions.
     ///
     /// # Errors
-    /// `Overflow` where the list has 2^32 octets or more, or `OutOfMemory`.
+    ///
+    /// - `Overflow`: the list has 2^32 bytes or more.
+    /// - `OutOfMemory`: memory runs out.
     fn try_from_extension_req(alloc: Global, request: ExtensionReq) -> Result<Attribute, Error>
         ensures { Gives attribute_plain result
             (extension_req_attribute Bound (extensions_plain request.0.items)) }

@@ -1,6 +1,6 @@
 //! Laws of CRLs and of requests.
 //!
-//! Each is the contract of a function that does nothing.
+//! Each law is the contract of a function that does nothing.
 
 ghost use Rattle.std.specs.Prelude.{◌≡◌, ℕ, Option};
 ghost use Rattle.der_core.specs.Oid.Bound.{Bound};

@@ -20,7 +20,7 @@ use x509_cert_names::Attribute;
 use x509_cert_parts::{Extension, Profile};
 
 impl<P> RevokedCert<P> {
-    /// A copy. Out of memory is the only error.
+    /// Returns a copy. The only error is that memory runs out.
     pub fn clone(&self, alloc: Global) -> Result<RevokedCert<P>, AllocError>
         ensures { IsCopy self.now result revoked_cert_plain }
     {
@@ -37,7 +37,7 @@ impl<P> RevokedCert<P> {
 }
 
 impl<P: Profile> TbsCertList<P> {
-    /// A copy. Out of memory is the only error.
+    /// Returns a copy. The only error is that memory runs out.
     pub fn clone(&self, alloc: Global) -> Result<TbsCertList<P>, AllocError>
         ensures { IsCopy self.now result tbs_cert_list_plain }
     {
@@ -58,7 +58,7 @@ impl<P: Profile> TbsCertList<P> {
 }
 
 impl<P: Profile> CertificateList<P> {
-    /// A copy. Out of memory is the only error.
+    /// Returns a copy. The only error is that memory runs out.
     pub fn clone(&self, alloc: Global) -> Result<CertificateList<P>, AllocError>
         ensures { IsCopy self.now result certificate_list_plain }
     {
@@ -71,7 +71,7 @@ impl<P: Profile> CertificateList<P> {
 }
 
 impl CertReqInfo {
-    /// A copy. Out of memory is the only error.
+    /// Returns a copy. The only error is that memory runs out.
     pub fn clone(&self, alloc: Global) -> Result<CertReqInfo, AllocError>
         ensures { IsCopy self.now result cert_req_info_plain }
     {
@@ -87,7 +87,7 @@ impl CertReqInfo {
 }
 
 impl CertReq {
-    /// A copy. Out of memory is the only error.
+    /// Returns a copy. The only error is that memory runs out.
     pub fn clone(&self, alloc: Global) -> Result<CertReq, AllocError>
         ensures { IsCopy self.now result cert_req_plain }
     {
@@ -100,7 +100,7 @@ impl CertReq {
 }
 
 impl ExtensionReq {
-    /// A copy. Out of memory is the only error.
+    /// Returns a copy. The only error is that memory runs out.
     pub fn clone(&self, alloc: Global) -> Result<ExtensionReq, AllocError>
         ensures { IsCopy self.now result (λ x. extensions_plain x.0.items) }
     {

@@ -62,7 +62,7 @@ agree_none (Some t) a = absurd a
 called_alike : (key : List ℕ) → AgreeFound (find (is_called key) rows) (find (λ t. list_any (is_name key) t.names) named_types)
 called_alike key = found_alike (is_called key) (λ t. list_any (is_name key) t.names) (λ n t a. a.called key) rows named_types all_agree
 
--- a key that is a name has the arcs that the octets of its row spell
+-- a key that is a name has the arcs that the bytes of its row spell
 pub key_arcs_named : (key w short long : List ℕ) → find (is_called key) rows ≡ Some (row w short long) → key_arcs Bound key ≡ dotted_arcs (read_identifier Bound 39 w)
 unfolding type_named
 key_arcs_named key w short long e =
@@ -79,7 +79,7 @@ octets_alike arcs w e =
     found_alike (has_octets w) (λ t. owned_eq t.arcs arcs)
     (λ n t a. ap (λ v. pointwise nat_eq v w) (sym a.octets) ∙ ap (pointwise nat_eq (identifier_octets t.arcs)) e) rows named_types all_agree
 
--- the name of a type is that of the row with its octets
+-- the name of a type is that of the row with its bytes
 pub key_of_found : (arcs w : List ℕ) (r : Row) → w ≡ identifier_octets arcs → find (has_octets w) rows ≡ Some r → key_of arcs ≡ Some r.short
 unfolding key_of
 key_of_found arcs w r same e =

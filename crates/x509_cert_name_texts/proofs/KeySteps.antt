@@ -18,7 +18,7 @@ use Rattle.x509_cert_name_texts.specs.Keys.{Named, is_name, named_types, type_na
 use Rattle.x509_cert_name_texts.specs.Pieces.{halves_at, key_and_value}
 use Rattle.x509_cert_name_texts.proofs.PrintSteps.{IsPlain, is_paired}
 
--- an octet of a key: none that is printed in a pair, and no =
+-- a byte of a key: none that is printed in a pair, and no =
 abbrev pub is_of_key : ℕ → Bool
 is_of_key c = not (is_paired c) && not (c == 61)
 
@@ -156,7 +156,7 @@ unfolding dotted
 dotted_key [] = refl
 dotted_key (a ∷ arcs) = key-append (decimal a) (flat_map dot_decimal arcs) (decimal_key a) (more_key arcs)
 
--- A dotted identifier is no name of a type: each such name begins with a letter.
+-- A dotted identifier isn't a name of a type: each such name begins with a letter.
 abbrev is_high : List ℕ → Bool
 is_high [] = false
 is_high (c ∷ w) = nat_lt 57 (to_ascii_lowercase c)

@@ -1,4 +1,4 @@
--- Separators that count, octet by octet, and pieces in turn.
+-- Separators that count, byte by byte, and pieces in turn.
 use Rattle.std.proofs.Common.{◌≡◌, ℕ, suc, ◌+◌, ◌%◌, ◌<◌, ◌≤◌, ◌==◌, List, [], ◌∷◌, ◌++◌, length, take, drop, get_or, add-one, reverse, Bool, true, false, refl, sym, subst, ap, ◌∙◌, append_assoc, length-append, eq-eqb, arith, Result, Ok, Err, Option, Some, None, not, ◌&&◌, if◌then◌else◌, slice_index, IsUtf8}
 use Rattle.std.proofs.lemmas.Bool.Decides.{nat_tests}
 use Rattle.std.proofs.lemmas.List.{reverse-append, get_or-take, length-take-le, take-take}
@@ -6,7 +6,7 @@ use Rattle.std.proofs.lemmas.Str.{IsUtf8-drop, IsCharBoundary-after_ascii}
 use borrow.Author.Count.{below_more}
 use Rattle.x509_cert_name_texts.specs.Pieces.{backslashes, Counts, HasNone, IsFirstPiece, in_front_of, ReadsPieces}
 
--- an escape is open behind these octets
+-- an escape is open after these bytes
 abbrev pub is_escaped : List ℕ → Bool
 is_escaped w = (backslashes (reverse w) % 2) == 1
 
@@ -26,7 +26,7 @@ counts_where_closed w e = grind (arith, nat_tests)
 pub closed_where_counts : (w : List ℕ) → Counts w → is_escaped w ≡ false
 closed_where_counts w e = grind (arith, nat_tests)
 
--- no separator that counts stands before a place
+-- no separator that counts comes before a place
 abbrev pub NoneBelow : ℕ → List ℕ → ℕ → Type 0
 NoneBelow separator w i = (k : ℕ) → k < i → slice_index w k ≡ separator → Counts (take k w) → ⊥
 
@@ -44,7 +44,7 @@ none_more separator w i none test =
     below_more (λ k. slice_index w k ≡ separator → Counts (take k w) → ⊥) i none
     (λ e counts. clash (get_or w i 0 == separator) (is_escaped (take i w)) (eq-eqb (get_or w i 0) separator e) (closed_where_counts (take i w) counts) test)
 
--- values in front of those that are read behind them
+-- values before those that are read after them
 abbrev pub all_before : {A E : Type 0} → List A → Result (List A) E → Result (List A) E
 all_before values (Ok more) = Ok (values ++ more)
 all_before values (Err e) = Err e
@@ -53,7 +53,7 @@ pub all_before-push : {A E : Type 0} (values : List A) (a : A) (r : Result (List
 all_before-push values a (Ok more) = ap (λ v. Ok v) (sym (append_assoc values (a ∷ []) more))
 all_before-push values a (Err e) = refl
 
--- what is left is read as the text is, behind these values
+-- what is left is read as the text is, after these values
 abbrev pub Continues : {A E : Type 0} → ℕ → (List ℕ → Result A E → Type 0) → List ℕ → List A → List ℕ → Type 0
 Continues {A} {E} separator reads text values left = (r : Result (List A) E) → ReadsPieces separator reads left r → ReadsPieces separator reads text (all_before values r)
 
@@ -95,7 +95,7 @@ at_seam : (piece : List ℕ) (separator : ℕ) (rest : List ℕ) → get_or (pie
 at_seam [] separator rest = refl
 at_seam (c ∷ piece) separator rest = at_seam piece separator rest
 
--- what stands behind a separator is text, where all of it is
+-- what follows a separator is text, where all of it is
 pub utf8_rest : (separator : ℕ) (left piece rest : List ℕ) → IsUtf8 left → separator < 128 → left ≡ piece ++ (separator ∷ rest) → IsUtf8 rest
 utf8_rest separator left piece rest u small e =
     let at : get_or left (length piece) 0 ≡ separator = ap (λ w. get_or w (length piece) 0) e ∙ at_seam piece separator rest in

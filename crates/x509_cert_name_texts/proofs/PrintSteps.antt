@@ -18,14 +18,14 @@ use Rattle.x509_cert_name_texts.proofs.PieceSteps.{is_escaped, is_escaped-push, 
 abbrev pub is_paired : ℕ → Bool
 is_paired c = is_escaped_sign c || (c == 0)
 
--- an octet that no backslash precedes where it is printed
+-- a byte that no backslash precedes where it is printed
 abbrev pub IsPlain : ℕ → Type 0
 IsPlain c = is_paired c ≡ false
 
 not_backslash : (c : ℕ) → IsPlain c → c ≢ 92
 not_backslash c p e = let q : true ≡ false = subst IsPlain e p in true≢false q
 
--- A separator counts nowhere in these octets, and no escape is open behind them.
+-- A separator counts nowhere in these bytes, and no escape is open after them.
 pub data Calm (s : ℕ) : List ℕ → Type 0 where
   end : Calm s []
   plain : (c : ℕ) (w : List ℕ) → c ≢ 92 → c ≢ s → Calm s w → Calm s (c ∷ w)
@@ -69,7 +69,7 @@ module _ (s : ℕ) (other : s ≢ 92) where
   pub calm : (w : List ℕ) → Calm s w → HasNone s w × Counts w
   calm w h = (λ i l e k. calm_at [] h refl i l e (closed_where_counts (take i w) k), counts_where_closed w (calm_closed [] h refl))
 
--- The octets of a character
+-- The bytes of a character
 
 high_plain : (x : ℕ) → 128 ≤ x → IsPlain x
 high_plain x le = grind (arith, nat_tests)
@@ -190,7 +190,7 @@ first_char s sign (c ∷ cs) w = by (has_backslash true (is_end cs) c) (is_contr
 pub no_hash : (cs w : List ℕ) → escaped_from true cs ≢ 35 ∷ w
 no_hash cs w = first_char 35 refl cs w
 
--- A text that ends with no bare space: each space outside a pair stands before another byte.
+-- A text that ends with no bare space: each space outside a pair comes before another byte.
 data Tidy : List ℕ → Type 0 where
   end : Tidy []
   plain : (c : ℕ) (w : List ℕ) → c ≢ 92 → (w ≡ [] → c ≢ 32) → Tidy w → Tidy (c ∷ w)
@@ -206,7 +206,7 @@ tidy_last u (Tidy.pair c [] h) some o w e k =
 tidy_last u (Tidy.pair c (d ∷ t) h) some o w e k =
     tidy_last ((u ++ (92 ∷ [])) ++ (c ∷ [])) h (λ z. cc z) (pair_push u c o) w (regroup_pair u (d ∷ t) c ∙ e) k
 
--- octets in front of a tidy text
+-- bytes before a tidy text
 tidy_plain : (w t : List ℕ) → AllByRecursion IsPlain w → AllByRecursion (λ c. c ≢ 32) w → Tidy t → Tidy (w ++ t)
 tidy_plain [] t p q h = h
 tidy_plain (c ∷ w) t p q h = Tidy.plain c (w ++ t) (not_backslash c p.0) (λ z. q.0) (tidy_plain w t p.1 q.1 h)
@@ -286,7 +286,7 @@ printed_string cs =
       last = λ w e k. tidy_last [] (tidy_from true cs) (λ z. omega (arith, ap length (sym z ∙ e), length-append w (32 ∷ []))) refl w e (closed_where_counts w k);
     }
 
--- Octets in hex
+-- Bytes in hex
 
 abbrev is_table : ℕ → Bool
 is_table d = slice_index lower_digits d == digit_glyph false d

@@ -8,7 +8,7 @@ by_characters : (cs w : List ℕ) → encodes cs ≡ w → is_end cs ≡ (length
 by_characters [] w e = rw (← e) refl
 by_characters (c ∷ cs) w e = sym (ne_eqb (length w) 0 (λ z. absurd (omega (arith, z, length-le-encodes (c ∷ cs), ap length e))))
 
--- a text without octets has no characters, and any other has some
+-- a text without bytes has no characters, and any other has some
 pub is_end-chars : (w : List ℕ) → IsUtf8 w → (length w == 0) ≡ is_end (chars w)
 is_end-chars w u = sym (by_characters (chars w) w (encodes-chars w u))
 
@@ -19,7 +19,7 @@ pub escaped-end : (first : Bool) (w t : List ℕ) → length w ≡ 0 → t ≡ t
 escaped-end first [] t e = rw chars-nil (sym (append-nil t))
 escaped-end first (c ∷ w) t e = absurd (omega arith)
 
--- a text is printed as it stands where its first character is, and what is behind that
+-- a text is printed as it is where its first character is, and what is after that
 ends : (w : List ℕ) → (length w == 0) ≡ is_end w
 ends [] = refl
 ends (c ∷ w) = ne_eqb (length (c ∷ w)) 0 (λ z. absurd (omega (arith, z)))

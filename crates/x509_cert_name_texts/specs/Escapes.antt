@@ -19,7 +19,7 @@ signs = 32 ∷ 34 ∷ 35 ∷ 43 ∷ 44 ∷ 59 ∷ 60 ∷ 61 ∷ 62 ∷ 92 ∷ []
 abbrev pub is_sign : ℕ → Bool
 is_sign c = list_any (nat_eq c) signs
 
--- The text of a value stands for these octets (RFC 4514 3, string and pair). An octet other than a
+-- The text of a value stands for these bytes (RFC 4514 3, string and pair). A byte other than a
 -- backslash stands for itself. RFC 4514 has " ; < > NUL and a space at either end only in a pair;
 -- here each stands for itself without a backslash, too.
 pub data StandsFor : List ℕ → List ℕ → Type 0 where
@@ -32,25 +32,24 @@ pub data StandsFor : List ℕ → List ℕ → Type 0 where
       → hex_digit_value d ≡ Some low → StandsFor text octets
       → StandsFor (92 ∷ c ∷ d ∷ text) ((high * 16 + low) ∷ octets)
 
--- what the text of a value is read as: the octets that it stands for, or Failed where there are
--- none
+-- what the text of a value is read as: the bytes that it stands for, or Failed where there are none
 abbrev pub ReadsOctets : List ℕ → Result (List ℕ) ErrorKind → Type 0
 ReadsOctets text (Ok octets) = StandsFor text octets
 ReadsOctets text (Err e) = (e ≡ kinds.Failed) × ((octets : List ℕ) → StandsFor text octets → ⊥)
 
--- the octet of two hex digits
+-- the byte of two hex digits
 abbrev pub octet_of_digits : Option ℕ → Option ℕ → Result ℕ ErrorKind
 octet_of_digits (Some high) (Some low) = Ok (high * 16 + low)
 octet_of_digits _ _ = Err kinds.Failed
 
--- the octet of an escape, by what follows its backslash, and what is left
+-- the byte of an escape, by what follows its backslash, and what is left
 abbrev pub escape : List ℕ → Result (ℕ × List ℕ) ErrorKind
 escape [] = Err kinds.Failed
 escape (c ∷ []) = if is_sign c then Ok (c, []) else Err kinds.Failed
 escape (c ∷ d ∷ w) = if is_sign c then Ok (c, d ∷ w)
     else (octet_of_digits (hex_digit_value c) (hex_digit_value d) >>= λ octet. Ok (octet, w))
 
--- the octets of hex digits
+-- the bytes of hex digits
 abbrev pub of_hex : Result (List ℕ) FromHexError → Result (List ℕ) ErrorKind
 of_hex (Ok w) = Ok w
 of_hex (Err e) = Err kinds.Failed
@@ -58,11 +57,11 @@ of_hex (Err e) = Err kinds.Failed
 abbrev pub hex_octets : List ℕ → Result (List ℕ) ErrorKind
 hex_octets digits = of_hex (decode_of digits)
 
--- what stands behind a backslash wherever it is: " + , ; < > and backslash
+-- what follows a backslash wherever it is: " + , ; < > and backslash
 abbrev pub is_escaped_sign : ℕ → Bool
 is_escaped_sign c = list_any (nat_eq c) (34 ∷ 43 ∷ 44 ∷ 59 ∷ 60 ∷ 62 ∷ 92 ∷ [])
 
--- octets as small hex digits, two each
+-- bytes as small hex digits, two each
 abbrev pub hex_digits : ℕ → List ℕ
 hex_digits octet = digit_glyph false (octet / 16) ∷ digit_glyph false (octet % 16) ∷ []
 
@@ -94,7 +93,7 @@ escaped_from first (c ∷ w) = escaped_char first (is_end w) c ++ escaped_from f
 abbrev pub escaped : List ℕ → List ℕ
 escaped text = escaped_from true text
 
--- A text is a string as RFC 4514 3 has it: " + , ; < > and NUL stand in a pair alone, and so do a
+-- A text is a string as RFC 4514 3 has it: " + , ; < > and NUL are in a pair alone, and so do a
 -- space or # that is first, and a space that is last.
 pub record IsString (text : List ℕ) : Type 0 where
   pub inside : AllByRecursion (λ c. HasNone c text) (34 ∷ 43 ∷ 44 ∷ 59 ∷ 60 ∷ 62 ∷ 0 ∷ [])

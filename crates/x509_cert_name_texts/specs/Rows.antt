@@ -4,7 +4,7 @@ use Rattle.std.specs.Cmp.Lexicographic.{pointwise}
 use Rattle.x509_cert_name_texts.specs.Keys.{is_name}
 use Rattle.x509_cert_name_texts.specs.declared.keys.Named.{Named}
 
--- the octets of an identifier, the shortest name in capitals, and another name
+-- the bytes of an identifier, the shortest name in capitals, and another name
 pub record Row : Type 0 where
   pub octets : List ℕ
   pub short : List ℕ
@@ -16,7 +16,7 @@ row_of n = record { octets = n.octets.now; short = n.short.now; long = n.long.no
 abbrev pub row : List ℕ → List ℕ → List ℕ → Row
 row octets short long = record { octets = octets; short = short; long = long }
 
--- octets below 2.5.4, and below 0.9.2342.19200300.100.1
+-- bytes below 2.5.4, and below 0.9.2342.19200300.100.1
 abbrev pub x520_octets : ℕ → List ℕ
 x520_octets n = 0x55 ∷ 4 ∷ n ∷ []
 

@@ -10,7 +10,7 @@ use der_core::{Error, ErrorKind};
 use hex::FromHexError;
 use std::alloc::Global;
 
-/// Whether an octet may stand after a backslash as itself (RFC 4514 3).
+/// Returns whether a byte may be after a backslash as itself (RFC 4514 3).
 fn is_sign(octet: u8) -> bool
     ensures { result ≡ is_sign octet }
 {
@@ -20,7 +20,7 @@ fn is_sign(octet: u8) -> bool
     )
 }
 
-/// The value of a hex digit, capital or small.
+/// Returns the value of a hex digit, capital or small.
 fn digit_value(digit: u8) -> Option<u8>
     ensures { result ≡ hex_digit_value digit }
 {
@@ -32,7 +32,7 @@ fn digit_value(digit: u8) -> Option<u8>
     }
 }
 
-/// The octet of an escape, by what stands after its backslash, and what is left.
+/// Returns the byte of an escape, by what follows its backslash, and what is left.
 fn escape(behind: &[u8]) -> Result<(u8, &[u8]), Error>
     ensures exact { GivesNow (λ x. (x.0, x.1.now)) result (escape behind.now) }
     ensures shorter { IfOk result (λ x. length x.1.now < length behind.now) }
@@ -47,11 +47,13 @@ fn escape(behind: &[u8]) -> Result<(u8, &[u8]), Error>
     }
 }
 
-/// The octets of a value, its escapes undone (RFC 4514 3): a backslash and two hex digits are an
-/// octet, a backslash before a blank or one of `"#+,;<=>\` stands for nothing.
+/// Returns the bytes of a value, its escapes undone (RFC 4514 3): a backslash and two hex digits
+/// are a byte, a backslash before a blank or one of `"#+,;<=>\` stands for nothing.
 ///
 /// # Errors
-/// `Failed` for any other octet after a backslash, or `OutOfMemory`.
+///
+/// - `Failed`: any other byte after a backslash.
+/// - `OutOfMemory`: memory runs out.
 pub fn undo_escapes(alloc: Global, text: &[u8]) -> Result<Vec<u8>, Error>
     ensures { GivesBy (λ v. v.items) result (ReadsOctets text.now) }
 {
@@ -70,10 +72,12 @@ pub fn undo_escapes(alloc: Global, text: &[u8]) -> Result<Vec<u8>, Error>
     Ok(octets)
 }
 
-/// The octets of hex digits, capital or small.
+/// Returns the bytes of hex digits, capital or small.
 ///
 /// # Errors
-/// `Failed` where an octet is no digit, or their number is odd, or `OutOfMemory`.
+///
+/// - `Failed`: a byte isn't a digit, or their number is odd.
+/// - `OutOfMemory`: memory runs out.
 pub fn from_hex(alloc: Global, digits: &[u8]) -> Result<Vec<u8>, Error>
     ensures { Gives (λ v. v.items) result (hex_octets digits.now) }
 {

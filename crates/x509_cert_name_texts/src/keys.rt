@@ -9,7 +9,7 @@ ghost use Rattle.x509_cert_name_texts.specs.Rows.{row_of, rows, is_called, has_o
 use der_core::Error;
 use der_core::oid::ObjectIdentifier;
 
-/// A type that has a name: the octets of its identifier, its shortest name in capitals, and its
+/// A type that has a name: the bytes of its identifier, its shortest name in capitals, and its
 /// other name. Where there is one name alone it stands twice.
 #[derive(Clone, Copy)]
 struct Named {
@@ -18,7 +18,7 @@ struct Named {
     long: &'static str,
 }
 
-/// Rows of a table of types: octets, shortest name, other name.
+/// Rows of a table of types: bytes, shortest name, other name.
 macro_rules! named {
     ($($octets:expr, $short:literal, $long:literal;)*) => {
         [$(Named { octets: &$octets, short: $short, long: $long }),*]
@@ -44,7 +44,7 @@ const NAMED_TYPES: [Named; 14] = named! {
 };
 
 impl Named {
-    /// Whether a key is one of its names, in capital or small letters.
+    /// Returns whether a key is one of its names, in capital or small letters.
     fn is_called(&self, key: &str) -> bool
         ensures { result ≡ is_called key.now (row_of self.now) }
     {
@@ -52,24 +52,26 @@ impl Named {
     }
 }
 
-/// The type that has this name, if there is one.
+/// Returns the type that has this name, if there is one.
 fn type_called(key: &str) -> Option<&'static Named>
     ensures { option_map (λ n. row_of n.now) result ≡ find (is_called key.now) rows }
 {
     NAMED_TYPES.iter().find(|named| named.is_called(key))
 }
 
-/// The type with these octets, if it has a name.
+/// Returns the type with these bytes, if it has a name.
 fn type_with(octets: &[u8]) -> Option<&'static Named>
     ensures { option_map (λ n. row_of n.now) result ≡ find (has_octets octets.now) rows }
 {
     NAMED_TYPES.iter().find(|named| named.octets == octets)
 }
 
-/// The type that a key names: that of its name, in capital or small letters, or of a dotted text.
+/// Returns the type that a key names: that of its name, in capital or small letters, or of a dotted
+/// text.
 ///
 /// # Errors
-/// `OidMalformed` where it is neither.
+///
+/// - `OidMalformed`: it is neither.
 #[tactic(auto, using(crate::proofs::KeyLaws::key_arcs_named, crate::proofs::KeyLaws::key_arcs_dotted))]
 pub fn type_of_key(key: &str) -> Result<ObjectIdentifier<39>, Error>
     ensures { GivesNow (λ oid. oid) result (key_arcs Bound key.now) }
@@ -80,7 +82,7 @@ pub fn type_of_key(key: &str) -> Result<ObjectIdentifier<39>, Error>
     }
 }
 
-/// The shortest name of a type in capitals, or none.
+/// Returns the shortest name of a type in capitals, or none.
 #[tactic(auto, using(crate::proofs::KeyLaws::key_of_found, crate::proofs::KeyLaws::key_of_none))]
 pub fn key_of(oid: &ObjectIdentifier<39>) -> Option<&'static str>
     ensures { key_of oid.now ≡ option_map (λ name. name.now) result }

@@ -15,32 +15,34 @@ pub trait FromText: Sized {
     ghost use Rattle.der_core.specs.ErrorTypes.ErrorKind.{ErrorKind};
     ghost use Rattle.x509_cert_name_texts.specs.Answers.{GivesBy};
 
-    // What a text is read as, or why it is refused.
+    // What a text is read as, or why it is rejected.
     ghost reads_text: { List ℕ → Result Self ErrorKind → Type 0 };
 
-    /// What the text is read as.
+    /// Returns what the text is read as.
     ///
     /// # Errors
-    /// Those of the type, or `OutOfMemory`.
+    ///
+    /// - The errors of the type.
+    /// - `OutOfMemory`: memory runs out.
     fn from_text(alloc: Global, text: &str) -> Result<Self, Error>
         ensures { GivesBy (λ x. x) result (reads_text text.now) };
 }
 
-/// Whether an octet is a separator that counts, after an open escape or not.
+/// Returns whether a byte is a separator that counts, after an open escape or not.
 fn is_end(octet: u8, separator: u8, escaped: bool) -> bool
     ensures { result ≡ (octet == separator && not escaped) }
 {
     octet == separator && !escaped
 }
 
-/// Whether an escape is open after an octet, which stands after an open one or not.
+/// Returns whether an escape is open after a byte, which follows an open one or not.
 fn opens_escape(octet: u8, escaped: bool) -> bool
     ensures { result ≡ (octet == 92 && not escaped) }
 {
     octet == b'\\' && !escaped
 }
 
-/// The place of the first separator that counts.
+/// Returns the place of the first separator that counts.
 fn first_separator(text: &[u8], separator: u8) -> Option<usize>
     ensures { MatchOption result (HasNone separator text.now) (λ i. (i < length text.now)
         × (slice_index text.now i ≡ separator) × HasNone separator (take i text.now)
@@ -56,7 +58,7 @@ fn first_separator(text: &[u8], separator: u8) -> Option<usize>
     None
 }
 
-/// The first piece of a text, and the text after the separator that ends it, or none where the
+/// Returns the first piece of a text, and the text after the separator that ends it, or none if the
 /// text ends it. A separator counts where the run of backslashes before it is even.
 pub fn first_piece(text: &str, separator: u8) -> (&str, Option<&str>)
     requires { separator < 128 }
@@ -69,10 +71,11 @@ pub fn first_piece(text: &str, separator: u8) -> (&str, Option<&str>)
     }
 }
 
-/// What the pieces of a text are read as, from the left.
+/// Returns what the pieces of a text are read as, from the left.
 ///
 /// # Errors
-/// That of the first piece which is refused, or `OutOfMemory`.
+///
+/// That of the first piece which is rejected, or `OutOfMemory`.
 pub fn read_pieces<T: FromText + Drop>(
     alloc: Global,
     text: &str,
@@ -93,14 +96,14 @@ pub fn read_pieces<T: FromText + Drop>(
     }
 }
 
-/// The place of the first `=`.
+/// Returns the place of the first `=`.
 fn place_of_equals(text: &[u8]) -> Option<usize>
     ensures { result ≡ position (λ c. c == 61) text.now }
 {
     text.iter().position(|octet| *octet == b'=')
 }
 
-/// The octets in front of the first `=` and those after it, or none where there is no `=`.
+/// Returns the bytes before the first `=` and those after it, or none if there is no `=`.
 pub fn split_member(text: &str) -> Option<(&str, &[u8])>
     ensures { key_and_value text.now ≡ option_map (λ halves. (halves.0.now, halves.1.now)) result }
 {

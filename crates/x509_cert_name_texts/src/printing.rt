@@ -7,7 +7,7 @@ ghost use Rattle.x509_cert_name_texts.specs.Escapes.{is_escaped_sign};
 
 use std::fmt;
 
-/// Whether a character has a backslash wherever it stands (RFC 4514 2.4).
+/// Returns whether a character has a backslash wherever it stands (RFC 4514 2.4).
 fn is_escaped_sign(c: char) -> bool
     ensures { result ≡ is_escaped_sign c }
 {
@@ -22,7 +22,7 @@ fn write_hex_octet<W: fmt::Write>(octet: u8, f: &mut fmt::Formatter<W>) -> fmt::
     write!(f, "{octet:02x}")
 }
 
-/// Writes octets as small hex digits.
+/// Writes bytes as small hex digits.
 pub fn write_hex<W: fmt::Write>(octets: &[u8], f: &mut fmt::Formatter<W>) -> fmt::Result
     ensures { WritesOnOk W.write_str_gives f.old result (in_hex octets.now) f.new }
 {
@@ -58,7 +58,7 @@ fn write_escaped_char<W: fmt::Write>(
     write!(f, "{c}")
 }
 
-/// Whether a character of ASCII is printed as it stands.
+/// Returns whether a character of ASCII is printed as it is.
 fn stands_bare(octet: u8, first: bool, last: bool) -> bool
     ensures { IsTrue result → escaped_char first last octet ≡ octet ∷ [] }
 {
@@ -71,7 +71,7 @@ fn stands_bare(octet: u8, first: bool, last: bool) -> bool
     }
 }
 
-/// Whether a text of ASCII is printed as it stands, as most are.
+/// Returns whether a text of ASCII is printed as it is, as most are.
 fn is_bare(text: &[u8]) -> bool
     ensures { IsTrue result → escaped text.now ≡ text.now }
 {

@@ -1,4 +1,4 @@
--- Attributes whose headers have two octets each are spelled by their octets.
+-- Attributes whose headers have two bytes each are spelled by their bytes.
 use Rattle.std.proofs.Common.{Bool, Result, Err, lt-ltb, ◌≡◌, ℕ, zero, suc, ◌+◌, ◌-◌, ◌<◌, ◌≤◌, List, [], ◌∷◌, ◌++◌, length, Ok, refl, sym, ap, ◌∙◌, arith, append-nil, length-append, length-take-le, subst, take, take_all, take-append-drop, drop, get_or}
 use Rattle.der_core.specs.Oid.Bound.{Bound}
 use Rattle.der_core.specs.Oid.IdentifierOctets.{identifier_octets, IsIdentifier}
@@ -18,7 +18,7 @@ use Rattle.x509_cert_names.specs.Names.{type_and_value}
 use Rattle.x509_cert_names.specs.Pairs.{pair}
 use Rattle.x509_cert_names.specs.PlainParts.{IsPlain}
 
--- a header of two octets
+-- a header of two bytes
 short_tlv : (t : Tag) (b : ℕ) (c : List ℕ) → tag_octets t ≡ b ∷ [] → length c < 128 → tlv t c ≡ b ∷ length c ∷ c
 unfolding tlv head_octets length_octets
 short_tlv t b c e l = rw (e, lt-ltb (length c) 128 l) refl
@@ -61,7 +61,7 @@ plain arcs tag value is most low are short =
     let p : IsPlain i tag value w = record { leading = leading_octet tag; whole = refl; short = short; tagged = rw (lt-ltb (number_of tag) 31 low) refl; known = omega (arith, low); are = are } in
     plain_spells arcs tag i value w p is most refl
 
--- how many octets these are
+-- how many bytes these are
 pub plain_size : (arcs : List ℕ) (tag : Tag) (value : List ℕ) → IsIdentifier Bound arcs → length (identifier_octets arcs) ≤ 39 → number_of tag < 31 → IsOctets value
     → length (identifier_octets arcs) + length value + 4 < 128
     → size (type_and_value Bound) (pair arcs (record { tag = tag; contents = value })) ≡ Ok (length (identifier_octets arcs) + length value + 6)

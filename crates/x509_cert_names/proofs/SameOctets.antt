@@ -1,4 +1,5 @@
--- Names are equal, attribute by attribute, exactly where their plain values are, and where they have the same octets.
+-- Names are equal, attribute by attribute, exactly if their plain values are, and where they have
+-- the same bytes.
 use Rattle.std.proofs.Common.{◌≡◌, List, [], ◌∷◌, true, refl, ap, subst, ℕ, false, ◌∙◌, Less, Equal, ◌≢◌, ◌<◌, get_or, Ok, Err, length, ◌++◌, sym, arith, length-append, flat_map, Ordering, Greater}
 use Rattle.std.specs.Cmp.Lexicographic.{pointwise, bytes_decides, nat_list_cmp_total}
 use Rattle.der_core.specs.Oid.Bound.{Bound}
@@ -36,7 +37,8 @@ use Rattle.der_core.specs.Placed.{AllValid}
 use Rattle.der_types.specs.Sets.{Ascends, TooLong}
 use Rattle.x509_cert_names.specs.Ordered.{DifferInTurn, IsOrdered}
 
--- `==` of attributes and names is of their plain values: of identifiers by their octets, of any values by tag and content.
+-- `==` of attributes and names is of their plain values: of identifiers by their bytes, of any
+-- values by tag and content.
 
 pub pairs : (a b : AttributeTypeAndValue) → Alike (type_and_value Bound) (same_pair a b) (pair_plain a) (pair_plain b)
 pairs a b = behind (next leaves (last (values a.value b.value)))
@@ -61,7 +63,7 @@ directories (strings.Utf8String v) (strings.Utf8String w) = second (second (firs
 directories (strings.BmpString v) (strings.BmpString w) = second (second (second (exact (bytes_decides v w).0 (bytes_decides v w).1)))
 directories x y = exact (λ e. absurd cc) (λ e. absurd cc)
 
--- Names are equal, attribute by attribute, exactly where they have the same octets.
+-- Names are equal, attribute by attribute, exactly if they have the same bytes.
 
 -- Attributes whose encodings rise are distinct, and stay so with one more.
 
@@ -121,7 +123,7 @@ set_encoded r = octets_of (relative_name Bound) (relative_plain r)
 abbrev sets_encoded : List Pairs → List ℕ
 sets_encoded n = flat_map (λ x. octets_of (relative_name Bound) x) (plain_list relative_plain n)
 
--- What is in range and in order has an encoding where its octets have a length
+-- What is in range and in order has an encoding where its bytes have a length
 
 first_shorter : (a b : List ℕ) → Fits (a ++ b) → Fits a
 first_shorter a b h = omega (arith, h, length-append a b)
@@ -164,7 +166,8 @@ all_rise (a ∷ b ∷ r) d s v =
     absurd cc in
     (below (octets_cmp (encoded a) (encoded b)) (s.0 v.0 v.1.0) equal, all_rise (b ∷ r) d.1 s.1 v.1)
 
--- an attribute whose octets a length counts has an encoding, and one whose octets it doesn't count has none
+-- an attribute whose bytes a length counts has an encoding, and one whose bytes it doesn't count
+-- has none
 pub sized_valid : (a : AttributeTypeAndValue) (n : ℕ) → IsInRange (type_and_value Bound) (pair_plain a) → size (type_and_value Bound) (pair_plain a) ≡ Ok n → IsValid (type_and_value Bound) (pair_plain a)
 sized_valid a n h e = pair_valid (pair_plain a) h (counts_octets (type_and_value Bound) (pair_plain a) n e).1
 
@@ -204,7 +207,7 @@ fits_of : (x : PlainName) → IsValid (name Bound) x → Fits (name_octets Bound
 unfolding IsValid octets_of
 fits_of x v = v.2
 
--- so other names have other octets; k is the second as it is lent
+-- so other names have other bytes; k is the second as it is borrowed
 pub names_apart : (m n k : List Pairs) → plain_list relative_plain k ≡ plain_list relative_plain n
     → IsValid (name Bound) (plain_list relative_plain m) → IsInRange (name Bound) (plain_list relative_plain n) → AllByRecursion (IsOrdered Bound) k
     → name_octets Bound (plain_list relative_plain m) ≡ name_octets Bound (plain_list relative_plain n) → pointwise (pointwise same_pair) m n ≡ true

@@ -6,7 +6,7 @@ use Rattle.x509_cert_names.specs.Names.{type_and_value}
 use Rattle.x509_cert_names.specs.Pairs.{pair_plain}
 use Rattle.x509_cert_names.specs.declared.attribute_type_and_value.AttributeTypeAndValue.{AttributeTypeAndValue}
 
--- the next `len` octets spell it, at a reader that hasn't failed and may open two levels
+-- the next `len` bytes encode it, at a reader that hasn't failed and may open two levels
 pub record StandsAlone (bound : ℕ) (s : State) (len : ℕ) (a : AttributeTypeAndValue) : Type 0 where
   pub ready : s.failed ≡ false
   pub levels : 1 < s.room

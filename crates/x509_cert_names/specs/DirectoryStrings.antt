@@ -20,7 +20,7 @@ directory_plain (strings.TeletexString t) = inr (inl t)
 directory_plain (strings.Utf8String t) = inr (inr (inl (string_bytes t)))
 directory_plain (strings.BmpString t) = inr (inr (inr t))
 
--- the octets of the text of a DirectoryString, where they are those of UTF-8
+-- the bytes of the text of a DirectoryString, where they are those of UTF-8
 abbrev pub directory_text : DirectoryString → List ℕ
 directory_text (strings.PrintableString t) = t
 directory_text (strings.TeletexString t) = t
@@ -46,6 +46,6 @@ directory_as tags.BmpString a = content_as tags.BmpString (leaf bmp) a
     >>= λ t. Ok (inr (inr (inr t)))
 directory_as _ a = Err kinds.TagUnexpected
 
--- the DirectoryString that any value is, or the fault
+-- the DirectoryString that any value is, or the error
 abbrev pub directory_from : AnyValue → Result (Value directory_string) ErrorKind
 directory_from a = directory_as a.tag a

@@ -58,7 +58,7 @@ pub data ReadsName (bound : ℕ) (text : List ℕ) : Result (List (List Attribut
   refused : (e : ErrorKind) → text ≢ [] → ReadsPieces 44 (ReadsRelative bound) text (Err e)
       → ReadsName bound text (Err e)
 
--- a value as it is printed behind a separator
+-- a value as it is printed after a separator
 abbrev pub printed_behind : {A : Type 0} → ℕ → (A → List ℕ) → A → List ℕ
 printed_behind separator print a = separator ∷ print a
 
@@ -75,7 +75,7 @@ relative_printed r = joined_by 43 attribute_printed r
 abbrev pub name_printed : List (List AttributeTypeAndValue) → List ℕ
 name_printed n = joined_by 44 relative_printed (reverse n)
 
--- The encoding of what a text is read as: the octets of its value, or why it isn't read or isn't
+-- The encoding of what a text is read as: the bytes of its value, or why it isn't read or isn't
 -- written.
 pub data ReadsEncoding {A : Type 0} (s : Shape) (plain : A → Value s) (Reads : Result A ErrorKind
     → Type 0) : Result (List ℕ) ErrorKind → Type 0 where

@@ -8,7 +8,7 @@ use Rattle.der_core.specs.Texts.{printable, ascii}
 use Rattle.der_core.specs.Shapes.{Shape, Body, Value, AnyValue, tagged, any, leaf, either}
 use Rattle.der_core.specs.Shapes.{field, done, sequence, sequence_of, strict_set_of, octets_of}
 
--- AttributeType ::= OBJECT IDENTIFIER, of at most 39 octets
+-- AttributeType ::= OBJECT IDENTIFIER, of at most 39 bytes
 abbrev pub attribute_type : ℕ → Shape
 attribute_type bound = tagged tags.ObjectIdentifier (leaf (identifier bound max_size))
 
@@ -66,6 +66,6 @@ value_of a = a.1.0
 abbrev pub all_of : PlainName → List TypeAndValue
 all_of n = flat_map (λ r. r) n
 
--- the octets of a name
+-- the bytes of a name
 abbrev pub name_octets : ℕ → PlainName → List ℕ
 name_octets bound n = octets_of (name bound) n

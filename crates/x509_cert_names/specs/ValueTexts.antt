@@ -28,7 +28,7 @@ tag_for arcs =
     else if owned_eq arcs (pilot 25) || owned_eq arcs email_address then tags.Ia5String
     else tags.Utf8String
 
--- the value that a header and the octets after it encode, where the header counts all of them
+-- the value that a header and the bytes after it encode, where the header counts all of them
 abbrev pub behind_head : Head → List ℕ → Result AnyValue ErrorKind
 behind_head h w =
     if nat_lt (length w) h.len then Err kinds.Incomplete
@@ -40,12 +40,12 @@ unfoldable pub encoded_value : List ℕ → Result AnyValue ErrorKind
 encoded_value digits = hex_octets digits >>= λ w. if nat_lt length_max (length w)
     then Err kinds.Overflow else (head_at w >>= λ h. behind_head h.0 h.1)
 
--- a value, if a length can count its octets
+-- a value, if a length can count its bytes
 abbrev pub of_content : Tag → List ℕ → Result AnyValue ErrorKind
 of_content t w = if nat_lt length_max (length w) then Err kinds.Overflow
     else Ok (record { tag = t; contents = w })
 
--- what the octets that a text stands for are read as: the content of a value with the tag for the
+-- what the bytes that a text stands for are read as: the content of a value with the tag for the
 -- type; whether it is one of that tag isn't asked
 abbrev pub ReadsString : List ℕ → List ℕ → Result AnyValue ErrorKind → Type 0
 ReadsString arcs w r = (octets : Result (List ℕ) ErrorKind) × ReadsOctets w octets
@@ -71,7 +71,7 @@ text_by _ a = None
 unfoldable pub text_of : AnyValue → Option (List ℕ)
 text_of a = text_by a.tag a
 
--- the octets of a value's encoding
+-- the bytes of a value's encoding
 unfoldable pub encoding_of : AnyValue → List ℕ
 encoding_of a = tlv a.tag a.contents
 

@@ -12,7 +12,7 @@ use der_core::describing::{AsRecord, Described, FieldsView, RowUser, Rows};
 use der_core::{DecodeFields, Error, InRangeValue, Reader, StrictSetOf, lend, read_row};
 use std::alloc::{AllocError, Global};
 
-/// An attribute with any number of values (RFC 5280 appendix A.1), none of which stands twice.
+/// An attribute with any number of values (RFC 5280 appendix A.1), all of them different.
 ///
 /// ```text
 /// Attribute ::= SEQUENCE { type AttributeType, values SET OF AttributeValue }
@@ -25,7 +25,7 @@ pub struct Attribute {
     pub values: StrictSetOf<AttributeValue>,
 }
 
-/// Attributes, none of which stands twice (RFC 2986 4).
+/// Attributes, all of them different (RFC 2986 4).
 ///
 /// ```text
 /// Attributes ::= SET OF Attribute
@@ -33,10 +33,11 @@ pub struct Attribute {
 pub type Attributes = StrictSetOf<Attribute>;
 
 impl Attribute {
-    /// A copy.
+    /// Returns a copy.
     ///
     /// # Errors
-    /// Out of memory.
+    ///
+    /// Fails if memory runs out.
     pub fn clone(&self, alloc: Global) -> Result<Attribute, AllocError>
         ensures { IsCopy self.now result attribute_plain }
     {

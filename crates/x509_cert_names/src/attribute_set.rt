@@ -1,4 +1,4 @@
-//! The attributes of an RDN, a single one in place.
+//! The attributes of an RDN. A single one is kept in place.
 
 ghost use Rattle.std.specs.Prelude.{◌≡◌, ◌≤◌, [], ◌∷◌, length, IfOk, OnOk, OnErr, insert};
 ghost use Rattle.der_core.specs.Oid.Bound.{Bound};
@@ -17,8 +17,8 @@ use std::cmp::Ordering;
 use std::fmt;
 use std::marker::Model;
 
-/// The attributes of an RDN (RFC 5280 4.1.2.4), of which a single one needs no list. They
-/// are written only where their encodings rise (X.690 11.6).
+/// The attributes of an RDN (RFC 5280 4.1.2.4). A single one needs no list. They are encoded only
+/// if their encodings ascend (X.690 11.6).
 ///
 /// Contracts see the list of the attributes.
 #[derive(Drop)]
@@ -27,7 +27,7 @@ pub struct AttributeSet {
     alloc: Global,
 }
 
-/// Where the attributes are kept: a single one in place, or any number in a list.
+/// The storage of the attributes: a single one in place, or any number in a list.
 #[derive(Drop)]
 enum Store {
     One(AttributeTypeAndValue),
@@ -45,7 +45,7 @@ impl Model for AttributeSet {
 }
 
 impl AttributeSet {
-    /// The attributes of a list, in its memory.
+    /// Returns the attributes of a list, which keeps its memory.
     pub(crate) fn of(values: Vec<AttributeTypeAndValue>) -> AttributeSet
         ensures { result ≡ values.items }
     {
@@ -55,7 +55,7 @@ impl AttributeSet {
         }
     }
 
-    /// A single attribute.
+    /// Returns a single attribute.
     pub(crate) fn one(alloc: Global, attribute: AttributeTypeAndValue) -> AttributeSet
         ensures { result ≡ attribute ∷ [] }
     {
@@ -65,7 +65,7 @@ impl AttributeSet {
         }
     }
 
-    /// The attributes.
+    /// Returns the attributes.
     #[inline]
     pub fn as_slice(&self) -> &[AttributeTypeAndValue]
         ensures { result.now ≡ self.now }
@@ -76,15 +76,16 @@ impl AttributeSet {
         }
     }
 
-    /// The allocator of the memory that copies need.
+    /// Returns the allocator for copies.
     pub(crate) fn allocator(&self) -> &Global {
         &self.alloc
     }
 
-    /// Places an attribute.
+    /// Inserts an attribute.
     ///
     /// # Errors
-    /// Out of memory. The attributes stay then.
+    ///
+    /// Fails if memory runs out. The attributes are then as they were.
     pub(crate) fn insert(
         &mut self,
         place: usize,
@@ -104,10 +105,11 @@ impl AttributeSet {
         Ok(())
     }
 
-    /// The list of the attributes.
+    /// Returns the attributes as a list.
     ///
     /// # Errors
-    /// Out of memory, for a single attribute that was kept in place.
+    ///
+    /// Fails if memory runs out, for a single attribute that was kept in place.
     pub fn into_vec(self) -> Result<Vec<AttributeTypeAndValue>, AllocError>
         ensures { IfOk result (λ v. v.items ≡ self) }
     {
@@ -157,7 +159,7 @@ impl InRangeValue for AttributeSet {
     }
 }
 
-/// The encodings of the attributes, one after the other.
+/// Compares the encodings of the attributes, one after another.
 impl ValueOrd for AttributeSet {
     #[tactic(auto, unfolding(crate::specs::Opened::contents, crate::specs::Opened::IsContent, crate::specs::Opened::body_octets, crate::specs::Opened::IsBody))]
     fn value_cmp(&self, other: &Self) -> Result<Ordering, Error> {

@@ -1,4 +1,4 @@
-//! AttributeTypeAndValue, and attributes that are told by one look at their headers.
+//! AttributeTypeAndValue, and attributes that are reported by one look at their headers.
 
 ghost use Rattle.std.specs.Prelude.{◌≡◌, ◌∷◌, ◌++◌, refl, Ok, IfOk, chars, IfSome};
 ghost use Rattle.std.specs.Fmt.{WritesOnOk};
@@ -29,7 +29,7 @@ use std::alloc::{AllocError, Global};
 use std::fmt;
 use x509_cert_name_texts::{FromText, key_of, split_member, type_of_key, write_escaped};
 
-/// What an attribute is of (RFC 5280 appendix A.1).
+/// The type of an attribute (RFC 5280 appendix A.1).
 ///
 /// ```text
 /// AttributeType ::= OBJECT IDENTIFIER
@@ -52,7 +52,7 @@ pub type AttributeValue = Any;
 pub struct AttributeTypeAndValue {
     /// The type.
     pub oid: AttributeType,
-    /// The value, as it stands.
+    /// The value, as it is.
     pub value: AttributeValue,
 }
 
@@ -88,16 +88,19 @@ impl InRangeValue for AttributeTypeAndValue {
 }
 
 impl AttributeTypeAndValue {
-    /// The attribute that a text spells (RFC 4514 2.3, 3): a key, the first `=`, a value. The key
-    /// is the name of a type, in capital or small letters, or a dotted identifier. The value is `#`
-    /// and the hex of an encoding, or a text with escapes: content of a PrintableString for a
-    /// country or a serial number, of an IA5String for a domain's component or a mail address, of a
-    /// UTF8String for any other type, without a check of its characters.
+    /// Parses an attribute (RFC 4514 2.3, 3): a key, the first `=`, and a value. The key is the
+    /// name of a type, in either case, or a dotted OID. The value is `#` and the hex of an
+    /// encoding, or a text with escapes. The text becomes the content of a PrintableString for a
+    /// country or a serial number, of an IA5String for a domain component or an e-mail address, and
+    /// of a UTF8String for any other type. Its characters aren't checked.
     ///
     /// # Errors
-    /// `Failed` where there is no `=`, for an escape that is none, and for bad hex; `OidMalformed`
-    /// for a key that is neither a name nor an identifier; those of `from_der` for the encoding;
-    /// `Overflow` for a content of 2^32 octets or more; `OutOfMemory`.
+    ///
+    /// - `Failed`: there is no `=`, or an escape or the hex is invalid.
+    /// - `OidMalformed`: the key is neither a name nor an OID.
+    /// - The errors of `from_der` for the encoding.
+    /// - `Overflow`: the content has 2^32 bytes or more.
+    /// - `OutOfMemory`: memory runs out.
     pub fn from_str(alloc: Global, text: &str) -> Result<AttributeTypeAndValue, Error>
         ensures { GivesBy (λ a. a) result (ReadsAttribute Bound text.now) }
     {
@@ -111,10 +114,11 @@ impl AttributeTypeAndValue {
         }
     }
 
-    /// The encoding of the attribute that a text spells: `from_str`, then `to_der`.
+    /// Parses an attribute as `from_str` does, and returns its encoding.
     ///
     /// # Errors
-    /// Those of `from_str`, and of `to_der`.
+    ///
+    /// - The errors of `from_str` and of `to_der`.
     pub fn encode_from_string(alloc: Global, text: &str) -> Result<Vec<u8>, Error>
         ensures { GivesBy (λ octets. octets.items) result
             (ReadsEncoding (type_and_value Bound) pair_plain (ReadsAttribute Bound text.now)) }
@@ -124,10 +128,11 @@ impl AttributeTypeAndValue {
         Ok(octets)
     }
 
-    /// A copy.
+    /// Returns a copy.
     ///
     /// # Errors
-    /// Out of memory.
+    ///
+    /// Fails if memory runs out.
     pub fn clone(&self, alloc: Global) -> Result<AttributeTypeAndValue, AllocError>
         ensures { IfOk result (λ a. a ≡ self.now) }
     {
@@ -137,10 +142,11 @@ impl AttributeTypeAndValue {
         })
     }
 
-    /// The number of octets. Where each of the four headers has two it is a sum.
+    /// Returns the length of the encoding. If each of the four headers has two bytes, it is a sum.
     ///
     /// # Errors
-    /// `Overflow` from 2^32 on.
+    ///
+    /// - `Overflow`: the length is 2^32 or more.
     pub(crate) fn octet_count(&self) -> Result<Length, Error>
         ensures { GivesNow (λ l. l.value) result
             (size (type_and_value Bound) (pair_plain self.now)) }
@@ -154,10 +160,12 @@ impl AttributeTypeAndValue {
         Ok(Length::new(inside as u32 + 2))
     }
 
-    /// Writes the octets. Where each of the four headers has two they are put together by two.
+    /// Encodes the attribute. If each of the four headers has two bytes, they are written two at a
+    /// time.
     ///
     /// # Errors
-    /// Those of `encode`.
+    ///
+    /// - The errors of `encode`.
     pub(crate) fn write_octets<W: Writer>(&self, writer: &mut W) -> Result<(), Error>
         ensures exact { Writes W.takes_memory (W.out writer.old) (W.out writer.new) result
             (write (type_and_value Bound) (pair_plain self.now)) }
@@ -178,11 +186,12 @@ impl AttributeTypeAndValue {
     }
 }
 
-/// Writes four slices in turn.
+/// Writes four slices, one after another.
 ///
 /// # Errors
-/// Those of the writer.
-// Inlined, so that a known number of octets is copied without a call.
+///
+/// - The errors of the writer.
+// Inlined, so that a known number of bytes is copied without a call.
 #[inline(always)]
 #[tactic(auto, using(crate::proofs::Cited::refused_adds))]
 fn write_four<W: Writer>(
@@ -204,7 +213,7 @@ fn write_four<W: Writer>(
     writer.write(fourth)
 }
 
-/// What `from_str` reads.
+/// Parses a text as `from_str` does.
 impl FromText for AttributeTypeAndValue {
     ghost reads_text = { ReadsAttribute Bound };
 
@@ -213,9 +222,9 @@ impl FromText for AttributeTypeAndValue {
     }
 }
 
-/// The shortest name of the type in capitals, `=` and the text with escapes, where the type has a
-/// name and the value is a text; else the dotted type, `=#` and the hex of the value's encoding
-/// (RFC 4514 2.3, 2.4).
+/// Prints the shortest name of the type in capitals, `=`, and the text with escapes, if the type
+/// has a name and the value is a text. Otherwise prints the dotted type, `=#`, and the encoding of
+/// the value in hex (RFC 4514 2.3, 2.4).
 impl fmt::Display for AttributeTypeAndValue {
     ghost use Rattle.std.specs.Prelude.{Some};
     ghost use Rattle.x509_cert_names.specs.ValueTexts.{attribute_printed};
@@ -239,7 +248,7 @@ fn write_text<W: fmt::Write>(key: &str, text: &str, f: &mut fmt::Formatter<W>) -
     write_escaped(text, f)
 }
 
-/// Writes a dotted type and the encoding of a value.
+/// Writes a dotted type, and the encoding of a value in hex.
 fn write_hex_value<W: fmt::Write>(
     oid: &AttributeType,
     value: &AttributeValue,
@@ -252,7 +261,7 @@ fn write_hex_value<W: fmt::Write>(
     write_encoding(value, f)
 }
 
-/// A copy, in memory of the same allocator.
+/// Copies the value with its own allocator.
 impl Clone for AttributeTypeAndValue {
     ghost is_clone = { λ x y. y ≡ x };
 
@@ -264,8 +273,8 @@ impl Clone for AttributeTypeAndValue {
     }
 }
 
-/// The attribute that octets spell, where each of its four headers has two octets. That none is
-/// answered says nothing of the octets: headers may be longer, or memory may be short.
+/// Returns the attribute that the bytes encode, if each of its four headers has two bytes. `None`
+/// says nothing about the bytes: headers may be longer, or memory may have run out.
 // Inlined, so that the attribute is made where it is kept.
 #[inline(always)]
 pub(crate) fn plain_attribute(alloc: Global, octets: &[u8]) -> Option<AttributeTypeAndValue>
@@ -285,9 +294,9 @@ pub(crate) fn plain_attribute(alloc: Global, octets: &[u8]) -> Option<AttributeT
     }
 }
 
-/// The identifier of an attribute, and the tag and content of its value, where each of its headers
-/// has two octets.
-// Inlined, so that nothing is handed on.
+/// Returns the type of an attribute, and the tag and the content of its value, if each of its
+/// headers has two bytes.
+// Inlined, so that nothing is passed on.
 #[inline(always)]
 fn plain_parts(octets: &[u8]) -> Option<(&[u8], Tag, &[u8])>
     ensures { IfSome result (λ p. IsPlain p.0.now p.1 p.2.now octets.now) }

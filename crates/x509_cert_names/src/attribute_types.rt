@@ -1,11 +1,11 @@
-//! The identifiers of the types that names are asked for.
+//! The OIDs of the attribute types that have getters.
 
 ghost use Rattle.std.specs.Prelude.{◌≡◌};
 ghost use Rattle.x509_cert_name_texts.specs.Keys.{x520, pilot, email_address};
 
 use der_core::oid::ObjectIdentifier;
 
-/// The type of a common name.
+/// Returns the OID of a common name.
 pub fn common_name() -> ObjectIdentifier<39>
     ensures { result ≡ x520 3 }
 {
@@ -13,7 +13,7 @@ pub fn common_name() -> ObjectIdentifier<39>
     ObjectIdentifier::from_bytes_unwrap(&[0x55, 4, 3])
 }
 
-/// The type of a country.
+/// Returns the OID of a country.
 pub fn country() -> ObjectIdentifier<39>
     ensures { result ≡ x520 6 }
 {
@@ -21,7 +21,7 @@ pub fn country() -> ObjectIdentifier<39>
     ObjectIdentifier::from_bytes_unwrap(&[0x55, 4, 6])
 }
 
-/// The type of a locality.
+/// Returns the OID of a locality.
 pub(crate) fn locality() -> ObjectIdentifier<39>
     ensures { result ≡ x520 7 }
 {
@@ -29,7 +29,7 @@ pub(crate) fn locality() -> ObjectIdentifier<39>
     ObjectIdentifier::from_bytes_unwrap(&[0x55, 4, 7])
 }
 
-/// The type of a state or province.
+/// Returns the OID of a state or province.
 pub(crate) fn state_or_province() -> ObjectIdentifier<39>
     ensures { result ≡ x520 8 }
 {
@@ -37,7 +37,7 @@ pub(crate) fn state_or_province() -> ObjectIdentifier<39>
     ObjectIdentifier::from_bytes_unwrap(&[0x55, 4, 8])
 }
 
-/// The type of an organization.
+/// Returns the type of an organization.
 pub fn organization() -> ObjectIdentifier<39>
     ensures { result ≡ x520 10 }
 {
@@ -45,7 +45,7 @@ pub fn organization() -> ObjectIdentifier<39>
     ObjectIdentifier::from_bytes_unwrap(&[0x55, 4, 0x0a])
 }
 
-/// The type of an organizational unit.
+/// Returns the type of an organizational unit.
 pub(crate) fn organization_unit() -> ObjectIdentifier<39>
     ensures { result ≡ x520 11 }
 {
@@ -53,7 +53,7 @@ pub(crate) fn organization_unit() -> ObjectIdentifier<39>
     ObjectIdentifier::from_bytes_unwrap(&[0x55, 4, 0x0b])
 }
 
-/// The type of a mail address.
+/// Returns the OID of an e-mail address.
 pub(crate) fn email_address() -> ObjectIdentifier<39>
     ensures { result ≡ email_address }
 {
@@ -61,7 +61,7 @@ pub(crate) fn email_address() -> ObjectIdentifier<39>
     ObjectIdentifier::from_bytes_unwrap(&[0x2a, 0x86, 0x48, 0x86, 0xf7, 0x0d, 1, 9, 1])
 }
 
-/// The type of a serial number.
+/// Returns the OID of a serial number.
 pub(crate) fn serial_number() -> ObjectIdentifier<39>
     ensures { result ≡ x520 5 }
 {
@@ -69,7 +69,7 @@ pub(crate) fn serial_number() -> ObjectIdentifier<39>
     ObjectIdentifier::from_bytes_unwrap(&[0x55, 4, 5])
 }
 
-/// The type of a domain's component.
+/// Returns the OID of a domain component.
 pub fn domain_component() -> ObjectIdentifier<39>
     ensures { result ≡ pilot 25 }
 {

@@ -18,7 +18,7 @@ use std::alloc::{AllocError, Global};
 use std::borrow::CowStr;
 use std::cmp::Ordering;
 
-/// A text of a name (RFC 5280 4.1.2.4, appendix A.1). UniversalString isn't read.
+/// A text in a name (RFC 5280 4.1.2.4, appendix A.1). UniversalString isn't supported.
 ///
 /// ```text
 /// DirectoryString ::= CHOICE {
@@ -31,11 +31,11 @@ use std::cmp::Ordering;
 pub enum DirectoryString {
     /// Letters, digits, blanks and a few signs (X.680 41.4).
     PrintableString(PrintableString),
-    /// Octets below 128.
+    /// Bytes below 128.
     TeletexString(TeletexString),
-    /// Any text: what RFC 5280 asks new certificates to use, beside PrintableString.
+    /// Any text. RFC 5280 requires this type or PrintableString in new certificates.
     Utf8String(String),
-    /// Characters of two octets each.
+    /// Characters of two bytes each.
     BmpString(BmpString),
 }
 
@@ -109,7 +109,7 @@ impl FirstTag for DirectoryString {
 }
 
 impl DirectoryString {
-    /// The text, lent as a choice.
+    /// Returns the text, borrowed as a choice.
     fn cases<'a>(&'a self) -> CasesRef<'a>
         ensures { ⟦<CasesRef<'a> as Shaped>⟧.written result ≡ directory_plain self.now }
     {
@@ -121,7 +121,7 @@ impl DirectoryString {
         }
     }
 
-    /// The text, or the empty one for a BMPString.
+    /// Returns the text, or the empty one for a BMPString.
     pub fn as_str(&self) -> &str
         ensures { result.now ≡ directory_text self.now }
     {
@@ -133,10 +133,11 @@ impl DirectoryString {
         }
     }
 
-    /// The text, lent, or made of the characters of a BMPString.
+    /// Returns the text. It is borrowed, except for a BMPString, which is converted.
     ///
     /// # Errors
-    /// Out of memory, for a BMPString.
+    ///
+    /// Fails if memory runs out, for a BMPString.
     pub fn value(&self, alloc: Global) -> Result<CowStr<'_>, AllocError>
         ensures { IfOk result (λ t. cow_str_bytes t ≡ directory_utf8 self.now) }
     {
@@ -148,10 +149,11 @@ impl DirectoryString {
         }
     }
 
-    /// The text itself, or made of the characters of a BMPString.
+    /// Returns the text. A BMPString is converted.
     ///
     /// # Errors
-    /// Out of memory, for a BMPString.
+    ///
+    /// Fails if memory runs out, for a BMPString.
     pub fn into_string(self, alloc: Global) -> Result<String, AllocError>
         ensures { IfOk result (λ s. string_bytes s ≡ directory_utf8 self) }
     {
@@ -163,10 +165,11 @@ impl DirectoryString {
         }
     }
 
-    /// A copy.
+    /// Returns a copy.
     ///
     /// # Errors
-    /// Out of memory.
+    ///
+    /// Fails if memory runs out.
     pub fn clone(&self, alloc: Global) -> Result<DirectoryString, AllocError>
         ensures { IsCopy self.now result directory_plain }
     {
@@ -179,10 +182,13 @@ impl DirectoryString {
     }
 }
 
-/// The text that any value is.
+/// Converts any value to a text.
 ///
 /// # Errors
-/// `TagUnexpected` for another tag than the four, the first fault of the content, or `OutOfMemory`.
+///
+/// - `TagUnexpected`: the tag isn't one of the four.
+/// - The first error of the content.
+/// - `OutOfMemory`: memory runs out.
 impl<'a> FromAny<'a> for DirectoryString {
     ghost any_gives = { λ a r. Gives directory_plain r (directory_from a) };
 

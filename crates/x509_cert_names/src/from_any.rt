@@ -1,4 +1,5 @@
-//! Values that any value can be read as: most of them are lent, and all but sets take no memory.
+//! Values that any value can be read as: most of them are borrowed, and all but sets don't
+//! allocate.
 
 ghost use Rattle.std.specs.Prelude.{Ok, pos};
 ghost use Rattle.der_core.specs.Oid.Bound.{Bound, max_size};
@@ -32,14 +33,16 @@ pub trait FromAny<'a>: Sized {
     ghost use Rattle.der_core.specs.ErrorTypes.Error.{Error};
     ghost use Rattle.der_core.specs.Shapes.{AnyValue};
 
-    // What reading a value may answer.
+    // The possible results for a value.
     ghost any_gives: { AnyValue → Result Self Error → Type 0 };
 
-    /// What the value is read as.
+    /// Decodes the value as this type.
     ///
     /// # Errors
-    /// Those of the type: `TagUnexpected` for another tag, the first fault of the content, or
-    /// `OutOfMemory`.
+    ///
+    /// - `TagUnexpected`: the tag is another one.
+    /// - The first error of the content.
+    /// - `OutOfMemory`: memory runs out.
     fn from_any(alloc: Global, any: &'a Any) -> Result<Self, Error>
         ensures { any_gives any.now result };
 }
@@ -54,7 +57,7 @@ impl<'a, T: AsciiType> FromAny<'a> for AsciiStringRef<'a, T> {
     }
 }
 
-/// The value itself, lent.
+/// The value itself, borrowed.
 impl<'a> FromAny<'a> for AnyRef<'a> {
     ghost any_gives = { λ a r. GivesNow any_lent r (Ok a) };
 
@@ -81,7 +84,7 @@ impl<'a> FromAny<'a> for Utf8StringRef<'a> {
     }
 }
 
-/// The octets of a GeneralString.
+/// The bytes of a GeneralString.
 impl<'a> FromAny<'a> for GeneralStringRef<'a> {
     ghost any_gives = { λ a r. GivesNow (λ s. s.bytes.now) r
         (leaf_as tags.GeneralString (text any_octet) a) };
@@ -100,7 +103,7 @@ impl<'a> FromAny<'a> for BitStringRef<'a> {
     }
 }
 
-/// The octets of an OCTET STRING.
+/// The bytes of an OCTET STRING.
 impl<'a> FromAny<'a> for OctetStringRef<'a> {
     ghost any_gives = { λ a r. GivesNow octets_lent r (leaf_as tags.OctetString octets a) };
 

@@ -1,6 +1,6 @@
-//! Laws of names and their texts, for every bound of arcs.
+//! Laws about names and their texts, for every bound of arcs.
 //!
-//! Each is the contract of a function that does nothing.
+//! Each law is the contract of a function that does nothing.
 
 ghost use Rattle.std.specs.Prelude.{◌≡◌, ◌≤◌, ◌<◌, ◌↔◌, ℕ, List, [], Ok, Err, map};
 ghost use Rattle.std.specs.Prelude.{IsUtf8, chars};
@@ -20,8 +20,8 @@ ghost use Rattle.x509_cert_names.specs.Views.{name_plain};
 use crate::name::Name;
 use std::cmp::PartialEq;
 
-/// Octets that spell a name under one bound of arcs spell it under a narrower one exactly where the
-/// arcs of its attributes' types are below that, and are read as the same name under a wider one.
+/// Bytes that encode a name under one bound of arcs encode it under a smaller bound exactly if the
+/// arcs of its attribute types are below that. Under a larger bound they decode to the same name.
 pub fn wider_bounds_keep_names()
     ensures exact { (small large : ℕ) (n : PlainName) (w : List ℕ) → 40 ≤ small → small ≤ large
         → Spells (name small) n w
@@ -30,9 +30,9 @@ pub fn wider_bounds_keep_names()
         → read_whole (name small) w ≡ Ok (n, []) → read_whole (name large) w ≡ Ok (n, []) }
 {}
 
-/// A text that is read as a name under one bound of arcs is read as the same name under a wider
-/// one, and the name has an encoding under both or under neither. The narrower bound lets each type
-/// pass that has a name: the greatest of their arcs is 19200300.
+/// A text that parses to a name under one bound of arcs parses to the same name under a larger one,
+/// and the name has an encoding under both or under neither. The smaller bound allows each type
+/// that has a name: the greatest of their arcs is 19200300.
 pub fn wider_bounds_read_name_texts_alike()
     ensures same { (small large : ℕ) (text : List ℕ) (n : PlainName) → 19200300 < small
         → small ≤ large → SpellsName small text n → SpellsName large text n }
@@ -41,9 +41,9 @@ pub fn wider_bounds_read_name_texts_alike()
         → (IsValid (name small) n ↔ IsValid (name large) n) }
 {}
 
-/// A text that is read as a name under a wide bound of arcs is read as it under a narrower one
-/// exactly where the arcs of its attributes' types are below that. So a text that is read under the
-/// wide bound alone holds a type with an arc that isn't below the narrow one.
+/// A text that parses to a name under a larger bound of arcs parses to it under a smaller one
+/// exactly if the arcs of its attribute types are below that. So a text that is accepted only under
+/// the larger bound has a type with an arc that isn't below the smaller one.
 pub fn newly_read_name_texts_hold_a_large_arc()
     ensures exact { (small large : ℕ) (text : List ℕ) (n : PlainName) → 19200300 < small
         → small ≤ large → SpellsName small text n
@@ -53,7 +53,7 @@ pub fn newly_read_name_texts_hold_a_large_arc()
         → HoldsLarge small (map type_of (all_of n)) }
 {}
 
-/// A text is read as at most one name, and one that is read as a name isn't refused.
+/// A text parses to at most one name, and a text that parses to a name isn't rejected.
 pub fn texts_are_read_as_one_name()
     ensures one { (bound : ℕ) (text : List ℕ) (n m : PlainName) → SpellsName bound text n
         → SpellsName bound text m → n ≡ m }
@@ -61,17 +61,18 @@ pub fn texts_are_read_as_one_name()
         → SpellsName bound text n → ReadsName bound text (Err e) → ⊥ }
 {}
 
-/// A text stands for the octets of one value at most. What is printed of a value's text stands for
-/// that text, and is a string of RFC 4514.
+/// A text means the bytes of at most one value. What is printed for the text of a value means that
+/// text, and is a string of RFC 4514.
 pub fn printed_values_are_strings()
     ensures one { (text v w : List ℕ) → StandsFor text v → StandsFor text w → v ≡ w }
     ensures stands { (w : List ℕ) → IsUtf8 w → StandsFor (escaped (chars w)) w }
     ensures string { (w : List ℕ) → IsString (escaped (chars w)) }
 {}
 
-/// What is printed of a name is read back. An attribute that is printed as a text is read as that
-/// text with the tag for its type, any other as it is; a name without another attribute is read as
-/// itself. An RDN without attributes isn't printed, and so has none in these names.
+/// What is printed for a name parses again. An attribute that is printed as a text parses to that
+/// text with the tag for its type, and any other attribute parses to itself. So a name whose
+/// attributes are as parsing makes them parses to itself. The law doesn't cover names with an empty
+/// RDN, because an empty RDN isn't printed.
 pub fn printed_names_are_read()
     ensures alike { (bound : ℕ) (n m : PlainName) → 40 ≤ bound → IsValid (name bound) m
         → IsReadBack n m → SpellsName bound (name_text n) m }
@@ -79,7 +80,8 @@ pub fn printed_names_are_read()
         → IsAsRead n → SpellsName bound (name_text n) n }
 {}
 
-/// Names whose attributes are as they are read are equal where their texts are.
+/// If the attributes of two names are as parsing makes them, the names are equal if their texts
+/// are.
 pub fn texts_identify_names()
     ensures { (bound : ℕ) (n m : PlainName) → 40 ≤ bound → IsValid (name bound) n
         → IsValid (name bound) m → IsAsRead n → IsAsRead m → name_text n ≡ name_text m → n ≡ m }

@@ -10,11 +10,12 @@ use der_core::{AsRead, Decode, DerOrd, Error, Header, Member, Reader};
 use der_types::SetOfVec;
 use std::alloc::{AllocError, Global};
 
-/// The members of a content in which each encoding is above the one before (X.690 11.6), in
-/// ascending order.
+/// Decodes the members of a content, whose encodings must ascend (X.690 11.6), and returns them in
+/// that order.
 ///
 /// # Errors
-/// Those of `SetOfVec::decode_value_strict`.
+///
+/// - The errors of `SetOfVec::decode_value_strict`.
 pub(crate) fn decode_members<'a, R: Reader<'a>, T: Decode<'a, R> + DerOrd + Member + AsRead + Drop>(
     alloc: Global,
     reader: &mut R,
@@ -31,10 +32,13 @@ pub(crate) fn decode_members<'a, R: Reader<'a>, T: Decode<'a, R> + DerOrd + Memb
     Ok(set.into_vec())
 }
 
-/// The members in ascending order.
+/// Returns the members in ascending order.
 ///
 /// # Errors
-/// `Overflow` where an encoding has 2^32 octets or more. No memory is taken.
+///
+/// - `Overflow`: an encoding has 2^32 bytes or more.
+///
+/// It doesn't allocate.
 pub(crate) fn arrange<T: DerOrd + Member + Drop>(members: Vec<T>) -> Result<Vec<T>, Error>
     ensures same { IfOk result (λ v. IsPermutation members.items v.items) }
     ensures ascend { IfOk result (λ v. Ascends T.shape T.written v.items) }
@@ -44,10 +48,11 @@ pub(crate) fn arrange<T: DerOrd + Member + Drop>(members: Vec<T>) -> Result<Vec<
     Ok(set.into_vec())
 }
 
-/// A copy of a list, of a type whose copies are the same.
+/// Returns a copy of a list, for a type whose copies are equal.
 ///
 /// # Errors
-/// Out of memory.
+///
+/// Fails if memory runs out.
 pub(crate) fn copy_of<T: Clone + Drop>(alloc: Global, members: &[T]) -> Result<Vec<T>, AllocError>
     requires { (x y : T) → T.is_clone x y → y ≡ x }
     ensures { IfOk result (λ v. v.items ≡ members.now) }

@@ -1,4 +1,4 @@
-//! Name, and whether names have one another's octets.
+//! Name, and whether names have one another's bytes.
 
 ghost use Rattle.std.specs.Prelude.{◌≡◌, ◌==◌, [], length, refl, IfErr, option_copied, true};
 ghost use Rattle.std.specs.Prelude.{IsTrue};
@@ -51,7 +51,7 @@ pub struct Name {
 }
 
 impl Name {
-    /// The name that a text spells (RFC 4514), as `RdnSequence::from_str` reads it.
+    /// Parses a name (RFC 4514), as `RdnSequence::from_str` does.
     ///
     /// As in `crates/example_build_certificates/src/main.rt`:
     ///
@@ -60,7 +60,8 @@ impl Name {
     /// ```
     ///
     /// # Errors
-    /// Those of `RdnSequence::from_str`.
+    ///
+    /// - The errors of `RdnSequence::from_str`.
     pub fn from_str(alloc: Global, text: &str) -> Result<Name, Error>
         ensures { GivesBy (λ n. n.rdn_sequence.relative_names.items) result
             (ReadsName Bound text.now) }
@@ -69,10 +70,11 @@ impl Name {
         Ok(Name { rdn_sequence })
     }
 
-    /// A copy.
+    /// Returns a copy.
     ///
     /// # Errors
-    /// Out of memory.
+    ///
+    /// Fails if memory runs out.
     pub fn clone(&self, alloc: Global) -> Result<Name, AllocError>
         ensures { IsCopy self.now result name_plain }
     {
@@ -81,7 +83,7 @@ impl Name {
         })
     }
 
-    /// The empty name.
+    /// Returns the empty name.
     pub fn default(alloc: Global) -> Name
         ensures { name_plain result ≡ [] }
     {
@@ -90,7 +92,7 @@ impl Name {
         }
     }
 
-    /// The name of these RDNs, whatever string types their values have. Whether they are
+    /// Returns the name of these RDNs, whatever string types their values have. Whether they are
     /// those that RFC 5280 4.1.2.4 asks for isn't looked at.
     pub fn hazmat_from_rdn_sequence(value: RdnSequence) -> Name
         ensures { name_plain result ≡ sequence_plain value }
@@ -100,21 +102,21 @@ impl Name {
         }
     }
 
-    /// Whether there is no RDN.
+    /// Returns whether there isn't RDN.
     pub fn is_empty(&self) -> bool
         ensures { result ≡ (length self.now.rdn_sequence.relative_names.items == 0) }
     {
         self.rdn_sequence.is_empty()
     }
 
-    /// The number of RDNs.
+    /// Returns the number of RDNs.
     pub fn len(&self) -> usize
         ensures { result ≡ length self.now.rdn_sequence.relative_names.items }
     {
         self.rdn_sequence.len()
     }
 
-    /// The attributes, those of the widest RDN first.
+    /// Returns an iterator over the attributes, from the first RDN on.
     pub fn iter(&self) -> NameIter<'_>
         ensures { plain_list pair_plain (attributes_left result) ≡ all_of (name_plain self.now) }
     {
@@ -124,19 +126,21 @@ impl Name {
         }
     }
 
-    /// The RDNs, the widest first.
+    /// Returns the RDNs, the widest first.
     pub fn iter_rdn(&self) -> RdnSequenceIter<'_>
         ensures { plain_list relative_plain (iter_rest result) ≡ name_plain self.now }
     {
         self.rdn_sequence.iter()
     }
 
-    /// The value of the first attribute of a type, in the order of the name, or none where there is
-    /// no such attribute. `iter` has the others.
+    /// Returns the value of the first attribute of a type, in the order of the name, or `None` if
+    /// there is no such attribute. `iter` returns the others.
     ///
     /// # Errors
-    /// Those of `T`: `TagUnexpected` where the value is of another type, the first fault of its
-    /// content, or `OutOfMemory`.
+    ///
+    /// - `TagUnexpected`: the value has another type than `T`.
+    /// - The first error of its content.
+    /// - `OutOfMemory`: memory runs out.
     pub fn by_oid<'a, T: FromAny<'a>>(
         &'a self,
         alloc: Global,
@@ -153,7 +157,7 @@ impl Name {
         }
     }
 
-    /// The value of the first attribute of a type, in the order of the name, or none.
+    /// Returns the value of the first attribute of a type, in the order of the name, or `None`.
     fn first_value(&self, oid: &ObjectIdentifier<39>) -> Option<&AttributeValue>
         ensures { option_copied result ≡ first_value oid.now (all_of (name_plain self.now)) }
     {
@@ -165,10 +169,12 @@ impl Name {
         None
     }
 
-    /// The first value of a type as a text, which is lent, or none.
+    /// Returns the first value of a type as a borrowed text, or `None`.
     ///
     /// # Errors
-    /// `TagUnexpected` where it is of another type, or the first fault of its content.
+    ///
+    /// - `TagUnexpected`: the value has another type.
+    /// - The first error of its content.
     fn first_text<T: AsciiType>(
         &self,
         oid: &ObjectIdentifier<39>,
@@ -186,11 +192,13 @@ impl Name {
         }
     }
 
-    /// The first common name (2.5.4.3), or none.
+    /// Returns the first common name (2.5.4.3), or none.
     ///
     /// # Errors
-    /// `TagUnexpected` where it is no DirectoryString, the first fault of its content, or
-    /// `OutOfMemory`.
+    ///
+    /// - `TagUnexpected`: it isn't DirectoryString.
+    /// - The first error of its content.
+    /// - `OutOfMemory`: memory runs out.
     pub fn common_name(&self, alloc: Global) -> Result<Option<DirectoryString>, Error>
         ensures { FirstGives (λ a r. Gives directory_plain r (directory_from a))
             (first_value (x520 3) (all_of (name_plain self.now))) result }
@@ -198,10 +206,12 @@ impl Name {
         self.by_oid(alloc, types::common_name())
     }
 
-    /// The first country (2.5.4.6), or none.
+    /// Returns the first country (2.5.4.6), or none.
     ///
     /// # Errors
-    /// `TagUnexpected` where it is no PrintableString, or the first fault of its content.
+    ///
+    /// - `TagUnexpected`: it isn't PrintableString.
+    /// - The first error of its content.
     pub fn country(&self) -> Result<Option<PrintableStringRef<'_>>, Error>
         ensures { FirstGives
             (λ a r. GivesNow (λ t. t.text.now) r (leaf_as Tag.PrintableString (text printable) a))
@@ -210,11 +220,13 @@ impl Name {
         self.first_text(&types::country())
     }
 
-    /// The first state or province (2.5.4.8), or none.
+    /// Returns the first state or province (2.5.4.8), or none.
     ///
     /// # Errors
-    /// `TagUnexpected` where it is no DirectoryString, the first fault of its content, or
-    /// `OutOfMemory`.
+    ///
+    /// - `TagUnexpected`: it isn't DirectoryString.
+    /// - The first error of its content.
+    /// - `OutOfMemory`: memory runs out.
     pub fn state_or_province(&self, alloc: Global) -> Result<Option<DirectoryString>, Error>
         ensures { FirstGives (λ a r. Gives directory_plain r (directory_from a))
             (first_value (x520 8) (all_of (name_plain self.now))) result }
@@ -222,11 +234,13 @@ impl Name {
         self.by_oid(alloc, types::state_or_province())
     }
 
-    /// The first locality (2.5.4.7), or none.
+    /// Returns the first locality (2.5.4.7), or none.
     ///
     /// # Errors
-    /// `TagUnexpected` where it is no DirectoryString, the first fault of its content, or
-    /// `OutOfMemory`.
+    ///
+    /// - `TagUnexpected`: it isn't DirectoryString.
+    /// - The first error of its content.
+    /// - `OutOfMemory`: memory runs out.
     pub fn locality(&self, alloc: Global) -> Result<Option<DirectoryString>, Error>
         ensures { FirstGives (λ a r. Gives directory_plain r (directory_from a))
             (first_value (x520 7) (all_of (name_plain self.now))) result }
@@ -234,11 +248,13 @@ impl Name {
         self.by_oid(alloc, types::locality())
     }
 
-    /// The first organization (2.5.4.10), or none.
+    /// Returns the first organization (2.5.4.10), or none.
     ///
     /// # Errors
-    /// `TagUnexpected` where it is no DirectoryString, the first fault of its content, or
-    /// `OutOfMemory`.
+    ///
+    /// - `TagUnexpected`: it isn't DirectoryString.
+    /// - The first error of its content.
+    /// - `OutOfMemory`: memory runs out.
     pub fn organization(&self, alloc: Global) -> Result<Option<DirectoryString>, Error>
         ensures { FirstGives (λ a r. Gives directory_plain r (directory_from a))
             (first_value (x520 10) (all_of (name_plain self.now))) result }
@@ -246,11 +262,13 @@ impl Name {
         self.by_oid(alloc, types::organization())
     }
 
-    /// The first organizational unit (2.5.4.11), or none.
+    /// Returns the first organizational unit (2.5.4.11), or none.
     ///
     /// # Errors
-    /// `TagUnexpected` where it is no DirectoryString, the first fault of its content, or
-    /// `OutOfMemory`.
+    ///
+    /// - `TagUnexpected`: it isn't DirectoryString.
+    /// - The first error of its content.
+    /// - `OutOfMemory`: memory runs out.
     pub fn organization_unit(&self, alloc: Global) -> Result<Option<DirectoryString>, Error>
         ensures { FirstGives (λ a r. Gives directory_plain r (directory_from a))
             (first_value (x520 11) (all_of (name_plain self.now))) result }
@@ -258,10 +276,12 @@ impl Name {
         self.by_oid(alloc, types::organization_unit())
     }
 
-    /// The first mail address (1.2.840.113549.1.9.1), or none.
+    /// Returns the first mail address (1.2.840.113549.1.9.1), or none.
     ///
     /// # Errors
-    /// `TagUnexpected` where it is no IA5String, or the first fault of its content.
+    ///
+    /// - `TagUnexpected`: it isn't IA5String.
+    /// - The first error of its content.
     pub fn email_address(&self) -> Result<Option<Ia5StringRef<'_>>, Error>
         ensures { FirstGives
             (λ a r. GivesNow (λ t. t.text.now) r (leaf_as Tag.Ia5String (text ascii) a))
@@ -280,7 +300,7 @@ impl AsRef<RdnSequence> for Name {
     }
 }
 
-/// The RDNs of a name.
+/// Returns the RDNs of a name.
 impl From<Name> for RdnSequence {
     ghost from_gives = { λ name sequence. sequence_plain sequence ≡ name_plain name };
 
@@ -336,7 +356,7 @@ impl InRangeValue for Name {
     }
 }
 
-/// The encodings of the RDNs, one after the other.
+/// Compares the encodings of the RDNs, one after another.
 impl ValueOrd for Name {
     fn value_cmp(&self, other: &Self) -> Result<Ordering, Error> {
         self.rdn_sequence.value_cmp(&other.rdn_sequence)
@@ -355,7 +375,7 @@ impl fmt::Display for Name {
     }
 }
 
-/// A copy, in memory of the same allocator.
+/// Copies the value with its own allocator.
 impl Clone for Name {
     ghost is_clone = { λ x y. name_plain y ≡ name_plain x };
 
@@ -367,9 +387,9 @@ impl Clone for Name {
 }
 
 impl Name {
-    /// Whether both names have the same encoding, octet for octet, as the name of an issuer and the
-    /// subject of its certificate must (RFC 5280 6.1.3). It is known by the attributes alone: no
-    /// encoding is made.
+    /// Returns whether both names have the same encoding, as the issuer of a certificate and the
+    /// subject of its issuer must (RFC 5280 6.1.3). The attributes are compared; nothing is
+    /// encoded.
     pub fn has_octets_of(&self, other: &Name) -> bool
         ensures same { IsTrue result → name_octets Bound (name_plain self.now)
             ≡ name_octets Bound (name_plain other.now) }
@@ -387,7 +407,7 @@ impl Name {
     }
 }
 
-/// The attributes of each RDN rise.
+/// The attributes of each RDN are in ascending order.
 fn in_order(relative_names: &[RelativeDistinguishedName])
     ensures { AllByRecursion (IsOrdered Bound) relative_names.now }
 {

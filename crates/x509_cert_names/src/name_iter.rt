@@ -1,13 +1,13 @@
-//! The attributes of a name, lent one after another.
+//! Iterating over the attributes of a name.
 
 use crate::attribute_type_and_value::AttributeTypeAndValue;
 use crate::relative_distinguished_name::RelativeDistinguishedName;
 use std::slice::Iter;
 
-/// The RDNs of a name, the widest first.
+/// An iterator over the RDNs of a name, in their order.
 pub type RdnSequenceIter<'a> = Iter<'a, RelativeDistinguishedName>;
 
-/// The attributes of a name, those of the widest RDN first.
+/// An iterator over the attributes of a name, from the first RDN on.
 #[derive(Debug, Drop)]
 pub struct NameIter<'a> {
     pub(crate) attributes: &'a [AttributeTypeAndValue],

@@ -42,13 +42,15 @@ pub struct RdnSequence {
 pub type DistinguishedName = RdnSequence;
 
 impl RdnSequence {
-    /// The RDNs that a text spells (RFC 4514 2.1, 3): those between the commas that
-    /// count, the last one first. A comma or `+` counts where the run of backslashes before it is
-    /// even. The empty text spells no RDN.
+    /// Parses a sequence of RDNs (RFC 4514 2.1, 3). The RDNs are separated by commas, and the last
+    /// one in the text is the first in the sequence. A comma or a `+` is a separator if the number
+    /// of backslashes before it is even. The empty text is the empty sequence.
     ///
     /// # Errors
-    /// That of the first RDN from the left which is refused
-    /// (`RelativeDistinguishedName::from_str`), or `OutOfMemory`.
+    ///
+    /// - The error of the first RDN from the left that is rejected
+    ///   (`RelativeDistinguishedName::from_str`).
+    /// - `OutOfMemory`: memory runs out.
     pub fn from_str(alloc: Global, text: &str) -> Result<RdnSequence, Error>
         ensures { GivesBy (λ s. s.relative_names.items) result (ReadsName Bound text.now) }
     {
@@ -60,10 +62,11 @@ impl RdnSequence {
         Ok(RdnSequence { relative_names })
     }
 
-    /// The encoding of the RDNs that a text spells: `from_str`, then `to_der`.
+    /// Parses RDNs as `from_str` does, and returns their encoding.
     ///
     /// # Errors
-    /// Those of `from_str`, and of `to_der`.
+    ///
+    /// - The errors of `from_str` and of `to_der`.
     pub fn encode_from_string(alloc: Global, text: &str) -> Result<Vec<u8>, Error>
         ensures { GivesBy (λ octets. octets.items) result
             (ReadsEncoding (name Bound) (plain_list relative_plain) (ReadsName Bound text.now)) }
@@ -73,10 +76,11 @@ impl RdnSequence {
         Ok(octets)
     }
 
-    /// A copy.
+    /// Returns a copy.
     ///
     /// # Errors
-    /// Out of memory.
+    ///
+    /// Fails if memory runs out.
     pub fn clone(&self, alloc: Global) -> Result<RdnSequence, AllocError>
         ensures { IsCopy self.now result sequence_plain }
     {
@@ -84,7 +88,7 @@ impl RdnSequence {
         Ok(RdnSequence { relative_names })
     }
 
-    /// The sequence without RDNs.
+    /// Returns the sequence without RDNs.
     pub fn default(alloc: Global) -> RdnSequence
         ensures { result.relative_names.items ≡ [] }
     {
@@ -93,21 +97,21 @@ impl RdnSequence {
         }
     }
 
-    /// Whether there is no RDN.
+    /// Returns whether there isn't RDN.
     pub fn is_empty(&self) -> bool
         ensures { result ≡ (length self.now.relative_names.items == 0) }
     {
         self.relative_names.is_empty()
     }
 
-    /// The number of RDNs.
+    /// Returns the number of RDNs.
     pub fn len(&self) -> usize
         ensures { result ≡ length self.now.relative_names.items }
     {
         self.relative_names.len()
     }
 
-    /// The RDNs, the widest first.
+    /// Returns the RDNs, the widest first.
     pub fn iter(&self) -> RdnSequenceIter<'_>
         ensures { iter_rest result ≡ self.now.relative_names.items }
     {
@@ -117,7 +121,8 @@ impl RdnSequence {
     /// Appends an RDN, the narrowest.
     ///
     /// # Errors
-    /// Out of memory. The sequence stays then.
+    ///
+    /// Fails if memory runs out. The sequence stays then.
     pub fn push(&mut self, name: RelativeDistinguishedName) -> Result<(), AllocError>
         ensures ok { OnOk result (self.new.relative_names.items ≡ self.old.relative_names.items
             ++ name
@@ -143,7 +148,7 @@ impl Wraps<Vec<RelativeDistinguishedName>> for RdnSequence {
     ghost made = { λ _ _ e. e };
 }
 
-/// The encodings of the RDNs, one after the other.
+/// Compares the encodings of the RDNs, one after another.
 impl Ordered for RdnSequence {}
 
 /// The RDNs with commas between them, the last one first (RFC 4514 2.1).
@@ -197,7 +202,7 @@ fn write_before<W: fmt::Write>(
     Ok(())
 }
 
-/// A copy, in memory of the same allocator.
+/// Copies the value with its own allocator.
 impl Clone for RdnSequence {
     ghost is_clone = { λ x y. y.relative_names.items ≡ x.relative_names.items };
 

@@ -41,8 +41,8 @@ use std::hash::{Hash, Hasher};
 use std::marker::Model;
 use x509_cert_name_texts::{FromText, read_pieces};
 
-/// An RDN (RFC 5280 4.1.2.4): a set of attributes, in the order of their encodings, none
-/// of which stands twice. It may be empty.
+/// An RDN (RFC 5280 4.1.2.4): a set of different attributes, in the order of their encodings. It
+/// may be empty.
 ///
 /// Contracts see the list of the attributes.
 ///
@@ -74,7 +74,8 @@ impl Model for RelativeDistinguishedName {
 /// Each attribute has an encoding.
 ///
 /// # Errors
-/// `Overflow` where one of them has 2^32 octets or more.
+///
+/// - `Overflow`: one of them has 2^32 bytes or more.
 fn have_encodings(attributes: &[AttributeTypeAndValue]) -> Result<(), Error>
     ensures ok { IfOk result (λ _. AllValid (type_and_value Bound) pair_plain attributes.now) }
     ensures refused { IfErr result (TooLong (type_and_value Bound) pair_plain attributes.now) }
@@ -86,7 +87,7 @@ fn have_encodings(attributes: &[AttributeTypeAndValue]) -> Result<(), Error>
     Ok(())
 }
 
-/// Whether each attribute differs from the next one.
+/// Returns whether each attribute differs from the next one.
 fn are_apart(attributes: &[AttributeTypeAndValue]) -> bool
     ensures { IsTrue result ↔ DifferInTurn attributes.now }
 {
@@ -99,13 +100,14 @@ fn are_apart(attributes: &[AttributeTypeAndValue]) -> bool
 }
 
 impl RelativeDistinguishedName {
-    /// The RDN that a text spells (RFC 4514 2.2, 3): attributes between the `+` that
-    /// count, none of which stands twice.
+    /// Parses an RDN (RFC 4514 2.2, 3): different attributes, separated by `+`.
     ///
     /// # Errors
-    /// That of the first attribute which is refused (`AttributeTypeAndValue::from_str`); else
-    /// `SetDuplicate` where one stands twice; `Overflow` where an encoding has 2^32 octets or more;
-    /// `OutOfMemory`.
+    ///
+    /// - The error of the first attribute that is rejected (`AttributeTypeAndValue::from_str`).
+    /// - `SetDuplicate`: an attribute occurs twice.
+    /// - `Overflow`: an encoding has 2^32 bytes or more.
+    /// - `OutOfMemory`: memory runs out.
     pub fn from_str(alloc: Global, text: &str) -> Result<RelativeDistinguishedName, Error>
         ensures { GivesBy (λ r. r) result (ReadsRelative Bound text.now) }
     {
@@ -114,10 +116,11 @@ impl RelativeDistinguishedName {
         Ok(relative)
     }
 
-    /// A copy.
+    /// Returns a copy.
     ///
     /// # Errors
-    /// Out of memory.
+    ///
+    /// Fails if memory runs out.
     pub fn clone(&self, alloc: Global) -> Result<RelativeDistinguishedName, AllocError>
         ensures { IfOk result (λ r. r ≡ self.now) }
     {
@@ -127,7 +130,7 @@ impl RelativeDistinguishedName {
         })
     }
 
-    /// The RDN without attributes.
+    /// Returns the RDN without attributes.
     pub fn default(alloc: Global) -> RelativeDistinguishedName
         ensures { result ≡ [] }
     {
@@ -136,11 +139,12 @@ impl RelativeDistinguishedName {
         }
     }
 
-    /// The RDN of these attributes, in any order.
+    /// Returns the RDN of these attributes, which may be in any order. It doesn't allocate.
     ///
     /// # Errors
-    /// `SetDuplicate` where one stands twice, `Overflow` where an encoding has 2^32 octets or more.
-    /// No memory is taken.
+    ///
+    /// - `SetDuplicate`: an attribute occurs twice.
+    /// - `Overflow`: an encoding has 2^32 bytes or more.
     pub fn try_from_vec(attributes: Vec<AttributeTypeAndValue>) -> Result<Self, Error>
         ensures ok { IfOk result (IsPermutation attributes.items) }
         ensures ordered { IfOk result (IsOrdered Bound) }
@@ -159,11 +163,15 @@ impl RelativeDistinguishedName {
         })
     }
 
-    /// Places an attribute in order.
+    /// Inserts an attribute at its position.
     ///
     /// # Errors
-    /// `SetDuplicate` where it stands already, `Overflow` where an encoding has 2^32 octets or
-    /// more, or `OutOfMemory`. The RDN stays then.
+    ///
+    /// - `SetDuplicate`: the RDN has it already.
+    /// - `Overflow`: an encoding has 2^32 bytes or more.
+    /// - `OutOfMemory`: memory runs out.
+    ///
+    /// The RDN is then as it was.
     pub fn insert(&mut self, item: AttributeTypeAndValue) -> Result<(), Error>
         ensures ok { OnOk result (IsPermutation (item ∷ self.old) self.new) }
         ensures err { OnErr result (self.new ≡ self.old) }
@@ -179,28 +187,28 @@ impl RelativeDistinguishedName {
         Ok(())
     }
 
-    /// Whether there is no attribute.
+    /// Returns whether there isn't an attribute.
     pub fn is_empty(&self) -> bool
         ensures { result ≡ (length self.now == 0) }
     {
         self.attributes.as_slice().is_empty()
     }
 
-    /// The number of attributes.
+    /// Returns the number of attributes.
     pub fn len(&self) -> usize
         ensures { result ≡ length self.now }
     {
         self.attributes.as_slice().len()
     }
 
-    /// The attributes, in ascending order of their encodings.
+    /// Returns the attributes, in ascending order of their encodings.
     pub fn iter(&self) -> SetOfIter<'_, AttributeTypeAndValue>
         ensures { iter_rest result ≡ self.now }
     {
         self.as_slice().iter()
     }
 
-    /// The attributes, in ascending order of their encodings.
+    /// Returns the attributes, in ascending order of their encodings.
     pub fn as_slice(&self) -> &[AttributeTypeAndValue]
         ensures attributes { result.now ≡ self.now }
         ensures ascend { Ascends (type_and_value Bound) pair_plain result.now }
@@ -210,9 +218,8 @@ impl RelativeDistinguishedName {
     }
 }
 
-/// The attribute that the next `len` octets of a reader spell by themselves, where the reader may
-/// open the level of a set and that of an attribute in it. That none is answered says nothing of
-/// the octets.
+/// Returns the attribute that the next `len` bytes of a reader encode, if the reader may open a
+/// level for a set and one for an attribute in it. `None` says nothing about the bytes.
 fn one_attribute<'a, R: Reader<'a>>(
     alloc: Global,
     reader: &R,
@@ -289,7 +296,7 @@ impl InRangeValue for RelativeDistinguishedName {
     }
 }
 
-/// The encodings of the attributes, one after the other.
+/// Compares the encodings of the attributes, one after another.
 impl ValueOrd for RelativeDistinguishedName {
     fn value_cmp(&self, other: &Self) -> Result<Ordering, Error> {
         self.attributes.value_cmp(&other.attributes)
@@ -305,7 +312,7 @@ impl AsSlice<AttributeTypeAndValue> for RelativeDistinguishedName {
     }
 }
 
-/// What `from_str` reads.
+/// Parses a text as `from_str` does.
 impl FromText for RelativeDistinguishedName {
     ghost reads_text = { ReadsRelative Bound };
 
@@ -363,7 +370,7 @@ fn write_later<W: fmt::Write>(
     Ok(())
 }
 
-/// A copy, in memory of the same allocator.
+/// Copies the value with its own allocator.
 impl Clone for RelativeDistinguishedName {
     ghost is_clone = { λ x y. y ≡ x };
 
@@ -375,7 +382,7 @@ impl Clone for RelativeDistinguishedName {
     }
 }
 
-/// Whether the attributes are equal, one by one.
+/// Compares the attributes, one after another.
 impl PartialEq for RelativeDistinguishedName {
     ghost eq = { pointwise same_pair };
 
@@ -393,7 +400,7 @@ impl Eq for RelativeDistinguishedName {
     ghost laws = { lists_equiv same_pair_equiv };
 }
 
-/// How many attributes there are, and each of them.
+/// Hashes the number of attributes, and each of them.
 impl Hash for RelativeDistinguishedName {
     ghost hash_input = { fed.slice pair_fed };
 

@@ -19,7 +19,7 @@ use std::alloc::Global;
 use std::fmt;
 use x509_cert_name_texts::{from_hex, undo_escapes, write_hex};
 
-/// The tag of a value that is spelled as a text.
+/// Returns the tag of a value that is given as a text.
 fn tag_for(oid: &AttributeType) -> Tag
     ensures { result ≡ tag_for oid.now }
 {
@@ -32,7 +32,7 @@ fn tag_for(oid: &AttributeType) -> Tag
     Tag::Utf8String
 }
 
-/// The value whose encoding these hex digits are.
+/// Returns the value whose encoding these hex digits are.
 #[tactic(auto, using(crate::proofs::EncodedValues::encoded_is))]
 fn encoded_value(alloc: Global, digits: &[u8]) -> Result<AttributeValue, Error>
     ensures { Gives (λ a. a) result (encoded_value digits.now) }
@@ -41,7 +41,7 @@ fn encoded_value(alloc: Global, digits: &[u8]) -> Result<AttributeValue, Error>
     Ok(Any::from_der(alloc, octets.as_slice())?)
 }
 
-/// The value with this content, its escapes undone.
+/// Returns the value with this content, its escapes undone.
 fn text_value(alloc: Global, oid: &AttributeType, text: &[u8]) -> Result<AttributeValue, Error>
     ensures { GivesBy (λ a. a) result (ReadsString oid.now text.now) }
 {
@@ -49,7 +49,7 @@ fn text_value(alloc: Global, oid: &AttributeType, text: &[u8]) -> Result<Attribu
     Ok(Any::new(tag_for(oid), octets)?)
 }
 
-/// The value that stands after the `=` of an attribute.
+/// Returns the value that follows the `=` of an attribute.
 pub(crate) fn value_of(
     alloc: Global,
     oid: &AttributeType,
@@ -63,7 +63,7 @@ pub(crate) fn value_of(
     }
 }
 
-/// The text of a value, where it reads as its PrintableString, UTF8String, IA5String or
+/// Returns the text of a value, if it decodes as its PrintableString, UTF8String, IA5String or
 /// TeletexString.
 #[tactic(auto, unfolding(crate::specs::ValueTexts::text_of))]
 pub(crate) fn text_of(value: &AttributeValue) -> Option<&str>
@@ -107,7 +107,7 @@ fn write_head<W: fmt::Write>(tag: Tag, length: Length, f: &mut fmt::Formatter<W>
     }
 }
 
-/// Writes the encoding of a value as small hex digits. A length that none can count is refused.
+/// Writes the encoding of a value as lowercase hex digits. A value that is too long is rejected.
 pub(crate) fn write_encoding<W: fmt::Write>(
     value: &AttributeValue,
     f: &mut fmt::Formatter<W>,

@@ -1,4 +1,4 @@
--- Fields behind headers of two octets are spelled by their octets, and read.
+-- Fields after headers of two bytes are spelled by their bytes, and read.
 use Rattle.std.proofs.Common.{◌≡◌, ℕ, ◌-◌, ◌<◌, ◌≤◌, Bool, true, false, List, [], ◌∷◌, ◌++◌, length, get_or, take, drop, take_all, take-append-drop, length-take-le, append-nil, Option, Some, None, Ok, refl, sym, ap, ◌∙◌, arith}
 use Rattle.std.proofs.lemmas.List.{drop_all}
 use Rattle.der_core.specs.Oid.Bound.{Bound}
@@ -17,12 +17,12 @@ use Rattle.der_core.proofs.Complete.{complete_body}
 use Rattle.der_core.proofs.HeadLaws.{length-short}
 use Rattle.x509_cert_parts.specs.Grammar.{algorithm_fields, extension_fields, false_by_default, object_identifier, octet_string}
 
--- A value behind a header of two octets
+-- A value after a header of two bytes
 short_tlv : (t : Tag) (b : ℕ) (c : List ℕ) → tag_octets t ≡ b ∷ [] → length c < 128 → tlv t c ≡ b ∷ length c ∷ c
 unfolding tlv head_octets
 short_tlv t b c e l = rw (e, length-short (length c) l) refl
 
--- what the code finds at the front
+-- what the code finds at the prefix
 pub identifier_first : (w identifier behind : List ℕ) → 2 ≤ length w → get_or w 0 0 ≡ 0x06 → get_or w 1 0 ≤ length (take (length w - 2) (drop 2 w))
     → identifier ≡ take (get_or w 1 0) (take (length w - 2) (drop 2 w)) → behind ≡ drop (get_or w 1 0) (take (length w - 2) (drop 2 w))
     → w ≡ 0x06 ∷ length identifier ∷ (identifier ++ behind)
@@ -104,7 +104,7 @@ octets_field value are few =
     let spelled : tlv tags.OctetString value ≡ 0x04 ∷ length value ∷ value = short_tlv tags.OctetString 0x04 value refl few in
     ((are, omega arith, omega (arith, ap length spelled, few)), spelled)
 
--- what the code finds behind it
+-- what the code finds after it
 octets_first : (w value : List ℕ) → 2 ≤ length w → get_or w 0 0 ≡ 0x04 → get_or w 1 0 ≡ length value → value ≡ take (length w - 2) (drop 2 w) → w ≡ 0x04 ∷ length value ∷ value
 octets_first (a ∷ b ∷ r) value two one counted is =
     let all : value ≡ r = is ∙ take_all (length (a ∷ b ∷ r) - 2) r (omega arith) in

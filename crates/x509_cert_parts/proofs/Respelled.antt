@@ -14,7 +14,7 @@ use Rattle.der_core.proofs.OneEncoding.{one_value}
 use Rattle.x509_cert_parts.specs.Grammar.{time, validity, validity_fields, PlainTime, PlainValidity, not_before, not_after}
 use Rattle.x509_cert_parts.specs.Respelling.{respelled, spelled_by, validity_by, is_early_generalized}
 
--- Fewer content octets make no longer an encoding.
+-- Fewer content bytes make no longer an encoding.
 
 length_shorter : (m n : ℕ) → m ≤ n → length (length_octets m) ≤ length (length_octets n)
 length_shorter m n le =
@@ -42,7 +42,7 @@ tlv_shorter t v w le =
 tlv_fits : (t : Tag) (v w : List ℕ) → length v ≤ length w → Fits (tlv t w) → Fits (tlv t v)
 tlv_fits t v w le h = omega (arith, h, tlv_shorter t v w le)
 
--- a value behind a tag whose content is no longer than that of another
+-- a value after a tag whose content is no longer than that of another
 module _ (t : Tag) (b : Body) (new old : BodyValue b) (le : length (body_octets b new) ≤ length (body_octets b old)) where
   pub nested_shorter : length (octets_of (tagged t (nested b)) new) ≤ length (octets_of (tagged t (nested b)) old)
   unfolding octets_of contents
@@ -52,7 +52,7 @@ module _ (t : Tag) (b : Body) (new old : BodyValue b) (le : length (body_octets 
   unfolding IsValid IsContent contents
   nested_valid n h = (n, h.1, tlv_fits t (body_octets b new) (body_octets b old) le h.2)
 
--- a field that stays as it is, in front of others and behind them
+-- a field that stays as it is, before others and after them
 pub behind_same : (s : Shape) (b : Body) (x : Value s) (v w : BodyValue b) → length (body_octets b v) ≤ length (body_octets b w)
     → length (body_octets (field s b) (x, v)) ≤ length (body_octets (field s b) (x, w))
 unfolding body_octets

@@ -18,13 +18,13 @@ of_identifier arcs [] = []
 of_identifier arcs (e ∷ left) = if owned_eq (extension_arcs e) arcs then e ∷ of_identifier arcs left
     else of_identifier arcs left
 
--- the only one, if there is one; two are refused
+-- the only one, if there is one; two are rejected
 abbrev pub only_one : List PlainExtension → Result (Option PlainExtension) ErrorKind
 only_one [] = Ok None
 only_one (e ∷ []) = Ok (Some e)
 only_one (e ∷ f ∷ left) = Err kinds.Failed
 
--- whether it is critical, and the value that its octets spell
+-- whether it is critical, and the value that its bytes encode
 abbrev pub value_in : (s : Shape) → PlainExtension → Result (Bool × Value s) ErrorKind
 value_in s e =
     read_whole s (extension_octets e) >>= λ (v : Value s × List ℕ). Ok (is_critical e, v.0)
@@ -39,7 +39,7 @@ abbrev pub only_value : (s : Shape) → List ℕ → List PlainExtension
     → Result (Option (Bool × Value s)) ErrorKind
 only_value s arcs es = only_one (of_identifier arcs es) >>= value_if s
 
--- the list of the first and of those behind it
+-- the list of the first and of those after it
 abbrev pub with_first : Option (PlainExtension × List PlainExtension) → List PlainExtension
 with_first None = []
 with_first (Some (e, left)) = e ∷ left

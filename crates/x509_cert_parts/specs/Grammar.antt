@@ -1,5 +1,5 @@
 -- The parts of certificates (RFC 5280 4.1, 4.1.1.2, 4.1.2). A shape that holds an identifier takes
--- the bound of arcs. A serial number takes the greatest number of content octets that its profile
+-- the bound of arcs. A serial number takes the greatest number of content bytes that its profile
 -- reads, if there is such a number.
 use Rattle.std.specs.Prelude.{ℕ, List, [], ◌∷◌, Bool, false, Option, None}
 use Rattle.std.specs.Option.{option_map_or}
@@ -16,7 +16,7 @@ use Rattle.der_core.specs.Shapes.{either, optional, defaulted, field, done, sequ
 use Rattle.der_core.specs.Shapes.{sequence_of, explicit}
 use Rattle.der_core.specs.Tags.{context}
 
--- OBJECT IDENTIFIER, of at most 39 octets
+-- OBJECT IDENTIFIER, of at most 39 bytes
 abbrev pub object_identifier : ℕ → Shape
 object_identifier bound = tagged tags.ObjectIdentifier (leaf (identifier bound max_size))
 
@@ -46,11 +46,11 @@ public_key_info bound = sequence (public_key_fields bound)
 abbrev pub version : Shape
 version = tagged tags.Integer (leaf (integer (among (0 ∷ 1 ∷ 2 ∷ []))))
 
--- [0] EXPLICIT Version DEFAULT v1, whose octets never stand
+-- [0] EXPLICIT Version DEFAULT v1, whose bytes never stand
 abbrev pub version_field : Shape
 version_field = defaulted (explicit 0 version) (160 ∷ 3 ∷ 2 ∷ 1 ∷ 0 ∷ [])
 
--- the numbers of at most so many content octets, or all
+-- the numbers of at most so many content bytes, or all
 abbrev pub numbers_within : Option ℕ → Numbers
 numbers_within limit = option_map_or within limit every
 

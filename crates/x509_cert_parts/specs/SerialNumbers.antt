@@ -13,11 +13,11 @@ use Rattle.x509_cert_parts.specs.declared.serial_number.SerialNumber.TheInside.{
 abbrev pub serial_kept : {P : Type 0} → Inside P → ℤ
 serial_kept n = n.inner
 
--- the most content octets of a serial number that is read by RFC 5280: 20, and one for the sign
+-- the most content bytes of a serial number that is read by RFC 5280: 20, and one for the sign
 abbrev pub serial_octets_max : ℕ
 serial_octets_max = 21
 
--- a number that isn't negative, of at most 20 content octets
+-- a number that isn't negative, of at most 20 content bytes
 unfoldable pub new_serial : List ℕ → Result ℤ ErrorKind
 new_serial w = unsigned_number w >>= λ n. if nat_lt 20 (length (integer_octets (pos n)))
     then Err kinds.Overlength else Ok (pos n)
@@ -30,7 +30,7 @@ hex_pair o = digit_glyph true (o / 16) ∷ digit_glyph true (o % 16) ∷ []
 abbrev pub colon_pair : ℕ → List ℕ
 colon_pair o = 58 ∷ hex_pair o
 
--- octets as pairs of digits, joined by colons
+-- bytes as pairs of digits, joined by colons
 abbrev pub colon_pairs : List ℕ → List ℕ
 colon_pairs [] = []
 colon_pairs (o ∷ w) = hex_pair o ++ flat_map colon_pair w

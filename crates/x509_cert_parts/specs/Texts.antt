@@ -6,7 +6,7 @@ use Rattle.x509_cert_parts.specs.Grammar.{PlainTime}
 use Rattle.x509_cert_parts.specs.SerialNumbers.{colon_pairs}
 use Rattle.der_types.specs.DateTexts.{date_text}
 
--- the content octets of a serial number, as pairs of digits in base 16 with colons between them
+-- the content bytes of a serial number, as pairs of digits in base 16 with colons between them
 abbrev pub serial_text : ℤ → List ℕ
 serial_text n = colon_pairs (integer_octets n)
 

@@ -26,17 +26,18 @@ use std::alloc::{AllocError, Global};
 /// ```
 #[derive(Debug, PartialEq, Eq, Drop)]
 pub struct AlgorithmIdentifier {
-    /// The identifier of the algorithm.
+    /// The OID of the algorithm.
     pub oid: ObjectIdentifier<39>,
-    /// The parameters, as they stand. NULL isn't the same as none.
+    /// The parameters, as they are. NULL isn't the same as none.
     pub parameters: Option<Any>,
 }
 
 impl AlgorithmIdentifier {
-    /// A copy.
+    /// Returns a copy.
     ///
     /// # Errors
-    /// Out of memory.
+    ///
+    /// Fails if memory runs out.
     pub fn clone(&self, alloc: Global) -> Result<AlgorithmIdentifier, AllocError>
         ensures { IsCopy self.now result algorithm_plain }
     {
@@ -46,9 +47,9 @@ impl AlgorithmIdentifier {
         })
     }
 
-    /// Whether both have the same encoding, octet for octet, as the algorithm in the signed part of
-    /// a certificate and the one outside must (RFC 5280 4.1.1.2). It is known by identifier and
-    /// parameters: no encoding is made.
+    /// Returns whether both have the same encoding, as the algorithms inside and outside of a
+    /// TBSCertificate must (RFC 5280 4.1.1.2). The OIDs and the parameters are compared; nothing is
+    /// encoded.
     pub fn has_octets_of(&self, other: &AlgorithmIdentifier) -> bool
         ensures same { IsTrue result
             → octets_of (algorithm_identifier Bound) (algorithm_plain self.now)
@@ -58,7 +59,7 @@ impl AlgorithmIdentifier {
         self == other
     }
 
-    /// The algorithm, lent.
+    /// Returns the algorithm, borrowed.
     pub fn owned_to_ref(&self) -> AlgorithmIdentifierRef<'_>
         ensures { algorithm_lent result ≡ algorithm_plain self.now }
     {
@@ -79,8 +80,8 @@ impl FieldsView for AlgorithmIdentifier {
     ghost view = { algorithm_plain };
 }
 
-/// The parameters that octets spell: none, or NULL. That nothing is answered says nothing of the
-/// octets.
+/// Returns the parameters that the bytes encode, if they are absent or NULL. `None` says nothing
+/// about the bytes.
 #[inline(always)]
 fn plain_parameters(alloc: Global, octets: &[u8]) -> Option<Option<Any>>
     ensures { IfSome result (λ p. IsValid (optional any) (plain_option (λ v. v) p)
@@ -98,8 +99,8 @@ fn plain_parameters(alloc: Global, octets: &[u8]) -> Option<Option<Any>>
     Some(Some(Any::null(alloc)))
 }
 
-/// The algorithm whose fields octets spell, where the header of its identifier has two octets and
-/// its parameters are none or NULL. That none is answered says nothing of the octets.
+/// Returns the algorithm whose fields the bytes encode, if the header of its OID has two bytes and
+/// its parameters are absent or NULL. `None` says nothing about the bytes.
 #[inline(always)]
 fn plain_fields(alloc: Global, octets: &[u8]) -> Option<AlgorithmIdentifier>
     ensures { IfSome result (λ a. IsBody (algorithm_fields Bound) (algorithm_plain a)

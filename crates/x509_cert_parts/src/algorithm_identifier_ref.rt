@@ -12,7 +12,7 @@ use der_core::{DecodeFields, Error, Reader, lend, row};
 use der_types::AnyRef;
 use std::alloc::{AllocError, Global};
 
-/// An algorithm and its parameters (RFC 5280 4.1.1.2), lent.
+/// An algorithm and its parameters (RFC 5280 4.1.1.2), borrowed.
 ///
 /// ```text
 /// AlgorithmIdentifier ::= SEQUENCE {
@@ -21,17 +21,18 @@ use std::alloc::{AllocError, Global};
 /// ```
 #[derive(Clone, Copy, Debug, PartialEq, Eq)]
 pub struct AlgorithmIdentifierRef<'a> {
-    /// The identifier of the algorithm.
+    /// The OID of the algorithm.
     pub oid: ObjectIdentifier<39>,
-    /// The parameters, as they stand. NULL isn't the same as none.
+    /// The parameters, as they are. NULL isn't the same as none.
     pub parameters: Option<AnyRef<'a>>,
 }
 
 impl<'a> AlgorithmIdentifierRef<'a> {
-    /// A copy of the algorithm that owns its octets.
+    /// Returns an owned copy of the algorithm.
     ///
     /// # Errors
-    /// Out of memory.
+    ///
+    /// Fails if memory runs out.
     pub fn ref_to_owned(&self, alloc: Global) -> Result<AlgorithmIdentifier, AllocError>
         ensures { IfOk result (λ a. algorithm_plain a ≡ algorithm_lent self.now) }
     {

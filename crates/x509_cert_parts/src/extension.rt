@@ -15,7 +15,7 @@ use der_core::{DecodeFields, Error, Reader, lend, read_row};
 use der_types::OctetString;
 use std::alloc::{AllocError, Global};
 
-/// An extension of a certificate, whose content isn't looked into (RFC 5280 4.1, 4.2).
+/// An extension with its encoded content, which isn't decoded (RFC 5280 4.1, 4.2).
 ///
 /// ```text
 /// Extension ::= SEQUENCE {
@@ -25,16 +25,16 @@ use std::alloc::{AllocError, Global};
 /// ```
 #[derive(Debug, PartialEq, Eq, Drop)]
 pub struct Extension {
-    /// Which extension it is.
+    /// The OID of the extension.
     pub extn_id: ObjectIdentifier<39>,
-    /// Whether a certificate must be refused by those who don't know the extension.
+    /// Whether a certificate must be rejected by software that doesn't know the extension.
     pub critical: bool,
     /// The encoding of its value.
     pub extn_value: OctetString,
 }
 
-/// The extensions of a certificate (RFC 5280 4.1.2.9), in the order in which they stand. There may
-/// be none, and two of one identifier.
+/// The extensions of a certificate (RFC 5280 4.1.2.9), in their order. The list may be empty, and
+/// may have two with the same OID.
 ///
 /// ```text
 /// Extensions ::= SEQUENCE SIZE (1..MAX) OF Extension
@@ -42,10 +42,11 @@ pub struct Extension {
 pub type Extensions = Vec<Extension>;
 
 impl Extension {
-    /// A copy.
+    /// Returns a copy.
     ///
     /// # Errors
-    /// Out of memory.
+    ///
+    /// Fails if memory runs out.
     pub fn clone(&self, alloc: Global) -> Result<Extension, AllocError>
         ensures { IsCopy self.now result extension_plain }
     {
@@ -63,8 +64,8 @@ impl FieldsView for Extension {
     ghost view = { extension_plain };
 }
 
-/// The extension whose fields octets spell, where each of their headers has two octets. That none
-/// is answered says nothing of the octets: headers may be longer, or memory may be short.
+/// Returns the extension whose fields the bytes encode, if each of their headers has two bytes.
+/// `None` says nothing about the bytes: headers may be longer, or memory may have run out.
 #[inline(always)]
 fn plain_fields(alloc: Global, octets: &[u8]) -> Option<Extension>
     ensures { IfSome result (λ e. IsBody (extension_fields Bound) (extension_plain e)
@@ -98,7 +99,7 @@ fn plain_fields(alloc: Global, octets: &[u8]) -> Option<Extension>
 }
 
 impl<'a, R: Reader<'a>> DecodeFields<'a, R> for Extension {
-    // Not inlined, so that its fields are moved into their places once.
+    // Not inlined, so that its fields are moved into place once.
     #[inline(never)]
     fn decode_fields(alloc: Global, reader: &mut R) -> Result<Extension, Error> {
         if reads_der(reader) {
@@ -117,7 +118,6 @@ impl Described for Extension {
 }
 
 impl Rows for Extension {
-    #[tactic(auto, using(der_core::proofs::Rows::lent))]
     fn with_rows<U: RowUser>(&self, other: &Self, user: &mut U) -> U::Answer {
         lend!(self, other, user; extn_id, critical: default, extn_value)
     }

@@ -11,12 +11,14 @@ use der_core::oid::{AssociatedOid, ObjectIdentifier};
 use der_core::{Decode, Error, ErrorKind, FromDer, SliceReader};
 use std::alloc::Global;
 
-/// The value of the only extension of the identifier of `T`, and whether it is critical; none where
-/// no extension has the identifier.
+/// Looks for the extension with the OID of `T`. Returns whether it is critical, and its value, or
+/// `None` if there is no such extension.
 ///
 /// # Errors
-/// `Failed` where two have it (RFC 5280 4.2 forbids that). Else those of `T`, whose encoding the
-/// content has to be, or `OutOfMemory`.
+///
+/// - `Failed`: there are two such extensions, which RFC 5280 4.2 forbids.
+/// - The errors of `T`, whose encoding the content must be.
+/// - `OutOfMemory`: memory runs out.
 pub fn get_extension<'a, T: AssociatedOid + Decode<'a, SliceReader<'a>>>(
     alloc: Global,
     extensions: &'a [Extension],
@@ -34,7 +36,7 @@ pub fn get_extension<'a, T: AssociatedOid + Decode<'a, SliceReader<'a>>>(
     Ok(Some((extension.critical, value)))
 }
 
-/// The first extension of an identifier, and those after it.
+/// Returns the first extension of an identifier, and those after it.
 pub fn next_of<'a>(
     identifier: ObjectIdentifier<39>,
     extensions: &'a [Extension],

@@ -11,8 +11,8 @@ use der_core::{Decode, Error, FromDer, SliceReader};
 use std::alloc::Global;
 use std::marker::PhantomData;
 
-/// The values of the extensions of one identifier, each with whether it is critical, in the order
-/// of the extensions.
+/// An iterator over the extensions with one OID, in their order: whether each is critical, and its
+/// value.
 #[derive(Drop)]
 pub struct ExtensionsOf<'a, T> {
     alloc: Global,
@@ -20,7 +20,7 @@ pub struct ExtensionsOf<'a, T> {
     value: PhantomData<T>,
 }
 
-/// The extensions of the identifier of `T`.
+/// Returns an iterator over the extensions with the OID of `T`.
 pub fn filter_extensions<'a, T: AssociatedOid>(
     alloc: Global,
     extensions: &'a [Extension],

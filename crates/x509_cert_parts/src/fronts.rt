@@ -1,4 +1,4 @@
-//! What stands at the front of octets, behind a header of two octets.
+//! Decoding what follows a header of two bytes.
 
 ghost use Rattle.std.specs.Prelude.{◌≡◌, ◌∷◌, ◌++◌, length, false, IfSome, IsTrue};
 ghost use Rattle.der_core.specs.Reading.{IsDer};
@@ -7,7 +7,7 @@ ghost use Rattle.x509_cert_parts.specs.Grammar.{false_by_default};
 
 use der_core::Reader;
 
-/// Whether a reader that hasn't failed reads headers by DER.
+/// Returns whether a reader that hasn't failed reads headers by DER.
 #[inline(always)]
 pub(crate) fn reads_der<'a, R: Reader<'a>>(reader: &R) -> bool
     ensures ready { IsTrue result → (R.state reader.now).failed ≡ false }
@@ -16,7 +16,7 @@ pub(crate) fn reads_der<'a, R: Reader<'a>>(reader: &R) -> bool
     !reader.is_failed() && reader.encoding_rules().is_der()
 }
 
-/// The content of an OBJECT IDENTIFIER whose header has two octets, and the octets behind it.
+/// Returns the content of an OBJECT IDENTIFIER whose header has two bytes, and the bytes after it.
 #[inline(always)]
 pub(crate) fn identifier_front(octets: &[u8]) -> Option<(&[u8], &[u8])>
     ensures { IfSome result (λ p. octets.now ≡ 0x06 ∷ length p.0.now ∷ (p.0.now ++ p.1.now)) }
@@ -34,7 +34,7 @@ pub(crate) fn identifier_front(octets: &[u8]) -> Option<(&[u8], &[u8])>
     Some(rest.split_at(len))
 }
 
-/// Whether a TRUE stands that is FALSE by default, and the octets behind it.
+/// Returns whether the bytes begin with a TRUE whose default is FALSE, and the bytes after it.
 #[inline(always)]
 #[tactic(auto, using(crate::proofs::PlainFields::false_first))]
 pub(crate) fn true_front(octets: &[u8]) -> (bool, &[u8])

@@ -1,8 +1,8 @@
-//! Laws of the parts of certificates, for every bound of arcs and every profile.
+//! Laws about the parts of certificates, for every bound of arcs and every profile.
 //!
-//! Each is the contract of a function that does nothing. With these and the laws of `der_core` each
-//! part is lawful: no encoding begins another, no two values have one encoding, and what is read is
-//! spelled.
+//! Each law is the contract of a function that does nothing. With these and the laws of `der_core`,
+//! no encoding of a part is a prefix of another, no two values have the same encoding, and what is
+//! decoded is what the bytes encode.
 
 ghost use Rattle.std.specs.Prelude.{◌≡◌, ◌≤◌, ◌↔◌, ℕ, ℤ, pos, Option, Bool, true, false, length};
 ghost use Rattle.der_core.specs.Oid.Bound.{Bound};
@@ -45,15 +45,16 @@ pub fn parts_are_apart()
         × (is_apart (extensions bound) ≡ true) × (are_enough (extensions bound) 4 ≡ true) }
 {}
 
-/// Which serial numbers are read: of at most 21 content octets under RFC 5280, and all under `Raw`.
+/// The profiles accept these serial numbers: `Rfc5280` those of at most 21 content bytes, and `Raw`
+/// all.
 pub fn serial_numbers_by_profile()
     ensures rfc5280 { (z : ℤ) → IsNumber (numbers_within ⟦<Rfc5280 as Profile>⟧.serial_limit) z
         ↔ (length (integer_octets z) ≤ serial_octets_max) }
     ensures raw { (z : ℤ) → IsNumber (numbers_within ⟦<Raw as Profile>⟧.serial_limit) z }
 {}
 
-/// Which dates are re-encoded: under RFC 5280 those of a GeneralizedTime through 2049, and none
-/// under `Raw`.
+/// The profiles re-encode these dates: `Rfc5280` those of a GeneralizedTime through 2049, and `Raw`
+/// none.
 #[tactic(auto, using(crate::proofs::Respelled::validity_same))]
 pub fn dates_by_profile()
     ensures rfc5280 { (v : PlainValidity) → (validity_by ⟦<Rfc5280 as Profile>⟧.respells v ≡ v)
@@ -62,8 +63,8 @@ pub fn dates_by_profile()
     ensures raw { (v : PlainValidity) → validity_by ⟦<Raw as Profile>⟧.respells v ≡ v }
 {}
 
-/// A validity that has an encoding has one where its dates are re-encoded, and it is the same one
-/// exactly where no date was a GeneralizedTime through 2049.
+/// A validity that has an encoding also has one with its dates re-encoded. The two are the same
+/// exactly if no date was a GeneralizedTime through 2049.
 #[tactic(auto, using(crate::proofs::Respelled::validity_valid, crate::proofs::Respelled::octets_same))]
 pub fn respelled_dates_are_spelled()
     ensures valid { (r : Bool) (v : PlainValidity) → IsValid validity v

@@ -1,4 +1,4 @@
-//! Algorithms, keys, extensions and dates are in range: their identifiers, octets and dates are. A
+//! Algorithms, keys, extensions and dates are in range: their identifiers, bytes and dates are. A
 //! serial number need not be, since a profile may read shorter ones than are made.
 
 use crate::algorithm_identifier::AlgorithmIdentifier;

@@ -13,35 +13,37 @@ use crate::time::Time;
 use der_core::{Error, ErrorKind, Tag};
 use der_types::UtcTime;
 
-// The most content octets of a serial number that is read by RFC 5280.
+// The size limit of a serial number under RFC 5280, in content bytes.
 const MAX_SERIAL_OCTETS: usize = 21;
 
-/// Which serial numbers of certificates are read, and how the dates of a validity are written.
+/// A profile decides which serial numbers are accepted, and how the dates of a validity are
+/// encoded.
 pub trait Profile {
-    /// The most content octets of a serial number that is read, if there is such a number.
+    /// The size limit of a serial number in content bytes, if there is one.
     ghost serial_limit: { Option ℕ };
 
-    /// Whether dates are written as UTCTime through 2049.
+    /// Whether dates are encoded as UTCTime through 2049.
     ghost respells: { Bool };
 
-    /// What is wanted of a serial number that was read.
+    /// Checks a serial number that was decoded.
     ///
     /// # Errors
-    /// `Value` for more content octets than are read.
+    ///
+    /// - `Value`: it has more content bytes than are accepted.
     fn check_serial_number(serial: &SerialNumber<Self>) -> Result<(), Error>
         ensures { GivesNow (λ _. serial.now) result
             (checked (numbers_within serial_limit) Tag.Integer serial.now) };
 
-    /// The date, as it is written in a validity. It is always answered.
+    /// Returns the date, as it is written in a validity. It always succeeds.
     fn time_encoding(time: Time) -> Result<Time, Error>
         ensures { IsOkAnd result (λ t. time_value t ≡ spelled_by respells (time_value time)) };
 }
 
-/// Certificates as RFC 5280 has them: serial numbers of at most 21 content octets are read, and
-/// dates are written as UTCTime through 2049 and as GeneralizedTime later (4.1.2.2, 4.1.2.5).
+/// The profile of RFC 5280. Serial numbers of at most 21 content bytes are accepted. Dates are
+/// encoded as UTCTime through 2049, and as GeneralizedTime later (4.1.2.2, 4.1.2.5).
 ///
-/// RFC 5280 wants at most 20 octets. Some count them before the sign's octet is added, so 21 are
-/// read.
+/// RFC 5280 requires at most 20 bytes. Some software counts them before it adds a byte for the
+/// sign, so 21 are accepted.
 #[derive(Clone, Copy, Debug, Default, PartialEq, Eq, PartialOrd, Ord)]
 pub struct Rfc5280;
 
@@ -68,8 +70,8 @@ impl Profile for Rfc5280 {
     }
 }
 
-/// Certificates as they stand: serial numbers of any number of octets are read, and dates are
-/// written as they were read.
+/// Certificates as they are: serial numbers of any number of bytes are read, and dates are written
+/// as they were read.
 #[derive(Clone, Copy, Debug, Default, PartialEq, Eq, PartialOrd, Ord)]
 pub struct Raw;
 

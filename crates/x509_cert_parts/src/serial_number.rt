@@ -23,11 +23,11 @@ use std::cmp::Ordering;
 use std::fmt;
 use std::marker::{Model, PhantomData};
 
-/// The serial number of a certificate (RFC 5280 4.1.2.2), of which the profile reads so many
-/// content octets. Numbers that are negative or zero are read too.
+/// The serial number of a certificate (RFC 5280 4.1.2.2). The profile limits its content bytes.
+/// Numbers that are negative or zero are accepted.
 ///
-/// Contracts see the number. The order is that of the number of content octets, and then of the
-/// octets.
+/// Contracts see the number. Serial numbers are ordered by the length of their content, then by its
+/// bytes.
 ///
 /// ```text
 /// CertificateSerialNumber ::= INTEGER
@@ -53,15 +53,18 @@ impl<P> Model for SerialNumber<P> {
 }
 
 impl<P> SerialNumber<P> {
-    /// The most content octets of a serial number that is made.
+    /// The size limit of a new serial number, in content bytes.
     pub const MAX_LEN: Length = Length { value: 20 };
 
-    /// The number of these digits in base 256, the most significant first. Leading zeros are left
-    /// out.
+    /// Returns the number of these digits in base 256, the most significant first. Leading zeros
+    /// are left out.
     ///
     /// # Errors
-    /// `Length` for no octets; `Overlength` for more than 20 content octets, `Overflow` where they
-    /// are 2^32 or more; `OutOfMemory`.
+    ///
+    /// - `Length`: no bytes.
+    /// - `Overlength`: more than 20 content bytes.
+    /// - `Overflow`: they are 2^32 or more.
+    /// - `OutOfMemory`: memory runs out.
     #[tactic(auto, unfolding(crate::specs::SerialNumbers::new_serial))]
     pub fn new(alloc: Global, bytes: &[u8]) -> Result<SerialNumber<P>, Error>
         ensures { Gives (λ n. n) result (new_serial bytes.now) }
@@ -79,7 +82,8 @@ impl<P> SerialNumber<P> {
     /// This number.
     ///
     /// # Errors
-    /// Out of memory.
+    ///
+    /// Fails if memory runs out.
     pub fn from_u64(alloc: Global, number: u64) -> Result<SerialNumber<P>, Error>
         ensures { Gives (λ n. n) result (Ok (pos number)) }
     {
@@ -91,11 +95,12 @@ impl<P> SerialNumber<P> {
         })
     }
 
-    /// A number of 17 random octets, of which the first isn't 0.
+    /// Returns a serial number of 17 random bytes, of which the first isn't 0.
     ///
     /// # Errors
-    /// `Failed` where sixteen fills in turn began with 0; `OutOfMemory`, with the generator as
-    /// after the fills.
+    ///
+    /// - `Failed`: sixteen draws in a row began with 0.
+    /// - `OutOfMemory`: memory runs out. The generator is as after the draws.
     pub fn generate<R: CryptoRng>(alloc: Global, rng: &mut R) -> Result<SerialNumber<P>, Error>
         ensures number { Gives (λ n. n) result (drawn_serial [] 17 (R.stream rng.old)).0 }
         ensures left { R.stream rng.new ≡ (drawn_serial [] 17 (R.stream rng.old)).1 }
@@ -103,12 +108,14 @@ impl<P> SerialNumber<P> {
         Ok(SerialNumber::generate_with_prefix(alloc, &[], 17, rng)?)
     }
 
-    /// A number of these octets with so many random ones after them, of which the first isn't 0.
-    /// For each fill all of the random ones are drawn again.
+    /// Returns a serial number of these bytes and this many random ones after them, of which the
+    /// first isn't 0. Each draw replaces all random bytes.
     ///
     /// # Errors
-    /// `Failed` for fewer than 8 random octets, for more than 19 octets in all, and where sixteen
-    /// fills in turn began with 0; `OutOfMemory`, with the generator as after the fills.
+    ///
+    /// - `Failed`: there are fewer than 8 random bytes, or more than 19 bytes in all, or sixteen
+    ///   draws in a row began with 0.
+    /// - `OutOfMemory`: memory runs out. The generator is as after the draws.
     #[tactic(auto, unfolding(crate::specs::Drawing::drawn_serial))]
     pub fn generate_with_prefix<R: CryptoRng>(
         alloc: Global,
@@ -137,7 +144,7 @@ impl<P> SerialNumber<P> {
         Ok(SerialNumber::of_parts(alloc, prefix, random)?)
     }
 
-    /// The number of the octets of both.
+    /// Returns the serial number with the bytes of both.
     fn of_parts(alloc: Global, first: &[u8], last: &[u8]) -> Result<SerialNumber<P>, Error>
         ensures { Gives (λ n. n) result (new_serial (first.now ++ last.now)) }
     {
@@ -147,10 +154,11 @@ impl<P> SerialNumber<P> {
         Ok(SerialNumber::new(alloc, octets.as_slice())?)
     }
 
-    /// A copy.
+    /// Returns a copy.
     ///
     /// # Errors
-    /// Out of memory.
+    ///
+    /// Fails if memory runs out.
     pub fn clone(&self, alloc: Global) -> Result<SerialNumber<P>, AllocError>
         ensures { IfOk result (λ n. n ≡ self.now) }
     {
@@ -161,7 +169,7 @@ impl<P> SerialNumber<P> {
         })
     }
 
-    /// The content octets: two's complement, the most significant octet first.
+    /// Returns the content bytes: two's complement, the most significant byte first.
     pub fn as_bytes(&self) -> &[u8]
         ensures octets { result.now ≡ integer_octets self.now }
         ensures number { integer_of result.now ≡ self.now }
@@ -170,7 +178,7 @@ impl<P> SerialNumber<P> {
     }
 }
 
-/// A copy, in memory of the same allocator.
+/// Copies the value with its own allocator.
 impl<P> Clone for SerialNumber<P> {
     ghost is_clone = { λ x y. y ≡ x };
 
@@ -201,7 +209,7 @@ impl<P: Profile> Primitive for SerialNumber<P> {
     ghost leaf_plain = { λ n. n };
 }
 
-/// Two's complement in the fewest octets, no more than the profile reads.
+/// Two's complement in the fewest bytes, no more than the profile reads.
 impl<'a, P: Profile> Leaf<'a> for SerialNumber<P> {
     fn from_content(alloc: Global, tag: Tag, octets: &'a [u8]) -> Result<SerialNumber<P>, Error> {
         let serial = SerialNumber {
@@ -226,7 +234,7 @@ impl<P: Profile> EncodeLeaf for SerialNumber<P> {
     }
 }
 
-/// The content octets as pairs of upper-case digits in base 16, joined by colons.
+/// The content bytes as pairs of upper-case digits in base 16, joined by colons.
 impl<P> fmt::Display for SerialNumber<P> {
     ghost use Rattle.x509_cert_parts.specs.SerialNumbers.{colon_pairs};
 
@@ -237,7 +245,7 @@ impl<P> fmt::Display for SerialNumber<P> {
     }
 }
 
-/// The order of the content octets.
+/// Compares the content bytes.
 impl<P: Profile> ValueOrd for SerialNumber<P> {
     #[tactic(auto, using(der_core::proofs::OrderLaws::leaf_contents))]
     fn value_cmp(&self, other: &Self) -> Result<Ordering, Error> {
@@ -245,7 +253,7 @@ impl<P: Profile> ValueOrd for SerialNumber<P> {
     }
 }
 
-/// Writes the two digits of an octet.
+/// Writes the two hexadecimal digits of a byte.
 #[tactic(auto, using(std::proofs::lemmas::Fmt::hex_byte))]
 fn write_pair<W: fmt::Write>(octet: u8, f: &mut fmt::Formatter<W>) -> fmt::Result
     ensures { WritesOnOk W.write_str_gives f.old result (hex_pair octet) f.new }
@@ -253,7 +261,7 @@ fn write_pair<W: fmt::Write>(octet: u8, f: &mut fmt::Formatter<W>) -> fmt::Resul
     write!(f, "{octet:02X}")
 }
 
-/// Writes a colon and the two digits of an octet.
+/// Writes a colon and the two hexadecimal digits of a byte.
 #[tactic(auto, using(std::proofs::lemmas::Fmt::hex_byte))]
 fn write_colon_pair<W: fmt::Write>(octet: u8, f: &mut fmt::Formatter<W>) -> fmt::Result
     ensures { WritesOnOk W.write_str_gives f.old result (colon_pair octet) f.new }
@@ -261,7 +269,7 @@ fn write_colon_pair<W: fmt::Write>(octet: u8, f: &mut fmt::Formatter<W>) -> fmt:
     write!(f, ":{octet:02X}")
 }
 
-/// Writes a colon and two digits for each octet.
+/// Writes a colon and two digits for each byte.
 fn write_later<W: fmt::Write>(octets: &[u8], f: &mut fmt::Formatter<W>) -> fmt::Result
     ensures { WritesOnOk W.write_str_gives f.old result (flat_map colon_pair octets.now) f.new }
 {
@@ -271,7 +279,7 @@ fn write_later<W: fmt::Write>(octets: &[u8], f: &mut fmt::Formatter<W>) -> fmt::
     Ok(())
 }
 
-/// Writes octets as pairs of digits, joined by colons.
+/// Writes bytes as pairs of digits, joined by colons.
 pub(crate) fn write_octets<W: fmt::Write>(octets: &[u8], f: &mut fmt::Formatter<W>) -> fmt::Result
     ensures { WritesOnOk W.write_str_gives f.old result (colon_pairs octets.now) f.new }
 {
@@ -284,7 +292,7 @@ pub(crate) fn write_octets<W: fmt::Write>(octets: &[u8], f: &mut fmt::Formatter<
     }
 }
 
-/// Whether there is no octet, or the first one is 0.
+/// Returns whether there isn't a byte, or the first one is 0.
 fn begins_with_zero(octets: &[u8]) -> bool
     ensures { result ≡ begins_with_zero octets.now }
 {
@@ -294,7 +302,8 @@ fn begins_with_zero(octets: &[u8]) -> bool
     }
 }
 
-/// Fills a slice until it doesn't begin with 0, at most sixteen times; whether that was so.
+/// Fills a slice with random bytes until it doesn't begin with 0, at most sixteen times. Returns
+/// whether it succeeded.
 #[tactic(auto, using(crate::proofs::Texts::next_fill, crate::proofs::Texts::no_fill))]
 pub(crate) fn fill_without_zero<R: CryptoRng>(rng: &mut R, random: &mut [u8]) -> bool
     ensures found { result ≡ true → (first_fill 16 (length random.old) (R.stream rng.old)).0

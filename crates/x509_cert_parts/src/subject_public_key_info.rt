@@ -29,10 +29,11 @@ pub struct SubjectPublicKeyInfo {
 }
 
 impl SubjectPublicKeyInfo {
-    /// A copy.
+    /// Returns a copy.
     ///
     /// # Errors
-    /// Out of memory.
+    ///
+    /// Fails if memory runs out.
     pub fn clone(&self, alloc: Global) -> Result<SubjectPublicKeyInfo, AllocError>
         ensures { IsCopy self.now result key_plain }
     {
@@ -42,7 +43,7 @@ impl SubjectPublicKeyInfo {
         })
     }
 
-    /// The key, lent.
+    /// Returns the key, borrowed.
     pub fn owned_to_ref(&self) -> SubjectPublicKeyInfoRef<'_>
         ensures { key_lent result ≡ key_plain self.now }
     {

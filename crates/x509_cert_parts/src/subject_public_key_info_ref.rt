@@ -12,7 +12,7 @@ use der_core::{DecodeFields, Error, Reader, lend, row};
 use der_types::BitStringRef;
 use std::alloc::{AllocError, Global};
 
-/// A public key and its algorithm (RFC 5280 4.1.2.7), lent.
+/// A public key and its algorithm (RFC 5280 4.1.2.7), borrowed.
 ///
 /// ```text
 /// SubjectPublicKeyInfo ::= SEQUENCE {
@@ -28,10 +28,11 @@ pub struct SubjectPublicKeyInfoRef<'a> {
 }
 
 impl<'a> SubjectPublicKeyInfoRef<'a> {
-    /// A copy of the key that owns its octets.
+    /// Returns an owned copy of the key.
     ///
     /// # Errors
-    /// Out of memory.
+    ///
+    /// Fails if memory runs out.
     pub fn ref_to_owned(&self, alloc: Global) -> Result<SubjectPublicKeyInfo, AllocError>
         ensures { IfOk result (λ k. key_plain k ≡ key_lent self.now) }
     {

@@ -36,10 +36,11 @@ pub enum Time {
 type Cases = OneOf2<UtcTime, GeneralizedTime>;
 
 impl Time {
-    /// 9999-12-31T23:59:59Z, the end of a certificate that has none (RFC 5280 4.1.2.5).
+    /// 9999-12-31T23:59:59Z, the notAfter of a certificate without an expiration date (RFC 5280
+    /// 4.1.2.5).
     pub const INFINITY: Time = Time::GeneralTime(GeneralizedTime::INFINITY);
 
-    /// The date.
+    /// Returns the date.
     pub fn to_date_time(&self) -> DateTime
         ensures { result ≡ time_date self.now }
     {
@@ -49,14 +50,14 @@ impl Time {
         }
     }
 
-    /// The time since 1970-01-01T00:00:00Z, leap seconds left out.
+    /// Returns the time since 1970-01-01T00:00:00Z, leap seconds left out.
     pub fn to_unix_duration(self) -> Duration
         ensures { as_nanos result ≡ unix_seconds (time_date self) * 1_000_000_000 }
     {
         self.to_date_time().unix_duration()
     }
 
-    /// The time, as a choice that is compared.
+    /// Returns the time, as a choice that is compared.
     fn cases(&self) -> Cases
         ensures { ⟦<Cases as Shaped>⟧.written result ≡ time_value self.now }
     {
@@ -91,7 +92,7 @@ impl<'a, R: Reader<'a>> Decode<'a, R> for Time {
 }
 
 impl Encode for Time {
-    // Inlined, so that what is answered isn't moved.
+    // Inlined, so that the result isn't moved.
     #[inline(always)]
     fn encoded_len(&self) -> Result<Length, Error> {
         match self {
@@ -100,7 +101,7 @@ impl Encode for Time {
         }
     }
 
-    // Inlined, so that what is answered isn't moved.
+    // Inlined, so that the result isn't moved.
     #[inline(always)]
     #[tactic(auto, unfolding(crate::specs::Opened::octets_of))]
     fn encode<W: Writer>(&self, writer: &mut W) -> Result<(), Error> {
@@ -136,7 +137,7 @@ impl FirstTag for Time {
     }
 }
 
-/// The text `YYYY-MM-DDTHH:MM:SSZ` of the date.
+/// Prints the date as `YYYY-MM-DDTHH:MM:SSZ`.
 impl fmt::Display for Time {
     ghost output = { λ t. Some (date_text (time_date t)) };
 
@@ -145,7 +146,7 @@ impl fmt::Display for Time {
     }
 }
 
-/// The time of the date of a text `YYYY-MM-DDTHH:MM:SSZ`, exactly.
+/// Parses a date of the form `YYYY-MM-DDTHH:MM:SSZ`.
 impl FromStr for Time {
     type Err = Error;
 

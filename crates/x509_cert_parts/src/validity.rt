@@ -24,8 +24,8 @@ use std::cmp::Ordering;
 use std::marker::PhantomData;
 use std::time::Duration;
 
-/// From when until when a certificate is valid, both dates included (RFC 5280 4.1.2.5). The profile
-/// says how the dates are written.
+/// The validity of a certificate, both dates included (RFC 5280 4.1.2.5). The profile decides how
+/// the dates are encoded.
 ///
 /// ```text
 /// Validity ::= SEQUENCE { notBefore Time, notAfter Time }
@@ -54,10 +54,11 @@ impl<P> Validity<P> {
         }
     }
 
-    /// From the present on for so long; a fraction of a second is left out.
+    /// Returns the validity from the present on for a duration. A fraction of a second is left out.
     ///
     /// # Errors
-    /// `DateTime` where the end is after 9999-12-31T23:59:59Z.
+    ///
+    /// - `DateTime`: the end is after 9999-12-31T23:59:59Z.
     pub fn from_now(now: DateTime, duration: Duration) -> Result<Validity<P>, Error>
         ensures range { IsOk result
             ↔ (unix_seconds now + as_nanos duration / 1_000_000_000 ≤ last_second) }
@@ -85,7 +86,7 @@ impl<P> Validity<P> {
 }
 
 impl<P: Profile> Validity<P> {
-    /// The dates as the profile spells them, in a row. They are always answered.
+    /// Returns the row of the dates as the profile encodes them. It always succeeds.
     fn spelled(&self) -> Result<Row, Error>
         ensures { IsOkAnd result (λ row. ⟦<Row as FieldRow>⟧.fields_written row
             ≡ validity_by P.respells (validity_plain self.now)) }
@@ -148,7 +149,7 @@ impl<P: Profile> ApartValue for Validity<P> {
     ghost apart_value = { refl };
 }
 
-/// Date after date, as the profile spells them.
+/// Compares the dates one after another, as the profile encodes them.
 impl<P: Profile> ValueOrd for Validity<P> {
     #[tactic(auto, unfolding(crate::specs::Opened::contents, crate::specs::Opened::IsContent))]
     fn value_cmp(&self, other: &Self) -> Result<Ordering, Error> {

@@ -14,7 +14,7 @@ use der_core::making::is_zero;
 /// ```
 #[derive(Clone, Copy, Debug, Default, PartialEq, Eq)]
 pub enum Version {
-    /// Of a certificate with the basic fields alone.
+    /// A certificate with only the basic fields.
     #[default]
     V1,
     /// Of one with unique identifiers, too.
@@ -27,7 +27,7 @@ impl Described for Version {
     type By = AsNumbered;
 }
 
-/// Any other number is refused as `Value`.
+/// Any other number is rejected as `Value`.
 impl Numbered for Version {
     ghost known_numbers = { 0 ∷ 1 ∷ 2 ∷ [] };
 
@@ -49,7 +49,7 @@ impl Numbered for Version {
     ghost few = { refl };
 }
 
-/// The order of the numbers.
+/// Orders versions by their numbers.
 impl Ordered for Version {}
 
 /// `V1`.

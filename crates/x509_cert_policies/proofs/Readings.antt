@@ -1,4 +1,4 @@
--- Octets begin with the spelling of one value at most, and where they do, nothing refuses them.
+-- Bytes begin with the spelling of one value at most, and where they do, nothing refuses them.
 use Rattle.std.proofs.Common.{◌≡◌, ℕ, ◌+◌, ◌<◌, List, length, get_or, refl, arith, length-append, ◌≢◌, ◌^◌, [], ◌∷◌, ◌++◌, sym, ap, subst, ◌∙◌, append_assoc, inl, inr, IsTrue, ◌==◌, take, flat_map, All, Bool, false, min, drop, length-take, take-append-drop, ◌≤◌}
 use Rattle.std.specs.Int.{w16, w64, from_be_bytes}
 use Rattle.std.proofs.lemmas.Nat.{be_bytes_2, be_bytes_8, from_be_bytes-to_be_bytes_2, from_be_bytes-to_be_bytes_8}
@@ -13,14 +13,14 @@ use Rattle.x509_cert_policies.specs.Lists.{IsMember, sct_octets, ReadsNoMembers}
 use Rattle.x509_cert_policies.specs.declared.signed_certificate_timestamp.SignedCertificateTimestamp.{SignedCertificateTimestamp}
 use Rattle.x509_cert_policies.specs.Timestamps.{timestamp_form, timestamp_plain, signed_form, signed_plain}
 
--- Numbers of two and of eight octets.
+-- Numbers of two and of eight bytes.
 
--- the number of two octets is spelled by them
+-- the number of two bytes is spelled by them
 pub short_of : (bytes : List ℕ) (n : ℕ) → length bytes ≡ 2 → ((i : ℕ) → get_or bytes i 0 < 256) → n ≡ from_be_bytes w16 bytes → short_octets n ≡ bytes
 unfolding short_octets
 short_of bytes n len fits is = be_bytes_2 bytes n len fits is
 
--- the number of eight octets is spelled by them
+-- the number of eight bytes is spelled by them
 pub long_of : (bytes : List ℕ) (n : ℕ) → length bytes ≡ 8 → ((i : ℕ) → get_or bytes i 0 < 256) → n ≡ from_be_bytes w64 bytes → long_octets n ≡ bytes
 unfolding long_octets
 long_of bytes n len fits is = be_bytes_8 bytes n len fits is
@@ -120,7 +120,7 @@ refused_once (pair f g) input d e (inr (v, rest, spelled, p)) (inr (w, other, sp
 taken : (xs : List SerializedSct) (i : ℕ) (d : SerializedSct) → i < length xs → flat_map sct_octets (take (i + 1) xs) ≡ flat_map sct_octets (take i xs) ++ sct_octets (get_or xs i d)
 taken xs i d h = ap (λ (z : List SerializedSct). flat_map sct_octets z) (take_more xs i d h) ∙ sym (flat_map_more sct_octets [] (take i xs) (get_or xs i d))
 
--- where octets are left, they aren't none
+-- where bytes are left, they aren't none
 pub some_left : (w : List ℕ) (is_empty : Bool) → is_empty ≡ (length w == 0) → is_empty ≡ false → w ≢ []
 some_left [] is_empty is more = λ e. absurd cc
 some_left (x ∷ w) is_empty is more = λ e. absurd cc
@@ -147,7 +147,7 @@ pub list_is_short : (body old new : List ℕ) → old ≡ [] → Appends vector 
 list_is_short body old new empty written =
     omega (arith, written.value, ap length empty, ap length written.octets_behind, length-append old (octets vector body), vector_length body)
 
--- How many octets spell a timestamp.
+-- How many bytes encode a timestamp.
 
 pub timestamp_length : (t : SignedCertificateTimestamp) → length (octets timestamp_form (timestamp_plain t)) ≡ length t.log_id.key_id + 9 + length (octets vector t.extensions.items) + length (octets signed_form (signed_plain t.signature))
 timestamp_length t =
@@ -171,14 +171,14 @@ both_spelled f g a b input mid rest p q = record {
   split = p.split ∙ ap (λ (t : List ℕ). octets f a ++ t) q.split ∙ sym (append_assoc (octets f a) (octets g b) rest);
 }
 
--- the first so many octets
+-- the first that many bytes
 pub exactly_spelled : (n : ℕ) (input front rest : List ℕ) → front ≡ take n input → rest ≡ drop n input → length rest + n ≡ length input → Spells (exactly n) front input rest
 exactly_spelled n input front rest f r len = record {
   value = ap length f ∙ length-take n input ∙ (let k : min n (length input) ≡ n = omega arith in k);
   split = sym (take-append-drop n input) ∙ ap (λ (t : List ℕ). t ++ drop n input) (sym f) ∙ ap (λ (t : List ℕ). front ++ t) (sym r);
 }
 
--- What stands in front of octets that were put behind others.
+-- What comes before bytes that were put after others.
 
 pub front_same : (old : List ℕ) → take (length old) old ≡ old
 front_same old = take_all (length old) old (omega arith)

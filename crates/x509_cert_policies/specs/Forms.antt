@@ -1,5 +1,5 @@
 -- The presentation language of TLS (RFC 5246 4.3 to 4.6): the form of a type, its plain values, and
--- the octets that spell them.
+-- the bytes that encode them.
 use Rattle.std.specs.Prelude.{◌≡◌, ◌≢◌, ◌<◌, ◌^◌, ◌==◌, ◌⊎◌, ℕ, List, [], ◌∷◌, ◌++◌, length, take}
 use Rattle.std.specs.Prelude.{IsTrue}
 use Rattle.std.specs.List.{AllByRecursion, list_any}
@@ -12,7 +12,7 @@ use Rattle.x509_cert_policies.specs.declared.tls_error.TlsError.TheVariants.{Inv
 use Rattle.x509_cert_policies.specs.declared.tls_error.TlsError.TheVariants.{OutOfMemory}
 
 pub data Form : Type 0 where
-  named : List ℕ → Form  -- an enum of one octet that has these numbers (4.5)
+  named : List ℕ → Form  -- an enum of one byte that has these numbers (4.5)
   long : Form  -- uint64 (4.4)
   exactly : ℕ → Form  -- opaque T[n] (4.3)
   vector : Form  -- opaque T<0..2^16-1> (4.3)
@@ -25,15 +25,15 @@ Plain (exactly n) = List ℕ
 Plain vector = List ℕ
 Plain (pair f g) = Plain f × Plain g
 
--- two octets, the higher one first
+-- two bytes, the higher one first
 unfoldable pub short_octets : ℕ → List ℕ
 short_octets n = to_be_bytes w16 n
 
--- eight octets, the highest one first
+-- eight bytes, the highest one first
 unfoldable pub long_octets : ℕ → List ℕ
 long_octets n = to_be_bytes w64 n
 
--- the octets that spell a value, if it has a spelling
+-- the bytes that encode a value, if it has a spelling
 abbrev pub octets : (f : Form) → Plain f → List ℕ
 octets (named numbers) v = v ∷ []
 octets long v = long_octets v
@@ -49,23 +49,23 @@ IsValue (exactly n) v = length v ≡ n
 IsValue vector v = length v < 2 ^ 16
 IsValue (pair f g) v = IsValue f v.0 × IsValue g v.1
 
--- the octets begin with the spelling of a value, and the rest stands behind it
+-- the bytes begin with the spelling of a value, and the rest follows it
 pub record Spells (f : Form) (v : Plain f) (input rest : List ℕ) : Type 0 where
   pub value : IsValue f v
   pub split : input ≡ octets f v ++ rest
 
--- the octets end within the length of a vector or within the vector
+-- the bytes end within the length of a vector or within the vector
 abbrev pub EndsInVector : List ℕ → Type 0
 EndsInVector input = (length input < 2)
     ⊎ ((n : ℕ) × (rest : List ℕ) × (n < 2 ^ 16) × (input ≡ short_octets n ++ rest)
     × (length rest < n))
 
--- the octets begin with a number that is none of these
+-- the bytes begin with a number that is none of these
 abbrev pub HasUnknown : List ℕ → List ℕ → TlsError → Type 0
 HasUnknown numbers input e = (n : ℕ) × (rest : List ℕ) × (input ≡ n ∷ rest)
     × AllByRecursion (λ m. n ≢ m) numbers × (e ≡ UnknownValue n)
 
--- no value of the form is spelled at the beginning of the octets, for this reason, the first from
+-- no value of the form is spelled at the beginning of the bytes, for this reason, the first from
 -- the left
 abbrev pub Refuses : (f : Form) → List ℕ → TlsError → Type 0
 Refuses (named numbers) input e = ((input ≡ []) × (e ≡ EndOfStream)) ⊎ HasUnknown numbers input e
@@ -75,21 +75,21 @@ Refuses vector input e = EndsInVector input × (e ≡ EndOfStream)
 Refuses (pair f g) input e = Refuses f input e
     ⊎ ((v : Plain f) × (rest : List ℕ) × Spells f v input rest × Refuses g rest e)
 
--- octets are read into owned values, which takes memory
+-- bytes are read into owned values, which allocates
 abbrev pub FailsOn : (f : Form) → List ℕ → TlsError → Type 0
 FailsOn f input e = (e ≡ OutOfMemory) ⊎ Refuses f input e
 
--- the octets aren't the spelling of one value: they begin with none, or more octets stand behind it
+-- the bytes aren't the spelling of one value: they begin with none, or more bytes stand after it
 abbrev pub RefusesWhole : (f : Form) → List ℕ → TlsError → Type 0
 RefusesWhole f input e = Refuses f input e
     ⊎ ((v : Plain f) × (rest : List ℕ) × Spells f v input rest × (rest ≢ []) × (e ≡ TrailingData))
 
--- the spelling was put behind the octets that were there
+-- the spelling was put after the bytes that were there
 pub record Appends (f : Form) (v : Plain f) (old new : List ℕ) : Type 0 where
   pub value : IsValue f v
   pub octets_behind : new ≡ old ++ octets f v
 
--- what was there still stands in front of what came
+-- what was there still comes before what came
 abbrev pub StillBegins : List ℕ → List ℕ → Type 0
 StillBegins old new = take (length old) new ≡ old
 

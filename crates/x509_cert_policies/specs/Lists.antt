@@ -19,7 +19,7 @@ sct_data s = s.data.items
 abbrev pub IsMember : SerializedSct → Type 0
 IsMember s = IsValue vector s.data.items
 
--- the octets that spell a timestamp of a list
+-- the bytes that encode a timestamp of a list
 abbrev pub sct_octets : SerializedSct → List ℕ
 sct_octets s = octets vector s.data.items
 
@@ -28,12 +28,12 @@ pub record AreListed (scts : List SerializedSct) : Type 0 where
   pub each : All IsMember scts
   pub together : IsValue vector (flat_map sct_octets scts)
 
--- the octets are the spelling of the list of these
+-- the bytes are the spelling of the list of these
 pub record SpellsList (scts : List SerializedSct) (input : List ℕ) : Type 0 where
   pub listed : AreListed scts
   pub spelled : input ≡ octets vector (flat_map sct_octets scts)
 
--- behind some members stands what is no member, for this reason
+-- after some members stands what isn't a member, for this reason
 pub record RefusesAfter (body : List ℕ) (e : TlsError) : Type 0 where
   pub scts : List SerializedSct
   pub more : List ℕ
@@ -42,12 +42,12 @@ pub record RefusesAfter (body : List ℕ) (e : TlsError) : Type 0 where
   pub is_more : more ≢ []
   pub refused : Refuses vector more e
 
--- the octets aren't the spelling of a list, for this reason, the first from the left
+-- the bytes aren't the spelling of a list, for this reason, the first from the left
 abbrev pub RefusesList : List ℕ → TlsError → Type 0
 RefusesList input e = RefusesWhole vector input e
     ⊎ ((body : List ℕ) × Spells vector body input [] × RefusesAfter body e)
 
--- a fault of the octets, and none of DER
+-- an error of the bytes, and none of DER
 abbrev pub OfTls : Error → (TlsError → Type 0) → Type 0
 OfTls (Tls e) P = P e
 OfTls (Der e) P = ⊥

@@ -1,4 +1,4 @@
--- A timestamp that is all of the octets.
+-- A timestamp that is all of the bytes.
 use Rattle.std.specs.Prelude.{◌≡◌, ◌⊎◌, ℕ, List}
 use Rattle.x509_cert_policies.specs.declared.timestamp_error.Error.{Error}
 use Rattle.x509_cert_policies.specs.declared.tls_error.TlsError.TheVariants.{OutOfMemory}

@@ -42,7 +42,6 @@ impl Described for BasicConstraints {
 }
 
 impl Rows for BasicConstraints {
-    #[tactic(auto, using(der_core::proofs::Rows::lent))]
     fn with_rows<U: RowUser>(&self, other: &Self, user: &mut U) -> U::Answer {
         lend!(self, other, user; ca: default, path_len_constraint)
     }

@@ -20,7 +20,7 @@ use std::alloc::Global;
 pub struct DigitallySigned {
     /// The hash and the algorithm.
     pub algorithm: SignatureAndHashAlgorithm,
-    /// The octets of the signature.
+    /// The bytes of the signature.
     pub signature: Vec<u8>,
 }
 

@@ -32,7 +32,7 @@ type Cases = OneOf2<Ia5String, String>;
 type CasesRef<'a> = OneOf2<EncodeRef<'a, Ia5String>, EncodeRef<'a, String>>;
 
 impl DisplayText {
-    /// The alternative that stands, lent.
+    /// Returns a reference to the alternative.
     fn cases<'a>(&'a self) -> CasesRef<'a>
         ensures { ⟦<CasesRef<'a> as Shaped>⟧.written result ≡ display_plain self.now }
     {

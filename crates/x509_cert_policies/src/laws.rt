@@ -6,9 +6,9 @@ ghost use Rattle.x509_cert_policies.specs.Forms.{Form, Plain, Spells, Refuses, R
 ghost use Rattle.x509_cert_policies.specs.declared.serialized_sct.SerializedSct.{SerializedSct as Member};
 ghost use Rattle.x509_cert_policies.specs.Lists.{sct_data, SpellsList, RefusesList};
 
-/// Octets begin with the spelling of one value at most, and where they begin with one no fault is
-/// found in them: so a call that reads answers that value, unless it wants memory. Octets are
-/// refused for one reason at most. Nothing is done.
+/// Bytes begin with the spelling of one value at most, and where they begin with one no error is
+/// found in them: so a call that reads answers that value, unless it wants memory. Bytes are
+/// rejected for one reason at most. Nothing is done.
 pub fn spellings_are_read()
     ensures once { (f : Form) (v w : Plain f) (input r s : List ℕ) → Spells f v input r
         → Spells f w input s → (v ≡ w) × (r ≡ s) }
@@ -20,8 +20,8 @@ pub fn spellings_are_read()
         → Refuses f input e → d ≡ e }
 {}
 
-/// Octets are the spelling of one list at most, and where they are one no fault is found in them:
-/// so `parse_timestamps` answers the members that the list was made of, unless it wants memory.
+/// Bytes are the spelling of one list at most, and where they are one no error is found in them: so
+/// `parse_timestamps` answers the members that the list was made of, unless it wants memory.
 /// Nothing is done.
 pub fn lists_are_read()
     ensures once { (xs ys : List Member) (input : List ℕ) → SpellsList xs input

@@ -19,9 +19,9 @@ use std::alloc::Global;
 /// ```
 #[derive(Clone, Copy, Debug, PartialEq, Eq)]
 pub struct PolicyConstraints {
-    /// How many more certificates may stand before one in which an explicit policy is required.
+    /// How many more certificates may come before one in which an explicit policy is required.
     pub require_explicit_policy: Option<u32>,
-    /// How many more certificates may stand before one in which policies are mapped no more.
+    /// How many more certificates may come before one in which policies are mapped no more.
     pub inhibit_policy_mapping: Option<u32>,
 }
 
@@ -45,7 +45,6 @@ impl Described for PolicyConstraints {
 }
 
 impl Rows for PolicyConstraints {
-    #[tactic(auto, using(der_core::proofs::Rows::lent))]
     fn with_rows<U: RowUser>(&self, other: &Self, user: &mut U) -> U::Answer {
         lend!(self, other, user;
             require_explicit_policy: implicit 0 optional,

@@ -13,7 +13,7 @@ use std::alloc::{AllocError, Global};
 use x509_cert_parts::types::{Any, Uint};
 
 impl PolicyQualifierInfo {
-    /// A copy. Out of memory is the only error.
+    /// Returns a copy. The only error is that memory runs out.
     pub fn clone(&self, alloc: Global) -> Result<PolicyQualifierInfo, AllocError>
         ensures { IsCopy self.now result views.policy_qualifier_info_plain }
     {
@@ -25,7 +25,7 @@ impl PolicyQualifierInfo {
 }
 
 impl PolicyInformation {
-    /// A copy. Out of memory is the only error.
+    /// Returns a copy. The only error is that memory runs out.
     pub fn clone(&self, alloc: Global) -> Result<PolicyInformation, AllocError>
         ensures { IsCopy self.now result views.policy_information_plain }
     {
@@ -41,7 +41,7 @@ impl PolicyInformation {
 }
 
 impl CertificatePolicies {
-    /// A copy. Out of memory is the only error.
+    /// Returns a copy. The only error is that memory runs out.
     pub fn clone(&self, alloc: Global) -> Result<CertificatePolicies, AllocError>
         ensures { IsCopy self.now result
             (λ x. plain_list views.policy_information_plain x.0.items) }
@@ -51,7 +51,7 @@ impl CertificatePolicies {
 }
 
 impl PolicyMappings {
-    /// A copy. Out of memory is the only error.
+    /// Returns a copy. The only error is that memory runs out.
     pub fn clone(&self, alloc: Global) -> Result<PolicyMappings, AllocError>
         ensures { IsCopy self.now result (λ x. plain_list views.policy_mapping_plain x.0.items) }
     {
@@ -60,7 +60,7 @@ impl PolicyMappings {
 }
 
 impl DisplayText {
-    /// A copy. Out of memory is the only error.
+    /// Returns a copy. The only error is that memory runs out.
     pub fn clone(&self, alloc: Global) -> Result<DisplayText, AllocError>
         ensures { IsCopy self.now result views.display_plain }
     {
@@ -72,7 +72,7 @@ impl DisplayText {
 }
 
 impl NoticeReference {
-    /// A copy. Out of memory is the only error.
+    /// Returns a copy. The only error is that memory runs out.
     pub fn clone(&self, alloc: Global) -> Result<NoticeReference, AllocError>
         ensures { IsCopy self.now result views.notice_reference_plain }
     {
@@ -84,7 +84,7 @@ impl NoticeReference {
 }
 
 impl UserNotice {
-    /// A copy. Out of memory is the only error.
+    /// Returns a copy. The only error is that memory runs out.
     pub fn clone(&self, alloc: Global) -> Result<UserNotice, AllocError>
         ensures { IsCopy self.now result views.user_notice_plain }
     {

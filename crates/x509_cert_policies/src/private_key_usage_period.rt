@@ -43,7 +43,6 @@ impl Described for PrivateKeyUsagePeriod {
 }
 
 impl Rows for PrivateKeyUsagePeriod {
-    #[tactic(auto, using(der_core::proofs::Rows::lent))]
     fn with_rows<U: RowUser>(&self, other: &Self, user: &mut U) -> U::Answer {
         lend!(self, other, user; not_before: implicit 0 optional, not_after: implicit 1 optional)
     }

@@ -12,7 +12,7 @@ use crate::tls_value::TlsValue;
 use crate::vectors::{append_vector, read_vector, vector_len};
 use std::alloc::Global;
 
-/// The octets of a timestamp, as a list holds them (RFC 6962 3.3). They needn't be those of one.
+/// The bytes of a timestamp, as a list holds them (RFC 6962 3.3). They needn't be those of one.
 ///
 /// ```text
 /// opaque SerializedSCT<1..2^16-1>;
@@ -21,16 +21,17 @@ use std::alloc::Global;
 /// The empty one is read and written too.
 #[derive(Debug, Drop, PartialEq)]
 pub struct SerializedSct {
-    /// The octets.
+    /// The bytes.
     data: Vec<u8>,
 }
 
 impl SerializedSct {
-    /// The octets of a timestamp.
+    /// Returns the bytes of a timestamp.
     ///
     /// # Errors
-    /// `InvalidVectorLength` for a timestamp with a vector of more than 65535 octets;
-    /// `OutOfMemory`.
+    ///
+    /// - `InvalidVectorLength`: a timestamp with a vector of more than 65535 bytes.
+    /// - `OutOfMemory`: memory runs out.
     pub fn new(alloc: Global, timestamp: SignedCertificateTimestamp) -> Result<Self, TlsError>
         ensures ok { IfOk result
             (λ s. s.data.items ≡ octets timestamp_form (timestamp_plain timestamp)) }
@@ -41,10 +42,11 @@ impl SerializedSct {
         Ok(SerializedSct { data })
     }
 
-    /// The timestamp that the octets spell.
+    /// Returns the timestamp that the bytes encode.
     ///
     /// # Errors
-    /// What the first fault is: `EndOfStream`, `UnknownValue`, or `TrailingData` for octets after
+    ///
+    /// What the first error is: `EndOfStream`, `UnknownValue`, or `TrailingData` for bytes after
     /// the timestamp; `OutOfMemory`.
     pub fn parse_timestamp(&self, alloc: Global) -> Result<SignedCertificateTimestamp, Error>
         ensures ok { IfOk result

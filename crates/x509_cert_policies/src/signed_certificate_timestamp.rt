@@ -35,16 +35,17 @@ pub struct SignedCertificateTimestamp {
     pub log_id: LogId,
     /// Milliseconds since 1970-01-01T00:00:00Z, leap seconds left out.
     pub timestamp: u64,
-    /// What else is said, as it stands.
+    /// What else is said, as it is.
     pub extensions: Vec<u8>,
     /// The log's signature.
     pub signature: DigitallySigned,
 }
 
 impl SignedCertificateTimestamp {
-    /// The date of the timestamp, fractions of a second left out.
+    /// Returns the date of the timestamp, fractions of a second left out.
     ///
     /// # Errors
+    ///
     /// `DateTime` after 9999-12-31T23:59:59Z.
     pub fn timestamp(&self) -> Result<DateTime, Error>
         ensures range { IsOk result ↔ (self.now.timestamp < (last_second + 1) * 1000) }

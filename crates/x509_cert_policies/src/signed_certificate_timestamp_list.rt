@@ -42,7 +42,7 @@ fn append_members(alloc: Global, serialized_scts: &[SerializedSct]) -> Result<Ve
     Ok(body)
 }
 
-/// The members that stand after one another.
+/// Returns the members that stand after one another.
 fn read_members(alloc: Global, body: &[u8]) -> Result<Vec<SerializedSct>, TlsError>
     ensures ok { IfOk result (λ v. body.now ≡ flat_map sct_octets v.items) }
     ensures value { IfOk result (λ v. All IsMember v.items) }
@@ -59,11 +59,13 @@ fn read_members(alloc: Global, body: &[u8]) -> Result<Vec<SerializedSct>, TlsErr
 }
 
 impl SignedCertificateTimestampList {
-    /// The list of these.
+    /// Returns the list of these.
     ///
     /// # Errors
-    /// `InvalidVectorLength` where one of them has more than 65535 octets, or all have with their
-    /// lengths; `OutOfMemory`.
+    ///
+    /// - `InvalidVectorLength`: one of them has more than 65535 bytes, or all have with their
+    ///   lengths.
+    /// - `OutOfMemory`: memory runs out.
     #[tactic(auto, using(crate::proofs::Readings::list_is_short))]
     pub fn new(alloc: Global, serialized_scts: &[SerializedSct]) -> Result<Self, Error>
         ensures ok { IfOk result (λ l. SpellsList serialized_scts.now l.0) }
@@ -75,10 +77,11 @@ impl SignedCertificateTimestampList {
         Ok(SignedCertificateTimestampList(OctetString::new(output)?))
     }
 
-    /// The members of the list, whose octets aren't looked into.
+    /// Returns the members of the list, whose bytes aren't looked into.
     ///
     /// # Errors
-    /// What the first fault is: `EndOfStream`, or `TrailingData` for octets after the list;
+    ///
+    /// What the first error is: `EndOfStream`, or `TrailingData` for bytes after the list;
     /// `OutOfMemory`.
     pub fn parse_timestamps(&self, alloc: Global) -> Result<Vec<SerializedSct>, Error>
         ensures ok { IfOk result (λ v. SpellsList v.items self.now.0) }

@@ -8,9 +8,9 @@ use crate::tls_error::TlsError;
 /// Why a list of timestamps, or a timestamp in it, could not be read or made.
 #[derive(Debug, PartialEq, Drop)]
 pub enum Error {
-    /// A fault of the value in DER.
+    /// An error of the value in DER.
     Der(der_core::Error),
-    /// A fault of the octets inside it.
+    /// An error of the bytes inside it.
     Tls(TlsError),
 }
 

@@ -1,4 +1,4 @@
-//! Why octets of TLS could not be read or written.
+//! Why bytes of TLS could not be read or written.
 
 ghost use Rattle.std.specs.Prelude.{◌≡◌};
 ghost use Rattle.x509_cert_policies.specs.declared.tls_error.TlsError.TheVariants.{OutOfMemory};
@@ -6,22 +6,22 @@ ghost use Rattle.x509_cert_policies.specs.declared.tls_error.TlsError.TheVariant
 use std::alloc::{AllocError, AllocFailed};
 use thiserror::Error;
 
-/// Why octets of TLS could not be read or written.
+/// Why bytes of TLS could not be read or written.
 #[derive(Clone, Copy, Debug, PartialEq, Eq, Error)]
 pub enum TlsError {
-    /// The octets end within a value.
+    /// The bytes end within a value.
     #[error("the octets end within a value")]
     EndOfStream,
     /// A number that the type gives no meaning.
     #[error("{0} has no meaning")]
     UnknownValue(u64),
-    /// Octets after the last value.
+    /// Bytes after the last value.
     #[error("octets stand after the last value")]
     TrailingData,
-    /// A vector of more octets than its length can count.
+    /// A vector of more bytes than its length can count.
     #[error("a vector is too long")]
     InvalidVectorLength,
-    /// Out of memory.
+    /// Memory ran out.
     #[error("out of memory")]
     OutOfMemory,
 }

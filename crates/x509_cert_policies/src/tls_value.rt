@@ -1,4 +1,4 @@
-//! Values of the presentation language of TLS (RFC 5246 4); a number by its octet.
+//! Values of the presentation language of TLS (RFC 5246 4); a number by its byte.
 
 ghost use Rattle.x509_cert_policies.specs.Forms.{named};
 
@@ -6,46 +6,53 @@ use crate::tls_error::TlsError;
 use der_core::describing::Numbered;
 use std::alloc::Global;
 
-/// A type of the presentation language of TLS (RFC 5246 4): each value has one spelling in octets,
-/// or none where a vector in it is too long.
+/// A type of the presentation language of TLS (RFC 5246 4): each value has one spelling in bytes,
+/// or none if a vector in it is too long.
 pub trait TlsValue: Drop {
     ghost use Rattle.std.specs.Prelude.{◌≡◌, ◌-◌, ◌^◌, min, length, IfOk, IfErr, OnOk, OnErr};
     ghost use Rattle.x509_cert_policies.specs.Forms.{Form, Plain, Spells, FailsOn, Appends};
     ghost use Rattle.x509_cert_policies.specs.Forms.{CannotWrite, IsValue, StillBegins, octets};
 
-    // The form of the type's octets.
+    // The form of the type's bytes.
     ghost form: { Form };
 
     // What a value is in that form.
     ghost plain: { Self → Plain form };
 
-    /// The value that the octets begin with, and the octets after it.
+    /// Returns the value that the bytes begin with, and the bytes after it.
     ///
     /// # Errors
-    /// `EndOfStream` where the octets end within the value, `UnknownValue` for a number that has no
-    /// meaning, whichever stands first; `OutOfMemory`.
+    ///
+    /// - `EndOfStream`: the bytes end within the value.
+    /// - `UnknownValue`: a number that has no meaning, whichever stands first.
+    /// - `OutOfMemory`: memory runs out.
     fn tls_deserialize_bytes(alloc: Global, input: &[u8]) -> Result<(Self, &[u8]), TlsError>
         ensures ok { IfOk result (λ p. Spells form (plain p.0) input.now p.1.now) }
         ensures err { IfErr result (λ e. FailsOn form input.now e) };
 
-    /// Puts the value's octets after others.
+    /// Puts the value's bytes after others.
     ///
     /// # Errors
-    /// `InvalidVectorLength` for a vector of more than 65535 octets; `OutOfMemory`. What was there
-    /// stays then, and a part of the value's octets may stand after it.
+    ///
+    /// - `InvalidVectorLength`: a vector of more than 65535 bytes.
+    /// - `OutOfMemory`: memory runs out.
+    ///
+    /// What was there stays then, and a part of the value's bytes may be after it.
     fn append_to(&self, output: &mut Vec<u8>) -> Result<(), TlsError>
         ensures ok { OnOk result (Appends form (plain self.now) output.old.items output.new.items) }
         ensures err { IfErr result (λ e. CannotWrite form (plain self.now) e) }
         ensures kept { OnErr result (StillBegins output.old.items output.new.items) };
 
-    /// How many octets spell the value, or `usize::MAX` if there are more.
+    /// Returns how many bytes encode the value, or `usize::MAX` if there are more.
     fn tls_serialized_len(&self) -> usize
         ensures { result ≡ min (length (octets form (plain self.now))) (2 ^ 64 - 1) };
 
-    /// The octets that spell the value.
+    /// Returns the bytes that encode the value.
     ///
     /// # Errors
-    /// `InvalidVectorLength` for a vector of more than 65535 octets; `OutOfMemory`.
+    ///
+    /// - `InvalidVectorLength`: a vector of more than 65535 bytes.
+    /// - `OutOfMemory`: memory runs out.
     fn tls_serialize(&self, alloc: Global) -> Result<Vec<u8>, TlsError>
         ensures value { OnOk result (IsValue form (plain self.now)) }
         ensures ok { IfOk result (λ v. v.items ≡ octets form (plain self.now)) }

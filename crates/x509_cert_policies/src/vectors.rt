@@ -1,5 +1,5 @@
-//! Numbers of more than one octet, the highest octet first, and vectors of octets with a length of
-//! two octets (RFC 5246 4.3, 4.4).
+//! Numbers of more than one byte, the highest byte first, and vectors of bytes with a length of two
+//! bytes (RFC 5246 4.3, 4.4).
 
 ghost use Rattle.std.specs.Prelude.{◌≡◌, ◌-◌, ◌^◌, min, length, IfOk, IfErr, OnOk, OnErr, ◌<◌};
 ghost use Rattle.std.specs.Prelude.{◌++◌, IsNone, IfSome, ◌↔◌};
@@ -10,7 +10,7 @@ ghost use Rattle.x509_cert_policies.specs.Forms.{long};
 use crate::tls_error::TlsError;
 use std::alloc::Global;
 
-/// The octets of the vector that the octets begin with, and the octets after it.
+/// Returns the bytes of the vector that the bytes begin with, and the bytes after it.
 pub(crate) fn split_vector(input: &[u8]) -> Result<(&[u8], &[u8]), TlsError>
     ensures ok { IfOk result (λ p. Spells vector p.0.now input.now p.1.now) }
     ensures err { IfErr result (λ e. Refuses vector input.now e) }
@@ -25,7 +25,7 @@ pub(crate) fn split_vector(input: &[u8]) -> Result<(&[u8], &[u8]), TlsError>
     Ok(behind.split_at(len))
 }
 
-/// The vector that the octets begin with, and the octets after it.
+/// Returns the vector that the bytes begin with, and the bytes after it.
 pub(crate) fn read_vector(alloc: Global, input: &[u8]) -> Result<(Vec<u8>, &[u8]), TlsError>
     ensures ok { IfOk result (λ p. Spells vector p.0.items input.now p.1.now) }
     ensures err { IfErr result (λ e. FailsOn vector input.now e) }
@@ -35,7 +35,7 @@ pub(crate) fn read_vector(alloc: Global, input: &[u8]) -> Result<(Vec<u8>, &[u8]
     Ok((items, rest))
 }
 
-/// Puts a vector after other octets.
+/// Puts a vector after other bytes.
 #[tactic(auto, unfolding(crate::specs::Forms::short_octets), using(crate::proofs::Readings::fronts))]
 pub(crate) fn append_vector(items: &[u8], output: &mut Vec<u8>) -> Result<(), TlsError>
     ensures ok { OnOk result (Appends vector items.now output.old.items output.new.items) }
@@ -51,7 +51,7 @@ pub(crate) fn append_vector(items: &[u8], output: &mut Vec<u8>) -> Result<(), Tl
     Ok(())
 }
 
-/// How many octets spell a vector, or `usize::MAX` if there are more.
+/// Returns how many bytes encode a vector, or `usize::MAX` if there are more.
 #[tactic(auto, using(crate::proofs::Readings::vector_length))]
 pub(crate) fn vector_len(items: &[u8]) -> usize
     ensures { result ≡ min (length (octets vector items.now)) (2 ^ 64 - 1) }
@@ -59,7 +59,7 @@ pub(crate) fn vector_len(items: &[u8]) -> usize
     items.len().saturating_add(2)
 }
 
-/// The number of the first two octets, and the octets after them; none where there are fewer.
+/// Returns the number of the first two bytes, and the bytes after them; none if there are fewer.
 #[tactic(auto, using(crate::proofs::Readings::short_of))]
 pub(crate) fn split_short(input: &[u8]) -> Option<(u16, &[u8])>
     ensures some { IfSome result (λ p. input.now ≡ short_octets p.0 ++ p.1.now) }
@@ -73,7 +73,7 @@ pub(crate) fn split_short(input: &[u8]) -> Option<(u16, &[u8])>
     Some((number, rest))
 }
 
-/// The number of eight octets that the octets begin with, and the octets after it.
+/// Returns the number of eight bytes that the bytes begin with, and the bytes after it.
 #[tactic(auto, using(crate::proofs::Readings::long_of))]
 pub(crate) fn read_long(input: &[u8]) -> Result<(u64, &[u8]), TlsError>
     ensures ok { IfOk result (λ p. Spells long p.0 input.now p.1.now) }
@@ -89,7 +89,7 @@ pub(crate) fn read_long(input: &[u8]) -> Result<(u64, &[u8]), TlsError>
     Ok((number, rest))
 }
 
-/// Puts a number of eight octets after other octets.
+/// Puts a number of eight bytes after other bytes.
 #[tactic(auto, unfolding(crate::specs::Forms::long_octets), using(crate::proofs::Readings::fronts))]
 pub(crate) fn append_long(number: u64, output: &mut Vec<u8>) -> Result<(), TlsError>
     ensures ok { OnOk result (Appends long number output.old.items output.new.items) }

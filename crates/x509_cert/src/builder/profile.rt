@@ -18,7 +18,7 @@ pub mod cabf {
 pub mod devid {
     pub use x509_cert_builders::{DevId, TpmVersion};
 
-    /// Identifiers of modules of the Trusted Computing Group.
+    /// OIDs of the Trusted Computing Group for hardware modules.
     pub mod tcgtpm {
         pub use x509_cert_builders::{tcg_sv_tpm_12, tcg_sv_tpm_20};
     }

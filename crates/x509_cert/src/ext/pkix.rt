@@ -41,7 +41,7 @@ pub mod constraints {
     }
 }
 
-/// Extensions of lists and what tells where these are (RFC 5280 4.2.1.13, 5.2, 5.3).
+/// Extensions of CRLs, and extensions that say where CRLs are (RFC 5280 4.2.1.13, 5.2, 5.3).
 pub mod crl {
     pub use x509_cert_anchors::cert_general_names::IssuingDistributionPoint;
     pub use x509_cert_builders::cert_extensions::{

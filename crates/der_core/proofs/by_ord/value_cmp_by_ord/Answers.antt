@@ -1,3 +1,4 @@
+-- Goals of `by_ord::value_cmp_by_ord` that the checker doesn't prove by itself.
 use Rattle.std.proofs.Common.{◌∙◌}
 use Rattle.der_core.proofs.by_ord.value_cmp_by_ord.Goals as goal
 

@@ -1,3 +1,4 @@
+-- Goals of `by_ord::value_cmp_is_ord` that the checker doesn't prove by itself.
 use Rattle.std.proofs.Common.{Ok, ap, sym, ◌∙◌}
 use Rattle.der_core.proofs.by_ord.value_cmp_is_ord.Goals as goal
 

@@ -1,3 +1,4 @@
+-- Goals of `contents::value_cmp_behind` that the checker doesn't prove by itself.
 use Rattle.std.proofs.Common.{rules, ◌≡◌, ap, sym, ◌∙◌}
 use Rattle.std.specs.List.{cons_option}
 use Rattle.std.specs.Ordering.{ordering_reverse}

@@ -1,3 +1,4 @@
+-- The loop invariants of `copies::copies_of`.
 use Rattle.std.proofs.Common.{◌≡◌, take}
 use Rattle.der_core_coding.specs.CoreHead.Grammar.{plain_list}
 use Rattle.der_core.proofs.copies.copies_of.Given as goal

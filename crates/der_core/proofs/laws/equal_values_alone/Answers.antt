@@ -1,3 +1,4 @@
+-- Goals of `laws::equal_values_alone` that the checker doesn't prove by itself.
 use Rattle.std.proofs.Common.{[], ◌++◌, ap, ◌∙◌, sym}
 use Rattle.der_core_coding.specs.CoreHead.Shapes.{octets_of}
 use Rattle.der_core_coding.proofs.CoreHead.OneEncoding.{one_value}

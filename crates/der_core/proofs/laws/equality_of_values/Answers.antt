@@ -1,3 +1,4 @@
+-- Goals of `laws::equality_of_values` that the checker doesn't prove by itself.
 use Rattle.std.proofs.Common.{List, ℕ, [], ◌++◌, ap}
 use Rattle.der_core_coding.proofs.CoreHead.OneEncoding.{one_value}
 use Rattle.der_core.proofs.laws.equality_of_values.Goals as goal

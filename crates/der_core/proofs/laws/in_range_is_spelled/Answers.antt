@@ -1,3 +1,4 @@
+-- Goals of `laws::in_range_is_spelled` that the checker doesn't prove by itself.
 use Rattle.der_core.proofs.laws.in_range_is_spelled.Goals as goal
 
 pub returns-clause-valid : goal.returns-clause-valid

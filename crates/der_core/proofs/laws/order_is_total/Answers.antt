@@ -1,3 +1,4 @@
+-- Goals of `laws::order_is_total` that the checker doesn't prove by itself.
 use Rattle.std.proofs.Common.{ap, ◌∙◌, sym}
 use Rattle.std.proofs.lemmas.Cmp.{nat_list_cmp_total}
 use Rattle.der_core.specs.Orders.{octets_cmp}

@@ -1,3 +1,4 @@
+-- The loop invariants of `lists::iter_cmp_owned`.
 use Rattle.std.proofs.Common.{List}
 use Rattle.std.specs.Iterator.{AlwaysYields}
 use Rattle.der_core_coding.specs.CoreHead.Shapes.{Value}

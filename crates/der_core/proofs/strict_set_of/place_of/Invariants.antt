@@ -1,3 +1,4 @@
+-- The loop invariants of `strict_set_of::place_of`.
 use Rattle.der_core_coding.specs.CoreHead.Shapes.{IsValid}
 use Rattle.der_core.specs.Placed.{AllValid, is_below}
 use Rattle.der_core.proofs.IterOrders.{IsPast}

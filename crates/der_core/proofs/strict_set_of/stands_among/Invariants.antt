@@ -1,3 +1,4 @@
+-- The loop invariants of `strict_set_of::stands_among`.
 use Rattle.std.proofs.Common.{◌≡◌, drop}
 use Rattle.der_core_coding.specs.CoreHead.Grammar.{plain_list}
 use Rattle.der_core_coding.specs.CoreHead.Shapes.{IsValid}

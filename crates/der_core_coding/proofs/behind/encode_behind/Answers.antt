@@ -1,3 +1,4 @@
+-- Goals of `behind::encode_behind` that the checker doesn't prove by itself.
 use Rattle.std.proofs.Common.{[], ◌∷◌, refl}
 use Rattle.std.proofs.lemmas.Result.{err_from_is_err_and}
 use Rattle.der_core_values.proofs.CoreOctets.Added.{put_then_added, write_adds}

@@ -1,3 +1,4 @@
+-- Goals of `reading::optional_implicit` that the checker doesn't prove by itself.
 use Rattle.std.proofs.Common.{◌≡◌, refl, Ok, Err, Some, true, sym, ap, subst, ◌∙◌}
 use Rattle.std.proofs.lemmas.Result.{err_from_is_err_and}
 use Rattle.der_core_values.specs.CoreHead.Shapes.{tagged, begins}

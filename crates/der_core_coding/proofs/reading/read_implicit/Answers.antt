@@ -1,3 +1,4 @@
+-- Goals of `reading::read_implicit` that the checker doesn't prove by itself.
 use Rattle.std.proofs.Common.{refl}
 use Rattle.std.proofs.lemmas.Result.{err_from_is_err_and}
 use Rattle.der_core_values.specs.CoreOctets.Headers.{head_of}

@@ -1,3 +1,4 @@
+-- Goals of `reading::read_only` that the checker doesn't prove by itself.
 use Rattle.std.proofs.Common.{ap, subst, Ok, Err}
 use Rattle.std.proofs.lemmas.Result.{err_from_is_err_and}
 use Rattle.der_core_values.specs.CoreHead.Shapes.{only}

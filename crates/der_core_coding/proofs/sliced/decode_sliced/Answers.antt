@@ -1,3 +1,4 @@
+-- Goals of `sliced::decode_sliced` that the checker doesn't prove by itself.
 use Rattle.std.proofs.Common.{◌≡◌, ◌++◌, ◌-◌, List, ℕ, Ok, length, take, drop, ap, sym, ◌∙◌, arith}
 use Rattle.der_core_values.specs.CoreHead.Grammar.{read, read_by}
 use Rattle.der_core_values.specs.CoreHead.Reading.{read_at}

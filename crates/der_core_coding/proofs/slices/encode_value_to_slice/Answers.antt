@@ -1,3 +1,4 @@
+-- Goals of `slices::encode_value_to_slice` that the checker doesn't prove by itself.
 use Rattle.std.proofs.Common.{Bor, ℕ, List, length}
 use Rattle.der_core_coding.proofs.Fronts.{content_spelled, filled_contents, content_in_range}
 use Rattle.der_core_coding.proofs.slices.encode_value_to_slice.Goals as goal

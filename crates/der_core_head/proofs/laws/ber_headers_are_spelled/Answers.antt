@@ -1,3 +1,4 @@
+-- Goals of `laws::ber_headers_are_spelled` that the checker doesn't prove by itself.
 use Rattle.der_core_head.proofs.OneEncoding.{bytes_are}
 use Rattle.der_core_head.proofs.BodyLaws.{head_ber_sound, head_ber_again, head_ber_more}
 use Rattle.der_core_head.proofs.laws.ber_headers_are_spelled.Goals as goal

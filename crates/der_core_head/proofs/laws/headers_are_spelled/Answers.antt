@@ -1,3 +1,4 @@
+-- Goals of `laws::headers_are_spelled` that the checker doesn't prove by itself.
 use Rattle.der_core_head.proofs.OneEncoding.{bytes_are}
 use Rattle.der_core_head.proofs.HeadLaws.{head_again, head_sound}
 use Rattle.der_core_head.proofs.laws.headers_are_spelled.Goals as goal

@@ -1,3 +1,4 @@
+-- Goals of `laws::read_is_spelled` that the checker doesn't prove by itself.
 use Rattle.der_core_head.proofs.OneEncoding.{bytes_are, sound}
 use Rattle.der_core_head.proofs.laws.read_is_spelled.Goals as goal
 

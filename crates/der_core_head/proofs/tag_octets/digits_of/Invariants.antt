@@ -1,3 +1,4 @@
+-- The loop invariants of `tag_octets::digits_of`.
 use Rattle.std.proofs.Common.{◌≡◌, drop}
 use Rattle.der_core_head.specs.Tags.{digits_at}
 use Rattle.der_core_head.proofs.tag_octets.digits_of.Given as goal

@@ -1,3 +1,4 @@
+-- Goals of `encode::encode_header` that the checker doesn't prove by itself.
 use Rattle.der_core_octets.proofs.GoingOn.{written_at_once}
 use Rattle.der_core_octets.proofs.encode.encode_header.Goals as goal
 

@@ -1,10 +1,11 @@
+-- Goals of `fronts::short_header_by_both` that the checker doesn't prove by itself.
 use Rattle.std.proofs.Common.{drop}
 use Rattle.der_core_head.specs.declared.encoding_rules.EncodingRules.TheVariants as encodings
 use Rattle.der_core_head.proofs.BodyLaws.{head_ber_more}
 use Rattle.der_core_octets.specs.Headers.{head_of}
 use Rattle.der_core_octets.proofs.fronts.short_header_by_both.Goals as goal
 
--- What DER reads, BER reads.
+-- What DER accepts, BER accepts.
 pub returns-clause-front : goal.returns-clause-front
 returns-clause-front c encodings.Der = c.in_ok-front.ensures
 returns-clause-front c encodings.Ber =

@@ -1,3 +1,4 @@
+-- Goals of `fronts::short_header_of_tag_by_both` that the checker doesn't prove by itself.
 use Rattle.std.proofs.Common.{drop}
 use Rattle.der_core_head.specs.declared.encoding_rules.EncodingRules.TheVariants as encodings
 use Rattle.der_core_head.specs.Heads.{head_at}
@@ -7,7 +8,7 @@ use Rattle.der_core_octets.specs.Headers.{head_of}
 use Rattle.der_core_octets.proofs.GoingOn.{wanted_is}
 use Rattle.der_core_octets.proofs.fronts.short_header_of_tag_by_both.Goals as goal
 
--- What DER reads, BER reads.
+-- What DER accepts, BER accepts.
 pub returns-clause-front : goal.returns-clause-front
 returns-clause-front c encodings.Der =
     let w = c.args.octets.now in

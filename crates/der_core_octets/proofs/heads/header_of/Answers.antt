@@ -1,3 +1,4 @@
+-- Goals of `heads::header_of` that the checker doesn't prove by itself.
 use Rattle.std.proofs.Common.{Ok, ap, ◌∙◌, arith}
 use Rattle.der_core_head.specs.Heads.{head_at}
 use Rattle.der_core_head.proofs.HeadLaws.{head_again, front_so}

@@ -1,3 +1,4 @@
+-- Goals of `heads::lone_length_of` that the checker doesn't prove by itself.
 use Rattle.std.proofs.Common.{Ok, ap, ◌∙◌, arith}
 use Rattle.der_core_head.specs.declared.length.Length.{Length}
 use Rattle.der_core_octets.specs.LoneLengths.{lone_length_at}

@@ -1,3 +1,4 @@
+-- Goals of `indefinite::body_len_of` that the checker doesn't prove by itself.
 use Rattle.std.proofs.Common.{◌≡◌, Ok, refl, ap, ◌∙◌, arith, drop, lt-ltb, le-ltb}
 use Rattle.std.proofs.lemmas.Result.{err_from_is_err_and}
 use Rattle.der_core_head.specs.Bodies.{piece_at, ending, opening, encoding}

@@ -1,3 +1,4 @@
+-- The loop invariants of `indefinite::body_len_of`.
 use Rattle.std.proofs.Common.{length}
 use Rattle.der_core_octets.proofs.Levels.{Continues}
 use Rattle.der_core_octets.proofs.indefinite.body_len_of.Given as goal

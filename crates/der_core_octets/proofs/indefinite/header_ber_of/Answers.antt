@@ -1,3 +1,4 @@
+-- Goals of `indefinite::header_ber_of` that the checker doesn't prove by itself.
 use Rattle.std.proofs.Common.{arith, sym, ◌∙◌, drop}
 use Rattle.der_core_head.proofs.BodyLaws.{head_ber_again, head_ber_sound, head_ber_alone}
 use Rattle.der_core_octets.specs.Headers.{head_of}

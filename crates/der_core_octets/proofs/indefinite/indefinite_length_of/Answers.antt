@@ -1,3 +1,4 @@
+-- Goals of `indefinite::indefinite_length_of` that the checker doesn't prove by itself.
 use Rattle.std.proofs.Common.{arith, ap, sym, ◌∙◌}
 use Rattle.der_core_head.specs.Bodies.{body_len_at}
 use Rattle.der_core_head.proofs.BodyLaws.{body_len_again, body_len-body, body_len-ge, body_len_alone}

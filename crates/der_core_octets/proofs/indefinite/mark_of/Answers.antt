@@ -1,3 +1,4 @@
+-- Goals of `indefinite::mark_of` that the checker doesn't prove by itself.
 use Rattle.std.proofs.Common.{arith}
 use Rattle.der_core_octets.proofs.Levels.{mark-none}
 use Rattle.der_core_octets.proofs.indefinite.mark_of.Goals as goal

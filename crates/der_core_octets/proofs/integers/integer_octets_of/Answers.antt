@@ -1,3 +1,4 @@
+-- Goals of `integers::integer_octets_of` that the checker doesn't prove by itself.
 use Rattle.std.proofs.Common.{◌≡◌, ◌+◌, ◌-◌, ◌/◌, ◌<◌, ◌++◌, ◌∷◌, List, ℕ, length, drop, ap, ◌∙◌, arith, slice_set}
 use Rattle.std.proofs.lemmas.List.{drop-set, length-set}
 use Rattle.der_core_head.specs.Oid.Digits.{digits}

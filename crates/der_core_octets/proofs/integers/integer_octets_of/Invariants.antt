@@ -1,3 +1,4 @@
+-- The loop invariants of `integers::integer_octets_of`.
 use Rattle.std.proofs.Common.{◌≡◌, ◌+◌, ◌<◌, ◌≤◌, ◌^◌, ◌++◌, length, drop}
 use Rattle.der_core_head.specs.Oid.Digits.{digits}
 use Rattle.der_core_octets.specs.Numbers.{turned}

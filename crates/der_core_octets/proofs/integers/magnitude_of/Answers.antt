@@ -1,3 +1,4 @@
+-- Goals of `integers::magnitude_of` that the checker doesn't prove by itself.
 use Rattle.std.proofs.Common.{arith}
 use Rattle.der_core_octets.proofs.Magnitudes.{magnitude_large}
 use Rattle.der_core_octets.proofs.integers.magnitude_of.Goals as goal

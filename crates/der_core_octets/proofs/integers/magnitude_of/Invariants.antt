@@ -1,3 +1,4 @@
+-- The loop invariants of `integers::magnitude_of`.
 use Rattle.std.proofs.Common.{◌≡◌, drop}
 use Rattle.std.specs.Int.Digits.{number_from_digits, number_from_digits_after}
 use Rattle.der_core_octets.specs.Numbers.{turned}

@@ -1,3 +1,4 @@
+-- Goals of `integers::signed_of` that the checker doesn't prove by itself.
 use Rattle.std.proofs.Common.{◌≤◌, ◌^◌, ℕ, Option, subst}
 use Rattle.der_core_octets.specs.Numbers.{IsMagnitude}
 use Rattle.der_core_octets.proofs.Magnitudes.{signed_large}

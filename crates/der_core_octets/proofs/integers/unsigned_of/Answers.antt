@@ -1,3 +1,4 @@
+-- Goals of `integers::unsigned_of` that the checker doesn't prove by itself.
 use Rattle.std.proofs.Common.{◌≡◌, ◌≤◌, ◌^◌, ℕ, Ok, pos, Bool, Option, subst}
 use Rattle.der_core_head.specs.Integers.{shortest_integer}
 use Rattle.der_core_octets.specs.Numbers.{IsMagnitude, with_sign}

@@ -1,3 +1,4 @@
+-- Goals of `integers::whole_number_of` that the checker doesn't prove by itself.
 use Rattle.std.proofs.Common.{◌≡◌, leb, Some, false, slice_get, sym, ◌∙◌}
 use Rattle.std.specs.Int.Digits.{number_from_digits}
 use Rattle.der_core_head.specs.Integers.{is_redundant}

@@ -1,3 +1,4 @@
+-- Goals of `laws::scanned_in_one_way` that the checker doesn't prove by itself.
 use Rattle.std.proofs.Common.{◌++◌}
 use Rattle.der_core_octets.proofs.LongLengths.{scans_alike, scans_longer}
 use Rattle.der_core_octets.proofs.laws.scanned_in_one_way.Goals as goal

@@ -1,3 +1,4 @@
+-- Goals of `parse::length_fault` that the checker doesn't prove by itself.
 use Rattle.std.proofs.Common.{arith}
 use Rattle.der_core_octets.proofs.LongLengths.{fault-none, fault-indefinite, fault-many, fault-cut, fault-shape}
 use Rattle.der_core_octets.proofs.parse.length_fault.Goals as goal

@@ -1,3 +1,4 @@
+-- Goals of `parse::lone_length_of` that the checker doesn't prove by itself.
 use Rattle.std.proofs.Common.{Ok, Err, drop}
 use Rattle.der_core_head.specs.declared.tag.Tag.TheVariants as tags
 use Rattle.der_core_octets.proofs.LongLengths.{lone_is}

@@ -1,3 +1,4 @@
+-- Goals of `parse::long_length_of` that the checker doesn't prove by itself.
 use Rattle.std.proofs.Common.{◌≡◌, ◌<◌, ℕ, arith, ◌-◌, ◌∷◌, get_or}
 use Rattle.der_core_head.specs.declared.error.ErrorKind.TheVariants as kinds
 use Rattle.der_core_head.specs.Heads.{length_at}

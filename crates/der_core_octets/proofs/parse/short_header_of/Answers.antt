@@ -1,3 +1,4 @@
+-- Goals of `parse::short_header_of` that the checker doesn't prove by itself.
 use Rattle.std.proofs.Common.{arith}
 use Rattle.der_core_octets.proofs.LongLengths.{plain, behind-le}
 use Rattle.der_core_octets.proofs.parse.short_header_of.Goals as goal

@@ -1,3 +1,4 @@
+-- Goals of `parse::short_header_of_tag` that the checker doesn't prove by itself.
 use Rattle.std.proofs.Common.{arith}
 use Rattle.der_core_octets.proofs.LongLengths.{plain, behind-le}
 use Rattle.der_core_octets.proofs.GoingOn.{by_octet}

@@ -1,3 +1,4 @@
+-- Goals of `parse::shortest_length_of` that the checker doesn't prove by itself.
 use Rattle.std.proofs.Common.{arith}
 use Rattle.der_core_octets.proofs.LongLengths.{longer}
 use Rattle.der_core_octets.proofs.parse.shortest_length_of.Goals as goal

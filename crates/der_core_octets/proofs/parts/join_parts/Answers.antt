@@ -1,3 +1,4 @@
+-- Goals of `parts::join_parts` that the checker doesn't prove by itself.
 use Rattle.std.proofs.Common.{◌≤◌, ◌+◌, ◌-◌, ◌++◌, length, drop, ap, sym, ◌∙◌, arith}
 use Rattle.std.proofs.lemmas.List.{length-append, length-drop, take_rest}
 use Rattle.std.proofs.lemmas.Result.{err_from_is_err_and}

@@ -1,3 +1,4 @@
+-- The loop invariants of `parts::join_parts`.
 use Rattle.std.proofs.Common.{◌≡◌, ◌≤◌, ◌+◌, ◌-◌, [], length}
 use Rattle.der_core_octets.specs.Parts.{joined}
 use Rattle.der_core_octets.proofs.parts.join_parts.Given as goal

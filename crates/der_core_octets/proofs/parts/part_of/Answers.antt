@@ -1,3 +1,4 @@
+-- Goals of `parts::part_of` that the checker doesn't prove by itself.
 use Rattle.std.proofs.Common.{◌≤◌, Err, refl, length, drop, sym, ap, ◌∙◌, arith}
 use Rattle.std.proofs.lemmas.List.{length-drop, drop-drop, take_rest}
 use Rattle.der_core_octets.proofs.GoingOn.{part_short, part_is}

@@ -1,3 +1,4 @@
+-- Goals of `reader::read_any_header` that the checker doesn't prove by itself.
 use Rattle.std.proofs.Common.{drop, ap, sym, ◌∙◌, arith}
 use Rattle.der_core_head.specs.Bodies.{head_by}
 use Rattle.der_core_head.proofs.HeadLaws.{head_sound}

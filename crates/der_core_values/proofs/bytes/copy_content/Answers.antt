@@ -1,3 +1,4 @@
+-- Goals of `bytes::copy_content` that the checker doesn't prove by itself.
 use Rattle.std.proofs.Common.{arith}
 use Rattle.der_core_octets.proofs.Levels.{slice_few}
 use Rattle.der_core_values.proofs.Headed.{counted_fits}

@@ -1,3 +1,4 @@
+-- Goals of `bytes::decode_octets` that the checker doesn't prove by itself.
 use Rattle.der_core_values.proofs.Headed.{content_reads}
 use Rattle.der_core_values.proofs.bytes.decode_octets.Goals as goal
 

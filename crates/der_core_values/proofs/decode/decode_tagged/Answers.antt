@@ -1,3 +1,4 @@
+-- Goals of `decode::decode_tagged` that the checker doesn't prove by itself.
 use Rattle.std.proofs.lemmas.Result.{err_from_is_err_and}
 use Rattle.der_core_octets.specs.Headers.{head_of}
 use Rattle.der_core_values.proofs.Headed.{head_refused, head_read}

@@ -1,3 +1,4 @@
+-- Goals of `fields::read_fields` that the checker doesn't prove by itself.
 use Rattle.std.proofs.Common.{Bool, Ok, Err, ap, subst}
 use Rattle.std.proofs.lemmas.Result.{err_from_is_err_and}
 use Rattle.der_core_octets.specs.CoreHead.Reading.{State, Reads, Closes, read_body_at}

@@ -1,3 +1,4 @@
+-- Goals of `in_range::octets_in_range` that the checker doesn't prove by itself.
 use Rattle.std.proofs.Common.{arith}
 use Rattle.der_core_octets.proofs.CoreHead.Results.{octets_are}
 use Rattle.der_core_values.proofs.in_range.octets_in_range.Goals as goal

@@ -1,3 +1,4 @@
+-- Goals of `in_range::text_in_range` that the checker doesn't prove by itself.
 use Rattle.std.proofs.Common.{subst}
 use Rattle.der_core_octets.specs.CoreHead.Texts.{IsUtf8Text}
 use Rattle.der_core_octets.proofs.CoreHead.TextLaws.{is_text}

@@ -1,3 +1,4 @@
+-- Goals of `leaves::decode_leaf` that the checker doesn't prove by itself.
 use Rattle.std.proofs.Common.{Ok, Err, ap}
 use Rattle.std.proofs.lemmas.Result.{err_from_is_err_and}
 use Rattle.der_core_octets.specs.CoreHead.Reading.{State}

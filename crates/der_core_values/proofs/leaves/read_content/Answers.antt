@@ -1,3 +1,4 @@
+-- Goals of `leaves::read_content` that the checker doesn't prove by itself.
 use Rattle.std.proofs.Common.{Ok, Err, Result, List, ℕ, arith, IfOk, Bor}
 use Rattle.der_core_octets.specs.CoreHead.Limits.{IsLength}
 use Rattle.der_core_octets.specs.CoreHead.Heads.{Fits}

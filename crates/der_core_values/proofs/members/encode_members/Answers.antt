@@ -1,3 +1,4 @@
+-- Goals of `members::encode_members` that the checker doesn't prove by itself.
 use Rattle.std.proofs.Common.{arith, ◌≡◌, ◌<◌, ℕ, ◌+◌, List, ◌++◌, length, drop, get_or, Ok, ap, sym, ◌∙◌, subst}
 use Rattle.std.proofs.lemmas.Grind.{common_steps}
 use Rattle.std.proofs.lemmas.List.{at_drop_more}
@@ -9,7 +10,7 @@ use Rattle.der_core_octets.specs.Outputs.{AddsFront}
 use Rattle.der_core_octets.proofs.Added.{none_added, first_added, value_then_added}
 use Rattle.der_core_values.proofs.members.encode_members.Goals as goal
 
--- the octets of the members from one on
+-- the bytes of the members from one on
 module _ {A : Type 0} (s : Shape) (f : A → Value s) (xs : List A) (i : ℕ) (x : A) (here : x ≡ get_or xs i x) (l : i < length xs) where
   octets : List A → List ℕ
   octets ys = flat_map (octets_of s) (plain_list f ys)

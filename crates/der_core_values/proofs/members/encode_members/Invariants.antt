@@ -1,3 +1,4 @@
+-- The loop invariants of `members::encode_members`.
 use Rattle.std.proofs.Common.{◌≡◌, drop}
 use Rattle.std.specs.List.{flat_map}
 use Rattle.der_core_octets.specs.CoreHead.Grammar.{plain_list}

@@ -1,3 +1,4 @@
+-- The loop invariants of `members::members_len`.
 use Rattle.std.proofs.Common.{◌≡◌, drop}
 use Rattle.der_core_octets.specs.CoreHead.Grammar.{plain_list}
 use Rattle.der_core_octets.specs.CoreHead.Writing.{size, many_len}

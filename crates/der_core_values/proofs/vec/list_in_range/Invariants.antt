@@ -1,3 +1,4 @@
+-- The loop invariants of `vec::list_in_range`.
 use Rattle.std.proofs.Common.{drop}
 use Rattle.std.specs.List.{AllByRecursion}
 use Rattle.der_core_octets.specs.CoreHead.Grammar.{plain_list}

@@ -1,3 +1,4 @@
+-- Goals of `wraps::wrapped` that the checker doesn't prove by itself.
 use Rattle.der_core_values.proofs.wraps.wrapped.Goals as goal
 
 pub returns : goal.returns

@@ -1,3 +1,4 @@
+-- Goals of `date_time::unsigned_year` that the checker doesn't prove by itself.
 use Rattle.std.proofs.Common.{arith, pos, ◌≤ℤ◌}
 use Rattle.jiff_core.proofs.SignedLemmas.{signed_casts}
 use Rattle.der_types_numbers.proofs.SecondsOrders.{year_is}

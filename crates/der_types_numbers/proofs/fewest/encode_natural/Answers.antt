@@ -1,3 +1,4 @@
+-- Goals of `fewest::encode_natural` that the checker doesn't prove by itself.
 use Rattle.std.proofs.Common.{sym, ◌∙◌}
 use Rattle.der_core.proofs.Added.{write_adds}
 use Rattle.der_types_numbers.proofs.Naturals.{content-set, content-clear}

@@ -1,3 +1,4 @@
+-- Goals of `fewest::fewest_signed` that the checker doesn't prove by itself.
 use Rattle.std.proofs.Common.{refl, sym, ap, ◌∙◌, arith}
 use Rattle.der_core.specs.Integers.{integer_octets}
 use Rattle.der_core.proofs.IntegerLaws.{integer_octets-of}

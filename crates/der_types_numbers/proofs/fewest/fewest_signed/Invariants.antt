@@ -1,3 +1,4 @@
+-- The loop invariants of `fewest::fewest_signed`.
 use Rattle.std.proofs.Common.{◌≡◌, ◌<◌, length}
 use Rattle.der_core.specs.Integers.{integer_of}
 use Rattle.der_core.proofs.Results.{IsBytes}

@@ -1,3 +1,4 @@
+-- Goals of `fewest::fewest_unsigned` that the checker doesn't prove by itself.
 use Rattle.std.proofs.Common.{refl, sym, ap, ◌∙◌, arith}
 use Rattle.der_core.specs.Oid.Digits.{digits}
 use Rattle.der_types_numbers.proofs.Naturals.{digits-fewest, number-shorter, zero_some}

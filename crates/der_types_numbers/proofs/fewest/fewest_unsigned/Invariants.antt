@@ -1,3 +1,4 @@
+-- The loop invariants of `fewest::fewest_unsigned`.
 use Rattle.std.proofs.Common.{◌≡◌, ◌<◌, length}
 use Rattle.std.specs.Int.Digits.{number_from_digits}
 use Rattle.der_core.proofs.Results.{IsBytes}

@@ -1,3 +1,4 @@
+-- Goals of `ascending::count_ascending` that the checker doesn't prove by itself.
 use Rattle.std.proofs.Common.{Err, refl, ap, sym, ◌∙◌, arith}
 use Rattle.std.proofs.lemmas.Result.{err_from_is_err_and}
 use Rattle.der_core.proofs.Lists.{stops_in_turn, falls_in_turn, over_in_turn}

@@ -1,3 +1,4 @@
+-- The loop invariants of `ascending::count_ascending`.
 use Rattle.der_core.specs.Reading.{unread}
 use Rattle.der_core.specs.EncodingRulesTypes.EncodingRules.TheVariants.{Der}
 use Rattle.der_core.specs.OctetsFronts.{octets_at}

@@ -1,3 +1,4 @@
+-- Goals of `joined::joined_cmp` that the checker doesn't prove by itself.
 use Rattle.std.proofs.Common.{[], Ok, refl, ap, sym, ◌∙◌, eqb-true}
 use Rattle.std.proofs.lemmas.Result.{err_from_is_err_and}
 use Rattle.std.proofs.lemmas.List.{nil_from_length}

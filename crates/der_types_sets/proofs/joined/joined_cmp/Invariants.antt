@@ -1,3 +1,4 @@
+-- The loop invariants of `joined::joined_cmp`.
 use Rattle.der_types_sets.proofs.LentOrders.{Remains}
 use Rattle.der_types_sets.proofs.joined.joined_cmp.Given as goal
 

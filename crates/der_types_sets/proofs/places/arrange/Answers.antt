@@ -1,3 +1,4 @@
+-- Goals of `places::arrange` that the checker doesn't prove by itself.
 use Rattle.der_types_sets.proofs.Arranged.{stopped_too_long}
 use Rattle.der_types_sets.proofs.places.arrange.Goals as goal
 

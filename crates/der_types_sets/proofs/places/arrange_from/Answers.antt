@@ -1,3 +1,4 @@
+-- Goals of `places::arrange_from` that the checker doesn't prove by itself.
 use Rattle.std.proofs.Common.{◌<◌, length, arith, take, refl}
 use Rattle.std.proofs.lemmas.List.Sorted.{IsPermutation-refl, IsPermutation-trans}
 use Rattle.der_types_sets.proofs.SetSteps.{moved_up, front_ascends, last_is}

@@ -1,3 +1,4 @@
+-- The loop invariants of `places::arrange_from`.
 use Rattle.std.specs.Prelude.{◌≡◌, ◌≤◌, take, drop, IsPermutation}
 use Rattle.der_types_sets.specs.Sets.{Ascends, IsArranged}
 use Rattle.der_types_sets.proofs.places.arrange_from.Given as goal

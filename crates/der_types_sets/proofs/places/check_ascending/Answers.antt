@@ -1,3 +1,4 @@
+-- Goals of `places::check_ascending` that the checker doesn't prove by itself.
 use Rattle.std.proofs.Common.{◌<◌, length, arith, take, inl, inr, sym, subst}
 use Rattle.std.proofs.lemmas.Result.{err_from_is_err_and}
 use Rattle.std.proofs.lemmas.List.Sorted.{IsPermutation-refl}

@@ -1,3 +1,4 @@
+-- The loop invariants of `places::check_ascending`.
 use Rattle.std.proofs.Common.{take}
 use Rattle.der_types_sets.specs.Sets.{Ascends}
 use Rattle.der_types_sets.proofs.places.check_ascending.Given as goal

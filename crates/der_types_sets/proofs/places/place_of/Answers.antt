@@ -1,3 +1,4 @@
+-- Goals of `places::place_of` that the checker doesn't prove by itself.
 use Rattle.std.proofs.Common.{◌<◌, arith, ◌≤◌, Ok, ap, ◌∙◌}
 use Rattle.der_types_sets.proofs.SetSteps.{before_here, told_above}
 use Rattle.der_types_sets.proofs.places.place_of.Goals as goal

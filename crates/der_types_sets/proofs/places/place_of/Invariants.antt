@@ -1,3 +1,4 @@
+-- The loop invariants of `places::place_of`.
 use Rattle.std.proofs.Common.{◌-◌, ◌≤◌, length}
 use Rattle.der_types_sets.specs.Sets.{Behind, Before}
 use Rattle.der_types_sets.proofs.places.place_of.Given as goal

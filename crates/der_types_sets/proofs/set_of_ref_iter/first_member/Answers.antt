@@ -1,3 +1,4 @@
+-- Goals of `set_of_ref_iter::first_member` that the checker doesn't prove by itself.
 use Rattle.std.proofs.Common.{arith}
 use Rattle.std.proofs.lemmas.Result.{err_from_is_err_and}
 use Rattle.der_types_sets.proofs.SetSteps.{first_spelled, spelled_wants}

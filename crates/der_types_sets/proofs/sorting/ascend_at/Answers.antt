@@ -1,3 +1,4 @@
+-- Goals of `sorting::ascend_at` that the checker doesn't prove by itself.
 use Rattle.std.proofs.Common.{arith, rules}
 use Rattle.der_types_sets.proofs.SetSteps.{told}
 use Rattle.der_types_sets.proofs.Arranged.{ascend_more}

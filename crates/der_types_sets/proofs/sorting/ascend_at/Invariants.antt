@@ -1,3 +1,4 @@
+-- The loop invariants of `sorting::ascend_at`.
 use Rattle.der_types_sets.specs.Rearranged.{AscendsAt}
 use Rattle.der_types_sets.proofs.sorting.ascend_at.Given as goal
 

@@ -1,3 +1,4 @@
+-- Goals of `sorting::ascending_places` that the checker doesn't prove by itself.
 use Rattle.std.proofs.Common.{◌≡◌, ℕ, List, rules, ap, subst, length, is_lt}
 use Rattle.std.specs.List.{range_with_len}
 use Rattle.std.specs.List.Sorted.{IsStableBy}

@@ -1,3 +1,4 @@
+-- Goals of `sorting::places` that the checker doesn't prove by itself.
 use Rattle.std.proofs.Common.{refl, arith}
 use Rattle.std.proofs.lemmas.Iterator.{items_from_collect, YieldsList-from_range}
 use Rattle.der_types_sets.proofs.sorting.places.Goals as goal

@@ -1,3 +1,4 @@
+-- Goals of `sorting::put_apart` that the checker doesn't prove by itself.
 use Rattle.std.proofs.Common.{arith, rules, ap, sym, ◌∙◌, ◌++◌, ◌∷◌, [], List, length, map, Some, Option}
 use Rattle.std.proofs.lemmas.List.{length-append, length-map, append_assoc, map-append}
 use Rattle.der_types_sets.proofs.sorting.put_apart.Goals as goal

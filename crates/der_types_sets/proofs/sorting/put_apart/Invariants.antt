@@ -1,3 +1,4 @@
+-- The loop invariants of `sorting::put_apart`.
 use Rattle.std.specs.Prelude.{◌≡◌, ◌++◌, map, Some, vec_capacity}
 use Rattle.der_types_sets.proofs.sorting.put_apart.Given as goal
 

@@ -1,3 +1,4 @@
+-- Goals of `sorting::rearrange` that the checker doesn't prove by itself.
 use Rattle.std.proofs.Common.{arith, length, ap, vec_capacity}
 use Rattle.std.specs.List.{range_with_len}
 use Rattle.std.proofs.lemmas.List.FromFn.{length-range_with_len}

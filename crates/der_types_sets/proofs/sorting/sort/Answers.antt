@@ -1,3 +1,4 @@
+-- Goals of `sorting::sort` that the checker doesn't prove by itself.
 use Rattle.der_types_sets.proofs.Arranged.{sorted_from}
 use Rattle.der_types_sets.proofs.sorting.sort.Goals as goal
 

@@ -1,3 +1,4 @@
+-- Goals of `sorting::take_at` that the checker doesn't prove by itself.
 use Rattle.std.proofs.Common.{ℕ, arith, rules, length, ◌<◌, ◌≡◌, List, None, Some, get_or, set, refl, ap, sym, ◌∙◌, IsPermutation}
 use Rattle.std.specs.List.{range_with_len}
 use Rattle.std.proofs.lemmas.List.{length-set, get_or_default, take_all}

@@ -1,3 +1,4 @@
+-- The loop invariants of `sorting::take_at`.
 use Rattle.std.specs.Prelude.{◌≡◌, ◌≤◌, List, length, map, take, Some, vec_capacity}
 use Rattle.der_types_sets.specs.Rearranged.{members_at}
 use Rattle.der_types_sets.proofs.Arranged.{Untaken}

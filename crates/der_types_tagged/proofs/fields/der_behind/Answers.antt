@@ -1,3 +1,4 @@
+-- Goals of `fields::der_behind` that the checker doesn't prove by itself.
 use Rattle.der_core.specs.Shapes.{tagged}
 use Rattle.der_core.proofs.Written.{is_written}
 use Rattle.der_types_tagged.proofs.fields.der_behind.Goals as goal

@@ -1,3 +1,4 @@
+-- Goals of `fields::encode_field` that the checker doesn't prove by itself.
 use Rattle.std.proofs.Common.{◌≡◌, ℕ, ◌/◌, true, ap, subst, ◌∙◌}
 use Rattle.der_core.specs.TagTypes.Tag.{Tag}
 use Rattle.der_core.specs.TagModeTypes.TagMode.{TagMode}

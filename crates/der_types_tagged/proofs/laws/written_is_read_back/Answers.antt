@@ -1,3 +1,4 @@
+-- Goals of `laws::written_is_read_back` that the checker doesn't prove by itself.
 use Rattle.std.proofs.Common.{refl}
 use Rattle.der_types_tagged.specs.Fields.{explicit_field, implicit_field}
 use Rattle.der_types_tagged.proofs.ReadBack.{optional_again, numbered_again}

@@ -1,3 +1,4 @@
+-- The loop invariants of `bmp_string::has_no_half`.
 use Rattle.std.proofs.Common.{◌≡◌}
 use Rattle.std.specs.List.{list_all}
 use Rattle.der_core.specs.BmpStrings.{is_unit, units}

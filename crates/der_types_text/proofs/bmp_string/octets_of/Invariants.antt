@@ -1,3 +1,4 @@
+-- The loop invariants of `bmp_string::octets_of`.
 use Rattle.std.proofs.Common.{◌≡◌, true}
 use Rattle.std.specs.List.{list_all}
 use Rattle.der_core.specs.BmpStrings.{is_unit, bmp_octets}

@@ -1,3 +1,4 @@
+-- Goals of `flag_set::ends_in_one` that the checker doesn't prove by itself.
 use Rattle.std.proofs.Common.{◌-◌, length, get_or, refl, arith, ne_eqb}
 use Rattle.der_types_values.proofs.NamedSteps.{ends}
 use Rattle.der_types_values.proofs.flag_set.ends_in_one.Goals as goal

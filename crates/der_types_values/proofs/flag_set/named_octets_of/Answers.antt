@@ -1,3 +1,4 @@
+-- Goals of `flag_set::named_octets_of` that the checker doesn't prove by itself.
 use Rattle.std.proofs.Common.{◌≡◌, ◌+◌, ◌-◌, ◌<◌, ◌^◌, ◌/◌, ◌++◌, take, ℕ, ap, subst, ◌∙◌, arith, slice_set, length-set}
 use Rattle.der_core.specs.NamedBits.{set_octets}
 use Rattle.der_types_values.proofs.NamedSteps.{left_some, left_next, set_octets-more, named_some, named_none}

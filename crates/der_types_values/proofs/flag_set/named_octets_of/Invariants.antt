@@ -1,3 +1,4 @@
+-- The loop invariants of `flag_set::named_octets_of`.
 use Rattle.std.proofs.Common.{◌≡◌, ◌-◌, ◌<◌, ◌≤◌, ◌^◌, ◌∷◌, ◌++◌, length, take}
 use Rattle.der_core.specs.NamedBits.{set_octets}
 use Rattle.der_types_values.proofs.flag_set.named_octets_of.Given as goal

@@ -1,3 +1,4 @@
+-- Goals of `flag_set::number_of` that the checker doesn't prove by itself.
 use Rattle.std.proofs.Common.{◌≡◌, ◌+◌, ◌-◌, length, drop, ap, sym, ◌∙◌, arith}
 use Rattle.std.proofs.lemmas.List.{drop_all}
 use Rattle.der_core.specs.NamedBits.{spelled_set}

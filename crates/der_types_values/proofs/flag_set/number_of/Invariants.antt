@@ -1,3 +1,4 @@
+-- The loop invariants of `flag_set::number_of`.
 use Rattle.std.proofs.Common.{◌≡◌, ◌-◌, ◌<◌, ◌^◌, length, drop}
 use Rattle.der_core.specs.NamedBits.{spelled_set}
 use Rattle.der_types_values.proofs.flag_set.number_of.Given as goal

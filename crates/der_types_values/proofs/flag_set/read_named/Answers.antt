@@ -1,3 +1,4 @@
+-- Goals of `flag_set::read_named` that the checker doesn't prove by itself.
 use Rattle.std.proofs.Common.{ap, sym, ◌∙◌, arith, Err}
 use Rattle.der_types_values.proofs.NamedSteps.{content_long}
 use Rattle.der_types_values.proofs.flag_set.read_named.Goals as goal

@@ -1,3 +1,4 @@
+-- Goals of `laws::equality_of_anchors_is_of_values` that the checker doesn't prove by itself.
 use Rattle.x509_cert_anchors.specs.Oid.Bound.{Bound}
 use Rattle.x509_cert_anchors.proofs.Der.ValueEquality.{alone, behind, default, each, last, leaves, list, named_bits, next, numbers, option}
 use Rattle.x509_cert_builders.specs.CertCertificates.Certificates.{certificate, tbs_certificate}

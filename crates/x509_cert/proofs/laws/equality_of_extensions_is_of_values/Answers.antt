@@ -1,3 +1,4 @@
+-- Goals of `laws::equality_of_extensions_is_of_values` that the checker doesn't prove by itself.
 use Rattle.x509_cert_anchors.proofs.Der.ValueEquality.{alone, behind, default, exact, flags, last, leaves, list, named_bits, next, numbers, option, option_itself}
 use Rattle.x509_cert_lists.proofs.CertNames.SameOctets.{attributes, directories}
 use Rattle.x509_cert_lists.proofs.Types.AnyLaws.{values}

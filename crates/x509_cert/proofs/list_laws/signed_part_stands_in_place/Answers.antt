@@ -1,3 +1,4 @@
+-- Goals of `list_laws::signed_part_stands_in_place` that the checker doesn't prove by itself.
 use Rattle.x509_cert_anchors.specs.Oid.Bound.{Bound}
 use Rattle.x509_cert_anchors.specs.Der.Shapes.{field, done}
 use Rattle.x509_cert_lists.specs.CertParts.Grammar.{algorithm_identifier, bit_string}

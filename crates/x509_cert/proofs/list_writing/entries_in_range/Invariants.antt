@@ -1,3 +1,4 @@
+-- The loop invariants of `list_writing::entries_in_range`.
 use Rattle.std.proofs.Common.{drop}
 use Rattle.std.specs.List.{AllByRecursion}
 use Rattle.x509_cert_anchors.specs.Der.Grammar.{plain_list}

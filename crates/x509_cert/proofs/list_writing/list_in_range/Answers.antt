@@ -1,3 +1,4 @@
+-- Goals of `list_writing::list_in_range` that the checker doesn't prove by itself.
 use Rattle.std.proofs.Common.{arith}
 use Rattle.x509_cert.proofs.list_writing.list_in_range.Goals as goal
 

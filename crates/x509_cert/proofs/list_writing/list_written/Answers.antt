@@ -1,3 +1,4 @@
+-- Goals of `list_writing::list_written` that the checker doesn't prove by itself.
 use Rattle.std.proofs.lemmas.Result.{err_from_is_err_and}
 use Rattle.x509_cert_builders.proofs.Faults.{or_unwritten}
 use Rattle.x509_cert_lists.specs.ListViews.{tbs_cert_list_plain}

@@ -1,3 +1,4 @@
+-- Goals of `request_builder::attribute_for` that the checker doesn't prove by itself.
 use Rattle.std.proofs.Common.{sym}
 use Rattle.std.proofs.lemmas.Result.{err_from_is_err_and}
 use Rattle.x509_cert.proofs.RequestParts.{not_asked, same_reason}

@@ -1,3 +1,4 @@
+-- Goals of `laws::respelled_anchors_are_spelled` that the checker doesn't prove by itself.
 use Rattle.std.proofs.Common.{ℕ, ◌≤◌, length, Bool, true, Option, Some, None, inl, inr, arith}
 use Rattle.der_core.specs.TagTypes.Tag.TheVariants.{Sequence}
 use Rattle.der_core.specs.Grammar.{plain_option}

@@ -1,3 +1,4 @@
+-- The loop invariants of `certificate_type::all_stay`.
 use Rattle.std.proofs.Common.{◌≡◌, drop}
 use Rattle.std.specs.List.{list_all}
 use Rattle.x509_cert_certificates.specs.CertNames.Pairs.{relative_plain}

@@ -1,3 +1,4 @@
+-- Goals of `certificate_type::attributes_left` that the checker doesn't prove by itself.
 use Rattle.std.proofs.Common.{List, ◌++◌, sym, ap, ◌∙◌, subst}
 use Rattle.std.specs.Slice.Iter.{iter_rest}
 use Rattle.x509_cert_certificates.specs.CertNames.declared.attribute_type_and_value.AttributeTypeAndValue.{AttributeTypeAndValue}

@@ -1,3 +1,4 @@
+-- The loop invariants of `certificate_type::attributes_left`.
 use Rattle.std.proofs.Common.{◌≡◌, ◌++◌}
 use Rattle.std.specs.Slice.Iter.{iter_rest}
 use Rattle.x509_cert_certificates.specs.CertNames.Pairs.{relative_plain}

@@ -1,3 +1,4 @@
+-- Goals of `certificate_type::left_of` that the checker doesn't prove by itself.
 use Rattle.std.proofs.Common.{inr, subst}
 use Rattle.std.specs.List.{IsDistinct}
 use Rattle.std.proofs.lemmas.Result.{err_from_is_err_and}

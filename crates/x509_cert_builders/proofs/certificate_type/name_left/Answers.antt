@@ -1,3 +1,4 @@
+-- Goals of `certificate_type::name_left` that the checker doesn't prove by itself.
 use Rattle.std.proofs.Common.{sym, ap, ◌∙◌, subst, rules}
 use Rattle.std.proofs.lemmas.Result.{err_from_is_err_and}
 use Rattle.std.specs.Slice.Iter.{iter_rest}

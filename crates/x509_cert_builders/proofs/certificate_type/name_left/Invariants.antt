@@ -1,3 +1,4 @@
+-- The loop invariants of `certificate_type::name_left`.
 use Rattle.std.specs.Slice.Iter.{iter_rest}
 use Rattle.x509_cert_certificates.specs.Der.Grammar.{plain_list}
 use Rattle.x509_cert_certificates.specs.CertNames.Views.{name_plain}

@@ -1,3 +1,4 @@
+-- Goals of `naming::ca_certificate_naming` that the checker doesn't prove by itself.
 use Rattle.std.proofs.Common.{◌≡◌, ℕ, List, false, None, sym, ap, ◌∙◌, not, find}
 use Rattle.x509_cert_certificates.specs.CertNames.Views.{name_plain}
 use Rattle.x509_cert_builders.specs.Naming.{foreign_type, has_required, is_among, name_types}

@@ -1,3 +1,4 @@
+-- The loop invariants of `naming::foreign_type`.
 use Rattle.std.specs.Prelude.{◌≡◌, drop, not, find}
 use Rattle.x509_cert_builders.specs.Naming.{is_among}
 use Rattle.x509_cert_builders.proofs.naming.foreign_type.Given as goal

@@ -1,3 +1,4 @@
+-- Goals of `naming::types_of` that the checker doesn't prove by itself.
 use Rattle.std.proofs.Common.{◌≡◌, [], ◌∷◌, Err, sym, ap, ◌∙◌, subst}
 use Rattle.std.proofs.lemmas.List.{nil_from_length}
 use Rattle.std.proofs.lemmas.Result.{err_from_is_err_and}

@@ -1,3 +1,4 @@
+-- Goals of `signed_part::written` that the checker doesn't prove by itself.
 use Rattle.std.proofs.Common.{Some, ◌∙◌}
 use Rattle.std.proofs.lemmas.Result.{err_from_is_err_and}
 use Rattle.x509_cert_certificates.specs.Oid.Bound.{Bound}

@@ -1,3 +1,4 @@
+-- The loop invariants of `types_before::rank_among`.
 use Rattle.std.proofs.Common.{◌≡◌, ◌+◌, drop}
 use Rattle.std.specs.List.{position_or_len}
 use Rattle.x509_cert_certificates.specs.Oid.Comparing.{owned_eq}

@@ -1,3 +1,4 @@
+-- Goals of `laws::equality_of_certificates_is_of_values` that the checker doesn't prove by itself.
 use Rattle.der_core.specs.Oid.Bound.{Bound}
 use Rattle.der_core.proofs.ValueEquality.{all_alike, alone, behind, default, each, last, leaves, next, option, option_itself}
 use Rattle.x509_cert_names.proofs.SameOctets.{names}

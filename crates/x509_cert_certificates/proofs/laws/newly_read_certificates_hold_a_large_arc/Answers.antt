@@ -1,3 +1,5 @@
+-- Goals of `laws::newly_read_certificates_hold_a_large_arc` that the checker doesn't prove by
+-- itself.
 use Rattle.der_core.proofs.BoundLaws.{front_new, new_spelled, spelled_exactly, spelled_narrow, whole_new}
 use Rattle.der_core.specs.Bounds.{identifiers_of}
 use Rattle.x509_cert_certificates.specs.Bounds.{certificate_identifiers}

@@ -1,3 +1,4 @@
+-- Goals of `laws::signed_part_stands_in_place` that the checker doesn't prove by itself.
 use Rattle.der_core.specs.Shapes.{field, done}
 use Rattle.x509_cert_parts.specs.Grammar.{algorithm_identifier, bit_string}
 use Rattle.x509_cert_certificates.specs.Certificates.{raw_tbs_certificate, signed_start, signed_length}

@@ -1,3 +1,4 @@
+-- Goals of `extension_kind::arc_below` that the checker doesn't prove by itself.
 use Rattle.std.proofs.Common.{sym, ◌∙◌, not, ap}
 use Rattle.std.specs.Cmp.Lexicographic.{bytes_decides}
 use Rattle.std.proofs.lemmas.List.{same_from_push}

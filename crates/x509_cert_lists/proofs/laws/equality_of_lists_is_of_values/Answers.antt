@@ -1,3 +1,4 @@
+-- Goals of `laws::equality_of_lists_is_of_values` that the checker doesn't prove by itself.
 use Rattle.std.proofs.Common.{refl}
 use Rattle.der_core.specs.Oid.Bound.{Bound}
 use Rattle.der_core.specs.Shapes.{sequence}

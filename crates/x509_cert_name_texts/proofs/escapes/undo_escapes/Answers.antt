@@ -1,3 +1,4 @@
+-- Goals of `escapes::undo_escapes` that the checker doesn't prove by itself.
 use Rattle.std.proofs.Common.{◌∙◌}
 use Rattle.std.proofs.lemmas.Result.{err_from_is_err_and}
 use Rattle.x509_cert_name_texts.proofs.EscapeSteps.{in_front-nil, next_plain, next_escape, no_escape, undone_stands, undone_fails}

@@ -1,8 +1,9 @@
+-- The loop invariants of `escapes::undo_escapes`.
 use Rattle.std.proofs.Common.{◌≡◌, length}
 use Rattle.x509_cert_name_texts.proofs.EscapeSteps.{undone, in_front}
 use Rattle.x509_cert_name_texts.proofs.escapes.undo_escapes.Given as goal
 
--- what was undone, in front of what is left
+-- what was undone, before what is left
 abbrev pub invariant-loop-octet : goal.invariant-loop-octet
 invariant-loop-octet l = undone l.text ≡ in_front l.octets.items (undone l.left)
 

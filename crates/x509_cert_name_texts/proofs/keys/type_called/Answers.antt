@@ -1,3 +1,4 @@
+-- Goals of `keys::type_called` that the checker doesn't prove by itself.
 use Rattle.std.proofs.Common.{◌≡◌, refl, ap, ◌∙◌, rules, tests, map, option_map}
 use Rattle.std.specs.Slice.Iter.{iter_rest}
 use Rattle.std.proofs.lemmas.Iterator.{YieldsList-from_slice}

@@ -1,3 +1,4 @@
+-- Goals of `pieces::first_piece` that the checker doesn't prove by itself.
 use Rattle.std.proofs.Common.{◌≡◌, ◌<◌, sym, ap, ◌∙◌, get_or, arith}
 use Rattle.std.proofs.lemmas.Str.{lead_after_ascii}
 use Rattle.x509_cert_name_texts.proofs.pieces.first_piece.Goals as goal

@@ -1,3 +1,4 @@
+-- Goals of `pieces::first_separator` that the checker doesn't prove by itself.
 use Rattle.std.proofs.Common.{◌==◌, ap, sym, refl, ◌∙◌, take, get_or, arith, not, ◌&&◌}
 use Rattle.std.proofs.lemmas.List.{take_more}
 use Rattle.x509_cert_name_texts.proofs.PieceSteps.{is_escaped, is_escaped-push, none_in_front, none_more, found_counts, found_is}

@@ -1,3 +1,4 @@
+-- The loop invariants of `pieces::first_separator`.
 use Rattle.std.proofs.Common.{◌≡◌, take}
 use Rattle.x509_cert_name_texts.proofs.PieceSteps.{is_escaped, NoneBelow}
 use Rattle.x509_cert_name_texts.proofs.pieces.first_separator.Given as goal

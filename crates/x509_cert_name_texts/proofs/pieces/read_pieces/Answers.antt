@@ -1,3 +1,4 @@
+-- Goals of `pieces::read_pieces` that the checker doesn't prove by itself.
 use Rattle.std.proofs.Common.{Err, ap, option_map}
 use Rattle.std.proofs.lemmas.Result.{err_from_is_err_and}
 use Rattle.x509_cert_name_texts.specs.Pieces.{ReadsPieces}

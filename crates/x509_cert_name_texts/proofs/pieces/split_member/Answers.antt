@@ -1,3 +1,4 @@
+-- Goals of `pieces::split_member` that the checker doesn't prove by itself.
 use Rattle.std.proofs.Common.{◌==◌, get_or, sym, ap, ◌∙◌, arith, position}
 use Rattle.std.proofs.lemmas.List.Quantifiers.{position-Some}
 use Rattle.std.proofs.lemmas.Str.{IsCharBoundary-before_ascii}

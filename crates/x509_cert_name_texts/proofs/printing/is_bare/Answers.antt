@@ -1,3 +1,4 @@
+-- Goals of `printing::is_bare` that the checker doesn't prove by itself.
 use Rattle.x509_cert_name_texts.proofs.TextSteps.{bare-step, bare-end}
 use Rattle.x509_cert_name_texts.proofs.printing.is_bare.Goals as goal
 

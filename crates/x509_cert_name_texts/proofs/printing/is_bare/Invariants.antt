@@ -1,8 +1,9 @@
+-- The loop invariants of `printing::is_bare`.
 use Rattle.std.proofs.Common.{◌≡◌, length}
 use Rattle.x509_cert_name_texts.specs.Escapes.{escaped, escaped_from}
 use Rattle.x509_cert_name_texts.proofs.printing.is_bare.Given as goal
 
--- where what is left is printed as it stands, all is
+-- where what is left is printed as it is, all is
 abbrev pub invariant-loop-octet : goal.invariant-loop-octet
 invariant-loop-octet l = escaped_from l.first l.left ≡ l.left → escaped l.text ≡ l.text
 

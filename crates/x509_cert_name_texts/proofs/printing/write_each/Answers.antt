@@ -1,3 +1,4 @@
+-- Goals of `printing::write_each` that the checker doesn't prove by itself.
 use Rattle.std.proofs.Common.{◌++◌, ◌==◌, length, append_assoc, ap, refl, ◌∙◌, false, chars}
 use Rattle.std.proofs.Output.{has_written_append, has_written_of_eq}
 use Rattle.std.specs.Str.Iter.{chars_rest}

@@ -1,3 +1,4 @@
+-- The loop invariants of `printing::write_each`.
 use Rattle.std.specs.Prelude.{◌≡◌, List, ℕ, ◌++◌, chars, IsUtf8}
 use Rattle.std.specs.Fmt.{HasWritten, IsPlainFormatter}
 use Rattle.std.specs.Str.Iter.{chars_rest}

@@ -1,3 +1,4 @@
+-- Goals of `printing::write_hex` that the checker doesn't prove by itself.
 use Rattle.std.proofs.Common.{[], ap, sym, refl, ◌∙◌, take}
 use Rattle.std.proofs.Output.{has_written_append, has_written_of_eq}
 use Rattle.std.proofs.lemmas.List.{take_more, flat_map_more}

@@ -1,3 +1,4 @@
+-- The loop invariants of `printing::write_hex`.
 use Rattle.std.proofs.Common.{take}
 use Rattle.std.specs.Fmt.{HasWritten, IsPlainFormatter}
 use Rattle.x509_cert_name_texts.specs.Escapes.{in_hex}

@@ -1,3 +1,4 @@
+-- Goals of `attribute_type_and_value::plain_attribute` that the checker doesn't prove by itself.
 use Rattle.std.proofs.Common.{sym, subst, ◌∙◌}
 use Rattle.der_core.specs.Oid.Bound.{Bound}
 use Rattle.der_core.specs.Shapes.{AnyValue, Spells}

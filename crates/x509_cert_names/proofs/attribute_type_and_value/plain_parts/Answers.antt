@@ -1,3 +1,4 @@
+-- Goals of `attribute_type_and_value::plain_parts` that the checker doesn't prove by itself.
 use Rattle.std.proofs.Common.{refl, arith}
 use Rattle.x509_cert_names.proofs.PlainSpelled.{parts_plain}
 use Rattle.x509_cert_names.proofs.attribute_type_and_value.plain_parts.Goals as goal

@@ -1,3 +1,4 @@
+-- Goals of `attribute_type_and_value::write_four` that the checker doesn't prove by itself.
 use Rattle.std.proofs.Common.{◌++◌, refl}
 use Rattle.der_core.proofs.Added.{put_then_added, refused_adds, write_adds}
 use Rattle.x509_cert_names.proofs.attribute_type_and_value.write_four.Goals as goal

@@ -1,3 +1,4 @@
+-- Goals of `laws::printed_values_are_strings` that the checker doesn't prove by itself.
 use Rattle.std.proofs.Common.{chars}
 use Rattle.x509_cert_name_texts.proofs.EscapeSteps.{stands_for_one}
 use Rattle.x509_cert_name_texts.proofs.PrintSteps.{printed_string, stands_text}

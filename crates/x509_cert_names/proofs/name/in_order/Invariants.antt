@@ -1,3 +1,4 @@
+-- The loop invariants of `name::in_order`.
 use Rattle.std.proofs.Common.{drop}
 use Rattle.std.specs.List.{AllByRecursion}
 use Rattle.der_core.specs.Oid.Bound.{Bound}

@@ -1,3 +1,4 @@
+-- Goals of `rdn_sequence::write_before` that the checker doesn't prove by itself.
 use Rattle.std.proofs.Common.{◌++◌, append_assoc, reverse, ap, refl, ◌∙◌, flat_map}
 use Rattle.std.proofs.Output.{has_written_append, has_written_of_eq}
 use Rattle.x509_cert_names.specs.NameTexts.{printed_behind, relative_printed}

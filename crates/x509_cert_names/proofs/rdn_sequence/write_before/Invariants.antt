@@ -1,3 +1,4 @@
+-- The loop invariants of `rdn_sequence::write_before`.
 use Rattle.std.specs.Prelude.{◌≡◌, List, ℕ, ◌++◌, length, reverse, flat_map}
 use Rattle.std.specs.Fmt.{HasWritten, IsPlainFormatter}
 use Rattle.x509_cert_names.specs.NameTexts.{printed_behind, relative_printed}

@@ -1,3 +1,4 @@
+-- Goals of `rdn_sequence::write_names` that the checker doesn't prove by itself.
 use Rattle.std.proofs.Common.{refl, rules}
 use Rattle.std.proofs.Output.{has_written_append, has_written_of_eq}
 use Rattle.x509_cert_names.proofs.Printed.{no_names_printed, names_printed}

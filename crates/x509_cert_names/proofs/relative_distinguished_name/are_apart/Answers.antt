@@ -1,3 +1,4 @@
+-- Goals of `relative_distinguished_name::are_apart` that the checker doesn't prove by itself.
 use Rattle.std.proofs.Common.{◌<◌, ◌≤◌, length, sym, ◌∙◌, arith, ◌≡◌, ℕ, zero, suc, ◌+◌, ◌-◌, List, [], ◌∷◌, take, get_or, true, false, ap, subst}
 use Rattle.x509_cert_names.specs.Ordered.{DifferInTurn}
 use Rattle.x509_cert_names.specs.Pairs.{same_pair}

@@ -1,3 +1,4 @@
+-- Goals of `relative_distinguished_name::have_encodings` that the checker doesn't prove by itself.
 use Rattle.std.proofs.Common.{◌+◌, ◌<◌, List, ◌∷◌, length, drop, Result, subst, sym, arith}
 use Rattle.std.proofs.lemmas.List.{drop_more}
 use Rattle.std.proofs.lemmas.Result.{err_from_is_err_and}

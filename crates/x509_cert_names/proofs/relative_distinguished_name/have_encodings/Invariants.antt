@@ -1,3 +1,4 @@
+-- The loop invariants of `relative_distinguished_name::have_encodings`.
 use Rattle.std.proofs.Common.{drop}
 use Rattle.der_core.specs.Oid.Bound.{Bound}
 use Rattle.der_core.specs.Placed.{AllValid}

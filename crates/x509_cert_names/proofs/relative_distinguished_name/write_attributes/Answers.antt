@@ -1,3 +1,4 @@
+-- Goals of `relative_distinguished_name::write_attributes` that the checker doesn't prove by itself.
 use Rattle.std.proofs.Common.{sym, ap, refl, rules}
 use Rattle.std.proofs.Output.{has_written_append, has_written_of_eq}
 use Rattle.x509_cert_names.specs.NameTexts.{relative_printed}

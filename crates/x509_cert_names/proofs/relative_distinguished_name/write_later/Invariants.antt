@@ -1,3 +1,4 @@
+-- The loop invariants of `relative_distinguished_name::write_later`.
 use Rattle.std.specs.Prelude.{take, flat_map}
 use Rattle.std.specs.Fmt.{HasWritten, IsPlainFormatter}
 use Rattle.x509_cert_names.specs.NameTexts.{printed_behind}

@@ -1,3 +1,4 @@
+-- Goals of `value_texts::value_of` that the checker doesn't prove by itself.
 use Rattle.std.proofs.Common.{◌≡◌, Result, Ok, Err, sym, rules}
 use Rattle.std.proofs.lemmas.Grind.{common_steps}
 use Rattle.der_core.specs.Reading.{Gives}

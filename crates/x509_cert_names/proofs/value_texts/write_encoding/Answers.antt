@@ -1,3 +1,4 @@
+-- Goals of `value_texts::write_encoding` that the checker doesn't prove by itself.
 use Rattle.std.proofs.Common.{refl, ap, ◌∙◌}
 use Rattle.std.proofs.Output.{has_written_append, has_written_of_eq}
 use Rattle.x509_cert_names.proofs.Printed.{encoding_printed}

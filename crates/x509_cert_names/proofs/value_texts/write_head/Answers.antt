@@ -1,3 +1,4 @@
+-- Goals of `value_texts::write_head` that the checker doesn't prove by itself.
 use Rattle.std.proofs.Common.{◌≡◌, List, ℕ, ◌++◌, ap, ◌∙◌, length, false, if◌then◌else◌, Ok, Err, sym, append_assoc}
 use Rattle.std.proofs.Output.{has_written_of_eq}
 use Rattle.der_core.specs.Heads.{head_octets, length_octets}
@@ -10,7 +11,7 @@ use Rattle.der_core.proofs.Results.{ok_is, bind_ok, unless_ok}
 use Rattle.der_core.specs.ErrorTypes.ErrorKind.TheVariants as kinds
 use Rattle.x509_cert_names.proofs.value_texts.write_head.Goals as goal
 
--- What a header that was written left behind.
+-- What a header that was written left after.
 put_written : (b : List ℕ) (o z : Out) → put b o ≡ Ok z → z.written ≡ o.written ++ b
 unfolding put
 put_written b o z e =

@@ -1,3 +1,4 @@
+-- Goals of `algorithm_identifier::plain_fields` that the checker doesn't prove by itself.
 use Rattle.der_core.specs.Grammar.{plain_option}
 use Rattle.x509_cert_parts.proofs.PlainFields.{algorithm_body}
 use Rattle.x509_cert_parts.proofs.algorithm_identifier.plain_fields.Goals as goal

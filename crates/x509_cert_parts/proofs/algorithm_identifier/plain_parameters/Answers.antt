@@ -1,3 +1,4 @@
+-- Goals of `algorithm_identifier::plain_parameters` that the checker doesn't prove by itself.
 use Rattle.std.proofs.Common.{length, ◌≡◌, ◌∙◌, arith}
 use Rattle.std.proofs.lemmas.Bool.Decides.{nat_tests}
 use Rattle.std.proofs.lemmas.List.{nil_from_length}

@@ -1,3 +1,4 @@
+-- Goals of `extension::plain_fields` that the checker doesn't prove by itself.
 use Rattle.std.proofs.Common.{◌-◌, length, take, drop, refl}
 use Rattle.x509_cert_parts.proofs.PlainFields.{extension_body}
 use Rattle.x509_cert_parts.proofs.extension.plain_fields.Goals as goal

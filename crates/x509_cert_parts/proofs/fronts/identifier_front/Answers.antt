@@ -1,3 +1,4 @@
+-- Goals of `fronts::identifier_front` that the checker doesn't prove by itself.
 use Rattle.x509_cert_parts.proofs.PlainFields.{identifier_first}
 use Rattle.x509_cert_parts.proofs.fronts.identifier_front.Goals as goal
 

@@ -1,3 +1,4 @@
+-- Goals of `fronts::true_front` that the checker doesn't prove by itself.
 use Rattle.std.proofs.Common.{refl}
 use Rattle.x509_cert_parts.proofs.PlainFields.{true_first}
 use Rattle.x509_cert_parts.proofs.fronts.true_front.Goals as goal

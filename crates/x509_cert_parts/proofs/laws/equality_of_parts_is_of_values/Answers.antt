@@ -1,3 +1,4 @@
+-- Goals of `laws::equality_of_parts_is_of_values` that the checker doesn't prove by itself.
 use Rattle.der_core.proofs.ValueEquality.{all_alike, leaves}
 use Rattle.x509_cert_parts.specs.Grammar.{serial_number}
 use Rattle.x509_cert_parts.proofs.ValueEquality.{algorithms, keys, each_extension, each_time, each_version, validities}

@@ -1,3 +1,4 @@
+-- The loop invariants of `serial_number::fill_without_zero`.
 use Rattle.std.proofs.Common.{◌≡◌, ◌-◌, length}
 use Rattle.x509_cert_parts.specs.Drawing.{first_fill}
 use Rattle.x509_cert_parts.proofs.serial_number.fill_without_zero.Given as goal

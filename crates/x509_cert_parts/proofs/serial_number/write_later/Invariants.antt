@@ -1,3 +1,4 @@
+-- The loop invariants of `serial_number::write_later`.
 use Rattle.std.specs.Prelude.{take, flat_map}
 use Rattle.std.specs.Fmt.{HasWritten, IsPlainFormatter}
 use Rattle.x509_cert_parts.specs.SerialNumbers.{colon_pair}

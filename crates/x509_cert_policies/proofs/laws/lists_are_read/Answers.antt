@@ -1,3 +1,4 @@
+-- Goals of `laws::lists_are_read` that the checker doesn't prove by itself.
 use Rattle.std.proofs.Common.{◌≡◌, ◌≢◌, ℕ, List, [], ◌∷◌, ◌++◌, length, refl, sym, ap, ◌∙◌, append_assoc, arith, inl, inr, map, flat_map, All, length-append, append-nil}
 use Rattle.std.proofs.lemmas.List.Elements.{All-head, All-tail}
 use Rattle.x509_cert_policies.specs.declared.serialized_sct.SerializedSct.{SerializedSct}
@@ -7,7 +8,7 @@ use Rattle.x509_cert_policies.specs.Lists.{sct_data, sct_octets, IsMember, Spell
 use Rattle.x509_cert_policies.proofs.Readings.{vector_length, spelled_once, spelled_not_refused}
 use Rattle.x509_cert_policies.proofs.laws.lists_are_read.Goals as goal
 
--- Octets are the spelling of one list at most, and where they are, nothing refuses them.
+-- Bytes are the spelling of one list at most, and where they are, nothing refuses them.
 first_spelled : (x : SerializedSct) (xs : List SerializedSct) → All IsMember (x ∷ xs) → Spells vector (sct_data x) (flat_map sct_octets (x ∷ xs)) (flat_map sct_octets xs)
 first_spelled x xs all = record { value = All-head IsMember x xs all; split = refl }
 

@@ -1,3 +1,5 @@
+-- Goals of `signed_certificate_timestamp_list::append_members` that the checker doesn't prove by
+-- itself.
 use Rattle.std.proofs.Common.{subst}
 use Rattle.std.proofs.lemmas.List.Elements.{All-more}
 use Rattle.x509_cert_policies.specs.declared.serialized_sct.SerializedSct.{SerializedSct}

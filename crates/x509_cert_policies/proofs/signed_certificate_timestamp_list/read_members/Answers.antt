@@ -1,3 +1,5 @@
+-- Goals of `signed_certificate_timestamp_list::read_members` that the checker doesn't prove by
+-- itself.
 use Rattle.std.proofs.Common.{◌≡◌, false, rules}
 use Rattle.std.proofs.lemmas.List.Elements.{All-push}
 use Rattle.std.proofs.lemmas.Result.{err_from_is_err_and}

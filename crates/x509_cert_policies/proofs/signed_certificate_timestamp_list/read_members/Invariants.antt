@@ -1,4 +1,4 @@
--- The members so far, and then what is left, are the octets, of which each turn leaves fewer.
+-- The members so far, and then what is left, are the bytes, of which each turn leaves fewer.
 use Rattle.std.specs.Prelude.{◌≡◌, ◌++◌, length, flat_map, All}
 use Rattle.x509_cert_policies.specs.Lists.{IsMember, sct_octets}
 use Rattle.x509_cert_policies.proofs.signed_certificate_timestamp_list.read_members.Given as goal

@@ -1,3 +1,4 @@
+-- Goals of `choices::OneOf2FirstTag::first_tag` that the checker doesn't prove by itself.
 use Rattle.std.proofs.Common.{ap}
 use Rattle.der_core_coding.specs.CoreValues.Choices.{plain_of_two}
 use Rattle.der_core.proofs.ShapeOrders.{left_starts, right_starts}

@@ -1,3 +1,4 @@
+-- Goals of `pairs::Tuple2FieldsOrd::fields_tag` that the checker doesn't prove by itself.
 use Rattle.der_core.proofs.ShapeOrders.{first_starts, next_starts}
 use Rattle.der_core.proofs.pairs.Tuple2FieldsOrd.fields_tag.Goals as goal
 

@@ -1,3 +1,4 @@
+-- Goals of `strict_set_of::StrictSetOf::insert` that the checker doesn't prove by itself.
 use Rattle.std.proofs.Common.{inl, inr, ap, sym, ◌∙◌}
 use Rattle.std.proofs.lemmas.List.Sorted.{IsPermutation-insert}
 use Rattle.std.proofs.lemmas.Result.{err_from_is_err_and}

@@ -1,3 +1,4 @@
+-- Goals of `encode::ToDer::encode_to_slice` that the checker doesn't prove by itself.
 use Rattle.std.proofs.Common.{Bor, ℕ, List, length}
 use Rattle.der_core_coding.proofs.Fronts.{filled_spelled, filled_octets, filled_in_range}
 use Rattle.der_core_coding.proofs.encode.ToDer.encode_to_slice.Goals as goal

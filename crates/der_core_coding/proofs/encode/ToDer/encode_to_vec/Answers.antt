@@ -1,3 +1,4 @@
+-- Goals of `encode::ToDer::encode_to_vec` that the checker doesn't prove by itself.
 use Rattle.der_core_coding.proofs.Fronts.{appended_in_range}
 use Rattle.std.proofs.Common.{◌≡◌, ℕ, List, ◌++◌, length, None, false, Result, Ok, Err, refl, sym, ap, ◌∙◌, IfOk, IfErr}
 use Rattle.der_core_values.specs.CoreHead.declared.error.Error.{Error}
@@ -11,7 +12,7 @@ use Rattle.der_core_values.proofs.CoreHead.Written.{sized, written, counts_octet
 use Rattle.der_core_values.specs.CoreOctets.Outputs.{appended}
 use Rattle.der_core_coding.proofs.encode.ToDer.encode_to_vec.Goals as goal
 
--- A value behind other octets.
+-- A value after other bytes.
 appended_valid : (s : Shape) (v : Value s) (w : List ℕ) → IsValid s v → appended s v w ≡ Ok (length (octets_of s v), w ++ octets_of s v)
 appended_valid s v w h = rw (sized s v h, written s v w h) refl
 

@@ -1,3 +1,4 @@
+-- Goals of `encode::ToDer::to_der` that the checker doesn't prove by itself.
 use Rattle.der_core_values.proofs.CoreHead.Written.{is_written, ok_octets}
 use Rattle.der_core_coding.proofs.Fronts.{ok_valid}
 use Rattle.der_core_coding.proofs.encode.ToDer.to_der.Goals as goal

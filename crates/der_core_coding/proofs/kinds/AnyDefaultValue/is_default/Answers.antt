@@ -1,3 +1,4 @@
+-- Goals of `kinds::AnyDefaultValue::is_default` that the checker doesn't prove by itself.
 use Rattle.std.proofs.Common.{arith, subst}
 use Rattle.der_core_values.specs.CoreHead.Tags.{IsTag}
 use Rattle.der_core_coding.proofs.Defaults.{tagged_same, tagged_valid}

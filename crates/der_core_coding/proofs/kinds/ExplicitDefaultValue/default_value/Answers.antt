@@ -1,3 +1,4 @@
+-- Goals of `kinds::ExplicitDefaultValue::default_value` that the checker doesn't prove by itself.
 use Rattle.std.proofs.Common.{true, arith, subst}
 use Rattle.der_core_values.specs.CoreHead.Tags.{IsTag, context}
 use Rattle.der_core_coding.proofs.Defaults.{explicit_read}

@@ -1,3 +1,4 @@
+-- Goals of `reading::Reading::context_specific` that the checker doesn't prove by itself.
 use Rattle.std.proofs.Common.{◌≡◌, ap, subst, ◌∙◌}
 use Rattle.der_core_values.specs.CoreHead.declared.tag.Tag.{Tag}
 use Rattle.der_core_values.specs.CoreHead.Tags.{context, is_constructed, implicit_tag}

@@ -1,3 +1,4 @@
+-- Goals of `slice_reader::SliceReaderReader::end_nested` that the checker doesn't prove by itself.
 use mathlib.Core.Bool.{◌||◌}
 use Rattle.std.proofs.Common.{◌≡◌, ◌≤◌, ◌<◌, ◌-◌, length, take, drop, arith, sym, ap, subst, ◌∙◌, true}
 use Rattle.der_core_values.specs.CoreHead.declared.error.Error.{Error}

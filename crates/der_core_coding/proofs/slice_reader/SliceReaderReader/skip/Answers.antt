@@ -1,3 +1,4 @@
+-- Goals of `slice_reader::SliceReaderReader::skip` that the checker doesn't prove by itself.
 use Rattle.std.proofs.Common.{◌≤◌, length, arith, sym, ap, subst, ◌∙◌}
 use Rattle.der_core_values.specs.CoreHead.Reading.{State, past}
 use Rattle.der_core_coding.proofs.Windows.{passed, window_length}

@@ -1,3 +1,4 @@
+-- Goals of `slice_writer::SliceWriter::sequence_of` that the checker doesn't prove by itself.
 use Rattle.std.proofs.Common.{◌≡◌, ◌+◌, length, refl, arith, inl, inr, take, length-take}
 use Rattle.std.proofs.lemmas.Result.{err_from_is_err_and}
 use Rattle.der_core_coding.proofs.slice_writer.SliceWriter.sequence_of.Goals as goal

@@ -1,3 +1,4 @@
+-- Goals of `whole::FromDer::from_der` that the checker doesn't prove by itself.
 use Rattle.std.proofs.Common.{arith}
 use Rattle.der_core_values.specs.CoreHead.Shapes.{Value, Spells}
 use Rattle.der_core_values.proofs.CoreHead.OneEncoding.{is_spelled, is_read}

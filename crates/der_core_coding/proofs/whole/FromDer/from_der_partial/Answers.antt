@@ -1,3 +1,4 @@
+-- Goals of `whole::FromDer::from_der_partial` that the checker doesn't prove by itself.
 use Rattle.std.proofs.Common.{Ok, arith}
 use Rattle.der_core_values.specs.CoreOctets.Fronts.{read_front}
 use Rattle.der_core_coding.proofs.Fronts.{front_spelled, front_again, gives_so}

@@ -1,3 +1,4 @@
+-- Goals of `with_default::WithDefaultDecode::decode` that the checker doesn't prove by itself.
 use Rattle.std.proofs.Common.{refl, ap}
 use Rattle.std.proofs.lemmas.Result.{err_from_is_err_and}
 use Rattle.der_core_values.specs.CoreHead.Grammar.{default_at}

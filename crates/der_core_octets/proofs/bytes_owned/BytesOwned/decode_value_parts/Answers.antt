@@ -1,3 +1,4 @@
+-- Goals of `bytes_owned::BytesOwned::decode_value_parts` that the checker doesn't prove by itself.
 use Rattle.std.proofs.Common.{ap, arith}
 use Rattle.std.proofs.lemmas.Result.{err_from_is_err_and}
 use Rattle.der_core_head.specs.Reading.{State}

@@ -1,3 +1,4 @@
+-- Goals of `header::Header::scan` that the checker doesn't prove by itself.
 use Rattle.std.proofs.Common.{Some, Ok, Err}
 use Rattle.der_core_octets.proofs.LongLengths.{scans_longer}
 use Rattle.der_core_octets.proofs.header.Header.scan.Goals as goal

@@ -1,3 +1,4 @@
+-- Goals of `reader::Reader::drain` that the checker doesn't prove by itself.
 use Rattle.std.proofs.Common.{arith, ap, length, refl}
 use Rattle.der_core_head.proofs.Results.{slice_short, slice_ok}
 use Rattle.der_core_octets.proofs.reader.Reader.drain.Goals as goal

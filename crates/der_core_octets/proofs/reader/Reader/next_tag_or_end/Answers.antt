@@ -1,3 +1,4 @@
+-- Goals of `reader::Reader::next_tag_or_end` that the checker doesn't prove by itself.
 use Rattle.std.proofs.Common.{[], ap, sym, ◌∙◌, ◌≢◌}
 use Rattle.std.proofs.lemmas.Result.{err_from_is_err_and}
 use Rattle.der_core_head.specs.Bodies.{tag_by}

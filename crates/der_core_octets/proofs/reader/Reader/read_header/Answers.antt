@@ -1,3 +1,4 @@
+-- Goals of `reader::Reader::read_header` that the checker doesn't prove by itself.
 use Rattle.std.proofs.Common.{◌≡◌, List, ℕ, Ok, drop, sym, ap, subst, ◌∙◌, arith}
 use Rattle.der_core_head.specs.declared.encoding_rules.EncodingRules.TheVariants as encodings
 use Rattle.der_core_head.specs.Heads.{Head, head_at}

@@ -1,3 +1,4 @@
+-- Goals of `reader::Reader::read_into` that the checker doesn't prove by itself.
 use Rattle.std.proofs.Common.{◌≡◌, length, refl, ap, sym, ◌∙◌, arith, Err, length-take}
 use Rattle.der_core_head.specs.Reading.{State, past}
 use Rattle.der_core_head.proofs.Results.{slice_short, slice_ok}

@@ -1,3 +1,4 @@
+-- Goals of `reader::Reader::read_nested` that the checker doesn't prove by itself.
 use Rattle.std.proofs.Common.{length, refl, ap, subst, arith, Ok, Err, Bool}
 use Rattle.std.proofs.lemmas.Result.{err_from_is_err_and}
 use Rattle.der_core_head.specs.Reading.{State, Closes}
@@ -34,7 +35,7 @@ end_nested-requires g c κs =
     let long = behind_long n taken.value old ran.enough in
     ((refl, tt), (omega (arith, long, ap length ran.kept.behind), omega (arith, ran.kept.room, opens.1, opens.2)))
 
--- octets were left before the end
+-- bytes were left before the end
 pub returns-in_err-end_nested : goal.returns-in_err-end_nested
 returns-in_err-end_nested g c =
     let state = g.Self.Reader.state in

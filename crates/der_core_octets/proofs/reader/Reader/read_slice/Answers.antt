@@ -1,3 +1,4 @@
+-- Goals of `reader::Reader::read_slice` that the checker doesn't prove by itself.
 use Rattle.std.proofs.Common.{arith, ap, length, refl}
 use Rattle.der_core_head.proofs.Results.{slice_short, slice_ok}
 use Rattle.der_core_octets.proofs.reader.Reader.read_slice.Goals as goal

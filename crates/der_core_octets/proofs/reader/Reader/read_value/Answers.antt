@@ -1,3 +1,4 @@
+-- Goals of `reader::Reader::read_value` that the checker doesn't prove by itself.
 use Rattle.std.proofs.lemmas.Result.{err_from_is_err_and}
 use Rattle.der_core_octets.proofs.reader.Reader.read_value.Goals as goal
 

@@ -1,3 +1,4 @@
+-- Goals of `reader::Reader::tlv_bytes` that the checker doesn't prove by itself.
 use Rattle.std.proofs.Common.{◌≡◌, ◌+◌, ℕ, List, Ok, Err, length, drop, refl, ap, sym, subst, ◌∙◌, arith, ◌-◌, ◌<◌, ◌≤◌, take, drop-drop, length-drop}
 use Rattle.der_core_head.specs.declared.error.ErrorKind.{ErrorKind}
 use Rattle.der_core_head.specs.Bodies.{head_by}
@@ -9,7 +10,7 @@ use Rattle.der_core_head.proofs.Results.{slice_short, slice_ok}
 use Rattle.der_core_head.specs.declared.error.ErrorKind.TheVariants as kinds
 use Rattle.der_core_octets.proofs.reader.Reader.tlv_bytes.Goals as goal
 
--- Whole encodings, as they stand.
+-- Whole encodings, as they are.
 no_header : (head : Readings Head) (w : List ℕ) (k : ErrorKind) → head w ≡ Err k → encoding_at head w ≡ Err k
 unfolding encoding_at
 no_header head w k e = rw e refl

@@ -1,3 +1,4 @@
+-- Goals of `arrays::ArrayDecodeFields::decode_fields` that the checker doesn't prove by itself.
 use Rattle.std.proofs.Common.{◌≡◌, ◌-◌, rules, sym, ap, ◌∙◌, arith}
 use Rattle.std.proofs.lemmas.Result.{err_from_is_err_and}
 use Rattle.der_core_octets.specs.CoreHead.Grammar.{read_exactly}

@@ -1,3 +1,4 @@
+-- The loop invariants of `arrays::ArrayDecodeFields::decode_fields`.
 use Rattle.std.specs.Prelude.{◌≡◌, ◌-◌, vec_len}
 use Rattle.der_core_octets.specs.CoreHead.Grammar.{read_exactly}
 use Rattle.der_core_octets.specs.CoreHead.Reading.{read_at}

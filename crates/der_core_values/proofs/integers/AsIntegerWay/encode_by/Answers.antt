@@ -1,3 +1,4 @@
+-- Goals of `integers::AsIntegerWay::encode_by` that the checker doesn't prove by itself.
 use Rattle.std.proofs.Common.{rules, arith}
 use Rattle.std.proofs.lemmas.Grind.{common_steps}
 use Rattle.der_core_octets.specs.CoreHead.Shapes.{contents}

@@ -1,3 +1,4 @@
+-- Goals of `numbered::NumberOfInteger::from_integer` that the checker doesn't prove by itself.
 use Rattle.std.proofs.Common.{◌≡◌, ap, ◌∙◌, Ok, Err, length, rules, tests, arith, true, false, pos}
 use Rattle.der_core_octets.specs.CoreHead.declared.error.ErrorKind.{ErrorKind}
 use Rattle.der_core_octets.specs.CoreHead.Integers.{among}

@@ -1,3 +1,4 @@
+-- Goals of `options::OptionDecode::decode` that the checker doesn't prove by itself.
 use Rattle.std.proofs.Common.{refl, ap}
 use Rattle.std.proofs.lemmas.Result.{err_from_is_err_and}
 use Rattle.der_core_octets.specs.CoreHead.Grammar.{opt_at}

@@ -1,3 +1,4 @@
+-- The loop invariants of `vec::VecDecodeFields::decode_fields`.
 use Rattle.std.proofs.Common.{◌-◌, length}
 use Rattle.der_core_octets.specs.CoreHead.declared.error.ErrorKind.TheVariants as kinds
 use Rattle.der_core_octets.specs.CoreHead.Grammar.{read_many}

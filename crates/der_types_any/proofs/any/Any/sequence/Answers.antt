@@ -1,3 +1,4 @@
+-- Goals of `any::Any::sequence` that the checker doesn't prove by itself.
 use Rattle.der_types_any.proofs.any.Any.sequence.Goals as goal
 
 pub returns-clause-reads : goal.returns-clause-reads

@@ -1,3 +1,4 @@
+-- Goals of `any_ref::AnyRef::decode_as` that the checker doesn't prove by itself.
 use Rattle.der_types_any.specs.Anys.{any_lent}
 use Rattle.std.proofs.Common.{◌≡◌, ℕ, List, [], length, Bool, true, false, Result, Ok, Err, refl, sym, ap, ◌∙◌, arith, IfOk, le-ltb}
 use Rattle.der_types_text.specs.Der.Limits.{length_max, levels_max}

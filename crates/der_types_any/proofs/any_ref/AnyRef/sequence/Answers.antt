@@ -1,3 +1,4 @@
+-- Goals of `any_ref::AnyRef::sequence` that the checker doesn't prove by itself.
 use Rattle.std.proofs.Common.{◌≡◌, ◌∙◌, true, ap, sym, rules}
 use Rattle.std.proofs.lemmas.Result.{err_from_is_err_and}
 use Rattle.der_types_text.specs.Der.EncodingRulesTypes.EncodingRules.TheVariants as encodings

@@ -1,3 +1,4 @@
+-- Goals of `any_ref::AnyRefDecode::decode` that the checker doesn't prove by itself.
 use Rattle.std.proofs.Common.{arith}
 use Rattle.der_types_text.proofs.Der.Levels.{slice_few}
 use Rattle.der_types_any.proofs.any_ref.AnyRefDecode.decode.Goals as goal

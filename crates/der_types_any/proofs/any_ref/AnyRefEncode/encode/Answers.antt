@@ -1,3 +1,4 @@
+-- Goals of `any_ref::AnyRefEncode::encode` that the checker doesn't prove by itself.
 use Rattle.std.proofs.Common.{refl}
 use Rattle.der_types_text.specs.Der.Leaves.{octets}
 use Rattle.der_types_text.specs.Der.Shapes.{leaf, octets_of, contents}

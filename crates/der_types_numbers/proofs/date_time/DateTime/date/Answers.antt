@@ -1,3 +1,4 @@
+-- Goals of `date_time::DateTime::date` that the checker doesn't prove by itself.
 use Rattle.std.proofs.Common.{◌≡◌, w16, ℤ, pos, arith, subst, sym, ◌∙◌, ap, to_z}
 use Rattle.jiff_core.specs.Calendar.{IsCivilDate, days_from_civil}
 use Rattle.std.proofs.lemmas.Int.{to_z_pos}

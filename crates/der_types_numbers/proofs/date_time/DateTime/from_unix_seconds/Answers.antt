@@ -1,3 +1,4 @@
+-- Goals of `date_time::DateTime::from_unix_seconds` that the checker doesn't prove by itself.
 use Rattle.std.proofs.Common.{◌≡◌, ◌/◌, ◌%◌, ℤ, pos, ◌≤ℤ◌, w64, arith, subst, sym, ◌∙◌, true}
 use Rattle.std.proofs.lemmas.Int.{to_z_pos}
 use Rattle.std.proofs.lemmas.Result.{IfOk-weaker}

@@ -1,3 +1,4 @@
+-- Goals of `date_time::DateTime::is_before_2050` that the checker doesn't prove by itself.
 use Rattle.std.proofs.Common.{◌<◌, IsTrue, subst, arith, ltb, ◌↔◌, ltb-true, lt-ltb}
 use Rattle.der_core.specs.Dates.{Civil}
 use Rattle.der_types_numbers.specs.Seconds.{unix_seconds}

@@ -1,3 +1,4 @@
+-- Goals of `date_time::DateTimeFromStr::from_str` that the checker doesn't prove by itself.
 use Rattle.std.proofs.Common.{◌≡◌, Some, None, sym, ap, ◌∙◌}
 use Rattle.der_types_numbers.specs.DateTexts.{text_at}
 use Rattle.der_types_numbers.proofs.SecondsOrders.{text_at-sound, text_at-again}

@@ -1,3 +1,4 @@
+-- Goals of `int_ref::IntRef::of_content` that the checker doesn't prove by itself.
 use Rattle.std.proofs.Common.{◌<◌, length, sym, ◌∙◌, arith}
 use Rattle.der_core.proofs.IntegerLaws.{integer_octets-of}
 use Rattle.std.proofs.lemmas.Bool.{eqb-false}

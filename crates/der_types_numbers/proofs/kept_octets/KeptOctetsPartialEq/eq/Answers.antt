@@ -1,3 +1,4 @@
+-- Goals of `kept_octets::KeptOctetsPartialEq::eq` that the checker doesn't prove by itself.
 use Rattle.std.proofs.Common.{◌≡◌, take, sym, ap, ◌∙◌}
 use Rattle.std.proofs.lemmas.List.{take-take}
 use Rattle.std.specs.Cmp.Lexicographic.{bytes_decides}

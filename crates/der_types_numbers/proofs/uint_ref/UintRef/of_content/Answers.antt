@@ -1,3 +1,4 @@
+-- Goals of `uint_ref::UintRef::of_content` that the checker doesn't prove by itself.
 use Rattle.std.proofs.Common.{◌<◌, length, sym, ◌∙◌, arith}
 use Rattle.std.proofs.lemmas.Bool.{eqb-false}
 use Rattle.der_types_numbers.proofs.Naturals.{natural_content}

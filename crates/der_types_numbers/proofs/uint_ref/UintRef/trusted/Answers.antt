@@ -1,3 +1,4 @@
+-- Goals of `uint_ref::UintRef::trusted` that the checker doesn't prove by itself.
 use Rattle.std.proofs.Common.{arith}
 use Rattle.der_types_numbers.proofs.Naturals.{natural_few}
 use Rattle.der_types_numbers.proofs.uint_ref.UintRef.trusted.Goals as goal

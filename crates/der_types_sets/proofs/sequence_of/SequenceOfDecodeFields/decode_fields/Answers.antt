@@ -1,3 +1,5 @@
+-- Goals of `sequence_of::SequenceOfDecodeFields::decode_fields` that the checker doesn't prove by
+-- itself.
 use Rattle.std.proofs.Common.{◌≡◌, ◌≤◌, ◌-◌, [], ◌∷◌, refl, sym, ap, ◌∙◌, arith, ◌≢◌, length-append}
 use Rattle.std.proofs.lemmas.Result.{err_from_is_err_and}
 use Rattle.der_core.specs.ErrorTypes.ErrorKind.TheVariants as kinds

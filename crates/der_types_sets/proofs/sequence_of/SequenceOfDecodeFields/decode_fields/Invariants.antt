@@ -1,3 +1,4 @@
+-- The loop invariants of `sequence_of::SequenceOfDecodeFields::decode_fields`.
 use Rattle.std.proofs.Common.{◌≡◌, ◌-◌, length}
 use Rattle.der_core.specs.ErrorTypes.ErrorKind.TheVariants as kinds
 use Rattle.der_core.specs.Grammar.{read_many}

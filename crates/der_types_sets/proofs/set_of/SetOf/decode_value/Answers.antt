@@ -1,3 +1,4 @@
+-- Goals of `set_of::SetOf::decode_value` that the checker doesn't prove by itself.
 use Rattle.std.proofs.Common.{List, [], Ok, subst, ap, arith, inl}
 use Rattle.std.proofs.lemmas.Result.{err_from_is_err_and}
 use Rattle.der_core.specs.Heads.{Fits}

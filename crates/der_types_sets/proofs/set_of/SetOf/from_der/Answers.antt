@@ -1,3 +1,4 @@
+-- Goals of `set_of::SetOf::from_der` that the checker doesn't prove by itself.
 use Rattle.std.proofs.Common.{◌≡◌, true, List, Ok, ap}
 use Rattle.std.proofs.lemmas.Result.{err_from_is_err_and}
 use Rattle.der_core.specs.Shapes.{Value}

@@ -1,3 +1,4 @@
+-- Goals of `set_of_ref::SetOfRef::content_len` that the checker doesn't prove by itself.
 use Rattle.std.proofs.Common.{sym, ◌∙◌, eqb-true}
 use Rattle.der_types_sets.proofs.LentOrders.{some_at, values_sized, octets_sized}
 use Rattle.der_types_sets.proofs.set_of_ref.SetOfRef.content_len.Goals as goal

@@ -1,3 +1,4 @@
+-- Goals of `set_of_ref::SetOfRef::decode_members` that the checker doesn't prove by itself.
 use Rattle.std.proofs.Common.{◌≡◌, List, [], length, drop, Ok, refl, ap, sym, subst, ◌∙◌, arith}
 use Rattle.std.proofs.lemmas.List.{drop_all}
 use Rattle.der_core.specs.Limits.{levels_max}

@@ -1,3 +1,4 @@
+-- Goals of `set_of_ref::SetOfRef::der_cmp` that the checker doesn't prove by itself.
 use Rattle.std.proofs.Common.{Ok, ap, subst, inr, sym, ◌∙◌, Ordering}
 use Rattle.std.proofs.lemmas.Result.{err_from_is_err_and, IfErr-weaker}
 use Rattle.der_core.specs.TagTypes.Tag.TheVariants as tags
@@ -30,7 +31,7 @@ returns-in_err-other_len g c =
 
 pub returns-then-is_ne-clause-order : goal.returns-then-is_ne-clause-order
 returns-then-is_ne-clause-order g c = λ apart p q.
-    let decided = headers_decide tags.Set tags.Set (nested (many g.T.Shaped.shape)) _ _ _ _ _ p q c.in_ok-len.ensures c.in_ok-other_len.ensures (one_tag _ _ _ _ c.length_cmp-lengths.ensures) (sym c.is_ne.ensures ∙ c.if-is_ne.true) in
+    let decided = headers_decide tags.Set tags.Set (nested (many g.T.Shaped.shape)) _ _ _ _ _ c.in_ok-len.ensures c.in_ok-other_len.ensures (one_tag _ _ _ _ c.length_cmp-lengths.ensures) (sym c.is_ne.ensures ∙ c.if-is_ne.true) in
     ap (λ o. Ok o) (sym decided)
 
 pub returns : goal.returns
@@ -40,7 +41,7 @@ returns g c =
     let w = members_lent g.T.Shaped.shape g.T.Shaped.written c.args.other.now in
     record {
       order = λ apart p q.
-          let decided = contents_decide tags.Set tags.Set k v w _ _ _ p q c.in_ok-len.ensures c.in_ok-other_len.ensures (one_tag _ _ _ _ c.length_cmp-lengths.ensures) (sym c.is_ne.ensures ∙ c.if-is_ne.false) in
+          let decided = contents_decide tags.Set tags.Set k v w _ _ _ c.in_ok-len.ensures c.in_ok-other_len.ensures (one_tag _ _ _ _ c.length_cmp-lengths.ensures) (sym c.is_ne.ensures ∙ c.if-is_ne.false) in
           subst (λ (o : Ordering). Gives (λ x. x) c.value_cmp.result (Ok o)) decided (c.value_cmp.ensures.order apart (tagged_content tags.Set k v p) (tagged_content tags.Set k w q));
       refused = IfErr-weaker c.value_cmp.result _ _ (inside_long _ tags.Set k v w) c.value_cmp.ensures.refused;
     }

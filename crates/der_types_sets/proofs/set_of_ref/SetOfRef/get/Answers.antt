@@ -1,3 +1,4 @@
+-- Goals of `set_of_ref::SetOfRef::get` that the checker doesn't prove by itself.
 use Rattle.std.proofs.Common.{◌≡◌, ℕ, suc, ◌+◌, sym, ap, ◌∙◌, arith, drop}
 use Rattle.der_core.proofs.IterOrders.{next_left}
 use Rattle.der_types_sets.specs.Lent.{members_lent}

@@ -1,3 +1,4 @@
+-- The loop invariants of `set_of_ref::SetOfRef::get`.
 use Rattle.std.proofs.Common.{◌≡◌, drop}
 use Rattle.der_types_sets.specs.Lent.{members_lent}
 use Rattle.der_types_sets.proofs.set_of_ref.SetOfRef.get.Given as goal

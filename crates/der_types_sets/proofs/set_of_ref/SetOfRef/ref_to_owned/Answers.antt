@@ -1,3 +1,4 @@
+-- Goals of `set_of_ref::SetOfRef::ref_to_owned` that the checker doesn't prove by itself.
 use Rattle.std.proofs.Common.{rules}
 use Rattle.der_types_sets.specs.Lent.{members_lent}
 use Rattle.der_types_sets.proofs.SetSteps.{yielded}

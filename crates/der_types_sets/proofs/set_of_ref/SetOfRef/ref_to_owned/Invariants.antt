@@ -1,3 +1,4 @@
+-- The loop invariants of `set_of_ref::SetOfRef::ref_to_owned`.
 use Rattle.std.proofs.Common.{◌≡◌, ◌++◌}
 use Rattle.der_core.specs.Grammar.{plain_list}
 use Rattle.der_types_sets.specs.Lent.{members_lent}

@@ -1,3 +1,4 @@
+-- Goals of `set_of_ref::SetOfRef::value_cmp` that the checker doesn't prove by itself.
 use Rattle.std.proofs.Common.{Ok, ap, sym, ◌∙◌, inl, inr, eqb-true}
 use Rattle.std.proofs.lemmas.Result.{err_from_is_err_and, IfErr-weaker}
 use Rattle.der_core.specs.Shapes.{many, contents, body_octets, IsContent}

@@ -1,3 +1,5 @@
+-- Goals of `set_of_ref::SetOfRefInRangeValue::value_in_range` that the checker doesn't prove by
+-- itself.
 use Rattle.der_types_sets.proofs.LentOrders.{lent_in_range}
 use Rattle.der_types_sets.proofs.set_of_ref.SetOfRefInRangeValue.value_in_range.Goals as goal
 

@@ -1,3 +1,4 @@
+-- Goals of `set_of_ref_iter::SetOfRefIterIterator::next` that the checker doesn't prove by itself.
 use Rattle.std.proofs.Common.{List, length, ap, arith}
 use Rattle.der_core.specs.Shapes.{Value}
 use Rattle.der_types_sets.proofs.SetSteps.{front_lent}

@@ -1,3 +1,4 @@
+-- Goals of `set_of_vec::SetOfVec::decode_value_strict` that the checker doesn't prove by itself.
 use Rattle.std.proofs.Common.{subst, sym}
 use Rattle.der_core.specs.Shapes.{Value}
 use Rattle.der_core.specs.Grammar.{plain_list}

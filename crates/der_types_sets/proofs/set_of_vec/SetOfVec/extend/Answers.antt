@@ -1,3 +1,4 @@
+-- Goals of `set_of_vec::SetOfVec::extend` that the checker doesn't prove by itself.
 use Rattle.std.proofs.Common.{◌∙◌, ◌≡◌, List, [], ◌∷◌, ◌++◌, Option, Some, None, Result, Ok, Err, refl, subst, inl, OnOk, IfErr}
 use Rattle.std.proofs.lemmas.Result.{err_from_is_err_and}
 use Rattle.std.specs.Iterator.{Yields, YieldsThen, ExtendsWithItems}
@@ -7,8 +8,7 @@ use Rattle.der_types_sets.specs.Sets.{StopsAt, StopsIn, Gains}
 use Rattle.der_core.specs.ErrorTypes.ErrorKind.TheVariants as kinds
 use Rattle.der_types_sets.proofs.set_of_vec.SetOfVec.extend.Goals as goal
 
--- Items that were taken, of which one is refused.
--- what was given begins with these items
+-- Items that were taken, of which one is rejected. what was given begins with these items
 record GaveFirst {S A : Type 0} (steps : S → Option A → S → Type 0) (s : S) (front : List A) (x : A) : Type 0 where
   rest : S
   gave : YieldsThen steps s front (Some x) rest
@@ -33,7 +33,7 @@ module _ {U T A : Type 0} (s : Shape) (f : A → Value s) (becomes : U → T →
       let w = front_of e h in
       ((it, h.front, took, h.gains, (w.gave.0, w.gave.1)), (it, h.front, h.refused, w.rest, took, w.gave, h.gains, h.why))
 
-  -- all went in, and the next one was refused for want of memory
+  -- all went in, and the next one was refused for out of memory
   stopped_next : (e : Error) (x : A) (rest : T) → steps t (Some x) rest → Gains s f now came new → e.kind ≡ kinds.OutOfMemory
       → ExtendsWithItems becomes steps (Gains s f) items old new (Err e) × StopsAt s f becomes steps items old new e
   stopped_next e x rest next k none = let gains = moved (λ a b. Gains s f a b new) k in ((it, xs, took, gains, (t, gave)), (it, xs, x, rest, took, (t, gave, next), gains, inl none))

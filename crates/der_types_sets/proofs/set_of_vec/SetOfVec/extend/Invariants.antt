@@ -1,3 +1,4 @@
+-- The loop invariants of `set_of_vec::SetOfVec::extend`.
 use Rattle.std.proofs.Common.{◌≡◌}
 use Rattle.der_types_sets.proofs.set_of_vec.SetOfVec.extend.Given as goal
 

@@ -1,3 +1,4 @@
+-- Goals of `set_of_vec::SetOfVec::from_iter` that the checker doesn't prove by itself.
 use Rattle.std.proofs.Common.{List, subst}
 use Rattle.std.proofs.lemmas.Result.{err_from_is_err_and}
 use Rattle.der_types_sets.specs.Sets.{StopsAt}

@@ -1,3 +1,4 @@
+-- Goals of `set_of_vec::SetOfVec::gain` that the checker doesn't prove by itself.
 use Rattle.std.proofs.Common.{ℕ, List, ◌<◌, ◌≡◌, ◌++◌, arith, length, subst}
 use Rattle.std.proofs.lemmas.Result.{err_from_is_err_and, IfErr-weaker}
 use Rattle.der_types_sets.specs.Sets.{StopsBehind}

@@ -1,3 +1,4 @@
+-- Goals of `class_field::ClassField::decode` that the checker doesn't prove by itself.
 use Rattle.std.proofs.Common.{◌≡◌, ◌/◌, true, Err, ap, subst, ◌∙◌, ℕ, List, Result, Ok, refl}
 use Rattle.std.proofs.lemmas.Result.{err_from_is_err_and}
 use Rattle.der_core.specs.TagTypes.Tag.{Tag}
@@ -15,8 +16,8 @@ use Rattle.der_core.specs.Fronts.{alone}
 use Rattle.der_types_tagged.specs.Fields.{explicit_field, numbered_at}
 use Rattle.der_types_tagged.proofs.class_field.ClassField.decode.Goals as goal
 
--- Fields of a class, whatever their numbers.
--- what is refused with the number that stands there is refused
+-- Fields of a class, whatever their numbers. what is rejected with the number that is there is
+-- rejected
 numbered_stops : (rules : EncodingRules) (class : ℕ) (s : Shape) (room : ℕ) (w : List ℕ) (h : Head) (k : ErrorKind) → alone (head_by rules w) ≡ Ok h
     → read_by rules (explicit_field class (number_of h.tag) s) room w ≡ Err k → numbered_at rules class s room w ≡ Err k
 unfolding numbered_at

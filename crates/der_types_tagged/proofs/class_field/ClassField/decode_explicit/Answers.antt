@@ -1,3 +1,4 @@
+-- Goals of `class_field::ClassField::decode_explicit` that the checker doesn't prove by itself.
 use Rattle.std.proofs.Common.{Err, subst}
 use Rattle.std.proofs.lemmas.Result.{err_from_is_err_and}
 use Rattle.der_core.specs.TagTypes.Tag.{Tag}

@@ -1,3 +1,4 @@
+-- Goals of `ascii_string_ref::AsciiStringRef::as_str` that the checker doesn't prove by itself.
 use Rattle.der_core.specs.Texts.{is_within}
 use Rattle.der_types_text.proofs.BmpTexts.{ascii_octets}
 use Rattle.der_types_text.proofs.ascii_string_ref.AsciiStringRef.as_str.Goals as goal

@@ -1,3 +1,4 @@
+-- Goals of `ascii_string_ref::AsciiStringRef::spelled_by` that the checker doesn't prove by itself.
 use Rattle.der_core.specs.Texts.{is_within}
 use Rattle.der_types_text.proofs.BmpTexts.{ascii_is_utf8}
 use Rattle.der_types_text.proofs.ascii_string_ref.AsciiStringRef.spelled_by.Goals as goal

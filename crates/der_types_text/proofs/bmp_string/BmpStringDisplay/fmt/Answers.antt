@@ -1,3 +1,4 @@
+-- Goals of `bmp_string::BmpStringDisplay::fmt` that the checker doesn't prove by itself.
 use Rattle.std.proofs.Common.{◌++◌, encode_utf8, encode_utf8_all, sym, ap, ◌∙◌, append_assoc, rules}
 use Rattle.std.proofs.Output.{has_written_append}
 use Rattle.der_types_text.proofs.bmp_string.BmpStringDisplay.fmt.Goals as goal

@@ -1,3 +1,4 @@
+-- The loop invariants of `bmp_string::BmpStringDisplay::fmt`.
 use Rattle.std.proofs.Common.{◌≡◌, ℕ, List, ◌++◌, encode_utf8_all}
 use Rattle.std.specs.Fmt.{HasWritten, IsPlainFormatter}
 use Rattle.der_types_text.proofs.bmp_string.BmpStringDisplay.fmt.Given as goal

@@ -1,3 +1,4 @@
+-- Goals of `bmp_string::BmpStringPartialEq::eq` that the checker doesn't prove by itself.
 use Rattle.der_types_text.proofs.BmpTexts.{pointwise-bmp_octets}
 use Rattle.der_types_text.proofs.bmp_string.BmpStringPartialEq.eq.Goals as goal
 

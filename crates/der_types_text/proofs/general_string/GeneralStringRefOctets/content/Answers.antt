@@ -1,3 +1,5 @@
+-- Goals of `general_string::GeneralStringRefOctets::content` that the checker doesn't prove by
+-- itself.
 use Rattle.std.proofs.Common.{subst}
 use Rattle.der_core.specs.Octets.{IsOctets}
 use Rattle.der_types_text.proofs.BmpTexts.{all_within}

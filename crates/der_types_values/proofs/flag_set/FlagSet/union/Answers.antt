@@ -1,3 +1,4 @@
+-- Goals of `flag_set::FlagSet::union` that the checker doesn't prove by itself.
 use Rattle.std.proofs.lemmas.Nat.{or_lt}
 use Rattle.der_types_values.proofs.flag_set.FlagSet.union.Goals as goal
 

@@ -1,3 +1,4 @@
+-- Goals of `crl_builder::CrlBuilder::with_certificates` that the checker doesn't prove by itself.
 use Rattle.x509_cert_lists.specs.ListViews.{revoked_cert_plain}
 use Rattle.x509_cert.proofs.RequestParts.{added_same}
 use Rattle.x509_cert.proofs.crl_builder.CrlBuilder.with_certificates.Goals as goal

@@ -1,3 +1,5 @@
+-- Goals of `request_builder::RequestBuilder::add_attribute` that the checker doesn't prove by
+-- itself.
 use Rattle.std.proofs.Common.{List, ap}
 use Rattle.std.proofs.lemmas.Result.{err_from_is_err_and}
 use Rattle.x509_cert_lists.specs.CertNames.Names.{PlainAttribute}

@@ -1,3 +1,4 @@
+-- Goals of `request_builder::RequestBuilder::part_for` that the checker doesn't prove by itself.
 use Rattle.std.proofs.Common.{refl, sym, ap, ◌∙◌}
 use Rattle.std.proofs.lemmas.Result.{err_from_is_err_and}
 use Rattle.x509_cert_anchors.specs.Oid.Bound.{Bound}

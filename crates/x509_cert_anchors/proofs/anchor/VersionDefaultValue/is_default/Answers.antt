@@ -1,3 +1,4 @@
+-- Goals of `anchor::VersionDefaultValue::is_default` that the checker doesn't prove by itself.
 use Rattle.std.proofs.Common.{ℕ, List, sym, ap, bytes_eq}
 use Rattle.x509_cert_anchors.specs.Anchors.{first_anchor_version_octets}
 use Rattle.x509_cert_anchors.proofs.VersionOctets.{one_octets, one_valid}

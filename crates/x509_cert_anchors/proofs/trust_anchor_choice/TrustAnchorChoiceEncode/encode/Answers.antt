@@ -1,3 +1,5 @@
+-- Goals of `trust_anchor_choice::TrustAnchorChoiceEncode::encode` that the checker doesn't prove
+-- by itself.
 use Rattle.std.proofs.Common.{subst}
 use Rattle.der_core.specs.Oid.Bound.{Bound}
 use Rattle.der_core.specs.Shapes.{Value, octets_of}
@@ -7,4 +9,4 @@ use Rattle.x509_cert_anchors.proofs.trust_anchor_choice.TrustAnchorChoiceEncode.
 
 pub returns-clause-front : goal.returns-clause-front
 returns-clause-front g c =
-    subst (λ (v : Value (trust_anchor_choice Bound g.P.Profile.serial_limit)). AddsFront (octets_of (trust_anchor_choice Bound g.P.Profile.serial_limit) v) (g.W.Writer.out c.args.writer.now) (g.W.Writer.out c.encode.new.writer)) c.cases.ensures c.encode.ensures.front
+    subst (λ (v : Value (trust_anchor_choice Bound g.P.Profile.serial_limit)). AddsFront (octets_of (trust_anchor_choice Bound g.P.Profile.serial_limit) v) (g.W.Writer.out c.args.writer.now) (g.W.Writer.out c.encode_field.new.writer)) c.cases.ensures c.encode_field.ensures.front

@@ -1,3 +1,5 @@
+-- Goals of `certificate_builder::CertificateBuilderBuilder::assemble` that the checker doesn't
+-- prove by itself.
 use Rattle.std.proofs.Common.{◌∙◌, Some, sym, ap}
 use Rattle.x509_cert_certificates.specs.Oid.Bound.{Bound}
 use Rattle.x509_cert_certificates.specs.Views.{certificate_plain, tbs_plain}

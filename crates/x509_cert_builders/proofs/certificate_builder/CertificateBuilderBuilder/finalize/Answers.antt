@@ -1,3 +1,5 @@
+-- Goals of `certificate_builder::CertificateBuilderBuilder::finalize` that the checker doesn't
+-- prove by itself.
 use Rattle.std.proofs.Common.{◌++◌, List, ap, ◌∙◌}
 use Rattle.x509_cert_certificates.specs.Views.{tbs_plain}
 use Rattle.x509_cert_certificates.specs.CertParts.Grammar.{PlainExtension}

@@ -1,3 +1,4 @@
+-- Goals of `dev_id::DevId::idevid_tpm` that the checker doesn't prove by itself.
 use Rattle.std.proofs.Common.{◌≡◌, Err, Ok, Some, [], ◌∷◌, ap, inl, rules}
 use Rattle.x509_cert_certificates.specs.Der.Reading.{Fails}
 use Rattle.x509_cert_certificates.specs.Der.Grammar.{plain_list}

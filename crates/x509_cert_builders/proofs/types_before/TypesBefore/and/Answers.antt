@@ -1,3 +1,4 @@
+-- Goals of `types_before::TypesBefore::and` that the checker doesn't prove by itself.
 use Rattle.x509_cert_builders.proofs.Subjects.{one_more}
 use Rattle.x509_cert_builders.proofs.types_before.TypesBefore.and.Goals as goal
 

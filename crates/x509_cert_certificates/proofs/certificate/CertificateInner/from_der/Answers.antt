@@ -1,3 +1,4 @@
+-- Goals of `certificate::CertificateInner::from_der` that the checker doesn't prove by itself.
 use Rattle.std.proofs.Common.{refl}
 use Rattle.x509_cert_certificates.proofs.certificate.CertificateInner.from_der.Goals as goal
 

@@ -1,3 +1,4 @@
+-- Goals of `tbs_certificate::TbsCertificateInner::clone` that the checker doesn't prove by itself.
 use Rattle.std.proofs.Common.{sym, ap, ◌∙◌, pos}
 use Rattle.der_core.proofs.ValueEquality.{itself_absent}
 use Rattle.x509_cert_parts.specs.Views.{time_value, version_number}

@@ -1,3 +1,4 @@
+-- Goals of `crl_number::CrlNumber::try_from_u128` that the checker doesn't prove by itself.
 use Rattle.std.proofs.Common.{◌≡◌, ℕ, ◌-◌, List, Ok, ap, ◌∙◌, rules, pos, take, drop}
 use Rattle.std.proofs.lemmas.List.{take_rest}
 use Rattle.x509_cert_policies.specs.Der.TagTypes.Tag.TheVariants.{Integer}

@@ -1,9 +1,11 @@
-use Rattle.der_core.specs.Oid.Bound.{Bound}
-use Rattle.x509_cert_general_names.specs.GeneralNames.{general_name}
-use Rattle.x509_cert_general_names.specs.GeneralNameViews.{general_name_plain}
-use Rattle.x509_cert_names.proofs.Rows.{compared}
+-- Goals of `general_name::GeneralNameDerOrd::der_cmp` that the checker doesn't prove by itself.
 use Rattle.x509_cert_general_names.proofs.general_name.GeneralNameDerOrd.der_cmp.Goals as goal
 
 pub returns-clause-order : goal.returns-clause-order
-returns-clause-order c =
-    λ apart. compared (general_name Bound) _ _ (general_name_plain c.args.self.now) (general_name_plain c.args.other.now) c.der_cmp.result c.cases.ensures c.cases-2.ensures (c.der_cmp.ensures.order apart)
+returns-clause-order c = c.cases_cmp.ensures.order _ _ c.cases.ensures c.cases-2.ensures
+
+pub returns-clause-exact : goal.returns-clause-exact
+returns-clause-exact c = c.cases_cmp.ensures.exact _ _ c.cases.ensures c.cases-2.ensures
+
+pub returns-clause-refused : goal.returns-clause-refused
+returns-clause-refused c = c.cases_cmp.ensures.refused _ _ c.cases.ensures c.cases-2.ensures

@@ -1,3 +1,4 @@
+-- Goals of `extension_kind::ExtensionKind::of` that the checker doesn't prove by itself.
 use Rattle.std.proofs.Common.{sym, ◌∙◌}
 use Rattle.std.specs.Cmp.Lexicographic.{bytes_decides}
 use Rattle.std.proofs.lemmas.Bool.{both_ways}

@@ -1,3 +1,4 @@
+-- Goals of `certificate_list::CertificateList::from_der` that the checker doesn't prove by itself.
 use Rattle.std.proofs.Common.{refl}
 use Rattle.x509_cert_lists.proofs.certificate_list.CertificateList.from_der.Goals as goal
 

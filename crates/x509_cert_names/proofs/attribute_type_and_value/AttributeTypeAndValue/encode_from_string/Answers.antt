@@ -1,3 +1,5 @@
+-- Goals of `attribute_type_and_value::AttributeTypeAndValue::encode_from_string` that the checker
+-- doesn't prove by itself.
 use Rattle.std.proofs.lemmas.Result.{err_from_is_err_and}
 use Rattle.x509_cert_names.specs.NameTexts.{ReadsEncoding}
 use Rattle.x509_cert_names.proofs.attribute_type_and_value.AttributeTypeAndValue.encode_from_string.Goals as goal

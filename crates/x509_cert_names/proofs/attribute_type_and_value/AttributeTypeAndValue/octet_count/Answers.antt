@@ -1,3 +1,5 @@
+-- Goals of `attribute_type_and_value::AttributeTypeAndValue::octet_count` that the checker doesn't
+-- prove by itself.
 use Rattle.std.proofs.Common.{ℕ, ◌+◌, ◌<◌, Ok, length, ap, subst, ◌∙◌, arith}
 use Rattle.der_core.specs.Octets.{IsOctets}
 use Rattle.der_core.specs.Tags.{number_of}

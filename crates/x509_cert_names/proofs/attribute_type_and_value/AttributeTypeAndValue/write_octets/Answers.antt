@@ -1,3 +1,5 @@
+-- Goals of `attribute_type_and_value::AttributeTypeAndValue::write_octets` that the checker
+-- doesn't prove by itself.
 use Rattle.std.proofs.Common.{◌<◌, ap, subst, ◌∙◌, arith}
 use Rattle.der_core.specs.Tags.{leading_octet, number_of}
 use Rattle.der_core.specs.Outputs.{AddsFront}

@@ -1,3 +1,5 @@
+-- Goals of `attribute_type_and_value::AttributeTypeAndValueDisplay::fmt` that the checker doesn't
+-- prove by itself.
 use Rattle.std.proofs.Common.{ap, ◌∙◌, option_map}
 use Rattle.std.proofs.Output.{has_written_of_eq}
 use Rattle.x509_cert_names.proofs.Printed.{text_printed, no_text_printed, no_key_printed}

@@ -1,3 +1,4 @@
+-- The loop invariants of `name::Name::first_value`.
 use Rattle.std.proofs.Common.{◌≡◌}
 use Rattle.der_core.specs.Grammar.{plain_list}
 use Rattle.x509_cert_names.specs.AttributeTypes.{first_value}

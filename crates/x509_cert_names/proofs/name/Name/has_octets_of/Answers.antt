@@ -1,3 +1,4 @@
+-- Goals of `name::Name::has_octets_of` that the checker doesn't prove by itself.
 use Rattle.std.proofs.Common.{sym, ap, ◌∙◌}
 use Rattle.der_core.specs.Grammar.{plain_list}
 use Rattle.x509_cert_names.specs.Pairs.{relative_plain}

@@ -1,3 +1,4 @@
+-- Goals of `name::Name::iter` that the checker doesn't prove by itself.
 use Rattle.x509_cert_names.specs.Pairs.{pair_plain}
 use Rattle.x509_cert_names.proofs.Lists.{plain_all}
 use Rattle.x509_cert_names.proofs.name.Name.iter.Goals as goal

@@ -1,3 +1,4 @@
+-- The loop invariants of `name_iter::NameIterIterator::next`.
 use Rattle.std.proofs.Common.{◌≡◌, length}
 use Rattle.x509_cert_names.specs.Views.{attributes_left}
 use Rattle.x509_cert_names.proofs.name_iter.NameIterIterator.next.Given as goal

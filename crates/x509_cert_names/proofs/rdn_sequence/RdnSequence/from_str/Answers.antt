@@ -1,3 +1,4 @@
+-- Goals of `rdn_sequence::RdnSequence::from_str` that the checker doesn't prove by itself.
 use Rattle.std.proofs.Common.{length, Ok, sym, ap, subst, ◌∙◌}
 use Rattle.std.proofs.lemmas.Bool.{eqb-true, eqb-false}
 use Rattle.std.proofs.lemmas.List.{nil_from_length}

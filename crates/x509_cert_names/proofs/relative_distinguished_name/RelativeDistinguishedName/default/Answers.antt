@@ -1,3 +1,5 @@
+-- Goals of `relative_distinguished_name::RelativeDistinguishedName::default` that the checker
+-- doesn't prove by itself.
 use Rattle.x509_cert_names.proofs.SameOctets.{none_distinct}
 use Rattle.x509_cert_names.proofs.relative_distinguished_name.RelativeDistinguishedName.default.Goals as goal
 

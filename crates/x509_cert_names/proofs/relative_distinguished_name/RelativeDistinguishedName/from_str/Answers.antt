@@ -1,3 +1,5 @@
+-- Goals of `relative_distinguished_name::RelativeDistinguishedName::from_str` that the checker
+-- doesn't prove by itself.
 use Rattle.std.proofs.Common.{Err, inl, inr, sym, subst}
 use Rattle.std.proofs.lemmas.Result.{err_from_is_err_and}
 use Rattle.der_core.specs.Oid.Bound.{Bound}

@@ -1,3 +1,5 @@
+-- Goals of `relative_distinguished_name::RelativeDistinguishedName::insert` that the checker
+-- doesn't prove by itself.
 use Rattle.std.proofs.Common.{◌≡◌, List, true, false, inl, sym, subst, ◌∙◌}
 use Rattle.std.specs.List.{list_any}
 use Rattle.std.proofs.lemmas.List.Sorted.{IsPermutation-insert}

@@ -1,3 +1,5 @@
+-- Goals of `relative_distinguished_name::RelativeDistinguishedName::try_from_vec` that the checker
+-- doesn't prove by itself.
 use Rattle.std.proofs.Common.{◌≡◌, List, true, inl, sym, subst}
 use Rattle.std.proofs.lemmas.Map.Keys.{IsDistinct-IsPermutation}
 use Rattle.der_core.specs.Oid.Bound.{Bound}

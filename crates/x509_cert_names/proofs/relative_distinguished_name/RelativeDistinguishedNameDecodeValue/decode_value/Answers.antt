@@ -1,3 +1,5 @@
+-- Goals of `relative_distinguished_name::RelativeDistinguishedNameDecodeValue::decode_value` that
+-- the checker doesn't prove by itself.
 use Rattle.std.proofs.Common.{[], ◌∷◌, refl, ◌≡◌, ℕ, zero, suc, ◌<◌, ◌≤◌, List, length, take, drop, Ok, sym, ap, ◌∙◌, arith, append-nil, le-ltb}
 use Rattle.x509_cert_names.specs.Pairs.{pair_plain}
 use Rattle.x509_cert_names.proofs.SameOctets.{rising_distinct}

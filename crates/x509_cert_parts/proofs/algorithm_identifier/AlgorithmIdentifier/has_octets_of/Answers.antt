@@ -1,3 +1,5 @@
+-- Goals of `algorithm_identifier::AlgorithmIdentifier::has_octets_of` that the checker doesn't
+-- prove by itself.
 use Rattle.std.proofs.Common.{sym, ◌∙◌}
 use Rattle.x509_cert_parts.proofs.ValueEquality.{algorithms}
 use Rattle.x509_cert_parts.proofs.algorithm_identifier.AlgorithmIdentifier.has_octets_of.Goals as goal

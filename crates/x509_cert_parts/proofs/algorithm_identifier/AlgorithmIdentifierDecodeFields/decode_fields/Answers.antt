@@ -1,3 +1,5 @@
+-- Goals of `algorithm_identifier::AlgorithmIdentifierDecodeFields::decode_fields` that the checker
+-- doesn't prove by itself.
 use Rattle.std.proofs.Common.{length, refl, ap, ◌∙◌, arith}
 use Rattle.der_core.specs.Oid.Bound.{Bound}
 use Rattle.x509_cert_parts.specs.Grammar.{algorithm_fields}

@@ -1,3 +1,4 @@
+-- Goals of `extensions_of::ExtensionsOfIterator::next` that the checker doesn't prove by itself.
 use Rattle.std.proofs.Common.{rules}
 use Rattle.x509_cert_parts.specs.Views.{extension_plain}
 use Rattle.x509_cert_parts.proofs.extensions_of.ExtensionsOfIterator.next.Goals as goal

@@ -1,3 +1,4 @@
+-- Goals of `serial_number::SerialNumber::from_u64` that the checker doesn't prove by itself.
 use Rattle.std.proofs.Common.{◌≡◌, ℕ, ◌-◌, List, Ok, ap, ◌∙◌, rules, pos, take, drop}
 use Rattle.std.proofs.lemmas.List.{take_rest}
 use Rattle.der_core.specs.TagTypes.Tag.TheVariants.{Integer}

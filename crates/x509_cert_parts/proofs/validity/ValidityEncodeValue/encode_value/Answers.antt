@@ -1,3 +1,4 @@
+-- Goals of `validity::ValidityEncodeValue::encode_value` that the checker doesn't prove by itself.
 use Rattle.std.proofs.Common.{subst}
 use Rattle.der_core.specs.Shapes.{BodyValue}
 use Rattle.der_core.specs.Writing.{Writes, write_body}

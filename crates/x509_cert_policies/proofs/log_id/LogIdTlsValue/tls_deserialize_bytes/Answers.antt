@@ -1,3 +1,4 @@
+-- Goals of `log_id::LogIdTlsValue::tls_deserialize_bytes` that the checker doesn't prove by itself.
 use Rattle.x509_cert_policies.proofs.Readings.{exactly_spelled}
 use Rattle.x509_cert_policies.proofs.log_id.LogIdTlsValue.tls_deserialize_bytes.Goals as goal
 

@@ -1,3 +1,5 @@
+-- Goals of `signed_certificate_timestamp::SignedCertificateTimestampTlsValue::tls_deserialize_bytes`
+-- that the checker doesn't prove by itself.
 use Rattle.std.proofs.lemmas.Result.{err_from_is_err_and}
 use Rattle.x509_cert_policies.specs.Forms.{Form, long, exactly, vector, pair}
 use Rattle.x509_cert_policies.specs.Timestamps.{signed_form}

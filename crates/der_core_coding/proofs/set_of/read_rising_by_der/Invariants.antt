@@ -1,7 +1,0 @@
-use Rattle.der_core_values.specs.CoreHead.Shapes.{above}
-use Rattle.der_core_values.specs.CoreOctets.Fronts.{octets_at}
-use Rattle.der_core_values.proofs.Lists.{InTurn}
-use Rattle.der_core_coding.proofs.set_of.read_rising_by_der.Given as goal
-
-abbrev pub invariant-loop : goal.invariant-loop
-invariant-loop g l = InTurn above g.T.Shaped.shape g.T.Shaped.plain (g.R.Reader.state l.fn.reader) (octets_at l.last) (g.R.Reader.state l.reader) l.values.items l.counter

@@ -1,0 +1,2 @@
+-- Lemmas of other crates that attributes of this crate cite.
+pub use Rattle.der_types.proofs.BmpTexts.{all_within, any_read}

@@ -1,0 +1,10 @@
+-- Goals of `ascending_set_of::AscendingSetOfEncodeValue::encode_value` that the checker doesn't
+-- prove by itself.
+use Rattle.der_core.specs.Grammar.{plain_list}
+use Rattle.der_core.proofs.IterOrders.{list_fits}
+use Rattle.der_types_more.proofs.ascending_set_of.AscendingSetOfEncodeValue.encode_value.Goals as goal
+
+pub check_in_order-requires : goal.check_in_order-requires
+check_in_order-requires g c =
+    rw c.as_slice.ensures.value
+    (list_fits g.T.Shaped.shape (plain_list g.T.Shaped.written c.args.self.now.values.items) _ _ c.in_ok-encode_value.ensures.exact)

@@ -1,7 +1,0 @@
-use Rattle.der_core.specs.Oid.Bound.{Bound}
-use Rattle.x509_cert_certificates.specs.Certificates.{from_validity}
-use Rattle.x509_cert_certificates.proofs.RowOrders.{started}
-use Rattle.x509_cert_certificates.proofs.tbs_certificate.BehindRefFieldsOrd.fields_tag.Goals as goal
-
-pub returns : goal.returns
-returns g c = λ apart. started (from_validity Bound) _ _ c.fields_tag.result c.behind.ensures (c.fields_tag.ensures apart)

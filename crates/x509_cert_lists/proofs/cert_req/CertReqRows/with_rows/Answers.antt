@@ -1,0 +1,6 @@
+-- Goals of `cert_req::CertReqRows::with_rows` that the checker doesn't prove by itself.
+use Rattle.std.proofs.Common.{rules}
+use Rattle.x509_cert_lists.proofs.cert_req.CertReqRows.with_rows.Goals as goal
+
+pub returns : goal.returns
+returns g c = c.lend.ensures _ _ (search rules) (search rules)
