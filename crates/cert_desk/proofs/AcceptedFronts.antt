@@ -1,4 +1,4 @@
--- Orders are accepted in turn, up to the first that is refused.
+-- Orders are accepted one after another, up to the first that is rejected.
 use Rattle.std.proofs.Common.{◌≡◌, ℕ, ℤ, zero, suc, ◌+◌, ◌-◌, ◌<◌, ◌≤◌, List, [], ◌∷◌, ◌++◌, length, map, Bool, true, false, Option, Some, Ok, Err, Result, refl, sym, ap, ◌∙◌, subst, arith, inl, inr, slice_get, length-append}
 use Rattle.std.specs.Prelude.{IfSome}
 use Rattle.std.proofs.Math.Dec.{eqb-suc-zero}
@@ -35,7 +35,7 @@ use Rattle.cert_desk_listing.proofs.Der.Results.{plain-append}
 use Rattle.cert_desk.specs.declared.fault.Fault.TheVariants as faults
 use Rattle.cert_desk.specs.declared.role.Role.TheVariants as roles
 
--- so all of the name of a subscriber stays
+-- The profile of a subscriber keeps the whole of such a name.
 stays_if : (r : List AttributeTypeAndValue) → HasSome r → list_all may_stay (relative_plain r) ≡ true → stays (relative_plain r) ≡ true
 stays_if [] some e = absurd (omega (arith, some))
 stays_if (a ∷ r) some e = ap (λ b. not b && list_all may_stay (relative_plain (a ∷ r))) (eqb-suc-zero (length (relative_plain r))) ∙ e
@@ -53,20 +53,20 @@ can_bear roles.Subscriber text n s h =
     let right : names_subscriber (plain_list relative_plain s.0) ≡ true = subst (λ (m : PlainName). names_subscriber m ≡ true) s.2 h in
     subst (λ (m : PlainName). all_stays m ≡ true) (sym s.2) (all_stay s.0 (read_some text s.0 s.1) right)
 
--- lists and their plain values
+-- Lists and their plain values.
 pub plain_at : {A B : Type 0} (f : A → B) (xs : List A) (i : ℕ) (x : A) → slice_get xs i ≡ Some x → slice_get (plain_list f xs) i ≡ Some (f x)
 plain_at f [] i x e = absurd cc
 plain_at f (y ∷ ys) zero x e = ap (λ z. Some (f z)) (same_Some y x e)
 plain_at f (y ∷ ys) (suc i) x e = plain_at f ys i x e
 
--- what holds at each place of a list, and of one more behind it
+-- A fact about each element of a list, and about one more.
 pub each_more : {A : Type 0} (P : ℕ → A → Type 0) (xs : List A) (y : A) → ((i : ℕ) (x : A) → slice_get xs i ≡ Some x → P i x) → P (length xs) y → (i : ℕ) (x : A) → slice_get (xs ++ y ∷ []) i ≡ Some x → P i x
 each_more P [] y h p zero x e = subst (λ z. P 0 z) (same_Some y x e) p
 each_more P [] y h p (suc i) x e = absurd cc
 each_more P (z ∷ zs) y h p zero x e = h 0 x e
 each_more P (z ∷ zs) y h p (suc i) x e = each_more (λ n w. P (suc n) w) zs y (λ n w f. h (suc n) w f) p i x e
 
--- the signer of a place is there
+-- The signer for an index exists.
 pub above_within : (place count : ℕ) → place < count → place_above place < count
 above_within zero count lt = lt
 above_within (suc place) count lt = omega (arith, lt)
@@ -89,7 +89,7 @@ not_empty (x ∷ xs) h = omega arith
 pub front_more : (orders : List Order) (keys : List PublicKey) (ps : List PlainOrder) (p : PlainOrder) → AcceptsFront orders keys ps → IsAcceptedAt orders keys (length ps) p → AcceptsFront orders keys (ps ++ p ∷ [])
 front_more orders keys ps p front here = record { each = each_more (λ n q. IsAcceptedAt orders keys n q) ps p front.each here }
 
--- one order more is accepted, of what code has of orders
+-- One more order is accepted.
 pub accepted_more : (orders : List Order) (keys : List PublicKey) (xs ys : List Accepted) (a : Accepted) (place : ℕ) → ys ≡ xs ++ a ∷ [] → length xs ≡ place → AcceptsFront orders keys (orders_plain xs)
     → IsAcceptedAt orders keys place (accepted_plain a) → (length ys ≡ place + 1) × AcceptsFront orders keys (orders_plain ys)
 accepted_more orders keys xs ys a place e n front here =
@@ -116,11 +116,11 @@ module _ (orders : List Order) (keys : List PublicKey) (place : ℕ) (role : Rol
     refused = subst (λ (k : Option PublicKey). RefusesOrder (role_at (length orders) place) k o x) f (subst (λ (y : Role). RefusesOrder y key o x) e h);
   }
 
--- the keys of signers
+-- The keys of signers.
 pub key_there : {S : Type 0} (key : S → PublicKey) (signers : List S) (place : ℕ) (s : S) → slice_get signers place ≡ Some s → slice_get (map key signers) place ≡ Some (key s)
 key_there key signers place s e = slice_get-map key signers place ∙ ap (option_map key) e
 
--- all of them are accepted
+-- All orders are accepted.
 pub all_accepted : {S : Type 0} (key : S → PublicKey) (orders : List Order) (signers : List S) (xs : List Accepted) → orders ≢ [] → length signers ≡ signers_for (length orders) → length xs ≡ length orders
     → AcceptsFront orders (map key signers) (orders_plain xs) → AcceptedOrders orders (map key signers) (orders_plain xs)
 all_accepted key orders signers xs some n all front = record {
@@ -130,7 +130,7 @@ all_accepted key orders signers xs some n all front = record {
   front = front;
 }
 
--- a serial number that is accepted is short
+-- An accepted serial number has at most 20 bytes.
 short_if : (n : ℕ) (b : Bool) (z : ℤ) → nat_lt 20 (length (integer_octets (pos n))) ≡ b → (if b then Err kinds.Overlength else Ok (pos n)) ≡ Ok z → length (integer_octets z) ≤ 20
 short_if n true z e h = absurd cc
 short_if n false z e h =
@@ -153,11 +153,11 @@ are_ready orders keys ps a place p e =
     let here = a.front.each place p e in
     subst (λ n. IsReady (role_at n place) p) (sym a.all) (ready (role_at (length orders) place) (slice_get keys place) here.order p here.accepted)
 
--- the keys of signers are those of accepted orders
+-- The keys of signers are those of accepted orders.
 pub are_keys : (orders : List Order) (keys : List PublicKey) (ps : List PlainOrder) → AcceptedOrders orders keys ps → AreKeys keys ps
 are_keys orders keys ps a place key p k e = subst (λ (o : Option PublicKey). IfSome o (λ s. s ≡ p.key)) k (a.front.each place p e).accepted.key
 
--- a refusal of an order is told as the fault at its place
+-- A rejected order is reported as the error at its index.
 pub told : {S : Type 0} (key : S → PublicKey) (algorithm : S → Algorithm) (signs : S → List ℕ → Bits → Type 0) (may_refuse : S → List ℕ → Type 0) (orders : List Order) (signers : List S) (place : ℕ) (f : Fault)
     → length signers ≡ signers_for (length orders) → RefusesAt orders (map key signers) place f → Refuses key algorithm signs may_refuse orders signers (fault_at place f)
 told key algorithm signs may_refuse orders signers place faults.OutOfMemory n r = tt

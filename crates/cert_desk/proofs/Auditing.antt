@@ -1,4 +1,4 @@
--- A stream that was issued is judged under its own root.
+-- An issued chain is validated under its own root.
 use Rattle.std.proofs.Common.{◌≡◌, ◌≢◌, ◌⊎◌, inl, inr, ℕ, ◌<◌, List, [], ◌∷◌, length, Some, Result, Ok, Err, OnErr, slice_get, refl, sym, ap, ◌∙◌, subst, arith}
 use Rattle.cert_desk_listing.specs.Oid.Bound.{Bound}
 use Rattle.cert_desk_listing.specs.Der.Limits.{length_max}
@@ -21,11 +21,11 @@ use Rattle.cert_desk.specs.PlainOrders.{PlainOrder}
 use Rattle.std.proofs.lemmas.Option.{same_Some}
 use Rattle.cert_desk.proofs.Trusting.{held_at, held_is_trusted, key_is, subject_is, trusted_is_permitted}
 
--- one anchor
+-- A single trust anchor.
 abbrev anchor_alone : PlainName → PublicKey → List PlainAnchor
 anchor_alone name key = record { name = name; key = key } ∷ []
 
--- the anchor is that of the root's order
+-- The trust anchor is that of the root's order.
 module _ (root : PlainOrder) (below : List PlainOrder) (cs own : List PlainCertificate) (stream : List ℕ) (h : HoldsOrders (root ∷ below) cs stream) (chain : Chain Bound length_max own stream) where
   first_anchor : (ds : List PlainCertificate) → (c : PlainCertificate) → slice_get ds 0 ≡ Some c → root_anchors ds ≡ as_anchor c ∷ []
   first_anchor [] c e = absurd cc
@@ -43,24 +43,25 @@ module _ (root : PlainOrder) (below : List PlainOrder) (cs own : List PlainCerti
       ∙ ap (λ (n : PlainName). anchor_alone n (public_key here.certificate)) named
       ∙ ap (λ (k : PublicKey). anchor_alone root.subject k) keyed
 
-  -- what is said under the anchors of the stream's own certificates is said under that of the root's order
+  -- A fact about the chain's own first certificate as the trust anchor is one about the root's
+  -- order as the trust anchor.
   pub under_root : (anchors : List PlainAnchor) (moment : ℕ) (purpose : List ℕ) (answers : Answers) (n limit : ℕ) (P : Terms → ℕ → Type 0) → anchors ≡ root_anchors own → n ≡ limit
       → P (record { bound = Bound; anchors = anchors; moment = moment; purpose = purpose; answers = answers }) n → P (terms_for root moment purpose answers) limit
   under_root anchors moment purpose answers n limit P same_anchors same_limit p =
       subst (λ k. P (terms_for root moment purpose answers) k) same_limit
       (subst (λ (xs : List PlainAnchor). P (record { bound = Bound; anchors = xs; moment = moment; purpose = purpose; answers = answers }) n) (same_anchors ∙ anchors_are) p)
 
--- what is so is so of an error
+-- A fact that holds anyway also holds after an error.
 pub on_error : {T E : Type 0} {P : Type 0} (r : Result T E) → P → OnErr r P
 on_error (Ok x) p = tt
 on_error (Err e) p = p
 
--- one thing where a bundle's stream isn't whole, and another one where it is
+-- One fact for a bundle whose input isn't complete, and another for a bundle whose input is.
 pub asked_or_not : {A B : Type 0} (s : Standing) → ((s ≢ standings.Ended) → A) → (s ≡ standings.Ended → B) → A ⊎ B
 asked_or_not standings.Ended other ended = inr (ended refl)
 asked_or_not _ other ended = inl (other (λ e. absurd cc))
 
--- trusted exactly where it is permitted
+-- The chain is trusted exactly if the check permits it.
 pub exactly : (root : PlainOrder) (below : List PlainOrder) (cs : List PlainCertificate) (stream : List ℕ) (limit moment : ℕ) (purpose : List ℕ) (answers : Answers) (v : Verdict)
     → HoldsOrders (root ∷ below) cs stream → IsVerdict (terms_for root moment purpose answers) limit stream v
     → (v ≡ verdicts.Trusted → Permits limit moment purpose answers (root ∷ below) cs) × (Permits limit moment purpose answers (root ∷ below) cs → v ≡ verdicts.Trusted)

@@ -1,4 +1,4 @@
--- What becomes of an orders file that was read whole.
+-- The outcome for an orders file that was read to its end.
 use Rattle.std.proofs.Common.{◌≡◌, ℕ, List, inl, subst}
 use Rattle.cert_desk_listing.specs.DeskIo.Devices.{Device}
 use Rattle.cert_desk_listing.specs.DeskIo.Whole.{IsWhole, most_octets}
@@ -16,7 +16,7 @@ module _ (input : Device) (octets taken : List ℕ) (whole : IsWhole input most_
   becomes orders outcomes.Device says h = absurd h
   becomes orders outcomes.OutOfMemory says h = inl (octets, whole)
 
-  -- of a file that says orders
+  -- The file gives orders.
   pub FileBecomes-said : (orders lent : List Order) (outcome : Outcome) → SaysOrders taken orders → lent ≡ orders → OrdersBecome lent outcome → FileBecomes input outcome
   FileBecomes-said orders lent outcome says e h =
       becomes orders outcome (subst (λ o. SaysOrders o orders) same says) (subst (λ os. OrdersBecome os outcome) e h)

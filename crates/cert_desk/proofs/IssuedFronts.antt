@@ -1,4 +1,4 @@
--- Certificates are issued in turn, up to the first that isn't.
+-- Certificates are issued one after another, up to the first that isn't.
 use Rattle.std.proofs.Common.{◌≡◌, ℕ, zero, suc, Bool, true, false, ◌+◌, ◌-◌, ◌<◌, List, [], ◌∷◌, ◌++◌, length, map, Some, Result, Ok, Err, refl, sym, ap, ◌∙◌, subst, arith, get_or, slice_get, length-append}
 use Rattle.std.specs.Prelude.{◌==◌, if◌then◌else◌}
 use Rattle.std.proofs.lemmas.Grind.{flat_map-append}
@@ -34,7 +34,7 @@ use Rattle.cert_desk.proofs.AcceptedFronts.{each_more, key_there, plain_at}
 use Rattle.cert_desk_orders.proofs.Types.AscendingSteps.{length_plain_list}
 use Rattle.cert_desk_listing.proofs.CertNames.Lists.{all_more}
 
--- so many certificates, from the first on, hold the orders and are signed, and the stream joins them
+-- The first certificates are the ordered ones and are signed, and the input is their concatenation.
 pub record IsFront {S : Type 0} (algorithm : S → Algorithm) (signs : S → List ℕ → Bits → Type 0) (ps : List PlainOrder) (signers : List S) (cs : List PlainCertificate) (stream : List ℕ) : Type 0 where
   pub made : AreMade algorithm signs ps signers cs
   pub joins : stream ≡ joined Bound cs
@@ -53,7 +53,7 @@ module _ {S : Type 0} (algorithm : S → Algorithm) (signs : S → List ℕ → 
         ∙ sym (flat_map-append (certificate_octets Bound) cs (c ∷ []));
   }
 
--- one certificate more is made, of what code has of certificates
+-- One more certificate is issued.
 pub made_more : {S : Type 0} (algorithm : S → Algorithm) (signs : S → List ℕ → Bits → Type 0) (ps : List PlainOrder) (signers : List S) {C : Type 0} (plain : C → PlainCertificate) (xs ys : List C) (x : C) (place : ℕ) (stream longer octets : List ℕ)
     → ys ≡ xs ++ x ∷ [] → longer ≡ stream ++ octets → length xs ≡ place → IsFront algorithm signs ps signers (plain_list plain xs) stream
     → IsMadeAt algorithm signs ps signers place (plain x) octets
@@ -67,7 +67,7 @@ made_more algorithm signs ps signers plain xs ys x place stream longer octets e 
           (subst (λ cs. IsFront algorithm signs ps signers cs (stream ++ octets)) (sym (ap (plain_list plain) e ∙ plain-append plain xs (x ∷ []))) more),
     )
 
--- what is read of a list at the place above
+-- The element of a list at the index above.
 pub read_above : {X : Type 0} (xs : List X) (place n : ℕ) (x : X) → n ≡ place_above place → place_above place < length xs → x ≡ get_or xs n x → slice_get xs (place_above place) ≡ Some x
 read_above xs place n x e within is = slice_get_read xs (length xs) (place_above place) x refl within (subst (λ i. x ≡ get_or xs i x) e is)
 
@@ -75,7 +75,7 @@ no_root : (b : Bool) → (if b then roles.Subscriber else roles.Subordinate) ≡
 no_root true e = absurd cc
 no_root false e = absurd cc
 
--- the key of a signer is that of the order above
+-- The key of a signer is that of the order above.
 pub key_above : {S : Type 0} (key : S → PublicKey) (signers : List S) (xs : List Accepted) (place : ℕ) (s : S) (y : Accepted) → AreKeys (map key signers) (orders_plain xs) → slice_get signers (place_above place) ≡ Some s
     → slice_get xs (place_above place) ≡ Some y → key s ≡ (accepted_plain y).key
 key_above key signers xs place s y keys s_is y_is =
@@ -86,7 +86,7 @@ within_all c v =
     let fits : Fits (certificate_octets Bound c) = valid_fits (raw_certificate Bound) c v in
     record { valid = v; within = omega (arith, fits) }
 
--- What is made at a place, of what code has of orders.
+-- The certificate that is built at an index.
 module _ (xs : List Accepted) (place : ℕ) (role : Role) (x y : Accepted) (x_is : slice_get xs place ≡ Some x) (y_is : slice_get xs (place_above place) ≡ Some y) (e : role ≡ role_at (length xs) place) where
   role_is : role ≡ role_at (length (orders_plain xs)) place
   role_is = e ∙ ap (λ n. role_at n place) (sym (length_plain_list accepted_plain xs))
@@ -94,7 +94,7 @@ module _ (xs : List Accepted) (place : ℕ) (role : Role) (x y : Accepted) (x_is
   pub ready_at : AreReady (orders_plain xs) → IsReady role (accepted_plain x)
   ready_at ready = subst (λ (r : Role). IsReady r (accepted_plain x)) (sym role_is) (ready place (accepted_plain x) (plain_at accepted_plain xs place x x_is))
 
-  -- a root is above itself
+  -- A root is above itself.
   pub own_at : role ≡ roles.Root → accepted_plain y ≡ accepted_plain x
   own_at root = by place (sym e ∙ root) x_is y_is
     where
@@ -141,7 +141,7 @@ module _ (xs : List Accepted) (place : ℕ) (role : Role) (x y : Accepted) (x_is
     holds = subst (λ (r : Role). Stops (may_refuse s) (signs s) (algorithm s) r (accepted_plain x).dns (ordered_part r (accepted_plain x) (accepted_plain y) (algorithm s)) t) role_is h;
   }
 
--- what is told where no certificate is made, behind those that are
+-- The error if no certificate is built after those that are.
 module _ {S : Type 0} (key : S → PublicKey) (algorithm : S → Algorithm) (signs : S → List ℕ → Bits → Type 0) (may_refuse : S → List ℕ → Type 0) (orders : List Order) (signers : List S) (ps : List PlainOrder) (cs : List PlainCertificate) (place : ℕ)
     (a : AcceptedOrders orders (map key signers) ps) (n : length cs ≡ place) (made : AreMade algorithm signs ps signers cs) where
   pub stopped : (s : Stop) → IsStoppedAt algorithm signs may_refuse ps signers place s → Refuses key algorithm signs may_refuse orders signers (stop_at place s)

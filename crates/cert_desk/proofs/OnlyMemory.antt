@@ -1,4 +1,5 @@
--- Accepted orders ask for exactly one chain, and if nothing else prevents it, they are refused only when an allocation fails.
+-- Accepted orders ask for exactly one chain, and if nothing else prevents it, they are rejected
+-- only when an allocation fails.
 use Rattle.std.proofs.Common.{◌≡◌, ℕ, ◌<◌, List, length, true, false, Option, Some, None, refl, sym, ap, ◌∙◌, subst, arith, inl, inr, slice_get, string_bytes, map, Ok, Err}
 use Rattle.std.specs.Bool.{⊤}
 use Rattle.std.specs.Prelude.{◌≢◌, IfSome, IsSomeAnd}
@@ -36,7 +37,7 @@ use Rattle.cert_desk.specs.declared.fault.Fault.TheVariants as faults
 use Rattle.cert_desk.specs.declared.issue_error.IssueError.TheVariants as errors
 use Rattle.cert_desk.specs.declared.stop.Stop.TheVariants as stops
 
--- a name that was accepted is refused only when an allocation fails
+-- An accepted name is rejected only when an allocation fails.
 named_again : (n : PlainName) (e : Error) → NamesAuthority {X = Unit {0}} n (Ok tt) → NamesAuthority {X = Unit {0}} n (Err e) → IsWantOfMemory e
 named_again n e right (inl first) =
     let good = right.0 first.0 first.1 in
@@ -50,7 +51,7 @@ named_again n e right (inr (inl (named, inr lacking))) =
     absurd (cc clash)
 named_again n e right (inr (inr want)) = want
 
--- the names in a TBSCertificate that has an encoding have encodings
+-- If a TBSCertificate has an encoding, so do the names in it.
 subject_valid : (role : Role) (p above : PlainOrder) (a : Algorithm) → IsValid (tbs_certificate Bound None) (ordered_part role p above a) → IsValid (name Bound) p.subject
 unfolding IsValid IsContent IsBody
 subject_valid role p above a v = v.0.1.1.1.1.1.0
@@ -59,7 +60,7 @@ issuer_valid : (role : Role) (p above : PlainOrder) (a : Algorithm) → IsValid 
 unfolding IsValid IsContent IsBody
 issuer_valid role p above a v = v.0.1.1.1.0
 
--- a text denotes at most one date
+-- A text denotes at most one date.
 one_date : (text : List ℕ) (c d : Civil) → IsTextOf text c → IsTextOf text d → c ≡ d
 one_date text c d h k = one_by_text c d h.0 k.0 (sym h.1 ∙ k.1)
 
@@ -86,7 +87,7 @@ key_stands : (key : Option PublicKey) (k : PublicKey) → IfSome key (λ s. s �
 key_stands (Some s) k h other = other h
 key_stands None k h other = other
 
--- a name that is allowed for the role isn't refused
+-- A name that is allowed for the role isn't rejected.
 name_stands : (role : Role) (n : PlainName) (f : Fault) → IsNamedFor role n → RefusesName role n f → f ≡ faults.OutOfMemory
 name_stands role n (faults.RootName e) h r = absurd (r.2 (named_again n e (subst (λ x. IsNamedFor x n) r.0 h) r.1))
 name_stands role n faults.SubscriberName h (subscriber, fault) =
@@ -97,7 +98,7 @@ name_stands role n faults.OutOfMemory h r = refl
 name_stands role n _ h r = absurd r
 
 module _ (role : Role) (key : Option PublicKey) (o : Order) (p : PlainOrder) (a : IsAccepted role key o p) (valid : IsValid (name Bound) p.subject) where
-  -- an accepted order asks for exactly one certificate
+  -- An accepted order asks for exactly one certificate.
   one_order : (q : PlainOrder) → IsAccepted role key o q → p ≡ q
   one_order q b =
       let subject = one_spelled Bound (string_bytes o.name) p.subject q.subject a.name b.name in
@@ -113,7 +114,7 @@ module _ (role : Role) (key : Option PublicKey) (o : Order) (p : PlainOrder) (a 
   named : (n : PlainName) → SpellsName Bound (string_bytes o.name) n → IsNamedFor role n
   named n s = subst (λ x. IsNamedFor role x) (one_spelled Bound (string_bytes o.name) p.subject n a.name s) a.naming
 
-  -- an accepted order is refused only when an allocation fails
+  -- An accepted order is rejected only when an allocation fails.
   order_stands : (f : Fault) → RefusesOrder role key o f → f ≡ faults.OutOfMemory
   order_stands faults.Name r = absurd (spelled_stands Bound (string_bytes o.name) p.subject r.0 a.name r.1)
   order_stands (faults.RootName e) r =
@@ -125,7 +126,7 @@ module _ (role : Role) (key : Option PublicKey) (o : Order) (p : PlainOrder) (a 
   order_stands faults.KeyMismatch r = absurd (key_stands key (key_plain o.key) (subst (λ k. IfSome key (λ s. s ≡ k)) a.key_is a.key) r.4)
   order_stands faults.OutOfMemory r = refl
 
--- the order accepted at an index asks for exactly one certificate
+-- The order accepted at an index asks for exactly one certificate.
 module _ (orders : List Order) (keys : List PublicKey) (place : ℕ) (p : PlainOrder) (a : IsAcceptedAt orders keys place p) (valid : IsValid (name Bound) p.subject) where
   one_at : (q : PlainOrder) → IsAcceptedAt orders keys place q → p ≡ q
   one_at q b =
@@ -141,7 +142,7 @@ module _ (orders : List Order) (keys : List PublicKey) (place : ℕ) (p : PlainO
       let same : r.order ≡ a.order = same_Some r.order a.order (sym r.stands ∙ a.stands) in
       order_stands role key a.order p a.accepted valid f (subst (λ (o : Order). RefusesOrder role key o f) same r.refused)
 
--- two facts about an index are facts about the same order and signer
+-- Two facts about an index are facts about the same order and signer.
 module _ {S : Type 0} (algorithm : S → Algorithm) (P Q : S → Role → PlainOrder → Tbs → Type 0) (asked : List PlainOrder) (signers : List S) (place : ℕ) (h : HoldsAt algorithm P asked signers place) (k : HoldsAt algorithm Q asked signers place) where
   same_place : Q h.signer (role_at (length asked) place) h.order (ordered_part (role_at (length asked) place) h.order h.above (algorithm h.signer))
   same_place =
@@ -154,7 +155,7 @@ module _ {S : Type 0} (algorithm : S → Algorithm) (P Q : S → Role → PlainO
       let two = subst (λ b. R h.order b k.signer) above one in
       subst (λ s. R h.order h.above s) signer two
 
--- signing what may be signed fails only when an allocation fails, or the bits are too long
+-- If nothing prevents signing, it fails only when an allocation fails or the bits are too long.
 abbrev Left : (List ℕ → Bits → Type 0) → Algorithm → Tbs → Stop → Type 0
 Left signs a t stops.Refused = ⊥
 Left signs a t stops.TooLong = MayBeTooLong signs a t
@@ -168,7 +169,7 @@ not_stopped may_refuse signs a role dns t signable part stops.TooLong (inr long)
 not_stopped may_refuse signs a role dns t signable part stops.OutOfMemory h = tt
 
 module _ {S : Type 0} (key : S → PublicKey) (algorithm : S → Algorithm) (signs : S → List ℕ → Bits → Type 0) (may_refuse : S → List ℕ → Type 0) (orders : List Order) (signers : List S) (h : AreSignable key algorithm may_refuse orders signers) where
-  -- no order is refused
+  -- No order is rejected.
   no_fault : (place : ℕ) (f : Fault) → Faults key algorithm signs may_refuse orders signers place f → f ≡ faults.OutOfMemory
   no_fault place f (n, r) =
       let within : place < length h.asked = subst (λ m. place < m) (sym h.accepted.all) (slice_get_within orders place r.refused.order r.refused.stands) in
@@ -177,7 +178,7 @@ module _ {S : Type 0} (key : S → PublicKey) (algorithm : S → Algorithm) (sig
       stands_at orders (map key signers) place here.order (h.accepted.front.each place here.order here.order_is)
       (subject_valid role here.order here.above (algorithm here.signer) here.holds.1.1) f r.refused
 
-  -- nothing else prevents a certificate
+  -- Nothing else prevents a certificate.
   left_at : (place : ℕ) (stop : Stop) → StopsAt key algorithm signs may_refuse orders signers place stop → HoldsAt algorithm (λ s role p t. Left (signs s) (algorithm s) t stop) h.asked signers place
   left_at place stop r =
       let keys = map key signers in
@@ -239,7 +240,7 @@ module _ {S : Type 0} (key : S → PublicKey) (algorithm : S → Algorithm) (sig
         };
   }
 
-  -- all bits that a signer may return are short enough
+  -- All signatures that a signer may return are short enough.
   only_memory : (e : IssueError) → IsMemoryOrLong algorithm signs h.asked signers e → e ≡ errors.OutOfMemory
   only_memory errors.OutOfMemory k = refl
   only_memory (errors.TooLong place) k =

@@ -1,4 +1,4 @@
--- Fewer octets of bits make a certificate no longer.
+-- A shorter signature makes a certificate no longer.
 use Rattle.std.proofs.Common.{ℕ, ◌≤◌, List, [], ◌++◌, length, None, arith}
 use Rattle.std.proofs.Math.ListN.{length-append}
 use Rattle.std.proofs.lemmas.Bool.Decides.{nat_tests}
@@ -14,7 +14,7 @@ use Rattle.cert_desk_listing.specs.CertCertificates.Certificates.{tbs_certificat
 use Rattle.cert_desk_orders.specs.CertParts.Grammar.{algorithm_identifier, bit_string}
 use Rattle.cert_desk.specs.Issuable.{ShorterBitsFit}
 
--- lengths, headers and encodings of shorter contents
+-- Lengths, headers and encodings of shorter contents.
 shorter_length : (m n : ℕ) → m ≤ n → length (length_octets m) ≤ length (length_octets n)
 unfolding length_octets
 shorter_length m n h =
@@ -33,7 +33,7 @@ shorter t c d h =
       shorter_length (length c) (length d) h,
     )
 
--- of whatever parts
+-- Sequences of three fields of any shapes, of which the last is a shorter bit string.
 shorter_fits : (s k : Shape) (t : Value s) (a : Value k) (longest bits : Bits) → IsValid (sequence (field s (field k (field bit_string done)))) (t, (a, (longest, tt))) → IsBits bits
     → length bits.octets ≤ length longest.octets → IsValid (sequence (field s (field k (field bit_string done)))) (t, (a, (bits, tt)))
 unfolding IsValid IsContent IsBody octets_of contents body_octets

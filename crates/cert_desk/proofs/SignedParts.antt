@@ -1,4 +1,5 @@
--- Certificates that a builder makes: the part that is ordered, that they have an encoding, and why there is none.
+-- Certificates that a builder makes: they have the ordered TBSCertificate and an encoding, or there
+-- is a reason why there is none.
 use Rattle.std.proofs.Common.{◌≡◌, ◌≢◌, ◌⊎◌, ℕ, ◌≤◌, List, ◌++◌, length, Bool, true, false, Result, Ok, Err, Some, None, refl, sym, ap, ◌∙◌, subst, arith, inl, inr}
 use Rattle.std.specs.Prelude.{pos, nat_lt, if◌then◌else◌}
 use Rattle.cert_desk_listing.specs.Oid.Bound.{Bound}
@@ -35,7 +36,7 @@ use Rattle.cert_desk.specs.Ordered.{extensions_for, names_for, ordered_part, par
 use Rattle.cert_desk.specs.PlainOrders.{IsReady, PlainOrder, begins, ends}
 use Rattle.cert_desk.specs.Refusals.{HasPart, Stops, stop_of, stop_of_kind}
 
--- Dates that are spelled as RFC 5280 has them are so written.
+-- Dates in the forms of RFC 5280 are encoded as they are.
 respelled_if : (c : Civil) (b : Bool) → nat_lt 2049 c.year ≡ b → respelled (if b then inr c else inl c) ≡ (if b then inr c else inl c)
 respelled_if c true e = ap (λ (x : Bool). if x then inr c else inl c) e
 respelled_if c false e = refl
@@ -50,7 +51,7 @@ dates_again v b e h =
     let same : validity_by true (time_of b, (time_of e, tt)) ≡ (time_of b, (time_of e, tt)) = cc in
     subst (λ (w : PlainValidity). validity_by true w ≡ w) (sym h) same
 
--- What a builder of these fields writes with the extensions of a role is the part that is ordered.
+-- A builder with these fields and the extensions of a role encodes the ordered TBSCertificate.
 listed_part : (role : Role) (p above : PlainOrder) (a : Algorithm) (issuer : PlainName) → signed_part (fields_below issuer p) a (extensions_for role p above.key)
     ≡ (pos 2, (p.serial, (a, (issuer, (p.validity, (p.subject, (p.key, (None, (None, (Some (extensions_for role p above.key), tt))))))))))
 listed_part roles.Root p above a issuer = refl
@@ -65,7 +66,7 @@ ordered_written role p above a issuer es r e f =
     ∙ ap written_part (listed_part role p above a above.subject)
     ∙ ap (λ (v : PlainValidity). (part.0, (part.1.0, (part.1.1.0, (part.1.1.1.0, (v, part.1.1.1.1.1)))))) (dates_again p.validity (begins p) (ends p) r.spelled)
 
--- what the builder of a role's profile signs is the part that is ordered
+-- A builder with the profile of a role signs the ordered TBSCertificate.
 pub profile_part : {P : Type 0} (subject_name : P → Result PlainName BuilderError) (issuer_name : P → PlainName → PlainName) (extensions : P → PublicKey → PublicKey → Tbs → List PlainExtension) (refuses : P → BuilderError → Type 0)
     (role : Role) (p above : PlainOrder) (profile : P) (key : PublicKey) (a : Algorithm) (b : CertificateState P) → IsReady role p → IsProfile subject_name issuer_name extensions refuses role p above profile → key ≡ above.key
     → b ≡ record { profile = profile; fields = fields_below (issuer_name profile p.subject) p; added = names_for role p; finalized = None } → part_for extensions b key a ≡ ordered_part role p above a
@@ -75,7 +76,7 @@ profile_part subject_name issuer_name extensions refuses role p above profile ke
     ∙ ap (λ (x : PublicKey). written_part (signed_part f a (names_for role p ++ extensions profile p.key x (bare_part f a)))) k
     ∙ ordered_written role p above a (issuer_name profile p.subject) (names_for role p ++ extensions profile p.key above.key (bare_part f a)) r h.issuer (h.adds (bare_part f a))
 
--- A serial number of at most 21 octets is what the profile reads.
+-- A serial number of at most 20 bytes is in the range of the profile.
 valid_short : (t : Tbs) → length (integer_octets t.1.0) ≤ 20 → IsValid (tbs_certificate Bound None) t → IsValid (tbs_certificate Bound (Some 21)) t
 unfolding IsValid IsContent IsBody octets_of contents body_octets
 valid_short t h v = ((v.0.0, ((omega (arith, h), v.0.1.0.1, v.0.1.0.2), v.0.1.1)), v.1, v.2)
@@ -92,12 +93,12 @@ same_octets : (c : PlainCertificate) → octets_of (certificate Bound (Some 21))
 unfolding octets_of contents body_octets
 same_octets c = refl
 
--- what is around a part that has an encoding is in range
+-- The values around a TBSCertificate that has an encoding are in range.
 whole_in_range : (c : PlainCertificate) → length (integer_octets (tbs c).1.0) ≤ 20 → IsValid part_shape (tbs c) → IsInRange (algorithm_identifier Bound) (outer_algorithm c) → IsInRange bit_string (signature_bits c)
     → IsInRange (certificate Bound (Some 21)) c
 whole_in_range c h v algorithm bits = ((valid_in_range (tbs_certificate Bound (Some 21)) (tbs c) (valid_short (tbs c) h v), (algorithm, (bits, tt))), omega arith)
 
--- What is made by a builder of this part, and written.
+-- The certificate that a builder makes of this TBSCertificate, and its encoding.
 module _ (a : Algorithm) (signs : List ℕ → Bits → Type 0) (c : PlainCertificate) (t : Tbs) (part : tbs c ≡ t) (short : length (integer_octets t.1.0) ≤ 20) where
   short_there : length (integer_octets (tbs c).1.0) ≤ 20
   short_there = subst (λ (u : Tbs). length (integer_octets u.1.0) ≤ 20) (sym part) short
@@ -114,7 +115,7 @@ module _ (a : Algorithm) (signs : List ℕ → Bits → Type 0) (c : PlainCertif
         valid = whole_raw c (valid (whole_in_range c short_there here algorithm bits));
       }
 
-  -- a certificate isn't written for want of memory, or since a length passes
+  -- A certificate can't be encoded only because memory runs out or a length is too large.
   pub unwritten : (may_refuse : List ℕ → Type 0) (role : Role) (dns : List (List ℕ)) (w : List ℕ) (k : ErrorKind) → outer_algorithm c ≡ a → signs (part_octets (tbs c)) (signature_bits c) → IsInRange bit_string (signature_bits c)
       → (IsValid (certificate Bound (Some 21)) c → k ≢ kinds.OutOfMemory → Ok w ≡ Err k) → Stops may_refuse signs a role dns t (stop_of_kind k)
   unwritten may_refuse role dns w kinds.OutOfMemory by given bits h = tt
@@ -123,12 +124,12 @@ module _ (a : Algorithm) (signs : List ℕ → Bits → Type 0) (c : PlainCertif
       let here : P (tbs c) (outer_algorithm c) = (signature_bits c, bits.0, given, λ v. (let e = h (whole_short c short_there v) (λ q. absurd cc) in absurd cc)) in
       inr (subst (λ (b : Algorithm). P t b) by (subst (λ (u : Tbs). P u (outer_algorithm c)) part here))
 
--- want of memory is told as such
+-- If memory runs out, that is reported.
 pub memory_stops : (e : BuilderError) → IsWantOfMemory e → stop_of e ≡ stops.OutOfMemory
 memory_stops (builders.Asn1 e) h = ap stop_of_kind h
 memory_stops _ h = absurd h
 
--- Why a builder gives no certificate.
+-- The reason why a builder returns no certificate.
 module _ (may_refuse : List ℕ → Type 0) (signs : List ℕ → Bits → Type 0) (a : Algorithm) (role : Role) (dns : List (List ℕ)) (t : Tbs) (short : length (integer_octets t.1.0) ≤ 20) where
   unwritten_part : (k : ErrorKind) → HasNoEncoding (tbs_certificate Bound (Some 21)) t k → Stops may_refuse signs a role dns t (stop_of_kind k)
   unwritten_part kinds.OutOfMemory h = tt

@@ -1,4 +1,4 @@
--- What all extensions of an ordered certificate say, and what the rules find in it.
+-- The meanings of all extensions of an ordered certificate, and the findings about them.
 use Rattle.std.proofs.Common.{◌≡◌, ◌≢◌, ℕ, List, [], ◌∷◌, map, length, Bool, true, false, ◌&&◌, ◌||◌, None, refl, sym, ap, ◌∙◌, ◌==◌, ◌<◌, ◌^◌, ◌++◌, Option, Some, arith, lit<, lit≤}
 use Rattle.std.proofs.lemmas.Bool.{and_parts, ltb-true}
 use Rattle.std.specs.List.{list_all, list_any, AllByRecursion}
@@ -36,11 +36,11 @@ use Rattle.x509_cert_builders.specs.Profiles as profiles
 use Rattle.cert_desk.specs.declared.role.Role.TheVariants as roles
 use Rattle.cert_desk_listing.specs.Der.TagTypes.Tag.TheVariants as tags
 
--- an encoding is one value of its kind
+-- The encoding of a value has that value's meaning.
 said : (s : Shape) (says : Value s → Meaning) (v : Value s) → is_apart s ≡ true → are_enough s levels_max ≡ true → IsValid s v → (d : Decoding s (octets_of s v)) → meaning_of says d ≡ says v
 said s says v apart enough valid d = meaning_once s says (octets_of s v) apart enough v (record { valid = valid; octets = refl }) d
 
--- KeyUsage
+-- KeyUsage.
 
 usage_says : (n : ℕ) → n < 2 ^ 9 → weigh Bound (usage_extension n) ≡ uses n
 unfolding identifier_octets arc_octets digits digits_within marked
@@ -53,7 +53,7 @@ authority_says false = usage_says (authority_uses false) (lit< tt)
 signature_says : weigh Bound (usage_extension digital_signature) ≡ uses digital_signature
 signature_says = usage_says digital_signature (lit< tt)
 
--- the identifiers of keys aren't weighed
+-- The key identifiers aren't checked.
 authority_key_says : (k : PublicKey) → weigh Bound (authority_key_extension k) ≡ unweighed
 unfolding identifier_octets arc_octets digits digits_within marked
 authority_key_says k = refl
@@ -62,20 +62,20 @@ subject_key_says : (k : PublicKey) → weigh Bound (subject_key_extension k) ≡
 unfolding identifier_octets arc_octets digits digits_within marked
 subject_key_says k = refl
 
--- BasicConstraints
+-- BasicConstraints.
 
 constraints_say : (ca : Bool) (p : Option ℕ) → IfSome p (λ n. n < 2 ^ 8) → weigh Bound (constraints_extension ca (plain_option (λ n. pos n) p)) ≡ constraints ca p
 unfolding identifier_octets arc_octets digits digits_within marked
 constraints_say ca None h = said basic_constraints constraints_of (ca, (None, tt)) refl refl (constraints_valid ca None tt) (basic_constraints_in _)
 constraints_say ca (Some n) h = said basic_constraints constraints_of (ca, (Some (pos n), tt)) refl refl (constraints_valid ca (Some n) h) (basic_constraints_in _)
 
--- ExtendedKeyUsage
+-- ExtendedKeyUsage.
 
 purposes_say : (clients : Bool) → weigh Bound (purposes_extension clients) ≡ purposes (profiles.purposes clients)
 unfolding identifier_octets arc_octets digits digits_within marked
 purposes_say clients = said (sequence_of (object_identifier Bound)) purposes (profiles.purposes clients) refl refl (purposes_valid clients) (extended_key_usage_in Bound _)
 
--- SubjectAltName
+-- SubjectAltName.
 
 text_octets : (text : List ℕ) → list_all (λ o. nat_lt o 128) text ≡ true → IsOctets text
 text_octets [] h = tt
@@ -105,7 +105,7 @@ names_say : (subject : PlainName) (dns : List (List ℕ)) → Fits (octets_of (g
 unfolding identifier_octets arc_octets digits digits_within marked
 names_say subject dns fits ascii = said (general_names Bound) other_names (dns_names dns) refl refl (names_valid dns fits ascii) (subject_alt_name_in Bound _)
 
--- where the names have an encoding
+-- The names have an encoding.
 abbrev pub FitsFor : Role → PlainOrder → Type 0
 FitsFor roles.Root p = Unit {0}
 FitsFor roles.Subordinate p = Unit {0}
@@ -133,7 +133,7 @@ all_told : (test : Told → Bool) (es : List PlainExtension) → list_all (λ e.
 all_told test [] = refl
 all_told test (e ∷ es) = ap (λ b. test (told e) && b) (all_told test es)
 
--- a root lists no purposes
+-- A root lists no key purposes.
 abbrev pub allows_in : Role → List ℕ → PlainOrder → Bool
 allows_in roles.Root purpose p = true
 allows_in roles.Subordinate purpose p = allows_one purpose p
@@ -153,7 +153,7 @@ unfolding identifier_octets arc_octets digits digits_within marked
 serving purpose true = two_of (owned_eq (profiles.id_kp 1) purpose) (owned_eq (profiles.id_kp 2) purpose)
 serving purpose false = one_of (owned_eq (profiles.id_kp 1) purpose)
 
--- What the rules find in the extensions of a role.
+-- The findings about the extensions of a role.
 module _ (role : Role) (p : PlainOrder) (k : PublicKey) (right : IsRight role p) (fits : FitsFor role p) where
   any_is : (test : Told → Bool) → list_any (λ e. test (told e)) (extensions_for role p k) ≡ list_any test (told_for role p)
   any_is test = any_told test (extensions_for role p k) ∙ ap (list_any test) (told_is role p k right fits)
@@ -189,7 +189,8 @@ module _ (role : Role) (p : PlainOrder) (k : PublicKey) (right : IsRight role p)
   authority_by roles.Subordinate other = ap (λ b. b && true) (certifying p.answers)
   authority_by roles.Subscriber other = absurd (other refl)
 
-  -- a root's certificate and those between are authorities', whose keys may sign certificates
+  -- The certificates of a root and of the CAs below it are those of CAs whose keys may sign
+  -- certificates.
   pub authority : role ≢ roles.Subscriber
       → (list_any (λ e. is_authority (weigh Bound e)) (extensions_for role p k) && list_all (λ e. may_certify (weigh Bound e)) (extensions_for role p k)) ≡ true
   authority other =
@@ -202,11 +203,11 @@ module _ (role : Role) (p : PlainOrder) (k : PublicKey) (right : IsRight role p)
   lengths_by roles.Subordinate n = sym (and_yes (is_within n p.path))
   lengths_by roles.Subscriber n = refl
 
-  -- a path length is that of the order
+  -- The path length is that of the order.
   pub lengths : (n : ℕ) → list_all (λ e. is_within n (path_length (weigh Bound e))) (extensions_for role p k) ≡ is_within n (path_in role p)
   lengths n = all_is (λ t. is_within n (path_length t.1)) ∙ lengths_by role n
 
-  -- purposes are those of the order
+  -- The key purposes are those of the order.
   serves_by : (r : Role) (purpose : List ℕ) → list_all (λ (t : Told). serves purpose t.1) (told_for r p) ≡ allows_in r purpose p
   serves_by roles.Root purpose = refl
   serves_by roles.Subordinate purpose = sym (and_yes (serves purpose (purposes (profiles.purposes p.clients)))) ∙ serving purpose p.clients

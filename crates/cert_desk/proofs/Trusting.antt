@@ -1,4 +1,6 @@
--- A chain that holds orders is trusted exactly where a run of the check permits it, and breaks no other rule; what it hands to a judge, and what its extensions say.
+-- Lemmas about a chain that fulfils its orders: it is trusted exactly if the orders permit it
+-- (`Permits`), and each rule that it breaks is one of `BreaksFor`. Also lemmas about the bytes that
+-- a verifier gets, and about the meanings of the extensions.
 use Rattle.std.proofs.Common.{◌≡◌, ℕ, zero, suc, ◌+◌, ◌<◌, List, [], ◌∷◌, length, Bool, true, false, not, ◌&&◌, ◌||◌, Option, Some, refl, sym, ap, inl, inr, ◌∙◌, subst, arith, ◌==◌, ◌-◌, ◌≤◌, cond, None, slice_get, ◌≢◌, nat_le, bytes_eq, if◌then◌else◌, map}
 use Rattle.std.proofs.lemmas.Bool.{and_from, and_parts, cases_lt, le-leb, leb-true, both_ways, leb-false, or_left, or_right, and_cases}
 use Rattle.std.proofs.lemmas.Bool.Decides.{Decides-eqb}
@@ -43,24 +45,27 @@ use Rattle.cert_desk_listing.specs.Der.TagTypes.Tag.TheVariants as tags
 use Rattle.cert_desk.specs.declared.role.Role.TheVariants as roles
 use Rattle.cert_desk_checking.specs.DeskRules.declared.rule.Rule.TheVariants as rules
 
+-- Bytes equal themselves.
 same_octets : (w : List ℕ) → bytes_eq w w ≡ true
 same_octets w = (bytes_eq-Decides w w).1 refl
 
--- the names of a subscriber fit where the signed part has an encoding
+-- A subscriber's names have an encoding if the TBSCertificate has one.
 subscriber_fits : (p above : PlainOrder) (a : Algorithm) → IsValid (raw_tbs_certificate Bound) (ordered_part roles.Subscriber p above a) → Fits (octets_of (general_names Bound) (dns_names p.dns))
 unfolding IsValid IsContent IsBody octets_of
 subscriber_fits p above a v = fits_contents tags.OctetString (octets_of (general_names Bound) (dns_names p.dns)) v.0.1.1.1.1.1.1.1.1.1.0.0.0.0.0.1.1.0.2
 
+-- The DNS names of any role have an encoding if the TBSCertificate has one.
 names_fit : (role : Role) (p above : PlainOrder) (a : Algorithm) → IsValid (raw_tbs_certificate Bound) (ordered_part role p above a) → FitsFor role p
 names_fit roles.Root p above a v = tt
 names_fit roles.Subordinate p above a v = tt
 names_fit roles.Subscriber p above a v = subscriber_fits p above a v
 
+-- The TBSCertificate of a valid certificate is valid.
 part_valid : (c : PlainCertificate) → IsValid (raw_certificate Bound) c → IsValid (raw_tbs_certificate Bound) (tbs c)
 unfolding IsValid IsContent IsBody
 part_valid c v = v.0.0
 
--- the certificate at a place, and what is ordered there
+-- The certificate at an index, its order, and the order of its issuer.
 pub record IsHeldAt (ps : List PlainOrder) (cs : List PlainCertificate) (place : ℕ) : Type 0 where
   pub order : PlainOrder
   pub above : PlainOrder
@@ -71,18 +76,21 @@ pub record IsHeldAt (ps : List PlainOrder) (cs : List PlainCertificate) (place :
   pub certificate_is : slice_get cs place ≡ Some certificate
   pub part : tbs certificate ≡ ordered_part (role_at (length ps) place) order above (outer_algorithm certificate)
 
+-- A list has an element at each index below its length.
 there : {A : Type 0} (xs : List A) (place : ℕ) → place < length xs → (x : A) × (slice_get xs place ≡ Some x)
 there [] place lt = absurd (omega (arith, lt))
 there (x ∷ xs) zero lt = (x, refl)
 there (x ∷ xs) (suc place) lt = there xs place (omega (arith, lt))
 
+-- Each index of a chain has its certificate and its order.
 pub held_at : (ps : List PlainOrder) (cs : List PlainCertificate) → HoldFront ps cs → (place : ℕ) → place < length cs → IsHeldAt ps cs place
 held_at ps cs held place lt =
     let c = there cs place lt in
     let h = held place c.0 c.1 in
     record { order = h.order; above = h.above; certificate = c.0; order_is = h.order_is; right = h.right; above_is = h.above_is; certificate_is = c.1; part = h.part }
 
--- What a certificate says that holds an order.
+-- The fields of a certificate that fulfils an order. The paths `t.1.1.0` and so on are the fields
+-- of a TBSCertificate (RFC 5280 4.1), which is a nested pair.
 module _ (ps : List PlainOrder) (cs : List PlainCertificate) (place : ℕ) (h : IsHeldAt ps cs place) where
   fits : IsValid (raw_certificate Bound) h.certificate → FitsFor (role_at (length ps) place) h.order
   fits v =
@@ -110,21 +118,23 @@ module _ (ps : List PlainOrder) (cs : List PlainCertificate) (place : ℕ) (h : 
   after_is : not_after h.certificate ≡ ends h.order
   after_is = ap (λ (t : Tbs). civil_of t.1.1.1.1.0.1.0) h.part
 
+-- If a test chooses the subscriber's role, the test is true.
 subscriber_by : (b : Bool) → (if b then roles.Subscriber else roles.Subordinate) ≡ roles.Subscriber → b ≡ true
 subscriber_by true e = refl
 subscriber_by false e = absurd cc
 
+-- A test for the last index, with its sides exchanged.
 flipped : (n place : ℕ) → (n == suc (suc place)) ≡ true → ((suc place + 1) == n) ≡ true
 flipped n place e =
     let is : n ≡ suc (suc place) = (Decides-eqb n (suc (suc place))).0 e in
     (Decides-eqb (suc place + 1) n).1 (omega (arith, is))
 
--- a subscriber is last
+-- The certificate of a subscriber is the last one.
 subscriber_last : (n place : ℕ) → role_at n place ≡ roles.Subscriber → ((place + 1) == n) ≡ true
 subscriber_last n zero e = absurd cc
 subscriber_last n (suc place) e = flipped n place (subscriber_by (n == suc (suc place)) e)
 
--- a test that a list of so many passes, a place further on or not
+-- A number is within a path length if a larger one is.
 more_within : (n m : ℕ) (most : Option ℕ) → n ≤ m → is_within m most ≡ true → is_within n most ≡ true
 more_within n m None le e = refl
 more_within n m (Some most) le e =
@@ -132,12 +142,15 @@ more_within n m (Some most) le e =
     le-leb n most (omega (arith, le, most_is))
 
 module _ (ps : List PlainOrder) (cs : List PlainCertificate) (count : length cs ≡ length ps) (held : (place : ℕ) → place < length cs → IsHeldAt ps cs place) where
+  -- The subject of the order at an index.
   subject_there : (place : ℕ) (h : IsHeldAt ps cs place) → subject_at ps place ≡ h.order.subject
   subject_there place h = ap (λ o. option_map_or (λ (p : PlainOrder). p.subject) o []) h.order_is
 
+  -- The subject of the order of the issuer.
   subject_above : (place : ℕ) (h : IsHeldAt ps cs place) → subject_at ps (place_above place) ≡ h.above.subject
   subject_above place h = ap (λ o. option_map_or (λ (p : PlainOrder). p.subject) o []) h.above_is
 
+  -- A certificate counts for path lengths exactly if its order does.
   counts_as : (place : ℕ) → place < length cs → counts Bound cs place ≡ counts_order ps place
   counts_as place lt =
       let h = held place lt in
@@ -146,6 +159,7 @@ module _ (ps : List PlainOrder) (cs : List PlainCertificate) (count : length cs 
       ∙ ap (λ n. not ((place + 1) == length ps) && not (same_name Bound n (subject h.certificate))) (issuer_is ps cs place h ∙ sym (subject_above place h))
       ∙ ap (λ n. not ((place + 1) == length ps) && not (same_name Bound (subject_at ps (place_above place)) n)) (subject_is ps cs place h ∙ sym (subject_there place h))
 
+  -- So the certificates from an index on count as often as their orders.
   used_up_as : (from n : ℕ) → from + n ≤ length cs → used_up Bound cs from n ≡ counted_orders ps from n
   used_up_as from zero le = refl
   used_up_as from (suc n) le =
@@ -153,7 +167,8 @@ module _ (ps : List PlainOrder) (cs : List PlainCertificate) (count : length cs 
       ap (λ m. m + cond (counts Bound cs (from + n)) 1 0) (used_up_as from n (omega (arith, le)))
       ∙ ap (λ b. counted_orders ps from n + cond b 1 0) here
 
-  -- so many places behind another one are within its path length, as its order's
+  -- The number of certificates after an index that count is within its path length exactly if the
+  -- order's path length allows it.
   length_as : (place other : ℕ) → place < other → other < length cs → (h : IsHeldAt ps cs place) → FitsFor (role_at (length ps) place) h.order
       → keeps_length Bound cs place other ≡ is_within (counted_orders ps (place + 1) (other - place)) (path_in (role_at (length ps) place) h.order)
   length_as place other lt within h fits =
@@ -162,6 +177,7 @@ module _ (ps : List PlainOrder) (cs : List PlainCertificate) (count : length cs 
       ∙ lengths (role_at (length ps) place) h.order h.above.key h.right fits n
       ∙ ap (λ m. is_within m (path_in (role_at (length ps) place) h.order)) (used_up_as (place + 1) (other - place) (omega (arith, lt, within)))
 
+  -- More orders count at least as often.
   counted_more : (from n m : ℕ) → counted_orders ps from n ≤ counted_orders ps from (n + m)
   counted_more from n zero = let same : n + 0 ≡ n = omega arith in subst (λ k. counted_orders ps from n ≤ counted_orders ps from k) (sym same) (omega arith)
   counted_more from n (suc m) =
@@ -169,8 +185,9 @@ module _ (ps : List PlainOrder) (cs : List PlainCertificate) (count : length cs 
       let before = counted_more from n m in
       subst (λ k. counted_orders ps from n ≤ counted_orders ps from k) (sym next) (omega (arith, before))
 
-  -- path lengths, where the names of a subscriber fit
+  -- Lemmas about path lengths, for a chain in which the names of a subscriber have an encoding.
   module _ (fits : (place : ℕ) → (lt : place < length cs) → FitsFor (role_at (length ps) place) (held place lt).order) where
+    -- If the path lengths of the orders suffice, the first certificates keep theirs.
     kept_before : Suffices ps → (place : ℕ) → place < length cs → (n : ℕ) → n ≤ place → keep_lengths Bound cs n place ≡ true
     kept_before enough place lt zero le = refl
     kept_before enough place lt (suc n) le =
@@ -184,11 +201,12 @@ module _ (ps : List PlainOrder) (cs : List PlainCertificate) (count : length cs 
         (length_as n place (omega (arith, le)) lt h (fits n here)
         ∙ more_within (counted_orders ps (n + 1) (place - n)) (counted_orders ps (n + 1) total) (path_in (role_at (length ps) n) h.order) less (enough n h.order h.order_is))
 
-    -- where they suffice, each place is within those before it
+    -- If the path lengths are large enough, each index is within those before it.
     within_if : Suffices ps → (place : ℕ) → place < length cs → is_within_lengths Bound cs place ≡ true
     within_if enough place lt =
         ap (λ b. not (counts Bound cs place) || b) (kept_before enough place lt place (omega arith)) ∙ sym (or_yes (not (counts Bound cs place)))
 
+    -- If the first certificates keep their path lengths, so does each of them.
     kept_there : (n place other : ℕ) → place < n → keep_lengths Bound cs n other ≡ true → keeps_length Bound cs place other ≡ true
     kept_there zero place other lt e = absurd (omega (arith, lt))
     kept_there (suc n) place other lt e =
@@ -202,6 +220,7 @@ module _ (ps : List PlainOrder) (cs : List PlainCertificate) (count : length cs 
     kept_where true kept e c = e
     kept_where false kept e c = absurd cc
 
+    -- The number 0 is within each path length.
     none_within : (most : Option ℕ) → is_within 0 most ≡ true
     none_within None = refl
     none_within (Some most) = le-leb 0 most (omega arith)
@@ -230,7 +249,7 @@ module _ (ps : List PlainOrder) (cs : List PlainCertificate) (count : length cs 
         let lt : other < length cs = omega (arith, le) in
         next_within place other m refl (omega arith) lt here (within other lt) (suffices_up_to within place here m (omega (arith, le))) (counts_order ps other) refl
 
-    -- where each place is within those before it, they suffice
+    -- If each index is within the path lengths before it, they are large enough.
     suffices_if : ((place : ℕ) → place < length cs → is_within_lengths Bound cs place ≡ true) → (place : ℕ) → place < length cs → (p : PlainOrder) → slice_get ps place ≡ Some p
         → suffices_at ps place p ≡ true
     suffices_if within place lt p e =
@@ -238,21 +257,23 @@ module _ (ps : List PlainOrder) (cs : List PlainCertificate) (count : length cs 
         let same : h.order ≡ p = same_Some h.order p (sym h.order_is ∙ e) in
         subst (λ (q : PlainOrder). suffices_at ps place q ≡ true) same (suffices_up_to within place lt (length ps - (place + 1)) (omega (arith, lt, count)))
 
+-- A conjunction with a true part is its other part.
 yes_and : (b c : Bool) → b ≡ true → ((b && c) || false) ≡ c
 yes_and true true e = refl
 yes_and true false e = refl
 yes_and false c e = absurd cc
 
--- what the judge answers on the certificate at a place, under the key of the order above
+-- The verifier's answer for the certificate at an index, under the key of the order above.
 abbrev pub answer_at : Answers → (ps : List PlainOrder) (cs : List PlainCertificate) (place : ℕ) → IsHeldAt ps cs place → Bool
 answer_at answers ps cs place h = answers h.above.key (outer_algorithm h.certificate) (part_octets (tbs h.certificate)) (signature_bits h.certificate)
 
--- limits
+-- Certificates are within a size limit if their encodings are.
 within_limit : (m limit : ℕ) (cs : List PlainCertificate) → AllByRecursion (Stands Bound m) cs
     → ((place : ℕ) (c : PlainCertificate) → slice_get cs place ≡ Some c → length (certificate_octets Bound c) ≤ limit) → AllByRecursion (Stands Bound limit) cs
 within_limit m limit [] all within = tt
 within_limit m limit (c ∷ cs) all within = (record { valid = all.0.valid; within = within 0 c refl }, within_limit m limit cs all.1 (λ place d e. within (suc place) d e))
 
+-- Certificates within a size limit are within each larger one.
 wider : (m limit : ℕ) (cs : List PlainCertificate) → m ≤ limit → AllByRecursion (Stands Bound m) cs → AllByRecursion (Stands Bound limit) cs
 wider m limit [] le all = tt
 wider m limit (c ∷ cs) le all = (record { valid = all.0.valid; within = omega (arith, le, all.0.within) }, wider m limit cs le all.1)
@@ -260,17 +281,18 @@ wider m limit (c ∷ cs) le all = (record { valid = all.0.valid; within = omega 
 pub wider_chain : (m limit : ℕ) (cs : List PlainCertificate) (stream : List ℕ) → m ≤ limit → Chain Bound m cs stream → Chain Bound limit cs stream
 wider_chain m limit cs stream le chain = record { each = wider m limit cs le chain.each; joins = chain.joins; fits = chain.fits }
 
--- each of a list passes a test
+-- If all elements of a list pass a test, so does the one at an index.
 all_get : {A : Type 0} (test : A → Bool) (xs : List A) (place : ℕ) (x : A) → list_all test xs ≡ true → slice_get xs place ≡ Some x → test x ≡ true
 all_get test [] place x h e = absurd cc
 all_get test (y ∷ ys) zero x h e = let same : y ≡ x = same_Some y x e in subst (λ z. test z ≡ true) same (and_parts (test y) (list_all test ys) h).0
 all_get test (y ∷ ys) (suc place) x h e = all_get test ys place x (and_parts (test y) (list_all test ys) h).1 e
 
+-- If the element at each index passes a test, all elements do.
 all_from_get : {A : Type 0} (test : A → Bool) (xs : List A) → ((place : ℕ) (x : A) → slice_get xs place ≡ Some x → test x ≡ true) → list_all test xs ≡ true
 all_from_get test [] h = refl
 all_from_get test (y ∷ ys) h = and_from (test y) (list_all test ys) (h 0 y refl) (all_from_get test ys (λ place x e. h (suc place) x e))
 
--- the role behind the root
+-- Below the root, whether an order allows a key purpose doesn't depend on its role.
 below_allows_by : (b : Bool) (purpose : List ℕ) (p : PlainOrder) → allows_in (if b then roles.Subscriber else roles.Subordinate) purpose p ≡ allows_one purpose p
 below_allows_by true purpose p = refl
 below_allows_by false purpose p = refl
@@ -284,12 +306,13 @@ allowed_at root below purpose all zero p e = refl
 allowed_at root below purpose all (suc place) p e =
     below_allows (length (root ∷ below)) place purpose p ∙ all_get (allows_one purpose) below place p all e
 
--- a place that counts, and isn't within a path length
+-- If a certificate exceeds the path lengths before it, it counts, and some path length isn't kept.
 neither : (counts kept : Bool) → (not counts || kept) ≡ false → (counts ≡ true) × (kept ≡ false)
 neither true false e = (refl, refl)
 neither true true e = absurd cc
 neither false kept e = absurd cc
 
+-- If some of the first certificates don't keep their path lengths, there is one that doesn't.
 broken_length : (cs : List PlainCertificate) (n other : ℕ) → keep_lengths Bound cs n other ≡ false → (place : ℕ) × (place < n) × (keeps_length Bound cs place other ≡ false)
 broken_length cs zero other e = absurd cc
 broken_length cs (suc n) other e =
@@ -435,7 +458,7 @@ module _ (root : PlainOrder) (below : List PlainOrder) (cs : List PlainCertifica
           exceeded = sym (length_as (root ∷ below) cs h.count here before place earlier lt there (fits_at before within)) ∙ found.2;
         }
 
-    -- a rule that is kept isn't broken
+    -- The rules that a chain can break, and why (`BreaksFor`).
     breaks : (rule : Rule) (place : ℕ) → place < length cs → keeps_at rule (terms_for root moment purpose answers) cs stream place ≡ false → BreaksFor moment purpose answers (root ∷ below) cs place rule
     breaks rules.AlgorithmsDiffer place lt e = both_ways _ e (one_algorithm place lt)
     breaks rules.DuplicateExtension place lt e = both_ways _ e (no_duplicate place lt)
@@ -490,7 +513,7 @@ module _ (root : PlainOrder) (below : List PlainOrder) (cs : List PlainCertifica
         kept = λ place rule lt. keeps_each p rule place lt;
       }
 
-      -- the certificates of the stream are these
+      -- The certificates of an input that is trusted are those of the chain.
       same_chain : (t : Trusted (terms_for root moment purpose answers) limit stream) → t.certificates ≡ cs
       same_chain t =
           one_chain Bound (limit + length_max) t.certificates cs stream (wider_chain limit (limit + length_max) t.certificates stream (omega arith) t.chain)
@@ -562,7 +585,7 @@ says_as_ordered root below cs stream place p c h p_is c_is =
     ∙ told_is (role_at (length (root ∷ below)) place) that.order that.above.key that.right (fits_at root below cs stream h place lt)
     ∙ ap (told_for (role_at (length (root ∷ below)) place)) same_order
 
--- what signers answered is accepted by who accepts all that they may answer
+-- A verifier that accepts everything that the signers may return accepts what they returned.
 answered_by : {S : Type 0} (algorithm : S → Algorithm) (signs : S → List ℕ → Bits → Type 0) (answers : Answers) (ps : List PlainOrder) (signers : List S) (cs : List PlainCertificate)
     → AreSigned algorithm signs signers cs → AcceptsSigners algorithm signs answers ps signers → AreAnswered answers ps cs
 answered_by algorithm signs answers ps signers cs signed accepts place above c above_is c_is =

@@ -1,4 +1,4 @@
--- Chains that were issued.
+-- Issued chains.
 use Rattle.std.specs.Prelude.{◌≡◌, ℕ, ◌-◌, List, length, map, Some, slice_get}
 use Rattle.std.specs.List.{AllByRecursion}
 use Rattle.cert_desk_listing.specs.Oid.Bound.{Bound}
@@ -15,7 +15,7 @@ use Rattle.cert_desk.specs.Ordered.{ordered_part, part_octets}
 use Rattle.cert_desk.specs.PlainOrders.{IsRight, PlainOrder}
 use Rattle.cert_desk.specs.Roles.{place_above, role_at}
 
--- a certificate is the one that is ordered at a place, by some algorithm
+-- The certificate is the one that the order at an index asks for, with some signature algorithm.
 pub record IsOrderedAt (ps : List PlainOrder) (place : ℕ) (c : PlainCertificate) : Type 0 where
   pub order : PlainOrder
   pub above : PlainOrder
@@ -24,33 +24,35 @@ pub record IsOrderedAt (ps : List PlainOrder) (place : ℕ) (c : PlainCertificat
   pub above_is : slice_get ps (place_above place) ≡ Some above
   pub part : tbs c ≡ ordered_part (role_at (length ps) place) order above (outer_algorithm c)
 
--- each certificate is the one that is ordered at its place
+-- Each certificate is the one that the order at its index asks for.
 abbrev pub HoldFront : List PlainOrder → List PlainCertificate → Type 0
 HoldFront ps cs = (place : ℕ) (c : PlainCertificate) → slice_get cs place ≡ Some c
     → IsOrderedAt ps place c
 
 module _ {S : Type 0} (algorithm : S → Algorithm) (signs : S → List ℕ → Bits → Type 0) where
-  -- Both algorithms of a certificate at a place are those of its signer, whose bits are in that
-  -- signer's relation with its own signed part.
+  -- Both algorithms of the certificate at an index are its signer's, and its bits are a signature
+  -- of that signer over its own TBSCertificate.
   pub record IsSignedBy (signers : List S) (place : ℕ) (c : PlainCertificate) : Type 0 where
     pub signer : S
     pub signer_is : slice_get signers (place_above place) ≡ Some signer
     pub algorithm_is : outer_algorithm c ≡ algorithm signer
     pub signed : signs signer (part_octets (tbs c)) (signature_bits c)
 
+  -- Each certificate is signed by its signer.
   abbrev pub AreSigned : List S → List PlainCertificate → Type 0
   AreSigned signers cs = (place : ℕ) (c : PlainCertificate) → slice_get cs place ≡ Some c
       → IsSignedBy signers place c
 
-  -- So many certificates, from the first on, are those that are ordered, each signed by its
-  -- signer; and each has an encoding.
+  -- The first certificates of the chain: each is the ordered one, is signed by its signer, and has
+  -- an encoding.
   pub record AreMade (ps : List PlainOrder) (signers : List S) (cs : List PlainCertificate) : Type 0
     where
       pub held : HoldFront ps cs
       pub signed : AreSigned signers cs
       pub each : AllByRecursion (Stands Bound length_max) cs
 
-  -- a certificate is the one that is ordered at a place, and signed; and these are its octets
+  -- The certificate is the one that the order at an index asks for, it is signed, and these are its
+  -- bytes.
   pub record IsMadeAt (ps : List PlainOrder) (signers : List S) (place : ℕ) (c : PlainCertificate)
       (octets : List ℕ) : Type 0 where
     pub ordered : IsOrderedAt ps place c
@@ -58,15 +60,16 @@ module _ {S : Type 0} (algorithm : S → Algorithm) (signs : S → List ℕ → 
     pub stands : Stands Bound length_max c
     pub octets_are : octets ≡ certificate_octets Bound c
 
--- One certificate for each of these orders, in turn, which holds it; and the stream joins them.
+-- The chain fulfils these orders: its certificates are the ordered ones, one for each order, and
+-- its bytes are their concatenation.
 pub record HoldsOrders (ps : List PlainOrder) (cs : List PlainCertificate) (stream : List ℕ) : Type
     0 where
   pub count : length cs ≡ length ps
   pub chain : Chain Bound length_max cs stream
   pub held : HoldFront ps cs
 
--- The orders are accepted, and the stream joins certificates that hold them, each signed by its
--- signer.
+-- The orders are accepted. The bytes are those of a chain that fulfils them, each certificate of
+-- which is signed by its signer.
 pub record IssuedChain {S : Type 0} (key : S → PublicKey) (algorithm : S → Algorithm)
     (signs : S → List ℕ → Bits → Type 0) (orders : List Order) (signers : List S)
     (stream : List ℕ) : Type 0 where

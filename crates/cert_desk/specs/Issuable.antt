@@ -16,7 +16,7 @@ use Rattle.cert_desk.specs.PlainOrders.{PlainOrder}
 use Rattle.cert_desk.specs.Refusals.{HasPart, HoldsAt, MayBeTooLong, Refuses}
 
 -- No length exceeds 2^32 - 1: the subscriber's names, the TBSCertificate, and the certificate with
--- any bits that its signer may return, have encodings.
+-- every signature that its signer may return, have encodings.
 abbrev pub IsShort : (List ℕ → Bits → Type 0) → Algorithm → Role → List (List ℕ) → Tbs → Type 0
 IsShort signs a role dns t = HasPart role dns t
     × ((bits : Bits) → IsBits bits → signs (part_octets t) bits
@@ -38,7 +38,7 @@ module _ {S : Type 0} (key : S → PublicKey) (algorithm : S → Algorithm)
   AreIssuable = AreAcceptedWith key algorithm (λ s role p t. (may_refuse s (part_octets t) → ⊥)
       × IsShort (signs s) (algorithm s) role p.dns t)
 
-  -- Such orders are refused only when an allocation fails.
+  -- Such orders are rejected only when an allocation fails.
   abbrev pub IssuableIsIssued : Type 0
   IssuableIsIssued = (orders : List Order) (signers : List S) (e : IssueError)
       → AreIssuable orders signers → Refuses key algorithm signs may_refuse orders signers e
@@ -52,7 +52,8 @@ AreSignable key algorithm may_refuse =
     AreAcceptedWith key algorithm (λ s role p t. (may_refuse s (part_octets t) → ⊥)
     × HasPart role p.dns t)
 
--- Why such orders may be refused: an allocation fails, or a signer returns bits that are too long.
+-- The reason why such orders may be rejected: an allocation fails, or a signer returns bits that
+-- are too long.
 abbrev pub IsMemoryOrLong : {S : Type 0} → (S → Algorithm) → (S → List ℕ → Bits → Type 0)
     → List PlainOrder → List S → IssueError → Type 0
 IsMemoryOrLong algorithm signs asked signers errors.OutOfMemory = ⊤

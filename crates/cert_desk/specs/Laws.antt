@@ -1,4 +1,4 @@
--- What holds of every chain that was issued.
+-- Laws about every issued chain.
 use Rattle.std.specs.Prelude.{◌≡◌, ℕ, ◌+◌, ◌-◌, ◌≤◌, ◌<◌, List, [], ◌∷◌, length, map, true, false}
 use Rattle.std.specs.Prelude.{Some, slice_get, Bool, None, ◌==◌}
 use Rattle.cert_desk_listing.specs.Oid.Bound.{Bound}
@@ -30,28 +30,29 @@ use Rattle.cert_desk.specs.declared.role.Role.{Role}
 use Rattle.cert_desk.specs.declared.role.Role.TheVariants as roles
 use Rattle.cert_desk_checking.specs.Issuers.{as_anchor}
 
--- the judge says yes to the signature at a place, under the key of the order whose signer gave it
+-- The verifier accepts the signature at each index, under the key of the order whose signer made
+-- it.
 abbrev pub AreAnswered : Answers → List PlainOrder → List PlainCertificate → Type 0
 AreAnswered answers ps cs =
     (place : ℕ) (above : PlainOrder) (c : PlainCertificate) → slice_get ps (place_above place)
     ≡ Some above → slice_get cs place ≡ Some c
     → answers above.key (outer_algorithm c) (part_octets (tbs c)) (signature_bits c) ≡ true
 
--- each certificate is within a limit
+-- Each certificate is within the size limit.
 abbrev pub AreWithin : ℕ → List PlainCertificate → Type 0
 AreWithin limit cs = (place : ℕ) (c : PlainCertificate) → slice_get cs place ≡ Some c
     → length (certificate_octets Bound c) ≤ limit
 
--- the anchor of a root's order
+-- The order of a root as a trust anchor.
 abbrev pub anchor_of : PlainOrder → PlainAnchor
 anchor_of root = record { name = root.subject; key = root.key }
 
--- the first of these certificates alone, as an anchor
+-- The first of these certificates as the only trust anchor.
 abbrev pub root_anchors : List PlainCertificate → List PlainAnchor
 root_anchors [] = []
 root_anchors (c ∷ cs) = as_anchor c ∷ []
 
--- under that anchor alone
+-- The terms with the root as the only trust anchor.
 abbrev pub terms_for : PlainOrder → ℕ → List ℕ → Answers → Terms
 terms_for root moment purpose answers =
     record {
@@ -62,7 +63,7 @@ terms_for root moment purpose answers =
       answers = answers;
     }
 
--- What is asked of a run of the check, so that a chain is trusted.
+-- The conditions of a check under which the chain is trusted.
 pub record Permits (limit moment : ℕ) (purpose : List ℕ) (answers : Answers) (ps : List PlainOrder)
     (cs : List PlainCertificate) : Type 0 where
   pub within : AreWithin limit cs
@@ -71,9 +72,9 @@ pub record Permits (limit moment : ℕ) (purpose : List ℕ) (answers : Answers)
   pub sufficient : Suffices ps
   pub answered : AreAnswered answers ps cs
 
--- A chain that holds orders is trusted under its own root, at each moment within all dates, for
--- each purpose that the orders allow, where their path lengths are enough, each certificate is
--- within the limit, and the judge says yes to each signature.
+-- A chain that fulfils orders is trusted under its own root if the validation time is within all
+-- dates, the orders allow the key purpose, their path lengths are large enough, each certificate is
+-- within the size limit, and the verifier accepts each signature.
 abbrev pub HeldIsTrusted : Type 0
 HeldIsTrusted =
     (root : PlainOrder) (below : List PlainOrder) (cs : List PlainCertificate) (stream : List ℕ)
@@ -81,7 +82,7 @@ HeldIsTrusted =
     → HoldsOrders (root ∷ below) cs stream → Permits limit moment purpose answers (root ∷ below) cs
     → Trusted (terms_for root moment purpose answers) limit stream
 
--- A chain that holds orders is trusted nowhere else.
+-- A chain that fulfils orders is trusted under its own root only if these conditions are met.
 abbrev pub TrustedIsPermitted : Type 0
 TrustedIsPermitted =
     (root : PlainOrder) (below : List PlainOrder) (cs : List PlainCertificate) (stream : List ℕ)
@@ -90,15 +91,16 @@ TrustedIsPermitted =
     stream
     → Permits limit moment purpose answers (root ∷ below) cs
 
--- The judge says yes to whatever these signers may answer, each under the key of the order at its
--- place.
+-- The verifier accepts every signature that these signers may return, under the key of the order at
+-- the signer's index.
 pub record AcceptsSigners {S : Type 0} (algorithm : S → Algorithm) (signs : S → List ℕ → Bits
     → Type 0) (answers : Answers) (ps : List PlainOrder) (signers : List S) : Type 0 where
   pub yes : (place : ℕ) (p : PlainOrder) (s : S) (octets : List ℕ) (bits : Bits)
       → slice_get ps place ≡ Some p → slice_get signers place ≡ Some s → signs s octets bits
       → answers p.key (algorithm s) octets bits ≡ true
 
--- A chain that was issued is so trusted under a judge that accepts its signers.
+-- An issued chain is trusted under its own root if the verifier accepts every signature that its
+-- signers may return, and the other conditions are met.
 abbrev pub IssuedIsTrusted : {S : Type 0} → (S → PublicKey) → (S → Algorithm)
     → (S → List ℕ → Bits → Type 0) → Type 0
 IssuedIsTrusted {S = S} key algorithm signs =
@@ -110,8 +112,8 @@ IssuedIsTrusted {S = S} key algorithm signs =
     → AcceptsSigners algorithm signs answers issued.asked signers
     → Trusted (terms_for root moment purpose answers) limit stream
 
--- One order before a place has a path length that is less than what counts behind it, up to that
--- place, which counts.
+-- The path length of an order before an index is less than the number of indexes after it that
+-- count, up to this one, which counts.
 pub record IsTooFar (ps : List PlainOrder) (place : ℕ) : Type 0 where
   pub counts : counts_order ps place ≡ true
   pub before : ℕ
@@ -123,8 +125,8 @@ pub record IsTooFar (ps : List PlainOrder) (place : ℕ) : Type 0 where
 
 module _ (moment : ℕ) (purpose : List ℕ) (answers : Answers) (ps : List PlainOrder)
     (cs : List PlainCertificate) (place : ℕ) where
-  -- Why a chain that holds orders breaks a rule at the place of an order: the moment, the purpose,
-  -- a path length, or the answer on its certificate; no other rule is broken.
+  -- The reason why a chain that fulfils orders breaks a rule at an index: the validation time, the
+  -- key purpose, a path length, or the verifier's answer. No other rule is broken.
   abbrev pub BreaksFor : Rule → Type 0
   BreaksFor rules.NotYetValid = (p : PlainOrder) × (slice_get ps place ≡ Some p)
       × (moment < unix_seconds (begins p))
@@ -138,6 +140,7 @@ module _ (moment : ℕ) (purpose : List ℕ) (answers : Answers) (ps : List Plai
       × (answers above.key (outer_algorithm c) (part_octets (tbs c)) (signature_bits c) ≡ false)
   BreaksFor _ = ⊥
 
+-- A chain that fulfils orders is rejected only for these reasons.
 abbrev pub HeldIsRefusedFor : Type 0
 HeldIsRefusedFor =
     (root : PlainOrder) (below : List PlainOrder) (cs : List PlainCertificate) (stream : List ℕ)
@@ -146,7 +149,7 @@ HeldIsRefusedFor =
     stream place rule
     → BreaksFor moment purpose answers (root ∷ below) cs place rule
 
--- What the judge is handed of the stream at a place is what was handed to its signer.
+-- The bytes of the chain that the verifier gets at an index are those that the signer got.
 abbrev pub SignedIsSliced : Type 0
 SignedIsSliced =
     (ps : List PlainOrder) (cs : List PlainCertificate) (stream : List ℕ) (place : ℕ)
@@ -154,14 +157,15 @@ SignedIsSliced =
     → HoldsOrders ps cs stream → slice_get cs place ≡ Some c → signed_part Bound cs stream place c
     ≡ part_octets (tbs c)
 
--- what an extension says, and whether it is critical
+-- The criticality of an extension, and its meaning.
 abbrev pub Told : Type 0
 Told = Bool × Meaning
 
+-- The criticality and the meaning of an extension.
 abbrev pub told : PlainExtension → Told
 told e = (is_critical e, weigh Bound e)
 
--- what is ordered in a role, one extension after the other
+-- The ordered extensions of a role, in order.
 abbrev pub told_for : Role → PlainOrder → List Told
 told_for roles.Root p = (false, unweighed) ∷ (true, constraints true None)
     ∷ (true, uses (authority_uses p.answers)) ∷ (false, unweighed) ∷ []
@@ -173,7 +177,7 @@ told_for roles.Subscriber p =
     ∷ (false, purposes (profiles.purposes p.clients)) ∷ (true, constraints false None)
     ∷ (true, uses digital_signature) ∷ []
 
--- The extensions of a certificate say what was ordered.
+-- The extensions of a certificate have the ordered content.
 abbrev pub SaysAsOrdered : Type 0
 SaysAsOrdered =
     (root : PlainOrder) (below : List PlainOrder) (cs : List PlainCertificate) (stream : List ℕ)

@@ -1,19 +1,19 @@
--- The texts of a run of `issue`, each one line ended by LF.
+-- The texts that a run of `issue` prints. Each is one line and ends with LF.
 use Rattle.std.specs.Prelude.{ℕ, List, ◌++◌, codes, decimal}
 use Rattle.cert_desk_listing.specs.DeskIo.Telling.{memory_line}
 use Rattle.cert_desk.specs.declared.issue_error.IssueError.{IssueError}
 use Rattle.cert_desk.specs.declared.issue_error.IssueError.TheVariants as errors
 
--- the order of a place, and what it is refused for
+-- The line on the order at an index, with the reason why it is rejected.
 abbrev pub order_line : ℕ → List ℕ → List ℕ
 order_line place reason =
     (codes "order " ++ decimal place) ++ (codes " " ++ (reason ++ codes "\n"))
 
--- all orders, and what they are refused for
+-- The line on all orders, with the reason why they are rejected.
 abbrev pub orders_line : List ℕ → List ℕ
 orders_line reason = codes "orders " ++ reason ++ codes "\n"
 
--- what is said of orders of which no chain is issued
+-- The line that reports why no chain is issued.
 abbrev pub refusal_line : IssueError → List ℕ
 refusal_line errors.NoOrders = orders_line (codes "NoOrders")
 refusal_line errors.SignerCount = orders_line (codes "SignerCount")
@@ -28,6 +28,6 @@ refusal_line (errors.Signer place) = order_line place (codes "Signer")
 refusal_line (errors.TooLong place) = order_line place (codes "TooLong")
 refusal_line errors.OutOfMemory = memory_line
 
--- what is said of a file of which this line, counted from 1, is the first faulty one
+-- The line that reports the first wrong line of a file, counted from 1.
 abbrev pub fault_line : ℕ → List ℕ
 fault_line line = codes "orders: line " ++ decimal line ++ codes "\n"

@@ -1,4 +1,4 @@
--- What contracts see of certificates that are made, and of chains that are issued.
+-- Built certificates and issued chains, as contracts see them.
 use Rattle.std.specs.Prelude.{◌≡◌, ◌++◌, ℕ, ◌-◌, List, Result, Ok, Err}
 use Rattle.cert_desk_listing.specs.Oid.Bound.{Bound}
 use Rattle.cert_desk_listing.specs.Der.BitStrings.{Bits}
@@ -25,11 +25,11 @@ use Rattle.cert_desk.specs.Ordered.{extensions_for, names_for, part_octets}
 use Rattle.cert_desk.specs.PlainOrders.{PlainOrder}
 use Rattle.cert_desk.specs.Refusals.{IsStoppedAt, Stops}
 
--- what was made, as it is written
+-- The certificate as it is encoded.
 abbrev pub made_plain : Made → PlainCertificate
 made_plain m = as_written (certificate_plain m.certificate)
 
--- what an order settles of a certificate, below an issuer of this name
+-- The fields of a certificate that an order determines, with an issuer of this name.
 abbrev pub fields_below : PlainName → PlainOrder → PlainFields
 fields_below issuer p =
     record {
@@ -40,8 +40,8 @@ fields_below issuer p =
       key = p.key;
     }
 
--- A profile names whom an order names, below another one, and adds the extensions that are asked
--- for in a role behind a subscriber's names.
+-- A profile has the subject of an order and the issuer above. After a subscriber's names, it adds
+-- the extensions that the role requires.
 pub record IsProfile {P : Type 0} (subject_name : P → Result PlainName Error)
     (issuer_name : P → PlainName → PlainName)
     (extensions : P → PublicKey → PublicKey → Tbs → List PlainExtension)
@@ -52,8 +52,8 @@ pub record IsProfile {P : Type 0} (subject_name : P → Result PlainName Error)
       ≡ extensions_for role p above.key
   pub willing : (e : Error) → refuses profile e → ⊥
 
--- A certificate of this signed part, by this algorithm, whose bits are in this relation with it;
--- and its octets.
+-- A certificate with this TBSCertificate and this algorithm, whose bits are a signature, and its
+-- bytes.
 pub record IsMadeOf (t : Tbs) (a : Algorithm) (signs : List ℕ → Bits → Type 0)
     (c : PlainCertificate) (octets : List ℕ) : Type 0 where
   pub part : tbs c ≡ t
@@ -62,7 +62,7 @@ pub record IsMadeOf (t : Tbs) (a : Algorithm) (signs : List ℕ → Bits → Typ
   pub octets_are : octets ≡ certificate_octets Bound c
   pub valid : IsValid (raw_certificate Bound) c
 
--- the certificate of a signed part is made, or this is why it isn't
+-- The certificate with a TBSCertificate is built, or this is the reason why it isn't.
 abbrev pub Makes : (List ℕ → Type 0) → (List ℕ → Bits → Type 0) → Algorithm → Role → List (List ℕ)
     → Tbs → Result Made Stop → Type 0
 Makes may_refuse signs a role dns t (Ok m) = IsMadeOf t a signs (made_plain m) m.octets.items
@@ -70,16 +70,17 @@ Makes may_refuse signs a role dns t (Err s) = Stops may_refuse signs a role dns 
 
 module _ {S : Type 0} (algorithm : S → Algorithm) (signs : S → List ℕ → Bits → Type 0)
     (may_refuse : S → List ℕ → Type 0) (ps : List PlainOrder) (signers : List S) (place : ℕ) where
-  -- so it is of the certificate at a place
+  -- The certificate at an index is built, or this is the reason why it isn't.
   abbrev pub MakesAt : Result Made Stop → Type 0
   MakesAt (Ok m) = IsMadeAt algorithm signs ps signers place (made_plain m) m.octets.items
   MakesAt (Err s) = IsStoppedAt algorithm signs may_refuse ps signers place s
 
--- the certificates of a chain, and their stream
+-- The certificates of a chain, and its bytes.
 pub record PlainIssued : Type 0 where
   pub certificates : List PlainCertificate
   pub stream : List ℕ
 
+-- The certificates of an issued chain as they are encoded, and its bytes.
 abbrev pub issued_plain : Inside → PlainIssued
 issued_plain i =
     record {
@@ -87,7 +88,7 @@ issued_plain i =
       stream = i.stream.items;
     }
 
--- the stream joins the certificates
+-- The bytes are the concatenation of the certificates.
 abbrev pub IsJoined : Inside → Type 0
 IsJoined i =
     Chain Bound length_max (plain_list (λ c. as_written (certificate_plain c)) i.certificates.items)

@@ -1,4 +1,4 @@
--- What orders ask for.
+-- The values that orders ask for.
 use Rattle.std.specs.Prelude.{◌≡◌, ℕ, ℤ, ◌<◌, ◌≤◌, ◌^◌, List, length, Bool, true, Option, Some, Ok}
 use Rattle.std.specs.Prelude.{IfSome, nat_lt, slice_get, string_bytes}
 use Rattle.std.specs.Bool.{⊤}
@@ -19,60 +19,62 @@ use Rattle.cert_desk.specs.declared.role.Role.{Role}
 use Rattle.cert_desk.specs.declared.role.Role.TheVariants as roles
 use Rattle.cert_desk.specs.Roles.{role_at}
 
--- what an order asks for, once its texts are read
+-- The values of an order, after its texts are parsed.
 pub record PlainOrder : Type 0 where
   pub subject : PlainName
   pub serial : ℤ
   pub validity : PlainValidity
   pub key : PublicKey
-  -- how many authorities may stand between it and the last certificate
+  -- The largest number of CAs between this one and the last certificate.
   pub path : Option ℕ
   pub dns : List (List ℕ)
   pub clients : Bool
   pub answers : Bool
 
--- from when until when
+-- The start of the validity period (RFC 5280 4.1.2.5).
 abbrev pub begins : PlainOrder → Civil
 begins p = civil_of (not_before p.validity)
 
+-- The end of the validity period (RFC 5280 4.1.2.5).
 abbrev pub ends : PlainOrder → Civil
 ends p = civil_of (not_after p.validity)
 
--- a subscriber has a DNS name or more, each in ASCII
+-- A subscriber has at least one DNS name, and each is in ASCII.
 abbrev pub HasNamesFor : Role → List (List ℕ) → Type 0
 HasNamesFor roles.Subscriber names = (0 < length names)
     × (list_all (λ text. list_all (λ o. nat_lt o 128) text) names ≡ true)
 HasNamesFor _ names = ⊤
 
--- What an extension can say is asked for: a path length of one octet, and these names.
+-- The values fit into extensions: the path length is one byte, and the DNS names are allowed.
 pub record IsRight (role : Role) (p : PlainOrder) : Type 0 where
   pub short : IfSome p.path (λ n. n < 2 ^ 8)
   pub names : HasNamesFor role p.dns
 
--- a name that the profile of a role makes a certificate of
+-- The profile of a role accepts this name.
 abbrev pub CanBear : Role → PlainName → Type 0
 CanBear roles.Root n = NamesAuthority {X = Unit {0}} n (Ok tt)
 CanBear roles.Subordinate n = ⊤
 CanBear roles.Subscriber n = all_stays n ≡ true
 
--- What a signed part can have, beside: such a name, a serial number that is read, and
--- dates as RFC 5280 spells them.
+-- The values fit into a TBSCertificate. Besides the extensions, the name is accepted, the serial
+-- number has at most 20 bytes, and the dates are in the forms of RFC 5280 4.1.2.5.
 pub record IsReady (role : Role) (p : PlainOrder) : Type 0 where
   pub right : IsRight role p
   pub named : CanBear role p.subject
   pub serial : length (integer_octets p.serial) ≤ 20
   pub spelled : p.validity ≡ (time_of (begins p), (time_of (ends p), tt))
 
--- each is ready for its place
+-- Each order fits into a TBSCertificate of the role at its index.
 abbrev pub AreReady : List PlainOrder → Type 0
 AreReady ps = (place : ℕ) (p : PlainOrder) → slice_get ps place ≡ Some p
     → IsReady (role_at (length ps) place) p
 
--- the keys of signers are those of the orders at their places
+-- The keys of signers are those of the orders at their indexes.
 abbrev pub AreKeys : List PublicKey → List PlainOrder → Type 0
 AreKeys keys ps = (place : ℕ) (key : PublicKey) (p : PlainOrder) → slice_get keys place ≡ Some key
     → slice_get ps place ≡ Some p → key ≡ p.key
 
+-- An accepted order as its values.
 abbrev pub accepted_plain : Accepted → PlainOrder
 accepted_plain a = record {
   subject = name_plain a.subject;
@@ -85,5 +87,6 @@ accepted_plain a = record {
   answers = a.order.now.ocsp;
 }
 
+-- Accepted orders as their values.
 abbrev pub orders_plain : List Accepted → List PlainOrder
 orders_plain all = plain_list accepted_plain all

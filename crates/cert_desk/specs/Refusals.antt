@@ -1,5 +1,5 @@
--- Why no chain is issued. The reasons stand in their order: for one at a place, the orders before
--- and what is asked before of this one are right.
+-- The reasons why no chain is issued, in their order. If a reason applies to an order, the orders
+-- before it are accepted, and it meets the conditions before that reason.
 use Rattle.std.specs.Prelude.{◌≡◌, ◌≢◌, ◌⊎◌, ℕ, ℤ, ◌<◌, List, [], length, map, true, false, Option}
 use Rattle.std.specs.Prelude.{Some, None, Ok, Err, slice_get, string_bytes, IsSomeAnd}
 use Rattle.std.specs.Bool.{⊤}
@@ -43,26 +43,29 @@ use Rattle.cert_desk.specs.Ordered.{CanName, ordered_part, part_octets}
 use Rattle.cert_desk.specs.PlainOrders.{HasNamesFor, PlainOrder}
 use Rattle.cert_desk.specs.Roles.{place_above, role_at, signers_for}
 
--- What is asked of an order, in this order: a name that may stand there, a serial number, dates,
--- DNS names, and the signer's key.
+-- The text is a name that is allowed for the role. The conditions on an order are checked in this
+-- order: its name, its serial number, its dates, its DNS names, and the signer's key.
 abbrev pub HasName : Role → Order → Type 0
 HasName role o = (n : PlainName) × SpellsName Bound (string_bytes o.name) n × IsNamedFor role n
 
+-- The bytes are accepted as a serial number (RFC 5280 4.1.2.2).
 abbrev pub HasSerial : Order → Type 0
 HasSerial o = (z : ℤ) × (new_serial o.serial.items ≡ Ok z)
 
+-- The texts are two dates in order.
 abbrev pub HasDates : Order → Type 0
 HasDates o = (v : PlainValidity) × SpellDates (string_bytes o.not_before) (string_bytes o.not_after)
     v
 
+-- The DNS names are allowed for the certificate of a role.
 abbrev pub HasNames : Role → Order → Type 0
 HasNames role o = HasNamesFor role (plain_list string_bytes o.dns.items)
 
--- the text of no date
+-- The text isn't a date.
 abbrev pub IsNoDate : List ℕ → Type 0
 IsNoDate text = (c : Civil) → is_civil c ≡ true → text ≢ date_text c
 
--- a text that is no date's, or a second date before the first
+-- One of the texts isn't a date, or the second date is before the first.
 abbrev pub HasFaultyDates : Order → Type 0
 HasFaultyDates o =
     IsNoDate (string_bytes o.not_before) ⊎ IsNoDate (string_bytes o.not_after)
@@ -70,7 +73,7 @@ HasFaultyDates o =
     × IsTextOf (string_bytes o.not_after) after
     × (unix_seconds after < unix_seconds before))
 
--- why a name isn't one that the certificate of a role may have
+-- The reason why a name isn't allowed for the certificate of a role.
 abbrev pub RefusesName : Role → PlainName → Fault → Type 0
 RefusesName role n (faults.RootName e) = (role ≡ roles.Root)
     × NamesAuthority {X = Unit {0}} n (Err e) × (IsWantOfMemory e → ⊥)
@@ -79,7 +82,8 @@ RefusesName role n faults.OutOfMemory = ⊤
 RefusesName role n _ = ⊥
 
 module _ (role : Role) (key : Option PublicKey) (o : Order) where
-  -- Why an order is refused in a role, beside a signer of this key: what is asked before is right.
+  -- The reason why an order is rejected in a role, with this key of its signer. The conditions
+  -- before are met.
   abbrev pub RefusesOrder : Fault → Type 0
   RefusesOrder faults.Name = (e : ErrorKind) × ReadsName Bound (string_bytes o.name) (Err e)
   RefusesOrder (faults.RootName e) = (n : PlainName) × SpellsName Bound (string_bytes o.name) n
@@ -94,14 +98,14 @@ module _ (role : Role) (key : Option PublicKey) (o : Order) where
       × IsSomeAnd key (λ k. k ≢ key_plain o.key)
   RefusesOrder faults.OutOfMemory = ⊤
 
--- the order at a place is refused
+-- The order at an index is rejected.
 pub record IsRefusedAt (orders : List Order) (keys : List PublicKey) (place : ℕ) (f : Fault) : Type
     0 where
   pub order : Order
   pub stands : slice_get orders place ≡ Some order
   pub refused : RefusesOrder (role_at (length orders) place) (slice_get keys place) order f
 
--- the order at a place is refused, and the orders before it are accepted
+-- The order at an index is rejected, and the orders before it are accepted.
 pub record RefusesAt (orders : List Order) (keys : List PublicKey) (place : ℕ) (f : Fault) : Type 0
   where
     pub asked : List PlainOrder
@@ -109,27 +113,28 @@ pub record RefusesAt (orders : List Order) (keys : List PublicKey) (place : ℕ)
     pub here : length asked ≡ place
     pub refused : IsRefusedAt orders keys place f
 
--- how a fault in writing is told, and how one of a builder
+-- An error of the encoder as a reason why a certificate isn't built.
 abbrev pub stop_of_kind : ErrorKind → Stop
 stop_of_kind kinds.OutOfMemory = stops.OutOfMemory
 stop_of_kind _ = stops.TooLong
 
+-- An error of the builder as a reason why a certificate isn't built.
 abbrev pub stop_of : BuilderError → Stop
 stop_of (builders.Asn1 e) = stop_of_kind e.kind
 stop_of (builders.Signature signers.Refused) = stops.Refused
 stop_of (builders.Signature signers.OutOfMemory) = stops.OutOfMemory
 stop_of _ = stops.TooLong
 
--- a subscriber's names and the signed part have encodings
+-- A subscriber's names and the TBSCertificate have encodings.
 abbrev pub HasPart : Role → List (List ℕ) → Tbs → Type 0
 HasPart role dns t = CanName role dns × IsValid (tbs_certificate Bound None) t
 
--- the signer may give bits with which the certificate of a signed part has no encoding
+-- The signer may return a signature with which the certificate has no encoding.
 abbrev pub MayBeTooLong : (List ℕ → Bits → Type 0) → Algorithm → Tbs → Type 0
 MayBeTooLong signs a t = (bits : Bits) × IsBits bits × signs (part_octets t) bits
     × (IsValid (certificate Bound None) (t, (a, (bits, tt))) → ⊥)
 
--- Why the certificate of a signed part isn't made. It is too long where a length passes 2^32 - 1.
+-- The reason why a certificate isn't built. It is `TooLong` if a length exceeds 2^32 - 1.
 abbrev pub Stops : (List ℕ → Type 0) → (List ℕ → Bits → Type 0) → Algorithm → Role → List (List ℕ)
     → Tbs → Stop → Type 0
 Stops may_refuse signs a role dns t stops.Refused = may_refuse (part_octets t)
@@ -137,8 +142,8 @@ Stops may_refuse signs a role dns t stops.TooLong = (HasPart role dns t → ⊥)
     ⊎ MayBeTooLong signs a t
 Stops may_refuse signs a role dns t stops.OutOfMemory = ⊤
 
--- Of the order at a place, of its role and its signer, and of the part that is ordered there below
--- the order above, this holds.
+-- `P` holds for the order at an index, its role, its signer, and the TBSCertificate that is ordered
+-- there below the order above.
 pub record HoldsAt {S : Type 0} (algorithm : S → Algorithm)
     (P : S → Role → PlainOrder → Tbs → Type 0) (asked : List PlainOrder) (signers : List S)
     (place : ℕ) : Type 0 where
@@ -151,7 +156,7 @@ pub record HoldsAt {S : Type 0} (algorithm : S → Algorithm)
   pub holds : P signer (role_at (length asked) place) order
       (ordered_part (role_at (length asked) place) order above (algorithm signer))
 
--- no certificate is made at a place
+-- No certificate is built at an index.
 abbrev pub IsStoppedAt : {S : Type 0} → (S → Algorithm) → (S → List ℕ → Bits → Type 0)
     → (S → List ℕ → Type 0) → List PlainOrder → List S → ℕ → Stop → Type 0
 IsStoppedAt algorithm signs may_refuse asked signers place stop =
@@ -159,7 +164,7 @@ IsStoppedAt algorithm signs may_refuse asked signers place stop =
     (λ s role p t. Stops (may_refuse s) (signs s) (algorithm s) role p.dns t stop) asked signers
     place
 
--- how a fault of the order at a place is told, and a stop there
+-- The error that reports a rejected order at an index.
 abbrev pub fault_at : ℕ → Fault → IssueError
 fault_at place faults.Name = errors.Name place
 fault_at place (faults.RootName e) = errors.RootName place e
@@ -170,6 +175,7 @@ fault_at place faults.DnsName = errors.DnsName place
 fault_at place faults.KeyMismatch = errors.KeyMismatch place
 fault_at place faults.OutOfMemory = errors.OutOfMemory
 
+-- The error that reports that no certificate is built at an index.
 abbrev pub stop_at : ℕ → Stop → IssueError
 stop_at place stops.Refused = errors.Signer place
 stop_at place stops.TooLong = errors.TooLong place
@@ -178,13 +184,13 @@ stop_at place stops.OutOfMemory = errors.OutOfMemory
 module _ {S : Type 0} (key : S → PublicKey) (algorithm : S → Algorithm)
     (signs : S → List ℕ → Bits → Type 0) (may_refuse : S → List ℕ → Type 0) (orders : List Order)
     (signers : List S) where
-  -- so many signers as the orders need, and one of the orders is refused
+  -- The number of signers is right, and one of the orders is rejected.
   abbrev pub Faults : ℕ → Fault → Type 0
   Faults place f = (length signers ≡ signers_for (length orders))
       × RefusesAt orders (map key signers) place f
 
-  -- all orders are accepted, the certificates of the places before are made and signed, and at this
-  -- place none is
+  -- All orders are accepted, the certificates before an index are built and signed, and none is
+  -- built at this index.
   pub record StopsAt (place : ℕ) (stop : Stop) : Type 0 where
     pub asked : List PlainOrder
     pub accepted : AcceptedOrders orders (map key signers) asked
@@ -193,7 +199,7 @@ module _ {S : Type 0} (key : S → PublicKey) (algorithm : S → Algorithm)
     pub made : AreMade algorithm signs asked signers before
     pub stopped : IsStoppedAt algorithm signs may_refuse asked signers place stop
 
-  -- Why no chain is issued.
+  -- The reason why no chain is issued.
   abbrev pub Refuses : IssueError → Type 0
   Refuses errors.NoOrders = orders ≡ []
   Refuses errors.SignerCount = (0 < length orders) × (length signers ≢ signers_for (length orders))

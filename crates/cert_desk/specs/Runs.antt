@@ -1,4 +1,4 @@
--- What a run of `issue` finds, and what it tells.
+-- The outcome of a run of `issue`, and the text that reports it.
 use Rattle.std.specs.Prelude.{◌≡◌, ◌≢◌, ℕ, ◌⊎◌, List, Some, length, map, take}
 use Rattle.cert_desk_listing.specs.DeskIo.declared.exit_status.ExitStatus.{ExitStatus}
 use Rattle.cert_desk_listing.specs.DeskIo.declared.exit_status.ExitStatus.TheVariants as statuses
@@ -22,20 +22,21 @@ use Rattle.cert_desk.specs.Lines.{refusal_line, fault_line}
 use Rattle.cert_desk.specs.Refusals.{Refuses}
 use Rattle.cert_desk.specs.Roles.{signers_for}
 
+-- The public key of an order.
 abbrev pub key_of : Order → PublicKey
 key_of o = key_plain o.key
 
--- the key of a signer
+-- The key of a signer.
 abbrev pub signer_key : DigestSigner → PublicKey
 signer_key s = key_plain s.key
 
--- the keys that sign: those of all orders but the last of two or more
+-- The keys that sign: that of a single order, or those of all orders but the last.
 abbrev pub signing_keys : List Order → List PublicKey
 signing_keys orders = map key_of (take (signers_for (length orders)) orders)
 
--- What becomes of orders whose own keys sign, each by digests: a chain that holds them, or why
--- there is none. No such signer refuses, out of memory isn't told as a refusal, and orders that
--- are accepted and whose lengths fit aren't refused.
+-- The outcome for orders whose own keys sign, with digests: a chain that fulfils them, or the
+-- reason why there is none. Such a signer rejects nothing. The outcome is `Refused` only if an
+-- order isn't accepted or a length doesn't fit, and never if memory ran out.
 abbrev pub OrdersBecome : List Order → Outcome → Type 0
 OrdersBecome orders (outcomes.Issued issued) =
     (signers : List DigestSigner) × (map signer_key signers ≡ signing_keys orders)
@@ -52,9 +53,8 @@ OrdersBecome orders (outcomes.BadLine line) = ⊥
 OrdersBecome orders outcomes.Device = ⊥
 OrdersBecome orders outcomes.OutOfMemory = Unit {0}
 
--- What an orders file comes to: what becomes of the orders that it says, where all of it was read;
--- its first faulty line, which is the first one where it has too many octets; or why it wasn't
--- read.
+-- The outcome for an orders file: that for its orders, if it was read to its end; its first wrong
+-- line, which is 1 if it has too many bytes; or the reason why it wasn't read.
 abbrev pub FileBecomes : Device → Outcome → Type 0
 FileBecomes input (outcomes.Issued issued) =
     (octets : List ℕ) × IsWhole input most_octets octets
@@ -71,7 +71,7 @@ FileBecomes input outcomes.Device = IsUnread input most_octets reasons.Device
 FileBecomes input outcomes.OutOfMemory = ((octets : List ℕ) × IsWhole input most_octets octets)
     ⊎ IsUnread input most_octets reasons.OutOfMemory
 
--- What is told of an outcome, and the status. Where there is no memory for the text, this is told
+-- The report of an outcome, and the exit status. If memory runs out for the text, that is reported
 -- in its place.
 abbrev pub IsTold : Device → Device → Outcome → ExitStatus → Type 0
 IsTold out err (outcomes.Issued issued) answer = IsAnswer out err issued.stream statuses.Done answer

@@ -1,10 +1,10 @@
-//! Orders that were accepted.
+//! Accepted orders.
 
 use cert_desk_listing::cert_names::Name;
 use cert_desk_orders::Order;
 use cert_desk_orders::cert_parts::{SerialNumber, Validity};
 
-/// An order that was accepted, and what its texts spell.
+/// An accepted order, with the values that its texts encode.
 #[derive(Drop)]
 pub(crate) struct Accepted<'a> {
     pub(crate) order: &'a Order,

@@ -1,4 +1,4 @@
-//! Which orders are accepted.
+//! Decides which orders are accepted.
 
 ghost use Rattle.std.specs.Prelude.{◌≡◌, ◌≢◌, ◌↔◌, ◌<◌, ◌^◌, true, false, string_bytes, nat_lt};
 ghost use Rattle.std.specs.Prelude.{Option, None, Ok, IsTrue, IfOk, IfErr, IfSome, IsSomeAnd, OnOk};
@@ -30,7 +30,7 @@ use std::alloc::Global;
 use std::str::FromStr;
 use x509_cert_builders::{Error, all_stay, ca_certificate_naming};
 
-/// The name that the text of an order says.
+/// Parses the name of an order.
 fn name_of(alloc: Global, order: &Order) -> Result<Name, Fault>
     ensures spelled { IfOk result
         (λ n. SpellsName Bound (string_bytes order.now.name) (name_plain n)) }
@@ -40,7 +40,7 @@ fn name_of(alloc: Global, order: &Order) -> Result<Name, Fault>
     match Name::from_str(alloc, order.name.as_str()) {
         Ok(name) => Ok(name),
         Err(error) => {
-            if making::is_want_of_memory(&error) {
+            if making::is_out_of_memory(&error) {
                 return Err(Fault::OutOfMemory);
             }
             Err(Fault::Name)
@@ -48,7 +48,7 @@ fn name_of(alloc: Global, order: &Order) -> Result<Name, Fault>
     }
 }
 
-/// Whether a name is one of a subscriber, an end entity.
+/// Returns whether the name is allowed for a subscriber, which is an end entity.
 fn names_subscriber(subject: &Name) -> bool
     ensures { result ≡ names_subscriber (name_plain subject.now) }
 {
@@ -60,7 +60,7 @@ fn names_subscriber(subject: &Name) -> bool
     true
 }
 
-/// The name is one that the certificate of a role may have.
+/// Checks that the name is allowed for the certificate of a role.
 fn check_name(alloc: Global, role: Role, subject: &Name) -> Result<(), Fault>
     ensures right { OnOk result (IsNamedFor role (name_plain subject.now)) }
     ensures refused { IfErr result (λ f. RefusesName role (name_plain subject.now) f) }
@@ -68,7 +68,7 @@ fn check_name(alloc: Global, role: Role, subject: &Name) -> Result<(), Fault>
     match role {
         Role::Root => match ca_certificate_naming(alloc, subject) {
             Ok(()) => Ok(()),
-            Err(Error::Asn1(error)) if making::is_want_of_memory(&error) => Err(Fault::OutOfMemory),
+            Err(Error::Asn1(error)) if making::is_out_of_memory(&error) => Err(Fault::OutOfMemory),
             Err(error) => Err(Fault::RootName(error)),
         },
         Role::Subordinate => Ok(()),
@@ -81,7 +81,7 @@ fn check_name(alloc: Global, role: Role, subject: &Name) -> Result<(), Fault>
     }
 }
 
-/// The subject that an order names.
+/// Parses the subject of an order, and checks that it is allowed for the role.
 fn subject_of(alloc: Global, role: Role, order: &Order) -> Result<Name, Fault>
     ensures spelled { IfOk result
         (λ n. SpellsName Bound (string_bytes order.now.name) (name_plain n)) }
@@ -94,7 +94,7 @@ fn subject_of(alloc: Global, role: Role, order: &Order) -> Result<Name, Fault>
     Ok(subject)
 }
 
-/// The serial number of an order whose name is right.
+/// Returns the serial number of an order whose name is accepted.
 fn serial_of(alloc: Global, order: &Order) -> Result<SerialNumber, Fault>
     ensures number { IfOk result (λ n. new_serial order.now.serial.items ≡ Ok n) }
     ensures refused { (role : Role) (key : Option PublicKey) → HasName role order.now
@@ -103,7 +103,7 @@ fn serial_of(alloc: Global, order: &Order) -> Result<SerialNumber, Fault>
     match SerialNumber::new(alloc, order.serial.as_slice()) {
         Ok(serial) => Ok(serial),
         Err(error) => {
-            if making::is_want_of_memory(&error) {
+            if making::is_out_of_memory(&error) {
                 return Err(Fault::OutOfMemory);
             }
             Err(Fault::Serial)
@@ -111,14 +111,15 @@ fn serial_of(alloc: Global, order: &Order) -> Result<SerialNumber, Fault>
     }
 }
 
-/// A date is one of the calendar, to 2049 as a UTCTime.
+/// Proves that a date is in the range of its form: it is a date of the calendar, up to 2049 as a
+/// UTCTime. The function does nothing.
 fn time_in_range(spelled: &Time)
     ensures { IsInRange time (time_value spelled.now) }
 {
     spelled.in_range();
 }
 
-/// The date that a text says.
+/// Parses a date.
 fn date_of(text: &str) -> Option<Time>
     ensures date { IfSome result (λ t. IsTextOf text.now (time_date t)) }
     ensures spelled { IfSome result (λ t. time_value t ≡ time_of (time_date t)) }
@@ -133,7 +134,7 @@ fn date_of(text: &str) -> Option<Time>
     }
 }
 
-/// The dates of an order.
+/// Returns the validity period of an order, or `None` if one of its dates is wrong.
 fn validity_of(order: &Order) -> Option<Validity>
     ensures dates { IfSome result
         (λ v. SpellDates (string_bytes order.now.not_before) (string_bytes order.now.not_after)
@@ -152,7 +153,7 @@ fn validity_of(order: &Order) -> Option<Validity>
     Some(Validity::new(not_before, not_after))
 }
 
-/// Whether a text is ASCII.
+/// Returns whether the text is ASCII.
 fn is_ascii(text: &str) -> bool
     ensures { result ≡ list_all (λ o. nat_lt o 128) text.now }
 {
@@ -164,7 +165,7 @@ fn is_ascii(text: &str) -> bool
     true
 }
 
-/// Whether each text is ASCII.
+/// Returns whether each text is ASCII.
 fn are_ascii(texts: &[String]) -> bool
     ensures { result ≡ list_all (λ text. list_all (λ o. nat_lt o 128) text)
         (plain_list string_bytes texts.now) }
@@ -177,7 +178,7 @@ fn are_ascii(texts: &[String]) -> bool
     true
 }
 
-/// Whether an order has DNS names that its certificate may have.
+/// Returns whether the DNS names are allowed for the certificate of a role.
 fn has_dns_names(role: Role, texts: &[String]) -> bool
     ensures { IsTrue result ↔ HasNamesFor role (plain_list string_bytes texts.now) }
 {
@@ -188,12 +189,12 @@ fn has_dns_names(role: Role, texts: &[String]) -> bool
     }
 }
 
-/// A path length is one octet.
+/// Proves that a path length is one byte. The function does nothing.
 fn path_in_range(path: Option<u8>)
     ensures { IfSome path (λ n. n < 2 ^ 8) }
 {}
 
-/// Whether both keys are one: with the same algorithm, the same parameters and the same bits.
+/// Returns whether both keys are equal: they have the same algorithm, parameters and bits.
 fn is_same_key(one: &SubjectPublicKeyInfo, other: &SubjectPublicKeyInfo) -> bool
     ensures { IsTrue result ↔ (key_plain one.now ≡ key_plain other.now) }
 {
@@ -202,7 +203,7 @@ fn is_same_key(one: &SubjectPublicKeyInfo, other: &SubjectPublicKeyInfo) -> bool
     one == other
 }
 
-/// Whether the key of an order is its signer's, if it needs one.
+/// Returns whether the key of an order is that of its signer, or the order has no signer.
 fn is_key_of(signer_key: Option<&SubjectPublicKeyInfo>, key: &SubjectPublicKeyInfo) -> bool
     ensures same { IsTrue result → IfSome (plain_option (λ k. key_plain k.now) signer_key.entry)
         (λ k. k ≡ key_plain key.now) }
@@ -216,7 +217,8 @@ fn is_key_of(signer_key: Option<&SubjectPublicKeyInfo>, key: &SubjectPublicKeyIn
     }
 }
 
-/// An order, where it is accepted in a role: the key of its signer, if it needs one, is its own.
+/// Validates an order for a role, and returns its values, or why it isn't accepted. If the order
+/// has a signer, its key must be the signer's.
 pub(crate) fn accept_one<'a>(
     alloc: Global,
     role: Role,

@@ -1,4 +1,4 @@
-//! Whether what was issued is trusted.
+//! Validates an issued chain.
 
 ghost use Rattle.std.specs.Prelude.{◌≡◌, ◌≢◌, ◌≤◌, ◌↔◌, ◌⊎◌, ℕ, List, ◌∷◌, map, IfOk, IfErr, OnErr};
 ghost use Rattle.cert_desk_listing.specs.Oid.Bound.{Bound};
@@ -26,16 +26,17 @@ use cert_desk_listing::oid::ObjectIdentifier;
 use std::alloc::Global;
 
 impl Issued {
-    /// The verdict of `check` on the stream, with the first certificate as the only anchor.
+    /// Returns the verdict of `check` on the chain, with its first certificate as the only anchor.
     ///
-    /// Whatever orders the stream holds, it is trusted exactly where the validation time lies
-    /// within all dates, each order allows the key purpose, the path lengths are enough, each
-    /// certificate is within the limit, and the judge says yes to each signature under the ordered
-    /// key.
+    /// Whatever orders the chain fulfils, it is trusted exactly if the validation time is within
+    /// all dates, each order allows the key purpose, the path lengths are long enough, each
+    /// certificate is within the size limit, and the verifier accepts each signature under the
+    /// ordered key.
     ///
     /// # Errors
-    /// Out of memory. The judge wasn't asked, or was about the certificates before some place,
-    /// which keep every rule.
+    ///
+    /// - Memory runs out. The verifier wasn't asked, or was asked only about the first
+    ///   certificates, which keep every rule.
     pub fn audit<J: SignatureJudge>(
         &self,
         alloc: Global,
@@ -75,7 +76,7 @@ impl Issued {
     }
 }
 
-/// A certificate, as an anchor.
+/// Returns a certificate as a trust anchor.
 fn anchor_of(alloc: Global, root: &Certificate) -> Result<Anchor, CheckError>
     ensures copied { IfOk result
         (λ a. anchor_plain a ≡ as_anchor (as_written (certificate_plain root.now))) }
@@ -91,7 +92,7 @@ fn anchor_of(alloc: Global, root: &Certificate) -> Result<Anchor, CheckError>
     Ok(Anchor::new(name, key))
 }
 
-/// The first certificate, as the only anchor.
+/// Returns the first certificate as the only trust anchor.
 fn anchors_of(alloc: Global, certificates: &[Certificate]) -> Result<Vec<Anchor>, CheckError>
     ensures copied { IfOk result
         (λ v. map anchor_plain v.items
@@ -109,7 +110,7 @@ fn anchors_of(alloc: Global, certificates: &[Certificate]) -> Result<Vec<Anchor>
     Ok(anchors)
 }
 
-/// A bundle that has read a stream, or had no memory for it.
+/// Returns a bundle that has read a chain, or has run out of memory.
 fn read(alloc: Global, limit: u32, stream: &[u8]) -> Bundle
     requires { 6 ≤ limit }
     ensures limit { result.limit ≡ limit }

@@ -1,4 +1,4 @@
-//! What the program is asked for.
+//! The command line of `cert_desk`.
 ghost use Rattle.std.specs.Prelude.{◌≤◌, map, IfSome, IfNone, string_bytes};
 ghost use Rattle.cert_desk.specs.Commands.{AskCheck, AskIssue, AskNoChain, AskNoCheck};
 ghost use Rattle.cert_desk.specs.Commands.{AskNoListing, AskShow, AsksFor, HasLimit};
@@ -7,30 +7,30 @@ use cert_desk_checking::{limit_in, number_in};
 use cert_desk_listing::FileKind;
 use cert_desk_listing::oid::ObjectIdentifier;
 
-/// How the program is called, in one line.
+/// The usage line of the program.
 pub const USAGE: &str =
     "usage: cert_desk check ANCHORS STREAM MOMENT PURPOSE LIMIT | show KIND FILE | issue ORDERS\n";
 
 /// The arguments of `check`.
 #[derive(Clone, Copy)]
 pub struct Arguments<'a> {
-    /// The file of the anchors: concatenated trust anchors (RFC 5914).
+    /// The name of the file of trust anchors, which are concatenated (RFC 5914).
     pub anchors: &'a str,
-    /// The file of the stream.
+    /// The name of the file with the chain.
     pub stream: &'a str,
-    /// The validation time: seconds since 1970-01-01T00:00:00Z.
+    /// The validation time, in seconds since 1970-01-01T00:00:00Z.
     pub moment: u64,
-    /// The key purpose that the chain is wanted for, as dotted arcs.
+    /// The key purpose for which the chain is validated.
     pub purpose: ObjectIdentifier<39>,
-    /// The greatest number of octets of a certificate of the stream.
+    /// The size limit of a certificate of the chain, in bytes.
     pub limit: u32,
 }
 
 impl<'a> Arguments<'a> {
-    /// The arguments in these words, of which the first is the program's name.
+    /// Parses the words of a command line, the first of which is the program's name.
     ///
-    /// The validation time and the limit are one or more decimal digits, the time below 2^64, the
-    /// limit from 6 to 2^32 - 1. Leading zeros are read, and no sign.
+    /// The validation time and the limit consist of decimal digits. The time is below 2^64, and the
+    /// limit is from 6 to 2^32 - 1. Leading zeros are allowed, a sign isn't.
     pub fn parse(words: &'a [String]) -> Option<Arguments<'a>>
         ensures read { IfSome result
             (λ a. AskCheck (map string_bytes words.now) a.anchors.now a.stream.now
@@ -63,29 +63,29 @@ impl<'a> Arguments<'a> {
     }
 }
 
-/// What the program is asked for.
+/// A command of the program.
 #[derive(Clone, Copy)]
 pub enum Command<'a> {
-    /// Whether a stream of certificates is trusted.
+    /// Validates a certificate chain.
     Check(Arguments<'a>),
-    /// What the value in a file says, line by line.
+    /// Prints the contents of the value in a file.
     Show {
-        /// What the file is.
+        /// The kind of the file.
         kind: FileKind,
-        /// The name.
+        /// The name of the file.
         file: &'a str,
     },
-    /// The chain that an orders file asks for.
+    /// Issues the chain that an orders file asks for.
     Issue {
-        /// The name of the file.
+        /// The name of the orders file.
         orders: &'a str,
     },
 }
 
 impl<'a> Command<'a> {
-    /// The command in these words, of which the first is the program's name: `check ANCHORS STREAM
-    /// MOMENT PURPOSE LIMIT`, as `Arguments::parse` reads them, `show KIND FILE`, where the kind is
-    /// `certificate`, `list` or `request`, or `issue ORDERS`.
+    /// Parses the words of a command line, the first of which is the program's name. The others are
+    /// `check ANCHORS STREAM MOMENT PURPOSE LIMIT`, as for `Arguments::parse`, `show KIND FILE`,
+    /// where the kind is `certificate`, `list` or `request`, or `issue ORDERS`.
     pub fn parse(words: &'a [String]) -> Option<Command<'a>>
         ensures read { IfSome result (AsksFor (map string_bytes words.now)) }
         ensures limit { IfSome result HasLimit }
@@ -106,7 +106,7 @@ impl<'a> Command<'a> {
     }
 }
 
-// The kind and the file of `show KIND FILE`.
+// Parses `show KIND FILE`. Returns the kind and the name of the file.
 fn listing_asked<'a>(words: &'a [String]) -> Option<(FileKind, &'a str)>
     ensures read { IfSome result (λ r. AskShow (map string_bytes words.now) r.0 r.1.now) }
     ensures refused { IfNone result (AskNoListing (map string_bytes words.now)) }
@@ -123,7 +123,7 @@ fn listing_asked<'a>(words: &'a [String]) -> Option<(FileKind, &'a str)>
     Some((kind, file.as_str()))
 }
 
-// The orders file of `issue ORDERS`.
+// Parses `issue ORDERS`. Returns the name of the orders file.
 fn chain_asked<'a>(words: &'a [String]) -> Option<&'a str>
     ensures read { IfSome result (λ r. AskIssue (map string_bytes words.now) r.now) }
     ensures refused { IfNone result (AskNoChain (map string_bytes words.now)) }

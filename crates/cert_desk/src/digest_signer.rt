@@ -1,4 +1,4 @@
-//! A signer of digests, a stand-in where an algorithm would be.
+//! A signer of digests. It takes the place of one with a real signature algorithm.
 ghost use Rattle.std.specs.Prelude.{◌≡◌, ◌↔◌, ℕ, List};
 ghost use Rattle.cert_desk_listing.specs.Der.BitStrings.{Bits};
 ghost use Rattle.cert_desk_orders.specs.CertParts.Views.{algorithm_plain, key_plain};
@@ -12,14 +12,14 @@ use sha2::{Digest, Sha256};
 use std::alloc::Global;
 use x509_cert_builders::{SignError, Signer};
 
-// 1.3.6.1.4.1.32473.2, under the arc for examples (RFC 5612).
+// Returns the OID 1.3.6.1.4.1.32473.2, which is under the arc for examples (RFC 5612).
 fn digest_identifier() -> ObjectIdentifier<39>
     ensures { result ≡ digest_arcs }
 {
     ObjectIdentifier::from_bytes_unwrap(&[0x2b, 6, 1, 4, 1, 0x81, 0xfd, 0x59, 2])
 }
 
-// The algorithm of that identifier, without parameters.
+// Returns the algorithm 1.3.6.1.4.1.32473.2, without parameters.
 fn digest_algorithm() -> AlgorithmIdentifier
     ensures { algorithm_plain result ≡ digest_algorithm }
 {
@@ -29,11 +29,11 @@ fn digest_algorithm() -> AlgorithmIdentifier
     }
 }
 
-/// A signer whose bits are the 32 octets of the SHA-256 digest (FIPS 180-4) over the octets of its
-/// key's bit string followed by the signed octets, and whose algorithm is 1.3.6.1.4.1.32473.2
-/// without parameters. `DigestJudge` accepts these bits, and no others.
+/// A signer that returns the 32 bytes of the SHA-256 digest (FIPS 180-4) over the bytes of its
+/// key's bit string followed by the signed bytes. Its algorithm is 1.3.6.1.4.1.32473.2 without
+/// parameters. `DigestJudge` accepts these signatures, and no others.
 ///
-/// It protects nothing: whoever knows the key can make the bits.
+/// It protects nothing, because everyone who knows the public key can make such a signature.
 #[derive(Drop)]
 pub struct DigestSigner {
     key: SubjectPublicKeyInfo,
@@ -42,7 +42,7 @@ pub struct DigestSigner {
 }
 
 impl DigestSigner {
-    /// The signer of this key.
+    /// Returns a signer with this key.
     pub fn new(key_info: SubjectPublicKeyInfo) -> DigestSigner
         ensures key { ⟦<DigestSigner as Signer>⟧.public_key result ≡ key_plain key_info }
         ensures algorithm { ⟦<DigestSigner as Signer>⟧.signs_by result ≡ digest_algorithm }
@@ -86,7 +86,7 @@ impl Signer for DigestSigner {
         let digest = hasher.finalize().as_slice().to_vec(alloc)?;
         match BitString::from_bytes(digest) {
             Ok(bits) => Ok(bits),
-            // A digest has 32 octets.
+            // A digest has 32 bytes.
             Err(_) => unreachable!(),
         }
     }

@@ -1,4 +1,4 @@
-//! Why an order is refused.
+//! Why an order is rejected.
 
 ghost use Rattle.std.specs.Prelude.{◌≡◌};
 ghost use Rattle.cert_desk.specs.Refusals.{fault_at};
@@ -6,29 +6,29 @@ ghost use Rattle.cert_desk.specs.Refusals.{fault_at};
 use crate::issue_error::IssueError;
 use x509_cert_builders::Error;
 
-/// Why an order is refused, wherever in a chain it stands.
+/// Why an order is rejected, whatever its index.
 #[derive(Drop)]
 pub(crate) enum Fault {
-    /// The text of the name isn't read.
+    /// The text isn't a name.
     Name,
-    /// The name isn't one of a CA.
+    /// The name isn't allowed for a root CA.
     RootName(Error),
-    /// The name has an attribute that is no country and no common name.
+    /// The name has an attribute that is neither a country nor a common name.
     SubscriberName,
-    /// The serial number.
+    /// The serial number has no bytes, or its DER content would have more than 20.
     Serial,
-    /// The dates.
+    /// A text isn't a date, or the validity period ends before it starts.
     Dates,
-    /// The DNS names.
+    /// The order for an end entity has no DNS name, or one that isn't ASCII.
     DnsName,
-    /// The signer has another key.
+    /// The signer's key isn't that of the order.
     KeyMismatch,
-    /// Out of memory.
+    /// Memory ran out.
     OutOfMemory,
 }
 
 impl Fault {
-    /// The refusal of the order at a place.
+    /// Returns the error for the order at an index.
     pub(crate) fn at(self, place: usize) -> IssueError
         ensures { result ≡ fault_at place self }
     {

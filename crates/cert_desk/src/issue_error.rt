@@ -1,31 +1,31 @@
-//! Why no chain is issued.
+//! The errors of issuing a chain.
 
 use thiserror::Error;
 use x509_cert_builders as builder;
 
-/// Why no chain is issued. A place is that of the order, counted from 0.
+/// Why no chain is issued. `place` is the index of the order, counted from 0.
 #[derive(Debug, Drop, Error)]
 pub enum IssueError {
-    /// There is no order.
+    /// There are no orders.
     #[error("there is no order")]
     NoOrders,
-    /// There aren't as many signers as are needed: one for each order that is followed by one, and
-    /// one for a root alone.
+    /// The number of signers is wrong. A single order needs one signer, and more orders need one
+    /// for each order but the last.
     #[error("signers and orders don't fit together")]
     SignerCount,
-    /// The text of the name isn't read.
+    /// The text isn't a name.
     #[error("order {place}: the name isn't read")]
     Name { place: usize },
-    /// The name isn't one of a CA.
+    /// The name isn't allowed for a root CA.
     #[error("order {place}: {error}")]
     RootName { place: usize, error: builder::Error },
-    /// The name has an attribute that is no country and no common name.
+    /// The name has an attribute that is neither a country nor a common name.
     #[error("order {place}: an attribute may not stand there")]
     SubscriberName { place: usize },
-    /// The serial number has no octets, or more than 20.
+    /// The serial number has no bytes, or its DER content would have more than 20.
     #[error("order {place}: the serial number")]
     Serial { place: usize },
-    /// The text of a date isn't read, or the last date is before the first.
+    /// A text isn't a date, or the validity period ends before it starts.
     #[error("order {place}: the dates")]
     Dates { place: usize },
     /// There is no DNS name, or one that isn't ASCII.
@@ -34,13 +34,13 @@ pub enum IssueError {
     /// The signer's key isn't that of the order.
     #[error("order {place}: the signer has another key")]
     KeyMismatch { place: usize },
-    /// The signer refuses the TBSCertificate.
+    /// The signer refuses to sign the TBSCertificate.
     #[error("order {place}: the signer refuses")]
     Signer { place: usize },
-    /// A length passes 2^32 - 1.
+    /// A length exceeds 2^32 - 1.
     #[error("order {place}: too long")]
     TooLong { place: usize },
-    /// Out of memory, of this call or of a signer.
+    /// Memory ran out, in this call or in a signer.
     #[error("out of memory")]
     OutOfMemory,
 }

@@ -1,11 +1,11 @@
-//! The texts of a run of `issue`.
+//! The lines that a run of `issue` prints.
 ghost use Rattle.std.specs.Prelude.{◌≡◌, IfOk, string_bytes};
 ghost use Rattle.cert_desk.specs.Lines.{refusal_line, fault_line};
 
 use crate::issue_error::IssueError;
 use std::alloc::{AllocError, Global};
 
-/// What is said of orders of which no chain is issued.
+/// Returns the line that reports why no chain is issued.
 pub(crate) fn refusal_line(alloc: Global, error: &IssueError) -> Result<String, AllocError>
     ensures { IfOk result (λ line. string_bytes line ≡ refusal_line error.now) }
 {
@@ -27,7 +27,7 @@ pub(crate) fn refusal_line(alloc: Global, error: &IssueError) -> Result<String, 
     }
 }
 
-/// What is said of a file of which this line is the first faulty one.
+/// Returns the line that reports the number of the first wrong line of a file.
 pub(crate) fn fault_line(alloc: Global, line: u64) -> Result<String, AllocError>
     ensures { IfOk result (λ text. string_bytes text ≡ fault_line line) }
 {

@@ -1,4 +1,4 @@
-//! Chains that were issued.
+//! Issued chains.
 
 ghost use Rattle.std.specs.Prelude.{◌≡◌, ◌-◌, ◌^◌};
 ghost use Rattle.cert_desk_listing.specs.Oid.Bound.{Bound};
@@ -11,10 +11,8 @@ ghost use Rattle.x509_cert_builders.specs.States.{as_written};
 use cert_desk_listing::cert_certificates::Certificate;
 use std::marker::Model;
 
-/// A chain that was issued: its certificates, the root first, and the stream that concatenates
-/// their encodings.
-///
-/// Contracts see both. The certificates are seen as they are written.
+/// An issued chain: its certificates, beginning with the root, and the concatenation of their
+/// encodings.
 #[derive(Drop)]
 pub struct Issued {
     pub(crate) certificates: Vec<Certificate>,
@@ -32,7 +30,7 @@ impl Model for Issued {
 }
 
 impl Issued {
-    /// The certificates, the root first.
+    /// Returns the certificates, beginning with the root.
     pub fn certificates(&self) -> &[Certificate]
         ensures { plain_list (λ c. as_written (certificate_plain c)) result.now
             ≡ self.now.certificates }
@@ -40,7 +38,7 @@ impl Issued {
         self.certificates.as_slice()
     }
 
-    /// The concatenation of the certificates' encodings.
+    /// Returns the concatenation of the certificates' encodings.
     pub fn stream(&self) -> &[u8]
         ensures octets { result.now ≡ self.now.stream }
         ensures chain { Chain Bound length_max self.now.certificates self.now.stream }

@@ -1,4 +1,4 @@
-//! Orders become a chain.
+//! Issues the chain that orders ask for.
 
 ghost use Rattle.std.specs.Prelude.{◌≡◌, ◌<◌, ◌-◌, List, length, map, slice_get, IfOk, IfErr};
 ghost use Rattle.cert_desk_listing.specs.Der.Grammar.{plain_option};
@@ -25,14 +25,37 @@ use cert_desk_orders::cert_parts::SubjectPublicKeyInfo;
 use std::alloc::Global;
 use x509_cert_builders::Signer;
 
-/// The chain that these orders ask for: the first is for its root, the last of two or more for an
-/// end entity, those between for CAs, each below the one before. The first signer signs the first
-/// two certificates, each other one the certificate below its own.
+/// Issues the chain that these orders ask for. The first order is for the root, the last of two or
+/// more for an end entity, and those between are for CAs. Each certificate is issued by the subject
+/// of the one before it.
+///
+/// There is a signer for each order but the last, and one signer for a single order. The signer at
+/// index 0 signs the root and the certificate at index 1, and the signer at index `i` signs the
+/// certificate at index `i + 1`.
 ///
 /// # Errors
-/// The first of these: `NoOrders`, `SignerCount`; for each order in turn `Name`, `RootName`,
-/// `SubscriberName`, `Serial`, `Dates`, `DnsName`, `KeyMismatch`; then, for each certificate in
-/// turn, `Signer` and `TooLong`. `OutOfMemory` at any time. Nothing is handed out then.
+///
+/// The first error is returned, and no certificate. An error of an order has its index.
+///
+/// - `NoOrders`: there are no orders.
+/// - `SignerCount`: the number of signers is wrong.
+/// - `OutOfMemory`: memory runs out, at any time.
+///
+/// For each order, in turn:
+///
+/// - `Name`: the name isn't in the form of RFC 4514.
+/// - `RootName`: the name isn't allowed for a root.
+/// - `SubscriberName`: the name of an end entity has an attribute other than countryName and
+///   commonName.
+/// - `Serial`: the serial number has no bytes, or its DER content more than 20.
+/// - `Dates`: a text isn't a date, or the validity period ends before it begins.
+/// - `DnsName`: the order for an end entity has no DNS name, or one that isn't ASCII.
+/// - `KeyMismatch`: the key isn't that of the signer at the same index.
+///
+/// Then for each certificate, in turn:
+///
+/// - `Signer`: the signer refuses to sign.
+/// - `TooLong`: a length exceeds 2^32 - 1.
 pub fn issue<S: Signer>(
     alloc: Global,
     orders: &[Order],
@@ -44,13 +67,13 @@ pub fn issue<S: Signer>(
     ensures refused { IfErr result
         (λ e. Refuses S.public_key S.signs_by S.signs S.may_refuse orders.now
         signers.now e) }
-    // Orders that are accepted, of which no signer may refuse a part, and whose lengths fit, are
-    // issued wherever memory is there.
+    // If the orders are accepted, no signer may refuse to sign, and all lengths fit, a chain is
+    // issued unless memory runs out.
     ensures complete { AreIssuable S.public_key S.signs_by S.signs S.may_refuse orders.now
         signers.now
         → IfErr result (λ e. e ≡ IssueError.OutOfMemory) }
-    // Whatever bits the signers may give, such orders are refused besides only with `TooLong`, and
-    // only if the signer may give bits with which the certificate has no encoding.
+    // If the lengths fit without the signatures, the only errors are that memory runs out, and
+    // `TooLong` if the signer may return a signature with which the certificate has no encoding.
     ensures signable { (h : AreSignable S.public_key S.signs_by S.may_refuse orders.now signers.now)
         → IfErr result (IsMemoryOrLong S.signs_by S.signs h.asked signers.now) }
 {
@@ -65,7 +88,7 @@ pub fn issue<S: Signer>(
     Ok(issued)
 }
 
-/// How many signers so many orders need.
+/// Returns the number of signers that this many orders need.
 fn signers_for(count: usize) -> usize
     ensures { result ≡ signers_for count }
 {
@@ -75,7 +98,7 @@ fn signers_for(count: usize) -> usize
     count - 1
 }
 
-/// The key of the signer at a place, if there is one.
+/// Returns the key of the signer at an index, if there is one.
 fn key_at<S: Signer>(signers: &[S], place: usize) -> Option<&SubjectPublicKeyInfo>
     ensures { plain_option (λ k. key_plain k.now) result ≡ slice_get (map S.public_key signers.now)
         place }
@@ -86,7 +109,7 @@ fn key_at<S: Signer>(signers: &[S], place: usize) -> Option<&SubjectPublicKeyInf
     None
 }
 
-/// The order at a place, where it is accepted.
+/// Validates the order at an index, or returns why it isn't accepted.
 fn accept_at<'a, S: Signer>(
     alloc: Global,
     orders: &'a [Order],
@@ -104,7 +127,7 @@ fn accept_at<'a, S: Signer>(
     accept_one(alloc, role, &orders[place], key)
 }
 
-/// The orders, where each is accepted.
+/// Validates all orders, or returns the first error.
 fn accept_all<'a, S: Signer>(
     alloc: Global,
     orders: &'a [Order],
@@ -131,7 +154,7 @@ fn accept_all<'a, S: Signer>(
     Ok(all)
 }
 
-/// The certificate at a place.
+/// Issues the certificate at an index.
 fn issue_at<S: Signer>(
     alloc: Global,
     accepted: &[Accepted<'_>],
@@ -156,7 +179,7 @@ fn issue_at<S: Signer>(
     )
 }
 
-/// The certificates of orders that were accepted, in turn.
+/// Issues the certificates of accepted orders, one after another.
 fn issue_all<S: Signer>(
     alloc: Global,
     accepted: &[Accepted<'_>],

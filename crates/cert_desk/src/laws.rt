@@ -1,5 +1,5 @@
-//! Laws of streams, of files of anchors, and of chains that were issued. Each function does
-//! nothing: its contract is the law.
+//! Laws about chains, files of trust anchors, and issued chains. Each function does nothing: its
+//! contract is the law.
 
 pub use crate::issuing_laws::{
     held_is_refused_for, held_is_trusted, issuable_is_issued, issued_is_trusted, says_as_ordered,

@@ -1,5 +1,40 @@
-//! Streams of certificates, read and judged, listings, and chains that are issued: what the inner
-//! crates have, under one name.
+//! Validates X.509 certificate chains (RFC 5280 6.1, in part), prints certificates, and issues
+//! chains. This crate is the facade of the `cert_desk_*` crates.
+//!
+//! - [`Bundle`] reads a chain in pieces, and [`check`] validates it under trust anchors.
+//!   [`SignatureJudge`] is the trait of signature verifiers.
+//! - [`show_certificate`], [`show_list`] and [`show_request`] print certificates, CRLs and CSRs.
+//! - [`issue`] issues the chain that orders ask for, and [`orders_in`] parses orders files.
+//! - [`run_check`], [`run_show`] and [`run_orders`] are complete runs over inputs and outputs, and
+//!   [`obey`] is the program `cert_desk`.
+//! - [`laws`] are facts about every chain, every file of trust anchors and every issued chain.
+//!
+//! This function validates a chain of one certificate, which is the trust anchor too. The program
+//! that it is from also defines `read` and `KeyJudge`.
+//!
+//! As in `tools/guide/judge.rt.txt`:
+//!
+//! ```rust
+//! fn judged(alloc: Global, stream: &[u8]) -> Result<String> {
+//!     let choice = TrustAnchorChoice::<Raw>::from_der(alloc, stream)?;
+//!     let Ok(anchor) = Anchor::from_choice(alloc, &choice) else {
+//!         return Ok(format!(in alloc; "no anchor")?);
+//!     };
+//!     let mut anchors = Vec::new(alloc);
+//!     anchors.push(anchor)?;
+//!     let bundle = read(alloc, stream);
+//!     let purpose = ObjectIdentifier::<39>::new("1.3.6.1.5.5.7.3.1")?;
+//!     let mut judge = KeyJudge { questions: 0 };
+//!     match check(alloc, &bundle, &anchors, 1009886460, &purpose, &mut judge) {
+//!         Ok(checked) => Ok(format!(in alloc; "{checked:?}")?),
+//!         Err(error) => Ok(format!(in alloc; "{error}")?),
+//!     }
+//! }
+//! ```
+//!
+//! The crate depends on `cert_desk_checking`, `cert_desk_listing`, `cert_desk_orders` and
+//! `x509_cert_builders`, and passes on the names of theirs that programs need. It may not name the
+//! crates of `cert_tool`.
 #![tactic(auto)]
 
 mod accepted;

@@ -1,4 +1,4 @@
-//! Certificates are made.
+//! Builds the certificates of accepted orders.
 
 ghost use Rattle.std.specs.Prelude.{◌≡◌, ◌≤◌, [], ℕ, List, None, Ok, length, IfOk, IfErr};
 ghost use Rattle.std.specs.Prelude.{string_bytes};
@@ -25,14 +25,14 @@ use x509_cert_builders::{
     Subscriber, Tls12Options,
 };
 
-/// A certificate, and its octets.
+/// A certificate and its encoding.
 #[derive(Drop)]
 pub(crate) struct Made {
     pub(crate) certificate: Certificate,
     pub(crate) octets: Vec<u8>,
 }
 
-/// The profile of a root.
+/// Returns the profile of a root.
 fn root(alloc: Global, accepted: &Accepted<'_>) -> Result<Root, Stop>
     requires ready { IsReady Role.Root (accepted_plain accepted.now) }
     ensures profile { IfOk result
@@ -46,7 +46,7 @@ fn root(alloc: Global, accepted: &Accepted<'_>) -> Result<Root, Stop>
     Ok(profile)
 }
 
-/// The profile of an authority below another one.
+/// Returns the profile of a CA below another one.
 fn subordinate(
     alloc: Global,
     accepted: &Accepted<'_>,
@@ -68,7 +68,7 @@ fn subordinate(
     })
 }
 
-/// The profile of a subscriber.
+/// Returns the profile of a subscriber.
 fn subscriber(
     alloc: Global,
     accepted: &Accepted<'_>,
@@ -95,7 +95,8 @@ fn subscriber(
     })
 }
 
-/// A builder of the certificate that an order asks for, by a profile of its subject.
+/// Returns a builder for the certificate that an order asks for, with a profile that has the
+/// order's subject.
 fn builder_of<P: BuilderProfile + Drop>(
     alloc: Global,
     profile: P,
@@ -118,7 +119,7 @@ fn builder_of<P: BuilderProfile + Drop>(
     Ok(builder)
 }
 
-/// The certificate that a builder makes, and its octets.
+/// Builds and signs a certificate, and returns it with its encoding.
 fn made_by<P: BuilderProfile + Drop, S: Signer>(
     alloc: Global,
     builder: CertificateBuilder<P>,
@@ -141,7 +142,8 @@ fn made_by<P: BuilderProfile + Drop, S: Signer>(
     })
 }
 
-/// The certificate that an order asks for in a role, below another one, by a profile of the role.
+/// Builds and signs the certificate that an order asks for in a role, below another certificate,
+/// with a profile of that role.
 fn made_with<P: BuilderProfile + Drop, S: Signer>(
     alloc: Global,
     role: Role,
@@ -164,7 +166,7 @@ fn made_with<P: BuilderProfile + Drop, S: Signer>(
     made_by(alloc, builder, signer)
 }
 
-/// The certificate that an order asks for in a role, below another one.
+/// Builds and signs the certificate that an order asks for in a role, below another certificate.
 pub(crate) fn certificate_for<S: Signer>(
     alloc: Global,
     role: Role,

@@ -21,7 +21,7 @@ use std::alloc::Global;
 use x509_cert_builders::cert_extensions::SubjectAltName;
 use x509_cert_builders::{BuilderProfile, CertificateBuilder};
 
-/// DNS names, as a subjectAltName.
+/// Returns DNS names as a subjectAltName.
 fn names_of(alloc: Global, texts: &[String]) -> Result<SubjectAltName, Error>
     ensures names { IfOk result (λ n. plain_list general_name_plain n.0.items
         ≡ dns_names (plain_list string_bytes texts.now)) }
@@ -36,7 +36,8 @@ fn names_of(alloc: Global, texts: &[String]) -> Result<SubjectAltName, Error>
     Ok(SubjectAltName(names))
 }
 
-/// Adds the DNS names of a subscriber to a builder to which nothing was added.
+/// Adds the DNS names of a subscriber to a builder that has no extension yet. Adds nothing for
+/// other roles.
 pub(crate) fn add_names<P: BuilderProfile + Drop>(
     alloc: Global,
     role: Role,
@@ -47,7 +48,7 @@ pub(crate) fn add_names<P: BuilderProfile + Drop>(
     requires subject { builder.old.fields.subject ≡ name_plain accepted.now.subject }
     ensures added { OnOk result (builder.new
         ≡ record builder.old { added = names_for role (accepted_plain accepted.now) }) }
-    // Out of memory, or a length passes.
+    // Memory runs out, or a length exceeds 2^32 - 1.
     ensures stops { IfErr result (λ s. (s ≡ Stop.OutOfMemory) ⊎ ((s ≡ Stop.TooLong)
         × (CanName role (plain_list string_bytes accepted.now.order.now.dns.items) → ⊥))) }
 {

@@ -1,4 +1,4 @@
-//! Whole runs of `issue`, over any input and outputs.
+//! Complete runs of `issue`, over any input and outputs.
 ghost use Rattle.std.specs.Prelude.{◌≡◌, length, map, take, IfOk};
 ghost use Rattle.cert_desk_listing.specs.DeskIo.Devices.{sink, source};
 ghost use Rattle.cert_desk.specs.declared.outcome.Outcome.{Outcome};
@@ -17,7 +17,7 @@ use cert_desk_listing::desk_io::{
 use cert_desk_orders::{Order, OrdersError, orders_in};
 use std::alloc::{AllocError, AllocFailed, Global};
 
-/// The orders whose keys sign: all but the last of two or more.
+/// Returns the orders whose keys sign: a single order, or all but the last.
 fn signing(orders: &[Order]) -> &[Order]
     ensures { result.now ≡ take (signers_for (length orders.now)) orders.now }
 {
@@ -27,7 +27,7 @@ fn signing(orders: &[Order]) -> &[Order]
     &orders[..orders.len() - 1]
 }
 
-/// Signers of digests, of the keys that sign.
+/// Returns signers of digests with the keys of the orders that sign.
 fn signers_of(alloc: Global, orders: &[Order]) -> Result<Vec<DigestSigner>, AllocError>
     ensures { IfOk result (λ signers. map signer_key signers.items ≡ signing_keys orders.now) }
 {
@@ -40,7 +40,8 @@ fn signers_of(alloc: Global, orders: &[Order]) -> Result<Vec<DigestSigner>, Allo
     Ok(signers)
 }
 
-/// What becomes of orders, signed by digests of their own keys.
+/// Issues the chain that the orders ask for, signed with digests of their own keys, and returns the
+/// outcome.
 fn find_issued(alloc: Global, orders: &[Order]) -> Outcome
     ensures { OrdersBecome orders.now result }
 {
@@ -56,7 +57,7 @@ fn find_issued(alloc: Global, orders: &[Order]) -> Outcome
     }
 }
 
-/// What is found in an orders file.
+/// Reads an orders file, issues its chain, and returns the outcome.
 fn find<I: Input>(alloc: Global, input: &mut I) -> Outcome
     ensures { FileBecomes (source I.takes I.is_ended I.failures input.old input.new) result }
 {
@@ -73,7 +74,7 @@ fn find<I: Input>(alloc: Global, input: &mut I) -> Outcome
     }
 }
 
-/// Tells what was found.
+/// Prints an outcome, and returns the exit status.
 fn tell<O: Output, E: Output>(
     alloc: Global,
     outcome: &Outcome,
@@ -98,22 +99,22 @@ fn tell<O: Output, E: Output>(
     }
 }
 
-/// Issues the chain that orders ask for, writes it, and answers the exit status.
+/// Issues the chain that the orders ask for, writes it, and returns the exit status.
 ///
-/// Each certificate is signed by a `DigestSigner` of the key of the order above it, the first one
-/// of its own.
+/// A `DigestSigner` signs each certificate, with the key of the order above it, and the first
+/// certificate with the key of its own order.
 ///
-/// To `out` go the certificates, one after the other, to `err` go `order PLACE REASON`, `orders
-/// REASON`, `device` and `memory`, each a line, where REASON is the name of an `IssueError` and
-/// PLACE counts orders from 0. What can't be written is `ExitStatus::Device`, whose word is tried
-/// once.
+/// The certificates go to `out`, one after another. `err` gets one of the lines
+/// `order PLACE REASON`, `orders REASON`, `device` and `memory`, where REASON is the name of an
+/// `IssueError` and PLACE is the index of the order, counted from 0. If the text can't be written,
+/// the run tries once to write `device` to `err`, and the status is `ExitStatus::Device`.
 pub fn run_issue<O: Output, E: Output>(
     alloc: Global,
     orders: &[Order],
     out: &mut O,
     err: &mut E,
 ) -> ExitStatus
-    // What is told, and the status, are those of what becomes of the orders.
+    // The text and the status report the outcome for these orders.
     ensures { (outcome : Outcome)
         × OrdersBecome orders.now outcome
         × IsTold (sink O.gives O.failures out.old out.new)
@@ -125,16 +126,16 @@ pub fn run_issue<O: Output, E: Output>(
 
 /// Issues the chain that an orders file asks for, as `run_issue` does.
 ///
-/// The file is read to its end, and its orders are those of `orders_in`. A faulty one is told as
-/// `orders: line N`, with its first faulty line. Of one with more than 2^32 - 1 octets one octet
-/// more than these is taken, and its first line is told.
+/// The file is read to its end, and parsed by `orders_in`. The first wrong line is reported as
+/// `orders: line N`. A file with more than 2^32 - 1 bytes is wrong in its first line, and only one
+/// byte more than these is read.
 pub fn run_orders<I: Input, O: Output, E: Output>(
     alloc: Global,
     input: &mut I,
     out: &mut O,
     err: &mut E,
 ) -> ExitStatus
-    // What is told, and the status, are those of what is found in the octets that were taken.
+    // The text and the status report the outcome for the bytes that were read.
     ensures { (outcome : Outcome)
         × FileBecomes (source I.takes I.is_ended I.failures input.old input.new) outcome
         × IsTold (sink O.gives O.failures out.old out.new)

@@ -1,19 +1,19 @@
-//! What a run of `issue` finds.
+//! The outcomes of `issue`.
 
 use crate::issue_error::IssueError;
 use crate::issued::Issued;
 
-/// What a run of `issue` finds.
+/// The outcome of a run of `issue`.
 #[derive(Drop)]
 pub(crate) enum Outcome {
-    /// Orders, and the chain that they ask for.
+    /// The chain was issued.
     Issued(Issued),
-    /// Orders of which no chain is issued.
+    /// The orders are rejected, and no chain was issued.
     Refused(IssueError),
-    /// A file of which this line is the first faulty one.
+    /// This line of the file is the first wrong one.
     BadLine(u64),
-    /// An I/O error: a read failed.
+    /// A read failed.
     Device,
-    /// Out of memory.
+    /// Memory ran out.
     OutOfMemory,
 }

@@ -1,9 +1,9 @@
-//! Roles.
+//! The roles of certificates in a chain.
 
 ghost use Rattle.std.specs.Prelude.{◌≡◌, ◌<◌};
 ghost use Rattle.cert_desk.specs.Roles.{place_above, role_at};
 
-/// What a certificate of a chain is for.
+/// The role of a certificate in a chain.
 #[derive(Clone, Copy)]
 pub(crate) enum Role {
     /// A root CA, which signs its own certificate.
@@ -14,7 +14,8 @@ pub(crate) enum Role {
     Subscriber,
 }
 
-/// The role at a place of so many: the first is a root, the last of two or more a subscriber.
+/// Returns the role at an index of a chain with `count` certificates: the first is a root, and the
+/// last of two or more is a subscriber.
 pub(crate) fn role_at(count: usize, place: usize) -> Role
     requires { place < count }
     ensures { result ≡ role_at count place }
@@ -28,7 +29,7 @@ pub(crate) fn role_at(count: usize, place: usize) -> Role
     Role::Subordinate
 }
 
-/// The place of the order whose subject is the issuer at a place, and of the signer.
+/// Returns the index of the order above: its subject is the issuer, and its key signs.
 pub(crate) fn place_above(place: usize) -> usize
     ensures { result ≡ place_above place }
 {

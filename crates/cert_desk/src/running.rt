@@ -1,4 +1,4 @@
-//! Runs of commands, over inputs that have names.
+//! Runs commands over named inputs.
 ghost use Rattle.std.specs.Prelude.{◌≤◌, map, string_bytes};
 ghost use Rattle.cert_desk_listing.specs.DeskIo.Devices.{sink};
 ghost use Rattle.cert_desk_listing.specs.DeskIo.NamedInputs.{inputs};
@@ -14,7 +14,7 @@ use cert_desk_listing::desk_io::{ExitStatus, Input, NamedInputs, Output, complai
 use cert_desk_listing::{FileKind, run_show};
 use std::alloc::Global;
 
-// Opens the inputs of a check, and runs it on them.
+// Opens the inputs of a check and runs it.
 fn check<I: Input + Drop, F: NamedInputs<I>, O: Output, E: Output, J: SignatureJudge>(
     alloc: Global,
     files: &F,
@@ -51,7 +51,7 @@ fn check<I: Input + Drop, F: NamedInputs<I>, O: Output, E: Output, J: SignatureJ
     )
 }
 
-// Opens an input, and shows what is in it.
+// Opens an input and prints its contents.
 fn show<I: Input + Drop, F: NamedInputs<I>, O: Output, E: Output>(
     alloc: Global,
     files: &F,
@@ -72,7 +72,7 @@ fn show<I: Input + Drop, F: NamedInputs<I>, O: Output, E: Output>(
     run_show(alloc, &mut input, out, err, kind)
 }
 
-// Opens orders, and issues the chain that they ask for.
+// Opens an orders file and issues the chain that it asks for.
 fn issue<I: Input + Drop, F: NamedInputs<I>, O: Output, E: Output>(
     alloc: Global,
     files: &F,
@@ -115,9 +115,9 @@ fn run<I: Input + Drop, F: NamedInputs<I>, O: Output, E: Output, J: SignatureJud
     }
 }
 
-/// Does what the words of `cert_desk` ask for, of which the first is the program's name:
-/// `Command::parse` reads them, and the command is run on the inputs of the names that it has. Of
-/// words that are no command `USAGE` is told.
+/// Parses the words of a command line, the first of which is the program's name, and runs the
+/// command on the inputs that it names. Returns the exit status. `Command::parse` has the commands.
+/// If there is no command, `USAGE` is written to `err`.
 pub fn obey<I: Input + Drop, F: NamedInputs<I>, O: Output, E: Output, J: SignatureJudge>(
     alloc: Global,
     files: &F,

@@ -1,4 +1,4 @@
-//! Why a certificate isn't made.
+//! Why a certificate isn't built.
 
 ghost use Rattle.std.specs.Prelude.{◌≡◌};
 ghost use Rattle.cert_desk.specs.declared.stop.Stop.TheVariants.{OutOfMemory};
@@ -9,19 +9,19 @@ use cert_desk_listing::der::{Error, ErrorKind};
 use std::alloc::{AllocError, AllocFailed};
 use x509_cert_builders::{Error as BuilderError, SignError};
 
-/// Why a certificate isn't made, wherever in a chain it would stand.
+/// Why a certificate isn't built, whatever its index.
 #[derive(Clone, Copy)]
 pub(crate) enum Stop {
-    /// The signer refuses.
+    /// The signer refuses to sign the TBSCertificate.
     Refused,
-    /// A length passes 2^32 - 1.
+    /// A length exceeds 2^32 - 1.
     TooLong,
-    /// Out of memory.
+    /// Memory ran out.
     OutOfMemory,
 }
 
 impl Stop {
-    /// The refusal of the order at a place.
+    /// Returns the error for the order at an index.
     pub(crate) fn at(self, place: usize) -> IssueError
         ensures { result ≡ stop_at place self }
     {
@@ -44,7 +44,8 @@ impl From<Error> for Stop {
     }
 }
 
-/// A profile was right, so what isn't out of memory and no refusal of the signer is a length.
+/// The profile accepts the order. So an error is that memory ran out, that the signer refuses to
+/// sign, or that a length is too large.
 impl From<BuilderError> for Stop {
     ghost from_gives = { λ e s. s ≡ stop_of e };
 

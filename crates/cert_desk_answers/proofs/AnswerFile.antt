@@ -1,4 +1,4 @@
--- A file of answers, read line by line.
+-- Laws about parsing a file of answers line by line.
 use Rattle.std.proofs.Common.{◌≡◌, ℕ, suc, ◌+◌, ◌<◌, arith, Bor, length, map, drop, get_or, List, [], ◌∷◌, ◌++◌, Option, None, Some, unwrap_or, Result, Ok, Err, refl, ap, sym, ◌∙◌, append_assoc}
 use Rattle.std.proofs.Math.Seq.{drop-cons}
 use Rattle.cert_desk_checking.specs.DeskRules.Questions.{Question}
@@ -8,7 +8,7 @@ use Rattle.cert_desk_answers.specs.declared.no_answers.NoAnswers.{NoAnswers}
 use Rattle.cert_desk_answers.specs.declared.no_answers.NoAnswers.TheVariants as reasons
 use Rattle.cert_desk_answers.specs.AnswerReading.{IsNoFile, IsNoLine, added_by}
 
--- what lines say behind others with these answers
+-- The answers of the remaining lines, after those so far.
 abbrev pub behind : List Question → Result (List Question) (ℕ × LineFault) → Result (List Question) (ℕ × LineFault)
 behind before (Ok more) = Ok (before ++ more)
 behind before (Err first) = Err first
@@ -32,13 +32,13 @@ module _ (lines : List (Bor (List ℕ))) (d : Bor (List ℕ)) (index : ℕ) (som
       let next : suc index ≡ index + 1 = omega arith in
       ap (λ xs. behind before (answers_from index (map (λ (line : Bor (List ℕ)). line.now) xs))) (drop-cons lines index d some ∙ ap (λ n. get_or lines index d ∷ drop n lines) next)
 
-  -- one line more
+  -- One more line.
   pub behind-line : (before after : List Question) (file : Result (List Question) (ℕ × LineFault))
       → behind before (answers_from index (map (λ line. line.now) (drop index lines))) ≡ file → added_by (line_says (get_or lines index d).now) before ≡ Some after
       → behind after (answers_from (index + 1) (map (λ line. line.now) (drop (index + 1) lines))) ≡ file
   behind-line before after file is e = sym (from_here before ∙ said before after (index + 1) (line_says (get_or lines index d).now) _ e) ∙ is
 
-  -- a wrong one
+  -- A wrong line.
   pub behind-wrong : (before : List Question) (file : Result (List Question) (ℕ × LineFault)) (fault : LineFault)
       → behind before (answers_from index (map (λ line. line.now) (drop index lines))) ≡ file → line_says (get_or lines index d).now ≡ Err fault
       → file ≡ Err (index + 1, fault)
@@ -46,7 +46,7 @@ module _ (lines : List (Bor (List ℕ))) (d : Bor (List ℕ)) (index : ℕ) (som
       sym is ∙ from_here before
       ∙ ap (λ s. behind before (with_line (index + 1) s (answers_from (index + 1) (map (λ line. line.now) (drop (index + 1) lines))))) e
 
-  -- why the file gives no answers, if it is this line's fault
+  -- The file has no answers, because this line is wrong.
   pub no_file : (before : List Question) (octets : List ℕ) (none : NoAnswers) (number : ℕ)
       → behind before (answers_from index (map (λ line. line.now) (drop index lines))) ≡ file_says octets
       → IsNoLine (get_or lines index d).now number none → number ≡ index + 1 → IsNoFile octets none

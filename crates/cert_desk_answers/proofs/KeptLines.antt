@@ -1,4 +1,4 @@
--- Lines of questions are read as their questions.
+-- The lines of questions are parsed as exactly these questions.
 use Rattle.std.proofs.Common.{◌≡◌, ℕ, ◌+◌, ◌<◌, Bool, true, false, cond, List, [], ◌∷◌, ◌++◌, length, codes, decimal, None, Some, Result, Ok, Err, refl, ap, sym, subst, ◌∙◌, append_assoc, arith}
 use Rattle.std.specs.Prelude.{◌==◌, Contains}
 use Rattle.std.specs.List.{AllByRecursion}
@@ -33,7 +33,7 @@ use Rattle.cert_desk_answers.specs.AnswerLines.{answers_from, file_says, is_anch
 use Rattle.cert_desk_answers.specs.Laws.{accepted_lines}
 use Rattle.cert_desk_answers.proofs.LineWords.{Above, IsWord, above_lower, anchor_is, anchor_is_word, decimal_number, decimal_some, decimal_word, hex_word, none_is}
 
--- What base 16 writes is read
+-- Base 16 is decoded to the bytes that it encodes.
 
 octets_back : (fault : LineFault) (w : List ℕ) → IsOctets w → octets_in fault (encode_lower w) ≡ Ok w
 octets_back fault w h = ap (octets_or fault) (decode_of-encode_lower w (bytes_are w h))
@@ -51,13 +51,13 @@ question_back q h =
     let bits = value_back bit_string faults.NoBits faults.BitsNotBase16 q.bits refl refl h.bits in
     rw (key, algorithm, octets_back faults.SignedNotBase16 q.signed h.signed, bits) refl
 
--- six words that are those of an answer
+-- Six words that are those of an answer.
 say : (p a k m s b : List ℕ) (q : Question) → is_number p ≡ true → is_anchor a ≡ true → question_in k m s b ≡ Ok q → words_say (p ∷ a ∷ k ∷ m ∷ s ∷ b ∷ []) ≡ Ok q
 say p a k m s b q hp ha hq =
     ap (λ x. cond x (cond (is_anchor a) (question_in k m s b) (Err faults.NoAnchor)) (Err faults.NoPlace)) hp
     ∙ ap (λ x. cond x (question_in k m s b) (Err faults.NoAnchor)) ha ∙ hq
 
--- The line without its end
+-- The line without its LF.
 
 abbrev words : List ℕ → List ℕ → List ℕ → List ℕ → List ℕ → List ℕ → List ℕ
 words p a k m s b = spaced p (spaced a (spaced k (spaced m (spaced s b))))
@@ -82,7 +82,7 @@ not_skipped : (w rest : List ℕ) → IsWord w → 0 < length w → is_skipped (
 not_skipped [] rest h some = absurd (omega arith)
 not_skipped (x ∷ w) rest h some = let first = h.0 in ne_eqb x 35 (λ e. omega arith)
 
--- of a line
+-- The text of a line without its LF.
 abbrev body : QuestionLine → List ℕ
 body l =
     words (decimal l.place) (anchor_word l.anchor) (hex_encoding (public_key_info Bound) l.question.key) (hex_encoding (algorithm_identifier Bound) l.question.algorithm)
@@ -119,7 +119,7 @@ module _ (l : QuestionLine) (h : IsWritable l.question) where
       ∙ ap (parts 10) (append_assoc (body l) (codes "\n") rest)
       ∙ slice_split_at (λ octet. octet == 10) (body l) 10 rest (none_is 31 10 (body l) (omega arith) body_text) refl
 
--- Files of lines
+-- Files of lines.
 
 lines_read : (lines : List QuestionLine) (before : ℕ) → AllByRecursion (λ l. IsWritable l.question) lines → answers_from before (parts 10 (lines_octets lines)) ≡ Ok (questions_of_lines lines)
 unfolding line_says
@@ -129,7 +129,7 @@ lines_read (l ∷ more) before each =
     ∙ ap (λ says. with_line (before + 1) says (answers_from (before + 1) (parts 10 (lines_octets more)))) (line_said l each.0)
     ∙ ap (with_line (before + 1) (Ok (Some l.question))) (lines_read more (before + 1) each.1)
 
--- what is contained in writable lines is writable
+-- Lines that are among writable lines are writable.
 each_contained : (all kept : List QuestionLine) → AllByRecursion (λ l. IsWritable l.question) all → AllByRecursion (Contains all) kept → AllByRecursion (λ l. IsWritable l.question) kept
 each_contained all [] each those = tt
 each_contained all (l ∷ more) each those =
@@ -141,7 +141,7 @@ pub kept_lines_are_read : (file : List ℕ) (anchors : List PlainAnchor) (limit 
 kept_lines_are_read file anchors limit cs stream kept is chain those =
     lines_read kept 0 (each_contained (chain_lines anchors cs stream) kept (lines_writable anchors limit cs stream (file_keys file anchors is) chain) those)
 
--- what is read of writable lines that are accepted
+-- The accepted ones of writable lines are writable.
 accepted_writable : (f : Answers) (lines : List QuestionLine) → AllByRecursion (λ l. IsWritable l.question) lines → AllByRecursion (λ l. IsWritable l.question) (accepted_lines f lines)
 accepted_writable f [] each = tt
 accepted_writable f (l ∷ more) each = by (answer_on f l.question) (accepted_writable f more each.1)

@@ -1,4 +1,4 @@
--- The words of a question's line, and its end.
+-- Laws about the words of a question's line, and about its LF.
 use Rattle.std.proofs.Common.{◌≡◌, ℕ, zero, suc, ◌/◌, ◌%◌, ◌<◌, ◌≤◌, Bool, true, false, cond, List, [], ◌∷◌, length, decimal, None, Some, Option, refl, arith}
 use Rattle.std.specs.Prelude.{◌==◌, All, slice_index, nat_lt}
 use Rattle.std.specs.List.{AllByRecursion, list_all}
@@ -11,11 +11,12 @@ use Rattle.hex.specs.Hex.{encode_lower, encode_with, lower_digits}
 use Rattle.cert_desk_checking.specs.QuestionLines.{anchor_word}
 use Rattle.cert_desk_answers.specs.AnswerLines.{is_anchor, is_digit, is_number}
 
--- each octet is above this one
+-- Each byte is greater than this one.
 abbrev pub Above : ℕ → List ℕ → Type 0
 Above low w = AllByRecursion (λ x. low < x) w
 
--- words have neither blanks nor LF, and don't begin with `#`: all of their octets are above 44
+-- A word contains neither space nor LF, and doesn't begin with `#`, because all of its bytes are
+-- greater than 44.
 abbrev pub IsWord : List ℕ → Type 0
 IsWord w = Above 44 w
 
@@ -23,7 +24,7 @@ pub above_lower : (low lower : ℕ) (w : List ℕ) → lower ≤ low → Above l
 above_lower low lower [] h each = tt
 above_lower low lower (x ∷ w) h each = (let first = each.0 in omega arith, above_lower low lower w h each.1)
 
--- none of them is an octet that isn't above
+-- No byte of the word is one that isn't greater.
 pub none_is : (low c : ℕ) (w : List ℕ) → c ≤ low → Above low w → All (λ x. (x == c) ≡ false) w
 none_is low c w h each = All-from_recursion (λ x. (x == c) ≡ false) w (go w each)
   where
@@ -31,14 +32,14 @@ none_is low c w h each = All-from_recursion (λ x. (x == c) ≡ false) w (go w e
     go [] a = tt
     go (x ∷ v) a = (let first = a.0 in ne_eqb x c (λ e. omega arith), go v a.1)
 
--- from a test of each
+-- Each byte is greater than this one, if each byte passes a test.
 above_by : (test : ℕ → Bool) (low : ℕ) → ((x : ℕ) → test x ≡ true → low < x) → (w : List ℕ) → list_all test w ≡ true → Above low w
 above_by test low is [] h = tt
 above_by test low is (x ∷ w) h =
     let both = and_parts (test x) (list_all test w) h in
     (is x both.0, above_by test low is w both.1)
 
--- Numbers
+-- Numbers.
 
 all_digits_of : (b : Bool) (v w : List ℕ) → list_all is_digit v ≡ true → list_all is_digit w ≡ true → list_all is_digit (cond b v w) ≡ true
 all_digits_of true v w h k = h
@@ -93,7 +94,7 @@ decimal_some n = some_number (decimal n) (decimal_number n)
 pub decimal_word : (n : ℕ) → IsWord (decimal n)
 decimal_word n = number_word (decimal n) (decimal_number n)
 
--- Anchors
+-- Indexes of trust anchors.
 
 pub anchor_is : (anchor : Option ℕ) → is_anchor (anchor_word anchor) ≡ true
 anchor_is None = refl
@@ -103,7 +104,7 @@ pub anchor_is_word : (anchor : Option ℕ) → IsWord (anchor_word anchor)
 anchor_is_word None = (omega arith, tt)
 anchor_is_word (Some number) = decimal_word number
 
--- Base 16
+-- Base 16.
 
 digit_above : (w : List ℕ) (i : ℕ) → IsWord w → i < length w → 44 < slice_index w i
 digit_above [] i each h = absurd (omega arith)

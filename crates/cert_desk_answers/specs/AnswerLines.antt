@@ -1,4 +1,4 @@
--- Files of answers: lines `PLACE ANCHOR KEY ALGORITHM SIGNED BITS`.
+-- Files of answers: lines of the form `PLACE ANCHOR KEY ALGORITHM SIGNED BITS`.
 use Rattle.std.specs.Prelude.{ℕ, ◌+◌, List, [], ◌∷◌, Bool, true, false, ◌&&◌, ◌||◌, ◌==◌, nat_le}
 use Rattle.std.specs.Prelude.{bytes_eq, codes, if◌then◌else◌, Option, Some, None, Result, Ok, Err}
 use Rattle.std.specs.List.{list_all, slice_split}
@@ -16,38 +16,41 @@ use Rattle.cert_desk_checking.specs.DeskRules.Questions.{Question}
 use Rattle.cert_desk_answers.specs.declared.line_fault.LineFault.{LineFault}
 use Rattle.cert_desk_answers.specs.declared.line_fault.LineFault.TheVariants as faults
 
--- the octets that a text writes in base 16, or this fault
+-- The bytes of a text in base 16, or this error.
 abbrev pub octets_or : LineFault → Result (List ℕ) FromHexError → Result (List ℕ) LineFault
 octets_or fault (Ok octets) = Ok octets
 octets_or fault (Err error) = Err fault
 
+-- The bytes of a text in base 16, or this error if it isn't one.
 abbrev pub octets_in : LineFault → List ℕ → Result (List ℕ) LineFault
 octets_in fault text = octets_or fault (decode_of text)
 
--- the value that was read of octets, or this fault
+-- The value that was decoded, or this error.
 abbrev pub value_or : {P Q : Type 0} → LineFault → Result (P × Q) ErrorKind → Result P LineFault
 value_or fault (Ok read) = Ok read.0
 value_or fault (Err error) = Err fault
 
--- the value of a shape whose encoding these are
+-- The value of a shape that these bytes encode.
 abbrev pub value_of : (s : Shape) → LineFault → Result (List ℕ) LineFault
     → Result (Value s) LineFault
 value_of s fault (Ok octets) = value_or fault (read_whole s octets)
 value_of s fault (Err other) = Err other
 
--- what the words of an answer write
+-- The public key whose encoding in base 16 is a word, or the error.
 abbrev pub key_in : List ℕ → Result PublicKey LineFault
 key_in text = value_of (public_key_info Bound) faults.NoKey (octets_in faults.KeyNotBase16 text)
 
+-- The signature algorithm whose encoding in base 16 is a word, or the error.
 abbrev pub algorithm_in : List ℕ → Result Algorithm LineFault
 algorithm_in text =
     value_of (algorithm_identifier Bound) faults.NoAlgorithm
     (octets_in faults.AlgorithmNotBase16 text)
 
+-- The bits of the signature whose encoding in base 16 is a word, or the error.
 abbrev pub bits_in : List ℕ → Result Bits LineFault
 bits_in text = value_of bit_string faults.NoBits (octets_in faults.BitsNotBase16 text)
 
--- the question that they are, or the fault of the first that is faulty
+-- The question with these parts, or the error of the first part that is wrong.
 abbrev pub question_of : Result PublicKey LineFault → Result Algorithm LineFault
     → Result (List ℕ) LineFault → Result Bits LineFault → Result Question LineFault
 question_of (Err fault) algorithm signed bits = Err fault
@@ -57,24 +60,26 @@ question_of (Ok key) (Ok algorithm) (Ok signed) (Err fault) = Err fault
 question_of (Ok key) (Ok algorithm) (Ok signed) (Ok bits) =
     Ok (record { key = key; algorithm = algorithm; signed = signed; bits = bits })
 
+-- The question on the last four words, or the error of the first wrong word.
 abbrev pub question_in : List ℕ → List ℕ → List ℕ → List ℕ → Result Question LineFault
 question_in key algorithm signed bits =
     question_of (key_in key) (algorithm_in algorithm) (octets_in faults.SignedNotBase16 signed)
     (bits_in bits)
 
--- one or more decimal digits
+-- A decimal digit in ASCII.
 abbrev pub is_digit : ℕ → Bool
 is_digit octet = nat_le 48 octet && nat_le octet 57
 
+-- The text consists of one or more decimal digits.
 abbrev pub is_number : List ℕ → Bool
 is_number [] = false
 is_number (first ∷ rest) = list_all is_digit (first ∷ rest)
 
--- the number of an anchor, or `-`
+-- The index of a trust anchor, or `-`.
 abbrev pub is_anchor : List ℕ → Bool
 is_anchor text = is_number text || bytes_eq text (codes "-")
 
--- the question that six words say, or the first fault
+-- The question on six words, or the first error.
 abbrev pub six_say : List ℕ → List ℕ → List ℕ → List ℕ → List ℕ → List ℕ
     → Result Question LineFault
 six_say place anchor key algorithm signed bits =
@@ -82,29 +87,32 @@ six_say place anchor key algorithm signed bits =
     then (if is_anchor anchor then question_in key algorithm signed bits else Err faults.NoAnchor)
     else Err faults.NoPlace
 
+-- The question on the words of a line, or the first error.
 abbrev pub words_say : List (List ℕ) → Result Question LineFault
 words_say (place ∷ anchor ∷ key ∷ algorithm ∷ signed ∷ bits ∷ []) =
     six_say place anchor key algorithm signed bits
 words_say _ = Err faults.NotSixWords
 
--- what stands between separators
+-- The parts of a text between separators.
 abbrev pub parts : ℕ → List ℕ → List (List ℕ)
 parts separator text = slice_split (λ octet. octet == separator) text
 
--- empty, or begun by `#`
+-- The line is skipped: it is empty or begins with `#`.
 abbrev pub is_skipped : List ℕ → Bool
 is_skipped [] = true
 is_skipped (first ∷ rest) = first == 35
 
+-- The question of a line that isn't skipped, or its error.
 abbrev pub said : Result Question LineFault → Result (Option Question) LineFault
 said (Ok q) = Ok (Some q)
 said (Err fault) = Err fault
 
--- what a line says: an answer, or nothing, or its fault
+-- The meaning of a line: an answer, nothing if it is skipped, or its error.
 unfoldable pub line_says : List ℕ → Result (Option Question) LineFault
 line_says line = if is_skipped line then Ok None else said (words_say (parts 32 line))
 
--- the answers of lines behind so many, or the number of the first one that is wrong, and its fault
+-- The answers of several lines, where `number` is the number of the first, or the number of the
+-- first wrong line and its error.
 abbrev pub with_line : ℕ → Result (Option Question) LineFault
     → Result (List Question) (ℕ × LineFault) → Result (List Question) (ℕ × LineFault)
 with_line number (Err fault) rest = Err (number, fault)
@@ -112,11 +120,12 @@ with_line number (Ok None) rest = rest
 with_line number (Ok (Some q)) (Ok qs) = Ok (q ∷ qs)
 with_line number (Ok (Some q)) (Err first) = Err first
 
+-- The answers of the lines after the first `before` lines, or the first error.
 abbrev pub answers_from : ℕ → List (List ℕ) → Result (List Question) (ℕ × LineFault)
 answers_from before [] = Ok []
 answers_from before (line ∷ more) =
     with_line (before + 1) (line_says line) (answers_from (before + 1) more)
 
--- the answers of a file, or the number of its first wrong line, and its fault
+-- The answers of a file, or the number of its first wrong line and its error.
 abbrev pub file_says : List ℕ → Result (List Question) (ℕ × LineFault)
 file_says octets = answers_from 0 (parts 10 octets)

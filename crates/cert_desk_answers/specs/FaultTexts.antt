@@ -1,8 +1,9 @@
--- How the faults of a line of answers are told.
+-- The messages for the errors of a line of answers.
 use Rattle.std.specs.Prelude.{ℕ, List, codes}
 use Rattle.cert_desk_answers.specs.declared.line_fault.LineFault.{LineFault}
 use Rattle.cert_desk_answers.specs.declared.line_fault.LineFault.TheVariants as faults
 
+-- The message for each error.
 abbrev pub line_fault_text : LineFault → List ℕ
 line_fault_text faults.NotSixWords = codes "not six words with one blank between them"
 line_fault_text faults.NoPlace = codes "PLACE isn't decimal digits"

@@ -1,4 +1,4 @@
--- What holds of every file of answers.
+-- Laws about every file of answers.
 use Rattle.std.specs.Prelude.{◌≡◌, ℕ, List, Contains, Ok, filter}
 use Rattle.std.specs.List.{AllByRecursion}
 use Rattle.cert_desk_checking.specs.Oid.Bound.{Bound}
@@ -14,8 +14,8 @@ use Rattle.cert_desk_checking.specs.DeskRules.Questions.{Question, answer_on, un
 use Rattle.cert_desk_checking.specs.DeskRules.Verdicts.{Asks, IsVerdict}
 use Rattle.cert_desk_answers.specs.AnswerLines.{file_says}
 
--- Whichever lines of a chain's questions are kept, and in whatever order: a file of them is read as
--- their questions.
+-- Each selection of the lines of a chain's questions, in any order, is parsed as exactly these
+-- questions.
 abbrev pub KeptLinesAreRead : Type 0
 KeptLinesAreRead =
     (file : List ℕ) (anchors : List PlainAnchor) (limit : ℕ) (cs : List PlainCertificate)
@@ -24,12 +24,12 @@ KeptLinesAreRead =
     → AllByRecursion (Contains (chain_lines anchors cs stream)) kept
     → file_says (lines_octets kept) ≡ Ok (questions_of_lines kept)
 
--- the lines whose question a verifier says yes to
+-- The lines whose question a verifier accepts.
 abbrev pub accepted_lines : Answers → List QuestionLine → List QuestionLine
 accepted_lines answers lines = filter (λ l. answer_on answers l.question) lines
 
--- What is read of the lines that a verifier accepts, of those of a chain, lists answers under which
--- the chain has the verdict that it has under the verifier, and asks as often.
+-- The answers parsed from the lines of a chain that a verifier accepts give the chain the same
+-- verdict as that verifier, and ask as often.
 abbrev pub AcceptedLinesJudgeAlike : Type 0
 AcceptedLinesJudgeAlike =
     (file : List ℕ) (t : Terms) (limit : ℕ) (cs : List PlainCertificate) (stream : List ℕ)

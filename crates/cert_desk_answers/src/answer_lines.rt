@@ -1,4 +1,4 @@
-//! Files of answers.
+//! Files of a signature verifier's answers.
 ghost use Rattle.std.specs.Prelude.{◌≡◌, map, IfOk, IfErr, OnOk, Some, Ok};
 ghost use Rattle.std.specs.List.{list_all};
 ghost use Rattle.cert_desk_checking.specs.Der.Grammar.{read_whole};
@@ -20,14 +20,14 @@ use cert_desk_checking::types::BitString;
 use hex::FromHexError;
 use std::alloc::{AllocError, Global};
 
-// Why what a line says isn't read.
+// Why a line can't be parsed.
 #[derive(Clone, Copy)]
 enum LineError {
     Fault(LineFault),
     OutOfMemory,
 }
 
-// The octets that a text writes in base 16; where it writes none the fault is this one.
+// Decodes a text in base 16. Returns `fault` if it isn't one.
 fn octets_of(alloc: Global, text: &[u8], fault: LineFault) -> Result<Vec<u8>, LineError>
     ensures read { IfOk result (λ octets. octets_in fault text.now ≡ Ok octets.items) }
     ensures refused { IfErr result (FailsBy (octets_in fault text.now)) }
@@ -39,7 +39,7 @@ fn octets_of(alloc: Global, text: &[u8], fault: LineFault) -> Result<Vec<u8>, Li
     }
 }
 
-// The value that octets spell, all of them; where they spell none the fault is this one.
+// Decodes a value from all of the bytes. Returns `fault` if they don't encode one.
 fn value_of<'a, T: Decode<'a, SliceReader<'a>>>(
     alloc: Global,
     octets: &'a [u8],
@@ -58,7 +58,7 @@ fn value_of<'a, T: Decode<'a, SliceReader<'a>>>(
     }
 }
 
-// The key whose encoding a text writes in base 16.
+// Decodes a public key from its encoding in base 16.
 fn key_of(alloc: Global, text: &[u8]) -> Result<SubjectPublicKeyInfo, LineError>
     ensures read { IfOk result (λ key. key_in text.now ≡ Ok (key_plain key)) }
     ensures refused { IfErr result (FailsBy (key_in text.now)) }
@@ -68,7 +68,7 @@ fn key_of(alloc: Global, text: &[u8]) -> Result<SubjectPublicKeyInfo, LineError>
     Ok(key)
 }
 
-// The algorithm whose encoding a text writes in base 16.
+// Decodes a signature algorithm from its encoding in base 16.
 fn algorithm_of(alloc: Global, text: &[u8]) -> Result<AlgorithmIdentifier, LineError>
     ensures read { IfOk result (λ algorithm. algorithm_in text.now
         ≡ Ok (algorithm_plain algorithm)) }
@@ -80,7 +80,7 @@ fn algorithm_of(alloc: Global, text: &[u8]) -> Result<AlgorithmIdentifier, LineE
     Ok(algorithm)
 }
 
-// The bits whose encoding a text writes in base 16.
+// Decodes the bits of a signature from their encoding in base 16.
 fn bits_of(alloc: Global, text: &[u8]) -> Result<BitString, LineError>
     ensures read { IfOk result (λ bits. bits_in text.now ≡ Ok bits) }
     ensures refused { IfErr result (FailsBy (bits_in text.now)) }
@@ -90,21 +90,21 @@ fn bits_of(alloc: Global, text: &[u8]) -> Result<BitString, LineError>
     Ok(bits)
 }
 
-// Whether an octet is a decimal digit.
+// Returns whether a byte is a decimal digit.
 fn is_digit(octet: u8) -> bool
     ensures { result ≡ is_digit octet }
 {
     octet >= b'0' && octet <= b'9'
 }
 
-// Whether each octet is a decimal digit.
+// Returns whether each byte is a decimal digit.
 fn are_digits(text: &[u8]) -> bool
     ensures { result ≡ list_all is_digit text.now }
 {
     text.iter().all(|octet| is_digit(*octet))
 }
 
-// Whether a text is one or more decimal digits.
+// Returns whether the text consists of one or more decimal digits.
 fn is_number(text: &[u8]) -> bool
     ensures { result ≡ is_number text.now }
 {
@@ -114,14 +114,14 @@ fn is_number(text: &[u8]) -> bool
     are_digits(text)
 }
 
-// Whether a text is the number of an anchor, or `-`.
+// Returns whether the text is the index of a trust anchor, or `-`.
 fn is_anchor(text: &[u8]) -> bool
     ensures { result ≡ is_anchor text.now }
 {
     is_number(text) || text == b"-".as_slice()
 }
 
-// The answer of these words.
+// Returns the answer with these words.
 fn answer_of(
     alloc: Global,
     key: &[u8],
@@ -146,7 +146,7 @@ fn answer_of(
     })
 }
 
-// What stands between separators.
+// Returns the parts of a text between separators.
 fn parts_of(alloc: Global, octets: &[u8], separator: u8) -> Result<Vec<&[u8]>, AllocError>
     ensures { IfOk result (λ found. map (λ part. part.now) found.items
         ≡ parts separator octets.now) }
@@ -154,7 +154,7 @@ fn parts_of(alloc: Global, octets: &[u8], separator: u8) -> Result<Vec<&[u8]>, A
     octets.split(|octet| *octet == separator).collect(alloc)
 }
 
-// Whether a line is skipped: it is empty, or begins with `#`.
+// Returns whether a line is skipped: it is empty, or begins with `#`.
 fn is_skipped(line: &[u8]) -> bool
     ensures { result ≡ is_skipped line.now }
 {
@@ -164,7 +164,7 @@ fn is_skipped(line: &[u8]) -> bool
     }
 }
 
-// Adds the answer that six words say to those of the lines before.
+// Parses the six words of a line and appends its answer.
 fn add_by_six(
     alloc: Global,
     place: &[u8],
@@ -194,7 +194,7 @@ fn add_by_six(
     Ok(())
 }
 
-// Adds the answer that the words of a line say.
+// Parses the words of a line and appends its answer.
 fn add_by_words(alloc: Global, words: &[&[u8]], answers: &mut Vec<Answer>) -> Result<(), LineError>
     ensures read { OnOk result (added_by (said (words_say (map (λ word. word.now) words.now)))
         (map answer_plain answers.old.items) ≡ Some (map answer_plain answers.new.items)) }
@@ -207,7 +207,7 @@ fn add_by_words(alloc: Global, words: &[&[u8]], answers: &mut Vec<Answer>) -> Re
     Ok(())
 }
 
-// Adds the answer that a line says, if it says one.
+// Parses one line and appends its answer, unless the line is skipped.
 #[tactic(auto, unfolding(crate::specs::AnswerLines::line_says))]
 fn add_line(alloc: Global, line: &[u8], answers: &mut Vec<Answer>) -> Result<(), LineError>
     ensures read { OnOk result (added_by (line_says line.now) (map answer_plain answers.old.items)
@@ -224,7 +224,7 @@ fn add_line(alloc: Global, line: &[u8], answers: &mut Vec<Answer>) -> Result<(),
     Ok(())
 }
 
-// Adds the answer of a line, if it says one, to those of the lines before.
+// Parses the line with this number and appends its answer, unless the line is skipped.
 fn read_line(
     alloc: Global,
     number: u64,
@@ -242,17 +242,18 @@ fn read_line(
     }
 }
 
-/// The answers of a file: lines `PLACE ANCHOR KEY ALGORITHM SIGNED BITS` with one blank between the
-/// words, each ended by LF, the last perhaps by the file.
+/// Parses a file of answers. Each line is `PLACE ANCHOR KEY ALGORITHM SIGNED BITS`, with one space
+/// between the words, and ends with LF or the file.
 ///
-/// The place is decimal digits, and the anchor such or `-`; neither is looked at further. The
-/// others are in base 16, of either case: the encodings of a SubjectPublicKeyInfo (RFC 5280
-/// 4.1.2.7) and an AlgorithmIdentifier (4.1.1.2), the octets that are signed, and the encoding of a
-/// BIT STRING. Empty lines and those that begin with `#` say nothing.
+/// `PLACE` consists of decimal digits, and so does `ANCHOR`, or it is `-`; neither is interpreted.
+/// The other words are in base 16, in either case: the encoding of a SubjectPublicKeyInfo (RFC 5280
+/// 4.1.2.7), that of an AlgorithmIdentifier (RFC 5280 4.1.1.2), the signed bytes, and the encoding
+/// of a BIT STRING. Empty lines and lines that begin with `#` are skipped.
 ///
 /// # Errors
 ///
-/// `Line`, the first line that is none of these, and the first reason why; `OutOfMemory`.
+/// - `Line`: a line isn't an answer. The first such line is reported, with the first reason.
+/// - `OutOfMemory`: memory runs out.
 pub fn answers_in(alloc: Global, octets: &[u8]) -> Result<Vec<Answer>, NoAnswers>
     ensures read { IfOk result (λ answers. file_says octets.now
         ≡ Ok (map answer_plain answers.items)) }

@@ -1,5 +1,4 @@
-//! Chains judged by a file of answers: the anchors, the answers and the certificates stand in
-//! memory.
+//! Validates chains in memory, with a file of a verifier's answers.
 ghost use Rattle.std.specs.Prelude.{◌≡◌, ◌≢◌, ◌≤◌, ◌<◌, ◌^◌, ◌⊎◌, List, length, map, IfOk, IfErr};
 ghost use Rattle.std.specs.Prelude.{Ok};
 ghost use Rattle.cert_desk_checking.specs.Oid.Bound.{Bound};
@@ -27,7 +26,8 @@ use cert_desk_checking::oid::ObjectIdentifier;
 use cert_desk_checking::{Anchor, AnchorsError, anchors_in, check};
 use std::alloc::Global;
 
-/// The anchors that octets give (RFC 5914 2), or the status.
+/// Returns the trust anchors of a file (RFC 5914 2). Fails with the exit status `Arguments` or
+/// `Memory`.
 pub fn anchors_of(alloc: Global, octets: &[u8]) -> Result<Vec<Anchor>, ExitStatus>
     requires { length octets.now < 2 ^ 32 }
     ensures read { IfOk result
@@ -43,7 +43,8 @@ pub fn anchors_of(alloc: Global, octets: &[u8]) -> Result<Vec<Anchor>, ExitStatu
     }
 }
 
-/// A bundle that read these octets, to their end or to a fault, or the status.
+/// Returns a bundle that has read these bytes, to their end or to an error in them. Fails with the
+/// exit status `Memory`.
 pub fn bundle_of(alloc: Global, limit: u32, octets: &[u8]) -> Result<Bundle, ExitStatus>
     requires { 6 ≤ limit }
     ensures limit { IfOk result (λ b. b.limit ≡ limit) }
@@ -64,8 +65,9 @@ pub fn bundle_of(alloc: Global, limit: u32, octets: &[u8]) -> Result<Bundle, Exi
     }
 }
 
-/// The verdict on a chain under the anchors of a file, or the status, where a signature is right
-/// exactly where the answers list it, and each certificate has `limit` octets at most.
+/// Validates a chain under the trust anchors of a file, with a verifier that accepts exactly the
+/// signatures that the answers list. Each certificate may have at most `limit` bytes. Fails with
+/// the exit status `Arguments` or `Memory`.
 pub fn verdict_of(
     alloc: Global,
     answers: &[u8],

@@ -1,5 +1,7 @@
-//! Files of answers: lines that say yes to questions that the signatures of a chain ask; and chains
-//! judged by such a file.
+//! Parses files of a signature verifier's answers, and validates chains with them. Each line of a
+//! file accepts the signature of one question that a chain asks.
+//!
+//! The crate depends on `cert_desk_checking`.
 #![tactic(auto)]
 
 mod answer_lines;

@@ -1,31 +1,31 @@
-//! Lines that are no answers.
+//! The errors of a line of answers.
 ghost use Rattle.std.specs.Prelude.{Some};
 ghost use Rattle.cert_desk_answers.specs.FaultTexts.{line_fault_text};
 
 use std::fmt;
 
-/// Why a line is no answer: the first reason that holds, in this order.
+/// Why a line isn't an answer. If several reasons apply, the first of them is reported.
 #[derive(Clone, Copy, Debug, PartialEq, Eq)]
 pub enum LineFault {
-    /// The line isn't six words with one blank between them.
+    /// The line doesn't consist of six words with one space between them.
     NotSixWords,
-    /// The first word, the place, isn't decimal digits.
+    /// The first word, the index of the certificate, doesn't consist of decimal digits.
     NoPlace,
-    /// The second word, the anchor, is neither decimal digits nor `-`.
+    /// The second word, the index of the trust anchor, is neither decimal digits nor `-`.
     NoAnchor,
-    /// The third word, the key, isn't octets in base 16.
+    /// The third word, the key, isn't in base 16.
     KeyNotBase16,
-    /// The octets of the key encode no SubjectPublicKeyInfo (RFC 5280 4.1.2.7).
+    /// The bytes of the key aren't the encoding of a SubjectPublicKeyInfo (RFC 5280 4.1.2.7).
     NoKey,
-    /// The fourth word, the algorithm, isn't octets in base 16.
+    /// The fourth word, the algorithm, isn't in base 16.
     AlgorithmNotBase16,
-    /// The octets of the algorithm encode no AlgorithmIdentifier (RFC 5280 4.1.1.2).
+    /// The bytes of the algorithm aren't the encoding of an AlgorithmIdentifier (RFC 5280 4.1.1.2).
     NoAlgorithm,
-    /// The fifth word, what is signed, isn't octets in base 16.
+    /// The fifth word, the signed bytes, isn't in base 16.
     SignedNotBase16,
-    /// The sixth word, the signature, isn't octets in base 16.
+    /// The sixth word, the signature, isn't in base 16.
     BitsNotBase16,
-    /// The octets of the signature encode no BIT STRING (X.690 8.6, 11.2).
+    /// The bytes of the signature aren't the encoding of a BIT STRING (X.690 8.6, 11.2).
     NoBits,
 }
 

@@ -1,21 +1,21 @@
-//! Files that give no answers.
+//! Why a file of answers can't be read.
 
 use crate::line_fault::LineFault;
 
-/// Why an input gives no answers.
+/// Why answers can't be read from an input.
 #[derive(Clone, Copy, Debug, PartialEq, Eq)]
 pub enum NoAnswers {
-    /// The first faulty line.
+    /// A line isn't an answer. This is the first such line.
     Line {
-        /// Which one, counted from 1.
+        /// The number of the line, counted from 1.
         number: u64,
-        /// What is wrong with it.
+        /// Why it isn't an answer.
         fault: LineFault,
     },
-    /// There are 2^32 octets or more.
+    /// The input has 2^32 bytes or more.
     TooMuch,
-    /// An I/O error: a read failed.
+    /// A read of the input failed.
     Device,
-    /// Out of memory.
+    /// Memory ran out.
     OutOfMemory,
 }

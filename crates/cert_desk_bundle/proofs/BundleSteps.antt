@@ -1,4 +1,4 @@
--- How a bundle takes octets behind its last certificate.
+-- Laws about the steps of a bundle, which consumes bytes after its last certificate.
 use Rattle.std.proofs.Common.{◌≡◌, ℕ, ◌+◌, ◌^◌, ◌<◌, List, [], ◌∷◌, ◌++◌, length, take, drop, Some, None, refl, sym, ap, subst, ◌∙◌, arith, inl, inr, append_assoc, length-append}
 use Rattle.std.proofs.lemmas.List.{take_all, take-append-drop}
 use Rattle.std.specs.Global.{Vec}
@@ -23,14 +23,14 @@ use Rattle.cert_desk_bundle.proofs.Readings.{Advances-none, advances-left, advan
 use Rattle.cert_desk_bundle.proofs.Scans.{awaits_unfinished}
 use Rattle.cert_desk_bundle.proofs.WholeValues.{whole_malformed}
 
--- a certificate that was taken may stand
+-- A certificate that was completed may be in a chain.
 pub stands_kept : (limit offset : ℕ) (old new : Rest) (piece : List ℕ) (count : ℕ) (octets : Vec ℕ) → IsTaken limit offset old new piece count (Some octets) → (l : Located) → IsPlacedAt offset octets.items l → Stands Bound limit (plain_of l)
 stands_kept limit offset old new piece count octets t l p =
     let s = t.completed in
     let w = s.has_whole in
     record { valid = p.spelled.valid; within = omega (arith, ap length (sym s.octets_are ∙ p.spelled.octets), w.len_is, w.within) }
 
--- a certificate that is taken ends below 2^64
+-- A certificate that was completed ends before 2^64 bytes.
 pub ends_below : (limit offset : ℕ) (old new : Rest) (piece : List ℕ) (count : ℕ) (octets : Vec ℕ) → IsTaken limit offset old new piece count (Some octets) → offset + length octets.items < 2 ^ 64
 ends_below limit offset old new piece count octets t =
     let s = t.completed in
@@ -38,7 +38,7 @@ ends_below limit offset old new piece count octets t =
     omega (arith, ap length s.octets_are, w.len_is, w.fits)
 
 module _ (b : Inside) (i : IsKept b) where
-  -- there is an end to what is kept
+  -- The number of bytes that a bundle keeps is bounded.
   fits_from : (octets : List ℕ) (wanted : ℕ) → length octets < wanted → b.end + wanted < 2 ^ 64 + 6 → length (joined Bound (certificates_of b.located.items) ++ octets) < 2 ^ 64 + 5
   fits_from octets wanted short fits = omega (arith, i.kept.end_is, length-append (joined Bound (certificates_of b.located.items)) octets)
 
@@ -51,7 +51,7 @@ module _ (b : Inside) (i : IsKept b) where
   }
 
   module _ (opened : b.standing ≡ standings.Open) (piece : List ℕ) (new : Rest) (count : ℕ) where
-    -- no certificate is whole
+    -- No certificate is complete.
     pub takes_left : IsTaken b.limit b.end b.rest new piece count None → TakesFront Bound (kept_of b) (record (kept_of b) { rest = new.octets.items }) piece count
     takes_left t =
         let front = take count piece in
@@ -65,13 +65,13 @@ module _ (b : Inside) (i : IsKept b) where
               (rw append_assoc (fits_from (b.rest.octets.items ++ front) new.wanted left.awaits.short left.awaits.fits)) (ap (λ (x : List ℕ). record (kept_of b) { rest = x }) left.kept);
         }
 
-    -- nor is one behind all of the piece
+    -- No certificate is complete after the whole piece.
     pub takes_all : count ≡ length piece → IsTaken b.limit b.end b.rest new piece count None → Advances Bound (kept_of b) (record (kept_of b) { rest = new.octets.items }) piece
     takes_all whole t =
         let all : take count piece ≡ piece = take_all count piece (omega (arith, whole)) in
         subst (λ (x : List ℕ). Advances Bound (kept_of b) (record (kept_of b) { rest = new.octets.items }) x) all (takes_left t).advances
 
-    -- one is
+    -- A certificate is complete.
     module _ (octets : Vec ℕ) (t : IsTaken b.limit b.end b.rest new piece count (Some octets)) where
       pub takes_certificate : (l : Located) (items : List Located) → IsPlacedAt b.end octets.items l → items ≡ b.located.items ++ l ∷ []
           → TakesFront Bound (kept_of b) (record (kept_of b) { certificates = certificates_of items; rest = new.octets.items }) piece count

@@ -1,4 +1,4 @@
--- Octets are the encoding of one value, or of none.
+-- Bytes are the encoding of exactly one value, or of none.
 use Rattle.std.proofs.Common.{◌≡◌, ℕ, List, [], ◌∷◌, Bool, true, false, Result, Ok, Err, refl, sym, ap, subst, ◌∙◌, ltb, length}
 use Rattle.std.proofs.lemmas.Bool.{and_parts, ltb-true, lt-ltb}
 use Rattle.x509_cert_certificates.specs.Der.ErrorTypes.ErrorKind.{ErrorKind}
@@ -12,7 +12,7 @@ use Rattle.der_core.proofs.DecodingLaws.{IsBytes, ok_is, bind_ok, unless_ok, who
 use Rattle.der_core.proofs.DecodingLaws.{is_spelled, whole_again, octets_below, bytes_are}
 use Rattle.cert_desk_bundle.specs.Decoding.{Decoding, decodes_to, decodes_to_none}
 
--- what is read of all octets has this encoding
+-- The value that is decoded from all bytes has this encoding.
 pub whole_spells : (s : Shape) (w : List ℕ) (v : Value s) (r : List ℕ) → is_apart s ≡ true → IsBytes w → read_whole s w ≡ Ok (v, r) → Spells s v w
 unfolding read_whole
 whole_spells s w v r apart bytes e =
@@ -32,7 +32,7 @@ octets-are (b ∷ w) h =
     let both = and_parts (ltb b 256) (are_octets w) h in
     (ltb-true b 256 both.0, octets-are w both.1)
 
--- of a shape that reading tells apart
+-- The decoding of bytes, for a shape whose values can be distinguished.
 pub decoding : (s : Shape) (w : List ℕ) → is_apart s ≡ true → are_enough s levels_max ≡ true → Decoding s w
 decoding s w apart enough = by (are_octets w) (read_whole s w) refl refl
   where
@@ -41,6 +41,6 @@ decoding s w apart enough = by (are_octets w) (read_whole s w) refl refl
     by true (Ok p) are e = decodes_to p.0 (whole_spells s w p.0 p.1 apart (bytes_are w (octets-are w are)) e)
     by true (Err k) are e = decodes_to_none (λ v h. absurd (cc (e, whole_again s v w apart enough h)))
 
--- a value has one encoding
+-- Two values with the same encoding are equal.
 pub decodes_once : (s : Shape) (u v : Value s) (w : List ℕ) → is_apart s ≡ true → are_enough s levels_max ≡ true → Spells s u w → Spells s v w → u ≡ v
 decodes_once s u v w apart enough h k = ap (λ (q : Value s × List ℕ). q.0) (ok_is (u, []) (v, []) (sym (whole_again s u w apart enough h) ∙ whole_again s v w apart enough k))

@@ -1,4 +1,4 @@
--- A fault of a stream is that of every longer one.
+-- An error of an input is also the error of every longer input.
 use Rattle.std.proofs.Common.{◌≡◌, ◌≢◌, ℕ, ◌+◌, ◌^◌, ◌<◌, ◌≤◌, List, [], ◌∷◌, ◌++◌, length, take, Err, refl, sym, ap, subst, ◌∙◌, arith, inl, inr, append_assoc}
 use Rattle.std.proofs.lemmas.Bool.{cases_lt}
 use Rattle.x509_cert_certificates.specs.Der.ErrorTypes.ErrorKind.{ErrorKind}
@@ -17,7 +17,7 @@ use Rattle.cert_desk_bundle.proofs.Scans.{heads, says_some, fault_first, fault_h
 use Rattle.cert_desk_bundle.proofs.SeriesReading.{reads_fault}
 use Rattle.cert_desk_bundle.proofs.WholeValues.{whole-take, whole_malformed}
 
--- behind the first kind the first octet is that of a SEQUENCE
+-- For every kind but the first, the first byte is the tag of a SEQUENCE.
 sequence_first : (s : Shape) (limit offset : ℕ) (kind : FaultKind) (rest : List ℕ) → 1 < rank kind → IsFault s limit offset kind rest → (v : List ℕ) × (rest ≡ 0x30 ∷ v)
 sequence_first s limit offset kind [] h f = absurd (says_some s limit offset kind f.says)
 sequence_first s limit offset kind (b ∷ v) h f =
@@ -76,7 +76,7 @@ module _ (fields : Body) (limit offset : ℕ) (rest more : List ℕ) where
   IsFault-stays kinds.Malformed ne f = malformed_stays f
   IsFault-stays kinds.Truncated ne f = absurd (ne refl)
 
--- of every SEQUENCE
+-- For every SEQUENCE, an error of its header stays when bytes follow.
 pub early_stays : (limit offset : ℕ) (rest more : List ℕ) (kind : FaultKind) → IsEarlyFault limit offset rest kind → IsEarlyFault limit offset (rest ++ more) kind
 early_stays limit offset rest more kind f = record {
   not_malformed = f.not_malformed;

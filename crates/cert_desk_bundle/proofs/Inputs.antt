@@ -1,4 +1,4 @@
--- What is taken of an input in several reads is read in turn.
+-- The bytes that an input gives in several reads are read one after another.
 use Rattle.std.proofs.Common.{◌≡◌, ◌⊎◌, inl, inr, ℕ, ◌≤◌, List, [], ◌++◌, length, take, refl, arith, subst, append_assoc, append-nil, length-take}
 use Rattle.cert_desk_io.specs.Devices.{one_more}
 use Rattle.cert_desk_bundle.specs.declared.bundle_error.BundleError.{BundleError}
@@ -13,7 +13,7 @@ use Rattle.cert_desk_bundle.specs.Steps.{ReadsExtended, ReadsUnchanged, stopped,
 module _ {State : Type 0} (takes : State → List ℕ → State → Type 0)
     (in_turn : (a b c : State) (first second : List ℕ) → takes a first b → takes b second c → takes a (first ++ second) c)
     (from mid to : State) (bound : ℕ) (old now new : Kept) (before : Takes takes from mid bound old now) where
-  -- a piece is read behind what was taken before
+  -- A piece is read after the bytes before it.
   pub Takes-more : (piece : List ℕ) → takes mid piece to → ReadsExtended bound now new piece → Takes takes from to bound old new
   Takes-more piece taken on = (
     before.0 ++ piece,
@@ -21,7 +21,7 @@ module _ {State : Type 0} (takes : State → List ℕ → State → Type 0)
     λ stream reads. subst (λ (x : List ℕ). Reads bound new x) (append_assoc stream before.0 piece) (on (stream ++ before.0) (before.2 stream reads)),
   )
 
-  -- nothing more is taken
+  -- A read that gives nothing changes nothing.
   pub Takes-still : takes mid [] to → ReadsUnchanged bound now new → Takes takes from to bound old new
   Takes-still taken still = (
     before.0,
@@ -31,7 +31,7 @@ module _ {State : Type 0} (takes : State → List ℕ → State → Type 0)
 
   module _ (is_ended : State → Type 0) (failures : State → ℕ) (was_open : old.standing ≡ standings.Open) (is_open : now.standing ≡ standings.Open) (limit : now.limit ≡ old.limit)
       (sound : failures mid ≡ failures from) where
-    -- what was taken before the last read was read
+    -- The bytes before the last read have been read.
     at_last : (e : ReadError) (piece : List ℕ) → length piece ≤ 4096 → takes mid piece to → LastStops takes is_ended failures from to bound mid now new piece e
         → StopsAtLast takes is_ended failures from to bound old new e
     at_last e piece short taken stops = record {
@@ -64,6 +64,6 @@ module _ {State : Type 0} (takes : State → List ℕ → State → Type 0)
     piece-refused errors.OutOfMemory piece still short taken r = at_last (reads.Bundle errors.OutOfMemory) piece short taken (still, inl r)
     piece-refused errors.Failed piece still short taken r = absurd (r.0 is_open)
 
--- what a read put into the buffer is no more than a read takes
+-- A read gives no more bytes than its buffer has.
 pub short_piece : (count : ℕ) (buffer : List ℕ) → length buffer ≡ 4096 → length (take count buffer) ≤ 4096
 short_piece count buffer e = omega (arith, e, length-take count buffer)

@@ -1,4 +1,4 @@
--- Where a certificate's parts stand in its octets, and where it stands in a bundle.
+-- Laws about the position of a certificate in a bundle, and of its parts in its bytes.
 use Rattle.std.proofs.Common.{◌≡◌, ℕ, zero, suc, ◌+◌, ◌-◌, ◌^◌, ◌<◌, ◌≤◌, ◌≢◌, List, [], ◌∷◌, ◌++◌, length, take, drop, Some, Result, Ok, Err, is_ok, true, false, cond, refl, sym, ap, subst, ◌∙◌, arith, ◌⊎◌, inl, inr, length-append, length-drop, slice_get}
 use Rattle.std.proofs.lemmas.List.{take_at, drop_at, take-append-le, map_push, length-map}
 use Rattle.std.specs.List.{AllByRecursion}
@@ -23,9 +23,9 @@ use Rattle.cert_desk_bundle.proofs.Scans.{at_header, one_content}
 use Rattle.cert_desk_bundle.proofs.SeriesLaws.{each-more}
 use Rattle.cert_desk_bundle.proofs.Readings.{joined-more}
 
--- The fields of a certificate
+-- The fields of a certificate.
 
--- what stands behind the signed part, and behind the header
+-- The bytes after the TBSCertificate, and the bytes after the header.
 abbrev pub behind_signed : ℕ → PlainCertificate → List ℕ
 behind_signed bound c = octets_of (algorithm_identifier bound) c.1.0 ++ (octets_of bit_string c.1.1.0 ++ [])
 
@@ -44,7 +44,7 @@ signed_length-is : (bound : ℕ) (c : PlainCertificate) → signed_length bound 
 unfolding signed_length
 signed_length-is bound c = refl
 
--- the signed part, and what is behind it, in a certificate's octets
+-- The TBSCertificate and the bytes after it, within a certificate's bytes.
 pub signed_in : (bound : ℕ) (c : PlainCertificate) → take (signed_length bound c) (drop (signed_start bound c) (certificate_octets bound c)) ≡ octets_of (raw_tbs_certificate bound) (tbs c)
 signed_in bound c =
     let fields = fields_octets bound c in
@@ -58,7 +58,7 @@ signed_within bound c =
     let fields = fields_octets bound c in
     omega (arith, ap length (octets_by_fields bound c), length-append (head_octets tags.Sequence (length fields)) fields, length-append (octets_of (raw_tbs_certificate bound) (tbs c)) (behind_signed bound c), start_by_fields bound c, signed_length-is bound c)
 
--- Fields that are read one after the other
+-- Fields that are decoded one after another.
 
 pub fields_valid : (bound : ℕ) (c : PlainCertificate) → IsValid (raw_certificate bound) c → IsValid (raw_tbs_certificate bound) (tbs c) × IsValid (algorithm_identifier bound) c.1.0 × IsValid bit_string c.1.1.0
 unfolding IsValid IsContent IsBody
@@ -71,7 +71,7 @@ valid_of bound c t a b fits = ((t, (a, (b, tt))), omega arith, fits)
 pub signed_by_fields : (c : PlainCertificate) (content behind : List ℕ) → content ≡ octets_of (raw_tbs_certificate Bound) (tbs c) ++ behind → length content - length behind ≡ signed_length Bound c
 signed_by_fields c content behind e = omega (arith, signed_length-is Bound c, ap length e, length-append (octets_of (raw_tbs_certificate Bound) (tbs c)) behind)
 
--- why there is no certificate, where something isn't read for another reason than out of memory
+-- If a field can't be decoded and memory didn't run out, no certificate has these bytes.
 pub unread : (octets : List ℕ) (standing : Standing) (k : ErrorKind) → (standing ≡ standings.NoMemory) ⊎ ((standing ≡ standings.Faulted kinds.Malformed) × (k ≢ errors.OutOfMemory))
     → (k ≢ errors.OutOfMemory → (c : PlainCertificate) → Spells (raw_certificate Bound) c octets → ⊥) → IsUnread octets standing
 unread octets standing k (inl m) none = inl m
@@ -84,7 +84,7 @@ module _ (octets : List ℕ) (start : ℕ) (at : IsContentAt octets start) where
   pub rest_fits : Fits (drop start octets)
   rest_fits = omega (arith, at.fits, length-drop start octets)
 
-  -- what stands behind the header of a certificate that has these octets
+  -- The bytes after the header of a certificate that has these bytes.
   pub fields_there : (c : PlainCertificate) → Spells (raw_certificate Bound) c octets → drop start octets ≡ fields_octets Bound c
   fields_there c s =
       let fields = fields_octets Bound c in
@@ -96,7 +96,7 @@ module _ (octets : List ℕ) (start : ℕ) (at : IsContentAt octets start) where
   pub second_fits : (c : PlainCertificate) → Spells (raw_certificate Bound) c octets → Fits (behind_signed Bound c)
   second_fits c s = omega (arith, rest_fits, ap length (fields_there c s), length-append (octets_of (raw_tbs_certificate Bound) (tbs c)) (behind_signed Bound c))
 
-  -- fields that stand there one after the other are a certificate's
+  -- Fields that follow one another are those of a certificate.
   pub fields_spell : (c : PlainCertificate) → IsValid (raw_tbs_certificate Bound) (tbs c) → IsValid (algorithm_identifier Bound) c.1.0 → IsValid bit_string c.1.1.0
       → drop start octets ≡ fields_octets Bound c → (Spells (raw_certificate Bound) c octets) × (start ≡ signed_start Bound c)
   fields_spell c t a b e =
@@ -104,7 +104,7 @@ module _ (octets : List ℕ) (start : ℕ) (at : IsContentAt octets start) where
       let fits : Fits (certificate_octets Bound c) = omega (arith, at.fits, ap length is) in
       (record { valid = valid_of Bound c t a b fits; octets = is }, at.start_is ∙ ap (λ (w : List ℕ). length (head_octets tags.Sequence (length w))) e ∙ sym (start_by_fields Bound c))
 
--- No certificate, and one more
+-- A bundle without certificates, and a bundle with one more.
 
 pub kept-none : (limit : ℕ) → AreKept limit 0 []
 kept-none limit = record { end_is = refl; each = tt; places = λ place l e. absurd cc }
@@ -149,7 +149,7 @@ module _ (limit end : ℕ) (items : List Located) (k : AreKept limit end items) 
           subst (λ (x : Located). IsPlacedAt (offset_at Bound longer place) (certificate_octets Bound (plain_of x)) x) e
           (rw (h, at_last) (subst (λ (x : List ℕ). IsPlacedAt end x l) p.spelled.octets p))
 
--- what a push did
+-- The list after a successful or failed push.
 pub pushed : {X E : Type 0} (r : Result (Unit {0}) E) (xs ys zs : List X) → zs ≡ cond (is_ok r) xs ys → is_ok r ≡ true → zs ≡ xs
 pushed (Ok x) xs ys zs e i = e
 pushed (Err x) xs ys zs e i = absurd cc

@@ -1,4 +1,4 @@
--- A stream joins one list of certificates at most, and has one fault at most.
+-- An input is the chain of at most one list of certificates, and has at most one error.
 use Rattle.std.proofs.Common.{◌≡◌, ℕ, List, refl}
 use Rattle.x509_cert_certificates.specs.Der.Limits.{levels_max}
 use Rattle.x509_cert_certificates.specs.Certificates.{PlainCertificate, raw_certificate}

@@ -1,4 +1,4 @@
--- A bundle reads the stream before and what it takes.
+-- A bundle has read the input before and the bytes that it consumes.
 use Rattle.std.proofs.Common.{◌≡◌, ℕ, ◌+◌, ◌^◌, ◌<◌, List, [], ◌∷◌, ◌++◌, length, take, drop, refl, sym, ap, subst, ◌∙◌, arith, append_assoc, append-nil, length-append}
 use Rattle.std.proofs.lemmas.List.{take-append-drop}
 use Rattle.x509_cert_certificates.specs.Certificates.{PlainCertificate, raw_certificate}
@@ -16,7 +16,7 @@ use Rattle.cert_desk_bundle.proofs.Scans.{unfinished_none}
 use Rattle.cert_desk_bundle.proofs.SeriesLaws.{encodings-more, Series-more}
 use Rattle.cert_desk_bundle.proofs.SeriesReading.{reads_nothing, reads_unfinished, reads_fault}
 
--- Chains
+-- Chains.
 
 pub joined-more : (bound : ℕ) (cs : List PlainCertificate) (c : PlainCertificate) → joined bound (cs ++ c ∷ []) ≡ joined bound cs ++ certificate_octets bound c
 joined-more bound cs c = encodings-more (raw_certificate bound) cs c
@@ -25,16 +25,16 @@ pub Chain-more : (bound limit : ℕ) (cs : List PlainCertificate) (c : PlainCert
     → length (joined bound (cs ++ c ∷ [])) < 2 ^ 64 → Chain bound limit (cs ++ c ∷ []) (joined bound (cs ++ c ∷ []))
 Chain-more bound limit cs c chain stands fits = Series-more (raw_certificate bound) limit cs c chain stands fits
 
--- The empty stream
+-- The empty input.
 
 pub Reads-nil : (bound limit : ℕ) → Reads bound (record { limit = limit; certificates = []; rest = []; standing = standings.Open }) []
 Reads-nil bound limit = reads_nothing (raw_certificate_fields bound) limit
 
--- what is read by a bundle that stands so
+-- The input that a bundle in this state has read.
 abbrev pub ReadsUnder : ℕ → Standing → Kept → List ℕ → Type 0
 ReadsUnder bound standing b stream = ReadsSeries (raw_certificate bound) b.limit standing b.certificates b.rest stream
 
--- What a bundle read that takes pieces
+-- A bundle that accepts pieces.
 
 module _ (bound : ℕ) (old : Kept) (stream : List ℕ) where
   pub open_split : old.standing ≡ standings.Open → Reads bound old stream → Split bound old.limit stream old.certificates old.rest
@@ -42,11 +42,11 @@ module _ (bound : ℕ) (old : Kept) (stream : List ℕ) where
       let r : ReadsUnder bound standings.Open old stream = subst (λ (s : Standing). ReadsUnder bound s old stream) e reads in
       r.0
 
-  -- with more octets
+  -- Longer input, with more bytes after it.
   whole-more : (more : List ℕ) → Split bound old.limit stream old.certificates old.rest → stream ++ more ≡ joined bound old.certificates ++ (old.rest ++ more)
   whole-more more split = ap (λ (x : List ℕ). x ++ more) split.whole ∙ append_assoc (joined bound old.certificates) old.rest more
 
--- Octets that are taken
+-- Bytes that are consumed.
 
 pub Advances-none : (bound : ℕ) (old : Kept) → old.standing ≡ standings.Open → length (kept_octets bound old) < 2 ^ 64 + 5 → Advances bound old old []
 Advances-none bound old opened fits = record {
@@ -72,7 +72,7 @@ Advances-trans bound old now new front more a b = record {
 }
 
 module _ (bound : ℕ) (old new : Kept) (front : List ℕ) (opened : old.standing ≡ standings.Open) where
-  -- nothing begins what is left
+  -- No certificate is complete.
   pub advances-left : IsUnfinished (raw_certificate bound) old.limit (length (joined bound old.certificates)) (old.rest ++ front) → length (kept_octets bound old ++ front) < 2 ^ 64 + 5
       → new ≡ record old { rest = old.rest ++ front } → Advances bound old new front
   advances-left u fits e =
@@ -89,7 +89,7 @@ module _ (bound : ℕ) (old new : Kept) (front : List ℕ) (opened : old.standin
             rw opened (reads_unfinished (raw_certificate bound) old.limit old.certificates (old.rest ++ front) (stream ++ front) split.front (whole-more bound old stream front split) u);
       })
 
-  -- a certificate is whole
+  -- A certificate is complete.
   module _ (c : PlainCertificate) (octets : old.rest ++ front ≡ certificate_octets bound c) (fits : length (joined bound old.certificates) + length (old.rest ++ front) < 2 ^ 64) where
     joins : joined bound (old.certificates ++ c ∷ []) ≡ joined bound old.certificates ++ (old.rest ++ front)
     joins = joined-more bound old.certificates c ∙ ap (λ (x : List ℕ). joined bound old.certificates ++ x) (sym octets)
@@ -115,10 +115,10 @@ module _ (bound : ℕ) (old new : Kept) (front : List ℕ) (opened : old.standin
               (unfinished_none (raw_certificate_fields bound) old.limit (length (joined bound (old.certificates ++ c ∷ [])))));
         })
 
--- Octets that aren't
+-- Bytes that are rejected.
 
 module _ (bound : ℕ) (old mid new : Kept) (piece : List ℕ) (opened : old.standing ≡ standings.Open) where
-  -- what is left of a bundle that stops there
+  -- The bundle that stops after consuming some of the bytes is the bundle that stops before them.
   stopped-is : (standing : Standing) → mid.limit ≡ old.limit → mid.certificates ≡ old.certificates → new ≡ stopped mid standing → new ≡ stopped old standing
   stopped-is standing a b e = e ∙ ap (λ (n : ℕ). record { limit = n; certificates = mid.certificates; rest = []; standing = standing }) a ∙ ap (λ (cs : List PlainCertificate). record { limit = old.limit; certificates = cs; rest = []; standing = standing }) b
 
@@ -154,7 +154,7 @@ module _ (bound : ℕ) (old mid new : Kept) (piece : List ℕ) (opened : old.sta
       error_same standings.NoMemory same = refl
       error_same standings.NoDevice same = refl
 
--- a bundle that stopped tells the same
+-- A bundle that stopped reports the same error.
 pub error_stopped : (bound : ℕ) (b : Kept) (standing : Standing) → error_of bound (stopped b standing) standing ≡ error_of bound b standing
 error_stopped bound b standings.Open = refl
 error_stopped bound b standings.Ended = refl
@@ -162,7 +162,7 @@ error_stopped bound b (standings.Faulted kind) = refl
 error_stopped bound b standings.NoMemory = refl
 error_stopped bound b standings.NoDevice = refl
 
--- behind octets that were taken
+-- The rejection of bytes after those that were consumed.
 pub advances-refused : (bound : ℕ) (old now new : Kept) (front left : List ℕ) (e : BundleError) → old.standing ≡ standings.Open → Advances bound old now front → RefusesPiece bound now new left e → RefusesPiece bound old new (front ++ left) e
 advances-refused bound old now new front left (errors.Fault place offset kind) opened a r = (
   opened,
@@ -177,7 +177,7 @@ advances-refused bound old now new front left errors.OutOfMemory opened a r = (
 )
 advances-refused bound old now new front left errors.Failed opened a r = absurd (r.0 a.is_open)
 
--- The loop that takes a piece
+-- The loop that consumes a piece.
 
 pub record Feeding (bound : ℕ) (old : Kept) (piece left : List ℕ) (now : Kept) : Type 0 where
   pub was_open : old.standing ≡ standings.Open

@@ -1,4 +1,4 @@
--- How octets are taken behind the last certificate.
+-- Laws about the bytes after the last certificate, when more are consumed.
 use Rattle.std.proofs.Common.{◌≡◌, ℕ, ◌+◌, ◌-◌, ◌<◌, List, [], ◌++◌, length, take, None, arith, append_assoc, length-append}
 use Rattle.std.proofs.lemmas.List.{take_all}
 use Rattle.cert_desk_bundle.specs.declared.rest.Rest.{Rest}
@@ -10,7 +10,7 @@ use Rattle.cert_desk_bundle.proofs.Scans.{awaits_more}
 use Rattle.cert_desk_bundle.proofs.FaultStays.{early_stays}
 
 module _ (limit offset : ℕ) (old new : Rest) (piece : List ℕ) (awaits : Awaits limit offset old.octets.items old.wanted) where
-  -- fewer than are missing
+  -- Fewer bytes than are missing.
   pub taken_short : 0 < length piece → length piece < old.wanted - length old.octets.items → new.octets.items ≡ old.octets.items ++ piece → new.wanted ≡ old.wanted
       → IsTaken limit offset old new piece (length piece) None
   taken_short some short kept same =
@@ -22,7 +22,7 @@ module _ (limit offset : ℕ) (old new : Rest) (piece : List ℕ) (awaits : Awai
         completed = rw all (record { kept = kept; awaits = rw same (awaits_more limit offset old.octets.items piece old.wanted awaits longer) });
       }
 
--- what isn't taken isn't where more octets follow
+-- Bytes that are rejected are also rejected when more follow.
 pub untaken_more : (limit offset : ℕ) (rest front more : List ℕ) (standing : Standing) → IsUntaken limit offset (rest ++ front) standing → IsUntaken limit offset (rest ++ (front ++ more)) standing
 untaken_more limit offset rest front more standings.Open h = h
 untaken_more limit offset rest front more standings.Ended h = h

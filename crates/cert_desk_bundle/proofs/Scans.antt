@@ -1,4 +1,5 @@
--- What the header at the front says of the rest of a stream, where a value behind a SEQUENCE tag should begin.
+-- Lemmas about the header of a SEQUENCE: whether more bytes are needed, the bytes have an error, or
+-- a complete value is there.
 use Rattle.std.proofs.Common.{◌≡◌, ◌≢◌, ℕ, ◌+◌, ◌-◌, ◌^◌, ◌<◌, ◌≤◌, Bool, true, false, cond, List, [], ◌∷◌, ◌++◌, length, get_or, take, drop, Some, None, Result, Ok, Err, refl, sym, ap, subst, ◌∙◌, arith, ◌⊎◌, inl, inr, append_assoc, append-nil, length-append, length-drop}
 use Rattle.std.proofs.lemmas.Bool.{cases_lt, le-ltb, ne_eqb}
 use Rattle.std.proofs.lemmas.List.{take_at, take-append-le, take-append-drop, length-take-le}
@@ -24,7 +25,7 @@ use Rattle.cert_desk_bundle.specs.Series.{MayStand}
 use Rattle.cert_desk_bundle.specs.Faults.{whole_length, Says, rank, NoneBefore, IsFault}
 use Rattle.cert_desk_bundle.specs.Headers.{IsUnfinished, HasWhole, Awaits, IsContentAt, IsWanted, IsEarlyFault, fault_of}
 
--- Headers behind the octet of a SEQUENCE
+-- Part 1: headers after the tag of a SEQUENCE.
 
 pub head-sequence : (n : ℕ) → head_octets tags.Sequence n ≡ 0x30 ∷ length_octets n
 unfolding head_octets tag_octets
@@ -34,20 +35,23 @@ head_is : (v : List ℕ) → head_at (0x30 ∷ v) ≡ (length_at tags.Sequence v
 unfolding head_at tag_at universal_tag
 head_is v = refl
 
--- the header of so many octets
+-- The result of decoding the header of a SEQUENCE whose content has `n` bytes.
 abbrev pub header : ℕ → List ℕ → Result (Head × List ℕ) ErrorKind
 header n w = Ok (record { tag = tags.Sequence; len = n }, w)
 
+-- The header of a SEQUENCE is decoded, whatever follows it.
 pub at_header : (n : ℕ) (w : List ℕ) → n < 2 ^ 32 → head_at (head_octets tags.Sequence n ++ w) ≡ header n w
 at_header n w small = head_again tags.Sequence n w (omega arith) small
 
+-- If two such results are equal, so are the lengths.
 pub one_number : (n m : ℕ) (w x : List ℕ) → header n w ≡ header m x → n ≡ m
 one_number n m w x e = ap (λ (q : Head × List ℕ). q.0.len) (ok_is (record { tag = tags.Sequence; len = n }, w) (record { tag = tags.Sequence; len = m }, x) e)
 
+-- If two such results are equal, so are the remainders.
 pub one_content : (n m : ℕ) (w x : List ℕ) → header n w ≡ header m x → w ≡ x
 one_content n m w x e = ap (λ (q : Head × List ℕ). q.1) (ok_is (record { tag = tags.Sequence; len = n }, w) (record { tag = tags.Sequence; len = m }, x) e)
 
--- why no header is read
+-- Why no header is decoded from the bytes `v` after the tag.
 pub data Cause (v : List ℕ) (k : ErrorKind) : Type 0 where
   cut : k ≡ errors.Incomplete → length v < 5 → Cause v k
   indefinite : (w : List ℕ) → k ≡ errors.IndefiniteLength → v ≡ 0x80 ∷ w → Cause v k
@@ -63,7 +67,7 @@ fails : (b : Bool) (x : ℕ × List ℕ) (d k : ErrorKind) → cond b (Ok x) (Er
 fails true x d k e = absurd cc
 fails false x d k e = cc
 
--- octets of a length are those of the number of its digits
+-- The bytes of a length depend only on the number that its digits denote.
 of_number : (n : ℕ) (ds : List ℕ) → 0 < length ds → length_octets n ≡ (0x80 + length ds) ∷ ds → length_octets (number_from_digits 256 ds) ≡ (0x80 + length ds) ∷ ds
 of_number n ds some e =
     elim (cases_lt n 128) [
@@ -73,7 +77,7 @@ of_number n ds some e =
           ap (λ (l : List ℕ). length_octets (number_from_digits 256 l)) (sym is) ∙ ap length_octets (number_from_digits-digits 256 n (omega arith)) ∙ e
     ]
 
--- digits that are refused are those of no length
+-- Digits that the decoder rejects aren't those of any length.
 length_longer : (ds w : List ℕ) (k : ErrorKind) → 0 < length ds → length ds ≤ 4 → length_at tags.Sequence ((0x80 + length ds) ∷ (ds ++ w)) ≡ Err k
     → (n : ℕ) → length_octets n ≡ (0x80 + length ds) ∷ ds → ⊥
 length_longer ds w k some few e n is =
@@ -107,14 +111,14 @@ length_cause (n ∷ w) k e =
 pub cause : (v : List ℕ) (k : ErrorKind) → head_at (0x30 ∷ v) ≡ Err k → Cause v k
 cause v k e = length_cause v k (bind_err (length_at tags.Sequence v) (λ n. (record { tag = tags.Sequence; len = n.0 }, n.1)) k (sym (head_is v) ∙ e))
 
--- octets that begin with a header of so many octets, behind which so many stand
+-- Bytes that begin with the header of a content of n bytes. The header has `count` bytes.
 pub record Headed (rest : List ℕ) (count n : ℕ) : Type 0 where
   pub small : n < 2 ^ 32
   pub octets : rest ≡ head_octets tags.Sequence n ++ drop count rest
   pub count_is : count ≡ length (head_octets tags.Sequence n)
   pub read : head_at rest ≡ header n (drop count rest)
 
--- what was scanned behind that octet
+-- The header that the scan found after the tag.
 pub headed : (rest v : List ℕ) → rest ≡ 0x30 ∷ v → IsBytes rest → (x : Header × ℕ) → Scans rest (Ok (Some x)) → Headed rest x.1 x.0.length.value
 headed rest v first bytes x h =
     let read = bind_ok (length_at tags.Sequence v) (λ n. Ok (record { tag = tags.Sequence; len = n.0 }, n.1)) _ (sym (head_is v) ∙ ap head_at (sym first) ∙ h.0) in
@@ -128,7 +132,7 @@ headed rest v first bytes x h =
       read = is;
     }
 
--- What each kind says of the header
+-- Each kind of error, in terms of the result of decoding the header.
 
 abbrev pub Heads : Shape → ℕ → ℕ → FaultKind → Result (Head × List ℕ) ErrorKind → Type 0
 Heads s limit offset kinds.NoCertificate r = Unit {0}
@@ -152,7 +156,7 @@ heads s limit offset kinds.Malformed rest h =
     (h.0, h.1, h.2, ap head_at (h.4 ∙ append_assoc (head_octets tags.Sequence h.0) h.1 h.2) ∙ at_header h.0 (h.1 ++ h.2) h.3, h.5, h.6)
 heads s limit offset kinds.Truncated rest h = tt
 
--- no kind says anything of none
+-- Empty bytes have no header, so no kind applies to them.
 no_head : (n : ℕ) (w : List ℕ) → [] ≡ head_octets tags.Sequence n ++ w → ⊥
 no_head n w e = cc (e ∙ ap (λ (x : List ℕ). x ++ w) (head-sequence n))
 
@@ -178,11 +182,11 @@ module _ (s : Shape) (limit offset : ℕ) (rest v : List ℕ) (first : rest ≡ 
   not_other : Says s limit offset kinds.NoCertificate rest → ⊥
   not_other says = says.3 (sym (ap (λ (l : List ℕ). get_or l 0 0) (sym first ∙ says.2)))
 
-  -- where a header is read so, each kind says so
+  -- A kind that applies to the bytes applies to their header.
   against : (r : Result (Head × List ℕ) ErrorKind) → head_at rest ≡ r → (kind : FaultKind) → Says s limit offset kind rest → Heads s limit offset kind r
   against r e kind says = subst (λ x. Heads s limit offset kind x) e (heads s limit offset kind rest says)
 
-  -- no kind before one says anything where there is no header
+  -- No earlier kind applies if no header is decoded.
   pub fault_before : (k : ErrorKind) (kind : FaultKind) → head_at rest ≡ Err k → (k ≡ errors.IndefiniteLength → rank kind ≤ 2)
       → (k ≡ errors.Overlength → rank kind ≤ 3) → (k ≡ errors.Length tags.Sequence → rank kind ≤ 4) → NoneBefore s limit offset kind rest
   fault_before k kind e a b c kinds.NoCertificate h says = not_other says
@@ -193,7 +197,7 @@ module _ (s : Shape) (limit offset : ℕ) (rest v : List ℕ) (first : rest ≡ 
   fault_before k kind e a b c kinds.Malformed h says = let x = against (Err k) e kinds.Malformed says in absurd (cc (x.3))
   fault_before k kind e a b c kinds.Truncated h says = let r = rank-le kind in absurd (omega arith)
 
-  -- nor where there is one
+  -- No earlier kind applies if a header is decoded.
   pub header_before : (n : ℕ) (more : List ℕ) (kind : FaultKind) → head_at rest ≡ header n more → (5 < rank kind → (whole_length n ≤ limit) × (offset + whole_length n < 2 ^ 64))
       → (6 < rank kind → length more < n) → NoneBefore s limit offset kind rest
   header_before n more kind e fits short kinds.NoCertificate h says = not_other says
@@ -211,9 +215,9 @@ module _ (s : Shape) (limit offset : ℕ) (rest v : List ℕ) (first : rest ≡ 
       omega (arith, short h, ap length (one_content n x.0 more (x.1 ++ x.2) x.3), length-append x.1 x.2, x.4)
   header_before n more kind e fits short kinds.Truncated h says = let r = rank-le kind in absurd (omega arith)
 
--- Values
+-- Part 2: values.
 
--- octets that begin with a value's: its header, and what stands behind
+-- Bytes that begin with a value: its header, and the bytes after the header.
 pub record Begun (fields : Body) (rest : List ℕ) (c : Value (sequence fields)) (more : List ℕ) : Type 0 where
   pub body : List ℕ
   pub small : Fits body
@@ -250,7 +254,7 @@ begun fields rest c more valid e =
 pub whole_length-some : (n : ℕ) → 0 < whole_length n
 whole_length-some n = omega (arith, ap length (head-sequence n))
 
--- What stands at the front
+-- Cases: no bytes, an incomplete header, and an error of the header.
 
 module _ (fields : Body) (limit offset : ℕ) where
   pub unfinished_none : IsUnfinished (sequence fields) limit offset []
@@ -281,7 +285,7 @@ module _ (fields : Body) (limit offset : ℕ) where
       first = header_before (sequence fields) limit offset rest v first n more kinds.TooLarge (ap head_at octets ∙ at_header n more small) (λ h. absurd (omega arith)) (λ h. absurd (omega arith));
     }
 
-    -- the fault of a header
+    -- The kind of error of an input whose header has an error.
     pub fault_head : (k : ErrorKind) → head_at rest ≡ Err k → k ≢ errors.Incomplete → IsFault (sequence fields) limit offset (fault_of k) rest
     fault_head k e other = elim (cause v k (ap head_at (sym first) ∙ e)) [
       | cut is few ↦ absurd (other is)
@@ -306,7 +310,7 @@ module _ (fields : Body) (limit offset : ℕ) where
       none kinds.Malformed h says = absurd (omega arith)
       none kinds.Truncated h says = absurd (omega arith)
 
-  -- where a fault stands no value does
+  -- Bytes with an error don't begin with a value.
   pub fault_none : (kind : FaultKind) (rest : List ℕ) → kind ≢ kinds.Truncated → Says (sequence fields) limit offset kind rest
       → (c : Value (sequence fields)) (more : List ℕ) → MayStand (sequence fields) limit c → offset + length (octets_of (sequence fields) c) < 2 ^ 64 → rest ≡ octets_of (sequence fields) c ++ more → ⊥
   fault_none kind rest ne says c more stands fits e = against-value kind ne says (begun fields rest c more stands.valid e)
@@ -334,15 +338,15 @@ module _ (fields : Body) (limit offset : ℕ) where
           x.5 c stands.valid (b.octets ∙ ap (λ (m : ℕ). head_octets tags.Sequence m ++ b.body) n ∙ ap (λ (y : List ℕ). head_octets tags.Sequence x.0 ++ y) bodies.0)
       against-value kinds.Truncated ne says b = ne refl
 
--- What is waited for
+-- Part 3: how many bytes are needed next.
 
--- of two lists that are one with what follows, the shorter begins the other
+-- If two lists with their remainders are equal, the shorter list is a prefix of the longer one.
 pub front_of : (a b c d : List ℕ) → a ++ b ≡ c ++ d → length c ≤ length a → a ≡ c ++ drop (length c) a
 front_of a b c d e short =
     let front : take (length c) a ≡ c = sym (take-append-le (length c) a b short) ∙ ap (λ (x : List ℕ). take (length c) x) e ∙ take_at c d (length c) refl in
     sym (take-append-drop (length c) a) ∙ ap (λ (x : List ℕ). x ++ drop (length c) a) front
 
--- what is whole has a header
+-- A complete value has a header.
 pub whole_read : (limit offset : ℕ) (rest : List ℕ) (len : ℕ) → (w : HasWhole limit offset rest len) → head_at rest ≡ header w.number (w.body ++ w.more)
 whole_read limit offset rest len w = ap head_at (w.octets ∙ append_assoc (head_octets tags.Sequence w.number) w.body w.more) ∙ at_header w.number (w.body ++ w.more) w.small
 
@@ -361,7 +365,7 @@ module _ (limit offset : ℕ) (room : 6 ≤ limit) (below : offset < 2 ^ 64) whe
       none b (x ∷ more) h = absurd (omega arith)
 
   module _ (rest v : List ℕ) (first : rest ≡ 0x30 ∷ v) where
-    -- the rest of a header
+    -- The remainder of a header is needed.
     pub awaits_header : head_at rest ≡ Err errors.Incomplete → Awaits limit offset rest (length rest + 1)
     awaits_header e = record {
       short = omega arith;
@@ -390,7 +394,7 @@ module _ (limit offset : ℕ) (room : 6 ≤ limit) (below : offset < 2 ^ 64) whe
             let front = front_of rest more head (w.body ++ w.more) there (omega (arith, w.len_is)) in
             cc (e, ap head_at front, at_header w.number (drop (length head) rest) w.small)
 
-    -- the rest of a content
+    -- The remainder of a content is needed.
     pub awaits_content : (count n : ℕ) → Headed rest count n → length rest < whole_length n → whole_length n ≤ limit → offset + whole_length n < 2 ^ 64 → Awaits limit offset rest (whole_length n)
     awaits_content count n h short within fits = record {
       short = short;
@@ -407,7 +411,7 @@ module _ (limit offset : ℕ) (room : 6 ≤ limit) (below : offset < 2 ^ 64) whe
         read : (more : List ℕ) → head_at (rest ++ more) ≡ header n (drop count rest ++ more)
         read more = read_stays (record { tag = tags.Sequence; len = n }) (drop count rest) rest more h.read
 
-    -- all of it
+    -- The value is complete.
     pub has_whole : (count n : ℕ) → Headed rest count n → whole_length n ≤ length rest → whole_length n ≤ limit → offset + whole_length n < 2 ^ 64 → HasWhole limit offset rest (whole_length n)
     has_whole count n h long within fits =
         let more = drop count rest in
@@ -427,7 +431,7 @@ module _ (limit offset : ℕ) (room : 6 ≤ limit) (below : offset < 2 ^ 64) whe
 pub awaits_new : (limit offset : ℕ) → 6 ≤ limit → offset < 2 ^ 64 → (octets : List ℕ) (wanted : ℕ) → octets ≡ [] → wanted ≡ 1 → Awaits limit offset octets wanted
 awaits_new limit offset room below octets wanted none one = rw (none, one) (awaits_nothing limit offset room below)
 
--- fewer octets than are wanted, and more of them
+-- More bytes have arrived, but still fewer than are needed.
 pub awaits_more : (limit offset : ℕ) (rest more : List ℕ) (wanted : ℕ) → Awaits limit offset rest wanted → length (rest ++ more) < wanted → Awaits limit offset (rest ++ more) wanted
 awaits_more limit offset rest more wanted a short = record {
   short = short;
@@ -437,12 +441,12 @@ awaits_more limit offset rest more wanted a short = record {
   exact = λ after len w. a.exact (more ++ after) len (rw append_assoc at w);
 }
 
--- nothing begins them
+-- No value is complete.
 pub awaits_unfinished : (limit offset : ℕ) (rest : List ℕ) (wanted : ℕ) → Awaits limit offset rest wanted → (b : Body) → IsUnfinished (sequence b) limit offset rest
 awaits_unfinished limit offset rest wanted a b =
     subst (λ (x : List ℕ). IsUnfinished (sequence b) limit offset x) (append-nil rest) (a.unfinished b [] (omega (arith, a.short, length-append rest [])))
 
--- What the code learns
+-- Part 4: what the code learns from the first bytes.
 
 first_is : (rest : List ℕ) → 1 ≤ length rest → get_or rest 0 0 ≡ 0x30 → rest ≡ 0x30 ∷ drop 1 rest
 first_is [] l e = absurd (omega arith)
@@ -490,9 +494,9 @@ module _ (limit offset : ℕ) (rest : List ℕ) (some : 1 ≤ length rest) (firs
   pub wanted_cut : 6 ≤ limit → offset < 2 ^ 64 → Scans rest (Ok None) → IsWanted limit offset rest (length rest + 1)
   wanted_cut room below h = record { whole = λ long. absurd (omega arith); awaits = λ short. awaits_header limit offset room below rest (drop 1 rest) at_front h }
 
--- All of the octets
+-- Part 5: a value that is all of the bytes.
 
--- where the content begins of what was scanned, if that is all of them
+-- The offset of the content, if the scanned SEQUENCE is all of the bytes.
 pub content_at : (rest : List ℕ) → 1 ≤ length rest → get_or rest 0 0 ≡ 0x30 → IsBytes rest → (x : Header × ℕ) → Scans rest (Ok (Some x))
     → x.1 + x.0.length.value ≡ length rest → length rest < 2 ^ 32 → IsContentAt rest x.1
 content_at rest some first bytes x h all small =

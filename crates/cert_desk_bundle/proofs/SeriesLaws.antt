@@ -1,4 +1,5 @@
--- Octets begin with one list of values of a shape at most, up to where no further one comes; and a stream has one fault.
+-- Bytes begin with exactly one longest list of values of a shape, and an input has at most one
+-- error.
 use Rattle.std.proofs.Common.{◌≡◌, ℕ, ◌^◌, ◌<◌, List, [], ◌∷◌, ◌++◌, length, eqb, cond, refl, sym, ap, subst, ◌∙◌, arith, ◌⊎◌, inl, inr, append_assoc, append-nil, length-append}
 use Rattle.std.proofs.lemmas.Bool.{cases_lt}
 use Rattle.std.proofs.lemmas.Grind.{flat_map-append}
@@ -13,7 +14,7 @@ use Rattle.cert_desk_bundle.specs.Series.{IsUnambiguous, MayStand, Series, Serie
 use Rattle.cert_desk_bundle.specs.Faults.{rank, IsFault, SeriesFault}
 use Rattle.cert_desk_bundle.proofs.Scans.{says_some}
 
--- Each value of a list
+-- A property of each value of a list.
 
 pub each-more : {A : Type 0} (P : A → Type 0) (xs : List A) (x : A) → AllByRecursion P xs → P x → AllByRecursion P (xs ++ x ∷ [])
 each-more P [] x all p = (p, tt)
@@ -27,7 +28,7 @@ pub each-so : {A : Type 0} (P Q : A → Type 0) (xs : List A) → ((x : A) → P
 each-so P Q [] so all = tt
 each-so P Q (x ∷ xs) so all = (so x all.0, each-so P Q xs so all.1)
 
--- Encodings, one behind the other
+-- Concatenated encodings.
 
 pub encodings-append : (s : Shape) (vs ws : List (Value s)) → encodings s (vs ++ ws) ≡ encodings s vs ++ encodings s ws
 encodings-append s vs ws = flat_map-append (octets_of s) vs ws
@@ -36,24 +37,24 @@ pub encodings-more : (s : Shape) (vs : List (Value s)) (v : Value s) → encodin
 encodings-more s vs v = encodings-append s vs (v ∷ []) ∙ ap (λ (x : List ℕ). encodings s vs ++ x) (append-nil (octets_of s v))
 
 module _ (s : Shape) (u : IsUnambiguous s) where
-  -- an encoding isn't empty
+  -- An encoding isn't empty.
   pub value_some : (v : Value s) (more : List ℕ) → IsValid s v → [] ≡ octets_of s v ++ more → ⊥
   value_some v more valid e =
       let some = element_some s v u.element valid in
       let longer : [] ≡ some.0 ∷ (some.1 ++ more) = e ∙ ap (λ (x : List ℕ). x ++ more) some.2 in
       absurd cc
 
-  -- octets begin with one value
+  -- Bytes begin with at most one value.
   pub one_first : (v w : Value s) (r t : List ℕ) → IsValid s v → IsValid s w → octets_of s v ++ r ≡ octets_of s w ++ t → (v ≡ w) × (r ≡ t)
   one_first v w r t p q e = one_value s v w r t u.element u.apart p q e
 
-  -- one list goes on from the other, by what is left behind the other
+  -- One list continues the other, with the values after it.
   record GoesOn (vs ws : List (Value s)) (r t : List ℕ) : Type 0 where
     more : List (Value s)
     longer : ws ≡ vs ++ more
     left : r ≡ encodings s more ++ t
 
-  -- of two lists of values with which octets begin one goes on from the other
+  -- If bytes begin with two lists of values, one list continues the other.
   fronts : (vs ws : List (Value s)) (r t : List ℕ) → AllByRecursion (IsValid s) vs → AllByRecursion (IsValid s) ws
       → encodings s vs ++ r ≡ encodings s ws ++ t → GoesOn vs ws r t ⊎ GoesOn ws vs t r
   fronts [] ws r t p q e = inl (record { more = ws; longer = refl; left = e })
@@ -67,7 +68,8 @@ module _ (s : Shape) (u : IsUnambiguous s) where
         | inr g ↦ inr (record { more = g.more; longer = ap (λ (x : Value s). x ∷ vs) same.0 ∙ ap (λ (xs : List (Value s)). w ∷ xs) g.longer; left = g.left })
       ]
 
-  -- Lists of a kind, to which their fronts belong, and whose values have encodings: octets begin with one, where no longer one comes.
+  -- A kind of lists that contains each prefix of a list, and whose values have encodings. Bytes
+  -- begin with at most one list of this kind that no longer one continues.
   module _ (Q : List (Value s) → Type 0) (front : (vs ws : List (Value s)) → Q (vs ++ ws) → Q vs) (valid : (vs : List (Value s)) → Q vs → AllByRecursion (IsValid s) vs) where
     abbrev Longest : List (Value s) → List ℕ → Type 0
     Longest vs r = (v : Value s) (more : List ℕ) → Q (vs ++ v ∷ []) → r ≡ octets_of s v ++ more → ⊥
@@ -85,7 +87,7 @@ module _ (s : Shape) (u : IsUnambiguous s) where
           | inr g ↦ let same = ends ws vs g.more t r p other g.longer g.left in (sym same.0, sym same.1)
         ]
 
--- Series
+-- Series.
 
 module _ (s : Shape) (limit : ℕ) where
   pub Series-own : (vs : List (Value s)) (stream : List ℕ) → Series s limit vs stream → Series s limit vs (encodings s vs)
@@ -106,7 +108,7 @@ module _ (s : Shape) (limit : ℕ) where
   Series-valid vs h = each-so (MayStand s limit) (IsValid s) vs (λ v m. m.valid) h.each
 
   module _ (u : IsUnambiguous s) where
-    -- what a stream joins leaves nothing
+    -- A complete series leaves no bytes.
     pub Series-split : (vs : List (Value s)) (stream : List ℕ) → Series s limit vs stream → SeriesSplit s limit stream vs []
     Series-split vs stream h = record {
       front = Series-own vs stream h;
@@ -127,7 +129,7 @@ module _ (s : Shape) (limit : ℕ) where
         let none : IsFault s limit (length (encodings s vs)) kind [] = subst (λ (x : List ℕ). IsFault s limit (length (encodings s vs)) kind x) same.1 f.fault in
         says_some s limit (length (encodings s vs)) kind none.says
 
--- the kind of a rank
+-- The kind with this rank.
 kind_of : ℕ → FaultKind
 kind_of n =
     cond (eqb n 1) kinds.NoCertificate (cond (eqb n 2) kinds.Indefinite (cond (eqb n 3) kinds.LengthTooWide (cond (eqb n 4) kinds.LengthNotShortest (cond (eqb n 5) kinds.TooLarge (cond (eqb n 6) kinds.Malformed kinds.Truncated)))))

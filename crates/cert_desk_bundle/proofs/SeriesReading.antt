@@ -1,4 +1,4 @@
--- What is read of a series: values up to a rest that is unfinished or faulty.
+-- The result of reading a series: values, and a remainder that is incomplete or has an error.
 use Rattle.std.proofs.Common.{◌≡◌, ◌≢◌, ℕ, ◌+◌, ◌^◌, ◌<◌, List, [], ◌∷◌, ◌++◌, length, refl, ap, arith, length-append}
 use Rattle.x509_cert_certificates.specs.Der.Shapes.{Shape, Body, Value, octets_of, sequence}
 use Rattle.cert_desk_bundle.specs.declared.fault_kind.FaultKind.{FaultKind}
@@ -12,7 +12,7 @@ use Rattle.cert_desk_bundle.proofs.Scans.{unfinished_none, fault_none}
 use Rattle.cert_desk_bundle.proofs.SeriesLaws.{each-last, encodings-more}
 
 module _ (s : Shape) (limit : ℕ) (vs : List (Value s)) (rest stream : List ℕ) (front : Series s limit vs (encodings s vs)) (whole : stream ≡ encodings s vs ++ rest) where
-  -- no value begins an unfinished rest
+  -- An incomplete remainder doesn't begin with a value.
   pub reads_unfinished : IsUnfinished s limit (length (encodings s vs)) rest → ReadsSeries s limit standings.Open vs rest stream
   reads_unfinished u = (record { front = front; whole = whole; longest = λ v more k e. u.none v more (each-last (MayStand s limit) vs v k.each) e }, u.sound)
 
@@ -22,7 +22,7 @@ module _ (fields : Body) (limit : ℕ) where
       reads_unfinished (sequence fields) limit [] [] [] (record { each = tt; joins = refl; fits = omega arith }) refl (unfinished_none fields limit 0)
 
   module _ (vs : List (Value (sequence fields))) (rest : List ℕ) where
-    -- nor a faulty one
+    -- A remainder with an error doesn't begin with a value.
     pub fault-longest : (kind : FaultKind) → kind ≢ kinds.Truncated → IsFault (sequence fields) limit (length (encodings (sequence fields) vs)) kind rest
         → (v : Value (sequence fields)) (more : List ℕ) → Series (sequence fields) limit (vs ++ v ∷ []) (encodings (sequence fields) (vs ++ v ∷ [])) → rest ≡ octets_of (sequence fields) v ++ more → ⊥
     fault-longest kind ne f v more k e =

@@ -1,4 +1,4 @@
--- A whole value behind a SEQUENCE tag, at the front of a rest.
+-- Laws about a complete SEQUENCE at the beginning of bytes.
 use Rattle.std.proofs.Common.{◌≡◌, ℕ, List, ◌∷◌, ◌++◌, length, take, sym, ap, ◌∙◌, arith, append_assoc, length-append}
 use Rattle.std.proofs.lemmas.List.{take_at}
 use Rattle.x509_cert_certificates.specs.Der.TagTypes.Tag.TheVariants as tags
@@ -19,7 +19,7 @@ module _ (fields : Body) (limit offset : ℕ) (rest : List ℕ) (len : ℕ) (w :
   pub whole-take : take len rest ≡ head_octets tags.Sequence w.number ++ w.body
   whole-take = ap (λ (x : List ℕ). take len x) w.octets ∙ take_at (head_octets tags.Sequence w.number ++ w.body) w.more len whole-length
 
-  -- octets that no value has
+  -- A SEQUENCE that isn't the encoding of a value is malformed.
   pub whole_malformed : ((c : Value (sequence fields)) → Spells (sequence fields) c (take len rest) → ⊥) → IsFault (sequence fields) limit offset kinds.Malformed rest
   whole_malformed none = record {
     says = (w.number, w.body, w.more, w.small, w.octets, w.content, λ c valid e. none c (record { valid = valid; octets = whole-take ∙ sym e }));

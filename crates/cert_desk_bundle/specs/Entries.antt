@@ -1,4 +1,4 @@
--- What a bundle lends of a certificate.
+-- The entries of a bundle: references to its certificates.
 use Rattle.std.specs.Prelude.{◌≡◌, ℕ, List, Some, slice_get}
 use Rattle.x509_cert_certificates.specs.Der.Shapes.{octets_of, IsValid}
 use Rattle.x509_cert_certificates.specs.Certificates.{PlainCertificate, certificate_octets}
@@ -7,7 +7,8 @@ use Rattle.x509_cert_certificates.specs.Views.{certificate_plain}
 use Rattle.cert_desk_bundle.specs.declared.entry.Entry.{Entry}
 use Rattle.cert_desk_bundle.specs.Chains.{offset_at}
 
--- the certificate at a place, its octets, those of its signed part, and where it begins
+-- The entry at an index: the certificate, its bytes, the bytes of its TBSCertificate, and its
+-- offset.
 pub record IsEntry (bound : ℕ) (cs : List PlainCertificate) (place : ℕ) (e : Entry) : Type 0 where
   pub certificate : slice_get cs place ≡ Some (certificate_plain e.certificate.now)
   pub valid : IsValid (raw_certificate bound) (certificate_plain e.certificate.now)

@@ -1,8 +1,9 @@
--- What is printed of a fault of a stream.
+-- The words that are printed for the errors of an input.
 use Rattle.std.specs.Prelude.{ℕ, List, codes}
 use Rattle.cert_desk_bundle.specs.declared.fault_kind.FaultKind.{FaultKind}
 use Rattle.cert_desk_bundle.specs.declared.fault_kind.FaultKind.TheVariants as kinds
 
+-- The word for each kind of error.
 abbrev pub kind_name : FaultKind → List ℕ
 kind_name kinds.NoCertificate = codes "NoCertificate"
 kind_name kinds.Indefinite = codes "Indefinite"

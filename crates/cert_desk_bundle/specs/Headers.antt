@@ -1,4 +1,5 @@
--- What stands where a value behind a SEQUENCE tag should: too few octets, a fault, or all of it.
+-- The bytes where a value whose encoding is a SEQUENCE should begin: too few bytes, an error, or
+-- the complete value.
 use Rattle.std.specs.Prelude.{◌≡◌, ◌≢◌, ℕ, ◌+◌, ◌≤◌, ◌<◌, ◌^◌, List, ◌++◌, length, drop}
 use Rattle.x509_cert_certificates.specs.Der.ErrorTypes.ErrorKind.{ErrorKind}
 use Rattle.x509_cert_certificates.specs.Der.ErrorTypes.ErrorKind.TheVariants as errors
@@ -10,12 +11,12 @@ use Rattle.cert_desk_bundle.specs.declared.fault_kind.FaultKind.TheVariants as k
 use Rattle.cert_desk_bundle.specs.Series.{MayStand}
 use Rattle.cert_desk_bundle.specs.Faults.{whole_length, IsFault, NoneBefore}
 
--- no value begins these octets that could stand here, and no kind of fault is true of them
+-- These bytes don't begin with a value that may be here, and no kind of error applies to them yet.
 pub record IsUnfinished (s : Shape) (limit offset : ℕ) (rest : List ℕ) : Type 0 where
   pub sound : NoneBefore s limit offset kinds.Truncated rest
   pub none : (v : Value s) (more : List ℕ) → MayStand s limit v → rest ≡ octets_of s v ++ more → ⊥
 
--- these octets begin with a SEQUENCE of so many octets that may stand here
+-- These bytes begin with a SEQUENCE of `len` bytes that may be here.
 pub record HasWhole (limit offset : ℕ) (rest : List ℕ) (len : ℕ) : Type 0 where
   pub number : ℕ
   pub body : List ℕ
@@ -27,8 +28,9 @@ pub record HasWhole (limit offset : ℕ) (rest : List ℕ) (len : ℕ) : Type 0 
   pub within : whole_length number ≤ limit
   pub fits : offset + whole_length number < 2 ^ 64
 
--- More can be said where so many octets are there: while fewer are, nothing begins them, and what
--- is whole then has no fewer.
+-- More can be decided once `wanted` bytes have arrived. As long as fewer have arrived, they don't
+-- begin with a value, and no error applies to them. A complete SEQUENCE that begins with these
+-- bytes has at least `wanted` bytes.
 pub record Awaits (limit offset : ℕ) (rest : List ℕ) (wanted : ℕ) : Type 0 where
   pub short : length rest < wanted
   pub within : wanted ≤ limit
@@ -37,25 +39,25 @@ pub record Awaits (limit offset : ℕ) (rest : List ℕ) (wanted : ℕ) : Type 0
       → IsUnfinished (sequence b) limit offset (rest ++ more)
   pub exact : (more : List ℕ) (len : ℕ) → HasWhole limit offset (rest ++ more) len → wanted ≤ len
 
--- these octets are a SEQUENCE whose content begins there
+-- All of these bytes are one SEQUENCE, whose content begins at this offset.
 pub record IsContentAt (octets : List ℕ) (start : ℕ) : Type 0 where
   pub fits : Fits octets
   pub whole : octets
       ≡ head_octets tags.Sequence (length (drop start octets)) ++ drop start octets
   pub start_is : start ≡ length (head_octets tags.Sequence (length (drop start octets)))
 
--- so many octets have to be there: where they are, all of it is there
+-- The number of bytes that are needed next. If they have arrived, they are a complete SEQUENCE.
 pub record IsWanted (limit offset : ℕ) (rest : List ℕ) (wanted : ℕ) : Type 0 where
   pub whole : wanted ≤ length rest → HasWhole limit offset rest wanted
   pub awaits : length rest < wanted → Awaits limit offset rest wanted
 
--- a fault that stands before the content is looked at
+-- An error that the header alone shows.
 pub record IsEarlyFault (limit offset : ℕ) (rest : List ℕ) (kind : FaultKind) : Type 0 where
   pub not_malformed : kind ≢ kinds.Malformed
   pub not_truncated : kind ≢ kinds.Truncated
   pub fault : (b : Body) → IsFault (sequence b) limit offset kind rest
 
--- what a fault of the header is to a stream
+-- The kind of error of an input whose header has an error of this kind.
 abbrev pub fault_of : ErrorKind → FaultKind
 fault_of errors.IndefiniteLength = kinds.Indefinite
 fault_of errors.Overlength = kinds.LengthTooWide

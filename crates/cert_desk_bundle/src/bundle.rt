@@ -1,4 +1,4 @@
-//! A stream of certificates, read as it comes.
+//! Reading a certificate chain in pieces.
 ghost use Rattle.std.specs.Prelude.{◌≡◌, ◌≢◌, ℕ, ◌+◌, ◌<◌, ◌≤◌, ◌^◌, ◌==◌, ◌↔◌, List, [], ◌++◌};
 ghost use Rattle.std.specs.Prelude.{length, IsTrue, IsSome, IfSome, IfOk, IfErr, OnOk, OnErr};
 ghost use Rattle.x509_cert_certificates.specs.Oid.Bound.{Bound};
@@ -20,19 +20,24 @@ use cert_desk_io::Input;
 use std::alloc::Global;
 use std::marker::Model;
 
-/// A stream: the concatenated encodings of certificates (RFC 5280 4.1), which comes in pieces.
+/// A certificate chain in DER (RFC 5280 4.1) that arrives in pieces: the concatenated encodings of
+/// its certificates.
 ///
-/// It is read as it comes, and what is read of it does not depend on how it was cut. Each
-/// certificate is kept with its own octets, and of the stream nothing else but the octets of one
-/// that isn't whole yet. Room is taken for octets that came (for twice as many at most, or for
-/// 256), however many a header announces.
+/// The result doesn't depend on how the input is cut. The bundle keeps each certificate with its
+/// bytes, and the bytes of a certificate that isn't complete yet, and nothing else.
+///
+/// Memory is only allocated for bytes that arrived (at most twice as many, or 256 bytes), not for a
+/// length that a header announces. No contract states this; `tests/rows/hostile.py` measures it.
 #[derive(Drop)]
 pub struct Bundle {
     alloc: Global,
+    // The largest length of one certificate.
     limit: u32,
+    // The certificates that were decoded, with their bytes.
     located: Vec<Located>,
-    // The octets of these.
+    // The total length of the certificates.
     end: u64,
+    // The bytes of a certificate that isn't complete yet.
     rest: Rest,
     standing: Standing,
 }
@@ -50,8 +55,8 @@ impl Model for Bundle {
 }
 
 impl Bundle {
-    /// A bundle that takes certificates of up to `limit` octets, which is at least 6, and has read
-    /// nothing.
+    /// Returns an empty bundle that accepts certificates of up to `limit` bytes, which must be at
+    /// least 6.
     pub fn new(alloc: Global, limit: u32) -> Bundle
         requires { 6 ≤ limit }
         ensures open { result.standing ≡ Standing.Open }
@@ -68,49 +73,50 @@ impl Bundle {
         }
     }
 
-    /// The number of certificates that were read.
+    /// Returns the number of certificates that were decoded.
     pub fn len(&self) -> usize
         ensures { result ≡ length self.now.certificates }
     {
         self.located.len()
     }
 
-    /// Whether no certificate was read.
+    /// Returns whether no certificate was decoded.
     pub fn is_empty(&self) -> bool
         ensures { result ≡ (length self.now.certificates == 0) }
     {
         self.located.is_empty()
     }
 
-    /// Whether the bundle takes no further piece: its stream is whole, or it failed.
+    /// Returns whether the bundle accepts no further piece, because the input has ended or the
+    /// bundle has failed.
     pub fn is_ended(&self) -> bool
         ensures { IsTrue result ↔ (self.now.standing ≢ Standing.Open) }
     {
         self.standing != Standing::Open
     }
 
-    /// How the bundle stands.
+    /// Returns the state of the bundle.
     pub fn standing(&self) -> Standing
         ensures { result ≡ self.now.standing }
     {
         self.standing
     }
 
-    /// The greatest number of octets that a certificate may have.
+    /// Returns the size limit of one certificate.
     pub fn limit(&self) -> u32
         ensures { result ≡ self.now.limit }
     {
         self.limit
     }
 
-    /// The number of octets of the certificates that were read.
+    /// Returns the total length of the certificates that were decoded.
     pub fn end_offset(&self) -> u64
         ensures { result ≡ length (joined Bound self.now.certificates) }
     {
         self.end
     }
 
-    /// The number of octets that are kept of a certificate that isn't whole yet.
+    /// Returns the number of bytes that are kept of an incomplete certificate.
     pub fn unfinished(&self) -> usize
         ensures rest { result ≡ length self.now.rest }
         ensures within { result ≤ self.now.limit }
@@ -119,27 +125,27 @@ impl Bundle {
         self.rest.octets.len()
     }
 
-    /// Takes the next piece of the stream, of any number of octets.
+    /// Reads the next piece of the input, of any length.
     ///
     /// # Errors
     ///
-    /// `Fault` where the stream has a fault: no certificate can stand after those that were read.
-    /// `OutOfMemory` where an allocation failed. With either the bundle has failed, the
-    /// certificates that were read stay, and no other octets are kept. `Failed` where it had ended
-    /// or failed before, and then nothing changes.
-    // Inlined, so that a piece of one octet that is kept costs no call.
+    /// - `Fault`: the input isn't a sequence of certificates. The bundle has failed, the earlier
+    ///   certificates stay, and no other bytes are kept.
+    /// - `OutOfMemory`: an allocation failed. The bundle has failed in the same way.
+    /// - `Failed`: the bundle has ended or failed before. Nothing changes.
+    // Inlined, so that a piece of one byte that is kept costs no call.
     #[inline(always)]
     pub fn feed(&mut self, piece: &[u8]) -> Result<(), BundleError>
         ensures limit { self.new.limit ≡ self.old.limit }
         ensures grows { Grows self.old self.new }
-        // A piece that is taken.
+        // If the piece is accepted.
         ensures was_open { OnOk result (self.old.standing ≡ Standing.Open) }
         ensures is_open { OnOk result (self.new.standing ≡ Standing.Open) }
         ensures reads { OnOk result (ReadsExtended Bound self.old self.new piece.now) }
         ensures kept { OnOk result (kept_octets Bound self.new ≡ kept_octets Bound self.old
             ++ piece.now) }
         ensures fits { OnOk result (length (kept_octets Bound self.new) < 2 ^ 64 + 5) }
-        // A piece that isn't.
+        // If the piece is rejected.
         ensures refused { IfErr result (RefusesPiece Bound self.old self.new piece.now) }
     {
         let Standing::Open = self.standing else {
@@ -154,21 +160,21 @@ impl Bundle {
         Err(self.error())
     }
 
-    /// Ends the stream. Takes no memory.
+    /// Ends the input. It doesn't allocate.
     ///
     /// # Errors
     ///
-    /// `Fault` of kind `Truncated` where the stream ends inside a certificate, whose octets are
-    /// dropped. `Failed` where the bundle had failed before, and then nothing changes.
+    /// - `Fault` of kind `Truncated`: the input ends inside a certificate, whose bytes are dropped.
+    /// - `Failed`: the bundle has failed before. Nothing changes.
     pub fn finish(&mut self) -> Result<(), BundleError>
         ensures limit { self.new.limit ≡ self.old.limit }
         ensures certificates { self.new.certificates ≡ self.old.certificates }
-        // A stream that is whole.
+        // If the input is complete.
         ensures sound { OnOk result (¬ HasFailed self.old.standing) }
         ensures ended { OnOk result (self.new.standing ≡ Standing.Ended) }
         ensures reads { OnOk result (ReadsUnchanged Bound self.old self.new) }
         ensures again { self.old.standing ≡ Standing.Ended → self.new ≡ self.old }
-        // A stream that isn't.
+        // If the input isn't complete.
         ensures refused { IfErr result (RefusesEnd Bound self.old self.new) }
     {
         match self.standing {
@@ -187,7 +193,7 @@ impl Bundle {
         }
     }
 
-    /// The certificate at a place, counted from 0, if so many were read.
+    /// Returns the certificate at an index, if there is one.
     pub fn get(&self, place: usize) -> Option<Entry<'_>>
         ensures within { IsSome result ↔ (place < length self.now.certificates) }
         ensures entry { IfSome result (λ e. IsEntry Bound self.now.certificates place e) }
@@ -204,24 +210,25 @@ impl Bundle {
         })
     }
 
-    /// Takes the octets of an input, to its end or to a fault, and ends the stream. No read is
-    /// repeated, and none follows the one that brings a fault, finds no memory, or fails.
+    /// Reads an input to its end or to an error in it, and ends the bundle. A failed read isn't
+    /// repeated. There is no further read after one that fails, after one that gives bytes with an
+    /// error, or after memory runs out.
     ///
     /// # Errors
     ///
-    /// `Device` where a read failed: the bundle has failed too, and the certificates that were read
-    /// stay. `Bundle` where the bundle refuses the stream or doesn't end; `Bundle(Failed)` where it
-    /// had ended or failed before, and then nothing is taken.
+    /// - `Device`: a read failed. The bundle has failed, too, and the earlier certificates stay.
+    /// - `Bundle`: the bundle rejects the input, or its end.
+    /// - `Bundle(Failed)`: the bundle has ended or failed before. Nothing is read.
     pub fn read_from<I: Input>(&mut self, input: &mut I) -> Result<(), ReadError>
         ensures limit { self.new.limit ≡ self.old.limit }
         ensures grows { Grows self.old self.new }
-        // An input that is read to its end.
+        // If the input is read to its end.
         ensures was_open { OnOk result (self.old.standing ≡ Standing.Open) }
         ensures ended { OnOk result (self.new.standing ≡ Standing.Ended) }
         ensures end { OnOk result (I.is_ended input.new) }
         ensures sound { OnOk result (I.failures input.new ≡ I.failures input.old) }
         ensures reads { OnOk result (Takes I.takes input.old input.new Bound self.old self.new) }
-        // An input that isn't.
+        // If the input isn't read to its end.
         ensures refused { IfErr result
             (RefusesInput I.takes I.is_ended I.failures input.old input.new Bound self.old
             self.new) }
@@ -243,7 +250,8 @@ impl Bundle {
         }
     }
 
-    // Takes all of a piece; or as much as can be taken, and no further one. Says which.
+    // Reads a piece until it is consumed or the bundle fails. Returns whether the bundle accepts
+    // all of it.
     #[inline(never)]
     fn take_all(&mut self, piece: &[u8]) -> bool
         requires open { self.old.standing ≡ Standing.Open }
@@ -267,8 +275,8 @@ impl Bundle {
         true
     }
 
-    // Takes octets from the front of a piece that has some, and says how many; or why none can be
-    // taken.
+    // Reads one or more bytes of a nonempty piece. Returns their number, or the state in which the
+    // bundle has to stop.
     fn take(&mut self, piece: &[u8]) -> Result<usize, Standing>
         requires some { 0 < length piece.now }
         requires open { self.old.standing ≡ Standing.Open }
@@ -298,7 +306,7 @@ impl Bundle {
         Ok(count)
     }
 
-    // Takes no further piece, for this reason, and keeps nothing of a certificate that isn't whole.
+    // Stops the bundle in this state and drops the bytes of an incomplete certificate.
     fn stop(&mut self, standing: Standing)
         ensures { self.new ≡ stopped self.old standing }
     {
@@ -306,7 +314,7 @@ impl Bundle {
         self.standing = standing;
     }
 
-    // How it is told that the bundle stands so.
+    // Returns the error for the state of the bundle.
     #[inline(always)]
     fn error(&self) -> BundleError
         ensures { result ≡ error_of Bound self.now self.now.standing }

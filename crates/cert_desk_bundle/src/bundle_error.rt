@@ -1,4 +1,4 @@
-//! Why a bundle takes no piece.
+//! The errors of a bundle.
 
 ghost use Rattle.std.specs.Prelude.{◌≡◌};
 ghost use Rattle.cert_desk_bundle.specs.declared.bundle_error.ReadError.TheVariants.{Bundle};
@@ -6,31 +6,32 @@ ghost use Rattle.cert_desk_bundle.specs.declared.bundle_error.ReadError.TheVaria
 use crate::fault_kind::FaultKind;
 use thiserror::Error;
 
-/// Why a bundle takes no piece, or doesn't end.
+/// Why a bundle rejects a piece, or the end of the input.
 #[derive(Clone, Copy, Debug, PartialEq, Eq, Error)]
 pub enum BundleError {
-    /// The stream has a fault: `place` certificates stand before it, and it begins at `offset`.
+    /// The input isn't a sequence of certificates: `place` certificates come before the error,
+    /// which begins at `offset`.
     #[error("{kind} at octet {offset}, after {place} certificates")]
     Fault {
         place: usize,
         offset: u64,
         kind: FaultKind,
     },
-    /// Out of memory: an allocation failed. The bundle has failed.
+    /// An allocation failed. The bundle has failed.
     #[error("out of memory")]
     OutOfMemory,
-    /// The bundle had failed or ended before.
+    /// The bundle has ended or failed before.
     #[error("the bundle failed or ended before")]
     Failed,
 }
 
-/// Why a stream wasn't read to its end.
+/// Why an input wasn't read to its end.
 #[derive(Clone, Copy, Debug, PartialEq, Eq, Error)]
 pub enum ReadError {
-    /// An I/O error of the input. The bundle has failed.
+    /// A read of the input failed. The bundle has failed, too.
     #[error("a device failed")]
     Device,
-    /// The bundle refused the stream.
+    /// The bundle rejected the input.
     #[error(transparent)]
     Bundle(BundleError),
 }

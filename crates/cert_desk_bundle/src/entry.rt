@@ -1,16 +1,16 @@
-//! A certificate of a stream.
+//! A certificate of a chain.
 
 use x509_cert_certificates::CertificateInner;
 use x509_cert_certificates::cert_parts::Raw;
 
-/// A certificate of a stream, where it stands. Nothing is copied.
+/// A reference to a certificate of a chain. Nothing is copied.
 #[derive(Clone, Copy, Debug)]
 pub struct Entry<'a> {
-    /// The number of octets of the stream before it.
+    /// The offset of the certificate in the input.
     pub offset: u64,
-    /// The octets.
+    /// The bytes of the certificate.
     pub octets: &'a [u8],
-    /// The octets of its TBSCertificate, the signed part, inside these.
+    /// The bytes of its TBSCertificate, a part of the bytes above.
     pub signed: &'a [u8],
     /// The certificate.
     pub certificate: &'a CertificateInner<Raw>,

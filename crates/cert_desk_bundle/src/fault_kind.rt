@@ -1,27 +1,27 @@
-//! What can be wrong with a stream.
+//! The kinds of errors of an input that should be a certificate chain.
 ghost use Rattle.std.specs.Prelude.{Some};
 ghost use Rattle.cert_desk_bundle.specs.FaultNames.{kind_name};
 
 use std::fmt;
 
-/// Why no certificate stands where the next one should begin. Where several are true, the first
-/// one is answered.
+/// Why no certificate begins where the next one should. If several kinds apply, the first of them
+/// is reported.
 #[derive(Clone, Copy, Debug, PartialEq, Eq)]
 pub enum FaultKind {
-    /// The first octet isn't that of a SEQUENCE.
+    /// The first byte isn't the tag of a SEQUENCE.
     NoCertificate,
     /// The length is indefinite.
     Indefinite,
-    /// The length has more than four octets.
+    /// The length has more than four bytes.
     LengthTooWide,
-    /// The header is whole, and its length octets aren't the fewest (X.690 10.1).
+    /// The header is complete, and its length doesn't have the fewest bytes (X.690 10.1).
     LengthNotShortest,
-    /// The header is whole, and header and content pass the limit, or would end past 2^64 - 1
-    /// octets.
+    /// The header is complete, and the certificate would exceed the size limit, or would end after
+    /// 2^64 - 1 bytes.
     TooLarge,
-    /// The certificate is whole, and isn't the DER encoding of one.
+    /// The bytes of the certificate are complete, and aren't the DER encoding of a certificate.
     Malformed,
-    /// The stream ends inside a certificate.
+    /// The input ends inside a certificate.
     Truncated,
 }
 

@@ -1,5 +1,7 @@
-//! A stream of certificates, read in pieces: which certificates begin it, and the first fault
-//! after them.
+//! Reads a certificate chain that arrives in pieces. The crate decodes the certificates with which
+//! an input begins, and reports the first error after them.
+//!
+//! The crate depends on `x509_cert_certificates` for certificates and on `cert_desk_io` for inputs.
 #![tactic(auto)]
 
 mod bundle;

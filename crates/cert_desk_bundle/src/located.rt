@@ -1,4 +1,5 @@
-// A certificate of a stream, with its own octets.
+//! A certificate of a bundle, with its own bytes.
+
 ghost use Rattle.std.specs.Prelude.{◌≡◌, ◌≢◌, ◌⊎◌, IfOk, IfErr};
 ghost use Rattle.cert_desk_bundle.specs.Locations.{IsPlacedAt, IsUnread};
 
@@ -8,26 +9,27 @@ use crate::standing::Standing;
 use std::alloc::Global;
 use x509_cert_certificates::assembling::certificate_of;
 use x509_cert_certificates::cert_parts::{AlgorithmIdentifier, Raw};
-use x509_cert_certificates::der::making::is_want_of_memory;
+use x509_cert_certificates::der::making::is_out_of_memory;
 use x509_cert_certificates::der::{Error, ErrorKind, FromDer};
 use x509_cert_certificates::types::BitString;
 use x509_cert_certificates::{CertificateInner, TbsCertificateInner};
 
-/// A certificate, its octets, and where it stands.
+/// A certificate, its bytes, and its offset in the input.
 #[derive(Drop)]
 pub struct Located {
     pub offset: u64,
     pub octets: Vec<u8>,
-    // The header's octets.
+    // The length of the header.
     pub header: usize,
-    // The octets of the signed part, which stands behind the header.
+    // The length of the TBSCertificate, which follows the header.
     pub signed: usize,
     pub certificate: CertificateInner<Raw>,
 }
 
 impl Located {
-    // The certificate that has these octets, which begin at this offset. Its fields are read one
-    // after the other and put together here, so that they are moved through fewer results.
+    // Decodes the certificate that has exactly these bytes and begins at this offset. The fields
+    // are decoded one after another and put together here, so that they are moved through fewer
+    // results.
     pub fn read(alloc: Global, offset: u64, octets: Vec<u8>) -> Result<Located, Standing>
         ensures read { IfOk result (IsPlacedAt offset octets.items) }
         ensures unread { IfErr result (IsUnread octets.items) }
@@ -60,12 +62,12 @@ impl Located {
     }
 }
 
-// How a bundle stands that has no certificate for this reason.
+// Returns the state of a bundle after this error of a certificate.
 fn standing_of(error: &Error) -> Standing
     ensures { (result ≡ Standing.NoMemory) ⊎ ((result ≡ Standing.Faulted FaultKind.Malformed)
         × (error.now.kind ≢ ErrorKind.OutOfMemory)) }
 {
-    if is_want_of_memory(error) {
+    if is_out_of_memory(error) {
         return Standing::NoMemory;
     }
     Standing::Faulted(FaultKind::Malformed)

@@ -6,10 +6,10 @@ ghost use Rattle.cert_desk_bundle.specs.FirstFaults.{first_certificate};
 use std::alloc::{AllocError, Global};
 use x509_cert_certificates::CertificateInner;
 use x509_cert_certificates::cert_parts::Raw;
-use x509_cert_certificates::der::making::is_want_of_memory;
+use x509_cert_certificates::der::making::is_out_of_memory;
 use x509_cert_certificates::der::{Error, FromDer};
 
-// An error whose place, if it has one, is one of so many octets, or their end.
+// Returns the error, without its position if that is after the end of `len` bytes.
 fn placed_within(error: Error, len: usize) -> Error
     ensures kind { result.kind ≡ error.kind }
     ensures within { IfSome result.position (λ place. place.value ≤ len) }
@@ -20,15 +20,16 @@ fn placed_within(error: Error, len: usize) -> Error
     }
 }
 
-/// Why no certificate begins these octets: the first error met in reading, or none where one does.
+/// Returns why the bytes don't begin with a certificate: the first error that decoding meets, or
+/// `None` if they do.
 ///
-/// It is meant for a stream that is `Malformed` at an offset: for its octets from there on. The
-/// kind is that of the first fault. The position is the octet where the reader found it, counted
-/// from the first one of these; of the contract it is one of them, or their end.
+/// Use it for the bytes from the offset on at which an input is `Malformed`. The kind is that of
+/// the first error. The position is the index of the byte at which the decoder found it; the
+/// contract only says that it is one of these bytes, or their end.
 ///
 /// # Errors
 ///
-/// Out of memory.
+/// Fails if memory runs out.
 pub fn first_fault(alloc: Global, octets: &[u8]) -> Result<Option<Error>, AllocError>
     ensures fault { IfOk result (λ told. IfSome told (λ e.
         first_certificate octets.now ≡ Err e.kind)) }
@@ -41,7 +42,7 @@ pub fn first_fault(alloc: Global, octets: &[u8]) -> Result<Option<Error>, AllocE
         Ok(_) => return Ok(None),
         Err(error) => error,
     };
-    if is_want_of_memory(&error) {
+    if is_out_of_memory(&error) {
         return Err(AllocError);
     }
     Ok(Some(placed_within(error, octets.len())))

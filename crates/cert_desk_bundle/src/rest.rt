@@ -1,4 +1,5 @@
-// The octets behind the last certificate of a stream.
+//! The bytes after the last complete certificate of an input.
+
 ghost use Rattle.std.specs.Prelude.{◌≡◌, ◌+◌, ◌<◌, ◌≤◌, [], ◌++◌, length, IsTrue, IfOk, IfErr};
 ghost use Rattle.std.specs.Prelude.{OnOk};
 ghost use Rattle.cert_desk_bundle.specs.Headers.{Awaits};
@@ -9,22 +10,22 @@ use crate::standing::Standing;
 use std::alloc::{AllocError, Global};
 use std::mem;
 
-// The most octets of a header: room for so many is taken at first.
+// The longest header of a certificate: the tag and a length of up to five bytes.
 const HEADER_ROOM: usize = 6;
 
-// Room for so many octets is taken next, as far as they are missing.
+// Up to this capacity, all missing bytes are reserved at once.
 const FIRST_ROOM: usize = 256;
 
-/// The octets of a certificate that isn't whole yet.
+/// The bytes of an incomplete certificate.
 #[derive(Drop)]
 pub struct Rest {
     pub octets: Vec<u8>,
-    // How many have to be there before more can be said: 1 where there are none.
+    // The length at which more can be decided, which is 1 if there are no bytes.
     pub wanted: usize,
 }
 
 impl Rest {
-    // No octets.
+    // Returns a value without bytes.
     pub fn new(alloc: Global) -> Rest
         ensures octets { result.octets.items ≡ [] }
         ensures wanted { result.wanted ≡ 1 }
@@ -35,8 +36,8 @@ impl Rest {
         }
     }
 
-    // Keeps a piece of one octet, where more are missing and there is room for it. Says whether the
-    // piece is kept.
+    // Keeps a piece of one byte if more bytes are missing and there is capacity for it. Returns
+    // whether it was kept.
     #[inline(always)]
     pub fn keep(&mut self, piece: &[u8]) -> bool
         ensures some { IsTrue result → 0 < length piece.now }
@@ -56,8 +57,9 @@ impl Rest {
         self.octets.push(*octet).is_ok()
     }
 
-    // Takes octets from the front of a piece that has some: how many, and those of a certificate
-    // that is whole then. Such octets are moved where some were here before, else copied.
+    // Consumes one or more bytes of a nonempty piece. Returns their number, and the bytes of the
+    // certificate that they complete, if they do. These bytes are moved if some of them were kept
+    // before, and copied otherwise.
     pub fn take(
         &mut self,
         alloc: Global,
@@ -89,7 +91,7 @@ impl Rest {
         }
     }
 
-    // Takes octets where none are kept: those of a certificate that is whole, or all of the piece.
+    // Consumes bytes when none are kept: those of a complete certificate, or the whole piece.
     fn begin(
         &mut self,
         alloc: Global,
@@ -123,8 +125,8 @@ impl Rest {
         Ok((wanted, Some(octets)))
     }
 
-    // Appends octets that are missing. Where there is no room for them some is taken for as many as
-    // are missing, but for no more than as many again as there are then, or the first room.
+    // Appends bytes that are missing. If there isn't enough capacity, reserves it for all that are
+    // missing, but at most for twice the new length, or for `FIRST_ROOM` bytes.
     fn append(&mut self, octets: &[u8]) -> Result<(), AllocError>
         requires missing { length self.old.octets.items + length octets.now ≤ self.old.wanted }
         ensures appended { OnOk result (self.new.octets.items ≡ self.old.octets.items
@@ -140,7 +142,8 @@ impl Rest {
         self.octets.extend_from_slice(octets)
     }
 
-    // Takes as many octets as are missing: those of a certificate, if it is whole then.
+    // Appends exactly the bytes that were missing, and returns the bytes of the certificate if it
+    // is complete now.
     fn complete(
         &mut self,
         alloc: Global,

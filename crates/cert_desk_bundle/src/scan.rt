@@ -1,4 +1,5 @@
-// Where a certificate ends, by the header at its front.
+//! Finds the end of a certificate by its header.
+
 ghost use Rattle.std.specs.Prelude.{◌≡◌, ◌≤◌, IfOk, IfErr, IfSome, IfNone};
 ghost use Rattle.x509_cert_certificates.specs.Der.Shapes.{Body, Value, Spells, sequence};
 ghost use Rattle.cert_desk_bundle.specs.Headers.{fault_of, IsContentAt, IsWanted, IsEarlyFault};
@@ -6,7 +7,7 @@ ghost use Rattle.cert_desk_bundle.specs.Headers.{fault_of, IsContentAt, IsWanted
 use crate::fault_kind::FaultKind;
 use x509_cert_certificates::der::{ErrorKind, Header};
 
-// What a fault of the header is to a stream.
+// Returns the kind of error of an input whose header has an error of this kind.
 fn fault_of(kind: ErrorKind) -> FaultKind
     ensures { result ≡ fault_of kind }
 {
@@ -17,8 +18,8 @@ fn fault_of(kind: ErrorKind) -> FaultKind
     }
 }
 
-// How many octets have to be there, of a certificate that begins these, at this offset of a stream:
-// all of it, or, while its header isn't whole, one more than there are.
+// Returns the length at which more can be decided about a certificate that begins with these bytes:
+// its own length, or one byte more than there are while its header is incomplete.
 pub fn wanted_len(octets: &[u8], offset: u64, limit: u32) -> Result<usize, FaultKind>
     requires { 6 ≤ limit }
     ensures wanted { IfOk result (IsWanted limit offset octets.now) }
@@ -42,7 +43,7 @@ pub fn wanted_len(octets: &[u8], offset: u64, limit: u32) -> Result<usize, Fault
     Ok(len as usize)
 }
 
-// Where the content begins of a SEQUENCE that all of these octets are, if they are one.
+// Returns the offset of the content, if all of these bytes are one SEQUENCE.
 pub fn content_start(octets: &[u8]) -> Option<usize>
     ensures content { IfSome result (IsContentAt octets.now) }
     ensures none { IfNone result ((b : Body) (v : Value (sequence b))

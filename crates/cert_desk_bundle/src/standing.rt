@@ -1,18 +1,18 @@
-//! How a bundle stands.
+//! The states of a bundle.
 
 use crate::fault_kind::FaultKind;
 
-/// How a bundle stands: it takes pieces, its stream is whole, or it failed for good.
+/// The state of a bundle.
 #[derive(Clone, Copy, Debug, PartialEq, Eq)]
 pub enum Standing {
-    /// The bundle takes pieces.
+    /// The bundle accepts pieces.
     Open,
-    /// The stream is whole.
+    /// The input is complete.
     Ended,
-    /// The stream has a fault.
+    /// The input has an error.
     Faulted(FaultKind),
-    /// Out of memory for the stream.
+    /// Memory ran out.
     NoMemory,
-    /// An I/O error: the device that the stream came from failed.
+    /// A read of the input failed.
     NoDevice,
 }

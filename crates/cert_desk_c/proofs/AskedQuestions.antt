@@ -1,4 +1,4 @@
--- What is told of the questions of a chain.
+-- The results of a call on the questions of a chain.
 use Rattle.std.proofs.Common.{◌≡◌, ◌≢◌, ◌≤◌, ◌<◌, ◌⊎◌, inl, inr, ℕ, List, [], length, refl, sym, ap, subst, ◌∙◌, arith}
 use Rattle.cert_tool_describe.specs.Oid.Bound.{Bound}
 use Rattle.cert_desk_listing.specs.DeskIo.declared.exit_status.ExitStatus.{ExitStatus}
@@ -21,7 +21,7 @@ use Rattle.cert_desk_answers.specs.Judged.{IsUnanswered}
 use Rattle.cert_desk_c.specs.Judged.{AreAnchors, AreQuestions, HasNoQuestions, IsNoChain}
 use Rattle.cert_desk_c.proofs.Verdicts.{one_file}
 
--- no octets are a chain of no certificates
+-- Empty input is the chain of no certificates.
 no_octets : (limit : ℕ) (octets : List ℕ) → octets ≡ [] → Chain Bound limit [] octets
 no_octets limit octets e = record { each = tt; joins = e; fits = omega (arith, ap length e) }
 
@@ -69,7 +69,7 @@ module _ (anchors chain : List ℕ) (limit : ℕ) where
     unasked status n e (inr memory) = inr (e ∙ ap code_of memory)
     unasked status n e (inl why) = inl (withheld Says Lacks room status n e (λ text h. not_both text h status why) (λ h. h.1) (λ h. h.1) why (λ other h. one_lack status other why h))
 
--- what was read of a chain
+-- The chain that a bundle has read.
 pub no_series : (b : Kept) (octets : List ℕ) → b.standing ≢ standings.Open → b.standing ≢ standings.Ended → Reads Bound b octets → (cs : List PlainCertificate) → Chain Bound b.limit cs octets → ⊥
 no_series b octets not_open not_ended reads cs chain = by_standing b.standing refl reads
   where
@@ -80,7 +80,7 @@ no_series b octets not_open not_ended reads cs chain = by_standing b.standing re
     by_standing standings.NoDevice e h = h
     by_standing (standings.Faulted kind) e h = fault_no_chain Bound b.limit b.certificates cs kind octets h chain
 
--- why there are none
+-- The reason why there are no questions.
 pub no_anchors : (anchors chain : List ℕ) (limit : ℕ) (status : ExitStatus) → IsUnanswered ((given : List PlainAnchor) → IsAnchorFile anchors given → ⊥) status → HasNoQuestions anchors chain limit status ⊎ (status ≡ statuses.Memory)
 no_anchors anchors chain limit status (inr memory) = inr memory
 no_anchors anchors chain limit status (inl none) = inl (subst (λ s. HasNoQuestions anchors chain limit s) (sym none.0) (λ h. none.1 h.1.0 h.1.1))

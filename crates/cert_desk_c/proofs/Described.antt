@@ -8,7 +8,7 @@ use Rattle.cert_desk_listing.specs.DeskIo.Statuses.{code_of}
 use Rattle.cert_desk_answers.specs.DeskRules.Returned.{IsExact, IsExactWithMemory, IsFaultyStatus, IsTextStatus}
 use Rattle.cert_desk_answers.proofs.DeskRules.Returning.{unspelled}
 
--- the text has `size` bytes
+-- The text has `size` bytes.
 abbrev Counted : ℕ → List ℕ → Type 0
 Counted size text = size ≡ length text
 

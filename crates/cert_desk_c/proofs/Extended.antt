@@ -1,4 +1,4 @@
--- What is told of the extension that is looked for.
+-- The results of a call that looks for an extension.
 use Rattle.std.proofs.Common.{◌≡◌, ◌⊎◌, inl, inr, ℕ, List, Option, is_some, true, false, refl, sym, ap, ◌∙◌}
 use Rattle.cert_tool_describe.specs.Oid.Bound.{Bound}
 use Rattle.cert_tool_describe.specs.Der.Shapes.{Spells}

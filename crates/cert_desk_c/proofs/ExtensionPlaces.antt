@@ -1,4 +1,4 @@
--- Where the contents of extensions stand in a certificate's octets.
+-- The positions of the contents of extensions in a certificate's bytes.
 use Rattle.std.proofs.Common.{◌≡◌, ℕ, ◌-◌, ◌<◌, ◌≤◌, Bool, true, false, cond, List, [], ◌∷◌, ◌++◌, length, take, drop, get_or, Option, Some, None, is_some, refl, sym, ap, subst, ◌∙◌, arith, append-nil}
 use Rattle.std.proofs.lemmas.List.{take_rest}
 use Rattle.std.specs.Option.{option_map_or}
@@ -19,7 +19,7 @@ use Rattle.cert_desk_c.specs.Places.{Enters, IsBehindKey, IsFound, IsRest, Passe
 use Rattle.cert_desk_c.specs.Values.{first_extension}
 use Rattle.cert_desk_c.proofs.PartPlaces.{valid_first, valid_behind, valid_nested, nested_is, first_field, rests, v_rest}
 
--- A value that may be absent
+-- A value that may be absent.
 
 optional_cases : (t : Tag) (k : Content) (b : Body) (o : Option (ContentValue k)) (u : BodyValue b) (w from to : List ℕ) (there : Bool) → there ≡ is_some o → IsBody (field (optional (tagged t k)) b) (o, u) → from ≡ body_octets (field (optional (tagged t k)) b) (o, u) ++ w
     → (there ≡ true → Passes from to) → (there ≡ false → to ≡ from) → to ≡ body_octets b u ++ w
@@ -32,7 +32,7 @@ pub optional_passed : (t : Tag) (k : Content) (b : Body) (v : BodyValue (field (
 unfolding body_octets IsBody
 optional_passed t k b v w from to there is valid e goes stays = optional_cases t k b v.0 v.1 w from to there is valid e goes stays
 
--- A marking, which is left out where it is false
+-- A flag, which isn't encoded if it is false.
 
 marked_cases : (b : Body) (m : Bool) (u : BodyValue b) (w from to : List ℕ) (critical : Bool) → critical ≡ m → IsBody (field false_by_default b) (m, u) → from ≡ body_octets (field false_by_default b) (m, u) ++ w
     → (critical ≡ true → Passes from to) → (critical ≡ false → to ≡ from) → to ≡ body_octets b u ++ w
@@ -45,7 +45,7 @@ marked_passed : (b : Body) (v : BodyValue (field false_by_default b)) (w from to
 unfolding body_octets IsBody
 marked_passed b v w from to critical is valid e goes stays = marked_cases b v.0 v.1 w from to critical is valid e goes stays
 
--- One extension
+-- One extension.
 
 abbrev valued : Body
 valued = field octet_string done
@@ -99,7 +99,7 @@ module _ (whole rest : List ℕ) (critical : Bool) (i : Inside rest critical) (e
   before_content =
       rests whole i.value i.content (rests whole i.marking i.value (rests whole i.fields i.marking (rests whole rest i.fields before i.fields_in.0) i.marking_behind.0) i.value_rest) i.content_in.0
 
--- Extensions, one behind the other
+-- Several extensions, one after another.
 
 many_first : (s : Shape) (x : Value s) (xs : List (Value s)) (w from : List ℕ) → from ≡ body_octets (many s) (x ∷ xs) ++ w → from ≡ body_octets (field s (many s)) (x, xs) ++ w
 unfolding body_octets
@@ -161,7 +161,7 @@ pub is_absent : (whole : List ℕ) (o : Option PlainExtension) → IsFound whole
 is_absent whole None is = refl
 is_absent whole (Some e) is = absurd is
 
--- The extensions of a certificate
+-- The extensions of a certificate.
 
 pub none_found : (whole arcs : List ℕ) (c : PlainCertificate) → tbs_extensions (tbs c) ≡ None → IsFound whole (first_extension arcs (extensions_of c)) None
 none_found whole arcs c none =

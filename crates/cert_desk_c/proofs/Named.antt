@@ -1,4 +1,4 @@
--- What is told of a text that spells a name.
+-- The results of a call on the text of a name.
 use Rattle.std.proofs.Common.{◌≡◌, ◌≢◌, ◌⊎◌, inl, inr, ℕ, List, [], Ok, Err, IsUtf8, Result, refl, sym, ap, subst, ◌∙◌}
 use Rattle.cert_tool_describe.specs.Oid.Bound.{Bound}
 use Rattle.cert_tool_describe.specs.Der.ErrorTypes.ErrorKind.{ErrorKind}
@@ -17,7 +17,7 @@ use Rattle.cert_tool_describe.proofs.CertNames.OneName.{one_spelled, spelled_sta
 use Rattle.cert_desk_c.specs.Values.{IsEncodedName, IsNoNameText, written_octets}
 
 module _ (text : List ℕ) where
-  -- what is written of the name of a text
+  -- The result of encoding the name of a text.
   abbrev Writes : PlainName → Result Out ErrorKind → Type 0
   Writes n r = write (name Bound) n (written_octets []) ≡ r
 
@@ -38,7 +38,7 @@ module _ (text : List ℕ) where
           let n = plain_list relative_plain a in
           let clash = one_written p.1.0 n (Ok (written_octets octets)) (Err e) p.1.1 (a, r, refl) p.1.2 w in absurd cc
 
-  -- why there is none
+  -- The reason why there is no encoding.
   pub lacks : (status : ExitStatus) (kind : ErrorKind) → (kind ≢ OutOfMemory → IsNoNameText text) → IsLack (kind ≢ OutOfMemory) status → IsLack (IsNoNameText text) status
   lacks status kind why (inl other) = inl (other.0, why other.1)
   lacks status kind why (inr memory) = inr memory

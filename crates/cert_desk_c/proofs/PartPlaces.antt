@@ -1,4 +1,4 @@
--- Where the parts of a certificate stand in its octets.
+-- The positions of the parts of a certificate in its bytes.
 use Rattle.std.proofs.Common.{◌≡◌, ◌≢◌, ℕ, ◌+◌, ◌-◌, ◌<◌, ◌≤◌, Bool, true, false, List, [], ◌∷◌, ◌++◌, length, take, drop, get_or, None, Ok, Err, refl, sym, ap, ◌∙◌, arith, append_assoc, append-nil, length-append, length-drop, take-append-drop}
 use Rattle.std.specs.Prelude.{bytes_eq}
 use Rattle.std.proofs.lemmas.List.{drop_at, take_rest}
@@ -21,7 +21,7 @@ use Rattle.cert_tool_describe.specs.CertParts.Grammar.{algorithm_identifier, alg
 use Rattle.cert_tool_describe.specs.CertCertificates.Certificates.{PlainCertificate, Tbs, raw_certificate, raw_certificate_fields, raw_tbs_certificate, raw_tbs_fields, from_validity, optional_fields, tbs, tbs_serial, issuer, subject, public_key}
 use Rattle.cert_desk_c.specs.Places.{IsRest, Enters, Passes, PassesVersion, numbered_fields, behind_key, IsBehindKey}
 
--- A header at the front
+-- A header at the beginning.
 
 abbrev pub HasHeader : List ℕ → ℕ → ℕ → Type 0
 HasHeader octets header content = (t : Tag) (n : ℕ) (w : List ℕ) → IsTag t → IsLength n → octets ≡ head_octets t n ++ w → (header ≡ length (head_octets t n)) × (content ≡ n)
@@ -41,7 +41,7 @@ module _ (octets w : List ℕ) (t : Tag) (n : ℕ) (tag : IsTag t) (fits : IsLen
   pub not_refused : (k : ErrorKind) → head_at octets ≡ Err k → ⊥
   not_refused k h = cc (h, there)
 
--- Fields
+-- Fields.
 
 pub valid_first : (s : Shape) (b : Body) (v : BodyValue (field s b)) → IsBody (field s b) v → IsValid s v.0
 unfolding IsBody
@@ -63,11 +63,11 @@ pub first_field : (s : Shape) (b : Body) (v : BodyValue (field s b)) (w octets :
 unfolding body_octets
 first_field s b v w octets e = e ∙ append_assoc (octets_of s v.0) (body_octets b v.1) w
 
--- what stands from one field up to the next
+-- The bytes from one field up to the next.
 pub between : (s : Shape) (b : Body) (v : BodyValue (field s b)) (w from to : List ℕ) → from ≡ body_octets (field s b) v ++ w → to ≡ body_octets b v.1 ++ w → from ≡ octets_of s v.0 ++ to
 between s b v w from to e f = first_field s b v w from e ∙ ap (λ (x : List ℕ). octets_of s v.0 ++ x) (sym f)
 
--- A value at the front
+-- A value at the beginning.
 
 pub value_at : (octets w : List ℕ) (t : Tag) (k : Content) (v : ContentValue k) → IsValid (tagged t k) v → octets ≡ octets_of (tagged t k) v ++ w
     → IsTag t × IsLength (length (contents k v)) × (octets ≡ head_octets t (length (contents k v)) ++ (contents k v ++ w))
@@ -82,7 +82,7 @@ value_split : (octets w : List ℕ) (t : Tag) (k : Content) (v : ContentValue k)
 unfolding octets_of tlv
 value_split octets w t k v e = e
 
--- what stands in others from a place on ends them
+-- The bytes from an index on are a suffix.
 pub is_rest : (octets : List ℕ) (n : ℕ) → IsRest octets (take (length octets - n) (drop n octets))
 is_rest octets n = (take n octets, sym (take-append-drop n octets) ∙ ap (λ (x : List ℕ). take n octets ++ x) (sym (take_rest octets n)))
 
@@ -118,7 +118,7 @@ module _ (octets : List ℕ) (header content : ℕ) (is : HasHeader octets heade
         take_rest octets (header + content) ∙ ap (λ (x : List ℕ). drop (header + content) x) split
         ∙ drop_at (head_octets t (length (contents k v.0)) ++ contents k v.0) (body_octets b v.1 ++ w) (header + content) size
 
--- A version
+-- A version.
 
 first_of_explicit : (v : Value version) (r : List ℕ) → get_or (octets_of (explicit 0 version) v ++ r) 0 0 ≡ 160
 unfolding octets_of tlv head_octets tag_octets
@@ -144,7 +144,7 @@ first_of_versioned t w =
     ap (λ (z : List ℕ). get_or z 0 0) (first_field (explicit 0 version) numbered_fields t w (body_octets (field (explicit 0 version) numbered_fields) t ++ w) refl)
     ∙ first_of_explicit t.0 (body_octets numbered_fields t.1 ++ w)
 
--- a signed part's fields begin with a version behind its tag, or with the serial number
+-- The fields of a TBSCertificate begin with a version, after its tag, or with the serial number.
 pub versioned : (t : Tbs) (w octets : List ℕ) → octets ≡ body_octets (raw_tbs_fields Bound) t ++ w
     → (get_or octets 0 0 ≡ 160 → octets ≡ body_octets (field (explicit 0 version) numbered_fields) t ++ w) × (get_or octets 0 0 ≢ 160 → octets ≡ body_octets numbered_fields t.1 ++ w)
 unfolding body_octets octets_of
@@ -155,7 +155,7 @@ pub valid_versioned : (t : Tbs) → IsBody (raw_tbs_fields Bound) t → IsBody (
 unfolding IsBody IsValid
 valid_versioned t valid = valid
 
--- nothing isn't the front of a signed part
+-- The fields of a TBSCertificate aren't empty.
 pub some_fields : (t : Tbs) (w octets : List ℕ) → octets ≡ body_octets (raw_tbs_fields Bound) t ++ w → length octets < 1 → ⊥
 some_fields t w [] e few =
     let both = versioned t w [] e in
@@ -163,12 +163,12 @@ some_fields t w [] e few =
     omega (arith, ap (λ (z : List ℕ). get_or z 0 0) none, first_of_numbered t w)
 some_fields t w (x ∷ more) e few = absurd (omega arith)
 
--- The parts, one behind the other
+-- The parts, one after another.
 
 pub rests : (a b c : List ℕ) → IsRest a b → IsRest b c → IsRest a c
 rests a b c p q = (p.0 ++ q.0, p.1 ∙ ap (λ (x : List ℕ). p.0 ++ x) q.1 ∙ sym (append_assoc p.0 q.0 c))
 
--- what stands behind each part, and inside some, from the octets of a certificate on
+-- The bytes after each part, and inside some, from the bytes of the certificate on.
 pub record Walk (octets : List ℕ) : Type 0 where
   pub signed : List ℕ
   pub signed_in : Enters octets signed
@@ -205,7 +205,7 @@ named_fields = field (name Bound) (field (public_key_info Bound) (optional_field
 abbrev key_fields : Body
 key_fields = field (public_key_info Bound) (optional_fields Bound)
 
--- The values of the fields
+-- The values of the fields.
 
 module _ (c : PlainCertificate) (valid : IsValid (raw_certificate Bound) c) where
   v_certificate : IsBody (raw_certificate_fields Bound) c
@@ -235,7 +235,7 @@ module _ (c : PlainCertificate) (valid : IsValid (raw_certificate Bound) c) wher
   pub v_rest : IsBody (optional_fields Bound) (behind_key (tbs c))
   v_rest = valid_behind (public_key_info Bound) (optional_fields Bound) (tbs c).1.1.1.1.1.1 v_key
 
--- Where they stand
+-- The positions of the fields.
 
 module _ (octets : List ℕ) (walk : Walk octets) (c : PlainCertificate) (s : Spells (raw_certificate Bound) c octets) where
   abbrev more : List ℕ
@@ -271,7 +271,7 @@ module _ (octets : List ℕ) (walk : Walk octets) (c : PlainCertificate) (s : Sp
   at_rest : walk.rest ≡ body_octets (optional_fields Bound) (behind_key (tbs c)) ++ more
   at_rest = walk.rest_behind.1 tags.Sequence (nested (public_key_fields Bound)) (optional_fields Bound) (tbs c).1.1.1.1.1.1 more (v_key c s.valid) at_key
 
-  -- each part up to what stands behind it
+  -- Each part ends where the bytes after it begin.
   pub signed_is : walk.signed ≡ octets_of (raw_tbs_certificate Bound) (tbs c) ++ walk.outer
   signed_is = between (raw_tbs_certificate Bound) outer_fields c [] walk.signed walk.outer at_signed at_outer
 
@@ -291,7 +291,7 @@ module _ (octets : List ℕ) (walk : Walk octets) (c : PlainCertificate) (s : Sp
   pub key_is : walk.key ≡ octets_of (public_key_info Bound) (public_key c) ++ walk.rest
   key_is = between (public_key_info Bound) (optional_fields Bound) (tbs c).1.1.1.1.1.1 more walk.key walk.rest at_key at_rest
 
-  -- what is before each part
+  -- The bytes from each part on are a suffix of the certificate's bytes.
   before_serial : IsRest octets walk.serial
   before_serial = rests octets walk.fields walk.serial (rests octets walk.signed walk.fields walk.signed_in.0 walk.fields_in.0) walk.serial_behind.0
 

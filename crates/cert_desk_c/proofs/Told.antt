@@ -1,4 +1,4 @@
--- What is told of octets that spell one value, or none.
+-- The results of a call on bytes that encode one value, or none.
 use Rattle.std.proofs.Common.{◌≡◌, ◌⊎◌, ℕ, ◌≤◌, ◌<◌, List, length, true, ap, sym, ◌∙◌, append-nil, ◌++◌, []}
 use Rattle.cert_tool_describe.specs.Oid.Bound.{Bound}
 use Rattle.cert_tool_describe.proofs.Oid.PrefixLaws.{same_octets}
@@ -21,7 +21,7 @@ module _ (s : Shape) (element : is_element s ≡ true) (apart : is_apart s ≡ t
       let e : octets_of s v ++ [] ≡ octets_of s w ++ [] = append-nil (octets_of s v) ∙ sym p.octets ∙ q.octets ∙ sym (append-nil (octets_of s w)) in
       (one_value s v w [] [] element apart p.valid q.valid e).0
 
-  -- a text of the value
+  -- A text of the value.
   module _ (print : Value s → List ℕ) (octets room : List ℕ) where
     abbrev pub Prints : List ℕ → Type 0
     Prints text = (v : Value s) × Spells s v octets × (text ≡ print v)

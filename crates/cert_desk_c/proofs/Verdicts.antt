@@ -1,4 +1,4 @@
--- What is told of a chain that is judged.
+-- The results of a call that validates a chain.
 use Rattle.std.proofs.Common.{◌≡◌, ◌≤◌, ◌<◌, ◌^◌, ◌⊎◌, inl, inr, ℕ, List, [], length, Ok, refl, sym, ap, subst, ◌∙◌, arith}
 use Rattle.cert_desk_listing.specs.DeskIo.declared.exit_status.ExitStatus.{ExitStatus}
 use Rattle.cert_desk_listing.specs.DeskIo.declared.exit_status.ExitStatus.TheVariants as statuses
@@ -26,7 +26,7 @@ use Rattle.cert_desk_c.specs.Judged.{IsVerdictStatus, Tells, UnderArguments, Und
 use Rattle.cert_desk_c.specs.declared.numbers.WdPlace.{WdPlace}
 use Rattle.cert_desk_c.proofs.Told.{one_identifier}
 
--- Octets are anchors of one file.
+-- Bytes are a file of at most one list of trust anchors.
 pub one_file : (anchors : List ℕ) (given other : List PlainAnchor) → IsAnchorFile anchors given → IsAnchorFile anchors other → given ≡ other
 one_file anchors given other p q = ok_is (List PlainAnchor) (ℕ × AnchorFault) given other (one_anchor_file anchors (Ok given) (Ok other) p q)
 
@@ -46,7 +46,7 @@ module _ (answers anchors chain : List ℕ) (moment : ℕ) (purpose : List ℕ) 
   right : (Says : Terms → Type 0) → Under Says → Under (λ t. Unit {0})
   right Says h = (h.0, (h.1.0, h.1.1, (h.1.2.0, h.1.2.1, h.1.2.2, h.1.2.3, tt)))
 
-  -- an argument is faulty
+  -- An argument is wrong.
   pub misasked : (n : ℕ) → n ≡ code_of statuses.Arguments → (Under (λ t. Unit {0}) → ⊥) → IsExact IsSo n
   misasked n e never = is_exact IsSo statuses.Arguments n e never only
     where
@@ -72,7 +72,7 @@ module _ (answers anchors chain : List ℕ) (moment : ℕ) (purpose : List ℕ) 
       let z = subst (λ (xs : List Question). IsVerdict (run_terms p.1.2.0 moment p.1.0 (only_yes_to xs)) limit chain w) listing u in
       one_verdict (run_terms p.1.2.0 moment p.1.0 (only_yes_to p.1.2.1)) limit chain v w p.1.2.4 z
 
-  -- a chain is judged
+  -- The chain is validated.
   pub judged : (verdict : Verdict) (n : ℕ) → n ≡ code_of (status_of verdict) → IsJudged verdict → IsExact IsSo n
   judged verdict n e so = is_exact IsSo (status_of verdict) n e (said verdict so) only
     where
@@ -97,12 +97,12 @@ module _ (answers anchors chain : List ℕ) (moment : ℕ) (purpose : List ℕ) 
       only statuses.Arguments h = absurd (h (right (λ t. IsVerdict t limit chain verdict) so))
       only _ h = absurd h
 
-  -- what is trusted is said to be so
+  -- A trusted chain is reported as trusted.
   pub trusted_is_told : (n : ℕ) → IsTold n → IsSo statuses.Done → (n ≡ code_of statuses.Done) ⊎ (n ≡ code_of statuses.Memory)
   trusted_is_told n (inl told) h = inl ((told.exact statuses.Done).1 h)
   trusted_is_told n (inr memory) h = inr memory
 
-  -- what is told of a refused chain are the place and the rule of its verdict
+  -- For a rejected chain, the index and the rule of its verdict are reported.
   pub refused_is_told : (verdict : Verdict) (old new : WdPlace) (n : ℕ) → n ≡ code_of (status_of verdict) → Tells verdict old new → IsJudged verdict → n ≡ code_of statuses.Refused → UnderTerms anchors answers moment purpose (λ t. (rule : Rule) × (new.number ≡ number rule) × Refused t limit chain new.place rule)
   refused_is_told verdicts.Trusted old new n e tells so refused = absurd (omega (arith, e, refused))
   refused_is_told (verdicts.StreamFault place offset kind) old new n e tells so refused = absurd (omega (arith, e, refused))

@@ -1,4 +1,4 @@
--- The numbers of kinds of faults.
+-- The numbers of the kinds of errors.
 use Rattle.std.specs.Prelude.{◌≡◌, ◌≢◌, ℕ, ◌⊎◌}
 use Rattle.cert_tool_describe.specs.Der.ErrorTypes.ErrorKind.{ErrorKind}
 use Rattle.cert_tool_describe.specs.Der.ErrorTypes.ErrorKind.TheVariants as kinds
@@ -6,6 +6,7 @@ use Rattle.cert_desk_listing.specs.DeskIo.declared.exit_status.ExitStatus.TheVar
 use Rattle.cert_desk_listing.specs.DeskIo.Statuses.{code_of}
 use Rattle.cert_desk_c.specs.declared.faults.WdFault.{WdFault}
 
+-- The number of each kind.
 abbrev pub fault_number : ErrorKind → ℕ
 fault_number kinds.DateTime = 1
 fault_number kinds.EncodingRules = 2
@@ -31,7 +32,8 @@ fault_number kinds.TrailingData = 21
 fault_number kinds.Utf8 = 22
 fault_number (kinds.Value tag) = 23
 
--- An error of this kind is reported by its number and a status, out of memory by a status alone.
+-- An error of this kind is reported by its number and a status. If memory ran out, only the status
+-- reports it.
 abbrev pub IsTold : ErrorKind → WdFault → WdFault → ℕ → Type 0
 IsTold kind old new status =
     ((kind ≡ kinds.OutOfMemory) × (status ≡ code_of statuses.Memory) × (new ≡ old))

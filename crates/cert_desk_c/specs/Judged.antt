@@ -1,4 +1,4 @@
--- What the calls that judge a chain report, and when.
+-- The results of the calls that validate a chain.
 use Rattle.std.specs.Prelude.{◌≡◌, ℕ, ◌≤◌, ◌<◌, ◌^◌, List, [], length, ⊤}
 use Rattle.cert_tool_describe.specs.Oid.Bound.{Bound}
 use Rattle.cert_tool_describe.specs.CertCertificates.Certificates.{PlainCertificate}
@@ -18,24 +18,23 @@ use Rattle.cert_desk_answers.specs.DeskChecking.QuestionLines.{chain_lines, line
 use Rattle.cert_desk_answers.specs.Judged.{UnderGiven}
 use Rattle.cert_desk_c.specs.declared.numbers.WdPlace.{WdPlace}
 
--- The purpose is the encoding of an identifier (X.690 8.19), the other bytes are anchors and
--- answers, and `Says` holds under the terms that these give.
+-- The purpose is the content of an OID (X.690 8.19), the other bytes are trust anchors and answers,
+-- and `Says` holds under the terms that they give.
 abbrev pub UnderTerms : List ℕ → List ℕ → ℕ → List ℕ → (Terms → Type 0) → Type 0
 UnderTerms anchors answers moment purpose Says =
     (arcs : List ℕ) × SpellsIdentifier purpose arcs × UnderGiven anchors answers moment arcs Says
 
--- The limit on the length of a certificate is 6 or more, and the anchors are shorter than 2^32
--- bytes.
+-- The size limit of a certificate is at least 6, and the trust anchors are shorter than 2^32 bytes.
 abbrev pub AreWithin : ℕ → List ℕ → Type 0
 AreWithin limit anchors = (6 ≤ limit) × (length anchors < 2 ^ 32)
 
 module _ (answers anchors chain : List ℕ) (moment : ℕ) (purpose : List ℕ) (limit : ℕ) where
-  -- The arguments are right, and `Says` holds under their terms.
+  -- The arguments are valid, and `Says` holds under their terms.
   abbrev pub UnderArguments : (Terms → Type 0) → Type 0
   UnderArguments Says = AreWithin limit anchors × UnderTerms anchors answers moment purpose Says
 
-  -- The status of a call that judges: the chain is trusted, refused, faulty, empty; the arguments
-  -- are faulty.
+  -- The status of the validation: the chain is trusted, is rejected, has an error, or is empty, or
+  -- the arguments are wrong.
   abbrev pub IsVerdictStatus : ExitStatus → Type 0
   IsVerdictStatus statuses.Done = UnderArguments (λ t. Trusted t limit chain)
   IsVerdictStatus statuses.Refused =
@@ -47,8 +46,8 @@ module _ (answers anchors chain : List ℕ) (moment : ℕ) (purpose : List ℕ) 
   IsVerdictStatus statuses.Arguments = UnderArguments (λ t. ⊤) → ⊥
   IsVerdictStatus _ = ⊥
 
--- What a verdict writes: the index of the certificate, the number of the rule or of the kind of
--- fault, and where a faulty certificate begins.
+-- The numbers that are stored for a verdict: the index of the certificate, the number of the rule
+-- or of the kind of error, and the offset of an error.
 abbrev pub Tells : Verdict → WdPlace → WdPlace → Type 0
 Tells verdicts.Trusted old new = new ≡ old
 Tells (verdicts.Refused at rule) old new =
@@ -57,8 +56,8 @@ Tells (verdicts.StreamFault at from kind) old new =
     (new.place ≡ at) × (new.offset ≡ from) × (new.number ≡ rank kind)
 Tells verdicts.Empty old new = new ≡ old
 
--- The bytes are anchors and a chain, and the text has a line for each question that the chain's
--- signatures may ask, in order.
+-- The bytes are trust anchors and a chain, and the text has a line for each question that the
+-- chain's signatures may ask, in order.
 abbrev pub AreQuestions : List ℕ → List ℕ → ℕ → List ℕ → Type 0
 AreQuestions anchors chain limit text =
     AreWithin limit anchors
@@ -66,19 +65,19 @@ AreQuestions anchors chain limit text =
     × IsAnchorFile anchors given × Chain Bound limit cs chain × (0 < length cs)
     × (text ≡ lines_octets (chain_lines given cs (joined Bound cs))))
 
--- Why there is no chain: the bytes are no series of certificates, or there are none.
+-- The reason why there is no chain: the bytes aren't a sequence of certificates, or there are none.
 abbrev pub IsNoChain : ℕ → List ℕ → ExitStatus → Type 0
 IsNoChain limit octets statuses.Faulty =
     (cs : List PlainCertificate) → Chain Bound limit cs octets → ⊥
 IsNoChain limit octets statuses.Empty = octets ≡ []
 IsNoChain limit octets _ = ⊥
 
--- The bytes are anchors.
+-- The bytes are trust anchors.
 abbrev pub AreAnchors : ℕ → List ℕ → Type 0
 AreAnchors limit anchors =
     AreWithin limit anchors × ((given : List PlainAnchor) × IsAnchorFile anchors given)
 
--- Why a chain has no questions.
+-- The reason why there are no questions.
 abbrev pub HasNoQuestions : List ℕ → List ℕ → ℕ → ExitStatus → Type 0
 HasNoQuestions anchors chain limit statuses.Arguments = AreAnchors limit anchors → ⊥
 HasNoQuestions anchors chain limit status =

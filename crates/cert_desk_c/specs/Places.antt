@@ -1,4 +1,4 @@
--- Where parts of a certificate stand in its octets.
+-- The positions of the parts of a certificate in its bytes.
 use Rattle.std.specs.Prelude.{◌≡◌, ℕ, List, ◌++◌, length, Bool, Option, Some, None, ⊤}
 use Rattle.cert_tool_describe.specs.Oid.Bound.{Bound}
 use Rattle.cert_tool_describe.specs.Der.TagTypes.Tag.{Tag}
@@ -20,14 +20,14 @@ use Rattle.cert_tool_describe.specs.CertCertificates.Certificates.{tbs_serial}
 use Rattle.cert_desk_c.specs.declared.places.WdSpan.{WdSpan}
 use Rattle.cert_desk_c.specs.declared.places.WdSpans.{WdSpans}
 
--- These octets stand at the span: so many others are before them, and so many they are.
+-- These bytes are at this position.
 abbrev pub StandsAt : List ℕ → WdSpan → List ℕ → Type 0
 StandsAt octets span these = (before : List ℕ) × (behind : List ℕ)
     × (octets ≡ before ++ (these ++ behind))
     × (span.start ≡ length before) × (span.size ≡ length these)
 
--- Parts of a certificate stand at these spans: the signed part, the serial number's content octets
--- (X.690 8.3), the names, and the public key with its algorithm (RFC 5280 4.1.2.7).
+-- The parts of a certificate are at these positions: the TBSCertificate, the content bytes of the
+-- serial number (X.690 8.3), the names, and the SubjectPublicKeyInfo (RFC 5280 4.1.2.7).
 pub record ArePlaced (octets : List ℕ) (c : PlainCertificate) (spans : WdSpans) : Type 0 where
   pub signed_part : StandsAt octets spans.signed_part
       (octets_of (raw_tbs_certificate Bound) (tbs c))
@@ -37,45 +37,45 @@ pub record ArePlaced (octets : List ℕ) (c : PlainCertificate) (spans : WdSpans
   pub public_key : StandsAt octets spans.public_key
       (octets_of (public_key_info Bound) (public_key c))
 
--- others end with these
+-- The bytes end with these.
 abbrev pub IsRest : List ℕ → List ℕ → Type 0
 IsRest octets rest = (before : List ℕ) × (octets ≡ before ++ rest)
 
--- What stands behind the header at the front.
+-- The bytes after the header with which the bytes begin.
 abbrev pub Enters : List ℕ → List ℕ → Type 0
 Enters octets rest = IsRest octets rest
     × ((t : Tag) (k : Content) (v : ContentValue k) (w : List ℕ) → IsValid (tagged t k) v
     → octets ≡ octets_of (tagged t k) v ++ w → rest ≡ contents k v ++ w)
 
--- What stands behind the value at the front, the first field of a body.
+-- The bytes after the value with which the bytes begin, which is the first field of a body.
 abbrev pub Passes : List ℕ → List ℕ → Type 0
 Passes octets rest = IsRest octets rest
     × ((t : Tag) (k : Content) (b : Body) (v : BodyValue (field (tagged t k) b)) (w : List ℕ)
     → IsBody (field (tagged t k) b) v → octets ≡ body_octets (field (tagged t k) b) v ++ w
     → rest ≡ body_octets b v.1 ++ w)
 
--- the fields of a signed part from the serial number on
+-- The fields of a TBSCertificate from the serial number on (RFC 5280 4.1.2.2).
 abbrev pub numbered_fields : Body
 numbered_fields = field (serial_number None) (field (algorithm_identifier Bound)
     (field (name Bound) (from_validity Bound)))
 
--- What stands behind the version at the front of a signed part's fields.
+-- The bytes after the version with which the fields of a TBSCertificate begin (RFC 5280 4.1.2.1).
 abbrev pub PassesVersion : List ℕ → List ℕ → Type 0
 PassesVersion octets rest = IsRest octets rest
     × ((t : Tbs) (w : List ℕ) → IsBody (raw_tbs_fields Bound) t
     → octets ≡ body_octets (raw_tbs_fields Bound) t ++ w
     → rest ≡ body_octets numbered_fields t.1 ++ w)
 
--- the fields of a signed part behind the public key
+-- The fields of a TBSCertificate after the public key (RFC 5280 4.1.2.8, 4.1.2.9).
 abbrev pub behind_key : Tbs → BodyValue (optional_fields 0)
 behind_key t = t.1.1.1.1.1.1.1
 
--- What stands behind the public key.
+-- The bytes after the public key.
 abbrev pub IsBehindKey : List ℕ → PlainCertificate → List ℕ → Type 0
 IsBehindKey octets c rest = IsRest octets rest
     × ((w : List ℕ) × (rest ≡ body_octets (optional_fields Bound) (behind_key (tbs c)) ++ w))
 
--- Where the content stands of an extension, if there is one, and whether it is critical.
+-- The position of the content of an extension, if there is one, and whether it is critical.
 abbrev pub IsFound : List ℕ → Option PlainExtension → Option (WdSpan × Bool) → Type 0
 IsFound octets None None = ⊤
 IsFound octets (Some e) (Some found) =

@@ -1,4 +1,4 @@
--- What bytes are the encoding of, and what the calls report about it.
+-- The values that bytes encode, and the results of the calls about them.
 use Rattle.std.specs.Prelude.{◌≡◌, ℕ, ◌⊎◌, List, [], ◌∷◌, if◌then◌else◌, Option, Some, None, Ok}
 use Rattle.std.specs.Prelude.{Err, IsNone, IsSome, IsUtf8, false}
 use Rattle.cert_tool_describe.specs.Oid.Bound.{Bound}
@@ -24,7 +24,7 @@ use Rattle.cert_desk_answers.specs.DeskRules.Identifiers.{IsNoIdentifier, IsSome
 use Rattle.cert_desk_answers.specs.DeskRules.Identifiers.{SpellsIdentifier}
 use Rattle.cert_desk_listing.specs.Parts.{PlainList, PlainRequest, raw_certificate_list}
 
--- The bytes are the encoding of no certificate, no CRL, no CSR, no name.
+-- The bytes aren't the encoding of a certificate (or of a CRL, a CSR, a name).
 abbrev pub IsNoCertificate : List ℕ → Type 0
 IsNoCertificate octets = (c : PlainCertificate) → Spells (raw_certificate Bound) c octets → ⊥
 
@@ -42,15 +42,15 @@ abbrev pub IsOfCertificate : List ℕ → (PlainCertificate → Type 0) → Type
 IsOfCertificate octets Is =
     (c : PlainCertificate) × Spells (raw_certificate Bound) c octets × Is c
 
--- The bytes are the encoding of a certificate, and the text is that of its subject's name, or of
--- its issuer's.
+-- The bytes are the encoding of a certificate, and the text is that of its subject's name (or of
+-- its issuer's).
 abbrev pub IsSubjectText : List ℕ → List ℕ → Type 0
 IsSubjectText octets text = IsOfCertificate octets (λ c. text ≡ name_text (subject c))
 
 abbrev pub IsIssuerText : List ℕ → List ℕ → Type 0
 IsIssuerText octets text = IsOfCertificate octets (λ c. text ≡ name_text (issuer c))
 
--- The first extension with this identifier.
+-- The first extension with this OID (RFC 5280 4.2).
 abbrev pub first_extension : List ℕ → List PlainExtension → Option PlainExtension
 first_extension arcs [] = None
 first_extension arcs (e ∷ left) = if owned_eq (extension_arcs e) arcs then Some e
@@ -64,40 +64,41 @@ IsNameText octets text = (n : PlainName) × Spells (name Bound) n octets × (tex
 abbrev pub written_octets : List ℕ → Out
 written_octets octets = record { written = octets; room = None; failed = false }
 
--- The text is UTF-8 and reads as a name (RFC 4514 3), whose encoding is these bytes.
+-- The text is in UTF-8 and is that of a name (RFC 4514 3), whose encoding these bytes are.
 abbrev pub IsEncodedName : List ℕ → List ℕ → Type 0
 IsEncodedName text octets =
     IsUtf8 text × ((n : PlainName) × SpellsName Bound text n
     × (write (name Bound) n (written_octets []) ≡ Ok (written_octets octets)))
 
--- The text isn't UTF-8, or doesn't read as a name that has an encoding.
+-- The text isn't UTF-8, or isn't that of a name that has an encoding.
 abbrev pub IsNoNameText : List ℕ → Type 0
 IsNoNameText text = (IsUtf8 text → ⊥)
     ⊎ ((kind : ErrorKind)
     × ReadsEncoding (name Bound) (plain_list relative_plain) (ReadsName Bound text) (Err kind))
 
--- The bytes are the encoding of an identifier, and this is its dotted text.
+-- The bytes are the content of an OID, and this is its dotted text.
 abbrev pub IsDottedTextOf : List ℕ → List ℕ → Type 0
 IsDottedTextOf octets text =
     (arcs : List ℕ) × SpellsIdentifier octets arcs × (text ≡ dotted arcs)
 
--- The text is UTF-8 and the dotted text of an identifier, whose encoding is these bytes.
+-- The text is in UTF-8 and is the dotted text of an OID, whose content these bytes are.
 abbrev pub IsIdentifierOf : List ℕ → List ℕ → Type 0
 IsIdentifierOf text octets =
     IsUtf8 text × ((arcs : List ℕ) × IsDottedText arcs text × SpellsIdentifier octets arcs)
 
+-- The text isn't the dotted text of an OID.
 abbrev pub IsNoDottedText : List ℕ → Type 0
 IsNoDottedText text = (octets : List ℕ) → IsIdentifierOf text octets → ⊥
 
--- The bytes are the encodings of a certificate and of an identifier, and `Is` holds for the
--- certificate's first extension with that identifier, or for `None` where it has none.
+-- The bytes are a certificate and the content of an OID, and `Is` holds for the certificate's first
+-- extension with that OID, or for `None` if it has none.
 abbrev pub IsOfExtension : List ℕ → List ℕ → (Option PlainExtension → Type 0) → Type 0
 IsOfExtension octets identifier Is =
     (arcs : List ℕ) × SpellsIdentifier identifier arcs
     × IsOfCertificate octets (λ c. Is (first_extension arcs (extensions_of c)))
 
--- The status of a call that looks for the extension: there is one; the bytes are no certificate;
--- the certificate has no such extension; the identifier is none.
+-- The status of a call that looks for the extension: there is one; the bytes aren't a certificate;
+-- the certificate has no such extension; or the OID is wrong.
 abbrev pub IsExtensionStatus : List ℕ → List ℕ → ExitStatus → Type 0
 IsExtensionStatus octets identifier statuses.Done = IsOfExtension octets identifier IsSome
 IsExtensionStatus octets identifier statuses.Faulty =

@@ -1,4 +1,4 @@
-//! Parts of certificates.
+//! The parts of a certificate.
 ghost use Rattle.std.specs.Prelude.{◌≡◌, ◌≢◌, take};
 ghost use Rattle.cert_tool_describe.specs.Types.Seconds.{unix_seconds};
 ghost use Rattle.cert_tool_describe.specs.CertCertificates.Certificates.{not_after, not_before};
@@ -24,16 +24,16 @@ use cert_tool_describe::cert_certificates::CertificateInner;
 use cert_tool_describe::cert_parts::Raw;
 use std::alloc::Global;
 
-/// The dates of a validity (RFC 5280 4.1.2.5).
+/// The validity period of a certificate (RFC 5280 4.1.2.5).
 #[repr(C)]
 pub struct WdValidity {
-    /// The first second, since 1970-01-01T00:00:00Z.
+    /// The first second of the period, since 1970-01-01T00:00:00Z.
     pub not_before: u64,
-    /// The last second.
+    /// The last second of the period, since 1970-01-01T00:00:00Z.
     pub not_after: u64,
 }
 
-/// Writes the text of the subject's name (RFC 4514) to `out`. Returns 0, 2 if the bytes are no
+/// Writes the text of the subject's name (RFC 4514) to `out`. Returns 0, 2 if the bytes aren't a
 /// certificate, 5 if the buffer is too small, or 6 if an allocation fails.
 #[unsafe(no_mangle)]
 pub extern "C" fn wd_subject(alloc: Global, octets: &[u8], out: &mut [u8], size: &mut usize) -> u32
@@ -58,7 +58,7 @@ pub extern "C" fn wd_subject(alloc: Global, octets: &[u8], out: &mut [u8], size:
     give(text.as_bytes(), out, size)
 }
 
-/// Writes the text of the issuer's name (RFC 4514) to `out`. Returns 0, 2 if the bytes are no
+/// Writes the text of the issuer's name (RFC 4514) to `out`. Returns 0, 2 if the bytes aren't a
 /// certificate, 5 if the buffer is too small, or 6 if an allocation fails.
 #[unsafe(no_mangle)]
 pub extern "C" fn wd_issuer(alloc: Global, octets: &[u8], out: &mut [u8], size: &mut usize) -> u32
@@ -83,7 +83,7 @@ pub extern "C" fn wd_issuer(alloc: Global, octets: &[u8], out: &mut [u8], size: 
     give(text.as_bytes(), out, size)
 }
 
-// Writes the dates of a certificate.
+// Stores the validity period of a certificate.
 fn tell_validity(certificate: &CertificateInner<Raw>, dates: &mut WdValidity)
     ensures not_before { dates.new.not_before
         ≡ unix_seconds (not_before (certificate_plain certificate.now)) }
@@ -95,8 +95,8 @@ fn tell_validity(certificate: &CertificateInner<Raw>, dates: &mut WdValidity)
     dates.not_after = validity.not_after.to_date_time().unix_seconds();
 }
 
-/// Writes the dates of the validity. Returns 0, 2 if the bytes are no certificate, or 6 if an
-/// allocation fails.
+/// Stores the validity period of a certificate in `dates`. Returns 0, 2 if the bytes aren't a
+/// certificate, or 6 if an allocation fails.
 #[unsafe(no_mangle)]
 pub extern "C" fn wd_dates(alloc: Global, octets: &[u8], dates: &mut WdValidity) -> u32
     ensures statuses { IsExactWithMemory (IsValueStatus (IsCertificate octets.now)
@@ -115,8 +115,8 @@ pub extern "C" fn wd_dates(alloc: Global, octets: &[u8], dates: &mut WdValidity)
     code(ExitStatus::Done)
 }
 
-/// Writes where parts of a certificate are in its bytes. Returns 0, 2 if the bytes are no
-/// certificate, or 6 if an allocation fails.
+/// Stores the positions of the parts of a certificate in `spans`. Returns 0, 2 if the bytes aren't
+/// a certificate, or 6 if an allocation fails.
 #[unsafe(no_mangle)]
 pub extern "C" fn wd_parts(alloc: Global, octets: &[u8], spans: &mut WdSpans) -> u32
     ensures statuses { IsExactWithMemory (IsValueStatus (IsCertificate octets.now)

@@ -1,4 +1,4 @@
-//! Descriptions.
+//! Descriptions of certificates, CRLs and CSRs.
 ghost use Rattle.std.specs.Prelude.{◌≡◌, ◌≢◌, ◌<◌, ◌⊎◌, length, IfSome, None};
 ghost use Rattle.cert_tool_describe.specs.Der.ErrorTypes.ErrorKind.TheVariants.{OutOfMemory};
 ghost use Rattle.cert_desk_listing.specs.DeskIo.declared.exit_status.ExitStatus.TheVariants.{Device};
@@ -43,8 +43,8 @@ fn give_lines(lines: Lines, fault: Option<ErrorKind>, out: &mut [u8], size: &mut
 }
 
 /// Writes the description of a certificate to `out`, as `cert_tool describe certificate` prints it,
-/// as lines or as JSON. Returns 0, 2 if the bytes are no certificate, 5 if the buffer is too small,
-/// or 6 if an allocation fails.
+/// as lines or as JSON. Returns 0, 2 if the bytes aren't a certificate, 5 if the buffer is too
+/// small, or 6 if an allocation fails.
 #[unsafe(no_mangle)]
 pub extern "C" fn wd_describe_certificate(
     alloc: Global,
@@ -66,8 +66,8 @@ pub extern "C" fn wd_describe_certificate(
     give_lines(lines, fault, out, size)
 }
 
-/// Writes the description of a CRL to `out`, as lines or as JSON. Returns 0, 2 if the bytes are no
-/// CRL, 5 if the buffer is too small, or 6 if an allocation fails.
+/// Writes the description of a CRL to `out`, as lines or as JSON. Returns 0, 2 if the bytes aren't
+/// a CRL, 5 if the buffer is too small, or 6 if an allocation fails.
 #[unsafe(no_mangle)]
 pub extern "C" fn wd_describe_list(
     alloc: Global,
@@ -89,8 +89,8 @@ pub extern "C" fn wd_describe_list(
     give_lines(lines, fault, out, size)
 }
 
-/// Writes the description of a CSR to `out`, as lines or as JSON. Returns 0, 2 if the bytes are no
-/// CSR, 5 if the buffer is too small, or 6 if an allocation fails.
+/// Writes the description of a CSR to `out`, as lines or as JSON. Returns 0, 2 if the bytes aren't
+/// a CSR, 5 if the buffer is too small, or 6 if an allocation fails.
 #[unsafe(no_mangle)]
 pub extern "C" fn wd_describe_request(
     alloc: Global,

@@ -1,4 +1,4 @@
-//! Extensions of certificates.
+//! The extensions of a certificate.
 ghost use Rattle.std.specs.Prelude.{◌≡◌, ◌≢◌, ◌++◌, ℕ, List, Some, None};
 ghost use Rattle.cert_tool_describe.specs.Oid.Bound.{Bound};
 ghost use Rattle.cert_tool_describe.specs.Der.Shapes.{Spells, many, octets_of, body_octets};
@@ -30,7 +30,7 @@ use cert_tool_describe::cert_parts::{Extension, Raw};
 use cert_tool_describe::oid::ObjectIdentifier;
 use std::alloc::Global;
 
-// Where the content of the extension stands with which a rest of octets begins.
+// Returns the position of the content of the extension with which `rest` begins.
 fn content_in(octets: &[u8], rest: &[u8], critical: bool) -> WdSpan
     ensures { (e : PlainExtension) (w : List ℕ) → IsRest octets.now rest.now
         → IsValid (extension Bound) e → rest.now ≡ octets_of (extension Bound) e ++ w
@@ -44,8 +44,8 @@ fn content_in(octets: &[u8], rest: &[u8], critical: bool) -> WdSpan
     part(octets, content, end)
 }
 
-// Where the content stands of the first extension of an identifier among those with which a rest of
-// octets begins, and whether it is critical; if there is one.
+// Finds the first extension with this OID among those with which `rest` begins. Returns the
+// position of its content, and whether it is critical.
 fn extension_in(
     octets: &[u8],
     identifier: &ObjectIdentifier<39>,
@@ -68,8 +68,8 @@ fn extension_in(
     extension_in(octets, identifier, left, behind(rest))
 }
 
-// Where the content stands of a certificate's first extension of an identifier in the octets that
-// spell it, and whether it is critical; if there is one.
+// Finds the first extension with this OID in a certificate. Returns the position of its content in
+// the certificate's bytes, and whether it is critical.
 fn extension_of(
     octets: &[u8],
     identifier: &ObjectIdentifier<39>,
@@ -92,10 +92,10 @@ fn extension_of(
     extension_in(octets, identifier, extensions.as_slice(), rest)
 }
 
-/// Writes where the content of a certificate's first extension with an identifier is in the
-/// certificate's bytes, and whether it is critical. The identifier is given as its content bytes.
-/// Returns 0, 2 if the bytes are no certificate, 3 if it has no such extension, 4 if the identifier
-/// is none of up to 39 bytes, or 6 if an allocation fails.
+/// Stores the position of the content of a certificate's first extension with an OID, and whether
+/// it is critical. The OID is given as its content bytes. Returns 0, 2 if the bytes aren't a
+/// certificate, 3 if it has no such extension, 4 if `identifier` isn't an OID of at most 39 bytes,
+/// or 6 if an allocation fails.
 #[unsafe(no_mangle)]
 pub extern "C" fn wd_extension(
     alloc: Global,

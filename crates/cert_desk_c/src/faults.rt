@@ -1,4 +1,4 @@
-//! Whether bytes are the encoding of a value, and the first error if they aren't.
+//! Checks whether bytes are the encoding of a value, and reports the first error if they aren't.
 ghost use Rattle.std.specs.Prelude.{◌≡◌, ◌≢◌, ◌⊎◌, Err};
 ghost use Rattle.cert_tool_describe.specs.Oid.Bound.{Bound};
 ghost use Rattle.cert_tool_describe.specs.Der.ErrorTypes.ErrorKind.{ErrorKind};
@@ -20,11 +20,11 @@ use cert_desk_listing::desk_io::ExitStatus;
 use cert_tool_describe::cert_certificates::CertificateInner;
 use cert_tool_describe::cert_lists::{CertReq, CertificateList};
 use cert_tool_describe::cert_parts::Raw;
-use cert_tool_describe::der::making::is_want_of_memory;
+use cert_tool_describe::der::making::is_out_of_memory;
 use cert_tool_describe::der::{Error, ErrorKind};
 use std::alloc::Global;
 
-/// The first error that decoding meets.
+/// The first error of decoding.
 #[repr(C)]
 pub struct WdFault {
     /// The number of its kind.
@@ -64,11 +64,11 @@ fn fault_number(kind: ErrorKind) -> u32
     }
 }
 
-// Writes an error, unless it is out of memory, and returns the status.
+// Stores an error, unless memory ran out, and returns the status.
 fn tell(error: Error, fault: &mut WdFault) -> u32
     ensures { IsTold error.kind fault.old fault.new result }
 {
-    if is_want_of_memory(&error) {
+    if is_out_of_memory(&error) {
         return code(ExitStatus::Memory);
     }
     fault.kind = fault_number(error.kind);

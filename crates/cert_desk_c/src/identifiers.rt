@@ -22,16 +22,16 @@ use cert_desk_listing::desk_io::ExitStatus;
 use cert_tool_describe::oid::ObjectIdentifier;
 use std::alloc::{AllocError, Global};
 
-// Returns the dotted text of an identifier.
+// Returns the dotted text of an OID.
 fn text_of(alloc: Global, identifier: &ObjectIdentifier<39>) -> Result<String, AllocError>
     ensures { IfOk result (λ text. string_bytes text ≡ dotted identifier.now) }
 {
     format!(in alloc; "{identifier}")
 }
 
-/// Writes the dotted text of an identifier, such as `1.2.840.113549`, to `out`. The identifier is
-/// given as its content bytes (X.690 8.19). Returns 0, 2 if they are no identifier of up to 39
-/// bytes, 5 if the buffer is too small, or 6 if an allocation fails.
+/// Writes the dotted text of an OID, such as `1.2.840.113549`, to `out`. The OID is given as its
+/// content bytes (X.690 8.19). Returns 0, 2 if they aren't an OID of at most 39 bytes, 5 if the
+/// buffer is too small, or 6 if an allocation fails.
 #[unsafe(no_mangle)]
 pub extern "C" fn wd_identifier_text(
     alloc: Global,
@@ -60,7 +60,7 @@ pub extern "C" fn wd_identifier_text(
     give(text.as_bytes(), out, size)
 }
 
-// Parses the dotted text of an identifier.
+// Parses the dotted text of an OID.
 fn identifier_of(text: &[u8]) -> Result<ObjectIdentifier<39>, ExitStatus>
     ensures read { IfOk result (λ arcs. IsIdentifierOf text.now (identifier_octets arcs)) }
     ensures status { IfErr result (λ status. status ≡ Faulty) }
@@ -76,8 +76,8 @@ fn identifier_of(text: &[u8]) -> Result<ObjectIdentifier<39>, ExitStatus>
     }
 }
 
-/// Writes the content bytes of the identifier with a dotted text to `out`. Returns 0, 2 if the text
-/// is that of no identifier of up to 39 bytes, or 5 if the buffer is too small.
+/// Writes the content bytes of the OID with a dotted text to `out`. Returns 0, 2 if the text isn't
+/// that of an OID of at most 39 bytes, or 5 if the buffer is too small.
 #[unsafe(no_mangle)]
 pub extern "C" fn wd_identifier_of_text(text: &[u8], out: &mut [u8], size: &mut usize) -> u32
     ensures statuses { IsExact (IsTextStatus (IsIdentifierOf text.now)

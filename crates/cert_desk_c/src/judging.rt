@@ -1,4 +1,4 @@
-//! Verdicts on certificate chains.
+//! Validates certificate chains.
 ghost use Rattle.std.specs.Prelude.{◌≡◌, ◌≢◌, ◌≤◌, ◌<◌, ◌^◌, ◌⊎◌, ℕ, List, [], length, Ok};
 ghost use Rattle.cert_tool_describe.specs.Oid.Bound.{Bound};
 ghost use Rattle.cert_tool_describe.specs.Oid.IdentifierOctets.{IsIdentifier, identifier_octets};
@@ -30,11 +30,20 @@ use cert_tool_describe::oid::ObjectIdentifier;
 use std::alloc::Global;
 
 /// Validates a certificate chain under trust anchors, at a validation time in seconds since
-/// 1970-01-01T00:00:00Z, for a key purpose (the content bytes of its identifier). Each certificate
-/// has at most `limit` bytes, and a signature is right exactly if the answers list it. Returns 0 if
-/// the chain is trusted, 1 if it is refused, 2 if it is faulty, 3 if it is empty, 4 if the anchors,
-/// the answers, the purpose or the limit are faulty, or 6 if an allocation fails. With 1 and 2
-/// `told` says where, and which rule or fault.
+/// 1970-01-01T00:00:00Z, for a key purpose (the content bytes of its OID). A signature is accepted
+/// exactly if the answers list it. The status is
+///
+/// - 0 if the chain is trusted;
+/// - 1 if it is rejected: `told` gets the index of the certificate, and the number of the rule that
+///   it breaks;
+/// - 2 if it isn't a sequence of certificates of at most `limit` bytes each: `told` gets the index,
+///   the offset, and the number of the kind of error;
+/// - 3 if it is empty;
+/// - 4 if the trust anchors can't be used or have 2^32 bytes or more, the answers can't be parsed,
+///   the purpose isn't an OID of at most 39 bytes, or the limit is below 6;
+/// - 6 if an allocation fails.
+///
+/// With any other status than 1 and 2, `told` is unchanged.
 #[unsafe(no_mangle)]
 pub extern "C" fn wd_verify(
     alloc: Global,
@@ -59,7 +68,7 @@ pub extern "C" fn wd_verify(
         (λ t. (kind : FaultKind) × (told.new.number ≡ rank kind)
         × IsFaulty t limit chain.now told.new.place told.new.offset kind) }
     ensures empty { result ≡ code_of Empty → chain.now ≡ [] }
-    // What is trusted is said to be so, unless memory runs out.
+    // A trusted chain is reported as trusted, unless memory runs out.
     ensures only { (given : List PlainAnchor) (listing : List Question) (arcs : List ℕ) → 6 ≤ limit
         → length anchors.now < 2 ^ 32
         → IsAnchorFile anchors.now given → file_says answers.now ≡ Ok listing

@@ -1,11 +1,19 @@
-//! The desk for C: octets in, a status and octets out. What a status says, the contract of each
-//! call says. Nothing is kept between calls, so threads may call at once.
+//! Certificates and chains for programs in C. The calls keep nothing between them, so several
+//! threads may call at the same time. The contract of each call says when it returns which status.
 //!
-//! A status is the number of an `ExitStatus`: 0 done or trusted, 1 refused, 2 the octets aren't
-//! what they should be, 3 there is none, 4 another argument is faulty, 5 the buffer is too small,
-//! 6 out of memory. A call that writes a text or octets writes them to the front of `out`, and
-//! their number to `size`; where the buffer is too small it says how much it wants in `size`, and
-//! leaves `out` as it was. With every other status it also leaves `out` as it was, and `size` is 0.
+//! A status is the number of an `ExitStatus`:
+//!
+//! - 0: the call succeeded, or the chain is trusted.
+//! - 1: the chain is rejected.
+//! - 2: the bytes aren't the encoding of a value.
+//! - 3: there is no such value, or the chain is empty.
+//! - 4: another argument is wrong.
+//! - 5: the buffer is too small.
+//! - 6: an allocation failed.
+//!
+//! A call that writes a text or bytes writes them to the beginning of `out`, and their length to
+//! `size`. If the buffer is too small, it writes the required length to `size`. With every other
+//! status, `size` is 0. Unless the status is 0, `out` doesn't change.
 #![tactic(auto)]
 
 mod certificates;

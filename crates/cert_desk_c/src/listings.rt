@@ -1,4 +1,4 @@
-//! Listings.
+//! Listings of certificates, CRLs and CSRs.
 ghost use Rattle.std.specs.Prelude.{◌≡◌, ◌≢◌, take, IfOk};
 ghost use Rattle.cert_desk_listing.specs.DeskIo.declared.exit_status.ExitStatus.TheVariants.{Done};
 ghost use Rattle.cert_desk_listing.specs.DeskIo.declared.exit_status.ExitStatus.TheVariants.{Faulty};
@@ -64,7 +64,8 @@ fn request_listing(alloc: Global, request: &CertReq) -> Result<Vec<u8>, AllocErr
 }
 
 /// Writes the listing of a certificate to `out`, as `cert_desk show certificate` prints it. Returns
-/// 0, 2 if the bytes are no certificate, 5 if the buffer is too small, or 6 if an allocation fails.
+/// 0, 2 if the bytes aren't a certificate, 5 if the buffer is too small, or 6 if an allocation
+/// fails.
 #[unsafe(no_mangle)]
 pub extern "C" fn wd_show_certificate(
     alloc: Global,

@@ -1,4 +1,4 @@
-//! Names.
+//! Names and their texts.
 ghost use Rattle.std.specs.Prelude.{◌≡◌, ◌≢◌, take, IfOk, IfErr, IsUtf8, string_bytes};
 ghost use Rattle.cert_tool_describe.specs.CertNames.PlainTexts.{name_text};
 ghost use Rattle.cert_tool_describe.specs.CertNames.Views.{name_plain};
@@ -26,7 +26,7 @@ pub(crate) fn text_of(alloc: Global, name: &Name) -> Result<String, AllocError>
     format!(in alloc; "{name}")
 }
 
-/// Writes the text of a name (RFC 4514) to `out`. Returns 0, 2 if the bytes are no name, 5 if the
+/// Writes the text of a name (RFC 4514) to `out`. Returns 0, 2 if the bytes aren't a name, 5 if the
 /// buffer is too small, or 6 if an allocation fails.
 #[unsafe(no_mangle)]
 pub extern "C" fn wd_name_text(
@@ -76,7 +76,7 @@ fn encoding_of(alloc: Global, text: &[u8]) -> Result<Vec<u8>, ExitStatus>
 }
 
 /// Writes the encoding of the name with a text (RFC 4514), in UTF-8, to `out`. Returns 0, 2 if the
-/// text is that of no name, 5 if the buffer is too small, or 6 if an allocation fails.
+/// text isn't a name, 5 if the buffer is too small, or 6 if an allocation fails.
 #[unsafe(no_mangle)]
 pub extern "C" fn wd_name_of_text(
     alloc: Global,

@@ -1,4 +1,4 @@
-//! What the calls report of a verdict, as numbers.
+//! A verdict as numbers.
 ghost use Rattle.std.specs.Prelude.{◌≡◌};
 ghost use Rattle.cert_desk_listing.specs.DeskIo.Statuses.{code_of};
 ghost use Rattle.cert_desk_answers.specs.DeskBundle.Faults.{rank};
@@ -9,18 +9,18 @@ use cert_desk_answers::desk_bundle::FaultKind;
 use cert_desk_answers::desk_checking::status_of;
 use cert_desk_answers::desk_rules::{Verdict, code, rule_number};
 
-/// Where a chain is refused, and by which rule, or where it is faulty, and the kind of fault.
+/// The position at which a chain is rejected or has an error, and the reason.
 #[repr(C)]
 pub struct WdPlace {
-    /// The index of the certificate, from 0.
+    /// The index of the certificate, counted from 0.
     pub place: u64,
-    /// Where it begins, if it is faulty.
+    /// The offset of the error.
     pub offset: u64,
-    /// The number of the rule, or of the kind of fault.
+    /// The number of the rule, or of the kind of error.
     pub number: u64,
 }
 
-// Returns the number of a kind of fault.
+// Returns the number of a kind of error.
 fn kind_number(kind: FaultKind) -> u64
     ensures { result ≡ rank kind }
 {
@@ -35,7 +35,8 @@ fn kind_number(kind: FaultKind) -> u64
     }
 }
 
-/// Writes where a chain is refused or faulty, and why, and returns the status.
+/// Stores the position at which a chain is rejected or has an error, and the reason. Returns the
+/// status.
 pub(crate) fn tell(verdict: Verdict, told: &mut WdPlace) -> u32
     ensures status { result ≡ code_of (status_of verdict) }
     ensures tells { Tells verdict told.old told.new }

@@ -1,4 +1,4 @@
-//! Where the parts of a certificate stand in its octets, by the headers before them.
+//! The positions of the parts of a certificate in its bytes, found by the headers before them.
 ghost use Rattle.std.specs.Prelude.{◌≡◌, ◌≤◌, ◌<◌, ◌^◌, ◌++◌, ℕ, List, length, true, false};
 ghost use Rattle.cert_tool_describe.specs.Oid.Bound.{Bound};
 ghost use Rattle.cert_tool_describe.specs.Der.TagTypes.Tag.{Tag};
@@ -13,33 +13,33 @@ ghost use Rattle.cert_desk_c.specs.Places.{IsRest, StandsAt};
 
 use cert_tool_describe::der::header_of;
 
-/// Where octets stand in those of a caller.
+/// The position of bytes within those of the caller.
 #[repr(C)]
 #[derive(Clone, Copy)]
 pub struct WdSpan {
-    /// How many octets are before them.
+    /// The offset of the first byte.
     pub start: usize,
-    /// How many they are.
+    /// The number of bytes.
     pub size: usize,
 }
 
-/// Where parts of a certificate stand in its octets (RFC 5280 4.1).
+/// The positions of the parts of a certificate in its bytes (RFC 5280 4.1).
 #[repr(C)]
 #[derive(Clone, Copy)]
 pub struct WdSpans {
-    /// The signed part, a TBSCertificate.
+    /// The TBSCertificate.
     pub signed_part: WdSpan,
-    /// The content octets of the serial number, the highest first, in two's complement.
+    /// The content bytes of the serial number, the most significant first, in two's complement.
     pub serial_number: WdSpan,
     /// The issuer's name.
     pub issuer: WdSpan,
     /// The subject's name.
     pub subject: WdSpan,
-    /// The public key with its algorithm, a SubjectPublicKeyInfo.
+    /// The SubjectPublicKeyInfo.
     pub public_key: WdSpan,
 }
 
-// How many octets the header at the front takes, and how many the content behind it.
+// Returns the length of the header with which the bytes begin, and the length of its content.
 fn lengths(octets: &[u8]) -> (usize, usize)
     ensures within { result.0 ≤ length octets.now }
     ensures small { result.1 < 2 ^ 32 }
@@ -53,7 +53,7 @@ fn lengths(octets: &[u8]) -> (usize, usize)
     }
 }
 
-/// What stands after the header at the front.
+/// Returns the bytes after the header with which these begin.
 pub(crate) fn inside(octets: &[u8]) -> &[u8]
     ensures { Enters octets.now result.now }
 {
@@ -61,7 +61,7 @@ pub(crate) fn inside(octets: &[u8]) -> &[u8]
     &octets[header..]
 }
 
-/// What stands after the value at the front.
+/// Returns the bytes after the value with which these begin.
 pub(crate) fn behind(octets: &[u8]) -> &[u8]
     ensures { Passes octets.now result.now }
 {
@@ -73,7 +73,7 @@ pub(crate) fn behind(octets: &[u8]) -> &[u8]
     &octets[all..]
 }
 
-/// What stands after a value at the front, where one is there.
+/// Returns the bytes after the value with which these begin, if `is_there`.
 pub(crate) fn behind_where(octets: &[u8], is_there: bool) -> &[u8]
     ensures rest { IsRest octets.now result.now }
     ensures there { is_there ≡ true → Passes octets.now result.now }
@@ -85,8 +85,8 @@ pub(crate) fn behind_where(octets: &[u8], is_there: bool) -> &[u8]
     octets
 }
 
-// What stands behind the version at the front, where it isn't the first one, which never stands
-// (RFC 5280 4.1.2.1, X.690 11.5).
+// Returns the bytes after the version with which these may begin. A version of v1 is the default
+// and isn't encoded (RFC 5280 4.1.2.1, X.690 11.5).
 fn behind_version(octets: &[u8]) -> &[u8]
     ensures { PassesVersion octets.now result.now }
 {
@@ -99,7 +99,7 @@ fn behind_version(octets: &[u8]) -> &[u8]
     octets
 }
 
-/// Where the octets stand between a remainder of others and a later remainder.
+/// Returns the position of the bytes between `from` and `to`, which are both suffixes of `octets`.
 pub(crate) fn part(octets: &[u8], from: &[u8], to: &[u8]) -> WdSpan
     ensures { (before these : List ℕ) → octets.now ≡ before ++ from.now
         → from.now ≡ these ++ to.now → StandsAt octets.now result these }
@@ -110,8 +110,8 @@ pub(crate) fn part(octets: &[u8], from: &[u8], to: &[u8]) -> WdSpan
     }
 }
 
-/// Where the parts of a certificate stand in its octets, and what stands after the last of
-/// them, its public key.
+/// Returns the positions of the parts of a certificate, and the bytes after the last of them, its
+/// public key.
 pub(crate) fn parts_in(octets: &[u8]) -> (WdSpans, &[u8])
     ensures parts { (c : PlainCertificate) → Spells (raw_certificate Bound) c octets.now
         → ArePlaced octets.now c result.0 }

@@ -16,7 +16,7 @@ use cert_desk_answers::{anchors_of, bundle_of};
 use cert_desk_listing::desk_io::ExitStatus;
 use std::alloc::Global;
 
-// Parses a chain of at least one certificate, or returns the status.
+// Reads a chain of at least one certificate, or returns the status.
 fn chain_of(alloc: Global, limit: u32, octets: &[u8]) -> Result<Bundle, ExitStatus>
     requires { 6 ≤ limit }
     ensures chain { IfOk result (λ b. Chain Bound limit b.certificates octets.now) }
@@ -57,10 +57,10 @@ fn questions_of(
     }
 }
 
-/// Writes the questions that the signatures of a chain may ask under trust anchors to `out`, one
-/// line each, as `cert_tool questions` prints them. Returns 0, 2 if the chain isn't a series of
-/// certificates of at most `limit` bytes each, 3 if it is empty, 4 if the anchors or the limit are
-/// faulty, 5 if the buffer is too small, or 6 if an allocation fails.
+/// Writes the questions that the signatures of a chain may ask under trust anchors to `out`, one on
+/// each line, as `cert_tool questions` prints them. Returns 0, 2 if the chain isn't a sequence of
+/// certificates of at most `limit` bytes each, 3 if it is empty, 4 if the trust anchors or the
+/// limit are wrong, 5 if the buffer is too small, or 6 if an allocation fails.
 #[unsafe(no_mangle)]
 pub extern "C" fn wd_questions(
     alloc: Global,

@@ -1,4 +1,4 @@
-//! Decoding of values.
+//! Decodes values.
 ghost use Rattle.std.specs.Prelude.{◌≢◌, IfOk, IfErr};
 ghost use Rattle.cert_tool_describe.specs.Oid.Bound.{Bound};
 ghost use Rattle.cert_tool_describe.specs.Der.ErrorTypes.ErrorKind.TheVariants.{OutOfMemory};
@@ -19,7 +19,7 @@ use cert_tool_describe::cert_certificates::CertificateInner;
 use cert_tool_describe::cert_lists::{CertReq, CertificateList};
 use cert_tool_describe::cert_names::Name;
 use cert_tool_describe::cert_parts::Raw;
-use cert_tool_describe::der::making::is_want_of_memory;
+use cert_tool_describe::der::making::is_out_of_memory;
 use cert_tool_describe::der::{Error, FromDer};
 use std::alloc::Global;
 
@@ -27,7 +27,7 @@ use std::alloc::Global;
 pub(crate) fn lack(error: &Error) -> ExitStatus
     ensures { IsLack (error.now.kind ≢ OutOfMemory) result }
 {
-    if is_want_of_memory(error) {
+    if is_out_of_memory(error) {
         return ExitStatus::Memory;
     }
     ExitStatus::Faulty

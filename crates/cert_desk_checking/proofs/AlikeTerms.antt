@@ -1,4 +1,5 @@
--- Terms under which a chain keeps the same rules: one verdict, and one number of questions.
+-- Terms under which a chain keeps the same rules give the same verdict and the same number of
+-- questions.
 use Rattle.std.proofs.Common.{◌≡◌, ℕ, zero, suc, ◌+◌, List, [], ◌∷◌, length, Bool, ◌&&◌, cond, slice_get, refl, sym, ap, ◌∙◌}
 use Rattle.std.specs.List.{list_all}
 use Rattle.std.specs.Option.{option_map_or}
@@ -19,11 +20,12 @@ list_all-same test other same [] = refl
 list_all-same test other same (x ∷ xs) =
     ap (λ b. b && list_all test xs) (same x) ∙ ap (λ b. other x && b) (list_all-same test other same xs)
 
--- how many anchors are asked about the first certificate
+-- The number of trust anchors under whose keys the verifier is asked about the first certificate.
 abbrev pub asked_of_first : Terms → List PlainCertificate → List ℕ → ℕ
 asked_of_first t cs stream = option_map_or (λ c. asked_anchors t cs stream c t.anchors) (slice_get cs 0) 0
 
--- At each place the same rules are kept, and as many anchors are asked at the first one.
+-- Each certificate keeps the same rules, and the verifier is asked under as many trust anchors
+-- about the first one.
 pub record Alike (t u : Terms) (cs : List PlainCertificate) (stream : List ℕ) : Type 0 where
   pub keep : (rule : Rule) (place : ℕ) → keeps_at rule t cs stream place ≡ keeps_at rule u cs stream place
   pub first : asked_of_first t cs stream ≡ asked_of_first u cs stream

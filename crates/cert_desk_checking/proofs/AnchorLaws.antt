@@ -1,4 +1,4 @@
--- What a trust anchor gives, where it stands in a file of anchors.
+-- Laws about a trust anchor within a file.
 use Rattle.std.proofs.Common.{◌≡◌, ℕ, List, drop, Result, Ok, Err, subst, sym}
 use Rattle.std.specs.Prelude.{IfOk, IfErr}
 use Rattle.x509_cert_anchors.specs.Anchors.{PlainAnchor as PlainChoice}
@@ -17,7 +17,7 @@ module _ (octets : List ℕ) (start end : ℕ) (c : PlainChoice) (s : StandsAt r
   begins : BeginsWith raw_choice c (drop start octets)
   begins = record { valid = s.valid; more = drop end octets; whole = s.whole }
 
-  -- where it gives no anchor
+  -- The trust anchor can't be used.
   ungiven : (fault : AnchorFault) → UngivenFor c fault → IsFaulty fault (drop start octets)
   ungiven faults.Malformed h = absurd h
   ungiven faults.NoName h = record { value = c; begins = begins; refused = h }

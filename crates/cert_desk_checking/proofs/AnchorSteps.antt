@@ -1,4 +1,4 @@
--- A step of a loop over anchors, and names that are compared.
+-- Laws about one step of a loop over trust anchors, and about comparing names.
 use Rattle.std.proofs.Common.{◌≡◌, ℕ, zero, suc, ◌+◌, ◌<◌, ◌≤◌, Bool, true, false, cond, ◌&&◌, ◌||◌, List, [], ◌∷◌, length, get_or, map, drop, IsTrue, ◌↔◌, bytes_eq, refl, sym, ap, ◌∙◌, arith}
 use Rattle.std.specs.List.{list_any}
 use Rattle.std.proofs.lemmas.List.{at_drop_more, at_drop_all}
@@ -13,11 +13,11 @@ use Rattle.cert_desk_rules.specs.Paths.{same_name}
 use Rattle.cert_desk_rules.specs.Verdicts.{asked_until}
 use Rattle.cert_desk_checking.specs.Places.{signs, asked_once}
 
--- names with the same octets
+-- Names with the same encoding.
 pub same_name_by : (bound : ℕ) (r : Bool) (a b : PlainName) → IsTrue r ↔ (name_octets bound a ≡ name_octets bound b) → r ≡ same_name bound a b
 same_name_by bound r a b h = same_from_decides r (bytes_eq (name_octets bound a) (name_octets bound b)) h (bytes_eq-Decides (name_octets bound a) (name_octets bound b))
 
--- of a test that compared with another name like the second
+-- A name equal to one that was compared.
 pub same_name_is : (bound : ℕ) (r b : Bool) (m n o : PlainName) → r ≡ same_name bound m n → n ≡ o → r ≡ b → same_name bound m o ≡ b
 same_name_is bound r b m n o h e t = ap (same_name bound m) (sym e) ∙ sym h ∙ t
 
@@ -32,7 +32,7 @@ pub any_no : (p : PlainAnchor → Bool) (xs : List Anchor) (i : ℕ) (d : Anchor
     → list_any p (map anchor_plain (drop (i + 1) xs)) ≡ list_any p (map anchor_plain (drop i xs))
 any_no p xs i d h e = sym (at_drop_more (any_left p) xs i d h ∙ ap (λ b. b || any_left p (drop (i + 1) xs)) e)
 
--- an only anchor passes what one of all does
+-- If there is one trust anchor, it passes a test that one of all passes.
 pub only_one : (p : PlainAnchor → Bool) (xs : List Anchor) (i : ℕ) (d : Anchor) → length xs ≡ 1 → i < length xs → list_any p (map anchor_plain xs) ≡ true → p (anchor_plain (get_or xs i d)) ≡ true
 only_one p (a ∷ []) zero d one within some = or_none (p (anchor_plain a)) some
   where
@@ -42,11 +42,12 @@ only_one p (a ∷ []) zero d one within some = or_none (p (anchor_plain a)) some
 only_one p (a ∷ []) (suc i) d one within some = absurd (omega arith)
 only_one p _ i d one within some = absurd (omega arith)
 
--- what a judge that answers the same says of an anchor
+-- Verifiers with the same answers agree on a trust anchor.
 pub signs_is : (bound : ℕ) (a b : Answers) (signed : List ℕ) (c : PlainCertificate) (anchor : PlainAnchor) (r t : Bool) → a ≡ b → r ≡ signs bound a signed c anchor → r ≡ t → signs bound b signed c anchor ≡ t
 signs_is bound a b signed c anchor r t e h k = ap (λ x. signs bound x signed c anchor) (sym e) ∙ sym h ∙ k
 
--- the questions that are left, where the anchor at a place signs, or doesn't
+-- The remaining questions, after a trust anchor under whose key the signature is accepted, or
+-- isn't.
 module _ (bound : ℕ) (answers : Answers) (signed : List ℕ) (c : PlainCertificate) where
   abbrev questions_left : List Anchor → ℕ
   questions_left xs = asked_until bound answers signed c (map anchor_plain xs)

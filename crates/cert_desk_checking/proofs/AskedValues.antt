@@ -1,4 +1,5 @@
--- What a chain may ask has encodings: keys, algorithms and bits, and octets that are signed.
+-- Each part of a question about a chain has an encoding: the key, the algorithm and the signature;
+-- and the signed bytes are bytes.
 use Rattle.std.proofs.Common.{◌≡◌, ℕ, zero, suc, ◌+◌, List, [], ◌∷◌, length, map, Bool, true, false, cond, Option, Some, None, Ok, Err, inl, inr, slice_get, refl, ap, subst, sym, ◌∙◌}
 use Rattle.std.specs.List.{AllByRecursion}
 use Rattle.std.specs.Option.{option_map_or}
@@ -30,11 +31,11 @@ pub record IsWritable (q : Question) : Type 0 where
   pub signed : IsOctets q.signed
   pub bits : IsValid bit_string q.bits
 
--- the key has an encoding
+-- The trust anchor's key has an encoding.
 abbrev pub HasKey : PlainAnchor → Type 0
 HasKey a = IsValid (public_key_info Bound) a.key
 
--- what stands in a certificate
+-- The parts of a certificate.
 
 valid_key : (c : PlainCertificate) → IsValid (raw_certificate Bound) c → IsValid (public_key_info Bound) (public_key c)
 unfolding IsValid IsContent IsBody
@@ -48,7 +49,7 @@ valid_signed : (c : PlainCertificate) → IsValid (raw_certificate Bound) c → 
 unfolding IsValid IsContent IsBody
 valid_signed c h = h.0.0
 
--- what is asked about the certificates of a chain
+-- The questions about the certificates of a chain.
 module _ (anchors : List PlainAnchor) (limit : ℕ) (cs : List PlainCertificate) (stream : List ℕ) (keys : AllByRecursion HasKey anchors) (chain : Chain Bound limit cs stream) where
   at : (place : ℕ) (c : PlainCertificate) → slice_get cs place ≡ Some c → IsValid (raw_certificate Bound) c
   at place c e = (Stands-at Bound limit cs place c chain.each e).valid
@@ -98,7 +99,7 @@ module _ (anchors : List PlainAnchor) (limit : ℕ) (cs : List PlainCertificate)
   pub lines_writable : AllByRecursion (λ l. IsWritable l.question) (chain_lines anchors cs stream)
   lines_writable = below (length cs)
 
--- the keys of the anchors that a file gives
+-- The keys of the trust anchors of a file.
 
 one_of : (b : Bool) (x a : PlainAnchor) (e : AnchorError) → cond b (Ok x) (Err e) ≡ Ok a → x ≡ a
 one_of true x a e h = cc

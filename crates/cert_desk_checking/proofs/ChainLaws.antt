@@ -1,4 +1,4 @@
--- What a verdict says of a stream of one chain, and of one with a fault.
+-- Laws about the verdict on a chain, and on an input with an error.
 use Rattle.std.proofs.Common.{◌≡◌, ℕ, ◌+◌, ◌-◌, ◌<◌, ◌^◌, min, max, List, [], ◌∷◌, ◌++◌, length, true, refl, sym, ap, ◌∙◌, subst, arith}
 use Rattle.std.proofs.lemmas.Bool.{both_ways}
 use Rattle.x509_cert_anchors.specs.CertCertificates.Certificates.{PlainCertificate, certificate_octets}
@@ -18,7 +18,7 @@ use Rattle.cert_desk_checking.proofs.Encodings.{certificate_octets-first}
 use Rattle.cert_desk_rules.proofs.DeskBundle.Readings.{ReadsUnder}
 use Rattle.cert_desk_rules.proofs.RuleList.{broken_is}
 
--- an encoding isn't empty
+-- An encoding isn't empty.
 pub encoding_is_some : (bound : ℕ) (c : PlainCertificate) (w : List ℕ) → [] ≡ certificate_octets bound c ++ w → ⊥
 encoding_is_some bound c w e =
     let first = certificate_octets-first bound c in
@@ -29,7 +29,7 @@ pub chain_is_some : (bound : ℕ) (cs : List PlainCertificate) → 0 < length cs
 chain_is_some bound [] h e = absurd (omega arith)
 chain_is_some bound (c ∷ cs) h e = encoding_is_some bound c (joined bound cs) e
 
--- a trusted stream has no other verdict
+-- A trusted input has no other verdict.
 pub only_trusted : (t : Terms) (limit : ℕ) (stream : List ℕ) (verdict : Verdict) → IsVerdict t limit stream verdict → Trusted t limit stream → verdict ≡ verdicts.Trusted
 only_trusted t limit stream (verdicts.StreamFault place offset kind) v k = absurd (fault_no_chain t.bound limit v.certificates k.certificates kind stream v.found k.chain)
 only_trusted t limit stream verdicts.Empty v k = absurd (chain_is_some t.bound k.certificates k.some (sym v ∙ k.chain.joins))
@@ -40,7 +40,7 @@ only_trusted t limit stream (verdicts.Refused place rule) v k =
     let broken = broken_is (λ other. keeps_at other t v.certificates stream place) in_order rule v.first in
     absurd (both_ways _ broken (subst (λ cs. keeps_at rule t cs stream place ≡ true) (sym same) (k.kept place rule within)))
 
--- the questions about a chain, and about a stream with a fault
+-- The questions about a chain, and about an input with an error.
 pub Asks-chain : (t : Terms) (limit : ℕ) (cs : List PlainCertificate) (stream : List ℕ) → Chain t.bound limit cs stream → Asks t limit stream (asked t cs stream)
 unfolding asked
 Asks-chain t limit cs stream h = record {
@@ -54,7 +54,7 @@ Asks-fault t limit cs stream kind h = record {
   fault = λ _. refl;
 }
 
--- what an ended bundle and a faulted one have read
+-- The input that an ended bundle, and one with an error, has read.
 pub reads_chain : (bound : ℕ) (b : Kept) (stream : List ℕ) → standings.Ended ≡ b.standing → Reads bound b stream → Chain bound b.limit b.certificates stream
 reads_chain bound b stream e h = subst (λ s. ReadsUnder bound s b stream) (sym e) h
 

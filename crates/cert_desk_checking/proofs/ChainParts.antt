@@ -1,4 +1,4 @@
--- Fronts and rests of trusted chains are trusted.
+-- Prefixes and suffixes of trusted chains are trusted.
 use Rattle.std.proofs.Common.{◌≡◌, ℕ, zero, suc, ◌+◌, ◌<◌, ◌^◌, List, [], ◌∷◌, ◌++◌, length, true, false, ◌&&◌, ◌||◌, Some, slice_get, refl, sym, ap, ◌∙◌, subst, arith, length-append}
 use Rattle.std.specs.List.{list_any}
 use Rattle.std.specs.Option.{option_map_or}
@@ -28,7 +28,7 @@ slice_get-back [] ys n m e = let same : n ≡ m = omega arith in ap (slice_get y
 slice_get-back (x ∷ xs) ys n zero e = absurd (omega arith)
 slice_get-back (x ∷ xs) ys n (suc m) e = slice_get-back xs ys n m (omega arith)
 
--- a trusted stream's certificates keep every rule
+-- The certificates of a trusted input keep every rule.
 kept_of : (t : Terms) (limit : ℕ) (stream : List ℕ) (ds : List PlainCertificate) → Chain t.bound limit ds stream → Trusted t limit stream
     → (place : ℕ) (rule : Rule) → place < length ds → keeps_at rule t ds (joined t.bound ds) place ≡ true
 kept_of t limit stream ds chain trusted place rule lt =

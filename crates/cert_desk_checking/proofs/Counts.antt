@@ -1,4 +1,4 @@
--- Counts that rise, and stay at the most that 64 bits hold.
+-- Laws about counts, which rise and stay at 2^64 - 1.
 use Rattle.std.proofs.Common.{◌≡◌, ℕ, ◌+◌, ◌-◌, ◌^◌, min, max, ap, ◌∙◌, arith}
 use Rattle.cert_desk_rules.specs.Verdicts.{raised}
 use Rattle.cert_desk_checking.specs.Places.{Rises}

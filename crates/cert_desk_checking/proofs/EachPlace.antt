@@ -1,4 +1,4 @@
--- What is said of each place, the verdict, and how often the judge is asked.
+-- Laws about the results for each certificate, the verdict, and the number of questions.
 use Rattle.std.proofs.Common.{◌≡◌, ℕ, zero, suc, ◌+◌, ◌<◌, ◌≤◌, List, [], ◌∷◌, ◌++◌, length, true, false, Some, slice_get, inl, inr, length-append, refl, sym, ap, ◌∙◌, subst, arith}
 use Rattle.std.specs.Option.{option_map_or}
 use Rattle.std.proofs.lemmas.Bool.{both_ways, cases_lt, cases_order}
@@ -18,7 +18,7 @@ use Rattle.cert_desk_rules.proofs.RuleList.{first_broken, is_first}
 use Rattle.cert_desk_checking.proofs.OneVerdict.{one_verdict}
 use Rattle.cert_desk_checking.proofs.Outcomes.{kept_below-at, kept_below-from}
 
--- behind the last place nothing is broken
+-- After the last certificate no rule is broken.
 past : (judged : List KeptRules) (place : ℕ) (rule : Rule) → length judged ≤ place → kept_at judged place rule ≡ true
 past judged place rule h = ap (λ o. option_map_or (λ k. kept_by k rule) o true) (slice_get_past judged place h)
 
@@ -80,7 +80,7 @@ trusted_without t limit cs stream judged verdict chain says v = (there, back)
       kept = λ place rule within. sym (says.kept place rule) ∙ all.1 place rule;
     })
 
--- one place more, behind the last
+-- One more element at the end of a list.
 get-before : {A : Type 0} (xs : List A) (x : A) (i : ℕ) → i < length xs → slice_get (xs ++ x ∷ []) i ≡ slice_get xs i
 get-before [] x i lt = absurd (omega (arith, lt))
 get-before (y ∷ xs) x zero lt = refl
@@ -90,7 +90,7 @@ get-last : {A : Type 0} (xs : List A) (x : A) → slice_get (xs ++ x ∷ []) (le
 get-last [] x = refl
 get-last (y ∷ xs) x = get-last xs x
 
--- What is said of the places before n, which are so many, is what the rules say.
+-- The results for the first n certificates are correct.
 abbrev pub SaysBefore : Terms → List PlainCertificate → List ℕ → List KeptRules → ℕ → Type 0
 SaysBefore t cs stream judged n = (length judged ≡ n) × ((place : ℕ) (rule : Rule) → place < n → kept_at judged place rule ≡ keeps_at rule t cs stream place)
 
@@ -119,7 +119,7 @@ module _ (t : Terms) (cs : List PlainCertificate) (stream : List ℕ) (judged : 
     ];
   }
 
--- One place more is asked about.
+-- The verifier is asked about one more certificate.
 each_more : (t : Terms) (cs : List PlainCertificate) (stream : List ℕ) (place : ℕ) → asked_each t cs stream place + asked_signature t cs stream place ≡ asked_each t cs stream (suc place)
 each_more t cs stream zero = omega arith
 each_more t cs stream (suc before) = omega arith

@@ -1,4 +1,4 @@
--- Where certificates stand in a stream, and what stands in a certificate.
+-- Laws about the positions of certificates in an input, and about the parts of a certificate.
 use Rattle.std.proofs.Common.{◌≡◌, ℕ, zero, suc, ◌+◌, List, [], ◌∷◌, ◌++◌, length, take, drop, Some, slice_get, refl, sym, ap, ◌∙◌, subst}
 use Rattle.std.specs.List.{AllByRecursion}
 use Rattle.std.proofs.lemmas.List.{drop-drop, drop_at, take_at, append_assoc}
@@ -16,7 +16,7 @@ use Rattle.x509_cert_anchors.specs.CertNames.Names.{name}
 use Rattle.cert_desk_rules.specs.DeskBundle.Chains.{Stands, joined, offset_at}
 use Rattle.cert_desk_rules.specs.Judging.{signed_part}
 
--- a certificate begins with the octet of a SEQUENCE
+-- A certificate begins with the tag of a SEQUENCE.
 pub certificate_octets-first : (bound : ℕ) (c : PlainCertificate) → (w : List ℕ) × (certificate_octets bound c ≡ 0x30 ∷ w)
 unfolding octets_of tlv head_octets tag_octets
 certificate_octets-first bound c = (length_octets (length (body_octets (raw_certificate_fields bound) c)) ++ body_octets (raw_certificate_fields bound) c, refl)
@@ -24,13 +24,13 @@ certificate_octets-first bound c = (length_octets (length (body_octets (raw_cert
 abbrev outer_head : ℕ → PlainCertificate → List ℕ
 outer_head bound c = head_octets tags.Sequence (length (body_octets (raw_certificate_fields bound) c))
 
--- the header, the signed part, and the rest
+-- A certificate is a header, a TBSCertificate, and the bytes after it.
 certificate_octets-parts : (bound : ℕ) (c : PlainCertificate)
     → (w : List ℕ) × (certificate_octets bound c ≡ outer_head bound c ++ (octets_of (raw_tbs_certificate bound) (tbs c) ++ w))
 unfolding octets_of contents body_octets tlv
 certificate_octets-parts bound c = (_, refl)
 
--- the certificates before a place, the one there, and those behind
+-- A chain is the certificates before an index, the one at the index, and those after it.
 pub joined-at : (bound : ℕ) (cs : List PlainCertificate) (place : ℕ) (c : PlainCertificate) → slice_get cs place ≡ Some c
     → joined bound cs ≡ joined bound (take place cs) ++ (certificate_octets bound c ++ joined bound (drop (suc place) cs))
 joined-at bound [] place c e = absurd cc
@@ -49,7 +49,7 @@ slice_inside front head part rest back =
     ∙ append_assoc part rest back)
     ∙ take_at part (rest ++ back) (length part) refl
 
--- the signed part of the stream is the encoding of the certificate's signed part
+-- The signed bytes in the input are the encoding of the TBSCertificate.
 pub signed_part-is : (bound : ℕ) (cs : List PlainCertificate) (place : ℕ) (c : PlainCertificate) → slice_get cs place ≡ Some c
     → signed_part bound cs (joined bound cs) place c ≡ octets_of (raw_tbs_certificate bound) (tbs c)
 unfolding signed_start signed_length
@@ -64,13 +64,13 @@ Stands-at bound limit [] place c h e = absurd cc
 Stands-at bound limit (x ∷ xs) zero c h e = let is : x ≡ c = cc in subst (Stands bound limit) is h.0
 Stands-at bound limit (x ∷ xs) (suc n) c h e = Stands-at bound limit xs n c h.1 e
 
--- both algorithms have encodings
+-- Both algorithms have encodings.
 pub valid_algorithms : (bound : ℕ) (c : PlainCertificate) → IsValid (raw_certificate bound) c
     → IsValid (algorithm_identifier bound) (inner_algorithm c) × IsValid (algorithm_identifier bound) (outer_algorithm c)
 unfolding IsValid IsContent IsBody
 valid_algorithms bound c h = (h.0.0.0.1.1.0, h.0.1.0)
 
--- the issuer's name has one
+-- The issuer's name has an encoding.
 pub valid_issuer : (bound : ℕ) (c : PlainCertificate) → IsValid (raw_certificate bound) c → IsValid (name bound) (issuer c)
 unfolding IsValid IsContent IsBody
 valid_issuer bound c h = h.0.0.0.1.1.1.0

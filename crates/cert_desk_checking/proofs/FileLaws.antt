@@ -1,4 +1,4 @@
--- What a file of values says: one list, or one first place where something is wrong.
+-- A file of values has at most one meaning: a list of items, or a first wrong offset.
 use Rattle.std.proofs.Common.{◌≡◌, ℕ, List, [], ◌∷◌, ◌++◌, length, map, Result, Ok, Err, refl, sym, ap, subst, ◌∙◌, append-nil}
 use Rattle.std.specs.List.{AllByRecursion}
 use Rattle.x509_cert_anchors.specs.Der.Shapes.{Shape, Value, octets_of, IsValid}
@@ -8,7 +8,7 @@ use Rattle.cert_desk_checking.specs.Files.{GiveAll, IsFileOf, BeginsNone, Begins
 use Rattle.cert_desk_rules.proofs.DeskBundle.SeriesLaws.{each-last, each-so, value_some, one_first, one_front}
 
 module _ (s : Shape) (u : IsUnambiguous s) {A E : Type 0} (gives : Value s → Result A E) where
-  -- no value that gives something begins these octets
+  -- The bytes don't begin with a value that gives an item.
   abbrev pub Ends : List ℕ → Type 0
   Ends r = (v : Value s) (more : List ℕ) (x : A) → IsValid s v → gives v ≡ Ok x → r ≡ octets_of s v ++ more → ⊥
 
@@ -27,7 +27,7 @@ module _ (s : Shape) (u : IsUnambiguous s) {A E : Type 0} (gives : Value s → R
   abbrev refusal : E → Result A E
   refusal error = Err error
 
-  -- one reason stands at one place, and needs an octet
+  -- At most one reason is true of the same bytes, and they aren't empty.
   pub one_reason : (error other : E) (r : List ℕ) → BeginsRefused s gives error r → BeginsRefused s gives other r → error ≡ other
   one_reason error other r p q =
       let same = one_first s u p.value q.value p.begins.more q.begins.more p.begins.valid q.begins.valid (sym p.begins.whole ∙ q.begins.whole) in
@@ -37,7 +37,7 @@ module _ (s : Shape) (u : IsUnambiguous s) {A E : Type 0} (gives : Value s → R
   pub refused_some : (error : E) → BeginsRefused s gives error [] → ⊥
   refused_some error h = value_some s u h.value h.begins.more h.begins.valid h.begins.whole
 
-  -- a value of a list that gives
+  -- A value of a list that gives an item.
   record IsGiving (v : Value s) : Type 0 where
     valid : IsValid s v
     x : A
@@ -61,7 +61,7 @@ module _ (s : Shape) (u : IsUnambiguous s) {A E : Type 0} (gives : Value s → R
       let tail : map {B = Result A E} (λ x. Ok x) xs ≡ map (λ x. Ok x) ys = cc in
       ap (λ z. z ∷ xs) head ∙ ap (λ zs. y ∷ zs) (given_once xs ys tail)
 
-  -- Two lists of values that give, up to where no further one comes, are one.
+  -- If bytes begin with two lists of such values that can't be continued, the lists are equal.
   same_values : (vs ws : List (Value s)) (xs ys : List A) (r t : List ℕ) → GiveAll s gives vs xs → GiveAll s gives ws ys → Ends r → Ends t → encodings s vs ++ r ≡ encodings s ws ++ t → (vs ≡ ws) × (r ≡ t)
   same_values vs ws xs ys r t p q ends other e =
       one_front s u (λ (zs : List (Value s)). AllByRecursion IsGiving zs) (λ zs more. front_all IsGiving zs more) (λ zs all. each-so IsGiving (IsValid s) zs (λ v g. g.valid) all)
@@ -72,20 +72,20 @@ module _ (s : Shape) (u : IsUnambiguous s) {A E : Type 0} (gives : Value s → R
   whole : (octets : List ℕ) (xs : List A) → (f : IsFileOf s gives octets xs) → encodings s f.values ++ [] ≡ octets
   whole octets xs f = append-nil (encodings s f.values) ∙ sym f.joins
 
-  -- a file gives one list
+  -- A file gives one list.
   pub one_file : (octets : List ℕ) (xs ys : List A) → IsFileOf s gives octets xs → IsFileOf s gives octets ys → xs ≡ ys
   one_file octets xs ys p q =
       let same = same_values p.values q.values xs ys [] [] p.give q.give ends_nothing ends_nothing (whole octets xs p ∙ sym (whole octets ys q)) in
       given_once xs ys (sym p.give.given ∙ ap (map gives) same.0 ∙ q.give.given)
 
-  -- or has a first place where something is wrong
+  -- A file that gives a list has no wrong offset.
   pub not_both : (octets : List ℕ) (xs : List A) (wrong : List ℕ → Type 0) (offset : ℕ) → ((r : List ℕ) → wrong r → Ends r) → (wrong [] → ⊥)
       → IsFileOf s gives octets xs → HasFirstWrong s gives wrong octets offset → ⊥
   not_both octets xs wrong offset ends some p q =
       let same = same_values p.values q.values xs q.xs [] q.rest p.give q.give ends_nothing (ends q.rest q.is_wrong) (whole octets xs p ∙ q.whole) in
       some (subst wrong (sym same.1) q.is_wrong)
 
-  -- a file has one first value that is wrong, at one place
+  -- A file has one first wrong offset.
   pub one_place : (octets : List ℕ) (wrong other : List ℕ → Type 0) (offset place : ℕ) → ((r : List ℕ) → wrong r → Ends r) → ((r : List ℕ) → other r → Ends r)
       → HasFirstWrong s gives wrong octets offset → HasFirstWrong s gives other octets place → (offset ≡ place) × ((r : List ℕ) × wrong r × other r)
   one_place octets wrong other offset place ends stops p q =

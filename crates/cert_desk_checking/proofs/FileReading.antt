@@ -1,4 +1,4 @@
--- A file of values is read one behind the other.
+-- The values of a file are decoded one after another.
 use Rattle.std.proofs.Common.{◌≡◌, ℕ, ◌+◌, ◌-◌, ◌<◌, ◌≤◌, List, [], ◌∷◌, ◌++◌, length, map, drop, Result, Ok, refl, sym, ap, ◌∙◌, arith, append_assoc, append-nil, length-append, length-drop}
 use Rattle.std.proofs.lemmas.List.{map-append, drop_at, drop-drop}
 use Rattle.x509_cert_anchors.specs.Der.Shapes.{Shape, Value, octets_of, IsValid}
@@ -7,7 +7,7 @@ use Rattle.cert_desk_checking.specs.Files.{GiveAll, StandsAt, GivesAt}
 use Rattle.cert_desk_rules.proofs.DeskBundle.SeriesLaws.{each-more, encodings-more, value_some}
 
 module _ (s : Shape) (octets : List ℕ) (start : ℕ) where
-  -- where a value ends with which the octets from the start on begin, by how much is left
+  -- A value with which the bytes from an offset on begin ends before the remaining bytes.
   pub stands_at : (v : Value s) (behind : List ℕ) → start ≤ length octets → IsValid s v → drop start octets ≡ octets_of s v ++ behind → StandsAt s octets start (length octets - length behind) v
   stands_at v behind within valid e =
       let len : length octets - start ≡ length (octets_of s v) + length behind = sym (length-drop start octets) ∙ ap length e ∙ length-append (octets_of s v) behind in
@@ -27,7 +27,7 @@ module _ (s : Shape) (octets : List ℕ) (start : ℕ) where
         later [] e = absurd (value_some s u v [] h.valid (sym e ∙ sym (append-nil (octets_of s v))))
         later (b ∷ w) e = omega (arith, h.end_is, ap length e)
 
--- what was given so far is that of the values up to the start
+-- The items so far are those of the values up to the start.
 pub record SoFar (s : Shape) {A E : Type 0} (gives : Value s → Result A E) (octets : List ℕ) (xs : List A) (start : ℕ) : Type 0 where
   pub values : List (Value s)
   pub give : GiveAll s gives values xs

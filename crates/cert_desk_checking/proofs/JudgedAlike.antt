@@ -1,4 +1,4 @@
--- Judges that answer alike on what a chain may ask.
+-- Verifiers with the same answers to all questions that a chain may ask give the same verdict.
 use Rattle.std.proofs.Common.{◌≡◌, ℕ, zero, suc, ◌+◌, List, [], ◌∷◌, length, Bool, true, false, ◌&&◌, ◌||◌, cond, Option, Some, None, slice_get, refl, ap, ◌∙◌}
 use Rattle.std.specs.List.{list_any, AllByRecursion}
 use Rattle.std.specs.Option.{option_map_or}
@@ -13,7 +13,7 @@ use Rattle.cert_desk_rules.specs.Verdicts.{IsVerdict, Asks}
 use Rattle.cert_desk_rules.proofs.Asking.{asked_anchors, says_yes}
 use Rattle.cert_desk_checking.proofs.AlikeTerms.{Alike, asked_below_alike, verdict_alike}
 
--- of a list that begins with a question only where a test holds
+-- A list that begins with a question only if a test passes.
 listed_where : (P : Question → Type 0) (b : Bool) (q : Question) (rest : List Question) → AllByRecursion P (cond b (q ∷ rest) rest)
     → (b ≡ true → P q) × AllByRecursion P rest
 listed_where P true q rest h = (λ e. h.0, h.1)

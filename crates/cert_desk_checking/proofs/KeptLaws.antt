@@ -1,4 +1,4 @@
--- The rules that a certificate keeps, by what was found in it and in the places before.
+-- The rules that a certificate keeps follow from the findings about it and the limit before it.
 use Rattle.std.proofs.Common.{◌≡◌, ℕ, ◌<◌, List, Bool, true, false, not, ◌&&◌, ◌||◌, Option, Some, None, slice_get, refl, sym, ap, ◌∙◌, arith}
 use Rattle.std.specs.List.{list_any}
 use Rattle.std.specs.Option.{option_map_or}
@@ -19,14 +19,15 @@ use Rattle.cert_desk_rules.proofs.PathLaws.{within_room}
 use Rattle.cert_desk_checking.proofs.PlaceLaws.{keeps_at-is}
 use Rattle.cert_desk_rules.proofs.RuleList.{or_signature}
 
--- what was tested is what the rules say, the signature aside
+-- The results agree with the rules, apart from that of the signature.
 pub first_unsigned_by : (k : KeptRules) (t : Terms) (cs : List PlainCertificate) (stream : List ℕ) (place : ℕ) (broken : Option Rule)
     → ((rule : Rule) → number rule < number rules.WrongSignature → kept_by k rule ≡ keeps_at rule t cs stream place) → IsFirstUnsignedOf k broken → IsFirstUnsigned t cs stream place broken
 first_unsigned_by k t cs stream place None says kept = λ rule before. sym (says rule before) ∙ kept rule before
 first_unsigned_by k t cs stream place (Some rule) says first =
     (first.0, sym (says rule first.0) ∙ first.1, λ other before. sym (says other (omega (arith, before, first.0))) ∙ first.2 other before)
 
--- of the signature, too, once the verifier was asked
+-- The answer about the signature changes no other result. With the answer, the results agree with
+-- all rules.
 same_before : (k : KeptRules) (signed : Bool) (rule : Rule) → number rule < number rules.WrongSignature → kept_by (record k { signed = signed }) rule ≡ kept_by k rule
 same_before k signed rules.WrongSignature before = absurd (omega (arith, before))
 same_before k signed _ before = refl
@@ -37,12 +38,12 @@ pub all_say : (k : KeptRules) (t : Terms) (cs : List PlainCertificate) (stream :
 all_say k t cs stream place signed says so =
     or_signature (λ rule. kept_by (record k { signed = signed }) rule ≡ keeps_at rule t cs stream place) (λ rule before. same_before k signed rule before ∙ says rule before) so
 
--- whether a place counts
+-- The certificate counts for path lengths exactly if it is neither the last nor self-issued.
 pub counts-is : (bound : ℕ) (cs : List PlainCertificate) (place : ℕ) (c : PlainCertificate) → slice_get cs place ≡ Some c
     → counts bound cs place ≡ (not (is_last cs place) && not (is_self_issued bound c))
 counts-is bound cs place c e = ap (λ o. not (is_last cs place) && option_map_or (λ c. not (is_self_issued bound c)) o false) e
 
--- what the extensions and the room say of the rules
+-- The rules that depend on extensions and path lengths.
 module _ (t : Terms) (cs : List PlainCertificate) (stream : List ℕ) (place : ℕ) (c : PlainCertificate) (is : slice_get cs place ≡ Some c) (f : Findings) (e : f ≡ found t.bound t.purpose (extensions_of c)) where
   pub keeps_well_formed : not f.malformed ≡ keeps_at rules.MalformedExtension t cs stream place
   keeps_well_formed =

@@ -1,4 +1,4 @@
--- What the lines of a chain's questions list is what its signatures may ask.
+-- The lines of a chain list exactly the questions that its signatures may ask.
 use Rattle.std.proofs.Common.{◌≡◌, ℕ, zero, suc, ◌+◌, ◌<◌, List, [], ◌∷◌, length, Bool, true, false, cond, Option, Some, None, slice_get, inl, inr, arith, refl, ap, subst, sym}
 use Rattle.std.specs.List.{AllByRecursion}
 use Rattle.std.specs.Option.{option_map_or}
@@ -16,7 +16,7 @@ use Rattle.cert_desk_rules.specs.Verdicts.{IsVerdict, Asks}
 use Rattle.cert_desk_checking.proofs.JudgedAlike.{judged_alike}
 
 module _ (cs : List PlainCertificate) (stream : List ℕ) where
-  -- an anchor of another name has no line
+  -- A trust anchor with another name has no line.
   where_named : (b : Bool) (l : QuestionLine) (more : List QuestionLine) (qs : List Question) → questions_of_lines more ≡ qs
       → questions_of_lines (cond b (l ∷ more) more) ≡ cond b (l.question ∷ qs) qs
   where_named true l more qs e = ap (λ (x : List Question). l.question ∷ x) e
@@ -48,7 +48,7 @@ pub questions_are_listed : (anchors : List PlainAnchor) (cs : List PlainCertific
     → questions_of_lines (lines_at anchors cs stream place) ≡ questions_at Bound anchors cs stream place
 questions_are_listed anchors cs stream place = of_any cs stream anchors place (slice_get cs place)
 
--- what holds of each line of a chain holds of those of a place
+-- A fact about each line of a chain holds for the lines of each index.
 below : (F : QuestionLine → Type 0) (anchors : List PlainAnchor) (cs : List PlainCertificate) (stream : List ℕ) (n place : ℕ) → place < n
     → AllByRecursion F (lines_below anchors cs stream n) → AllByRecursion F (lines_at anchors cs stream place)
 below F anchors cs stream zero place h each = absurd (omega arith)

@@ -1,4 +1,4 @@
--- A file of anchors says one thing.
+-- A file of trust anchors has at most one meaning.
 use Rattle.std.proofs.Common.{◌≡◌, ℕ, List, [], Result, Ok, Err, refl, ap, ◌∙◌}
 use Rattle.x509_cert_anchors.specs.Der.Limits.{levels_max}
 use Rattle.cert_desk_checking.specs.declared.anchor_error.AnchorError.TheVariants as errors
@@ -13,7 +13,7 @@ use Rattle.cert_desk_checking.proofs.FileLaws.{Ends, ends_none, ends_refused, on
 pub choices_told : IsUnambiguous raw_choice
 choices_told = record { room = levels_max; element = refl; apart = refl; enough = refl }
 
--- no anchor is given where something is faulty
+-- Wrong bytes give no trust anchor.
 faulty_ends : (fault : AnchorFault) (rest : List ℕ) → IsFaulty fault rest → Ends raw_choice choices_told given_by rest
 faulty_ends faults.Malformed rest f = ends_none raw_choice choices_told given_by rest f
 faulty_ends faults.NoName rest f = ends_refused raw_choice choices_told given_by errors.NoName rest f
@@ -24,7 +24,7 @@ no_fault_at_end faults.Malformed p = p.0 refl
 no_fault_at_end faults.NoName p = refused_some raw_choice choices_told given_by errors.NoName p
 no_fault_at_end faults.PathControls p = refused_some raw_choice choices_told given_by errors.PathControls p
 
--- one fault stands at one place
+-- Bytes have at most one error.
 fault_there : (rest : List ℕ) (f g : AnchorFault) → IsFaulty f rest → IsFaulty g rest → f ≡ g
 fault_there rest faults.Malformed faults.Malformed p q = refl
 fault_there rest faults.Malformed faults.NoName p q = absurd (p.1 q.value q.begins)

@@ -1,4 +1,4 @@
--- Octets spell one algorithm.
+-- Algorithms with the same encoding are equal.
 use Rattle.std.proofs.Common.{◌≡◌, ℕ, List, [], ◌++◌, refl, ap}
 use Rattle.x509_cert_anchors.specs.Der.Shapes.{IsValid, octets_of}
 use Rattle.x509_cert_anchors.proofs.Der.OneEncoding.{one_value}

@@ -1,4 +1,4 @@
--- Chains that show a judge the same are one stream.
+-- Chains that show a verifier the same have the same bytes.
 use Rattle.std.proofs.Common.{◌≡◌, ℕ, suc, List, [], ◌∷◌, ◌++◌, Option, Some, None, slice_get, refl, sym, ap, ◌∙◌}
 use Rattle.std.specs.List.{AllByRecursion}
 use Rattle.std.specs.Option.{option_map}
@@ -18,7 +18,7 @@ valid_signed : (bound : ℕ) (c : PlainCertificate) → IsValid (raw_certificate
 unfolding IsValid IsContent IsBody
 valid_signed bound c h = h.0.0
 
--- what is shown of a certificate, by its own octets
+-- The facts about a certificate that a verifier gets, from the certificate's own bytes.
 abbrev shown : ℕ → PlainCertificate → List ℕ × Algorithm × Bits
 shown bound c = (octets_of (raw_tbs_certificate bound) (tbs c), outer_algorithm c, signature_bits c)
 

@@ -1,4 +1,4 @@
--- A stream has one verdict.
+-- An input has at most one verdict.
 use Rattle.std.proofs.Common.{◌≡◌, ℕ, ◌<◌, ◌^◌, List, [], length, true, not, Some, refl, sym, ap, ◌∙◌, subst, arith, inl, inr}
 use Rattle.std.specs.List.{find}
 use Rattle.std.proofs.lemmas.Bool.{both_ways, cases_order}
@@ -17,7 +17,7 @@ use Rattle.cert_desk_checking.proofs.ChainLaws.{chain_is_some, only_trusted}
 use Rattle.cert_desk_checking.proofs.Outcomes.{kept_below-at}
 
 module _ (t : Terms) (limit : ℕ) (stream : List ℕ) where
-  -- of two places with broken rules neither comes before the other
+  -- Of two indexes at which the chain is rejected, neither is before the other.
   none_before : (p q : ℕ) (rule other : Rule) → Refused t limit stream p rule → Refused t limit stream q other → p < q → ⊥
   none_before p q rule other f g below =
       let same = one_chain t.bound limit f.certificates g.certificates stream f.chain g.chain in
@@ -45,7 +45,7 @@ module _ (t : Terms) (limit : ℕ) (stream : List ℕ) where
       let offset : o ≡ n = f.offset_is ∙ ap (λ (cs : List PlainCertificate). length (joined t.bound cs)) same.0 ∙ sym g.offset_is in
       ap (λ x. verdicts.StreamFault x o kind) place ∙ ap (λ x. verdicts.StreamFault q x kind) offset ∙ ap (λ x. verdicts.StreamFault q n x) same.1
 
-  -- no octets are a chain of no certificates, and of none else
+  -- Empty input is the chain of no certificates only.
   empty_chain : stream ≡ [] → Chain t.bound limit [] stream
   empty_chain e = record { each = tt; joins = e; fits = subst (λ (s : List ℕ). length s < 2 ^ 64) (sym e) (omega arith) }
 

@@ -1,4 +1,4 @@
--- From what was found at each place to what is said of the stream.
+-- From the check of each certificate to the verdict on the chain.
 use Rattle.std.proofs.Common.{◌≡◌, ℕ, zero, suc, ◌+◌, ◌<◌, List, length, true, false, not, cond, ◌&&◌, Some, None, inl, inr, refl, sym, subst, arith}
 use Rattle.std.specs.List.{find}
 use Rattle.std.proofs.lemmas.Bool.{and_parts, and_from, and_left, and_right, both_ways, false_from_ne_true, cond-true, cond-false, cases_order}
@@ -15,7 +15,7 @@ use Rattle.cert_desk_rules.specs.Verdicts.{Trusted, Refused, StopsAsking, all_ke
 use Rattle.cert_desk_checking.specs.Places.{IsFirstUnsigned}
 use Rattle.cert_desk_checking.proofs.PlaceLaws.{may_ask-false, may_ask-kept, may_ask-true, all_kept}
 
--- all rules at one place
+-- All rules for one certificate.
 pub keeps_all-kept : (t : Terms) (cs : List PlainCertificate) (stream : List ℕ) (place : ℕ) → keeps_all t cs stream place ≡ true
     → (rule : Rule) → keeps_at rule t cs stream place ≡ true
 keeps_all-kept t cs stream place h =
@@ -26,7 +26,7 @@ pub keeps_all-false : (t : Terms) (cs : List PlainCertificate) (stream : List �
     → keeps_all t cs stream place ≡ false
 keeps_all-false t cs stream place rule broken = false_from_ne_true _ (λ e. both_ways _ broken (keeps_all-kept t cs stream place e rule))
 
--- the places before
+-- The certificates before an index.
 pub kept_below-at : (t : Terms) (cs : List PlainCertificate) (stream : List ℕ) (n k : ℕ) → all_kept_below t cs stream n ≡ true → k < n
     → (rule : Rule) → keeps_at rule t cs stream k ≡ true
 kept_below-at t cs stream zero k h lt = absurd (omega arith)
@@ -49,7 +49,7 @@ pub kept_below-more : (t : Terms) (cs : List PlainCertificate) (stream : List �
     → IsFirstUnsigned t cs stream n None → keeps_at rules.WrongSignature t cs stream n ≡ true → all_kept_below t cs stream (suc n) ≡ true
 kept_below-more t cs stream n h kept signed = and_from _ (keeps_all t cs stream n) h (and_from (may_ask t cs stream n) _ (may_ask-true t cs stream n kept) signed)
 
--- the chain is refused at the first place that breaks a rule
+-- The chain is rejected at the first certificate that breaks a rule.
 pub refused_at : (t : Terms) (limit : ℕ) (cs : List PlainCertificate) (place : ℕ) (rule : Rule) (stream : List ℕ) → Chain t.bound limit cs stream
     → place < length cs → all_kept_below t cs (joined t.bound cs) place ≡ true → keeps_at rule t cs (joined t.bound cs) place ≡ false
     → ((other : Rule) → number other < number rule → keeps_at other t cs (joined t.bound cs) place ≡ true) → Refused t limit stream place rule
@@ -63,7 +63,7 @@ refused_at t limit cs place rule stream chain within kept broken first = record 
       (is_first (λ other. keeps_at other t cs (joined t.bound cs) place) rule broken first);
 }
 
--- the chain is trusted where every place keeps all rules
+-- The chain is trusted if every certificate keeps every rule.
 pub trusted_by : (t : Terms) (limit : ℕ) (cs : List PlainCertificate) (stream : List ℕ) → Chain t.bound limit cs stream
     → 0 < length cs → all_kept_below t cs (joined t.bound cs) (length cs) ≡ true → Trusted t limit stream
 trusted_by t limit cs stream chain some kept = record {
@@ -74,7 +74,7 @@ trusted_by t limit cs stream chain some kept = record {
       subst (λ s. keeps_at rule t cs s place ≡ true) (sym chain.joins) (kept_below-at t cs (joined t.bound cs) (length cs) place kept within rule);
 }
 
--- where memory ran out
+-- Memory ran out at a certificate.
 pub stops_at : (t : Terms) (limit : ℕ) (cs : List PlainCertificate) (place : ℕ) (stream : List ℕ) (old new : ℕ) → Chain t.bound limit cs stream
     → place < length cs → may_take_memory (extensions_at cs place) ≡ true → all_kept_below t cs (joined t.bound cs) place ≡ true → new ≡ raised old (asked_below t cs (joined t.bound cs) place) → StopsAsking t limit stream old new
 stops_at t limit cs place stream old new chain within takes kept rose = record {
@@ -87,7 +87,7 @@ stops_at t limit cs place stream old new chain within takes kept rose = record {
   questions = subst (λ s. new ≡ raised old (asked_below t cs s place)) (sym chain.joins) rose;
 }
 
--- the questions, place by place
+-- The questions, certificate by certificate.
 module _ (t : Terms) (cs : List PlainCertificate) (stream : List ℕ) where
   pub asked-is : asked_below t cs stream (length cs) ≡ asked t cs stream
   unfolding asked
@@ -96,14 +96,15 @@ module _ (t : Terms) (cs : List PlainCertificate) (stream : List ℕ) where
   asked_step : (n : ℕ) → asked_below t cs stream (suc n) ≡ asked_below t cs stream n + cond (all_kept_below t cs stream n && may_ask t cs stream n) (asked_signature t cs stream n) 0
   asked_step n = refl
 
-  -- where the rules before the signature are kept, the judge is asked about it
+  -- If the certificate keeps the rules before that of the signature, the verifier is asked about
+  -- it.
   pub asks_signature : (place : ℕ) → all_kept_below t cs stream place ≡ true → IsFirstUnsigned t cs stream place None
       → asked_below t cs stream place + asked_signature t cs stream place ≡ asked_below t cs stream (suc place)
   asks_signature place below kept =
       let may = and_from _ (may_ask t cs stream place) below (may_ask-true t cs stream place kept) in
       omega (arith, asked_step place, cond-true (all_kept_below t cs stream place && may_ask t cs stream place) (asked_signature t cs stream place) 0 may)
 
-  -- behind a place that breaks a rule nobody is asked
+  -- The verifier isn't asked after a certificate that breaks a rule.
   asked_stays : (place n : ℕ) → all_kept_below t cs stream (suc place) ≡ false → place < n
       → (asked_below t cs stream n ≡ asked_below t cs stream (suc place)) × (all_kept_below t cs stream n ≡ false)
   asked_stays place zero broken lt = absurd (omega arith)
@@ -117,13 +118,13 @@ module _ (t : Terms) (cs : List PlainCertificate) (stream : List ℕ) where
         | inr (inr above) ↦ absurd (omega arith)
       ]
 
-  -- all questions, where the signature at a place is refused
+  -- All questions, if the signature of a certificate is rejected.
   pub asked_signed : (place : ℕ) → place < length cs → keeps_at rules.WrongSignature t cs stream place ≡ false → asked_below t cs stream (suc place) ≡ asked t cs stream
   unfolding asked
   asked_signed place within broken =
       sym (asked_stays place (length cs) (and_right _ (keeps_all t cs stream place) (keeps_all-false t cs stream place rules.WrongSignature broken)) within).0
 
-  -- how often a judge is asked where a rule before the signature is broken
+  -- All questions, if a rule before that of the signature is broken.
   pub asked_unsigned : (place : ℕ) (rule : Rule) → place < length cs → IsFirstUnsigned t cs stream place (Some rule) → asked_below t cs stream place ≡ asked t cs stream
   unfolding asked
   asked_unsigned place rule within broken =

@@ -1,4 +1,4 @@
--- What the rules say at a place whose certificate is known.
+-- Laws about the rules for one certificate of a chain.
 use Rattle.std.specs.Prelude.{◌==◌}
 use Rattle.std.proofs.Common.{◌≡◌, ℕ, zero, suc, ◌+◌, ◌<◌, List, length, map, Bool, true, false, IsTrue, Option, Some, IfSome, slice_get, refl, sym, ap, ◌∙◌, subst}
 use Rattle.std.specs.List.{list_any}
@@ -41,7 +41,7 @@ pub keeps_at-is : (rule : Rule) (t : Terms) (cs : List PlainCertificate) (stream
     → keeps_at rule t cs stream place ≡ keeps rule t cs stream place c
 keeps_at-is rule t cs stream place c e = ap (λ o. option_map_or (keeps rule t cs stream place) o true) e
 
--- what is asked of a place's issuer is what its rules ask
+-- The checks against the possible issuers are those of the rules.
 module _ (anchors : List Anchor) (moment : ℕ) (purpose : List ℕ) (answers : Answers) (cs : List PlainCertificate) (stream : List ℕ) (c : PlainCertificate) where
   abbrev terms : Terms
   terms = terms_of anchors moment purpose answers
@@ -78,7 +78,8 @@ module _ (anchors : List Anchor) (moment : ℕ) (purpose : List ℕ) (answers : 
   asked_at (suc n) (issuers.Anchors those) signed h is e = absurd h
   asked_at (suc n) (issuers.Before b) signed h is e = refl
 
--- What a judge that answers the same said of the signature at a place, and how often it was asked.
+-- The answer about the signature at an index, and the number of questions, for a verifier with the
+-- same answers.
 pub signature_at : (anchors : List Anchor) (moment : ℕ) (purpose : List ℕ) (answers : Answers) (cs : List PlainCertificate) (place : ℕ) (e : Entry) (i : Issuer) (now : Answers) (said : Bool) (q k r l : ℕ)
     → IsEntry Bound cs place e → IsIssuer cs anchors place i → now ≡ answers
     → said ≡ signed_by Bound now e.signed.now (certificate_plain e.certificate.now) i → Rises (asked_of Bound now e.signed.now (certificate_plain e.certificate.now) i) q k r l
@@ -94,13 +95,13 @@ signature_at anchors moment purpose answers cs place e i now said q k r l entry 
           (ap (λ (a : Answers). asked_of Bound a e.signed.now this i) same ∙ asked_at anchors moment purpose answers cs s this place i e.signed.now issuer entry.certificate octets) rose,
     )
 
--- what is known of a place
+-- The facts that the check of a certificate needs.
 pub stands : (cs : List PlainCertificate) (anchors : List Anchor) (place : ℕ) (e : Entry) (n : ℕ) (i : Issuer) (r : PathRoom) → IsEntry Bound cs place e → n ≡ length cs
     → IsIssuer cs anchors place i → IsRoom Bound cs place r → StandsAt cs anchors place (certificate_plain e.certificate.now) ((place + 1) == n) i r
 stands cs anchors place e n i r entry long issuer room =
     record { certificate = entry.certificate; last_is = ap (λ m. (place + 1) == m) long; issuer = issuer; room = room }
 
--- algorithms are compared by their octets, which say what they are
+-- Algorithms are equal exactly if their encodings are.
 pub one_algorithm_by : (bound : ℕ) (r : Bool) (c : PlainCertificate) → IsValid (raw_certificate bound) c
     → (IsTrue r → octets_of (algorithm_identifier bound) (inner_algorithm c) ≡ octets_of (algorithm_identifier bound) (outer_algorithm c))
     → (inner_algorithm c ≡ outer_algorithm c → r ≡ true) → r ≡ has_one_algorithm bound c
@@ -108,7 +109,7 @@ one_algorithm_by bound r c h same differ =
     let valid = valid_algorithms bound c h in
     same_from_decides r (has_one_algorithm bound c) (same, λ e. differ (one_algorithm bound _ _ valid.0 valid.1 e)) (bytes_eq-Decides _ _)
 
--- what may be asked about keeps every rule before the signature
+-- A certificate that may be asked about keeps every rule before that of the signature.
 pub may_ask-kept : (t : Terms) (cs : List PlainCertificate) (stream : List ℕ) (place : ℕ) → may_ask t cs stream place ≡ true
     → (rule : Rule) → number rule < number rules.WrongSignature → keeps_at rule t cs stream place ≡ true
 may_ask-kept t cs stream place h rule lt = test_of_all (λ rule. keeps_at rule t cs stream place) h rule lt
@@ -122,7 +123,7 @@ pub may_ask-false : (t : Terms) (cs : List PlainCertificate) (stream : List ℕ)
 may_ask-false t cs stream place rule h broken =
     false_from_ne_true _ (λ e. both_ways _ broken (may_ask-kept t cs stream place e rule h))
 
--- the rules before the signature, and the signature
+-- The rules before that of the signature, and that of the signature.
 pub all_kept : (t : Terms) (cs : List PlainCertificate) (stream : List ℕ) (place : ℕ) → ((rule : Rule) → number rule < number rules.WrongSignature → keeps_at rule t cs stream place ≡ true)
     → keeps_at rules.WrongSignature t cs stream place ≡ true → (rule : Rule) → keeps_at rule t cs stream place ≡ true
 all_kept t cs stream place kept signed = or_signature (λ rule. keeps_at rule t cs stream place ≡ true) kept signed

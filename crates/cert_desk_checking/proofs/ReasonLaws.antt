@@ -1,4 +1,4 @@
--- Reasons of breaches.
+-- Laws about the reasons why a certificate breaks a rule.
 use Rattle.std.proofs.Common.{◌≡◌, ℕ, zero, suc, ◌+◌, ◌-◌, ◌<◌, ◌⊎◌, List, [], ◌∷◌, Bool, true, false, cond, not, ◌&&◌, ◌||◌, Option, Some, None, IfOk, IfSome, Result, Ok, Err, IsSome, length, drop, get_or, slice_get, inl, inr, sym, ap, ◌∙◌, refl, subst, arith}
 use Rattle.std.proofs.lemmas.List.{at_drop_more}
 use Rattle.std.proofs.lemmas.Bool.{and_left, and_right, both_ways, cases_order, false_from_ne_true, or_left, or_right}
@@ -23,14 +23,14 @@ use Rattle.cert_desk_rules.proofs.FoundLaws.{found_malformed, found_unweighed, f
 use Rattle.cert_desk_rules.proofs.PathLaws.{used_up_first}
 use Rattle.cert_desk_checking.proofs.PlaceLaws.{keeps_at-is}
 
--- what stands at a number of a list of plain values
+-- The element at an index of a list of plain values.
 pub at-plain : {A B : Type 0} (plain : A → B) (test : B → Bool) (xs : List A) (i : ℕ) (x : A) → i < length xs → x ≡ get_or xs i x
     → is_at test (plain_list plain xs) i ≡ test (plain x)
 at-plain plain test [] i x lt is = absurd (omega arith)
 at-plain plain test (y ∷ ys) zero x lt is = ap (λ z. test (plain z)) (sym is)
 at-plain plain test (y ∷ ys) (suc i) x lt is = at-plain plain test ys i x (omega arith) is
 
--- a test at a place behind the first ones
+-- A test at an index of a suffix of the list.
 pub at-drop : {A B : Type 0} (plain : A → B) (test : B → Bool) (n i : ℕ) (xs : List A)
     → is_at test (plain_list plain (drop n xs)) i ≡ is_at test (plain_list plain xs) (n + i)
 at-drop plain test zero i [] = refl
@@ -40,7 +40,7 @@ at-drop plain test (suc n) i (x ∷ xs) =
     let e : suc (n + i) ≡ suc n + i = omega arith in
     at-drop plain test n i xs ∙ ap (λ k. is_at test (plain_list plain (x ∷ xs)) k) e
 
--- where one isn't so, it is asked of those behind it
+-- If an element fails a test, the search goes on after it.
 pub any-more : {A B : Type 0} (plain : A → B) (test : B → Bool) (xs : List A) (i : ℕ) (x : A) → i < length xs → x ≡ get_or xs i x → test (plain x) ≡ false
     → list_any test (plain_list plain (drop (i + 1) xs)) ≡ list_any test (plain_list plain (drop i xs))
 any-more {A} plain test xs i x lt is fails =
@@ -48,7 +48,7 @@ any-more {A} plain test xs i x lt is fails =
     ∙ ap (λ (y : A). test (plain y) || list_any test (plain_list plain (drop (i + 1) xs))) (sym is)
     ∙ ap (λ b. b || list_any test (plain_list plain (drop (i + 1) xs))) fails)
 
--- what is found in one extension alone is what that extension says
+-- The findings about a single extension are those of that extension.
 pub against_alone : (bound : ℕ) (purpose : List ℕ) (rule : Rule) (e : PlainExtension) → goes_against (found bound purpose (e ∷ [])) rule ≡ is_against bound purpose rule e
 against_alone bound purpose rules.MalformedExtension e = found_malformed bound purpose (e ∷ []) ∙ sym (or_no _)
 against_alone bound purpose rules.UnweighedCritical e = found_unweighed bound purpose (e ∷ []) ∙ sym (or_no _)
@@ -56,13 +56,13 @@ against_alone bound purpose rules.AgainstPurpose e = ap not (found_serves bound 
 against_alone bound purpose rules.NotAuthority e = ap not (found_certifies bound purpose (e ∷ []) ∙ sym (and_yes _))
 against_alone bound purpose _ e = refl
 
--- one that is so
+-- An element that passes a test.
 pub any-at : {A : Type 0} (test : A → Bool) (xs : List A) (i : ℕ) → is_at test xs i ≡ true → list_any test xs ≡ true
 any-at test [] i h = absurd cc
 any-at test (x ∷ xs) zero h = or_left (test x) (list_any test xs) h
 any-at test (x ∷ xs) (suc i) h = or_right (test x) (list_any test xs) (any-at test xs i h)
 
--- one fails a test, so not all pass it
+-- If one element fails a test, not all pass it.
 not-both : (b c d : Bool) → c ≡ not d → (not b || c) ≡ not (b && d)
 not-both true c d e = e
 not-both false c d e = refl
@@ -71,7 +71,7 @@ pub any-not : {A : Type 0} (test : A → Bool) (xs : List A) → list_any (λ x.
 any-not test [] = refl
 any-not test (x ∷ xs) = not-both (test x) (list_any (λ y. not (test y)) xs) (list_all test xs) (any-not test xs)
 
--- Of two extensions of one identifier the first has one behind it.
+-- Of two extensions with the same OID, the first has a later one with its OID.
 pub twins-have : (es : List PlainExtension) (one other : ℕ) → one < other → are_twins es one other ≡ true → has_twin es one ≡ true
 twins-have [] one other lt h = absurd cc
 twins-have (e ∷ es) zero zero lt h = absurd (omega (arith, lt))
@@ -79,7 +79,7 @@ twins-have (e ∷ es) zero (suc other) lt h = ap (λ b. not (not b)) (any-at (ha
 twins-have (e ∷ es) (suc one) zero lt h = absurd (omega (arith, lt))
 twins-have (e ∷ es) (suc one) (suc other) lt h = twins-have es one other (omega (arith, lt)) h
 
--- with one place less, behind the first
+-- The number of certificates that count, with one certificate fewer.
 pub used_up_less : (bound : ℕ) (cs : List PlainCertificate) (before place left : ℕ) → before < place
     → left ≡ used_up bound cs (before + 1) (place - before)
     → left ≡ cond (counts bound cs (before + 1)) 1 0 + used_up bound cs (before + 1 + 1) (place - (before + 1))
@@ -89,7 +89,7 @@ used_up_less bound cs before place left lt is =
     is ∙ ap (used_up bound cs (before + 1)) many ∙ used_up_first bound cs (before + 1) (place - (before + 1))
     ∙ ap (λ m. cond (counts bound cs (before + 1)) 1 0 + used_up bound cs m (place - (before + 1))) next
 
--- what was found of a place says whether its path length is kept
+-- The findings about a certificate decide whether its path length is kept.
 pub length-found : (bound : ℕ) (purpose : List ℕ) (cs : List PlainCertificate) (before place n : ℕ) (c : PlainCertificate) (es : List PlainExtension) (f : Findings)
     → slice_get cs before ≡ Some c → es ≡ extensions_of c → f ≡ found bound purpose es → n ≡ used_up bound cs (before + 1) (place - before)
     → is_within n f.path_len ≡ keeps_length bound cs before place
@@ -100,7 +100,7 @@ length-found bound purpose cs before place n c es f at e is count =
     ∙ ap (λ (xs : List PlainExtension). list_all (λ x. is_within (used_up bound cs (before + 1) (place - before)) (path_length (weigh bound x))) xs)
     (e ∙ ap (λ o. option_map_or extensions_of o []) (sym at))
 
--- the first two of one identifier, by the first that has one behind it
+-- The first pair with the same OID, by the first extension that has a later one with its OID.
 pub first-twins : {A : Type 0} (plain : A → PlainExtension) (xs : List A) (first number : ℕ) (x : A) → first < length xs → x ≡ get_or xs first x
     → ((other : ℕ) → other < first → has_twin (plain_list plain xs) other ≡ false)
     → IsFirstAt (have_one_identifier (plain x)) (plain_list plain (drop (first + 1) xs)) number → AreFirstTwins (plain_list plain xs) first (first + 1 + number)
@@ -122,7 +122,7 @@ first-twins {A} plain xs first number x within is none here = (omega arith, at (
           ∙ subst (λ m. are_twins (plain_list plain xs) m other ≡ true) same twins)
     ])
 
--- a path length that is passed
+-- A path length that is exceeded.
 pub lengths-broken : (bound : ℕ) (cs : List PlainCertificate) (before n other : ℕ) → before < n → keeps_length bound cs before other ≡ false → keep_lengths bound cs n other ≡ false
 lengths-broken bound cs before zero other lt h = absurd (omega (arith, lt))
 lengths-broken bound cs before (suc n) other lt h =
@@ -132,7 +132,7 @@ lengths-broken bound cs before (suc n) other lt h =
       | inr (inr above) ↦ absurd (omega (arith, lt, above))
     ]
 
--- what follows of what is told
+-- A reason that exists.
 pub is-some-by : {A : Type 0} (o : Option A) → is_some o ≡ true → IsSome o
 is-some-by None h = absurd cc
 is-some-by (Some x) h = refl
@@ -141,7 +141,7 @@ pub told-where : {A E : Type 0} {b : Bool} (F : Option A → Type 0) (r : Result
 told-where F (Ok o) h f = f o h
 told-where F (Err e) h f = tt
 
--- the first reason for a path that is too long
+-- The first reason why a path is too long.
 module _ (bound : ℕ) (purpose : List ℕ) (cs : List PlainCertificate) (place : ℕ) where
   pub first-length : (before : ℕ) → before < place → keeps_length bound cs before place ≡ false → keep_lengths bound cs before place ≡ true
       → ExplainsFirst bound purpose cs place rules.PathTooLong (reasons.PathLength before)
@@ -153,7 +153,7 @@ module _ (bound : ℕ) (purpose : List ℕ) (cs : List PlainCertificate) (place 
       none reasons.NoConstraints less h = absurd less
       none (reasons.PathLength n) less h = both_ways _ (lengths-broken bound cs n before place less h.2) kept
 
--- the reason of a path that is too long
+-- The reason why a path is too long is that of the rule.
 pub length-explained : {E : Type 0} (bound : ℕ) (purpose : List ℕ) (cs : List PlainCertificate) (place : ℕ) (rule : Rule) (r : Result (Option Reason) E) → rule ≡ rules.PathTooLong
     → IfOk r (λ told. IfSome told (λ reason. (before : ℕ) × (reason ≡ reasons.PathLength before) × (before < place) × (keeps_length bound cs before place ≡ false) × (keep_lengths bound cs before place ≡ true)))
     → IfOk r (λ told. IfSome told (ExplainsFirst bound purpose cs place rule))
@@ -163,7 +163,7 @@ length-explained bound purpose cs place rule (Ok (Some reason)) is h =
     (subst (λ (k : Rule). ExplainsFirst bound purpose cs place k (reasons.PathLength h.0)) (sym is) (first-length bound purpose cs place h.0 h.2 h.3 h.4))
 length-explained bound purpose cs place rule (Err error) is h = tt
 
--- where a rule of this kind is broken
+-- A certificate breaks a rule that has reasons.
 module _ (t : Terms) (cs : List PlainCertificate) (stream : List ℕ) (place : ℕ) (c : PlainCertificate) (at : slice_get cs place ≡ Some c) (bound : t.bound ≡ Bound) where
   pub broken-malformed : list_any (is_against Bound t.purpose rules.MalformedExtension) (extensions_of c) ≡ not (keeps_at rules.MalformedExtension t cs stream place)
   broken-malformed =

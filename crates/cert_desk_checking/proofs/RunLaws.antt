@@ -1,4 +1,4 @@
--- What a run reads.
+-- Laws about the input that a run reads.
 use Rattle.std.proofs.Common.{◌≡◌, ◌≢◌, ℕ, ◌<◌, List, [], ◌++◌, length, Result, Ok, Err, OnOk, IfErr, ◌⊎◌, inl, inr, refl, subst, sym, ap, ◌∙◌, arith, append-nil}
 use Rattle.x509_cert_anchors.specs.Oid.Bound.{Bound}
 use Rattle.cert_desk_rules.specs.DeskIo.Devices.{Device, Moved, MetEnd, Sound}
@@ -34,7 +34,7 @@ early kinds.TooLarge ne = omega arith
 early kinds.Malformed ne = omega arith
 early kinds.Truncated ne = absurd (ne refl)
 
--- what an open bundle reads has no fault but that it may end too early
+-- An open bundle has read an input with no error, except that it may end too early.
 no_fault : (bound limit : ℕ) (cs ds : List PlainCertificate) (rest stream : List ℕ) (kind : FaultKind) → kind ≢ kinds.Truncated
     → SeriesSplit (raw_certificate bound) limit stream cs rest
     → NoneBefore (raw_certificate bound) limit (length (encodings (raw_certificate bound) cs)) kinds.Truncated rest
@@ -46,12 +46,12 @@ no_fault bound limit cs ds rest stream kind ne split none f =
     (subst (λ (x : List ℕ). Says s limit (length (encodings s cs)) kind x) same.1
     (subst (λ (xs : List PlainCertificate). Says s limit (length (encodings s xs)) kind f.rest) same.0 f.fault.says))
 
--- What a new bundle was fed, by what reading answered.
+-- The input that a new bundle has read, by the result of reading.
 module _ (input : Device) (old new : Kept) (opened : old.standing ≡ standings.Open) (empty : Reads Bound old []) (limit : new.limit ≡ old.limit) where
   fed_under : (standing : Standing) → new.standing ≡ standing → FedUnder input new standing → IsFed input new
   fed_under standing e h = subst (λ (s : Standing). FedUnder input new s) (sym e) h
 
-  -- what is read by a bundle that still takes pieces
+  -- The input that an open bundle has read.
   may_go_on : (now : Kept) → now.limit ≡ old.limit → (octets : List ℕ) → ReadsUnder Bound standings.Open now octets → MayGoOn new.limit octets
   may_go_on now same octets reads = λ cs kind ne f.
       no_fault Bound now.limit now.certificates cs now.rest octets kind ne reads.0 reads.1
@@ -108,7 +108,7 @@ module _ (input : Device) (old new : Kept) (opened : old.standing ≡ standings.
   fed_by (Ok x) standing ended sound reads refused = fed_under standings.Ended standing (reads.0, reads.1, reads.2 [] empty, ended, sound)
   fed_by (Err e) standing ended sound reads refused = fed_refused e refused
 
--- What a bundle was fed that ended so.
+-- The input that a bundle in this state has read.
 module _ (input : Device) (b : Kept) where
   pub fed_none : IsFed input b → b.standing ≡ standings.NoDevice → ReadFailed input b.limit
   fed_none h e = let fed : FedUnder input b standings.NoDevice = subst (λ (s : Standing). FedUnder input b s) e h in (fed.0, fed.1, fed.2)
@@ -126,7 +126,7 @@ module _ (input : Device) (b : Kept) where
       (fed.4, inr (fed.0, fed.1, fed.3, stops fed.0 e fed.2))
 
   module _ (t : Terms) (bound : t.bound ≡ Bound) where
-    -- a chain is read to its end for its verdict
+    -- A chain is read to its end for its verdict.
     read_whole : (octets : List ℕ) (verdict : Verdict) → Chain Bound b.limit b.certificates octets → IsVerdict t b.limit octets verdict → MetEnd input → IsReadFor verdict input b.limit
     read_whole octets verdicts.Trusted chain is met = met
     read_whole octets (verdicts.Refused place rule) chain is met = met
@@ -135,7 +135,7 @@ module _ (input : Device) (b : Kept) where
         absurd (fault_no_chain Bound b.limit is.certificates b.certificates kind octets found chain)
     read_whole octets verdicts.Empty chain is met = met
 
-    -- neither want of memory nor a device stopped it
+    -- Neither memory nor an I/O error stopped the bundle.
     pub fed_reads : (verdict : Verdict) (place offset : ℕ) (standing : Standing) → b.standing ≡ standing → FedUnder input b standing
         → (standing ≡ standings.NoMemory → ⊥) → (standing ≡ standings.NoDevice → ⊥)
         → ((kind : FaultKind) → standing ≡ standings.Faulted kind → verdict ≡ verdicts.StreamFault place offset kind)

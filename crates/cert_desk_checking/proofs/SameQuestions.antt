@@ -1,4 +1,5 @@
--- What is listed is answered as by whoever answered it: an answer is about its own question alone.
+-- A list of the questions that a verifier accepts gives the same answers as that verifier, because
+-- an accepted question is only equal to itself.
 use Rattle.std.proofs.Common.{◌≡◌, ℕ, List, [], ◌∷◌, Bool, true, false, cond, Option, Some, None, inl, inr, ◌⊎◌, refl, ap, sym, ◌∙◌}
 use Rattle.std.specs.Prelude.{◌||◌, bytes_eq, filter}
 use Rattle.std.specs.Cmp.Lexicographic.{bytes_decides}
@@ -23,7 +24,7 @@ use Rattle.cert_desk_checking.specs.QuestionLines.{QuestionLine, questions_of_li
 use Rattle.cert_desk_rules.specs.Questions.{Question, answer_on}
 use Rattle.cert_desk_checking.proofs.AskedValues.{IsWritable}
 
--- Bits
+-- Bits.
 
 abbrev bits_of : ℕ → List ℕ → Bits
 bits_of unused octets = record { unused = unused; octets = octets }
@@ -38,7 +39,7 @@ one_bits a b e =
 bits_itself : (a : Bits) → same_bits a a ≡ true
 bits_itself a = (bytes_decides (bit_contents a) (bit_contents a)).1 refl
 
--- Any values
+-- Values of any type.
 
 abbrev any_of : Tag → List ℕ → AnyValue
 any_of tag contents = record { tag = tag; contents = contents }
@@ -63,7 +64,7 @@ parameters_itself : (a : Option AnyValue) → option_eq same_any a a ≡ true
 parameters_itself None = refl
 parameters_itself (Some a) = (bytes_decides (any_key a) (any_key a)).1 refl
 
--- Algorithms
+-- Algorithms.
 
 abbrev algorithm_of : List ℕ → Option AnyValue → Algorithm
 algorithm_of arcs parameters = (arcs, (parameters, tt))
@@ -81,7 +82,7 @@ one_algorithm a b h k e =
 algorithm_itself : (a : Algorithm) → same_algorithm a a ≡ true
 algorithm_itself a = and_from _ _ ((bytes_decides (identifier_octets (algorithm_arcs a)) (identifier_octets (algorithm_arcs a))).1 refl) (parameters_itself (algorithm_parameters a))
 
--- Keys
+-- Keys.
 
 abbrev key_of : Algorithm → Bits → PublicKey
 key_of algorithm bits = (algorithm, (bits, tt))
@@ -96,12 +97,12 @@ one_key a b h k e =
     ap (λ x. key_of x (key_bits a)) (one_algorithm (key_algorithm a) (key_algorithm b) (valid_algorithm a h) (valid_algorithm b k) both.0)
     ∙ ap (key_of (key_algorithm b)) (one_bits (key_bits a) (key_bits b) both.1)
 
--- Questions
+-- Questions.
 
 abbrev question_of : PublicKey → Algorithm → List ℕ → Bits → Question
 question_of key algorithm signed bits = record { key = key; algorithm = algorithm; signed = signed; bits = bits }
 
--- whether an answer to one question is about another
+-- An accepted question is about another one.
 abbrev is_of : Question → Question → Bool
 is_of q p = is_about q.key q.algorithm q.signed q.bits p
 
@@ -123,7 +124,7 @@ question_itself q =
     (and_from _ _ (bits_itself q.bits)
     (and_from _ _ (algorithm_itself q.algorithm) (and_from _ _ (algorithm_itself (key_algorithm q.key)) (bits_itself (key_bits q.key)))))
 
--- What is listed of lines
+-- Lists of lines.
 
 same_tests : (a b : Bool) → (a ≡ true → b ≡ true) → (b ≡ true → a ≡ true) → a ≡ b
 same_tests true true f g = refl
@@ -135,11 +136,11 @@ module _ (answers : Answers) where
   abbrev says : QuestionLine → Bool
   says l = answer_on answers l.question
 
-  -- the answers to the lines to which it is yes
+  -- The questions of these lines that the verifier accepts.
   abbrev pub yes_to : List QuestionLine → List Question
   yes_to lines = questions_of_lines (filter says lines)
 
-  -- among these lines
+  -- The line is among these lines.
   abbrev Among : QuestionLine → List QuestionLine → Type 0
   Among l [] = ⊥
   Among l (m ∷ more) = (m ≡ l) ⊎ Among l more
@@ -158,7 +159,7 @@ module _ (answers : Answers) where
       or_right false y h = h
   later_yes q false m more e = e
 
-  -- a line to which it is yes is answered
+  -- An accepted question is in the list.
   answered : (l : QuestionLine) (lines : List QuestionLine) → Among l lines → says l ≡ true → list_any (is_of l.question) (yes_to lines) ≡ true
   answered l [] among right = absurd among
   answered l (m ∷ more) among right =
@@ -179,7 +180,7 @@ module _ (answers : Answers) where
       ]
   of_first q m more h k others false wrong any = others any
 
-  -- what is answered is a question to which it is yes
+  -- A question that matches the list is accepted.
   was_yes : (q : Question) (lines : List QuestionLine) → IsWritable q → AllByRecursion (λ l. IsWritable l.question) lines
       → list_any (is_of q) (yes_to lines) ≡ true → answer_on answers q ≡ true
   was_yes q [] h each e = absurd cc
@@ -193,7 +194,7 @@ module _ (answers : Answers) where
       wider [] h = tt
       wider (x ∷ xs) h = (inr h.0, wider xs h.1)
 
-  -- the list of what it says yes to answers each line as it does
+  -- The list gives the verifier's answer to each line.
   pub listed_alike : (lines : List QuestionLine) → AllByRecursion (λ l. IsWritable l.question) lines
       → AllByRecursion (λ l. answer_on answers l.question ≡ answer_on (only_yes_to (yes_to lines)) l.question) lines
   listed_alike lines each = go lines each (each_among lines)

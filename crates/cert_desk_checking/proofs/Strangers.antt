@@ -1,4 +1,5 @@
--- Anchors of another name than the first issuer's change nothing, and few questions are asked.
+-- Trust anchors with other names than the first issuer's change nothing, and few questions are
+-- asked.
 use Rattle.std.proofs.Common.{◌≡◌, ℕ, zero, suc, ◌+◌, ◌≤◌, List, [], ◌∷◌, length, Bool, true, false, ◌&&◌, ◌||◌, cond, Option, Some, None, slice_get, refl, sym, ap, ◌∙◌, arith}
 use Rattle.std.specs.List.{filter, list_any}
 use Rattle.std.specs.Option.{option_map_or}
@@ -13,7 +14,7 @@ use Rattle.cert_desk_rules.specs.Verdicts.{IsVerdict, all_kept_below, asked, ask
 use Rattle.cert_desk_rules.proofs.Asking.{asked_anchors, says_yes}
 use Rattle.cert_desk_checking.proofs.AlikeTerms.{Alike, asked_alike, asked_of_first, verdict_alike}
 
--- what a filter keeps
+-- A test on a filtered list.
 
 module _ {A : Type 0} (kept test : A → Bool) (only : (x : A) → kept x ≡ false → test x ≡ false) where
   any_step : (x : A) (rest : List A) (b : Bool) → kept x ≡ b → (test x || list_any test rest) ≡ list_any test (cond b (x ∷ rest) rest)
@@ -35,7 +36,7 @@ length_kept kept (x ∷ xs) = by (kept x) (length_kept kept xs)
     by true h = omega arith
     by false h = omega arith
 
--- of the anchors only those of the issuer's name are asked
+-- The verifier is only asked under trust anchors with the issuer's name.
 
 module _ (t : Terms) (cs : List PlainCertificate) (stream : List ℕ) (c : PlainCertificate) where
   asked_step : (a : PlainAnchor) (rest : List PlainAnchor) (b answer : Bool)
@@ -82,7 +83,7 @@ few_questions t c cs stream =
     let few = few_named t c cs stream in
     (few, omega (arith, few, length_kept (is_named t.bound c) t.anchors))
 
--- strangers
+-- Trust anchors with other names.
 
 module _ (t : Terms) (others : List PlainAnchor) (stream : List ℕ) (c : PlainCertificate) (cs : List PlainCertificate)
     (same : anchors_named t.bound c t.anchors ≡ anchors_named t.bound c others) where

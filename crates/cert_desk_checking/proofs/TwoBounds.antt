@@ -27,7 +27,7 @@ use Rattle.cert_desk_rules.proofs.ExtensionLaws.{by_kind}
 use Rattle.cert_desk_rules.proofs.Meanings.{meaning_read, read_meaning}
 use Rattle.cert_desk_rules.proofs.DeskBundle.SeriesLaws.{each-so}
 
--- Certificates
+-- Certificates.
 
 certificate_octets_same : (bound : ℕ) (c : PlainCertificate) → octets_of (raw_certificate bound) c ≡ octets_of (raw_certificate 0) c
 unfolding octets_of
@@ -105,7 +105,7 @@ chain_new small large limit cs stream h = by (each_or_large small large limit cs
     by (inl all) = inl (record { each = all; joins = h.joins ∙ same_joined large small cs; fits = h.fits })
     by (inr p) = inr p
 
--- The contents of extensions
+-- The contents of extensions.
 
 abbrev extension : ℕ → Shape
 extension bound = sequence (field (object_identifier bound) (field false_by_default (field (tagged tags.OctetString (leaf octets)) done)))
@@ -146,7 +146,7 @@ names = record {
   enough = λ b. refl;
 }
 
--- ExtKeyUsageSyntax (RFC 5280 4.2.1.12)
+-- ExtKeyUsageSyntax (RFC 5280 4.2.1.12).
 abbrev purposes_shape : ℕ → Shape
 purposes_shape bound = sequence_of (object_identifier bound)
 
@@ -172,7 +172,7 @@ usages = record {
   enough = λ b. refl;
 }
 
--- what is read of all octets leaves none
+-- A value that is decoded from all bytes leaves none.
 pub leaves_none : (s : Shape) (w : List ℕ) (v : Value s) (r : List ℕ) → read_whole s w ≡ Ok (v, r) → read_whole s w ≡ Ok (v, [])
 unfolding read_whole
 leaves_none s w v r e =
@@ -182,8 +182,8 @@ leaves_none s w v r e =
     let none : r ≡ [] = sym (ap (λ (q : Value s × List ℕ). q.1) o.0) ∙ o.1 in
     e ∙ ap (λ (q : List ℕ). Ok (v, q)) none
 
--- What an extension says under two bounds: the same, or it is malformed under the first and isn't under the other, where it holds a
--- large arc.
+-- The meaning of an extension under two bounds: it is the same, or the extension is malformed only
+-- under the first one, and contains a large arc.
 abbrev Weighed : ℕ → Meaning → Meaning → Type 0
 Weighed small m n = (m ≡ n) ⊎ ((m ≡ malformed) × (is_malformed n ≡ false) × HoldsLarge small (identifiers_said n))
 

@@ -1,4 +1,4 @@
--- Faults of streams under a wider bound of arcs.
+-- Errors of an input under a larger bound of arcs.
 use Rattle.std.proofs.Common.{◌≡◌, ◌≢◌, ℕ, ◌+◌, ◌<◌, ◌≤◌, ◌^◌, ◌⊎◌, inl, inr, List, [], ◌∷◌, ◌++◌, length, Result, Ok, Err, refl, sym, ap, ◌∙◌, subst, arith, append_assoc, length-append}
 use Rattle.std.proofs.lemmas.Bool.{cases_lt}
 use Rattle.x509_cert_anchors.specs.Der.ErrorTypes.ErrorKind.{ErrorKind}
@@ -22,7 +22,7 @@ use Rattle.cert_desk_rules.proofs.DeskBundle.SeriesLaws.{Series-more, each-last,
 use Rattle.cert_desk_rules.proofs.DeskBundle.SeriesReading.{reads_fault}
 use Rattle.cert_desk_checking.proofs.TwoBounds.{certificate_or_large, certificate_wider, chain_wider, leaves_none, same_encoding, same_joined}
 
--- whether all are octets
+-- Numbers are all bytes, or not all of them are.
 octets_or_not : (w : List ℕ) → IsOctets w ⊎ (IsOctets w → ⊥)
 octets_or_not [] = inl tt
 octets_or_not (b ∷ w) =
@@ -31,7 +31,7 @@ octets_or_not (b ∷ w) =
       | inr above ↦ inr (λ h. let below = h.0 in absurd (omega arith))
     ]
 
--- whether octets are those of a certificate
+-- Bytes are the encoding of a certificate, or of none.
 spelled_or_not : (bound : ℕ) (w : List ℕ)
     → ((c : PlainCertificate) × Spells (raw_certificate bound) c w) ⊎ ((c : PlainCertificate) → IsValid (raw_certificate bound) c → octets_of (raw_certificate bound) c ≡ w → ⊥)
 spelled_or_not bound w =
@@ -49,7 +49,7 @@ spelled_or_not bound w =
 abbrev body : ℕ → PlainCertificate → List ℕ
 body bound c = body_octets (raw_certificate_fields bound) c
 
--- a header, and content that a length counts
+-- A certificate is a header and a content, whose length fits.
 headed : (bound : ℕ) (c : PlainCertificate) → octets_of (raw_certificate bound) c ≡ head_octets tags.Sequence (length (body bound c)) ++ body bound c
 unfolding octets_of contents tlv
 headed bound c = refl
@@ -67,7 +67,7 @@ module _ (small large : ℕ) (le : small ≤ large) (limit : ℕ) (cs : List Pla
   abbrev offset : ℕ
   offset = length (joined small cs)
 
-  -- what is said of octets under the wider bound is said of them under the narrow one
+  -- A kind of error that applies under the larger bound applies under the smaller one.
   says_narrow : (kind : FaultKind) → Says (raw_certificate large) limit offset kind rest → Says (raw_certificate small) limit offset kind rest
   says_narrow kinds.NoCertificate s = s
   says_narrow kinds.Indefinite s = s
@@ -91,7 +91,7 @@ module _ (small large : ℕ) (le : small ≤ large) (limit : ℕ) (cs : List Pla
     fault_wider : (kind : FaultKind) → IsFault (raw_certificate large) limit offset kind rest → IsFault (raw_certificate large) limit (length (joined large cs)) kind rest
     fault_wider kind f = subst (λ (s : List ℕ). IsFault (raw_certificate large) limit (length s) kind rest) (same_joined small large cs) f
 
-    -- a fault of a kind before the end of the stream
+    -- An error before the end of the input.
     goes_on : (kind : FaultKind) → kind ≢ kinds.Truncated → Says (raw_certificate large) limit offset kind rest → NoneBefore (raw_certificate small) limit offset kind rest
         → StreamFault large limit stream cs kind
     goes_on kind ne says first =
@@ -101,7 +101,7 @@ module _ (small large : ℕ) (le : small ≤ large) (limit : ℕ) (cs : List Pla
     abbrev OrBegins : FaultKind → Type 0
     OrBegins kind = StreamFault large limit stream cs kind ⊎ ((c : PlainCertificate) × BeginsSeries (raw_certificate large) limit (cs ++ c ∷ []) stream × HoldsLarge small (identifiers_in c))
 
-    -- a certificate that stands where none did
+    -- A certificate that is only one under the larger bound.
     begins_wider : (c : PlainCertificate) (more : List ℕ) → Stands large limit c → offset + length (octets_of (raw_certificate large) c) < 2 ^ 64
         → rest ≡ octets_of (raw_certificate large) c ++ more → BeginsSeries (raw_certificate large) limit (cs ++ c ∷ []) stream
     begins_wider c more stands fits e =
@@ -115,7 +115,7 @@ module _ (small large : ℕ) (le : small ≤ large) (limit : ℕ) (cs : List Pla
           whole = whole_wider ∙ ap (λ (w : List ℕ). joined large cs ++ w) e ∙ sym (append_assoc (joined large cs) (octets_of s c) more) ∙ ap (λ (w : List ℕ). w ++ more) (sym longer);
         }
 
-    -- where a malformed value stands, a certificate may
+    -- A malformed value may be a certificate under the larger bound.
     malformed_wider : IsFault (raw_certificate small) limit offset kinds.Malformed rest → OrBegins kinds.Malformed
     malformed_wider f =
         let s = f.says in
@@ -139,7 +139,7 @@ module _ (small large : ℕ) (le : small ≤ large) (limit : ℕ) (cs : List Pla
           ]
         ]
 
-    -- a stream that ends inside a value ends inside it
+    -- An input that ends inside a certificate does so under the larger bound.
     truncated_wider : ((v : PlainCertificate) (more : List ℕ) → Chain small limit (cs ++ v ∷ []) (joined small (cs ++ v ∷ [])) → rest ≡ octets_of (raw_certificate small) v ++ more → ⊥)
         → IsFault (raw_certificate small) limit offset kinds.Truncated rest → StreamFault large limit stream cs kinds.Truncated
     truncated_wider longest f = record {

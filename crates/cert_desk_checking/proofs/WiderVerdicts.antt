@@ -1,4 +1,5 @@
--- Chains under a wider bound of arcs: the same rules are kept, unless an extension becomes readable.
+-- Chains keep the same rules under a larger bound of arcs, unless an extension can only be decoded
+-- there.
 use Rattle.std.proofs.Common.{◌≡◌, ℕ, zero, suc, ◌+◌, ◌-◌, ◌≤◌, ◌⊎◌, inl, inr, List, [], ◌∷◌, Bool, true, not, ◌&&◌, ◌||◌, cond, Option, Some, None, slice_get, refl, sym, ap, ◌∙◌, subst}
 use Rattle.std.specs.List.{AllByRecursion, list_all, list_any}
 use Rattle.std.specs.Option.{option_map_or}
@@ -39,7 +40,7 @@ each_at P (y ∷ xs) zero x all e = let is : y ≡ x = cc in subst P is all.0
 each_at P (y ∷ xs) (suc n) x all e = each_at P xs n x all.1 e
 
 module _ (small large : ℕ) where
-  -- what extensions say alike, tests tell alike
+  -- Extensions with the same meanings pass the same tests.
   say_any : (test : Meaning → Bool) (es : List PlainExtension) → AllByRecursion (λ e. weigh small e ≡ weigh large e) es
       → list_any (λ e. test (weigh small e)) es ≡ list_any (λ e. test (weigh large e)) es
   say_any test es all = any_each (λ e. test (weigh small e)) (λ e. test (weigh large e)) es
@@ -156,7 +157,7 @@ verdicts_wider t wide limit cs stream le chain =
           )
     ]
 
--- a trusted chain has no malformed extension
+-- A trusted chain has no malformed extension.
 none_unread : (t : Terms) (wide limit : ℕ) (stream : List ℕ) (trusted : Trusted t limit stream) → OneBecomesReadable t.bound wide trusted.certificates → ⊥
 none_unread t wide limit stream trusted p =
     let cs = trusted.certificates in

@@ -1,4 +1,4 @@
--- Certificates that stand one behind the other in a longer list, and the rules that they keep there.
+-- Certificates that follow one another in a longer list, and the rules that they keep there.
 use Rattle.std.proofs.Common.{◌≡◌, ℕ, zero, suc, ◌+◌, ◌-◌, ◌<◌, ◌≤◌, ◌^◌, List, [], length, Bool, true, false, not, ◌&&◌, ◌||◌, cond, Some, slice_get, refl, sym, ap, ◌∙◌, subst, arith, inl, inr}
 use Rattle.std.specs.List.{AllByRecursion, list_all}
 use Rattle.std.specs.Option.{option_map_or}
@@ -20,12 +20,12 @@ use Rattle.cert_desk_checking.proofs.Encodings.{signed_part-is}
 use Rattle.cert_desk_rules.proofs.Folds.{or_yes}
 use Rattle.cert_desk_rules.proofs.Asking.{says_yes}
 
--- cs stand in ds, from a place on
+-- The certificates cs are in ds, from an index on.
 pub record Window (ds cs : List PlainCertificate) (from : ℕ) : Type 0 where
   pub at : (p : ℕ) → p < length cs → slice_get cs p ≡ slice_get ds (from + p)
   pub long : from + length cs ≤ length ds
 
--- which path lengths are kept
+-- The path lengths that are kept.
 
 keep_lengths-at : (bound : ℕ) (xs : List PlainCertificate) (n other : ℕ) → keep_lengths bound xs n other ≡ true → (p : ℕ) → p < n → keeps_length bound xs p other ≡ true
 keep_lengths-at bound xs zero other h p lt = absurd (omega arith)
@@ -41,7 +41,7 @@ keep_lengths-from bound xs zero other h = refl
 keep_lengths-from bound xs (suc n) other h =
     and_from (keep_lengths bound xs n other) (keeps_length bound xs n other) (keep_lengths-from bound xs n other (λ p lt. h p (omega (arith, lt)))) (h n (omega arith))
 
--- behind a place stands another one
+-- A certificate that has one after it isn't the last.
 not_last : (xs : List PlainCertificate) (p : ℕ) → suc p < length xs → is_last xs p ≡ false
 not_last xs p h = elim (eqb_tells (p + 1) (length xs)) [ inl e ↦ let same = e.1 in absurd (omega arith) | inr e ↦ e.0 ]
 
@@ -94,7 +94,7 @@ module _ (bound : ℕ) (ds cs : List PlainCertificate) (from : ℕ) (w : Window 
           let all : keep_lengths bound ds (from + place) (from + place) ≡ true = sym (ap (λ b. not b || keep_lengths bound ds (from + place) (from + place)) e) ∙ kept in
           ap (λ b. not (counts bound cs place) || b) (lengths_at place h all) ∙ sym (or_yes (not (counts bound cs place)))
 
-  -- the last one needs no authority
+  -- The last certificate needn't be that of a CA.
   authority_at : (place : ℕ) (can : Bool) → place < length cs → (is_last ds (from + place) || can) ≡ true → (is_last cs place || can) ≡ true
   authority_at place can lt h =
       let long = w.long in
@@ -106,12 +106,13 @@ module _ (bound : ℕ) (ds cs : List PlainCertificate) (from : ℕ) (w : Window 
       ]
 
 module _ (t : Terms) (anchors : List PlainAnchor) (ds cs : List PlainCertificate) (from : ℕ) (w : Window ds cs from) where
-  -- the octets that are signed are the certificate's own
+  -- The signed bytes are those of the certificate itself.
   pub same_signed : (place : ℕ) (c : PlainCertificate) → slice_get cs place ≡ Some c → slice_get ds (from + place) ≡ Some c
       → signed_part t.bound cs (joined t.bound cs) place c ≡ signed_part t.bound ds (joined t.bound ds) (from + place) c
   same_signed place c e f = signed_part-is t.bound cs place c e ∙ sym (signed_part-is t.bound ds (from + place) c f)
 
-  -- what is kept in the longer list is kept here, names and signatures aside
+  -- The rules that the certificate keeps in the longer list, apart from those on names and
+  -- signatures, are kept here.
   kept_in : (place : ℕ) (c : PlainCertificate) → place < length cs → is_linked (among t anchors) cs place c ≡ true → is_signed (among t anchors) cs (joined t.bound cs) place c ≡ true
       → ((rule : Rule) → keeps rule t ds (joined t.bound ds) (from + place) c ≡ true) → (rule : Rule) → keeps rule (among t anchors) cs (joined t.bound cs) place c ≡ true
   kept_in place c lt linked signed kept rules.WrongIssuer = linked
@@ -133,7 +134,8 @@ module _ (t : Terms) (anchors : List PlainAnchor) (ds cs : List PlainCertificate
         ∙ ap (λ (s : List ℕ). option_map_or (λ b. t.answers (public_key b) (outer_algorithm c) s (signature_bits c)) (slice_get ds (from + p)) false) part
         ∙ h
 
-  -- where each place of the longer list keeps every rule, and the first certificate here has an issuer, this is a trusted chain
+  -- If each certificate of the longer list keeps every rule, and the first certificate here has an
+  -- issuer, this is a trusted chain.
   pub trusted_window : (limit : ℕ) → AllByRecursion (Stands t.bound limit) cs → length (joined t.bound cs) < 2 ^ 64 → 0 < length cs
       → ((place : ℕ) (rule : Rule) → place < length ds → keeps_at rule t ds (joined t.bound ds) place ≡ true)
       → ((c : PlainCertificate) → slice_get cs 0 ≡ Some c → ((rule : Rule) → keeps rule t ds (joined t.bound ds) (from + 0) c ≡ true)

@@ -1,4 +1,4 @@
--- Why octets give no anchors.
+-- Why bytes aren't a file of trust anchors.
 use Rattle.std.specs.Prelude.{◌≡◌, ℕ, List, drop, Err}
 use Rattle.x509_cert_anchors.specs.Anchors.{PlainAnchor as PlainChoice}
 use Rattle.cert_desk_checking.specs.declared.anchor_error.AnchorError.TheVariants as reasons
@@ -9,26 +9,27 @@ use Rattle.cert_desk_checking.specs.declared.anchors_error.AnchorsError.TheVaria
 use Rattle.cert_desk_checking.specs.Anchors.{given_by}
 use Rattle.cert_desk_checking.specs.AnchorFiles.{IsFaulty, HasFirstFault}
 
--- this fault, at this offset, or there was no memory; no device fails
+-- The reason is an error at an offset, or memory ran out. It isn't an I/O error.
 abbrev pub FailsBy : (ℕ → AnchorFault → Type 0) → AnchorsError → Type 0
 FailsBy Faulty (errors.BadAnchors offset fault) = Faulty offset fault
 FailsBy Faulty errors.Device = ⊥
 FailsBy Faulty errors.OutOfMemory = Unit {0}
 
--- why a trust anchor that begins at the start gives none: it is of a kind that doesn't
+-- The reason why a trust anchor can't be used.
 abbrev pub UngivenFor : PlainChoice → AnchorFault → Type 0
 UngivenFor c faults.Malformed = ⊥
 UngivenFor c faults.NoName = given_by c ≡ Err reasons.NoName
 UngivenFor c faults.PathControls = given_by c ≡ Err reasons.PathControls
 
+-- The error for a trust anchor that can't be used.
 abbrev pub IsUngiven : PlainChoice → ℕ → AnchorsError → Type 0
 IsUngiven c start error = FailsBy (λ offset fault. (offset ≡ start) × UngivenFor c fault) error
 
--- why no anchor begins at the start
+-- The reason why no usable trust anchor begins at the start.
 abbrev pub GivesNone : List ℕ → ℕ → AnchorsError → Type 0
 GivesNone octets start error =
     FailsBy (λ offset fault. (offset ≡ start) × IsFaulty fault (drop start octets)) error
 
--- why a file gives no anchors
+-- The reason why the bytes aren't a file of usable trust anchors.
 abbrev pub IsNoAnchorFile : List ℕ → AnchorsError → Type 0
 IsNoAnchorFile octets error = FailsBy (HasFirstFault octets) error

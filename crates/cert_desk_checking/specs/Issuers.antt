@@ -1,4 +1,4 @@
--- Which anchors a chain depends on, and what its places show to a judge.
+-- The trust anchors that a chain depends on, and what its certificates show to a verifier.
 use Rattle.std.specs.Prelude.{ℕ, List, Option, slice_get}
 use Rattle.std.specs.List.{filter}
 use Rattle.std.specs.Option.{option_map}
@@ -9,21 +9,21 @@ use Rattle.x509_cert_anchors.specs.CertCertificates.Certificates.{signature_bits
 use Rattle.x509_cert_anchors.specs.CertParts.Grammar.{Algorithm}
 use Rattle.cert_desk_rules.specs.Judging.{Terms, PlainAnchor, is_named, signed_part}
 
--- the anchors of the issuer's name (RFC 5280 6.1.3 (a)(4))
+-- The trust anchors with the issuer's name (RFC 5280 6.1.3 (a)(4)).
 abbrev pub anchors_named : ℕ → PlainCertificate → List PlainAnchor → List PlainAnchor
 anchors_named bound c anchors = filter (is_named bound c) anchors
 
--- a certificate as an anchor: its subject and its key are the issuer of the next one (6.1.4 (a),
--- (d))
+-- A certificate as a trust anchor: its subject and key are those of the next one's issuer (RFC 5280
+-- 6.1.4 (a), (d)).
 abbrev pub as_anchor : PlainCertificate → PlainAnchor
 as_anchor c = record { name = subject c; key = public_key c }
 
--- terms with other anchors, all else alike
+-- Terms with other trust anchors, which are otherwise the same.
 abbrev pub among : Terms → List PlainAnchor → Terms
 among t others = record t { anchors = others }
 
--- What a judge is shown of the certificate at a place, whatever key it is asked under: the signed
--- octets, the outer algorithm and the signature's bits (4.1.1).
+-- The facts about the certificate at an index that a verifier gets, whatever the key: the signed
+-- bytes, the outer algorithm and the bits of the signature (RFC 5280 4.1.1).
 abbrev pub shown_at : ℕ → List PlainCertificate → List ℕ → ℕ → Option (List ℕ × Algorithm × Bits)
 shown_at bound cs stream place =
     option_map (λ c. (signed_part bound cs stream place c, outer_algorithm c, signature_bits c))

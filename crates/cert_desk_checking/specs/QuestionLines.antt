@@ -1,4 +1,4 @@
--- The lines of the questions of a chain.
+-- The lines of the questions about a chain.
 use Rattle.std.specs.Prelude.{ℕ, zero, suc, ◌+◌, List, [], ◌∷◌, ◌++◌, length, codes, decimal, map}
 use Rattle.std.specs.Prelude.{flat_map, if◌then◌else◌, Option, Some, None, slice_get}
 use Rattle.std.specs.Option.{option_map_or}
@@ -11,27 +11,27 @@ use Rattle.x509_cert_anchors.specs.CertParts.Grammar.{public_key_info}
 use Rattle.cert_desk_rules.specs.Judging.{PlainAnchor, is_named}
 use Rattle.cert_desk_rules.specs.Questions.{Question, question}
 
--- what a line says: the place, the number of the anchor whose key it is, if it is an anchor's, and
--- the question
+-- The content of a line: the index of the certificate, the index of the trust anchor if the key is
+-- one's, and the question.
 pub record QuestionLine : Type 0 where
   pub place : ℕ
   pub anchor : Option ℕ
   pub question : Question
 
--- the encoding of a value, in base 16
+-- The encoding of a value in base 16.
 abbrev pub hex_encoding : (s : Shape) → Value s → List ℕ
 hex_encoding s v = encode_lower (octets_of s v)
 
--- a word, and what stands behind a blank
+-- A word, a space, and the text after it.
 abbrev pub spaced : List ℕ → List ℕ → List ℕ
 spaced word rest = word ++ (codes " " ++ rest)
 
--- the number of an anchor, or `-`
+-- The index of a trust anchor in decimal, or `-`.
 abbrev pub anchor_word : Option ℕ → List ℕ
 anchor_word None = codes "-"
 anchor_word (Some number) = decimal number
 
--- the octets of a line: six words, and LF
+-- The text of a line: six words, and LF.
 abbrev pub line_octets : QuestionLine → List ℕ
 line_octets l =
     spaced (decimal l.place)
@@ -41,15 +41,16 @@ line_octets l =
     (spaced (encode_lower l.question.signed)
     (hex_encoding bit_string l.question.bits ++ codes "\n")))))
 
--- the octets of lines, in turn
+-- The text of several lines.
 abbrev pub lines_octets : List QuestionLine → List ℕ
 lines_octets lines = flat_map line_octets lines
 
--- the questions of lines, in turn
+-- The questions of several lines.
 abbrev pub questions_of_lines : List QuestionLine → List Question
 questions_of_lines lines = map (λ l. l.question) lines
 
--- of the questions about the first certificate c, under anchors of which the first has this number
+-- The lines about the first certificate c, where `number` is the index of the first of these trust
+-- anchors.
 abbrev pub anchor_lines : List PlainCertificate → List ℕ → PlainCertificate → ℕ → List PlainAnchor
     → List QuestionLine
 anchor_lines cs stream c number [] = []
@@ -62,7 +63,7 @@ anchor_lines cs stream c number (a ∷ more) =
     } ∷ anchor_lines cs stream c (number + 1) more
     else anchor_lines cs stream c (number + 1) more
 
--- of the questions about the certificate c at a place
+-- The lines about the certificate c at an index.
 abbrev pub lines_of : List PlainAnchor → List PlainCertificate → List ℕ → ℕ → PlainCertificate
     → List QuestionLine
 lines_of anchors cs stream zero c = anchor_lines cs stream c 0 anchors
@@ -74,15 +75,17 @@ lines_of anchors cs stream (suc before) c =
       question = question Bound cs stream (suc before) c (public_key b);
     } ∷ []) (slice_get cs before) []
 
+-- The lines about the certificate at an index, or none if there is no such certificate.
 abbrev pub lines_at : List PlainAnchor → List PlainCertificate → List ℕ → ℕ → List QuestionLine
 lines_at anchors cs stream place =
     option_map_or (lines_of anchors cs stream place) (slice_get cs place) []
 
--- of the first so many places, in their order
+-- The lines about the first certificates, in order.
 abbrev pub lines_below : List PlainAnchor → List PlainCertificate → List ℕ → ℕ → List QuestionLine
 lines_below anchors cs stream zero = []
 lines_below anchors cs stream (suc place) = lines_below anchors cs stream place
     ++ lines_at anchors cs stream place
 
+-- The lines about all certificates of a chain, in order.
 abbrev pub chain_lines : List PlainAnchor → List PlainCertificate → List ℕ → List QuestionLine
 chain_lines anchors cs stream = lines_below anchors cs stream (length cs)

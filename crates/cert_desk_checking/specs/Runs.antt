@@ -1,4 +1,5 @@
--- What a run finds in its inputs, and what it tells.
+-- The outcome of a run of the program that validates a chain, given its two inputs and its
+-- verifier, and the text that reports the outcome.
 use Rattle.std.specs.Prelude.{◌≡◌, ℕ, ◌⊎◌, List}
 use Rattle.x509_cert_anchors.specs.Oid.Bound.{Bound}
 use Rattle.cert_desk_rules.specs.DeskIo.declared.exit_status.ExitStatus.{ExitStatus}
@@ -22,31 +23,34 @@ use Rattle.cert_desk_checking.specs.Lines.{line_of, anchors_line}
 use Rattle.cert_desk_checking.specs.Reading.{AsksNoMore, ReadFailed}
 use Rattle.cert_desk_rules.specs.Verdicts.{IsVerdict, IsCounted, StopsAsking}
 
--- All octets of an input give these anchors.
+-- The input was read to its end, and its bytes are a file of these trust anchors.
 abbrev pub HasAnchors : Device → List PlainAnchor → Type 0
 HasAnchors input anchors = (octets : List ℕ) × IsWhole input most_octets octets
     × IsAnchorFile octets anchors
 
--- why an input of anchors wasn't read; where there are too many octets the first one is told
+-- Why an input of trust anchors wasn't read to its end. If it has too many bytes, that is reported
+-- as malformed, at offset 0.
 abbrev pub IsUnreadFor : Device → AnchorsError → Type 0
 IsUnreadFor input (errors.BadAnchors offset fault) =
     IsUnread input most_octets reasons.TooMuch × (offset ≡ 0) × (fault ≡ faults.Malformed)
 IsUnreadFor input errors.Device = IsUnread input most_octets reasons.Device
 IsUnreadFor input errors.OutOfMemory = IsUnread input most_octets reasons.OutOfMemory
 
--- Why an input gave no anchors: its octets give none, or it wasn't read.
+-- Why an input gives no trust anchors: its bytes aren't a file of usable ones, or it wasn't read to
+-- its end.
 abbrev pub HasNoAnchors : Device → AnchorsError → Type 0
 HasNoAnchors input error =
     ((octets : List ℕ) × IsWhole input most_octets octets × IsNoAnchorFile octets error)
     ⊎ IsUnreadFor input error
 
--- what a run comes to that gets no anchors
+-- The outcome of a run without trust anchors.
 abbrev pub outcome_of : AnchorsError → Outcome
 outcome_of (errors.BadAnchors offset fault) = outcomes.BadAnchors offset fault
 outcome_of errors.Device = outcomes.Device
 outcome_of errors.OutOfMemory = outcomes.OutOfMemory
 
--- how far a stream has to be read for a verdict: to its end, or to the read that brings the fault
+-- How far the chain's input is read for a verdict: to its end or, if it has an error, up to the
+-- read that returned the bytes with the error.
 abbrev pub IsReadFor : Verdict → Device → ℕ → Type 0
 IsReadFor verdicts.Trusted stream limit = MetEnd stream
 IsReadFor (verdicts.Refused place rule) stream limit = MetEnd stream
@@ -54,8 +58,8 @@ IsReadFor (verdicts.StreamFault place offset kind) stream limit =
     (kind ≡ kinds.Truncated → MetEnd stream) × AsksNoMore stream limit
 IsReadFor verdicts.Empty stream limit = MetEnd stream
 
--- What contracts see of a judge over a call: what it answers, how often it was asked, and the
--- states before and behind.
+-- A verifier during a call: its answers, its count of questions, and its states before and after
+-- the call.
 pub record Judge : Type 1 where
   pub State : Type 0
   pub answers : State → Answers
@@ -63,15 +67,16 @@ pub record Judge : Type 1 where
   pub old : State
   pub new : State
 
+-- Builds a `Judge` from its parts.
 abbrev pub judging : {State : Type 0} → (State → Answers) → (State → ℕ) → State → State → Judge
 judging {State} answers questions old new =
     record { State = State; answers = answers; questions = questions; old = old; new = new }
 
--- a judge wasn't asked
+-- The verifier wasn't asked.
 abbrev pub IsUnasked : Judge → Type 0
 IsUnasked judge = judge.new ≡ judge.old
 
--- the terms of these anchors
+-- The terms of a run (`Terms`): its trust anchors, validation time, key purpose and verifier.
 abbrev pub run_terms : List PlainAnchor → ℕ → List ℕ → Answers → Terms
 run_terms anchors moment purpose answers =
     record {
@@ -82,9 +87,9 @@ run_terms anchors moment purpose answers =
       answers = answers;
     }
 
--- What was read of a stream that finds no memory, and what the judge was asked: the stream was read
--- to where memory was wanting, and nobody was asked; or to its end, and the judge was asked about
--- the first of its certificates, which keep every rule.
+-- Memory runs out after the trust anchors were read. Either it runs out while the chain is read,
+-- and the verifier isn't asked, or the chain is read to its end, and the verifier has been asked
+-- about its first certificates, which keep every rule.
 abbrev pub IsReadInVain : Device → Judge → Terms → ℕ → Type 0
 IsReadInVain stream judge terms limit =
     Sound stream
@@ -92,15 +97,16 @@ IsReadInVain stream judge terms limit =
     ⊎ ((octets : List ℕ) × Moved stream octets × MetEnd stream
     × StopsAsking terms limit octets (judge.questions judge.old) (judge.questions judge.new)))
 
--- the status of a verdict
+-- The exit status for a verdict.
 abbrev pub status_of : Verdict → ExitStatus
 status_of verdicts.Trusted = statuses.Done
 status_of (verdicts.Refused place rule) = statuses.Refused
 status_of (verdicts.StreamFault place offset kind) = statuses.Faulty
 status_of verdicts.Empty = statuses.Empty
 
--- What is found in the inputs of anchors and of a stream. Where the anchors or a device end the
--- run, the judge wasn't asked. The stream is untouched unless the anchors were read whole.
+-- What an outcome says about the two inputs and the verifier. If the trust anchors or an I/O error
+-- end the run, the verifier wasn't asked. The chain's input is only used after the trust anchors
+-- were read to their end.
 abbrev pub IsOutcome : Device → Device → Judge → ℕ → List ℕ → ℕ → Outcome → Type 0
 IsOutcome anchors stream judge moment purpose limit (outcomes.Checked checked) =
     (given : List PlainAnchor) × (octets : List ℕ)
@@ -121,8 +127,8 @@ IsOutcome anchors stream judge moment purpose limit outcomes.OutOfMemory =
     ⊎ ((given : List PlainAnchor) × HasAnchors anchors given
     × IsReadInVain stream judge (run_terms given moment purpose (judge.answers judge.old)) limit)
 
--- What is told of an outcome, and the status. Where there is no memory for the text, this is told
--- in its place.
+-- What is printed for an outcome, and the exit status. If memory runs out while the text is made,
+-- that is reported instead.
 abbrev pub IsTold : Device → Device → Outcome → ExitStatus → Type 0
 IsTold out err (outcomes.Checked checked) answer =
     IsAnswer out err (line_of checked.verdict checked.calls) (status_of checked.verdict) answer

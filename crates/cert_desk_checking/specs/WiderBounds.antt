@@ -1,4 +1,4 @@
--- What a wider bound of arcs changes of streams and their verdicts.
+-- Chains and verdicts under a larger bound of arcs.
 use Rattle.std.specs.Prelude.{◌≡◌, ℕ, ◌≤◌, ◌⊎◌, List, [], ◌∷◌, ◌++◌}
 use Rattle.x509_cert_anchors.specs.Der.Bounds.{HoldsLarge}
 use Rattle.x509_cert_anchors.specs.CertCertificates.Certificates.{PlainCertificate, raw_certificate}
@@ -12,20 +12,20 @@ use Rattle.cert_desk_rules.specs.Judging.{Terms}
 use Rattle.cert_desk_rules.specs.DeskBundle.Series.{BeginsSeries}
 use Rattle.cert_desk_rules.specs.Verdicts.{IsVerdict, Trusted, asked}
 
--- A chain is the same chain under a wider bound.
+-- A chain is the same chain under a larger bound.
 abbrev pub WiderKeepsChains : Type 0
 WiderKeepsChains =
     (small large limit : ℕ) (cs : List PlainCertificate) (stream : List ℕ) → small ≤ large
     → Chain small limit cs stream → Chain large limit cs stream
 
--- A chain under the wider bound is one under the narrower, or one of its certificates has an
--- identifier with an arc that isn't below that.
+-- A chain under the larger bound is a chain under the smaller one, or one of its certificates
+-- contains an OID with an arc that isn't below the smaller one.
 abbrev pub NewChainsHoldLarge : Type 0
 NewChainsHoldLarge =
     (small large limit : ℕ) (cs : List PlainCertificate) (stream : List ℕ)
     → Chain large limit cs stream → Chain small limit cs stream ⊎ OneHoldsLarge small cs
 
--- A trusted stream is trusted under a wider bound, with as many questions.
+-- A trusted input is trusted under a larger bound, with as many questions.
 abbrev pub WiderKeepsTrust : Type 0
 WiderKeepsTrust =
     (t : Terms) (wide limit : ℕ) (stream : List ℕ) → t.bound ≤ wide → Trusted t limit stream
@@ -33,22 +33,22 @@ WiderKeepsTrust =
     × ((cs : List PlainCertificate) → Chain t.bound limit cs stream → asked t cs stream
     ≡ asked (bounded t wide) cs stream)
 
--- A chain has one verdict under both terms, with as many questions.
+-- A chain has the same verdict under both terms, with as many questions.
 abbrev pub IsJudgedSame : Terms → Terms → ℕ → List PlainCertificate → List ℕ → Type 0
 IsJudgedSame t other limit cs stream =
     ((verdict : Verdict) → IsVerdict t limit stream verdict → IsVerdict other limit stream verdict)
     × (asked t cs stream ≡ asked other cs stream)
 
--- A chain is judged the same under a wider bound, or the content of a weighed extension becomes
--- readable.
+-- A chain has the same verdict under a larger bound, unless the content of a checked extension can
+-- only be decoded there.
 abbrev pub WiderKeepsVerdicts : Type 0
 WiderKeepsVerdicts =
     (t : Terms) (wide limit : ℕ) (cs : List PlainCertificate) (stream : List ℕ) → t.bound ≤ wide
     → Chain t.bound limit cs stream
     → IsJudgedSame t (bounded t wide) limit cs stream ⊎ OneBecomesReadable t.bound wide cs
 
--- A stream has the same fault under a wider bound, or a certificate stands there, with an
--- identifier that holds an arc that isn't below the narrow one.
+-- An input has the same error under a larger bound, unless it has a certificate there under that
+-- bound, which then contains an arc that isn't below the smaller one.
 abbrev pub WiderKeepsFaults : Type 0
 WiderKeepsFaults =
     (small large limit : ℕ) (cs : List PlainCertificate) (kind : FaultKind) (stream : List ℕ)

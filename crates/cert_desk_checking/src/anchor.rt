@@ -1,4 +1,4 @@
-//! What a chain may rest on.
+//! Trust anchors.
 ghost use Rattle.std.specs.Prelude.{◌≡◌, ◌≢◌, Ok, Err, IfOk, IfErr};
 ghost use Rattle.x509_cert_anchors.specs.CertNames.Views.{name_plain};
 ghost use Rattle.x509_cert_anchors.specs.CertParts.Views.{key_plain};
@@ -11,7 +11,7 @@ use x509_cert_anchors::cert_names::Name;
 use x509_cert_anchors::cert_parts::{Raw, SubjectPublicKeyInfo};
 use x509_cert_anchors::{CertPathControls, TrustAnchorChoice};
 
-/// A trust anchor as chains need it: a name and a key that are trusted without a certificate.
+/// A trust anchor for certificate chains: a name and a key that are trusted without a certificate.
 #[derive(Debug, Drop)]
 pub struct Anchor {
     name: Name,
@@ -20,7 +20,7 @@ pub struct Anchor {
 
 #[tactic(auto, unfolding(crate::specs::Anchors::anchor_plain))]
 impl Anchor {
-    /// An anchor of this name and this key.
+    /// Returns a trust anchor with this name and this key.
     pub fn new(name: Name, key: SubjectPublicKeyInfo) -> Anchor
         ensures name { (anchor_plain result).name ≡ name_plain name }
         ensures key { (anchor_plain result).key ≡ key_plain key }
@@ -28,13 +28,15 @@ impl Anchor {
         Anchor { name, key }
     }
 
-    /// The anchor that a trust anchor gives (RFC 5914 2): the subject and the key of a certificate,
-    /// or of a TBSCertificate alone, or a key with its name. Nothing else of it is looked at.
+    /// Returns the name and the key of a trust anchor (RFC 5914 2). They are the subject and the
+    /// key of a certificate or of a TBSCertificate, or a key with its name. Nothing else in the
+    /// trust anchor is used.
     ///
     /// # Errors
     ///
-    /// For a trust anchor that is told by its key `NoName` without a name, and `PathControls` where
-    /// a path from it must meet more; `OutOfMemory` for any, since name and key are copied.
+    /// - `NoName`: the trust anchor is a key without a name.
+    /// - `PathControls`: the trust anchor is a key with other conditions on certification paths.
+    /// - `OutOfMemory`: memory runs out for the copies of the name and the key.
     pub fn from_choice(
         alloc: Global,
         choice: &TrustAnchorChoice<Raw>,
@@ -64,14 +66,14 @@ impl Anchor {
         }
     }
 
-    /// The name. The first certificate of a chain names it as its issuer.
+    /// Returns the name, which is the issuer of the first certificate of a chain.
     pub fn name(&self) -> &Name
         ensures { name_plain result.now ≡ (anchor_plain self.now).name }
     {
         &self.name
     }
 
-    /// The key. The first certificate of a chain is signed by it.
+    /// Returns the key, which signed the first certificate of a chain.
     pub fn key(&self) -> &SubjectPublicKeyInfo
         ensures { key_plain result.now ≡ (anchor_plain self.now).key }
     {
@@ -79,7 +81,7 @@ impl Anchor {
     }
 }
 
-// Whether nothing but the name stands in what a path must meet.
+// Returns whether the path controls contain only the name (RFC 5914 2.5).
 fn has_only_name(controls: &CertPathControls<Raw>) -> bool
     ensures { result ≡ has_only_name (cert_path_controls_plain controls.now) }
 {
@@ -90,7 +92,7 @@ fn has_only_name(controls: &CertPathControls<Raw>) -> bool
         && controls.path_len_constraint.is_none()
 }
 
-// An anchor of a copy of the name and of the key.
+// Returns a trust anchor with copies of the name and of the key.
 #[tactic(auto, unfolding(crate::specs::Anchors::anchor_plain))]
 fn copied(alloc: Global, name: &Name, key: &SubjectPublicKeyInfo) -> Result<Anchor, AnchorError>
     ensures copied { IfOk result

@@ -1,20 +1,21 @@
-//! Why a trust anchor gives no anchor.
+//! The errors of a single trust anchor.
 ghost use Rattle.std.specs.Prelude.{◌≡◌};
 ghost use Rattle.cert_desk_checking.specs.declared.anchor_error.AnchorError.TheVariants.{OutOfMemory};
 
 use std::alloc::AllocError;
 use thiserror::Error;
 
-/// Why a trust anchor gives no anchor.
+/// Why a trust anchor can't be used.
 #[derive(Clone, Copy, Debug, PartialEq, Eq, Error)]
 pub enum AnchorError {
-    /// The anchor is told by its key, without a name.
+    /// The trust anchor is a key without a name.
     #[error("the trust anchor has no name")]
     NoName,
-    /// A path from it must meet more than its name.
+    /// The trust anchor is a key with conditions on certification paths besides the name (RFC 5914
+    /// 2.5).
     #[error("a path from the trust anchor must meet more than its name")]
     PathControls,
-    /// Out of memory for the copies.
+    /// Memory ran out for the copies.
     #[error("out of memory")]
     OutOfMemory,
 }

@@ -1,17 +1,18 @@
-//! What is wrong with a trust anchor.
+//! The errors of a trust anchor in a file.
 ghost use Rattle.std.specs.Prelude.{Some};
 ghost use Rattle.cert_desk_checking.specs.Lines.{fault_name};
 
 use std::fmt;
 
-/// What is wrong with a trust anchor in a file.
+/// Why a trust anchor in a file is rejected.
 #[derive(Clone, Copy, Debug, PartialEq, Eq)]
 pub enum AnchorFault {
-    /// No trust anchor begins there.
+    /// The bytes don't begin with a trust anchor (RFC 5914 2).
     Malformed,
-    /// The anchor is told by its key, without a name.
+    /// The trust anchor is a key without a name.
     NoName,
-    /// A path from it must meet more than its name.
+    /// The trust anchor is a key with conditions on certification paths besides the name (RFC 5914
+    /// 2.5).
     PathControls,
 }
 

@@ -1,4 +1,4 @@
-//! Files of anchors.
+//! Files of trust anchors.
 ghost use Rattle.std.specs.Prelude.{◌≡◌, ◌<◌, ◌^◌, length, map, IfOk, IfErr};
 ghost use Rattle.x509_cert_anchors.specs.Der.Heads.{Fits};
 ghost use Rattle.x509_cert_anchors.specs.AnchorViews.{trust_anchor_plain};
@@ -15,9 +15,9 @@ use std::alloc::Global;
 use x509_cert_anchors::TrustAnchorChoice;
 use x509_cert_anchors::cert_parts::Raw;
 use x509_cert_anchors::der::FromDer;
-use x509_cert_anchors::der::making::is_want_of_memory;
+use x509_cert_anchors::der::making::is_out_of_memory;
 
-// That the trust anchor that begins at the start is faulty.
+// Returns the error for the trust anchor that begins at `start`.
 fn faulty(start: usize, fault: AnchorFault) -> AnchorsError
     ensures { result ≡ AnchorsError.BadAnchors start fault }
 {
@@ -27,7 +27,7 @@ fn faulty(start: usize, fault: AnchorFault) -> AnchorsError
     }
 }
 
-// The trust anchor that begins at the start, and where it ends.
+// Decodes the trust anchor that begins at `start`. Returns it and the offset of its end.
 fn choice_at(
     alloc: Global,
     octets: &[u8],
@@ -42,7 +42,7 @@ fn choice_at(
     match TrustAnchorChoice::<Raw>::from_der_partial(alloc, &octets[start..]) {
         Ok((choice, behind)) => Ok((choice, octets.len() - behind.len())),
         Err(error) => {
-            if is_want_of_memory(&error) {
+            if is_out_of_memory(&error) {
                 return Err(AnchorsError::OutOfMemory);
             }
             Err(faulty(start, AnchorFault::Malformed))
@@ -50,7 +50,7 @@ fn choice_at(
     }
 }
 
-// The anchor that a trust anchor gives, which stands from the start to the end, and that end.
+// Returns the name and key of the trust anchor between two offsets, and the second offset.
 fn given(
     alloc: Global,
     choice: &TrustAnchorChoice<Raw>,
@@ -70,7 +70,7 @@ fn given(
     }
 }
 
-// The anchor that is given at the start, and where the next one begins.
+// Returns the name and key of the trust anchor that begins at `start`, and the offset of its end.
 fn anchor_at(alloc: Global, octets: &[u8], start: usize) -> Result<(Anchor, usize), AnchorsError>
     requires some { start < length octets.now }
     requires short { Fits octets.now }
@@ -82,12 +82,12 @@ fn anchor_at(alloc: Global, octets: &[u8], start: usize) -> Result<(Anchor, usiz
     given(alloc, &choice, start, end)
 }
 
-/// Returns the anchors that a file of concatenated trust anchors (RFC 5914 2) gives.
+/// Returns the trust anchors of a file, which is a concatenation of trust anchors (RFC 5914 2).
 ///
 /// # Errors
 ///
-/// - `BadAnchors`: the first trust anchor that gives no anchor, and why.
-/// - `OutOfMemory`: an allocation failed.
+/// - `BadAnchors`: a trust anchor is rejected. The first such one is reported.
+/// - `OutOfMemory`: memory runs out.
 pub fn anchors_in(alloc: Global, octets: &[u8]) -> Result<Vec<Anchor>, AnchorsError>
     requires { Fits octets.now }
     ensures read { IfOk result

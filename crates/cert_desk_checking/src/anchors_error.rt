@@ -1,18 +1,18 @@
-//! Why an input gives no anchors.
+//! Why trust anchors can't be read.
 
 use crate::anchor_fault::AnchorFault;
 use thiserror::Error;
 
-/// Why an input gives no anchors.
+/// Why trust anchors can't be read from an input.
 #[derive(Clone, Copy, Debug, PartialEq, Eq, Error)]
 pub enum AnchorsError {
-    /// The trust anchor that begins at `offset` is faulty.
+    /// The trust anchor that begins at `offset` is rejected.
     #[error("{fault} at octet {offset}")]
     BadAnchors { offset: u64, fault: AnchorFault },
-    /// An I/O error of the input.
+    /// A read of the input failed.
     #[error("a device failed")]
     Device,
-    /// Out of memory.
+    /// Memory ran out.
     #[error("out of memory")]
     OutOfMemory,
 }

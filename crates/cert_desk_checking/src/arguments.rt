@@ -1,11 +1,12 @@
-//! Numbers as arguments of a program.
+//! Numbers in the arguments of a program.
 ghost use Rattle.std.specs.Prelude.{ℕ, ◌<◌, ◌≤◌, ◌^◌, IfSome, IfNone};
 ghost use Rattle.cert_desk_checking.specs.Arguments.{IsNumber};
 
-// The least limit: a certificate has a header and some content.
+// The least size limit: a certificate has a header and some content.
 const LEAST_LIMIT: u64 = 6;
 
-/// A number of one or more decimal digits, below 2^64. Leading zeros are read, and no sign.
+/// Parses a number below 2^64 with one or more decimal digits. Leading zeros are allowed, a sign
+/// isn't.
 #[tactic(auto, unfolding(crate::specs::Arguments::IsNumber))]
 pub fn number_in(text: &str) -> Option<u64>
     ensures read { IfSome result (λ n. IsNumber n text.now) }
@@ -17,7 +18,7 @@ pub fn number_in(text: &str) -> Option<u64>
     text.parse().ok()
 }
 
-/// A limit: a number from 6 to 2^32 - 1.
+/// Parses a size limit: a number from 6 to 2^32 - 1.
 #[tactic(auto, unfolding(crate::specs::Arguments::IsNumber))]
 pub fn limit_in(text: &str) -> Option<u32>
     ensures read { IfSome result (λ n. IsNumber n text.now) }

@@ -1,4 +1,6 @@
-//! Streams are judged: certification path validation (RFC 5280 6.1, in part).
+//! Certification path validation: signatures, validity periods, name chaining, CA certificates,
+//! path lengths and key purposes (RFC 5280 6.1).
+
 ghost use Rattle.std.specs.Prelude.{◌≡◌, ◌≢◌, ℕ, ◌+◌, ◌<◌, ◌↔◌, ◌⊎◌, List, length, map};
 ghost use Rattle.std.specs.Prelude.{IfOk, OnErr, IsTrue, nat_le, not, true, false, ◌&&◌};
 ghost use Rattle.std.specs.List.{list_any};
@@ -42,29 +44,28 @@ use x509_cert_anchors::cert_names::Name;
 use x509_cert_anchors::cert_parts::{Raw, SubjectPublicKeyInfo};
 use x509_cert_anchors::oid::ObjectIdentifier;
 
-/// The verdict on the stream that a bundle has read, and how often the judge was asked for it.
+/// Validates the chain that a bundle has read. Returns the verdict, and how often the signature
+/// verifier was asked. The bundle must have ended or failed (`Bundle::is_ended`).
 ///
-/// The stream is trusted where it is the concatenation of certificates, one or more, and each keeps
-/// every rule under these anchors, at this validation time (seconds since 1970), for this key
-/// purpose. Else the verdict names the fault of the stream, that there is no certificate, or the
-/// first certificate that breaks a rule, with its first one. The judge is handed the stream's own
-/// octets, and is asked only where all rules before the signature are kept.
+/// The chain is validated under these trust anchors, at this validation time (seconds since
+/// 1970-01-01T00:00:00Z) and for this key purpose. The verdict is
 ///
-/// As in `tools/guide/judge.rt.txt`:
+/// - `StreamFault` if the input isn't a sequence of certificates, with its first error;
+/// - `Empty` if it has no bytes;
+/// - `Trusted` if every certificate keeps every [`Rule`];
+/// - `Refused` otherwise, with the first certificate that breaks a rule, and the first rule that it
+///   breaks.
 ///
-/// ```rust
-/// let bundle = read(alloc, stream);
-/// let purpose = ObjectIdentifier::<39>::new("1.3.6.1.5.5.7.3.1")?;
-/// let mut judge = KeyJudge { questions: 0 };
-/// match check(alloc, &bundle, &anchors, 1009886460, &purpose, &mut judge) {
-/// ```
+/// The verifier gets the bytes of the input. It is asked about a certificate only if that
+/// certificate keeps all rules before that of the signature, and never if the input has an error.
+/// The [crate root](crate) has an example.
 ///
 /// # Errors
 ///
-/// `Device` where an I/O error had failed the bundle; `OutOfMemory` where an allocation failure
-/// had, or where the reading of a certificate's extensions, which may allocate, was out of memory:
-/// then the judge was asked about the certificates before, which keep every rule. Of a stream that
-/// isn't whole the judge isn't asked.
+/// - `Device`: a read of the input had failed.
+/// - `OutOfMemory`: an allocation had failed in the bundle, or failed while the extensions of a
+///   certificate were decoded. In the second case, the verifier was asked about the certificates
+///   before that one, which keep every rule, and about no other.
 pub fn check<J: SignatureJudge>(
     alloc: Global,
     bundle: &Bundle,
@@ -89,7 +90,7 @@ pub fn check<J: SignatureJudge>(
         stream checked (J.questions judge.old) (J.questions judge.new)) }
     ensures kept { J.answers judge.new ≡ J.answers judge.old }
 
-    // Where nothing is said.
+    // These clauses are about calls that return an error.
     ensures no_memory { bundle.now.standing ≡ Standing.NoMemory
         → result ≡ Err CheckError.OutOfMemory }
     ensures out_of_memory { result ≡ Err CheckError.OutOfMemory
@@ -100,7 +101,7 @@ pub fn check<J: SignatureJudge>(
         → StopsAsking (terms_of anchors.now moment purpose.now (J.answers judge.old))
         bundle.now.limit stream (J.questions judge.old) (J.questions judge.new)) }
 
-    // Where nobody is asked.
+    // These clauses are about calls that don't ask the verifier.
     ensures untouched { bundle.now.standing ≢ Standing.Ended → judge.new ≡ judge.old }
     ensures no_calls { IfOk result (λ checked. bundle.now.standing ≢ Standing.Ended → checked.calls
         ≡ 0) }
@@ -124,7 +125,7 @@ pub fn check<J: SignatureJudge>(
     }
 }
 
-// Asks the judge about a certificate, over the stream's own octets.
+// Asks the verifier about a certificate, over the bytes of the input.
 fn ask<J: SignatureJudge>(
     key: &SubjectPublicKeyInfo,
     entry: &Entry<'_>,
@@ -147,7 +148,7 @@ fn ask<J: SignatureJudge>(
     )
 }
 
-/// Whether the issuer of the certificate has this name, octet for octet.
+/// Returns whether the issuer of the certificate has this name, byte for byte.
 pub fn is_issued_by(certificate: &CertificateInner<Raw>, name: &Name) -> bool
     requires { IsValid (raw_certificate Bound) (certificate_plain certificate.now) }
     ensures { result ≡ same_name Bound (issuer (certificate_plain certificate.now))
@@ -156,7 +157,7 @@ pub fn is_issued_by(certificate: &CertificateInner<Raw>, name: &Name) -> bool
     certificate.tbs_certificate().issuer().has_octets_of(name)
 }
 
-// Whether an anchor has the issuer's name.
+// Returns whether an anchor has the issuer's name.
 fn is_anchored(certificate: &CertificateInner<Raw>, anchors: &[Anchor]) -> bool
     requires { IsValid (raw_certificate Bound) (certificate_plain certificate.now) }
     ensures { result ≡ list_any (is_named Bound (certificate_plain certificate.now))
@@ -170,8 +171,9 @@ fn is_anchored(certificate: &CertificateInner<Raw>, anchors: &[Anchor]) -> bool
     false
 }
 
-// Whether the anchor has the issuer's name, as may be known, and the judge says yes under its key.
-// An anchor of another name isn't asked.
+// Returns whether the anchor has the issuer's name and the verifier accepts the signature under the
+// anchor's key. The verifier isn't asked about an anchor with another name. If `known`, the anchor
+// has the name, and the names aren't compared again.
 #[tactic(auto, unfolding(crate::specs::Places::signs, crate::specs::Places::asked_once, crate::specs::Anchors::anchor_plain))]
 fn is_signed_under<J: SignatureJudge>(
     anchor: &Anchor,
@@ -202,16 +204,16 @@ fn is_signed_under<J: SignatureJudge>(
     ask(anchor.key(), entry, judge, calls)
 }
 
-// Whether it is known that an anchor has the issuer's name, and there is one anchor.
+// Returns whether there is only one anchor, and it is known to have the issuer's name.
 fn is_only(linked: bool, anchors: &[Anchor]) -> bool
     ensures { IsTrue result → IsTrue linked × (length anchors.now ≡ 1) }
 {
     linked && anchors.len() == 1
 }
 
-// Whether the judge says yes under the key of an anchor of the issuer's name. The anchors are asked
-// in turn, up to the first yes. Where it is known that one of them has the name, an only one isn't
-// compared.
+// Returns whether the verifier accepts the signature under the key of a trust anchor with the
+// issuer's name. The trust anchors are tried in order, up to the first under which it is accepted.
+// If `linked`, one of them has the name; so a single one isn't compared again.
 fn is_signed_by_anchor<J: SignatureJudge>(
     anchors: &[Anchor],
     entry: &Entry<'_>,
@@ -243,8 +245,8 @@ fn is_signed_by_anchor<J: SignatureJudge>(
     false
 }
 
-// Whether the issuer of the certificate has the name of one of the anchors, or of the certificate
-// before.
+// Returns whether the issuer of the certificate is the name of one of the anchors, or the subject
+// of the certificate before.
 fn is_linked(certificate: &CertificateInner<Raw>, issuer: &Issuer<'_>) -> bool
     requires { IsValid (raw_certificate Bound) (certificate_plain certificate.now) }
     ensures { result ≡ linked_to Bound issuer.now (certificate_plain certificate.now) }
@@ -255,8 +257,9 @@ fn is_linked(certificate: &CertificateInner<Raw>, issuer: &Issuer<'_>) -> bool
     }
 }
 
-// Whether the judge says yes under the key of an anchor of the issuer's name, or of the certificate
-// before. That the issuer's name is one of these may be known.
+// Returns whether the verifier accepts the signature under the key of an anchor with the issuer's
+// name or, after the first certificate, under the key of the certificate before. If `linked`, the
+// issuer's name is known to be one of these.
 pub(crate) fn is_signed<J: SignatureJudge>(
     entry: &Entry<'_>,
     issuer: &Issuer<'_>,
@@ -286,7 +289,8 @@ pub(crate) fn is_signed<J: SignatureJudge>(
     }
 }
 
-// Whether the algorithm outside is the one that is signed, octet for octet (RFC 5280 4.1.1.2).
+// Returns whether the signature algorithm beside the signature and the one in the TBSCertificate
+// have the same encoding (RFC 5280 4.1.1.2).
 fn has_one_algorithm(certificate: &CertificateInner<Raw>) -> bool
     requires { IsValid (raw_certificate Bound) (certificate_plain certificate.now) }
     ensures { result ≡ has_one_algorithm Bound (certificate_plain certificate.now) }
@@ -295,7 +299,7 @@ fn has_one_algorithm(certificate: &CertificateInner<Raw>) -> bool
     signed.has_octets_of(certificate.signature_algorithm())
 }
 
-// Whether notBefore isn't after this moment (RFC 5280 4.1.2.5).
+// Returns whether notBefore isn't after the validation time (RFC 5280 4.1.2.5).
 fn has_begun(certificate: &CertificateInner<Raw>, moment: u64) -> bool
     ensures { result ≡ nat_le (unix_seconds (not_before (certificate_plain certificate.now)))
         moment }
@@ -304,7 +308,7 @@ fn has_begun(certificate: &CertificateInner<Raw>, moment: u64) -> bool
     validity.not_before.to_date_time().unix_seconds() <= moment
 }
 
-// Whether notAfter isn't before this moment (RFC 5280 4.1.2.5).
+// Returns whether notAfter isn't before the validation time (RFC 5280 4.1.2.5).
 fn lasts(certificate: &CertificateInner<Raw>, moment: u64) -> bool
     ensures { result
         ≡ nat_le moment (unix_seconds (not_after (certificate_plain certificate.now))) }
@@ -313,7 +317,8 @@ fn lasts(certificate: &CertificateInner<Raw>, moment: u64) -> bool
     moment <= validity.not_after.to_date_time().unix_seconds()
 }
 
-// Whether issuer and subject have the same octets.
+// Returns whether the certificate is self-issued: its issuer and subject have the same bytes (RFC
+// 5280 3.2).
 pub(crate) fn is_self_issued(certificate: &CertificateInner<Raw>) -> bool
     requires { IsValid (raw_certificate Bound) (certificate_plain certificate.now) }
     ensures { result ≡ is_self_issued Bound (certificate_plain certificate.now) }
@@ -321,8 +326,8 @@ pub(crate) fn is_self_issued(certificate: &CertificateInner<Raw>) -> bool
     is_issued_by(certificate, certificate.tbs_certificate().subject())
 }
 
-// Whether a place takes of the room that path lengths leave: there is one, and the place isn't the
-// last, and isn't self-issued.
+// Returns whether the certificate counts for a path length: there is a limit, and the certificate
+// is neither the last one nor self-issued (RFC 5280 6.1.4 (l)).
 fn takes_room(certificate: &CertificateInner<Raw>, is_last: bool, room: &PathRoom) -> bool
     requires { IsValid (raw_certificate Bound) (certificate_plain certificate.now) }
     ensures { result
@@ -332,9 +337,9 @@ fn takes_room(certificate: &CertificateInner<Raw>, is_last: bool, room: &PathRoo
     room.is_limited() && (!is_last && !is_self_issued(certificate))
 }
 
-// Which rules a certificate keeps. That of its signature isn't, since nobody was asked. The room
-// that path lengths leave becomes what is left behind it. Inlined, so that the rules that are kept
-// are compared where they were computed.
+// Returns the rules that a certificate keeps. The rule on its signature is marked as broken,
+// because the verifier wasn't asked. Updates `room` to the path length that is left after this
+// certificate. Inlined, so that the results are compared where they were computed.
 #[inline(always)]
 pub(crate) fn rules_kept(
     alloc: Global,
@@ -383,8 +388,8 @@ pub(crate) fn rules_kept(
     Ok(kept)
 }
 
-// What is said of a whole chain. The places are judged in turn, up to the first that breaks a rule:
-// by the rules before the signature, and then by the judge.
+// Validates a complete chain. Checks the certificates in order, up to the first that breaks a rule:
+// first the rules that need no verifier, and then the signature.
 fn check_chain<J: SignatureJudge>(
     alloc: Global,
     bundle: &Bundle,

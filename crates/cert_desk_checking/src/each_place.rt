@@ -1,4 +1,4 @@
-//! Each place of a chain is judged by each rule.
+//! Checks each certificate of a chain against each rule.
 ghost use Rattle.std.specs.Prelude.{◌≡◌, ◌≤◌, ℕ, length, IfOk, OnOk, OnErr};
 ghost use Rattle.x509_cert_anchors.specs.Oid.Bound.{Bound};
 ghost use Rattle.cert_desk_checking.specs.Anchors.{terms_of};
@@ -15,17 +15,19 @@ use cert_desk_rules::{KeptRules, PathRoom, SignatureJudge};
 use std::alloc::{AllocError, Global};
 use x509_cert_anchors::oid::ObjectIdentifier;
 
-/// Which rules each certificate of a bundle keeps, in their order, under these anchors, at this
-/// validation time (seconds since 1970-01-01T00:00:00Z), for this key purpose.
+/// Returns which rules each certificate of a bundle keeps, in the order of the certificates, under
+/// these trust anchors, at this validation time (seconds since 1970-01-01T00:00:00Z), for this key
+/// purpose.
 ///
-/// Where [`check`](crate::check) stops at the first certificate that breaks a rule, this goes on:
-/// so the judge may be asked more. It is asked about each certificate but the first once, under the
-/// key of the one before, whatever else they break, and about the first up to the first yes.
+/// [`check`](crate::check) stops at the first certificate that breaks a rule. This function goes
+/// on, so it may ask the verifier more often. It asks once about each certificate but the first,
+/// under the key of the one before, whatever other rules they break. It asks about the first
+/// certificate up to the first trust anchor under which the signature is accepted.
 ///
 /// # Errors
 ///
-/// Out of memory: what is said of a certificate takes a few octets, and its extensions may take
-/// memory. The judge was then asked about so many certificates, from the first on.
+/// Fails if memory runs out for the result, or for the extensions of a certificate. The verifier
+/// was then asked about a number of certificates, from the first one on.
 pub fn judge_each<J: SignatureJudge>(
     alloc: Global,
     bundle: &Bundle,

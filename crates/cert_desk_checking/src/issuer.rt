@@ -1,14 +1,14 @@
-//! Who may have issued a certificate.
+//! The possible issuers of a certificate.
 
 use crate::anchor::Anchor;
 use x509_cert_anchors::cert_certificates::CertificateInner;
 use x509_cert_anchors::cert_parts::Raw;
 
-/// Who may have issued a certificate of a chain.
+/// The possible issuers of a certificate of a chain.
 #[derive(Clone, Copy)]
 pub(crate) enum Issuer<'a> {
-    /// Of the first certificate: one of the anchors.
+    /// The trust anchors, for the first certificate.
     Anchors(&'a [Anchor]),
-    /// Of another: the certificate before.
+    /// The certificate before, for every other one.
     Before(&'a CertificateInner<Raw>),
 }

@@ -1,4 +1,5 @@
-//! Laws of streams and of files of anchors. Each function does nothing: its contract is the law.
+//! Laws about chains and files of trust anchors. Each function does nothing: its contract is the
+//! law.
 ghost use Rattle.cert_desk_checking.specs.ChainParts.{HasFewQuestions, HasTrustedFronts};
 ghost use Rattle.cert_desk_checking.specs.ChainParts.{HasTrustedRests, IgnoresStrangers};
 ghost use Rattle.cert_desk_checking.specs.ChainParts.{HasNothingOutside, HasOneStream};
@@ -11,88 +12,87 @@ ghost use Rattle.cert_desk_checking.specs.WiderBounds.{WiderKeepsChains, NewChai
 ghost use Rattle.cert_desk_checking.specs.WiderBounds.{WiderKeepsTrust, WiderKeepsVerdicts};
 ghost use Rattle.cert_desk_checking.specs.WiderBounds.{WiderKeepsFaults};
 
-/// No stream is the concatenation of two lists of values of a type that is unambiguous: each has
-/// a header, and first tags are kept apart.
-///
-/// Certificates are such values, and trust anchors.
+/// No input is the concatenation of two different lists of values of an unambiguous type whose
+/// values have headers. Certificates are such values, and so are trust anchors.
 pub fn one_series()
     ensures { HasOneSeries }
 {}
 
-/// No stream of such values has two faults.
+/// No input of values of an unambiguous type has two errors.
 pub fn one_series_fault()
     ensures { HasOneSeriesFault }
 {}
 
-/// No stream is the concatenation of two lists of certificates.
+/// No input is the concatenation of two different lists of certificates.
 pub fn one_chain()
     ensures { HasOneChain }
 {}
 
-/// A stream with a fault is the concatenation of no list of certificates.
+/// An input with an error isn't the concatenation of any list of certificates.
 pub fn no_chain_with_a_fault()
     ensures { FaultHasNoChain }
 {}
 
-/// No stream has two faults.
+/// No input has two errors.
 pub fn one_fault()
     ensures { HasOneFault }
 {}
 
-/// A stream's fault is that of every longer stream, unless the stream only ends inside a
-/// certificate.
+/// An error of an input is also the error of every longer input, unless the input only ends inside
+/// a certificate.
 pub fn fault_stays()
     ensures { FaultStays }
 {}
 
-/// No stream has two verdicts under the same terms.
+/// No input has two verdicts under the same terms.
 pub fn one_verdict()
     ensures { HasOneVerdict }
 {}
 
-/// The verdict on a chain is the first breach of what is said of each place: the first rule that is
-/// broken at the first place that breaks one. Where no place breaks any, it is trusted.
+/// The verdict on a chain is the first rule that is broken at the first certificate that breaks
+/// one. If no certificate breaks a rule, the chain is trusted.
 pub fn first_breach_is_the_verdict()
     ensures refused { RefusedAtFirstBreach }
     ensures trusted { TrustedWithoutBreach }
 {}
 
-/// No file of anchors gives two lists of anchors, or has two first faults, or both.
+/// No file of trust anchors has two lists of trust anchors, or two first errors, or both.
 pub fn one_anchor_file()
     ensures { HasOneAnchorFile }
 {}
 
-/// Judges that answer alike on what a chain may ask give one verdict, and are asked as often.
+/// Verifiers that give the same answers to the questions that a chain may ask give the same
+/// verdict, and are asked as often.
 ///
-/// A chain may ask, about its first certificate, under the key of each anchor of the issuer's name,
-/// and about another under the key of the certificate before. So the verdict under a list of
-/// answers is the verdict under whoever gave them, whatever it says elsewhere.
+/// For its first certificate, a chain may ask about the key of each anchor with the issuer's name,
+/// and for each other one about the key of the certificate before. So the verdict with a list of
+/// answers is the verdict with the verifier that gave them, whatever it answers elsewhere.
 pub fn judged_alike()
     ensures { IsJudgedAlike }
 {}
 
-/// What `chain_lines` lists is what the signatures of a chain may ask: at each place the questions
-/// have a line each, in turn, and nothing else has one. So judges that answer alike to what is
-/// listed give one verdict, and are asked as often.
+/// `chain_lines` lists exactly the questions that the signatures of a chain may ask, a line for
+/// each. So verifiers that give the same answers to these lines give the same verdict, and are
+/// asked as often.
 pub fn questions_are_listed()
     ensures listed { QuestionsAreListed }
     ensures judged { IsJudgedByLines }
 {}
 
-/// The judge is asked at most once for each certificate after the first, and for each anchor of
-/// the name of the first one's issuer.
+/// The verifier is asked at most once for each certificate after the first, and once for each
+/// anchor with the name of the first one's issuer.
 pub fn few_questions()
     ensures { HasFewQuestions }
 {}
 
-/// Anchors of another name than the first certificate's issuer change neither the verdict nor how
-/// often the judge is asked.
+/// Trust anchors with other names than the first certificate's issuer change neither the verdict
+/// nor how often the verifier is asked.
 pub fn strangers_are_ignored()
     ensures { IgnoresStrangers }
 {}
 
-/// Nothing stands outside what is judged: two chains whose places agree in signed octets, outer
-/// algorithm and signature are one stream.
+/// Every byte of a chain is checked: two chains that agree in the signed bytes, the outer algorithm
+/// and the signature of each certificate are the same bytes.
 pub fn nothing_is_outside()
     ensures { HasNothingOutside }
 {}
@@ -107,33 +107,33 @@ pub fn fronts_are_trusted()
     ensures { HasTrustedFronts }
 {}
 
-/// Each nonempty remainder of a trusted chain is trusted, where the certificate before it is the
-/// only anchor.
+/// Each nonempty suffix of a trusted chain is trusted, if the certificate before it is the only
+/// trust anchor.
 pub fn rests_are_trusted()
     ensures { HasTrustedRests }
 {}
 
-/// A chain is the same chain under a wider bound of arcs, and a chain under a wide bound alone has
-/// a certificate in which an identifier holds an arc that isn't below the narrow one.
+/// A chain is the same chain under a larger bound of arcs. A chain only under the larger bound has
+/// a certificate with an arc that isn't below the smaller one.
 pub fn wider_bounds_keep_chains()
     ensures kept { WiderKeepsChains }
     ensures new { NewChainsHoldLarge }
 {}
 
-/// A trusted stream is trusted under a wider bound of arcs, with as many questions.
+/// A trusted input is trusted under a larger bound of arcs, with as many questions.
 pub fn wider_bounds_keep_trust()
     ensures { WiderKeepsTrust }
 {}
 
-/// A chain has the same verdict under a wider bound of arcs, with as many questions, unless the
-/// content of a weighed extension becomes readable, which then holds an arc that isn't below the
-/// narrow one.
+/// A chain has the same verdict under a larger bound of arcs, with as many questions, unless the
+/// content of a decoded extension is accepted only there. It then contains an arc that isn't below
+/// the smaller bound.
 pub fn wider_bounds_keep_verdicts()
     ensures { WiderKeepsVerdicts }
 {}
 
-/// A stream has the same fault under a wider bound of arcs, unless a certificate stands there under
-/// that bound; an identifier of it then holds an arc that isn't below the narrow one.
+/// An input has the same error under a larger bound of arcs, unless it has a certificate there
+/// under that bound, which then contains an arc that isn't below the smaller one.
 pub fn wider_bounds_keep_faults()
     ensures { WiderKeepsFaults }
 {}

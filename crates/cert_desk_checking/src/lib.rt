@@ -1,5 +1,17 @@
-//! Trust anchors, the validation of a certification path under them, what its signatures ask, and
-//! runs over inputs and outputs.
+//! Validates X.509 certificate chains under trust anchors (RFC 5280 6.1, in part).
+//!
+//! - [`check`] validates a chain. [`judge_each`] checks every certificate against every rule, and
+//!   [`reason_of`] explains a broken rule.
+//! - [`anchors_in`] reads a file of trust anchors (RFC 5914).
+//! - [`chain_lines`] lists the questions that the signatures of a chain may ask.
+//! - [`run_check`] is a complete run over inputs and outputs.
+//! - [`laws`] are facts about every chain and every file of trust anchors.
+//!
+//! Programs use these through the facade `cert_desk`, which has an example.
+//!
+//! The crate depends on `cert_desk_rules` for the rules, and through it on `cert_desk_bundle` and
+//! `cert_desk_io`, and on `x509_cert_anchors` for the encodings of trust anchors. It may not name
+//! the crates that build certificates or print listings.
 #![tactic(auto)]
 
 mod anchor;

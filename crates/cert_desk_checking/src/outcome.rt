@@ -1,4 +1,4 @@
-//! What a run comes to.
+//! The outcomes of a run over inputs.
 ghost use Rattle.std.specs.Prelude.{◌≡◌};
 ghost use Rattle.cert_desk_checking.specs.Runs.{outcome_of};
 
@@ -6,21 +6,21 @@ use crate::anchor_fault::AnchorFault;
 use crate::anchors_error::AnchorsError;
 use cert_desk_rules::Checked;
 
-/// What a run finds in its inputs.
+/// The outcome of a run.
 #[derive(Clone, Copy, Debug, PartialEq, Eq)]
 pub enum Outcome {
-    /// What is said of the stream.
+    /// The verdict on the chain.
     Checked(Checked),
-    /// The trust anchor that begins at this offset is faulty.
+    /// The trust anchor that begins at this offset is rejected.
     BadAnchors {
-        /// Where it begins.
+        /// The offset of the trust anchor.
         offset: u64,
-        /// What is wrong with it.
+        /// Why it is rejected.
         fault: AnchorFault,
     },
-    /// An I/O error of an input.
+    /// A read of an input failed.
     Device,
-    /// Out of memory.
+    /// Memory ran out.
     OutOfMemory,
 }
 

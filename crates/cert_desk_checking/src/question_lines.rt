@@ -1,4 +1,4 @@
-//! The questions of a chain, in lines.
+//! The questions about the signatures of a chain, as lines of text.
 ghost use Rattle.std.specs.Prelude.{◌≡◌, ◌<◌, List, ◌++◌, length, map, IfOk, OnOk, string_bytes};
 ghost use Rattle.x509_cert_anchors.specs.Der.Shapes.{IsValid, octets_of};
 ghost use Rattle.hex.specs.Hex.{encode_lower};
@@ -20,7 +20,7 @@ use std::alloc::{AllocError, Global};
 use x509_cert_anchors::cert_parts::SubjectPublicKeyInfo;
 use x509_cert_anchors::der::{Encode, ToDer};
 
-// The encoding of a value, in base 16.
+// Returns the encoding of a value in base 16.
 fn hex_encoding_of<T: Encode>(alloc: Global, value: &T) -> Result<String, AllocError>
     ensures { IfOk result (λ text. string_bytes text
         ≡ encode_lower (octets_of T.shape (T.written value.now))) }
@@ -31,7 +31,7 @@ fn hex_encoding_of<T: Encode>(alloc: Global, value: &T) -> Result<String, AllocE
     hex::encode(alloc, octets.as_slice())
 }
 
-// The number of an anchor, or `-`.
+// Returns the index of a trust anchor in decimal, or `-`.
 fn anchor_word(alloc: Global, anchor: Option<usize>) -> Result<String, AllocError>
     ensures { IfOk result (λ text. string_bytes text ≡ anchor_word anchor) }
 {
@@ -41,8 +41,8 @@ fn anchor_word(alloc: Global, anchor: Option<usize>) -> Result<String, AllocErro
     }
 }
 
-// Adds the line of a question: about the certificate at a place, under this key, perhaps that of an
-// anchor.
+// Appends the line of a question about the certificate at an index, under a key. `anchor` is the
+// index of the trust anchor with that key, if it is one's.
 fn add_line(
     alloc: Global,
     text: &mut String,
@@ -63,8 +63,8 @@ fn add_line(
     Ok(())
 }
 
-// Adds the line of the question about the first certificate under the key of an anchor, if the
-// anchor has the issuer's name.
+// Appends the line of the question about the first certificate under the key of a trust anchor, if
+// that has the issuer's name.
 #[tactic(auto, unfolding(crate::specs::Anchors::anchor_plain))]
 fn add_anchor(
     alloc: Global,
@@ -83,8 +83,8 @@ fn add_anchor(
     add_line(alloc, text, 0, Some(number), anchor.key(), entry)
 }
 
-// Adds the lines of the questions about the first certificate: under the key of each anchor of the
-// issuer's name, in their order.
+// Appends the lines of the questions about the first certificate: one for each trust anchor with
+// the issuer's name, in order.
 fn add_first(
     alloc: Global,
     text: &mut String,
@@ -101,8 +101,7 @@ fn add_first(
     Ok(())
 }
 
-// Adds the line of the question about the certificate at a later place: under the key of the one
-// before.
+// Appends the line of the question about a later certificate, under the key of the one before.
 fn add_later(
     alloc: Global,
     text: &mut String,
@@ -123,7 +122,7 @@ fn add_later(
     add_line(alloc, text, place, None, key, &bundle.get(place).unwrap())
 }
 
-// Adds the lines of the questions about the certificate at a place.
+// Appends the lines of the questions about the certificate at an index.
 fn add_place(
     alloc: Global,
     text: &mut String,
@@ -142,17 +141,18 @@ fn add_place(
     add_later(alloc, text, bundle, place)
 }
 
-/// What the signatures of a chain may ask, a line each: `PLACE ANCHOR KEY ALGORITHM SIGNED BITS`.
+/// Returns a line for each question that the signatures of a chain may ask:
+/// `PLACE ANCHOR KEY ALGORITHM SIGNED BITS`.
 ///
-/// The place, and the anchor's number where it is the first place, `-` after it, are in decimal
-/// and counted from 0. The others are in base 16, in small letters: the encodings of key and
-/// algorithm, the octets that are signed, and the encoding of the bits. For the first place each
-/// anchor of the issuer's name has a line, in their order; for another the key is that of the
-/// certificate before.
+/// `PLACE` and `ANCHOR` are decimal indexes, and `ANCHOR` is `-` after the first certificate. The
+/// others are in lowercase base 16: the encodings of the key and of the algorithm, the signed
+/// bytes, and the encoding of the signature. For the first certificate, each anchor with the
+/// issuer's name has a line, in the order of the anchors. For each other certificate the key is
+/// that of the certificate before.
 ///
 /// # Errors
 ///
-/// Out of memory.
+/// Fails if memory runs out.
 pub fn chain_lines(alloc: Global, anchors: &[Anchor], bundle: &Bundle) -> Result<String, AllocError>
     ensures { IfOk result (λ text. string_bytes text
         ≡ lines_octets (chain_lines (map anchor_plain anchors.now) bundle.now.certificates

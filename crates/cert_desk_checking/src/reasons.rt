@@ -1,4 +1,4 @@
-//! Reasons of breaches, found on demand.
+//! The reasons why a certificate breaks a rule.
 ghost use Rattle.std.specs.Prelude.{◌≡◌, ◌<◌, ◌≤◌, ◌+◌, ◌-◌, List, ℕ, true, false, ◌⊎◌, length};
 ghost use Rattle.std.specs.Prelude.{not, IfSome, IfOk, OnErr, ◌&&◌, ◌||◌};
 ghost use Rattle.std.specs.List.{list_any};
@@ -21,14 +21,16 @@ use std::slice;
 use x509_cert_anchors::cert_parts::Extension;
 use x509_cert_anchors::oid::ObjectIdentifier;
 
-/// Why the certificate at a place of a bundle breaks a rule, for this purpose, where it does and
-/// the rule leaves that open. Of the reasons that hold it is the first: of extensions and places
-/// the one that stands first, of two extensions of one identifier that whose first stands first,
-/// and that there are no constraints before what an extension says.
+/// Returns the first reason why the certificate at an index of a bundle breaks a rule for this
+/// purpose. Returns `None` if it keeps the rule, or if the rule can be broken in only one way.
+///
+/// Reasons are in the order of the extensions or indexes to which they belong. Pairs of extensions
+/// with the same OID are in the order of their first index, and then of their second. For
+/// `Rule::NotAuthority`, the absence of basic constraints comes before an extension.
 ///
 /// # Errors
 ///
-/// Out of memory: the extensions up to the place may take memory.
+/// Fails if memory runs out. Decoding the extensions up to this certificate may allocate.
 pub fn reason_of(
     alloc: Global,
     bundle: &Bundle,
@@ -36,12 +38,12 @@ pub fn reason_of(
     rule: Rule,
     purpose: &ObjectIdentifier<39>,
 ) -> Result<Option<Reason>, AllocError>
-    // A reason is told exactly where the certificate breaks such a rule.
+    // A reason is returned exactly if the certificate breaks a rule that has reasons.
     ensures told { IfOk result (λ told. (t : Terms) (stream : List ℕ) → t.bound ≡ Bound → t.purpose
         ≡ purpose.now
         → is_some told
         ≡ (is_explained rule && not (keeps_at rule t bundle.now.certificates stream place))) }
-    // The reason holds, and none before it.
+    // The reason is true, and no earlier one is.
     ensures first { IfOk result (λ told. IfSome told
         (ExplainsFirst Bound purpose.now bundle.now.certificates place rule)) }
     ensures memory { OnErr result (SomeMayTakeMemory bundle.now.certificates place) }
@@ -66,7 +68,7 @@ pub fn reason_of(
     }
 }
 
-// The first extension that breaks a rule by itself.
+// Returns the first extension that alone breaks a rule.
 fn extension_against(
     alloc: Global,
     extensions: &[Extension],
@@ -90,7 +92,7 @@ fn extension_against(
     Ok(None)
 }
 
-// Whether an extension breaks a rule by itself, by what was found in it.
+// Returns whether an extension alone breaks a rule, by the findings about it.
 fn goes_against(findings: &Findings, rule: Rule) -> bool
     ensures { result ≡ goes_against findings.now rule }
 {
@@ -103,7 +105,7 @@ fn goes_against(findings: &Findings, rule: Rule) -> bool
     }
 }
 
-// The first extension whose identifier one behind it has, and the first that has it.
+// Returns the first pair of extensions with the same OID.
 fn twins_in(alloc: Global, extensions: &[Extension]) -> Result<Option<Reason>, AllocError>
     ensures told { IfOk result (λ told. is_some told
         ≡ not (are_distinct (extensions_plain extensions.now))) }
@@ -121,7 +123,7 @@ fn twins_in(alloc: Global, extensions: &[Extension]) -> Result<Option<Reason>, A
     Ok(Some(Reason::Twins { first, second }))
 }
 
-// The first one of the others that has the identifier of the extension.
+// Returns the index of the first of the others that has the OID of the extension.
 fn twin_of(extension: &Extension, others: &[Extension]) -> Option<usize>
     ensures told { is_some result
         ≡ not (is_alone (extension_plain extension.now) (extensions_plain others.now)) }
@@ -138,7 +140,7 @@ fn twin_of(extension: &Extension, others: &[Extension]) -> Option<usize>
     None
 }
 
-// Why these extensions are those of no authority whose key may sign certificates.
+// Returns the first reason why the extensions aren't those of a CA whose key may sign certificates.
 fn lack_of_authority(
     alloc: Global,
     extensions: &[Extension],
@@ -165,8 +167,8 @@ fn lack_of_authority(
     Ok(against)
 }
 
-// The first place whose path length the places up to this one exceed, where this one counts. They
-// are counted once.
+// Returns the first index whose path length is exceeded by the certificates up to this one, if this
+// one counts. Counts the certificates once.
 fn exceeded_length(
     alloc: Global,
     bundle: &Bundle,
@@ -197,8 +199,7 @@ fn exceeded_length(
     Ok(None)
 }
 
-// Whether so many places are within the path length of a place, where they are those that count
-// behind it up to another.
+// Returns whether `count` certificates are within the path length of the certificate at an index.
 fn keeps_length(
     alloc: Global,
     bundle: &Bundle,
@@ -221,7 +222,7 @@ fn keeps_length(
     Ok(count <= most as usize)
 }
 
-// How many places count behind the first one, up to the other.
+// Returns the number of certificates that count, from the one after `before` up to `place`.
 fn counted_behind(bundle: &Bundle, before: usize, place: usize) -> usize
     requires order { before ≤ place }
     requires within { place < length bundle.now.certificates }
@@ -236,7 +237,8 @@ fn counted_behind(bundle: &Bundle, before: usize, place: usize) -> usize
     count
 }
 
-// Whether a place counts: it isn't the last, and isn't self-issued.
+// Returns whether the certificate at an index counts for path lengths: it is neither the last nor
+// self-issued.
 fn counts(bundle: &Bundle, place: usize) -> bool
     requires within { place < length bundle.now.certificates }
     ensures { result ≡ counts Bound bundle.now.certificates place }
@@ -245,7 +247,7 @@ fn counts(bundle: &Bundle, place: usize) -> bool
     !is_last(bundle, place) && !is_self_issued(certificate)
 }
 
-// Whether no place stands behind it.
+// Returns whether the certificate at an index is the last one.
 fn is_last(bundle: &Bundle, place: usize) -> bool
     requires within { place < length bundle.now.certificates }
     ensures { result ≡ is_last bundle.now.certificates place }

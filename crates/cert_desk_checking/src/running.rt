@@ -1,4 +1,4 @@
-//! A whole run, over any inputs and outputs.
+//! A complete run, over any inputs and outputs.
 ghost use Rattle.std.specs.Prelude.{◌≡◌, ◌≢◌, ℕ, ◌<◌, ◌≤◌, List, map, IfOk, IfErr};
 ghost use Rattle.cert_desk_rules.specs.DeskIo.Devices.{sink, source};
 ghost use Rattle.cert_desk_checking.specs.declared.outcome.Outcome.{Outcome};
@@ -23,8 +23,8 @@ use cert_desk_rules::{CheckError, Checked, SignatureJudge, Verdict};
 use std::alloc::Global;
 use x509_cert_anchors::oid::ObjectIdentifier;
 
-/// A bundle that was fed what an input gives, to its end, to a fault, or to where an allocation
-/// or a read failed.
+/// Returns a bundle that has read an input to its end, to an error in it, or until an allocation or
+/// a read failed.
 pub fn read_stream<I: Input>(alloc: Global, limit: u32, input: &mut I) -> Bundle
     requires { 6 ≤ limit }
     ensures limit { result.limit ≡ limit }
@@ -36,12 +36,14 @@ pub fn read_stream<I: Input>(alloc: Global, limit: u32, input: &mut I) -> Bundle
     bundle
 }
 
-/// The anchors that an input gives.
+/// Reads the trust anchors of an input.
 ///
 /// # Errors
 ///
-/// `BadAnchors` where one is faulty, or there are 2^32 octets or more, of which the first one is
-/// told; `Device` and `OutOfMemory`.
+/// - `BadAnchors`: a trust anchor is rejected. The first such one is reported. An input with 2^32
+///   bytes or more is reported as malformed at offset 0.
+/// - `Device`: a read failed.
+/// - `OutOfMemory`: memory runs out.
 pub fn read_anchors<A: Input>(alloc: Global, input: &mut A) -> Result<Vec<Anchor>, AnchorsError>
     ensures read { IfOk result (λ anchors. HasAnchors
         (source A.takes A.is_ended A.failures input.old input.new)
@@ -64,8 +66,8 @@ pub fn read_anchors<A: Input>(alloc: Global, input: &mut A) -> Result<Vec<Anchor
     Ok(anchors)
 }
 
-/// What is found in inputs of anchors and of a stream. The stream isn't read where the anchors are
-/// faulty. `limit` is the greatest number of octets of a certificate.
+/// Reads trust anchors from one input and a chain from another, and returns the outcome. If the
+/// trust anchors can't be read, the chain isn't read. `limit` is the size limit of a certificate.
 pub fn find_outcome<A: Input, S: Input, J: SignatureJudge>(
     alloc: Global,
     anchors: &mut A,
@@ -94,7 +96,7 @@ pub fn find_outcome<A: Input, S: Input, J: SignatureJudge>(
     }
 }
 
-/// The status of a run that comes to this verdict.
+/// Returns the exit status for a verdict.
 pub fn status_of(verdict: Verdict) -> ExitStatus
     ensures { result ≡ status_of verdict }
 {
@@ -106,7 +108,7 @@ pub fn status_of(verdict: Verdict) -> ExitStatus
     }
 }
 
-// Tells an outcome, in one line.
+// Prints an outcome in one line, and returns the exit status.
 fn tell<O: Output, E: Output>(
     alloc: Global,
     outcome: Outcome,
@@ -130,18 +132,18 @@ fn tell<O: Output, E: Output>(
     }
 }
 
-/// Judges the stream of one input under the anchors of another, tells the verdict in one line, and
-/// answers the exit status.
+/// Validates the chain of one input under the trust anchors of another, prints the verdict in one
+/// line, and returns the exit status.
 ///
-/// The anchors are trust anchors (RFC 5914 2), one after the other, of 2^32 - 1 octets at most,
-/// and each gives a name and a key as `Anchor::from_choice` says. They are read first, to their
-/// end, and the first faulty one is told. `limit` bounds the octets of each certificate of the
-/// stream, and of none of the anchors.
+/// The first input is a concatenation of trust anchors (RFC 5914 2) with at most 2^32 - 1 bytes,
+/// each of which needs a name and a key as `Anchor::from_choice` says. It is read first, to its
+/// end, and the first wrong trust anchor is reported. `limit` is the size limit of each certificate
+/// of the chain, and doesn't apply to the trust anchors.
 ///
-/// To `out` go `trusted calls=N`, `refused PLACE RULE calls=N`, `fault PLACE OFFSET KIND` and
-/// `empty`, to `err` go `anchors: malformed at OFFSET`, `anchors: no name at OFFSET`, `anchors:
-/// path controls at OFFSET`, `device` and `memory`. A text that can't be written is
-/// `ExitStatus::Device`, whose word is tried once.
+/// `out` gets `trusted calls=N`, `refused PLACE RULE calls=N`, `fault PLACE OFFSET KIND` or
+/// `empty`. `err` gets `anchors: malformed at OFFSET`, `anchors: no name at OFFSET`,
+/// `anchors: path controls at OFFSET`, `device` or `memory`. If the text can't be written, the run
+/// tries once to write `device` to `err`, and the status is `ExitStatus::Device`.
 pub fn run_check<A: Input, S: Input, O: Output, E: Output, J: SignatureJudge>(
     alloc: Global,
     anchors: &mut A,
@@ -154,7 +156,7 @@ pub fn run_check<A: Input, S: Input, O: Output, E: Output, J: SignatureJudge>(
     judge: &mut J,
 ) -> ExitStatus
     requires { 6 ≤ limit }
-    // What is told, and the status, are those of what is found in the octets that were taken.
+    // The text and the status report the outcome for the bytes that were read.
     ensures told { (outcome : Outcome)
         × IsOutcome (source A.takes A.is_ended A.failures anchors.old anchors.new)
         (source S.takes S.is_ended S.failures stream.old stream.new)

@@ -1,4 +1,4 @@
-//! The texts of a run.
+//! The lines that a run prints.
 ghost use Rattle.std.specs.Prelude.{◌≡◌, IfOk, string_bytes};
 ghost use Rattle.cert_desk_checking.specs.Lines.{line_of, anchors_line};
 
@@ -6,11 +6,11 @@ use crate::anchor_fault::AnchorFault;
 use cert_desk_rules::{Checked, Verdict};
 use std::alloc::{AllocError, Global};
 
-/// What is said of a stream, in one line.
+/// Returns the line that reports a verdict.
 ///
 /// # Errors
 ///
-/// Out of memory.
+/// Fails if memory runs out.
 pub fn verdict_line(alloc: Global, checked: Checked) -> Result<String, AllocError>
     ensures { IfOk result (λ line. string_bytes line ≡ line_of checked.verdict checked.calls) }
 {
@@ -29,11 +29,11 @@ pub fn verdict_line(alloc: Global, checked: Checked) -> Result<String, AllocErro
     }
 }
 
-/// What is said of anchors of which the one that begins at this offset has this fault, in one line.
+/// Returns the line that reports a rejected trust anchor, which begins at this offset.
 ///
 /// # Errors
 ///
-/// Out of memory.
+/// Fails if memory runs out.
 pub fn anchors_line(alloc: Global, offset: u64, fault: AnchorFault) -> Result<String, AllocError>
     ensures { IfOk result (λ line. string_bytes line ≡ anchors_line offset fault) }
 {

@@ -1,14 +1,15 @@
--- What contracts say of a device: what it did from one state to another, how its count of failures
--- moved, and how much of a text went out.
+-- Inputs and outputs, both called devices, as contracts see them: the bytes that they move between
+-- two states, their count of failures, and the part of a text that was written.
 use Rattle.std.specs.Prelude.{◌≡◌, ℕ, ◌+◌, ◌-◌, ◌^◌, ◌<◌, min, List, [], length, take}
 
--- a count of failures after one more, which stays at the most that 64 bits hold
+-- The count of failures after one more failure. It stays at 2^64 - 1, the largest number of 64
+-- bits.
 abbrev pub one_more : ℕ → ℕ
 one_more failures = min (failures + 1) (2 ^ 64 - 1)
 
--- What contracts see of a device over a call: which octets move from a state to a later one, in
--- turn, in which states the last read met the end, how many calls have failed, and the states
--- before and behind.
+-- An input or an output over a call: the bytes that it moves between two states, the states in
+-- which the last read met the end, the number of failed calls, and the states before and after the
+-- call.
 pub record Device : Type 1 where
   pub State : Type 0
   pub moves : State → List ℕ → State → Type 0
@@ -17,7 +18,7 @@ pub record Device : Type 1 where
   pub old : State
   pub new : State
 
--- an input
+-- An input as a `Device`.
 abbrev pub source : {State : Type 0} → (State → List ℕ → State → Type 0) → (State → Type 0)
     → (State → ℕ) → State → State → Device
 source {State} takes is_ended failures old new =
@@ -30,7 +31,7 @@ source {State} takes is_ended failures old new =
       new = new;
     }
 
--- an output, which never ends
+-- An output as a `Device`. It has no end.
 abbrev pub sink : {State : Type 0} → (State → List ℕ → State → Type 0) → (State → ℕ) → State → State
     → Device
 sink {State} gives failures old new =
@@ -43,23 +44,23 @@ sink {State} gives failures old new =
       new = new;
     }
 
--- these octets were moved, in turn
+-- The call moved exactly these bytes, in this order.
 abbrev pub Moved : Device → List ℕ → Type 0
 Moved d octets = d.moves d.old octets d.new
 
--- the last read met the end
+-- The last read met the end.
 abbrev pub MetEnd : Device → Type 0
 MetEnd d = d.is_ended d.new
 
--- no call failed
+-- No call failed.
 abbrev pub Sound : Device → Type 0
 Sound d = d.failures d.new ≡ d.failures d.old
 
--- nothing was asked of it
+-- The device was not used.
 abbrev pub Untouched : Device → Type 0
 Untouched d = d.new ≡ d.old
 
--- The last call failed, and no other: before it these octets were moved, and by it none, nor did it
+-- Exactly the last call failed. The calls before it moved these bytes; it moved none and didn't
 -- meet the end.
 pub record Fails (d : Device) (octets : List ℕ) : Type 0 where
   pub before : d.State
@@ -69,10 +70,10 @@ pub record Fails (d : Device) (octets : List ℕ) : Type 0 where
   pub not_ended : d.is_ended d.new → ⊥
   pub once : d.failures d.new ≡ one_more (d.failures before)
 
--- the text went out, and no write failed
+-- The text was written, and no write failed.
 abbrev pub IsWritten : Device → List ℕ → Type 0
 IsWritten d text = Moved d text × Sound d
 
--- a write failed: a beginning of the text went out, and not the whole
+-- A write failed, after a proper prefix of the text was written.
 abbrev pub IsCut : Device → List ℕ → Type 0
 IsCut d text = (sent : ℕ) × (sent < length text) × Fails d (take sent text)

@@ -1,8 +1,9 @@
--- The number of each exit status, which the process ends with.
+-- The number of each exit status, which is the exit code of the process.
 use Rattle.std.specs.Prelude.{ℕ}
 use Rattle.cert_desk_io.specs.declared.exit_status.ExitStatus.{ExitStatus}
 use Rattle.cert_desk_io.specs.declared.exit_status.ExitStatus.TheVariants as statuses
 
+-- The number of each status.
 abbrev pub code_of : ExitStatus → ℕ
 code_of statuses.Done = 0
 code_of statuses.Refused = 1

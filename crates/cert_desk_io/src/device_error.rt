@@ -1,10 +1,11 @@
-// That a device failed.
+//! The error of an input or an output.
+
 ghost use Rattle.std.specs.Prelude.{Some, codes};
 
 use std::error::Error;
 use std::fmt;
 
-/// An I/O error: a reader or a writer answered an error, or a writer took nothing.
+/// An I/O error: a reader or a writer returned an error, or a writer accepted no byte.
 #[derive(Clone, Copy, Debug, PartialEq, Eq)]
 pub struct DeviceError;
 

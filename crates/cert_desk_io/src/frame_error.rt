@@ -1,14 +1,14 @@
-// Why there is no frame.
+//! The error of reading and writing frames.
 
-/// Why a frame isn't read, or isn't put after octets.
+/// Why a frame can't be read, or can't be appended.
 #[derive(Clone, Copy, Debug, PartialEq, Eq)]
 pub enum FrameError {
-    /// More octets than are wanted, or than four octets number.
+    /// The content is longer than the caller allows, or has 2^32 bytes or more.
     TooLong,
     /// The input ends within the frame.
     Cut,
     /// A read failed.
     Device,
-    /// There was no memory for the octets.
+    /// Memory for the bytes ran out.
     OutOfMemory,
 }

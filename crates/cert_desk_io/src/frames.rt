@@ -1,4 +1,5 @@
-// Frames, read and written.
+//! Reading and writing frames: a length of four bytes, and as many bytes of content.
+
 ghost use Rattle.std.specs.Prelude.{◌≡◌, ◌<◌, ◌≤◌, ◌^◌, ◌⊎◌, ◌↔◌, ℕ, List, ◌++◌, length, IfOk};
 ghost use Rattle.std.specs.Prelude.{IfErr, IfSome, IsNone, OnOk};
 ghost use Rattle.std.specs.Option.{option_map};
@@ -11,7 +12,7 @@ use crate::Input;
 use crate::frame_error::FrameError;
 use std::alloc::Global;
 
-// Takes so many octets of an input, or fewer where it ends.
+// Reads up to `count` bytes of an input, and fewer only if the input ends before.
 fn take_octets<I: Input>(alloc: Global, input: &mut I, count: usize) -> Result<Vec<u8>, FrameError>
     ensures taken { IfOk result
         (λ octets. IsTaken (source I.takes I.is_ended I.failures input.old input.new) count
@@ -36,7 +37,8 @@ fn take_octets<I: Input>(alloc: Global, input: &mut I, count: usize) -> Result<V
     Ok(octets)
 }
 
-// The number that the first four octets are, and the octets after them; none where there are fewer.
+// Splits off the big-endian number in the first four bytes. Returns `None` if there are fewer than
+// four bytes.
 fn split_number(octets: &[u8]) -> Option<(u32, &[u8])>
     ensures some { IfSome result (λ p. octets.now ≡ number_octets p.0 ++ p.1.now) }
     ensures bound { IfSome result (λ p. p.0 < 2 ^ 32) }
@@ -50,13 +52,17 @@ fn split_number(octets: &[u8]) -> Option<(u32, &[u8])>
     Some((number, rest))
 }
 
-/// Reads a frame of at most so many octets and answers its content, or none where the input ends
-/// before one.
+/// Reads a frame whose content has at most `most` bytes. Returns the content, or `None` if the
+/// input ends where the frame would begin.
 ///
 /// # Errors
 ///
-/// `TooLong` where it has more, of which none is taken, `Cut` where the input ends within it,
-/// `Device` where a read failed, and `OutOfMemory`. No read is tried again.
+/// - `TooLong`: the content has more than `most` bytes. Only its length was read.
+/// - `Cut`: the input ends within the frame.
+/// - `Device`: a read failed.
+/// - `OutOfMemory`: memory runs out.
+///
+/// A failed read isn't tried again.
 pub fn read_frame<I: Input>(
     alloc: Global,
     input: &mut I,
@@ -85,8 +91,8 @@ pub fn read_frame<I: Input>(
     Ok(Some(content))
 }
 
-/// The content of the frame with which octets begin, and what stands after it; none where they
-/// begin with no whole frame.
+/// Returns the content of the frame with which the bytes begin, and the bytes after the frame.
+/// Returns `None` if they don't begin with a complete frame.
 pub fn split_frame(octets: &[u8]) -> Option<(&[u8], &[u8])>
     ensures some { IfSome result (λ p. octets.now ≡ frame p.0.now ++ p.1.now) }
     ensures short { IfSome result (λ p. length p.0.now < 2 ^ 32) }
@@ -103,12 +109,14 @@ pub fn split_frame(octets: &[u8]) -> Option<(&[u8], &[u8])>
     Some(rest.split_at(count))
 }
 
-/// Puts a frame of this content after other octets.
+/// Appends a frame with this content to `octets`.
 ///
 /// # Errors
 ///
-/// `TooLong` where the content has 2^32 octets or more, and `OutOfMemory`; a part of the frame may
-/// stand there then.
+/// - `TooLong`: the content has 2^32 bytes or more.
+/// - `OutOfMemory`: memory runs out.
+///
+/// After an error, `octets` may end with a part of the frame.
 pub fn append_frame(content: &[u8], octets: &mut Vec<u8>) -> Result<(), FrameError>
     ensures put { OnOk result (octets.new.items ≡ octets.old.items ++ frame content.now) }
     ensures short { OnOk result (length content.now < 2 ^ 32) }

@@ -1,4 +1,5 @@
-// What a system lends: its files by their names, and the words of a command.
+//! The files of the operating system, and the arguments of the command line.
+
 ghost use Rattle.std.specs.Prelude.{⊤, ◌≡◌, ◌⊎◌, IfErr, OnOk};
 ghost use Rattle.cert_desk_io.specs.declared.exit_status.ExitStatus.TheVariants as statuses;
 ghost use Rattle.cert_desk_io.specs.Devices.{sink};
@@ -27,7 +28,7 @@ impl Read for HostReader {
     }
 }
 
-/// The files of a system by their names, and its standard input, if that has one.
+/// The files of the operating system by their paths, and standard input under a name of its own.
 #[derive(Drop)]
 pub struct HostFiles<'a> {
     rt: &'a HostRuntime,
@@ -35,7 +36,8 @@ pub struct HostFiles<'a> {
 }
 
 impl<'a> HostFiles<'a> {
-    /// The files of this system, and its standard input under this name.
+    /// Returns the files of this system. Standard input is opened by the name `standard`, if there
+    /// is one.
     pub fn new(rt: &'a HostRuntime, standard: Option<&'a str>) -> HostFiles<'a> {
         HostFiles { rt, standard }
     }
@@ -60,17 +62,19 @@ impl NamedInputs<FromRead<HostReader>> for HostFiles<'_> {
     }
 }
 
-// Whether an error says out of memory.
 fn is_out_of_memory(error: &io::Error) -> bool {
     matches!(error.kind(), io::ErrorKind::OutOfMemory)
 }
 
-/// Returns the words of the command, of which the first is the program's name.
+/// Returns the arguments of the command line, beginning with the program's name.
 ///
 /// # Errors
 ///
-/// The status of the run, out of memory or with a word that isn't UTF-8, for which this text is
-/// written to the error output.
+/// The exit status of the run:
+///
+/// - If memory runs out, the line `memory` is written to the error output.
+/// - If an argument isn't UTF-8, `text` is written to the error output, and the status is
+///   `Arguments`.
 pub fn words_of<E: Output>(
     rt: &HostRuntime,
     err: &mut E,

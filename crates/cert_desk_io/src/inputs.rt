@@ -1,4 +1,5 @@
-// What octets come from.
+//! Inputs: sources of bytes.
+
 ghost use Rattle.std.specs.Prelude.{◌≡◌, ℕ, ◌<◌, ◌≤◌, ◌↔◌, List, [], ◌++◌, length, take, IfOk};
 ghost use Rattle.std.specs.Prelude.{IfErr, OnOk, OnErr};
 ghost use Rattle.cert_desk_io.specs.Devices.{one_more, source};
@@ -7,22 +8,23 @@ ghost use Rattle.cert_desk_io.specs.Whole.{IsWhole, IsUnread};
 use super::{DeviceError, ReadAllError};
 use std::alloc::Global;
 
-/// What octets come from, in pieces of any size.
+/// A source of bytes, which gives them in pieces of any size.
 pub trait Input {
-    /// From the one state to the other these octets were taken, in turn.
+    /// Between these two states, the input gave exactly these bytes, in this order.
     ghost takes: { Self → List ℕ → Self → Type 0 };
 
-    /// The last read met the end.
+    /// The last read met the end of the input.
     ghost is_ended: { Self → Type 0 };
 
-    /// How many reads failed. The count stays at 2^64 - 1.
+    /// The number of failed reads. The count stays at 2^64 - 1.
     ghost failures: { Self → ℕ };
 
-    /// Reads octets into the front of the buffer and answers how many, or 0 at the end.
+    /// Reads bytes into the first part of the buffer and returns their number, which is 0 at the
+    /// end of the input.
     ///
     /// # Errors
     ///
-    /// `DeviceError`, an I/O error. Nothing was taken, and a later call may go on.
+    /// - `DeviceError`: an I/O error. The read took no byte, and a later call may succeed.
     fn read(&mut self, buffer: &mut [u8]) -> Result<usize, DeviceError>
         requires room { 0 < length buffer.old }
         ensures bound { IfOk result (λ count. count ≤ length buffer.new) }
@@ -30,15 +32,16 @@ pub trait Input {
         ensures end { IfOk result (λ count. (count ≡ 0) ↔ is_ended self.new) }
         ensures sound { OnOk result (failures self.new ≡ failures self.old) }
 
-        // After a failure.
+        // After a failed read.
         ensures none_taken { OnErr result (takes self.old [] self.new) }
         ensures not_ended { OnErr result (¬ is_ended self.new) }
         ensures once { OnErr result (failures self.new ≡ one_more (failures self.old)) };
 
-    /// Between a state and itself nothing was taken.
+    /// Between a state and itself, the input gave no byte.
     ghost takes_nothing: { (a : Self) → takes a [] a };
 
-    /// What was taken from one state to a second, and from there to a third, was taken in turn.
+    /// The bytes given from one state to a second, followed by those given from there to a third,
+    /// are the bytes given from the first to the third.
     ghost takes_in_turn: { (a b c : Self) (first second : List ℕ)
         → takes a first b → takes b second c → takes a (first ++ second) c };
 }
@@ -59,12 +62,15 @@ impl<I: Input> Input for &mut I {
     ghost takes_in_turn = { λ a b c. I.takes_in_turn a.now b.now c.now };
 }
 
-/// Reads an input to its end: all of its octets, `most` of them at most.
+/// Reads an input to its end. It may have at most `most` bytes.
 ///
 /// # Errors
 ///
-/// `TooMuch` where it gives more, of which one is taken, `Device` where a read failed, and
-/// `OutOfMemory`. No read is tried again.
+/// - `TooMuch`: there are more bytes. One more than `most` was read.
+/// - `Device`: a read failed.
+/// - `OutOfMemory`: memory runs out.
+///
+/// A failed read isn't tried again.
 pub fn read_all<I: Input>(alloc: Global, input: &mut I, most: u32) -> Result<Vec<u8>, ReadAllError>
     ensures whole { IfOk result
         (λ octets. IsWhole (source I.takes I.is_ended I.failures input.old input.new) most

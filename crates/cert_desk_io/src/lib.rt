@@ -1,11 +1,16 @@
-//! The devices that octets come from and go to.
+//! Inputs and outputs, and the exit statuses and messages that every program shares.
 //!
-//! An [`Input`] gives octets and an [`Output`] takes them, in pieces of any size. A contract over
-//! either speaks of the octets that moved, in turn, and of a count of failures, so that code above
-//! is proved once for every device. [`FromRead`] and [`ToWrite`] make devices of readers and
-//! writers, [`MemoryInput`] and [`MemoryOutput`] of memory, for tests; [`NamedInputs`] are opened
-//! by their names, as [`HostFiles`] are. Above them stand the texts that every run tells, and the
-//! [`ExitStatus`] that it comes to.
+//! An [`Input`] gives bytes and an [`Output`] accepts them, in pieces of any size. Their contracts
+//! say which bytes moved, in which order, and how many calls failed. So the code above is proved
+//! once for all of them:
+//!
+//! - [`FromRead`] and [`ToWrite`] make an input of a reader and an output of a writer.
+//! - [`MemoryInput`] and [`MemoryOutput`] are over memory, for tests.
+//! - [`NamedInputs`] are opened by their names. [`HostFiles`] are the files of the operating
+//!   system.
+//!
+//! The crate also has the messages on errors that every run writes, and the [`ExitStatus`] of a
+//! run. It depends on no other crate.
 #![tactic(auto)]
 
 pub mod device_error;

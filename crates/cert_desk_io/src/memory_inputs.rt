@@ -1,4 +1,5 @@
-// An input over octets in memory.
+//! Inputs over memory.
+
 ghost use Rattle.std.specs.Prelude.{◌≡◌, ◌<◌, ◌≤◌, ◌↔◌, [], ◌++◌, length, take, drop, min, IsErr};
 ghost use Rattle.std.specs.Prelude.{IfOk, OnOk, OnErr};
 ghost use Rattle.std.proofs.Common.{refl, sym, ap, ◌∙◌, append_assoc};
@@ -10,8 +11,8 @@ ghost use Rattle.cert_desk_io.specs.Memory.{HasEnded};
 use super::schedule::Schedule;
 use super::{DeviceError, Input};
 
-/// An input over octets in memory, in pieces of given sizes, of which one read fails. It serves
-/// tests.
+/// An input over bytes in memory, for tests. It gives them in pieces of chosen sizes, and one of
+/// its reads can fail.
 #[derive(Drop)]
 pub struct MemoryInput<'a> {
     octets: &'a [u8],
@@ -21,10 +22,10 @@ pub struct MemoryInput<'a> {
 }
 
 impl<'a> MemoryInput<'a> {
-    /// An input that gives these octets. Each read that succeeds gives up to the next of these
-    /// sizes, each at least 1, and after the last size as much as there is room for. The read of
-    /// this number fails, 1 for the first (no read has the number 0), and takes nothing; later ones
-    /// go on.
+    /// Returns an input over these bytes. Each successful read gives up to the next of these sizes,
+    /// each of which is at least 1. After the last size, a read fills its buffer as far as bytes
+    /// are left. The read with the number `failing` fails and takes no byte; the first read has the
+    /// number 1, so 0 means none. Reads after it succeed.
     pub fn new(octets: &'a [u8], sizes: &'a [usize], failing: Option<u64>) -> MemoryInput<'a>
         requires { ArePieceSizes sizes.now }
         ensures octets { octets_left result ≡ octets.now }
@@ -41,14 +42,14 @@ impl<'a> MemoryInput<'a> {
         }
     }
 
-    /// The octets that reads will give from here on.
+    /// Returns the bytes that are left to read.
     pub fn left(&self) -> &'a [u8]
         ensures { result.now ≡ octets_left self.now }
     {
         self.octets
     }
 
-    /// How many reads failed. The count stays at 2^64 - 1.
+    /// Returns the number of failed reads. The count stays at 2^64 - 1.
     pub fn failures(&self) -> u64
         ensures { result ≡ read_failures self.now }
     {
@@ -71,12 +72,12 @@ impl Input for MemoryInput<'_> {
         ensures end { IfOk result (λ count. (count ≡ 0) ↔ HasEnded self.new) }
         ensures sound { OnOk result (read_failures self.new ≡ read_failures self.old) }
 
-        // After a failure.
+        // After a failed read.
         ensures none_taken { OnErr result (octets_left self.old ≡ [] ++ octets_left self.new) }
         ensures not_ended { OnErr result (¬ HasEnded self.new) }
         ensures once { OnErr result (read_failures self.new ≡ one_more (read_failures self.old)) }
 
-        // Which read fails, and how much the others take.
+        // The reads that fail, and the number of bytes that the others give.
         ensures fails { IsErr result ↔ (failing_read self.old ≡ Some 1) }
         ensures counted { failing_read self.new ≡ after_call (failing_read self.old) }
         ensures count { IfOk result (λ count.

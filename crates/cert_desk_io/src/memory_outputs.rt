@@ -1,4 +1,5 @@
-// An output into memory.
+//! Outputs into memory.
+
 ghost use Rattle.std.specs.Prelude.{◌≡◌, ◌-◌, ◌<◌, ◌≤◌, ◌↔◌, ◌⊎◌, [], ◌++◌, length, take, drop};
 ghost use Rattle.std.specs.Prelude.{min, IsErr, IfOk, OnOk, OnErr};
 ghost use Rattle.std.proofs.Common.{refl, sym, ap, ◌∙◌, append_assoc, append-nil};
@@ -8,8 +9,8 @@ ghost use Rattle.cert_desk_io.specs.Pieces.{ArePieceSizes, after_call, next_piec
 use super::schedule::Schedule;
 use super::{DeviceError, Output};
 
-/// An output into lent memory, in pieces of given sizes, of which one write fails. It serves
-/// tests.
+/// An output into borrowed memory, for tests. It accepts bytes in pieces of chosen sizes, and one
+/// of its writes can fail.
 ///
 /// A write beyond the capacity fails, as an I/O error.
 #[derive(Drop)]
@@ -25,11 +26,14 @@ impl<'a> MemoryOutput<'a> {
     ghost use Rattle.cert_desk_io.specs.Memory.{Gives, IsFull, capacity, failing_write, written};
     ghost use Rattle.cert_desk_io.specs.Memory.{write_failures, write_sizes};
 
-    /// An output that keeps as many octets as there is room for. Each write that succeeds takes up
-    /// to the next of these sizes, each at least 1, and after the last size all that it is given.
-    /// The write of this number fails, 1 for the first (no write has the number 0), and nothing
-    /// goes out; later ones go on. What went out stands at the front of the room, also once the
-    /// output is gone.
+    /// Returns an output that stores up to `room.len()` bytes. Each successful write accepts up to
+    /// the next of these sizes, each of which is at least 1. After the last size, a write accepts
+    /// all bytes for which there is capacity. The write with the number `failing` fails and accepts
+    /// no byte; the first write has the number 1, so 0 means none. Writes after it succeed while
+    /// there is capacity.
+    ///
+    /// The accepted bytes are at the beginning of `room`, and stay there after the output is
+    /// dropped.
     pub fn new(room: &'a mut [u8], sizes: &'a [usize], failing: Option<u64>) -> MemoryOutput<'a>
         requires { ArePieceSizes sizes.now }
         ensures written { written result ≡ [] }
@@ -47,14 +51,14 @@ impl<'a> MemoryOutput<'a> {
         }
     }
 
-    /// The octets that went out.
+    /// Returns the accepted bytes.
     pub fn written(&self) -> &[u8]
         ensures { result.now ≡ written self.now }
     {
         &self.room[..self.len]
     }
 
-    /// How many writes failed. The count stays at 2^64 - 1.
+    /// Returns the number of failed writes. The count stays at 2^64 - 1.
     pub fn failures(&self) -> u64
         ensures { result ≡ write_failures self.now }
     {
@@ -78,11 +82,11 @@ impl Output for MemoryOutput<'_> {
             (λ count. Gives self.old (take count octets.now) self.new) }
         ensures sound { OnOk result (write_failures self.new ≡ write_failures self.old) }
 
-        // After a failure.
+        // After a failed write.
         ensures none_given { OnErr result (Gives self.old [] self.new) }
         ensures once { OnErr result (write_failures self.new ≡ one_more (write_failures self.old)) }
 
-        // Which write fails, and how much the others give.
+        // The writes that fail, and the number of bytes that the others accept.
         ensures fails { IsErr result ↔ ((failing_write self.old ≡ Some 1) ⊎ IsFull self.old) }
         ensures counted { failing_write self.new ≡ after_call (failing_write self.old) }
         ensures count { IfOk result (λ count. count ≡ next_piece (write_sizes self.old)

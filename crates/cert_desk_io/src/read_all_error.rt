@@ -1,18 +1,19 @@
-// Why not all octets of an input are there.
+//! The error of reading a whole input.
+
 ghost use Rattle.std.specs.Prelude.{Some, codes};
 ghost use Rattle.cert_desk_io.specs.Whole.{read_all_text};
 
 use std::error::Error;
 use std::fmt;
 
-/// Why an input wasn't read to its end.
+/// Why an input can't be read to its end.
 #[derive(Clone, Copy, Debug, PartialEq, Eq)]
 pub enum ReadAllError {
-    /// The input gave more octets than were wanted.
+    /// The input has more bytes than the caller allows.
     TooMuch,
     /// A read failed.
     Device,
-    /// Out of memory for its octets.
+    /// Memory for the bytes ran out.
     OutOfMemory,
 }
 

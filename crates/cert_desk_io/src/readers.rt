@@ -1,4 +1,5 @@
-// A reader as an input.
+//! Readers as inputs.
+
 ghost use Rattle.std.specs.Prelude.{◌≡◌, ◌<◌, ◌≤◌, ◌↔◌, [], length, take, IfOk, OnOk, OnErr};
 ghost use Rattle.std.specs.Io.KnownBytes.{Consumes};
 ghost use Rattle.cert_desk_io.specs.Devices.{one_more};
@@ -8,9 +9,9 @@ ghost use Rattle.std.proofs.KnownBytes.{Consumes-nil, Consumes-trans};
 use super::{DeviceError, Input};
 use std::io::Read;
 
-/// A reader as an input, with a count of the reader's errors.
+/// A reader as an input, which counts the reader's errors.
 ///
-/// No read is tried again: an interrupted one is a failure like any other.
+/// A failed read isn't tried again, not even an interrupted one.
 #[derive(Drop)]
 pub struct FromRead<R> {
     reader: R,
@@ -19,7 +20,7 @@ pub struct FromRead<R> {
 }
 
 impl<R: Read> FromRead<R> {
-    /// An input over this reader, of which no read has failed or met the end.
+    /// Returns an input over this reader.
     pub fn new(reader: R) -> Self
         ensures reader { reader_of result ≡ reader }
         ensures not_ended { ¬ HasEnded R.remaining result }
@@ -32,14 +33,14 @@ impl<R: Read> FromRead<R> {
         }
     }
 
-    /// How many reads failed. The count stays at 2^64 - 1.
+    /// Returns the number of failed reads. The count stays at 2^64 - 1.
     pub fn failures(&self) -> u64
         ensures { result ≡ read_failures self.now }
     {
         self.failures
     }
 
-    /// The reader.
+    /// Returns the reader.
     pub fn into_inner(self) -> R
         ensures { result ≡ reader_of self }
     {
@@ -64,7 +65,7 @@ impl<R: Read> Input for FromRead<R> {
         ensures end { IfOk result (λ count. (count ≡ 0) ↔ HasEnded R.remaining self.new) }
         ensures sound { OnOk result (read_failures self.new ≡ read_failures self.old) }
 
-        // After a failure.
+        // After a failed read.
         ensures none_taken { OnErr result (Consumes (R.remaining (reader_of self.old))
             (R.remaining (reader_of self.new)) []) }
         ensures not_ended { OnErr result (¬ HasEnded R.remaining self.new) }

@@ -1,8 +1,9 @@
-// How much each call to a device in memory moves, and which call fails.
+//! The sizes of the pieces that an input or an output in memory moves, and the call that fails.
+
 ghost use Rattle.std.specs.Prelude.{◌≡◌, ◌<◌, ◌↔◌, ◌⊎◌, drop, IsNone, IfSome, OnSome, IfNone};
 ghost use Rattle.cert_desk_io.specs.Pieces.{ArePieceSizes, after_call, next_piece};
 
-// The sizes of the next pieces, and which of the calls to come fails, 1 for the next.
+// The sizes of the next pieces, and the number of the call that fails, with 1 for the next call.
 #[derive(Drop)]
 pub(crate) struct Schedule<'a> {
     pub(crate) pieces: &'a [usize],
@@ -22,8 +23,8 @@ impl<'a> Schedule<'a> {
         }
     }
 
-    // How much the next call moves of this much, or none where it fails. It also fails where there
-    // is nothing to move, and a call that fails uses no piece up.
+    // Returns the number of bytes that the next call moves, of at most `most`, or `None` if the
+    // call fails. A call also fails if `most` is 0. A failed call uses no size up.
     pub(crate) fn next(&mut self, most: usize) -> Option<usize>
         ensures fails { IsNone result ↔ ((self.old.failing_call ≡ Some 1) ⊎ (most ≡ 0)) }
         ensures moves { IfSome result (λ count. count ≡ next_piece self.old.pieces.now most) }

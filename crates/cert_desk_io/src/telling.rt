@@ -1,4 +1,5 @@
-// Texts that a run tells, and the status that it answers.
+//! Messages that every run writes, and the exit status that follows.
+
 ghost use Rattle.std.specs.Prelude.{◌≡◌};
 ghost use Rattle.cert_desk_io.specs.Devices.{sink};
 ghost use Rattle.cert_desk_io.specs.Telling.{IsDeviceTold, IsComplaint, IsAnswer, IsMemoryTold};
@@ -6,7 +7,7 @@ ghost use Rattle.cert_desk_io.specs.NamedInputs.{IsUnopenedTold};
 
 use super::{ExitStatus, OpenError, Output, write_all};
 
-/// Tells of an I/O error: the line `device` is tried once.
+/// Reports an I/O error: tries once to write the line `device`, and returns `Device`.
 pub fn tell_device<E: Output>(err: &mut E) -> ExitStatus
     ensures told { IsDeviceTold (sink E.gives E.failures err.old err.new) result }
 {
@@ -14,8 +15,8 @@ pub fn tell_device<E: Output>(err: &mut E) -> ExitStatus
     ExitStatus::Device
 }
 
-/// Writes a text to the error output, and answers this status. One that can't be written is a
-/// failed device, which is told.
+/// Writes a text to the error output and returns this status. If the text can't be written, reports
+/// the I/O error and returns `Device`.
 pub fn complain<E: Output>(err: &mut E, text: &[u8], status: ExitStatus) -> ExitStatus
     ensures told { IsComplaint (sink E.gives E.failures err.old err.new) text.now status result }
 {
@@ -25,8 +26,8 @@ pub fn complain<E: Output>(err: &mut E, text: &[u8], status: ExitStatus) -> Exit
     tell_device(err)
 }
 
-/// Writes a text to the output, and answers this status. One that can't be written is a failed
-/// device, which is told on the error output.
+/// Writes a text to the output and returns this status. If the text can't be written, reports the
+/// I/O error on the error output and returns `Device`.
 pub fn answer<O: Output, E: Output>(
     out: &mut O,
     err: &mut E,
@@ -42,14 +43,14 @@ pub fn answer<O: Output, E: Output>(
     tell_device(err)
 }
 
-/// Tells that a call is out of memory: the line `memory`.
+/// Reports that memory ran out, with the line `memory`.
 pub fn tell_memory<E: Output>(err: &mut E) -> ExitStatus
     ensures told { IsMemoryTold (sink E.gives E.failures err.old err.new) result }
 {
     complain(err, b"memory\n", ExitStatus::Memory)
 }
 
-/// Tells why an input wasn't opened: the line `memory`, or `device`.
+/// Reports why an input can't be opened, with the line `device` or `memory`.
 pub fn tell_unopened<E: Output>(err: &mut E, error: OpenError) -> ExitStatus
     ensures told { IsUnopenedTold (sink E.gives E.failures err.old err.new) error result }
 {

@@ -1,4 +1,5 @@
-// A writer as an output.
+//! Writers as outputs.
+
 ghost use Rattle.std.specs.Prelude.{◌≡◌, ◌<◌, ◌≤◌, [], length, take, IfOk, OnOk, OnErr};
 ghost use Rattle.std.specs.Io.KnownBytes.{Appends};
 ghost use Rattle.std.proofs.KnownBytes.{Appends-nil, Appends-trans};
@@ -8,10 +9,10 @@ ghost use Rattle.cert_desk_io.specs.Writers.{writer_of, write_failures};
 use super::{DeviceError, Output};
 use std::io::Write;
 
-/// A writer as an output, with a count of the writer's errors.
+/// A writer as an output, which counts the writer's errors.
 ///
-/// A write of 0 octets is a failure too. No write is tried again: an interrupted one is a failure
-/// like any other. Nothing flushes the writer.
+/// A write that accepts 0 bytes counts as failed. A failed write isn't tried again, not even an
+/// interrupted one. The writer is never flushed.
 #[derive(Drop)]
 pub struct ToWrite<W> {
     writer: W,
@@ -19,7 +20,7 @@ pub struct ToWrite<W> {
 }
 
 impl<W: Write> ToWrite<W> {
-    /// An output over this writer, of which no write has failed.
+    /// Returns an output over this writer.
     pub fn new(writer: W) -> Self
         ensures writer { writer_of result ≡ writer }
         ensures sound { write_failures result ≡ 0 }
@@ -30,14 +31,14 @@ impl<W: Write> ToWrite<W> {
         }
     }
 
-    /// How many writes failed. The count stays at 2^64 - 1.
+    /// Returns the number of failed writes. The count stays at 2^64 - 1.
     pub fn failures(&self) -> u64
         ensures { result ≡ write_failures self.now }
     {
         self.failures
     }
 
-    /// The writer.
+    /// Returns the writer.
     pub fn into_inner(self) -> W
         ensures { result ≡ writer_of self }
     {
@@ -60,7 +61,7 @@ impl<W: Write> Output for ToWrite<W> {
             (W.contents (writer_of self.new)) (take count octets.now)) }
         ensures sound { OnOk result (write_failures self.new ≡ write_failures self.old) }
 
-        // After a failure.
+        // After a failed write.
         ensures none_given { OnErr result (Appends (W.contents (writer_of self.old))
             (W.contents (writer_of self.new)) []) }
         ensures once { OnErr result (write_failures self.new ≡ one_more (write_failures self.old)) }

@@ -1,4 +1,4 @@
--- Chains that orders ask for, judged where each signature is right.
+-- Chains that orders ask for, validated with a verifier that accepts each signature.
 use Rattle.std.proofs.Common.{◌≡◌, ◌≢◌, ◌⊎◌, inl, inr, ℕ, List, [], ◌∷◌, length, sym, ap, ◌∙◌, subst, arith}
 use Rattle.cert_desk_orders.specs.Oid.Bound.{Bound}
 use Rattle.cert_desk_orders.specs.Der.BitStrings.{Bits}
@@ -29,7 +29,7 @@ use Rattle.cert_desk_issuing_c.specs.Reasons.{TellsVerdict, place_of, reason_num
 use Rattle.cert_desk_issuing_c.specs.Signing.{AreFaulty, HoldEach, IsFault, RefusesEach, all_bits}
 use Rattle.cert_desk_issuing_c.proofs.GivenChains.{refused_for}
 
--- What one chain of accepted orders is judged to be, each is.
+-- The verdict on one chain of accepted orders is the verdict on each.
 module _ (moment : ℕ) (purpose : List ℕ) (root : PlainOrder) (below : List PlainOrder) (cs : List PlainCertificate) (stream : List ℕ) (h : HoldsOrders (root ∷ below) cs stream) where
   are_trusted : Trusted (terms_for root moment purpose always) length_max stream → AreTrusted moment purpose root below
   are_trusted t = (
@@ -56,7 +56,7 @@ module _ (said : List Order) (moment : ℕ) (purpose : List ℕ) (cs : List Plai
   pub is_judged : (a : Algorithm) (bits : Bits) → HoldEach said a bits cs → IsJudged said moment purpose v
   is_judged a bits each = judged_for each.asked each.accepted each.count each.held
 
--- What is so with each status.
+-- The facts for each status.
 module _ (orders algorithm : List ℕ) (moment : ℕ) (purpose : List ℕ) (place told : ℕ) where
   abbrev IsSo : ExitStatus → Type 0
   IsSo status = IsAudit orders algorithm moment purpose place told status

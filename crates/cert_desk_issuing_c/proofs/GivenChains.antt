@@ -28,7 +28,7 @@ use Rattle.cert_desk_issuing_c.specs.declared.given_signer.GivenSigner.{GivenSig
 use Rattle.cert_desk_issuing_c.specs.Reasons.{status_of}
 use Rattle.cert_desk_issuing_c.specs.Signing.{AreOrdered, AreRefusedFor, AreSigners, HoldEach, IsBeyond, IsFault, IsRefusal, IsRefusalAt, PlainSigner, RefusesEach, all_bits, given_algorithm, given_key, gives, signer_for, signer_plain}
 
--- Two lists of which the same is said, one after the other
+-- Two lists with the same values, element by element.
 
 kept : {X Y Z W : Type 0} (f : X → Z) (g : Y → Z) (h : Z → W) (xs : List X) (ys : List Y) → map f xs ≡ map g ys → map (λ x. h (f x)) xs ≡ map (λ y. h (g y)) ys
 kept f g h xs ys e = sym (map-map h f xs) ∙ ap (map h) e ∙ map-map h g ys
@@ -39,7 +39,7 @@ same_for f g (z ∷ zs) [] i x e at = absurd cc
 same_for f g (z ∷ zs) (y ∷ ys) zero x e at = (y, (cc))
 same_for f g (z ∷ zs) (y ∷ ys) (suc i) x e at = same_for f g zs ys i x (cc) at
 
--- What signers of one algorithm and these bits issue.
+-- The chain that signers with one algorithm and these bits issue.
 module _ (said : List Order) (algorithm : Algorithm) (bits : Bits) (signers : List GivenSigner) (are : AreSigners said algorithm bits signers) where
   keys_are : map given_key signers ≡ signing_keys said
   keys_are = kept signer_plain (signer_for algorithm bits) (λ (s : PlainSigner). s.key) signers (take (signers_for (length said)) said) are
@@ -62,7 +62,7 @@ module _ (said : List Order) (algorithm : Algorithm) (bits : Bits) (signers : Li
       } in
       subst (λ (cs : List PlainCertificate). HoldEach said algorithm bits cs) (one_chain Bound length_max chain.certificates own stream chain.holds.chain joins) held
 
--- What is written at a place of certificates
+-- The encoding of the certificate at an index.
 pub whole_octets : (c : PlainCertificate) → octets_of (certificate Bound (Some 21)) c ≡ certificate_octets Bound c
 unfolding octets_of contents body_octets
 whole_octets c = refl
@@ -74,12 +74,12 @@ module _ {C : Type 0} (plain : C → PlainCertificate) (xs : List C) (own : List
   pub beyond : (orders algorithm signature : List ℕ) → AreOrdered orders algorithm signature own → length xs ≤ place → IsBeyond orders place algorithm signature
   beyond orders algorithm signature are past = (own, are, omega (arith, past, ap length e, length_plain_list plain xs))
 
--- Why there is none
+-- The reason why there is none.
 pub fault_by : {A B : Type 0} (status : ExitStatus) → (A → B) → IsFault A status → IsFault B status
 fault_by status f (inl why) = inl (why.0, f why.1)
 fault_by status f (inr memory) = inr memory
 
--- a reason that isn't want of memory is a refusal
+-- A reason that isn't `OutOfMemory` is reported as a rejection.
 memory_or_not : (error : IssueError) → (error ≡ errors.OutOfMemory) ⊎ ((error ≢ errors.OutOfMemory) × (status_of error ≡ statuses.Refused))
 memory_or_not errors.OutOfMemory = inl refl
 memory_or_not _ = inr ((λ e. absurd cc), refl)
@@ -107,7 +107,7 @@ module _ (orders algorithm signature : List ℕ) (said others : List Order) (a :
       by_reason (inl memory) = inr (inr (is ∙ ap status_of memory))
       by_reason (inr refused) = inl (is ∙ refused.1, (error, refused.0))
 
--- each status is known, and isn't that of faulty octets
+-- Each status is known, and isn't `Faulty`.
 abbrev pub IsKnown : ℕ → Type 0
 IsKnown n = (status : ExitStatus) × (n ≡ code_of status) × (status ≢ statuses.Faulty)
 

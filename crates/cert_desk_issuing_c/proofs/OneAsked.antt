@@ -1,4 +1,4 @@
--- Orders that a file says ask for one thing, however often they are read.
+-- The orders of a file ask for the same values each time that the file is parsed.
 use Rattle.std.proofs.Common.{◌≡◌, ℕ, zero, suc, ◌<◌, List, [], ◌∷◌, length, map, codes, Option, Some, slice_get, string_bytes, refl, sym, ap, ◌∙◌, subst, arith}
 use Rattle.std.proofs.lemmas.Option.{same_Some, slice_get_within}
 use Rattle.cert_desk_orders.specs.Oid.Bound.{Bound}
@@ -35,7 +35,7 @@ plain_is f (x ∷ xs) = ap (λ ys. f x ∷ ys) (plain_is f xs)
 abbrev validity_of : Civil → Civil → PlainValidity
 validity_of before after = (time_of before, (time_of after, tt))
 
--- two readings of the lines of one order
+-- Two readings of the lines of one order.
 module _ (lines : List PlainLine) (o q : Order) (say : SayOrder lines o) (again : SayOrder lines q) where
   name_same : string_bytes o.name ≡ string_bytes q.name
   name_same = one_of (value_of (codes "name") lines) (string_bytes o.name) (string_bytes q.name) say.name again.name
@@ -55,7 +55,7 @@ module _ (lines : List PlainLine) (o q : Order) (say : SayOrder lines o) (again 
   dns_same : plain_list string_bytes o.dns.items ≡ plain_list string_bytes q.dns.items
   dns_same = plain_is string_bytes o.dns.items ∙ sym say.dns ∙ again.dns ∙ sym (plain_is string_bytes q.dns.items)
 
-  -- ask for one thing, where the name has an encoding
+  -- Both readings ask for the same values, if the name has an encoding.
   module _ (n m place : ℕ) (k l : Option PublicKey) (p r : PlainOrder) (a : IsAccepted (role_at n place) k o p) (b : IsAccepted (role_at m place) l q r) (valid : IsValid (name Bound) p.subject) where
     one_validity : p.validity ≡ r.validity
     one_validity =
@@ -76,7 +76,7 @@ module _ (lines : List PlainLine) (o q : Order) (say : SayOrder lines o) (again 
         let answers = a.answers_is ∙ sym say.ocsp ∙ again.ocsp ∙ sym b.answers_is in
         λ i. record { subject = subject i; serial = serial i; validity = validity i; key = key i; path = path i; dns = dns i; clients = clients i; answers = answers i }
 
--- the orders of a file, and their lines
+-- The orders of a file, and their lines.
 said_at : (all : List (List PlainLine)) (os : List Order) (i : ℕ) (o : Order) → SayOrders all os → slice_get os i ≡ Some o → (lines : List PlainLine) × (slice_get all i ≡ Some lines) × SayOrder lines o
 said_at [] [] i o s e = absurd cc
 said_at [] (q ∷ os) i o s e = absurd s
@@ -95,7 +95,7 @@ there [] place lt = absurd (omega (arith, lt))
 there (x ∷ xs) zero lt = (x, refl)
 there (x ∷ xs) (suc place) lt = there xs place (omega (arith, lt))
 
--- what has an encoding where a certificate has one
+-- The parts of a certificate that has an encoding have encodings.
 part_valid : (c : PlainCertificate) → IsValid (raw_certificate Bound) c → IsValid (raw_tbs_certificate Bound) (tbs c)
 unfolding IsValid IsContent IsBody
 part_valid c v = v.0.0
@@ -108,7 +108,7 @@ issuer_valid : (n place : ℕ) (p above : PlainOrder) (a : Algorithm) → IsVali
 unfolding IsValid IsContent IsBody
 issuer_valid n place p above a v = v.0.1.1.1.0
 
--- two readings of one file, both accepted
+-- Two readings of one file, both accepted.
 module _ (orders : List ℕ) (said other : List Order) (says : SaysOrders orders said) (again : SaysOrders orders other) (ps qs : List PlainOrder) (a : AcceptedOrders said (signing_keys said) ps) (b : AcceptedOrders other (signing_keys other) qs) where
   as_many : length ps ≡ length qs
   as_many = a.all ∙ said_many (by_order (lines_in orders)) said says.said ∙ sym (said_many (by_order (lines_in orders)) other again.said) ∙ sym b.all

@@ -1,4 +1,4 @@
--- Certificates that are issued of one orders file, one by one, are one chain.
+-- Certificates that are issued from one orders file, one at a time, are one chain.
 use Rattle.std.proofs.Common.{◌≡◌, ℕ, zero, suc, List, [], ◌∷◌, ◌++◌, length, Some, slice_get, refl, sym, ap, ◌∙◌, subst}
 use Rattle.std.specs.List.{AllByRecursion}
 use Rattle.std.proofs.lemmas.Option.{same_Some}
@@ -20,7 +20,7 @@ held_more : (P : ℕ → PlainCertificate → Type 0) (c : PlainCertificate) (cs
 held_more P c cs here more zero d e = subst (λ (x : PlainCertificate). P 0 x) (same_Some c d e) here
 held_more P c cs here more (suc i) d e = more i d e
 
--- the octets are those of a certificate of which this is so
+-- The bytes are the encoding of a certificate with this property.
 abbrev IsPiece : (PlainCertificate → Type 0) → List ℕ → Type 0
 IsPiece Says octets = (c : PlainCertificate) × (octets ≡ certificate_octets Bound c) × Stands Bound length_max c × Says c
 

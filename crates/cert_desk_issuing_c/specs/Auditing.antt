@@ -1,4 +1,4 @@
--- What the chain that orders ask for comes to, whoever signs it.
+-- The verdict on the chain that orders ask for, whoever signs it.
 use Rattle.std.specs.Prelude.{◌≡◌, ◌⊎◌, ℕ, List, [], ◌∷◌, true}
 use Rattle.cert_desk_orders.specs.Der.Limits.{length_max}
 use Rattle.x509_cert_builders.specs.CertCertificates.Certificates.{PlainCertificate}
@@ -21,12 +21,12 @@ use Rattle.cert_desk.specs.Runs.{signing_keys}
 use Rattle.cert_desk_issuing_c.specs.Reasons.{place_of, reason_number}
 use Rattle.cert_desk_issuing_c.specs.Signing.{AreFaulty, AreRefusedFor, UnderOrders}
 
--- yes to each signature
+-- The answers that accept each signature.
 abbrev pub always : Answers
 always = λ key algorithm octets bits. true
 
--- There is a chain that holds what these orders ask for, and each is trusted under its own root,
--- where each of its certificates is within the limit and each of its signatures is right.
+-- There is a chain that fulfils these orders. Each such chain is trusted under its own root if its
+-- certificates are within the size limit and its signatures are accepted.
 abbrev pub AreTrusted : ℕ → List ℕ → PlainOrder → List PlainOrder → Type 0
 AreTrusted moment purpose root below =
     ((cs : List PlainCertificate) × (stream : List ℕ) × HoldsOrders (root ∷ below) cs stream)
@@ -35,39 +35,41 @@ AreTrusted moment purpose root below =
     → AreAnswered answers (root ∷ below) cs
     → Trusted (terms_for root moment purpose answers) limit stream)
 
--- A chain that holds it is refused at a place, though each signature is right.
+-- A chain that fulfils the orders is rejected at an index, although each signature is accepted.
 abbrev pub IsBroken : ℕ → List ℕ → PlainOrder → List PlainOrder → ℕ → Rule → Type 0
 IsBroken moment purpose root below place rule =
     (cs : List PlainCertificate) × (stream : List ℕ) × HoldsOrders (root ∷ below) cs stream
     × Refused (terms_for root moment purpose always) length_max stream place rule
 
--- what the chain of orders is judged to be
+-- The verdict on the chain of the orders.
 abbrev pub Judges : ℕ → List ℕ → PlainOrder → List PlainOrder → Verdict → Type 0
 Judges moment purpose root below verdicts.Trusted = AreTrusted moment purpose root below
 Judges moment purpose root below (verdicts.Refused place rule) =
     IsBroken moment purpose root below place rule
 Judges moment purpose root below _ = ⊥
 
--- The orders are accepted, and it is so of what they ask for, the root first.
+-- The orders are accepted, and `Says` holds for the values that they ask for, beginning with the
+-- root.
 abbrev pub UnderAccepted : List Order → (PlainOrder → List PlainOrder → Type 0) → Type 0
 UnderAccepted said Says =
     (root : PlainOrder) × (below : List PlainOrder)
     × AcceptedOrders said (signing_keys said) (root ∷ below) × Says root below
 
+-- The orders are accepted, and this is the verdict on their chain.
 abbrev pub IsJudged : List Order → ℕ → List ℕ → Verdict → Type 0
 IsJudged said moment purpose verdict =
     UnderAccepted said (λ root below. Judges moment purpose root below verdict)
 
--- The octets are accepted orders, an algorithm and an identifier, and it is so of these.
+-- The bytes are accepted orders, an algorithm and the content of an OID, and `Says` holds for them.
 abbrev pub UnderAsked : List ℕ → List ℕ → List ℕ → (List ℕ → PlainOrder → List PlainOrder → Type 0)
     → Type 0
 UnderAsked orders algorithm purpose Says =
     (arcs : List ℕ) × SpellsIdentifier purpose arcs
     × UnderOrders orders algorithm (λ said a. UnderAccepted said (Says arcs))
 
--- What a status says: each such chain is trusted; the orders are refused, or a chain of them, at
--- the index and for the reason reported; an argument is faulty; an allocation failed, and the
--- purpose is an identifier.
+-- The meaning of each status: each such chain is trusted; the orders or a chain of them are
+-- rejected, at the index and for the reason that are reported; an argument is wrong; or an
+-- allocation failed, and the purpose is an OID.
 abbrev pub IsAudit : List ℕ → List ℕ → ℕ → List ℕ → ℕ → ℕ → ExitStatus → Type 0
 IsAudit orders algorithm moment purpose place told statuses.Done =
     UnderAsked orders algorithm purpose (λ arcs root below. AreTrusted moment arcs root below)

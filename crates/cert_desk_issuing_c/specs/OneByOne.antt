@@ -1,4 +1,4 @@
--- Certificates that are issued of one orders file, one by one.
+-- Certificates that are issued from one orders file, one at a time.
 use Rattle.std.specs.Prelude.{◌≡◌, ℕ, ◌<◌, ◌^◌, List, flat_map, length, Some, slice_get}
 use Rattle.x509_cert_builders.specs.CertCertificates.Certificates.{PlainCertificate}
 use Rattle.cert_desk_orders.specs.declared.order.Order.{Order}
@@ -9,13 +9,13 @@ use Rattle.cert_desk.specs.PlainOrders.{PlainOrder}
 use Rattle.cert_desk.specs.Runs.{signing_keys}
 use Rattle.cert_desk_issuing_c.specs.Signing.{IsIssued}
 
--- one behind the other
+-- The concatenation of several byte strings.
 abbrev pub joined : List (List ℕ) → List ℕ
 joined pieces = flat_map (λ octets. octets) pieces
 
--- Octets of which each are those of the certificate issued at their place, by some algorithm and
--- with some signature, are one chain, where they are as many as the orders: it holds what these
--- ask for.
+-- Suppose that there are as many byte strings as orders, and each is the certificate issued at its
+-- index, with any algorithm and signature. Then their concatenation is one chain, which fulfils the
+-- orders.
 abbrev pub IssuedAreOneChain : Type 0
 IssuedAreOneChain =
     (orders : List ℕ) (said : List Order) (asked : List PlainOrder) (pieces : List (List ℕ))

@@ -1,4 +1,4 @@
-//! What the chain that orders ask for comes to, whoever signs it.
+//! Validates the chain that orders ask for, whoever signs it.
 ghost use Rattle.std.specs.Prelude.{◌≡◌, ◌≢◌, ◌⊎◌, IfOk, IfErr};
 ghost use Rattle.cert_desk_orders.specs.CertParts.Views.{algorithm_plain};
 ghost use Rattle.cert_desk_checking.specs.DeskIo.declared.exit_status.ExitStatus.TheVariants.{Refused};
@@ -18,7 +18,8 @@ use cert_desk_orders::oid::ObjectIdentifier;
 use cert_desk_orders::types::BitString;
 use std::alloc::Global;
 
-// The verdict on the chain that orders ask for, where each signature is right.
+// Returns the verdict on the chain that orders ask for, with a verifier that accepts each
+// signature.
 fn verdict_of(
     alloc: Global,
     orders: &[Order],
@@ -32,7 +33,7 @@ fn verdict_of(
         ⊎ RefusesEach orders.now (algorithm_plain algorithm.now) signature.now error) }
 {
     let issued = issued_of(alloc, orders, algorithm, signature)?;
-    // The certificates are those of the stream.
+    // Shows that the certificates are those of the chain's bytes.
     issued.stream();
     let mut judge = WillingJudge { questions: 0 };
     match issued.audit(alloc, u32::MAX, moment, purpose, &mut judge) {
@@ -41,7 +42,7 @@ fn verdict_of(
     }
 }
 
-// Does what `wd_audit` does, and returns the status.
+// Does the work of `wd_audit`, and returns the status.
 fn audit_of(
     alloc: Global,
     orders: &[u8],
@@ -76,11 +77,14 @@ fn audit_of(
 }
 
 /// Checks whether each chain that an orders file asks for, signed by this algorithm, is trusted
-/// under its own root if its signatures are right, at a validation time (seconds since
-/// 1970-01-01T00:00:00Z) and for a key purpose (the content bytes of its identifier). Returns 0 if
-/// it is, 1 if the orders are refused or a rule is broken, 4 if the orders file, the algorithm or
-/// the purpose is faulty, or 6 if an allocation fails. With 1 `told` says where, and which reason
-/// or rule.
+/// under its own root if its signatures are valid, at a validation time (seconds since
+/// 1970-01-01T00:00:00Z) and for a key purpose (the content bytes of its OID). The status is
+///
+/// - 0 if it is;
+/// - 1 if the orders are rejected or a rule is broken: `told` gets the index of the order, and the
+///   number of the reason or rule;
+/// - 4 if the orders file, the algorithm or the purpose can't be decoded;
+/// - 6 if an allocation fails.
 #[unsafe(no_mangle)]
 pub extern "C" fn wd_audit(
     alloc: Global,

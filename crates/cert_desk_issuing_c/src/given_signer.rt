@@ -1,11 +1,11 @@
-//! Keys that sign elsewhere.
+//! Signers whose signature is given by the caller.
 
 use cert_desk_orders::cert_parts::{AlgorithmIdentifier, SubjectPublicKeyInfo};
 use cert_desk_orders::types::BitString;
 use std::alloc::Global;
 use x509_cert_builders::{SignError, Signer};
 
-/// A key that signs elsewhere: the signature is given, whatever is signed.
+/// A signer with a fixed signature, which the caller gives, whatever is signed.
 #[derive(Drop)]
 pub(crate) struct GivenSigner<'a> {
     pub(crate) key: &'a SubjectPublicKeyInfo,

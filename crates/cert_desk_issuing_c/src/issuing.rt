@@ -1,4 +1,4 @@
-//! Certificates that orders ask for, with signatures that are made elsewhere.
+//! Issues the certificates that orders ask for, with signatures that are made elsewhere.
 ghost use Rattle.std.specs.Prelude.{◌≡◌, ◌≢◌, ◌≤◌, ◌<◌, ◌⊎◌, [], length, take, None, IfErr};
 ghost use Rattle.std.specs.Prelude.{IfOk, OnOk};
 ghost use Rattle.cert_desk_orders.specs.Oid.Bound.{Bound};
@@ -22,14 +22,14 @@ use cert_desk::{IssueError, Issued, issue};
 use cert_desk_checking::desk_io::ExitStatus;
 use cert_desk_checking::desk_rules::{code, give};
 use cert_desk_orders::cert_parts::AlgorithmIdentifier;
-use cert_desk_orders::der::making::is_want_of_memory;
+use cert_desk_orders::der::making::is_out_of_memory;
 use cert_desk_orders::der::{FromDer, ToDer};
 use cert_desk_orders::types::BitString;
 use cert_desk_orders::{Order, OrdersError, orders_in};
 use std::alloc::{AllocError, Global};
 use x509_cert_builders::cert_certificates::Certificate;
 
-/// The orders that octets say, or the status.
+/// Parses an orders file, or returns the status.
 pub(crate) fn orders_of(alloc: Global, octets: &[u8]) -> Result<Vec<Order>, ExitStatus>
     ensures said { IfOk result (λ orders. SaysOrders octets.now orders.items) }
     ensures refused { IfErr result (IsFault (faulty_line octets.now ≢ None)) }
@@ -41,7 +41,7 @@ pub(crate) fn orders_of(alloc: Global, octets: &[u8]) -> Result<Vec<Order>, Exit
     }
 }
 
-/// The algorithm that octets encode, or the status.
+/// Decodes an algorithm, or returns the status.
 pub(crate) fn algorithm_of(alloc: Global, octets: &[u8]) -> Result<AlgorithmIdentifier, ExitStatus>
     ensures spelled { IfOk result
         (λ a. Spells (algorithm_identifier Bound) (algorithm_plain a) octets.now) }
@@ -50,7 +50,7 @@ pub(crate) fn algorithm_of(alloc: Global, octets: &[u8]) -> Result<AlgorithmIden
     match AlgorithmIdentifier::from_der(alloc, octets) {
         Ok(algorithm) => Ok(algorithm),
         Err(error) => {
-            if is_want_of_memory(&error) {
+            if is_out_of_memory(&error) {
                 return Err(ExitStatus::Memory);
             }
             Err(ExitStatus::Arguments)
@@ -58,7 +58,7 @@ pub(crate) fn algorithm_of(alloc: Global, octets: &[u8]) -> Result<AlgorithmIden
     }
 }
 
-/// All bits of octets, or the status.
+/// Returns all bits of the bytes, or the status.
 pub(crate) fn bits_of(alloc: Global, octets: &[u8]) -> Result<BitString, ExitStatus>
     ensures bits { IfOk result (λ bits. bits ≡ all_bits octets.now) }
     ensures short { OnOk result (length octets.now ≤ length_max) }
@@ -73,7 +73,7 @@ pub(crate) fn bits_of(alloc: Global, octets: &[u8]) -> Result<BitString, ExitSta
     }
 }
 
-// The orders whose keys sign: all but the last of two or more.
+// Returns the orders whose keys sign: a single order, or all but the last.
 fn signing(orders: &[Order]) -> &[Order]
     ensures { result.now ≡ take (signers_for (length orders.now)) orders.now }
 {
@@ -83,7 +83,7 @@ fn signing(orders: &[Order]) -> &[Order]
     &orders[..orders.len() - 1]
 }
 
-// A signer of this algorithm and these bits for each order whose key signs.
+// Returns a signer with this algorithm and this signature for each order whose key signs.
 fn signers_of<'a>(
     alloc: Global,
     orders: &'a [Order],
@@ -105,7 +105,8 @@ fn signers_of<'a>(
     Ok(signers)
 }
 
-/// The chain that orders ask for, by this algorithm and with these bits, or why there is none.
+/// Issues the chain that orders ask for, with this algorithm and this signature, or returns why
+/// there is none.
 pub(crate) fn issued_of(
     alloc: Global,
     orders: &[Order],
@@ -122,7 +123,7 @@ pub(crate) fn issued_of(
     };
     match issue(alloc, orders, signers.as_slice()) {
         Ok(issued) => {
-            // The certificates are those of the stream.
+            // Shows that the certificates are those of the chain's bytes.
             issued.stream();
             Ok(issued)
         }
@@ -130,8 +131,8 @@ pub(crate) fn issued_of(
     }
 }
 
-// The chain that an orders file asks for, by an algorithm and with these octets for each
-// signature, or the status.
+// Issues the chain that an orders file asks for, with an algorithm and these bytes as each
+// signature, or returns the status.
 fn chain_of(
     alloc: Global,
     orders: &[u8],
@@ -151,7 +152,7 @@ fn chain_of(
     }
 }
 
-// The octets of the certificate at a place of such a chain, or the status.
+// Returns the encoding of the certificate at an index of such a chain, or the status.
 fn certificate_at(
     alloc: Global,
     orders: &[u8],
@@ -175,7 +176,7 @@ fn certificate_at(
     }
 }
 
-// The octets of the signed part at a place of such a chain, or the status.
+// Returns the encoding of the TBSCertificate at an index of such a chain, or the status.
 fn signed_part_at(
     alloc: Global,
     orders: &[u8],
@@ -200,7 +201,7 @@ fn signed_part_at(
 /// Writes the TBSCertificate at an index of the chain that an orders file asks for to `out`. The
 /// root has index 0. The key of the certificate above signs it by this algorithm (an
 /// AlgorithmIdentifier), and the root's own key signs the root. Returns 0, 1 if the orders are
-/// refused, 3 if the chain has no such index, 4 if the orders file or the algorithm is faulty, 5 if
+/// rejected, 3 if the chain has no such index, 4 if the orders file or the algorithm is wrong, 5 if
 /// the buffer is too small, or 6 if an allocation fails.
 #[unsafe(no_mangle)]
 pub extern "C" fn wd_signed_part(

@@ -1,5 +1,6 @@
-//! Issuing for C: octets in, a status and octets out, as the calls of `cert_desk_c`. Nothing is
-//! kept between calls, so threads may call at once.
+//! Issuing certificates for programs in C. The statuses, and the way in which texts are written,
+//! are those of `cert_desk_c`. The calls keep nothing between them, so several threads may call at
+//! the same time.
 #![tactic(auto)]
 
 mod auditing;

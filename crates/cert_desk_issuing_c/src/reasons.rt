@@ -1,4 +1,4 @@
-//! Why orders are refused, and which rule their chain breaks, in numbers.
+//! The numbers of the reasons why orders are rejected, and of the rules that their chain breaks.
 ghost use Rattle.std.specs.Prelude.{◌≡◌, ◌≢◌};
 ghost use Rattle.cert_desk_checking.specs.DeskIo.declared.exit_status.ExitStatus.TheVariants.{Refused};
 ghost use Rattle.cert_desk_issuing_c.specs.Reasons.{TellsVerdict, place_of, reason_number};
@@ -8,12 +8,12 @@ use cert_desk::IssueError;
 use cert_desk_checking::desk_io::ExitStatus;
 use cert_desk_checking::desk_rules::{Verdict, rule_number};
 
-/// Where orders are refused, or where their chain breaks a rule, and why.
+/// The index at which orders are rejected or their chain breaks a rule, and the reason.
 #[repr(C)]
 pub struct WdReason {
-    /// The index of the order, from 0.
+    /// The index of the order, counted from 0.
     pub place: u64,
-    /// The number of the reason, or of the rule.
+    /// The number of the reason or rule.
     pub number: u64,
 }
 
@@ -27,7 +27,7 @@ pub(crate) fn status_of(error: &IssueError) -> ExitStatus
     }
 }
 
-// Returns the index of the refused order, or 0 if all are refused.
+// Returns the index of the rejected order, or 0 if all are rejected.
 fn place_of(error: &IssueError) -> usize
     ensures { result ≡ place_of error.now }
 {
@@ -60,7 +60,7 @@ fn reason_number(error: &IssueError) -> u64
     }
 }
 
-/// Writes why no chain is issued, unless an allocation failed, and returns the status.
+/// Stores why no chain is issued, unless an allocation failed, and returns the status.
 pub(crate) fn tell_error(error: &IssueError, told: &mut WdReason) -> ExitStatus
     ensures tells { error.now ≢ IssueError.OutOfMemory → (told.new.place ≡ place_of error.now)
         × (told.new.number ≡ reason_number error.now) }
@@ -75,7 +75,7 @@ pub(crate) fn tell_error(error: &IssueError, told: &mut WdReason) -> ExitStatus
     ExitStatus::Refused
 }
 
-/// Writes where a chain of orders breaks a rule, and which rule, and returns the status.
+/// Stores the index at which a chain breaks a rule, and the rule, and returns the status.
 pub(crate) fn tell_verdict(verdict: Verdict, told: &mut WdReason) -> ExitStatus
     ensures tells { TellsVerdict verdict told.new.place told.new.number result }
     ensures untouched { result ≢ Refused → told.new ≡ told.old }

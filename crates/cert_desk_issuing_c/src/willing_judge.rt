@@ -1,10 +1,10 @@
-//! A judge that finds each signature right.
+//! The signature verifier for chains that aren't signed yet.
 
 use cert_desk_checking::desk_rules::SignatureJudge;
 use cert_desk_orders::cert_parts::{AlgorithmIdentifier, SubjectPublicKeyInfo};
 use cert_desk_orders::types::BitString;
 
-/// A judge that says yes, whatever it is asked: by it a chain is judged that isn't signed yet.
+/// A signature verifier that accepts each signature.
 #[derive(Drop)]
 pub(crate) struct WillingJudge {
     pub(crate) questions: u64,

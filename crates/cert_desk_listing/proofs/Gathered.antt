@@ -1,4 +1,4 @@
--- The lines of a certificate, gathered one after the other.
+-- The lines of a certificate, built one after another.
 use Rattle.std.proofs.Common.{◌≡◌, ℕ, ℤ, List, ◌++◌, codes, ap, ◌∙◌}
 use Rattle.x509_cert_certificates.specs.Certificates.{PlainCertificate, issuer, subject}
 use Rattle.x509_cert_lists.specs.CertNames.Names.{PlainName}
@@ -8,7 +8,7 @@ use Rattle.x509_cert_lists.specs.CertParts.Texts.{serial_text, time_text}
 use Rattle.cert_desk_listing.specs.Listing.{alone, labelled, extension_lines, certificate_lines}
 use Rattle.cert_desk_listing.specs.Parts.{PlainTime, serial, not_before, not_after, extensions_of}
 
--- the lines of these parts
+-- The lines with these parts.
 abbrev lines_of : ℤ → PlainName → PlainTime → PlainTime → PlainName → List PlainExtension → List ℕ
 lines_of n i from to s es =
     alone (codes "certificate")
@@ -31,7 +31,7 @@ lines_of_same c n i from to s es p q k m u v =
     ∙ ap (λ (x : PlainName). lines_of (serial c) (issuer c) (not_before c) (not_after c) x es) u
     ∙ ap (λ (x : List PlainExtension). lines_of (serial c) (issuer c) (not_before c) (not_after c) (subject c) x) v
 
--- What was gathered part by part are the lines of the certificate that has these parts.
+-- The lines built from the parts of a certificate are the lines of that certificate.
 pub certificate_gathered : (c : PlainCertificate) (n : ℤ) (i : PlainName) (from to : PlainTime) (s : PlainName) (es : List PlainExtension)
     → n ≡ serial c → i ≡ issuer c → from ≡ not_before c → to ≡ not_after c → s ≡ subject c → es ≡ extensions_of c
     → (w0 w1 w2 w3 w4 w5 w6 : List ℕ)

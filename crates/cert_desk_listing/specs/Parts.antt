@@ -1,4 +1,4 @@
--- The parts of certificates, lists and requests of which listings tell.
+-- The parts of certificates, CRLs and CSRs that are listed.
 use Rattle.std.specs.Prelude.{ℕ, ℤ, List, [], Option, Some, None}
 use Rattle.x509_cert_lists.specs.Der.Shapes.{Shape, Value, BodyValue, AnyValue, sequence}
 use Rattle.x509_cert_certificates.specs.Certificates.{PlainCertificate, tbs, tbs_extensions}
@@ -8,16 +8,16 @@ use Rattle.x509_cert_lists.specs.ListGrammar.{cert_req_fields}
 use Rattle.x509_cert_lists.specs.CertNames.Names.{PlainName, PlainAttribute}
 use Rattle.x509_cert_lists.specs.CertParts.Grammar.{PlainExtension, time}
 
--- the members of a field; where it is absent there are none
+-- The elements of an optional field, or none if it is absent.
 abbrev pub members_in_field : {A : Type 0} → Option (List A) → List A
 members_in_field None = []
 members_in_field (Some xs) = xs
 
--- a date and its spelling
+-- A date with its form, UTCTime or GeneralizedTime.
 abbrev pub PlainTime : Type 0
 PlainTime = Value time
 
--- Certificates (RFC 5280 4.1.2).
+-- The fields of a certificate (RFC 5280 4.1.2).
 abbrev pub serial : PlainCertificate → ℤ
 serial c = (tbs c).1.0
 
@@ -30,7 +30,7 @@ not_after c = (tbs_validity (tbs c)).1.0
 abbrev pub extensions_of : PlainCertificate → List PlainExtension
 extensions_of c = members_in_field (tbs_extensions (tbs c))
 
--- CRLs (RFC 5280 5.1), as they are read under `Raw`.
+-- The fields of a CRL (RFC 5280 5.1), decoded with the profile `Raw`.
 abbrev pub raw_certificate_list : ℕ → Shape
 raw_certificate_list bound = sequence (certificate_list_fields bound None)
 
@@ -61,7 +61,7 @@ revoked_serial r = r.0
 abbrev pub revoked_date : PlainRevoked → PlainTime
 revoked_date r = r.1.0
 
--- Certification requests (RFC 2986 4).
+-- The fields of a CSR (RFC 2986 4).
 abbrev pub PlainRequest : Type 0
 PlainRequest = BodyValue (cert_req_fields 0)
 

@@ -1,4 +1,4 @@
--- What became of a listing: why it didn't go out, what a run of `show` reads, tells and answers.
+-- The result of writing a listing, and of a run of `show`.
 use Rattle.std.specs.Prelude.{◌≡◌, ℕ, ◌⊎◌, List, codes, string_bytes}
 use Rattle.cert_desk_io.specs.declared.exit_status.ExitStatus.{ExitStatus}
 use Rattle.cert_desk_io.specs.declared.exit_status.ExitStatus.TheVariants as statuses
@@ -19,18 +19,18 @@ use Rattle.cert_desk_listing.specs.declared.show_error.ShowError.TheVariants as 
 use Rattle.cert_desk_listing.specs.Listing.{certificate_lines, list_lines, request_lines}
 use Rattle.cert_desk_listing.specs.Parts.{PlainList, PlainRequest, raw_certificate_list}
 
--- how each error is told
+-- The message of each error.
 abbrev pub show_error_text : ShowError → List ℕ
 show_error_text errors.Device = codes "a device failed"
 show_error_text errors.OutOfMemory = codes "out of memory"
 
--- Why a text isn't on an output: a write failed, behind a beginning of it; or there was no memory,
--- and nothing went out.
+-- The reason why a text can't be written: a write failed, after a proper prefix of the text, or
+-- memory ran out, and nothing was written.
 abbrev pub IsUnshown : Device → List ℕ → ShowError → Type 0
 IsUnshown out text errors.Device = IsCut out text
 IsUnshown out text errors.OutOfMemory = Untouched out
 
--- The octets spell a value of this kind under `Raw`, and this is its listing.
+-- The bytes encode a value of this kind with the profile `Raw`, and this is its listing.
 abbrev pub IsListing : FileKind → List ℕ → List ℕ → Type 0
 IsListing kinds.Certificate octets text = (c : PlainCertificate)
     × Spells (raw_certificate Bound) c octets × (text ≡ certificate_lines c)
@@ -39,22 +39,23 @@ IsListing kinds.List octets text = (l : PlainList) × Spells (raw_certificate_li
 IsListing kinds.Request octets text = (r : PlainRequest) × Spells (cert_req Bound) r octets
     × (text ≡ request_lines r)
 
--- octets spell no value of a kind
+-- The bytes encode no value of a kind.
 abbrev pub HasNoListing : FileKind → List ℕ → Type 0
 HasNoListing kind octets = (text : List ℕ) → IsListing kind octets text → ⊥
 
+-- The line that reports bytes that encode no value of the kind.
 abbrev pub malformed_line : List ℕ
 malformed_line = codes "malformed\n"
 
--- what is found in octets of a kind
+-- The result for bytes of a kind.
 abbrev pub IsRead : FileKind → List ℕ → Finding → Type 0
 IsRead kind octets (findings.Listed lines) = IsListing kind octets (string_bytes lines.text)
 IsRead kind octets findings.Malformed = HasNoListing kind octets
 IsRead kind octets findings.Device = ⊥
 IsRead kind octets findings.OutOfMemory = Unit {0}
 
--- What is found in an input: the listing of the value that all of it spells; that it spells none,
--- or has too many octets; or why it wasn't read, or not listed.
+-- The result for an input: the listing of the value that it encodes; that it encodes none, or has
+-- too many bytes; or the reason why it can't be read or listed.
 abbrev pub IsFinding : Device → FileKind → Finding → Type 0
 IsFinding input kind (findings.Listed lines) = (octets : List ℕ) × IsWhole input most_octets octets
     × IsListing kind octets (string_bytes lines.text)
@@ -65,7 +66,7 @@ IsFinding input kind findings.Device = IsUnread input most_octets reasons.Device
 IsFinding input kind findings.OutOfMemory = ((octets : List ℕ) × IsWhole input most_octets octets)
     ⊎ IsUnread input most_octets reasons.OutOfMemory
 
--- What is told of it, and the status.
+-- The report of the result, and the exit status.
 abbrev pub IsTold : Device → Device → Finding → ExitStatus → Type 0
 IsTold out err (findings.Listed lines) answer =
     IsAnswer out err (string_bytes lines.text) statuses.Done answer

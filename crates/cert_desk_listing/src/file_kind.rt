@@ -1,9 +1,9 @@
-//! What a file is.
+//! The kinds of files.
 ghost use Rattle.std.specs.Prelude.{◌≡◌, ◌≢◌, IfSome, IfNone};
 ghost use Rattle.cert_desk_listing.specs.declared.file_kind.FileKind.{FileKind};
 ghost use Rattle.cert_desk_listing.specs.Kinds.{kind_word};
 
-/// What the octets of a file are to be the encoding of.
+/// The type of value that a file encodes.
 #[derive(Clone, Copy, Debug, PartialEq, Eq)]
 pub enum FileKind {
     /// A certificate.
@@ -15,7 +15,7 @@ pub enum FileKind {
 }
 
 impl FileKind {
-    /// The kind of this name: `certificate`, `list` or `request`.
+    /// Returns the kind with this name: `certificate`, `list` or `request`.
     pub fn named(word: &str) -> Option<FileKind>
         ensures read { IfSome result (λ kind. word.now ≡ kind_word kind) }
         ensures refused { IfNone result ((kind : FileKind) → word.now ≢ kind_word kind) }

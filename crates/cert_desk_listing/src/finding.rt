@@ -1,16 +1,16 @@
-//! What a run of `show` finds in its input.
+//! The results of reading a file for a listing.
 
 use crate::lines::Lines;
 
-/// What a run of `show` finds in its input.
+/// The result of reading the input of `show`.
 #[derive(Drop)]
 pub(crate) enum Finding {
-    /// A value of the kind, with this listing.
+    /// The input encodes a value of the kind, and this is its listing.
     Listed(Lines),
-    /// Octets that aren't the encoding of one.
+    /// The input isn't the encoding of a value of the kind.
     Malformed,
-    /// An I/O error: a read failed.
+    /// A read failed.
     Device,
-    /// Out of memory.
+    /// Memory ran out.
     OutOfMemory,
 }

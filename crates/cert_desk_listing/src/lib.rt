@@ -1,4 +1,7 @@
-//! Listings: what certificates, CRLs and requests say, line by line.
+//! Listings: the contents of certificates, CRLs and CSRs, line by line.
+//!
+//! The crate depends on `cert_desk_io` for inputs and outputs, and on `x509_cert_certificates` and
+//! `x509_cert_lists` for the values.
 #![tactic(auto)]
 
 mod file_kind;

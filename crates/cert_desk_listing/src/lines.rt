@@ -1,4 +1,4 @@
-//! The lines of listings.
+//! Builds the lines of a listing.
 ghost use Rattle.std.specs.Prelude.{◌≡◌, ◌++◌, codes, Some, IfOk, IfSome, OnOk, string_bytes};
 ghost use Rattle.std.specs.List.{flat_map};
 ghost use Rattle.x509_cert_lists.specs.Der.Grammar.{plain_option, plain_list};
@@ -17,22 +17,22 @@ use std::alloc::{AllocError, Global};
 use std::fmt;
 use x509_cert_lists::cert_names::{Attribute, Name};
 use x509_cert_lists::cert_parts::{Extension, Extensions, SerialNumber, Time};
-use x509_cert_lists::der::making::is_want_of_memory;
+use x509_cert_lists::der::making::is_out_of_memory;
 use x509_cert_lists::oid::AssociatedOid;
 use x509_cert_lists::types::Any;
 use x509_cert_lists::{ExtensionReq, RevokedCert};
 
-/// Room for so many octets is taken at first: the lines of most certificates have fewer.
+/// The capacity that is reserved first. The lines of most certificates need less.
 const FIRST_ROOM: usize = 512;
 
-/// Lines that were gathered, each ended by LF.
+/// The lines so far. Each ends with LF.
 #[derive(Drop)]
 pub(crate) struct Lines {
     pub(crate) text: String,
 }
 
 impl Lines {
-    /// A label alone.
+    /// Returns a single line with a label.
     pub(crate) fn new(alloc: Global, label: &str) -> Result<Lines, AllocError>
         ensures { IfOk result (λ lines. string_bytes lines.text ≡ alone label.now) }
     {
@@ -41,7 +41,7 @@ impl Lines {
         Ok(Lines { text })
     }
 
-    /// A label and what is printed after it.
+    /// Appends a label and a value.
     fn labelled<D: fmt::Display + Drop>(&mut self, label: &str, value: D) -> Result<(), AllocError>
         ensures { OnOk result
             (IfSome (D.output value) (λ text. string_bytes self.new.text
@@ -51,7 +51,7 @@ impl Lines {
         Ok(())
     }
 
-    /// A label and a name.
+    /// Appends a label and a name.
     pub(crate) fn name(&mut self, label: &str, name: &Name) -> Result<(), AllocError>
         ensures { OnOk result (string_bytes self.new.text ≡ string_bytes self.old.text
             ++ labelled label.now (name_text (name_plain name.now))) }
@@ -60,7 +60,7 @@ impl Lines {
         Ok(())
     }
 
-    /// A label and a date.
+    /// Appends a label and a date.
     pub(crate) fn date(&mut self, label: &str, date: &Time) -> Result<(), AllocError>
         ensures { OnOk result (string_bytes self.new.text ≡ string_bytes self.old.text
             ++ labelled label.now (time_text (time_value date.now))) }
@@ -69,7 +69,7 @@ impl Lines {
         Ok(())
     }
 
-    /// The number of a certificate.
+    /// Appends the serial number of a certificate.
     pub(crate) fn serial<P>(&mut self, number: &SerialNumber<P>) -> Result<(), AllocError>
         ensures { OnOk result (string_bytes self.new.text ≡ string_bytes self.old.text
             ++ labelled (codes "serial") (serial_text number.now)) }
@@ -78,7 +78,7 @@ impl Lines {
         Ok(())
     }
 
-    /// When the next list comes, if that is said.
+    /// Appends the date of the next CRL, if there is one.
     pub(crate) fn next_update(&mut self, date: &Option<Time>) -> Result<(), AllocError>
         ensures { OnOk result (string_bytes self.new.text ≡ string_bytes self.old.text
             ++ next_update_line (plain_option time_value date.now)) }
@@ -90,7 +90,7 @@ impl Lines {
         Ok(())
     }
 
-    /// An extension.
+    /// Appends an extension.
     fn extension(&mut self, extension: &Extension) -> Result<(), AllocError>
         ensures { OnOk result (string_bytes self.new.text ≡ string_bytes self.old.text
             ++ extension_line (extension_plain extension.now)) }
@@ -104,7 +104,7 @@ impl Lines {
         Ok(())
     }
 
-    /// Extensions, in their order.
+    /// Appends extensions, in their order.
     pub(crate) fn extensions(&mut self, extensions: &[Extension]) -> Result<(), AllocError>
         ensures { OnOk result (string_bytes self.new.text ≡ string_bytes self.old.text
             ++ extension_lines (extensions_plain extensions.now)) }
@@ -115,7 +115,7 @@ impl Lines {
         Ok(())
     }
 
-    /// An entry of a CRL.
+    /// Appends an entry of a CRL.
     fn entry<P>(&mut self, entry: &RevokedCert<P>) -> Result<(), AllocError>
         ensures { OnOk result (string_bytes self.new.text ≡ string_bytes self.old.text
             ++ revoked_line (revoked_cert_plain entry.now)) }
@@ -126,7 +126,7 @@ impl Lines {
         Ok(())
     }
 
-    /// Entries of a CRL, in their order.
+    /// Appends entries of a CRL, in their order.
     fn entries<P>(&mut self, entries: &[RevokedCert<P>]) -> Result<(), AllocError>
         ensures { OnOk result (string_bytes self.new.text ≡ string_bytes self.old.text
             ++ revoked_lines (plain_list revoked_cert_plain entries.now)) }
@@ -137,7 +137,7 @@ impl Lines {
         Ok(())
     }
 
-    /// The entries of a CRL, if there are any.
+    /// Appends the entries of a CRL, if there are any.
     pub(crate) fn any_entries<P>(
         &mut self,
         entries: &Option<Vec<RevokedCert<P>>>,
@@ -154,7 +154,7 @@ impl Lines {
         Ok(())
     }
 
-    /// The extensions of a CRL, if there are any.
+    /// Appends the extensions of a CRL, if there are any.
     pub(crate) fn any_extensions(
         &mut self,
         extensions: &Option<Extensions>,
@@ -170,7 +170,8 @@ impl Lines {
         Ok(())
     }
 
-    /// The extensions that a value of a request asks for, where it is read as extensions.
+    /// Appends the extensions that a value of an attribute requests, or nothing if it can't be
+    /// decoded as extensions.
     fn requested(&mut self, alloc: Global, value: &Any) -> Result<(), AllocError>
         ensures { OnOk result (string_bytes self.new.text ≡ string_bytes self.old.text
             ++ value_lines value.now) }
@@ -178,7 +179,7 @@ impl Lines {
         let request = match value.decode_as::<ExtensionReq>(alloc) {
             Ok(request) => request,
             Err(error) => {
-                if is_want_of_memory(&error) {
+                if is_out_of_memory(&error) {
                     return Err(AllocError);
                 }
                 return Ok(());
@@ -188,7 +189,7 @@ impl Lines {
         Ok(())
     }
 
-    /// An attribute, and the extensions that it asks for.
+    /// Appends an attribute, and the extensions that it requests.
     fn attribute(&mut self, alloc: Global, attribute: &Attribute) -> Result<(), AllocError>
         ensures { OnOk result (string_bytes self.new.text ≡ string_bytes self.old.text
             ++ attribute_lines (attribute_plain attribute.now)) }
@@ -201,7 +202,7 @@ impl Lines {
         Ok(())
     }
 
-    /// The extensions that values of a request ask for.
+    /// Appends the extensions that the values of an attribute request.
     fn all_requested(&mut self, alloc: Global, values: &[Any]) -> Result<(), AllocError>
         ensures { OnOk result (string_bytes self.new.text ≡ string_bytes self.old.text
             ++ flat_map value_lines values.now) }
@@ -212,7 +213,7 @@ impl Lines {
         Ok(())
     }
 
-    /// Attributes, in their order.
+    /// Appends attributes, in their order.
     pub(crate) fn attributes(
         &mut self,
         alloc: Global,

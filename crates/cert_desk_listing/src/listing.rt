@@ -1,4 +1,4 @@
-//! Listings on outputs.
+//! Writes listings to outputs.
 ghost use Rattle.std.specs.Prelude.{◌≡◌, IfOk, IfErr, OnOk, string_bytes};
 ghost use Rattle.cert_desk_io.specs.Devices.{IsWritten, sink};
 ghost use Rattle.x509_cert_certificates.specs.Views.{certificate_plain};
@@ -14,7 +14,7 @@ use x509_cert_certificates::CertificateInner;
 use x509_cert_lists::cert_parts::Profile;
 use x509_cert_lists::{CertReq, CertificateList};
 
-/// The lines of a certificate.
+/// Returns the lines of a certificate.
 pub(crate) fn of_certificate<P: Profile>(
     alloc: Global,
     certificate: &CertificateInner<P>,
@@ -37,7 +37,7 @@ pub(crate) fn of_certificate<P: Profile>(
     Ok(lines)
 }
 
-/// The lines of a CRL.
+/// Returns the lines of a CRL.
 pub(crate) fn of_list<P: Profile>(
     alloc: Global,
     list: &CertificateList<P>,
@@ -55,7 +55,7 @@ pub(crate) fn of_list<P: Profile>(
     Ok(lines)
 }
 
-/// The lines of a CSR.
+/// Returns the lines of a CSR.
 pub(crate) fn of_request(alloc: Global, request: &CertReq) -> Result<Lines, AllocError>
     ensures { IfOk result
         (λ lines. string_bytes lines.text ≡ request_lines (cert_req_plain request.now)) }
@@ -67,7 +67,7 @@ pub(crate) fn of_request(alloc: Global, request: &CertReq) -> Result<Lines, Allo
     Ok(lines)
 }
 
-// Writes lines, by a loop over `write`.
+// Writes the lines to an output.
 fn give<O: Output>(output: &mut O, lines: &Lines) -> Result<(), ShowError>
     ensures listed { OnOk result (IsWritten (sink O.gives O.failures output.old output.new)
         (string_bytes lines.now.text)) }
@@ -80,16 +80,18 @@ fn give<O: Output>(output: &mut O, lines: &Lines) -> Result<(), ShowError>
     Ok(())
 }
 
-/// Writes the listing of a certificate: `certificate`, `serial`, `issuer`, `not-before`,
-/// `not-after`, `subject`, and `extension` for each extension, with ` critical` after those that
-/// are.
+/// Writes the listing of a certificate. Its lines are `certificate`, `serial`, `issuer`,
+/// `not-before`, `not-after`, `subject`, and `extension` for each extension, with ` critical` at
+/// the end if it is critical.
 ///
-/// After each label but the first stand a blank and a text, and each line ends with LF. Names are
-/// printed by RFC 4514, serial numbers as their content octets in base 16 with colons between them,
-/// dates as `YYYY-MM-DDTHH:MM:SSZ`, identifiers dotted.
+/// A space and a text follow each label but the first, and each line ends with LF. Names are
+/// printed as in RFC 4514, serial numbers as their content bytes in base 16 with colons between
+/// them, dates as `YYYY-MM-DDTHH:MM:SSZ`, and OIDs with dots.
 ///
 /// # Errors
-/// `OutOfMemory` before anything goes out, `Device` where the output failed.
+///
+/// - `OutOfMemory`: memory runs out. Nothing was written.
+/// - `Device`: a write failed.
 pub fn show_certificate<P: Profile, O: Output>(
     alloc: Global,
     certificate: &CertificateInner<P>,
@@ -107,12 +109,14 @@ pub fn show_certificate<P: Profile, O: Output>(
     Ok(())
 }
 
-/// Writes the listing of a CRL: `list`, `issuer`, `this-update`, `next-update` where it
-/// is said, `revoked SERIAL DATE` for each entry, and the extensions of the list as those of a
+/// Writes the listing of a CRL. Its lines are `list`, `issuer`, `this-update`, `next-update` if it
+/// is present, `revoked SERIAL DATE` for each entry, and the extensions of the CRL, as those of a
 /// certificate.
 ///
 /// # Errors
-/// `OutOfMemory` before anything goes out, `Device` where the output failed.
+///
+/// - `OutOfMemory`: memory runs out. Nothing was written.
+/// - `Device`: a write failed.
 pub fn show_list<P: Profile, O: Output>(
     alloc: Global,
     list: &CertificateList<P>,
@@ -130,12 +134,14 @@ pub fn show_list<P: Profile, O: Output>(
     Ok(())
 }
 
-/// Writes the listing of a CSR: `request`, `subject`, `attribute` for each
-/// attribute, and after that of a request for extensions (1.2.840.113549.1.9.14) the extensions of
-/// each value that is read as extensions, as those of a certificate.
+/// Writes the listing of a CSR. Its lines are `request`, `subject`, and `attribute` for each
+/// attribute. After an extensionRequest attribute (1.2.840.113549.1.9.14, RFC 2985 5.4.2) come the
+/// extensions of each of its values that can be decoded, as those of a certificate.
 ///
 /// # Errors
-/// `OutOfMemory` before anything goes out, `Device` where the output failed.
+///
+/// - `OutOfMemory`: memory runs out. Nothing was written.
+/// - `Device`: a write failed.
 pub fn show_request<O: Output>(
     alloc: Global,
     request: &CertReq,

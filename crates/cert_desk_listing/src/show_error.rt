@@ -1,4 +1,4 @@
-//! Why a listing didn't go out.
+//! The errors of writing a listing.
 ghost use Rattle.std.specs.Prelude.{Some};
 ghost use Rattle.cert_desk_listing.specs.Shown.{show_error_text};
 
@@ -6,12 +6,12 @@ use std::alloc::AllocError;
 use std::error::Error;
 use std::fmt;
 
-/// Why a listing didn't go out.
+/// Why a listing can't be written.
 #[derive(Clone, Copy, Debug, PartialEq, Eq)]
 pub enum ShowError {
-    /// An I/O error of the output. A prefix of the listing went out.
+    /// A write failed. A prefix of the listing was written.
     Device,
-    /// Out of memory for the listing. Nothing went out.
+    /// Memory ran out. Nothing was written.
     OutOfMemory,
 }
 

@@ -1,4 +1,4 @@
-//! A whole run of `show`, over any input and outputs.
+//! A complete run of `show`, over any input and outputs.
 ghost use Rattle.cert_desk_io.specs.Devices.{sink, source};
 ghost use Rattle.cert_desk_listing.specs.declared.finding.Finding.{Finding};
 ghost use Rattle.cert_desk_listing.specs.declared.file_kind.FileKind.TheVariants as kinds;
@@ -13,10 +13,10 @@ use cert_desk_io::{
 use std::alloc::Global;
 use x509_cert_certificates::CertificateInner;
 use x509_cert_lists::cert_parts::Raw;
-use x509_cert_lists::der::making::is_want_of_memory;
+use x509_cert_lists::der::making::is_out_of_memory;
 use x509_cert_lists::{CertReq, CertificateList};
 
-// The certificate that these octets spell.
+// Decodes a certificate from these bytes and lists it.
 fn certificate_in(alloc: Global, octets: &[u8]) -> Finding
     ensures { IsRead kinds.Certificate octets.now result }
 {
@@ -26,7 +26,7 @@ fn certificate_in(alloc: Global, octets: &[u8]) -> Finding
             Err(_) => Finding::OutOfMemory,
         },
         Err(error) => {
-            if is_want_of_memory(&error) {
+            if is_out_of_memory(&error) {
                 return Finding::OutOfMemory;
             }
             Finding::Malformed
@@ -34,7 +34,7 @@ fn certificate_in(alloc: Global, octets: &[u8]) -> Finding
     }
 }
 
-// The CRL that these octets spell.
+// Decodes a CRL from these bytes and lists it.
 fn list_in(alloc: Global, octets: &[u8]) -> Finding
     ensures { IsRead kinds.List octets.now result }
 {
@@ -44,7 +44,7 @@ fn list_in(alloc: Global, octets: &[u8]) -> Finding
             Err(_) => Finding::OutOfMemory,
         },
         Err(error) => {
-            if is_want_of_memory(&error) {
+            if is_out_of_memory(&error) {
                 return Finding::OutOfMemory;
             }
             Finding::Malformed
@@ -52,7 +52,7 @@ fn list_in(alloc: Global, octets: &[u8]) -> Finding
     }
 }
 
-// The CSR that these octets spell.
+// Decodes a CSR from these bytes and lists it.
 fn request_in(alloc: Global, octets: &[u8]) -> Finding
     ensures { IsRead kinds.Request octets.now result }
 {
@@ -62,7 +62,7 @@ fn request_in(alloc: Global, octets: &[u8]) -> Finding
             Err(_) => Finding::OutOfMemory,
         },
         Err(error) => {
-            if is_want_of_memory(&error) {
+            if is_out_of_memory(&error) {
                 return Finding::OutOfMemory;
             }
             Finding::Malformed
@@ -70,7 +70,7 @@ fn request_in(alloc: Global, octets: &[u8]) -> Finding
     }
 }
 
-// The value of a kind that these octets spell.
+// Decodes a value of this kind from these bytes and lists it.
 fn value_in(alloc: Global, kind: FileKind, octets: &[u8]) -> Finding
     ensures { IsRead kind octets.now result }
 {
@@ -81,7 +81,7 @@ fn value_in(alloc: Global, kind: FileKind, octets: &[u8]) -> Finding
     }
 }
 
-// What is found in the input.
+// Reads the input and returns the result.
 fn find<I: Input>(alloc: Global, input: &mut I, kind: FileKind) -> Finding
     ensures { IsFinding (source I.takes I.is_ended I.failures input.old input.new) kind result }
 {
@@ -93,7 +93,7 @@ fn find<I: Input>(alloc: Global, input: &mut I, kind: FileKind) -> Finding
     }
 }
 
-// Tells what was found.
+// Writes the result, and returns the exit status.
 fn tell<O: Output, E: Output>(finding: &Finding, out: &mut O, err: &mut E) -> ExitStatus
     ensures { IsTold (sink O.gives O.failures out.old out.new)
         (sink E.gives E.failures err.old err.new) finding.now result }
@@ -106,13 +106,15 @@ fn tell<O: Output, E: Output>(finding: &Finding, out: &mut O, err: &mut E) -> Ex
     }
 }
 
-/// Writes the listing of what an input holds, and answers the exit status.
+/// Writes the listing of the value that an input contains, and returns the exit status.
 ///
-/// The input is read to its end, and is to be the encoding of a value of the kind, under `Raw`. Of
-/// one with more than 2^32 - 1 octets one octet more than these is taken, and it is malformed.
+/// The input is read to its end. It has to be the encoding of a value of this kind, with the
+/// profile `Raw`. An input with more than 2^32 - 1 bytes is malformed, and only one byte more than
+/// these is read.
 ///
-/// The listing goes to `out`; `malformed`, `device` and `memory` go to `err`. A text that can't be
-/// written is `ExitStatus::Device`, whose word is tried once.
+/// The listing goes to `out`. The words `malformed`, `device` and `memory` go to `err`. If a text
+/// can't be written, the run tries once to write `device` to `err`, and the status is
+/// `ExitStatus::Device`.
 pub fn run_show<I: Input, O: Output, E: Output>(
     alloc: Global,
     input: &mut I,
@@ -120,7 +122,7 @@ pub fn run_show<I: Input, O: Output, E: Output>(
     err: &mut E,
     kind: FileKind,
 ) -> ExitStatus
-    // What is told, and the status, are those of what is found in the octets that were taken.
+    // The text and the status report the result for the bytes that were read.
     ensures { (finding : Finding)
         × IsFinding (source I.takes I.is_ended I.failures input.old input.new) kind finding
         × IsTold (sink O.gives O.failures out.old out.new)

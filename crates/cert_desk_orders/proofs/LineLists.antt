@@ -1,4 +1,4 @@
--- Lists of lines, and what is looked for in them.
+-- Laws about lists of lines, and about searches in them.
 use Rattle.std.proofs.Common.{◌≡◌, ℕ, suc, ◌+◌, ◌<◌, arith, Bool, true, false, ◌||◌, cond, not, List, [], ◌∷◌, ◌++◌, length, map, take, drop, get_or, drop-cons, Some, refl, ap, ◌∙◌}
 use Rattle.std.proofs.lemmas.List.{map-append, take_more}
 use Rattle.std.specs.List.{find, list_any, position_or_len}
@@ -23,12 +23,12 @@ module _ {X Y : Type 0} (f : X → Y) (p : Y → Bool) where
   find-map (x ∷ xs) = found-map x xs (p (f x)) (find-map xs)
 
 module _ {X Y : Type 0} (f : X → Y) (xs : List X) (i : ℕ) (d : X) (some : i < length xs) where
-  -- what is left begins with the element here
+  -- The remaining elements begin with the current one.
   pub map-drop_here : map f (drop i xs) ≡ f (get_or xs i d) ∷ map f (drop (i + 1) xs)
   map-drop_here =
       let next : suc i ≡ i + 1 = omega arith in
       ap (map f) (drop-cons xs i d some ∙ ap (λ n. get_or xs i d ∷ drop n xs) next)
 
-  -- what stands before ends with it, one place further
+  -- The elements so far, with the current one added.
   pub map-take_here : map f (take (i + 1) xs) ≡ map f (take i xs) ++ f (get_or xs i d) ∷ []
   map-take_here = ap (map f) (take_more xs i d some) ∙ map-append f (take i xs) (get_or xs i d ∷ [])

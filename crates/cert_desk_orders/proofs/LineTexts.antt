@@ -1,4 +1,4 @@
--- A line, by what its octets are.
+-- Laws about a line and its bytes.
 use Rattle.std.proofs.Common.{◌≡◌, ℕ, ◌<◌, Bool, true, false, cond, List, [], Some, None, length, refl, ap, ap₂, sym, ◌∙◌, take, take_all, le_of_eq, lt-ltb, le-ltb}
 use Rattle.std.specs.List.{before_first, after_first, position_or_len}
 use Rattle.std.specs.Str.{IsUtf8, is_utf8}
@@ -15,11 +15,11 @@ wordless : (number : ℕ) (text : List ℕ) (b : Bool) → is_utf8 text ≡ b �
 wordless number text true is other = absurd (other (IsUtf8-from_is_utf8 text is))
 wordless number text false is other = ap (λ b. line_if number text b (has_blank text)) (sym is)
 
--- octets that aren't UTF-8
+-- The bytes aren't UTF-8.
 pub line_of-wordless : (number : ℕ) (text : List ℕ) → (IsUtf8 text → ⊥) → record { number = number; word = []; value = None } ≡ line_of number text
 line_of-wordless number text other = wordless number text (is_utf8 text) refl other
 
--- a text with a blank
+-- The text has a space.
 pub line_of-blank : (number : ℕ) (text word value : List ℕ) → IsUtf8 text → position_or_len is_blank text < length text
     → word ≡ before_first is_blank text → value ≡ after_first is_blank text
     → record { number = number; word = word; value = Some value } ≡ line_of number text
@@ -27,7 +27,7 @@ line_of-blank number text word value utf8 blank w v =
     ap₂ (λ w v. record { number = number; word = w; value = Some v }) w v
     ∙ ap₂ (line_if number text) (sym (is_utf8-from_IsUtf8 text utf8)) (sym (lt-ltb _ _ blank))
 
--- a text without one
+-- The text has no space.
 pub line_of-alone : (number : ℕ) (text : List ℕ) → IsUtf8 text → position_or_len is_blank text ≡ length text
     → record { number = number; word = text; value = None } ≡ line_of number text
 line_of-alone number text utf8 blank =

@@ -17,15 +17,15 @@ module _ (word : List ℕ) (lines : List Line) (index : ℕ) (d : Line) (some : 
       ∙ filter_map-append (value_if word) (lines_plain (take index lines)) (line_plain (get_or lines index d) ∷ [])
       ∙ ap₂ (λ xs o. xs ++ cons_option o []) is (sym e)
 
-  -- a line of another word
+  -- A line with another word.
   pub values_of-other : None ≡ value_if word (line_plain (get_or lines index d)) → values_of word (lines_plain (take (index + 1) lines)) ≡ before
   values_of-other e = values_of-here None e ∙ append-nil before
 
-  -- a line of this one
+  -- A line with this word.
   pub values_of-more : (value : List ℕ) → Some value ≡ value_if word (line_plain (get_or lines index d))
       → values_of word (lines_plain (take (index + 1) lines)) ≡ before ++ value ∷ []
   values_of-more value e = values_of-here (Some value) e
 
--- values with one more
+-- A list of values with one more.
 pub map-pushed : {X : Type 0} (f : X → List ℕ) (xs more : List X) (x : X) (value : List ℕ) → value ≡ f x → more ≡ xs ++ x ∷ [] → map f xs ++ value ∷ [] ≡ map f more
 map-pushed f xs more x value v e = ap (λ y. map f xs ++ y ∷ []) v ∙ sym (map-append f xs (x ∷ [])) ∙ ap (map f) (sym e)

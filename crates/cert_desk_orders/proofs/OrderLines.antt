@@ -13,7 +13,7 @@ use Rattle.cert_desk_orders.specs.OrderReading.{IsFaultIn, line_plain, lines_pla
 abbrev to_order : List PlainLine → ℕ
 to_order lines = position_or_len (has (codes "order")) lines
 
--- a line before an order whose lines are known
+-- A line before an order whose lines are known.
 joined : (line next : PlainLine) (more : List PlainLine) (b : Bool)
     → by_order (next ∷ more) ≡ (next ∷ take (to_order more) more) ∷ by_order (drop (to_order more) more)
     → cond b ((line ∷ []) ∷ (next ∷ take (to_order more) more) ∷ by_order (drop (to_order more) more))
@@ -30,7 +30,7 @@ by_order-first line [] = refl
 by_order-first line (next ∷ more) =
     ap (before_order line) (by_order-first next more) ∙ joined line next more (has (codes "order") next) (by_order-first next more)
 
--- the lines of the first order, and those of the others
+-- The lines of the first order, and those of the others.
 pub by_order-split : (lines : List PlainLine) → 0 < length lines
     → by_order lines ≡ take (order_len lines) lines ∷ by_order (drop (order_len lines) lines)
 by_order-split [] some = absurd (omega arith)
@@ -38,19 +38,19 @@ by_order-split (line ∷ more) some =
     let one : suc (to_order more) ≡ to_order more + 1 = omega arith in
     by_order-first line more ∙ ap (λ n. take n (line ∷ more) ∷ by_order (drop n (line ∷ more))) one
 
--- of these lines, some are left behind those that say these orders and have no fault
+-- Some lines are left after those that describe these orders, none of which is wrong.
 pub record IsReadTo (all : List PlainLine) (orders : List Order) (left : List PlainLine) : Type 0 where
   pub fault : first_fault (by_order left) ≡ first_fault (by_order all)
   pub said : (more : List Order) → SayOrders (by_order left) more → SayOrders (by_order all) (orders ++ more)
 
--- all are left where there are no orders yet
+-- All lines are left before the first order.
 pub IsReadTo-none : (all : List PlainLine) (orders : List Order) → orders ≡ [] → IsReadTo all orders all
 IsReadTo-none all orders e = record {
   fault = refl;
   said = λ more h. subst (λ os. SayOrders (by_order all) (os ++ more)) (sym e) h;
 }
 
--- none is left
+-- No line is left.
 pub IsReadTo-sound : (all : List PlainLine) (orders : List Order) (left : List PlainLine) → IsReadTo all orders left → length left ≡ 0
     → first_fault (by_order all) ≡ None
 IsReadTo-sound all orders [] is none = sym is.fault
@@ -62,7 +62,7 @@ IsReadTo-said all orders [] is none = subst (λ os. SayOrders (by_order all) os)
 IsReadTo-said all orders (line ∷ more) is none = absurd (omega arith)
 
 module _ (all : List PlainLine) (orders : List Order) (left : List PlainLine) (is : IsReadTo all orders left) (some : 0 < length left) where
-  -- behind an order more
+  -- One more order.
   IsReadTo-more : (o : Order) → order_fault (take (order_len left) left) ≡ None → SayOrder (take (order_len left) left) o
       → IsReadTo all (orders ++ o ∷ []) (drop (order_len left) left)
   IsReadTo-more o sound says = record {
@@ -77,12 +77,12 @@ module _ (all : List PlainLine) (orders : List Order) (left : List PlainLine) (i
       sym is.fault ∙ ap first_fault (by_order-split left some)
       ∙ ap (λ fault. option_or fault (first_fault (by_order (drop (order_len left) left)))) e
 
-  -- the first order that isn't read has the first fault of all
+  -- The error of the next order is the first error of all.
   IsFaultIn-all : (error : OrdersError) → IsFaultIn (order_fault (take (order_len left) left)) error → IsFaultIn (first_fault (by_order all)) error
   IsFaultIn-all (errors.Line number) e = faulty number e
   IsFaultIn-all errors.OutOfMemory e = tt
 
--- lines that are read from a place on
+-- Lines that are parsed from an index on.
 module _ (orders : List Order) (lines : List Line) (start n : ℕ) (below : start < length lines)
     (is : IsReadTo (lines_plain lines) orders (lines_plain (drop start lines)))
     (rest : List Line) (left : rest ≡ drop start lines) (len : n ≡ order_len (lines_plain rest)) where

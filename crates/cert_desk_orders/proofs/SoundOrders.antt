@@ -1,4 +1,4 @@
--- Orders without a faulty line, and the values that stand in them.
+-- Valid orders, and the values in them.
 use Rattle.std.proofs.Common.{◌≡◌, ℕ, ◌<◌, arith, Bool, true, false, cond, not, ◌&&◌, ◌||◌, List, [], ◌∷◌, ◌++◌, length, codes, Option, Some, None, IsSome, ◌⊎◌, inl, inr, ⊎_elim, unwrap_or, refl, ap, sym, ◌∙◌, subst}
 use Rattle.std.proofs.lemmas.Slice.Eq.{bytes_eq-Decides}
 use Rattle.std.specs.List.{find, list_any}
@@ -36,7 +36,7 @@ found_here p line rest found true is e =
     inl (same, ap p (sym same) ∙ is)
 found_here p line rest found false is e = inr e
 
--- a line that is found where none is faulty has a value that its word takes
+-- A line that is found in a valid order has a value that its word allows.
 sound_found : (before lines : List PlainLine) (p : PlainLine → Bool) (found : PlainLine) → first_faulty before lines ≡ None → find p lines ≡ Some found
     → (fits found.word found.value ≡ true) × (p found ≡ true)
 sound_found before [] p found none is = absurd cc
@@ -69,7 +69,7 @@ is_key : (value : Option (List ℕ)) → fits (codes "key") value ≡ true → I
 is_key None e = absurd cc
 is_key (Some value) e = e
 
--- what an order without a faulty line has
+-- A valid order has these values.
 pub record HasValues (lines : List PlainLine) : Type 0 where
   pub name : IsSome (value_of (codes "name") lines)
   pub from : IsSome (value_of (codes "from") lines)

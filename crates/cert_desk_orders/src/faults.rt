@@ -1,4 +1,4 @@
-//! Faulty lines.
+//! Finds wrong lines in an orders file.
 ghost use Rattle.std.specs.Prelude.{◌≡◌, ◌<◌, [], length, IfOk};
 ghost use Rattle.cert_desk_orders.specs.OrderReading.{line_plain, lines_plain};
 ghost use Rattle.cert_desk_orders.specs.OrdersFile.{fits, first_faulty, is_faulty, is_repeated};
@@ -8,14 +8,14 @@ use crate::line::{Line, stands};
 use crate::line_values::{key_of, length_of, octets_of};
 use std::alloc::{AllocError, Global};
 
-// Whether a word stands alone.
+// Returns whether a word has no value.
 fn stands_alone(word: &str) -> bool
     ensures { result ≡ stands_alone word.now }
 {
     word == "order" || word == "client" || word == "ocsp"
 }
 
-// Whether a value is one of a word.
+// Returns whether a value is allowed for a word.
 fn takes(alloc: Global, word: &str, value: &str) -> Result<bool, AllocError>
     ensures { IfOk result (λ taken. taken ≡ takes word.now value.now) }
 {
@@ -28,7 +28,7 @@ fn takes(alloc: Global, word: &str, value: &str) -> Result<bool, AllocError>
     }
 }
 
-// Whether a line has a word, and of it a value or none, as the word is.
+// Returns whether a line has a known word, with a value if and only if the word needs one.
 fn fits(alloc: Global, line: &Line<'_>) -> Result<bool, AllocError>
     ensures { IfOk result (λ right. right ≡ fits line.now.word.now (line_plain line.now).value) }
 {
@@ -38,14 +38,14 @@ fn fits(alloc: Global, line: &Line<'_>) -> Result<bool, AllocError>
     }
 }
 
-// Whether the word of a line stands before, and may stand once.
+// Returns whether the word of a line occurs before, and may occur only once.
 fn is_repeated(before: &[Line<'_>], line: &Line<'_>) -> bool
     ensures { result ≡ is_repeated (lines_plain before.now) (line_plain line.now) }
 {
     !line.has("dns") && stands(before, line.word)
 }
 
-// Whether a line is faulty behind these.
+// Returns whether a line is wrong after these lines.
 fn is_faulty(alloc: Global, before: &[Line<'_>], line: &Line<'_>) -> Result<bool, AllocError>
     ensures { IfOk result
         (λ faulty. faulty ≡ is_faulty (lines_plain before.now) (line_plain line.now)) }
@@ -54,7 +54,7 @@ fn is_faulty(alloc: Global, before: &[Line<'_>], line: &Line<'_>) -> Result<bool
     Ok(!fits || is_repeated(before, line))
 }
 
-// The first of the lines of an order that is faulty itself.
+// Returns the number of the first line of an order that is wrong by itself.
 fn first_faulty(alloc: Global, lines: &[Line<'_>]) -> Result<Option<u64>, AllocError>
     ensures { IfOk result (λ faulty. faulty ≡ first_faulty [] (lines_plain lines.now)) }
 {
@@ -66,7 +66,7 @@ fn first_faulty(alloc: Global, lines: &[Line<'_>]) -> Result<Option<u64>, AllocE
     Ok(None)
 }
 
-// Whether all words stand without which there is no order.
+// Returns whether an order has all words that it needs.
 fn is_whole(lines: &[Line<'_>]) -> bool
     ensures { result ≡ is_whole (lines_plain lines.now) }
 {
@@ -77,7 +77,7 @@ fn is_whole(lines: &[Line<'_>]) -> bool
         && stands(lines, "key")
 }
 
-// The faulty line of an order.
+// Returns the number of the wrong line of an order, or `None` if the order is valid.
 pub(crate) fn order_fault(alloc: Global, lines: &[Line<'_>]) -> Result<Option<u64>, AllocError>
     requires { 0 < length lines.now }
     ensures { IfOk result (λ faulty. faulty ≡ order_fault (lines_plain lines.now)) }

@@ -1,4 +1,6 @@
-//! Orders for certificates, and files of them.
+//! Orders for certificates, and the parser of orders files.
+//!
+//! The crate depends on `x509_cert_parts` for public keys.
 #![tactic(auto)]
 
 mod faults;

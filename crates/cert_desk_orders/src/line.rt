@@ -1,4 +1,4 @@
-//! The lines of orders files.
+//! The lines of an orders file.
 ghost use Rattle.std.specs.Prelude.{◌≡◌, map, IfOk};
 ghost use Rattle.x509_cert_parts.specs.Der.Grammar.{plain_option};
 ghost use Rattle.cert_desk_orders.specs.OrderReading.{line_plain, lines_plain};
@@ -11,16 +11,16 @@ use std::str;
 // A line that isn't empty.
 #[derive(Clone, Copy)]
 pub(crate) struct Line<'a> {
-    // Counted from 1.
+    // The number of the line, counted from 1.
     pub(crate) number: u64,
-    // What stands before the first blank: nothing where the line isn't UTF-8.
+    // The text before the first space. It is empty if the line isn't UTF-8.
     pub(crate) word: &'a str,
-    // What stands behind the first blank, if there is one.
+    // The text after the first space, if there is one.
     pub(crate) value: Option<&'a str>,
 }
 
 impl<'a> Line<'a> {
-    // The line of these octets.
+    // Returns the line with these bytes.
     fn new(number: u64, octets: &'a [u8]) -> Line<'a>
         ensures { line_plain result ≡ line_of number octets.now }
     {
@@ -45,14 +45,14 @@ impl<'a> Line<'a> {
         }
     }
 
-    // Whether the line is one of this word.
+    // Returns whether the line has this word.
     pub(crate) fn has(&self, word: &str) -> bool
         ensures { result ≡ has word.now (line_plain self.now) }
     {
         self.word == word
     }
 
-    // The value, if the line is one of this word.
+    // Returns the value of the line, if the line has this word.
     pub(crate) fn value_if(&self, word: &str) -> Option<&'a str>
         ensures { plain_option (λ value. value.now) result
             ≡ value_if word.now (line_plain self.now) }
@@ -64,14 +64,14 @@ impl<'a> Line<'a> {
     }
 }
 
-// What stands between the ends of lines.
+// Returns the parts of a file between line ends.
 fn parts_of(alloc: Global, octets: &[u8]) -> Result<Vec<&[u8]>, AllocError>
     ensures { IfOk result (λ parts. map (λ part. part.now) parts.items ≡ parts_in octets.now) }
 {
     octets.split(|octet| *octet == b'\n').collect(alloc)
 }
 
-// The lines of a file that aren't empty.
+// Returns the nonempty lines of a file.
 pub(crate) fn lines_of(alloc: Global, octets: &[u8]) -> Result<Vec<Line<'_>>, AllocError>
     ensures { IfOk result (λ lines. lines_plain lines.items ≡ lines_in octets.now) }
 {
@@ -87,14 +87,14 @@ pub(crate) fn lines_of(alloc: Global, octets: &[u8]) -> Result<Vec<Line<'_>>, Al
     Ok(lines)
 }
 
-// Whether one of the lines is one of this word.
+// Returns whether a line has this word.
 pub(crate) fn stands(lines: &[Line<'_>], word: &str) -> bool
     ensures { result ≡ stands word.now (lines_plain lines.now) }
 {
     lines.iter().any(|line| line.has(word))
 }
 
-// The value of the first line of a word.
+// Returns the value of the first line with this word.
 pub(crate) fn value_of<'a>(lines: &[Line<'a>], word: &str) -> Option<&'a str>
     ensures { plain_option (λ value. value.now) result ≡ value_of word.now (lines_plain lines.now) }
 {

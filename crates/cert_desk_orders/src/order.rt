@@ -1,31 +1,33 @@
-//! Orders.
+//! Orders for certificates.
 
 use x509_cert_parts::SubjectPublicKeyInfo;
 
 /// An order for a certificate.
 ///
-/// The first order of a chain is for its root, the last of two or more for an end entity, those
-/// between for CAs below it. A field that has no part in such a certificate asks for nothing.
+/// The first order of a chain is for its root. The last of two or more is for an end entity, and
+/// those between are for CAs below the root. A field that doesn't apply to a certificate is
+/// ignored.
 #[derive(Debug, Drop)]
 pub struct Order {
-    /// The subject, as the text of a name (RFC 4514).
+    /// The subject's name (RFC 4514).
     pub name: String,
-    /// The octets of the serial number, the most significant first: one or more, and at most 20 as
-    /// the content of an INTEGER.
+    /// The bytes of the serial number, the most significant first. There has to be at least one,
+    /// and the content of the INTEGER may have at most 20.
     pub serial: Vec<u8>,
-    /// From when the certificate is valid, as `YYYY-MM-DDTHH:MM:SSZ`.
+    /// The start of the validity period, as `YYYY-MM-DDTHH:MM:SSZ`.
     pub not_before: String,
-    /// Until when it is valid, as `YYYY-MM-DDTHH:MM:SSZ`.
+    /// The end of the validity period, as `YYYY-MM-DDTHH:MM:SSZ`.
     pub not_after: String,
-    /// The subject's key.
+    /// The subject's public key.
     pub key: SubjectPublicKeyInfo,
-    /// The path length: how many CAs may stand between this one, where it isn't the root, and the
-    /// last certificate of a certification path. Without one there is no bound.
+    /// The path length of a CA below the root: the largest number of CAs between this one and the
+    /// last certificate of a certification path. There is no limit if it is `None`.
     pub path_len: Option<u8>,
     /// The DNS names of an end entity (its subjectAltName), in ASCII.
     pub dns: Vec<String>,
-    /// Whether a certificate other than the root may serve clients, besides servers.
+    /// Allows a certificate other than the root to be used by clients, too, and not only by
+    /// servers.
     pub client_auth: bool,
-    /// Whether a CA may sign answers about the state of certificates (OCSP, RFC 6960).
+    /// Allows a CA to sign OCSP responses (RFC 6960).
     pub ocsp: bool,
 }

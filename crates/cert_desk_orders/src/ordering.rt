@@ -1,4 +1,4 @@
-//! What the lines of an order say.
+//! Builds an order from its lines.
 ghost use Rattle.std.specs.Prelude.{◌≡◌, ◌<◌, length, map, codes, string_bytes};
 ghost use Rattle.std.specs.Prelude.{IfOk, IsSome, None, Some};
 ghost use Rattle.std.specs.Option.{option_and_then};
@@ -13,7 +13,7 @@ use crate::order::Order;
 use std::alloc::{AllocError, Global};
 use x509_cert_parts::SubjectPublicKeyInfo;
 
-// The text behind a word.
+// Returns the value of the first line with this word.
 fn text_of(alloc: Global, lines: &[Line<'_>], word: &str) -> Result<String, AllocError>
     requires { IsSome (value_of word.now (lines_plain lines.now)) }
     ensures { IfOk result (λ text. value_of word.now (lines_plain lines.now)
@@ -25,7 +25,7 @@ fn text_of(alloc: Global, lines: &[Line<'_>], word: &str) -> Result<String, Allo
     String::from_str(alloc, value)
 }
 
-// The octets of the serial number.
+// Returns the bytes of the serial number.
 fn serial_of(alloc: Global, lines: &[Line<'_>]) -> Result<Vec<u8>, AllocError>
     requires { IsSome
         (option_and_then octets_in (value_of (codes "serial") (lines_plain lines.now))) }
@@ -42,7 +42,7 @@ fn serial_of(alloc: Global, lines: &[Line<'_>]) -> Result<Vec<u8>, AllocError>
     Ok(serial)
 }
 
-// The key.
+// Returns the public key.
 fn key_of(alloc: Global, lines: &[Line<'_>]) -> Result<SubjectPublicKeyInfo, AllocError>
     requires { IsSome (option_and_then key_in (value_of (codes "key") (lines_plain lines.now))) }
     ensures { IfOk result (λ key.
@@ -58,7 +58,7 @@ fn key_of(alloc: Global, lines: &[Line<'_>]) -> Result<SubjectPublicKeyInfo, All
     Ok(key)
 }
 
-// The path length, if there is one.
+// Returns the path length, if there is one.
 fn length_of(lines: &[Line<'_>]) -> Option<u8>
     ensures { result ≡ option_and_then length_in (value_of (codes "path") (lines_plain lines.now)) }
 {
@@ -68,7 +68,7 @@ fn length_of(lines: &[Line<'_>]) -> Option<u8>
     line_values::length_of(value)
 }
 
-// The DNS names.
+// Returns the DNS names.
 fn names_of(alloc: Global, lines: &[Line<'_>]) -> Result<Vec<String>, AllocError>
     ensures { IfOk result (λ names. values_of (codes "dns") (lines_plain lines.now)
         ≡ map string_bytes names.items) }
@@ -82,7 +82,7 @@ fn names_of(alloc: Global, lines: &[Line<'_>]) -> Result<Vec<String>, AllocError
     Ok(names)
 }
 
-// What the lines of an order say that has no faulty one.
+// Returns the order with these lines, none of which is wrong.
 pub(crate) fn order_of(alloc: Global, lines: &[Line<'_>]) -> Result<Order, AllocError>
     requires some { 0 < length lines.now }
     requires sound { order_fault (lines_plain lines.now) ≡ None }

@@ -1,17 +1,17 @@
-//! Why a file gives no orders.
+//! The errors of an orders file.
 ghost use Rattle.std.specs.Prelude.{◌≡◌};
 ghost use Rattle.cert_desk_orders.specs.declared.orders_error.OrdersError.TheVariants.{OutOfMemory};
 
 use std::alloc::{AllocError, AllocFailed};
 use thiserror::Error;
 
-/// Why a file gives no orders.
+/// Why an orders file can't be parsed.
 #[derive(Clone, Copy, Debug, PartialEq, Eq, Error)]
 pub enum OrdersError {
-    /// The first faulty line, counted from 1.
+    /// The number of the first wrong line, counted from 1.
     #[error("line {0} is faulty")]
     Line(u64),
-    /// Out of memory for an order.
+    /// Memory ran out.
     #[error("out of memory")]
     OutOfMemory,
 }

@@ -1,4 +1,4 @@
-//! Files of orders.
+//! Parses orders files.
 ghost use Rattle.std.specs.Prelude.{◌≡◌, ◌<◌, ◌≤◌, length, IfErr, IfOk, None, OnOk};
 ghost use Rattle.cert_desk_orders.specs.OrderReading.{IsFaultIn, lines_plain, order_len};
 ghost use Rattle.cert_desk_orders.specs.OrdersFile.{SayOrder, SayOrders, SaysOrders, by_order};
@@ -11,7 +11,7 @@ use crate::ordering::order_of;
 use crate::orders_error::OrdersError;
 use std::alloc::Global;
 
-// How many lines the first order has.
+// Returns the number of lines of the first order.
 fn order_len(lines: &[Line<'_>]) -> usize
     requires { 0 < length lines.now }
     ensures length { result ≡ order_len (lines_plain lines.now) }
@@ -23,7 +23,7 @@ fn order_len(lines: &[Line<'_>]) -> usize
     }
 }
 
-// The order that lines say.
+// Parses one order.
 fn read_order(alloc: Global, lines: &[Line<'_>]) -> Result<Order, OrdersError>
     requires { 0 < length lines.now }
     ensures sound { OnOk result (order_fault (lines_plain lines.now) ≡ None) }
@@ -37,7 +37,7 @@ fn read_order(alloc: Global, lines: &[Line<'_>]) -> Result<Order, OrdersError>
     Ok(order)
 }
 
-// The orders that lines say.
+// Parses the orders of several lines.
 fn read_orders(alloc: Global, lines: &[Line<'_>]) -> Result<Vec<Order>, OrdersError>
     ensures sound { OnOk result (first_fault (by_order (lines_plain lines.now)) ≡ None) }
     ensures said { IfOk result
@@ -56,26 +56,29 @@ fn read_orders(alloc: Global, lines: &[Line<'_>]) -> Result<Vec<Order>, OrdersEr
     Ok(orders)
 }
 
-/// The orders of a file.
+/// Parses an orders file.
 ///
-/// A file is lines that end with LF; the last one may end with the file. An empty line says
-/// nothing. Any other is, in UTF-8, a word and, after one blank, a value. `order`, alone, begins
-/// an order, and after it stand its words, in any order:
+/// Each line ends with LF or the file. Empty lines are skipped. Every other line is in UTF-8, and
+/// consists of a word and, after one space, a value. `order`, without a value, begins an order. Its
+/// other words follow in any order:
 ///
 /// | Word | Value | How often |
 /// |---|---|---|
-/// | `name` | the subject, a text | once |
-/// | `from`, `until` | the dates, texts | once |
-/// | `serial` | the octets of the serial number in base 16 | once |
+/// | `name` | the subject (RFC 4514) | once |
+/// | `from`, `until` | the dates, as text | once |
+/// | `serial` | the bytes of the serial number in base 16 | once |
 /// | `key` | a SubjectPublicKeyInfo (RFC 5280 4.1.2.7) in base 16 | once |
-/// | `path` | the path length, decimal digits up to 255 | at most once |
-/// | `client`, `ocsp` | none, nor a blank | at most once |
-/// | `dns` | a DNS name, a text | any number of times |
+/// | `path` | the path length in decimal, up to 255 | at most once |
+/// | `client`, `ocsp` | none, and no space | at most once |
+/// | `dns` | a DNS name | any number of times |
 ///
 /// # Errors
-/// `Line`, the first faulty line, counted from 1: one of another word or value, one that stands
-/// once too often, one before the first order, and the line `order` of an order that lacks a word.
-/// `OutOfMemory`.
+///
+/// - `Line`: a line is wrong. Its number is reported, counted from 1, and that of the first one if
+///   there are several. A line is wrong if its word is unknown, its value isn't allowed, its word
+///   occurs too often, or it comes before the first order. The line `order` is wrong if the order
+///   lacks a word.
+/// - `OutOfMemory`: memory runs out.
 pub fn orders_in(alloc: Global, octets: &[u8]) -> Result<Vec<Order>, OrdersError>
     ensures said { IfOk result (λ orders. SaysOrders octets.now orders.items) }
     ensures refused { IfErr result (IsFaultIn (faulty_line octets.now)) }

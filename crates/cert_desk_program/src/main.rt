@@ -1,6 +1,8 @@
-//! `cert_desk check ANCHORS STREAM MOMENT PURPOSE LIMIT`: whether a stream of certificates is
-//! trusted. `cert_desk show KIND FILE`: what a certificate, a list or a request says. `cert_desk
-//! issue ORDERS`: the chain that an orders file asks for.
+//! The program `cert_desk`:
+//!
+//! - `cert_desk check ANCHORS STREAM MOMENT PURPOSE LIMIT` validates a certificate chain.
+//! - `cert_desk show KIND FILE` prints the contents of a certificate, a CRL or a CSR.
+//! - `cert_desk issue ORDERS` issues the chain that an orders file asks for.
 #![tactic(auto)]
 
 use cert_desk::{DigestJudge, ExitStatus, HostFiles, ToWrite, USAGE, obey, words_of};
@@ -11,7 +13,7 @@ fn main(rt: HostRuntime) -> ExitCode {
     ExitCode::from(run(&rt).code())
 }
 
-/// Does what the arguments ask for.
+/// Runs the command that the arguments name, and returns the exit status.
 fn run(rt: &HostRuntime) -> ExitStatus {
     let mut err = ToWrite::new(rt.stderr());
     let words = match words_of(rt, &mut err, USAGE.as_bytes()) {

@@ -1,4 +1,5 @@
--- Answers in their order: what is searched for stands between two places.
+-- Laws about answers in their order: the answers that compare equal are between the two indexes of
+-- a binary search.
 use Rattle.std.proofs.Common.{◌≡◌, ℕ, zero, suc, ◌+◌, List, [], ◌∷◌, Bool, true, false, ltb, leb, length, map, get_or, take, drop, refl, ap, sym, ◌∙◌, arith}
 use Rattle.std.specs.Prelude.{bytes_eq, ◌||◌}
 use Rattle.std.specs.List.{AllWithin, list_any}
@@ -21,13 +22,13 @@ use Rattle.cert_desk_rules.specs.Answers.{answer_plain, answer_rank, is_about, r
 pub rank_cmp_total : IsTotalOrder rank_cmp
 rank_cmp_total = lists_total nat_list_cmp_total
 
--- the order that three comparisons give
+-- The order of three comparisons, one after another.
 pub in_three : (a b c : Ordering) → ordering_then a (ordering_then b c) ≡ ordering_then a (ordering_then b (ordering_then c Equal))
 in_three a b Less = refl
 in_three a b Equal = refl
 in_three a b Greater = refl
 
--- What isn't of the rank isn't about the signature
+-- An answer that doesn't compare equal isn't about the signature.
 
 module _ (key : PublicKey) (algorithm : Algorithm) (signed : List ℕ) (bits : Bits) where
   abbrev pub at : Answer → Ordering
@@ -68,7 +69,7 @@ module _ (key : PublicKey) (algorithm : Algorithm) (signed : List ℕ) (bits : B
       by false e = e
       by true e = absurd (cc (ap is_le (tied a e), greater))
 
-  -- Where the search stands
+  -- The indexes that the search finds.
 
   less_index : (o : Ordering) → ltb (ordering_index o) 1 ≡ is_lt o
   less_index Less = refl
@@ -86,7 +87,7 @@ module _ (key : PublicKey) (algorithm : Algorithm) (signed : List ℕ) (bits : B
         let rise = searchable_from_sorted rank_cmp_total answer_rank xs (rank key signed bits) sorted in
         sym (less_index (at (get_or xs i d))) ∙ IsPartitionedBy-ltb (λ a. ordering_index (at a)) xs 1 rise i j d h k (less_index (at (get_or xs j d)) ∙ e)
 
-    -- of those from a place on
+    -- The answers from an index on.
     pub parted_most : (start : ℕ) → IsPartitionedBy (λ a. is_le (at a)) (drop start xs)
     parted_most start i j d h k e =
         let rise = searchable_from_sorted rank_cmp_total answer_rank xs (rank key signed bits) sorted in
@@ -95,7 +96,7 @@ module _ (key : PublicKey) (algorithm : Algorithm) (signed : List ℕ) (bits : B
         ∙ sym (most_index (at (get_or xs (start + i) d)))
         ∙ there (most_index (at (get_or xs (start + j) d)) ∙ ap (λ a. is_le (at a)) (sym (get_or-drop start xs j d)) ∙ e)
 
--- A part of a list outside of which none passes
+-- A part of a list outside of which no element passes.
 
 module _ {X : Type 0} (test : X → Bool) where
   pub any_drop : (xs : List X) (n : ℕ) → AllWithin (λ x. test x ≡ false) xs 0 n → list_any test xs ≡ list_any test (drop n xs)
@@ -117,7 +118,7 @@ module _ {X : Type 0} (test : X → Bool) where
   any_map f [] = refl
   any_map f (y ∷ ys) = ap (λ b. test (f y) || b) (any_map f ys)
 
--- what is about a signature stands between the places that a search finds
+-- The answers about a signature are between the indexes that the search finds.
 module _ (key : PublicKey) (algorithm : Algorithm) (signed : List ℕ) (bits : Bits) where
   abbrev passes : Answer → Bool
   passes = about key algorithm signed bits

@@ -1,4 +1,4 @@
--- How basic constraints are spelled.
+-- Laws about the encoding of basic constraints.
 use Rattle.std.proofs.Common.{◌≡◌, ◌==◌, ℕ, suc, ℤ, pos, negsuc, ◌<◌, ◌≤◌, ltb, List, [], ◌∷◌, ◌++◌, Bool, true, false, Option, Some, None, Result, Ok, Err, length, drop, get_or, refl, sym, ap, ◌∙◌, inl, inr, arith}
 use Rattle.std.proofs.lemmas.Bool.{cases_lt, eqb-true, lt-ltb, le-ltb}
 use Rattle.std.proofs.lemmas.List.{append-nil}
@@ -19,7 +19,7 @@ use Rattle.x509_cert_extensions.specs.PolicyTypes.Policies.{basic_constraints_fi
 use Rattle.cert_desk_rules.specs.Weighing.{basic_constraints_in, ca_octets, constraints, constraints_of, malformed, meaning_of}
 use Rattle.cert_desk_rules.proofs.Meanings.{basic_constraints, meaning_none, meaning_once}
 
--- pathLenConstraint
+-- The shape of `pathLenConstraint`.
 abbrev pub number : Shape
 number = tagged tags.Integer (leaf (integer (unsigned 8)))
 
@@ -94,7 +94,7 @@ number-few (Some (pos n)) v =
     omega (arith, few, ap length is)
 number-few (Some (negsuc n)) v = absurd (number-no n (optional-valid (negsuc n) v))
 
--- a path length begins with the tag of an INTEGER
+-- A path length begins with the tag of an INTEGER.
 number-tag : (z : ℤ) → get_or (length_octets_of (Some z)) 0 0 ≡ 2
 unfolding octets_of tlv head_octets tag_octets
 number-tag z = refl
@@ -119,13 +119,13 @@ valid-parts : (v : Value basic_constraints) → IsValid basic_constraints v → 
 unfolding IsValid
 valid-parts v h = h.0.1.0
 
--- what octets in this form say
+-- The meaning of bytes in this form.
 says : (ca : Bool) (o : Option ℤ) (w : List ℕ) → IsValid (optional number) o → w ≡ 48 ∷ length (body ca o) ∷ body ca o
     → meaning_of constraints_of (basic_constraints_in w) ≡ constraints ca (plain_option unsigned_abs o)
 says ca o w v e =
     meaning_once basic_constraints constraints_of w refl refl (ca, (o, tt)) (record { valid = valid-whole ca o v; octets = e ∙ sym (whole-is ca o v) }) (basic_constraints_in w)
 
--- octets in no form of a value
+-- The meaning of bytes that aren't in this form.
 says-none : (w : List ℕ) → ((ca : Bool) (o : Option ℤ) → IsValid (optional number) o → w ≡ 48 ∷ length (body ca o) ∷ body ca o → ⊥)
     → meaning_of constraints_of (basic_constraints_in w) ≡ malformed
 says-none w none = meaning_none basic_constraints constraints_of w refl refl spells-none (basic_constraints_in w)
@@ -137,7 +137,7 @@ empty : (l : List ℕ) → (length l == 0) ≡ true → l ≡ []
 empty [] h = refl
 empty (x ∷ l) h = absurd (omega (arith, eqb-true (length (x ∷ l)) 0 h))
 
--- no SEQUENCE
+-- The bytes are no SEQUENCE.
 pub no_sequence : (w : List ℕ) → ((fields : List ℕ) → w ≡ 48 ∷ length fields ∷ fields → ⊥) → meaning_of constraints_of (basic_constraints_in w) ≡ malformed
 no_sequence w none = says-none w (λ ca o v e. none (body ca o) e)
 
@@ -152,17 +152,17 @@ module _ (w fields rest : List ℕ) (ca : Bool) (is : w ≡ 48 ∷ length fields
       by true e = omega (arith, bytes (suc (suc (suc (suc (suc i))))), ap (λ (l : List ℕ). get_or l (suc (suc (suc (suc (suc i))))) 0) e)
       by false e = omega (arith, bytes (suc (suc i)), ap (λ (l : List ℕ). get_or l (suc (suc i)) 0) e)
 
-  -- no length
+  -- There is no path length.
   pub no_length : (length rest == 0) ≡ true → meaning_of constraints_of (basic_constraints_in w) ≡ constraints ca None
   no_length none = says ca None w none-valid (form None (empty rest none ∙ sym none-is))
 
-  -- a length
+  -- There is a path length.
   pub a_length : (n : ℕ) → IsBytes w → read_whole number rest ≡ Ok (pos n, []) → meaning_of constraints_of (basic_constraints_in w) ≡ constraints ca (Some n)
   a_length n bytes e =
       let h = is_spelled number (λ z. z) rest (Ok (pos n)) refl (bytes-rest bytes) e in
       says ca (Some (pos n)) w (valid-optional (pos n) h.valid) (form (Some (pos n)) (h.octets ∙ sym (some-is (pos n))))
 
-  -- what is left is that of the value
+  -- The bytes after `cA` are the encoding of the path length.
   rest-is : (b : Bool) (o : Option ℤ) → (ca ≡ false → (r : List ℕ) → fields ≡ 1 ∷ 1 ∷ 255 ∷ r → ⊥) → fields ≡ body b o → rest ≡ length_octets_of o
   rest-is b o flagged e = by ca b o split flagged e
     where
@@ -173,7 +173,7 @@ module _ (w fields rest : List ℕ) (ca : Bool) (is : w ≡ 48 ∷ length fields
       by false true p s f g = absurd (f refl (length_octets_of p) g)
       by false false p s f g = sym s ∙ g
 
-  -- constraints whose path length is refused are malformed
+  -- Constraints whose path length can't be decoded are malformed.
   pub bad_length : (k : ErrorKind) → (ca ≡ false → (r : List ℕ) → fields ≡ 1 ∷ 1 ∷ 255 ∷ r → ⊥) → (length rest == 0) ≡ false → read_whole number rest ≡ Err k
       → meaning_of constraints_of (basic_constraints_in w) ≡ malformed
   bad_length k flagged some fails = says-none w (λ b o v e. by o v (rest-is b o flagged (ap (drop 2) (sym is ∙ e))))

@@ -1,4 +1,4 @@
--- When the digest judge says yes.
+-- Laws about the algorithm of the digest verifier.
 use Rattle.std.proofs.Common.{◌≡◌, ℕ, List, ◌++◌, Bool, true, false, Some, None, ◌&&◌, ◌==◌, IsTrue, ◌↔◌, bytes_eq, sym, ap, ◌∙◌}
 use Rattle.std.specs.Option.{option_map_or}
 use Rattle.std.proofs.lemmas.Bool.{and_left, and_right, ne_eqb, eq-eqb}
@@ -12,12 +12,12 @@ use Rattle.cert_desk_bundle.specs.CertParts.Grammar.{algorithm_parameters, key_b
 use Rattle.cert_desk_rules.specs.Digests.{digest_arcs, is_digest, digest_answers}
 use Rattle.cert_desk_rules.proofs.Folds.{and_yes}
 
--- an algorithm with parameters isn't it
+-- An algorithm with parameters is another one.
 pub no_parameters : (a : Algorithm) (p : AnyValue) → algorithm_parameters a ≡ Some p → false ≡ is_digest a
 no_parameters a p e =
     sym (and_right (bytes_eq (algorithm_arcs a) digest_arcs) (option_map_or (λ _. false) (algorithm_parameters a) true) (ap (λ o. option_map_or (λ _. false) o true) e))
 
--- one without is known by its arcs
+-- An algorithm without parameters is that one exactly if its OID is.
 pub digest_by : (r : Bool) (a : Algorithm) → algorithm_parameters a ≡ None → IsTrue r ↔ (algorithm_arcs a ≡ digest_arcs) → r ≡ is_digest a
 digest_by r a e h =
     same_from_decides r (bytes_eq (algorithm_arcs a) digest_arcs) h (bytes_eq-Decides (algorithm_arcs a) digest_arcs)

@@ -1,4 +1,4 @@
--- The octets of the digest judge's algorithm.
+-- The encoding of the OID of the digest verifier's algorithm.
 use Rattle.std.proofs.Common.{◌≡◌, ℕ, List, [], ◌∷◌, refl, sym, ap, ◌∙◌, arith}
 use Rattle.cert_desk_bundle.specs.Oid.Arcs.{arcs_of}
 use Rattle.cert_desk_bundle.specs.Oid.Bound.{Bound}
@@ -18,6 +18,6 @@ pub is_identifier : IsIdentifier Bound digest_arcs
 unfolding IsIdentifier Bound
 is_identifier = (omega arith, omega arith, (omega arith, (omega arith, (omega arith, (omega arith, (omega arith, (omega arith, tt)))))))
 
--- two identifiers of the same octets have the same arcs
+-- Two OIDs with the same encoding have the same arcs.
 pub same_arcs : (a b : List ℕ) → IsIdentifier Bound a → IsIdentifier Bound b → identifier_octets a ≡ identifier_octets b → a ≡ b
 same_arcs a b p q e = sym (arcs_of-identifier_octets Bound a p) ∙ ap arcs_of e ∙ arcs_of-identifier_octets Bound b q

@@ -1,4 +1,4 @@
--- Extensions that are looked for by their identifiers.
+-- Laws about the kind of an extension, and about extensions with the same OID.
 use Rattle.std.proofs.Common.{◌≡◌, ◌≢◌, ℕ, zero, suc, ◌+◌, ◌-◌, ◌<◌, ◌≤◌, List, [], ◌∷◌, Bool, true, false, cond, not, ◌&&◌, ◌||◌, Option, Some, None, IfSome, Result, Ok, Err, inl, inr, subst, length, get_or, drop, take, refl, sym, ap, ◌∙◌, arith}
 use Rattle.std.specs.BTreeSet.{BTreeSet, Updates, contains}
 use Rattle.std.specs.Cmp.Lexicographic.{bytes_decides, nat_list_eq_equiv}
@@ -22,7 +22,7 @@ use Rattle.cert_desk_rules.specs.Judging.{are_distinct, has_twin, is_alone}
 use Rattle.cert_desk_rules.specs.Weighing.{Meaning, any_purpose, basic_constraints_in, constraints_of, extended_key_usage_in, key_usage_in, malformed, meaning_of}
 use Rattle.cert_desk_rules.specs.Weighing.{other_names, purposes, subject_alt_name_in, unweighed, uses, weigh}
 
--- by which of the weighed kinds its identifier is, what an extension says
+-- The meaning of an extension, by which of the four checked kinds its OID is.
 abbrev pub by_kind : ℕ → Bool → Bool → Bool → Bool → List ℕ → Meaning
 by_kind bound a b c d w =
     cond a (meaning_of uses (key_usage_in w))
@@ -36,7 +36,7 @@ says_as bound kinds.BasicConstraints w = meaning_of constraints_of (basic_constr
 says_as bound kinds.ExtKeyUsage w = meaning_of purposes (extended_key_usage_in bound w)
 says_as bound _ w = unweighed
 
--- the identifier is that of a kind
+-- The extension's OID is that of a kind.
 abbrev pub is_kind : ExtensionKind → PlainExtension → Bool
 is_kind kind e = owned_eq (extension_arcs e) (arcs_of kind)
 
@@ -75,23 +75,23 @@ unweighed_as bound e none =
     ∙ ap (λ c. by_kind bound false false c (is_kind kinds.ExtKeyUsage e) w) (none kinds.BasicConstraints)
     ∙ ap (λ d. by_kind bound false false false d w) (none kinds.ExtKeyUsage)
 
--- the weight of what was refused
+-- The result for an extension that can't be decoded.
 pub malformed_as : {E P : Type 0} (r : Result Weight E) (m : Meaning) → IfOk r (λ weight. (weight ≡ weights.Malformed) × P) → (P → m ≡ malformed)
     → IfOk r (λ weight. (p : List ℕ) → weight ≡ weight_of p m)
 malformed_as (Ok weight) m h k = λ p. h.0 ∙ ap (weight_of p) (sym (k h.1))
 malformed_as (Err fault) m h k = h
 
--- the purpose that stands for any
+-- The encoding of `anyExtendedKeyUsage`.
 pub any_octets : identifier_octets any_purpose ≡ 0x55 ∷ 0x1d ∷ 0x25 ∷ 0x00 ∷ []
 unfolding identifier_octets arc_octets digits digits_within marked
 any_octets = refl
 
--- One of a list, seen by its plain values.
+-- A test on the elements of a list, in terms of their plain values.
 pub any_of_list : {A B : Type 0} (plain : A → B) (test : B → Bool) (xs : List A) → list_any (λ x. test (plain x)) xs ≡ list_any test (plain_list plain xs)
 any_of_list plain test [] = refl
 any_of_list plain test (x ∷ xs) = ap (λ b. test (plain x) || b) (any_of_list plain test xs)
 
--- The list has an extension of the identifier.
+-- The list has an extension with this OID.
 abbrev has_arcs : List ℕ → List PlainExtension → Bool
 has_arcs arcs es = list_any (λ e. owned_eq arcs (extension_arcs e)) es
 
@@ -99,14 +99,14 @@ or_cond : (b c : Bool) → cond b true c ≡ (b || c)
 or_cond true c = refl
 or_cond false c = refl
 
--- what a set has behind an identifier that was put into it
+-- The elements of a set after an insertion.
 put : (old new : BTreeSet (List ℕ)) (arcs : List ℕ) → Updates owned_cmp old new arcs true → (q : List ℕ) → contains owned_cmp new q ≡ (owned_eq q arcs || contains owned_cmp old q)
 put old new arcs updates q =
     updates.0 q
     ∙ ap (λ b. cond b true (contains owned_cmp old q)) (sym (owned_cmp_ties arcs q) ∙ nat_list_eq_equiv.symm (identifier_octets arcs) (identifier_octets q))
     ∙ or_cond (owned_eq q arcs) (contains owned_cmp old q)
 
--- the extension at place i, and those from the next place n on
+-- The extension at index i, and those from the next index n on.
 module _ {A : Type 0} (plain : A → PlainExtension) (xs : List A) (i n : ℕ) (next : n ≡ i + 1) (d : A) (lt : i < length xs) where
   abbrev here : PlainExtension
   here = plain (get_or xs i d)
@@ -127,7 +127,7 @@ module _ {A : Type 0} (plain : A → PlainExtension) (xs : List A) (i n : ℕ) (
       ∙ ap (λ b. owned_eq q (extension_arcs here) || b) (had q)
       ∙ sym (ap (has_arcs q) from_here)
 
--- An extension has a twin where it doesn't stand alone before those behind it.
+-- An extension has a twin exactly if a later extension has its OID.
 pub twin_is : {A : Type 0} (plain : A → PlainExtension) (xs : List A) (i n : ℕ) (d : A) → n ≡ i + 1 → i < length xs
     → has_twin (plain_list plain xs) i ≡ not (is_alone (plain (get_or xs i d)) (plain_list plain (drop n xs)))
 twin_is plain [] i n d next lt = absurd (omega arith)
@@ -135,7 +135,7 @@ twin_is plain (x ∷ xs) zero n d next lt = ap (λ (m : ℕ). not (is_alone (pla
 twin_is plain (x ∷ xs) (suc i) zero d next lt = absurd (omega arith)
 twin_is plain (x ∷ xs) (suc i) (suc n) d next lt = twin_is plain xs i n d (omega arith) (omega arith)
 
--- read at that place, and asked of the slice behind it
+-- An extension that was read at an index has a twin exactly if the slice after it has its OID.
 pub twin_at : {A : Type 0} (plain : A → PlainExtension) (xs : List A) (i : ℕ) (x : A) → i < length xs → x ≡ get_or xs i x
     → has_twin (plain_list plain xs) i ≡ not (is_alone (plain x) (plain_list plain (take (length xs - (i + 1)) (drop (i + 1) xs))))
 twin_at plain xs i x lt is =
@@ -143,7 +143,7 @@ twin_at plain xs i x lt is =
     ∙ ap (λ y. not (is_alone (plain y) (plain_list plain (drop (i + 1) xs)))) (sym is)
     ∙ ap (λ ys. not (is_alone (plain x) (plain_list plain ys))) (sym (take_rest xs (i + 1)))
 
--- no twin stands from a place on before the first one, and none at the place before
+-- No extension between an index and the first twin is a twin, and none is at the index before.
 pub firsts-more : (o : Option ℕ) (es : List PlainExtension) (n : ℕ) → 0 < n → has_twin es (n - 1) ≡ false
     → IfSome o (λ place. (other : ℕ) → n ≤ other → other < place → has_twin es other ≡ false)
     → IfSome o (λ place. (other : ℕ) → n - 1 ≤ other → other < place → has_twin es other ≡ false)
@@ -155,12 +155,12 @@ firsts-more (Some place) es n some here behind = λ other above below.
       | inr (inr more) ↦ behind other (omega (arith, some, more)) below
     ]
 
--- more is said of what is told
+-- A weaker fact about an optional value.
 pub some-by : {A : Type 0} {P Q : A → Type 0} (o : Option A) → IfSome o P → ((x : A) → P x → Q x) → IfSome o Q
 some-by None h f = tt
 some-by (Some x) h f = f x h
 
--- none of the first ones, and not the next
+-- A fact about all smaller numbers, and about the next one.
 pub none-more : (test : ℕ → Bool) (i : ℕ) → ((other : ℕ) → other < i → test other ≡ false) → test i ≡ false → (other : ℕ) → other < i + 1 → test other ≡ false
 none-more test i before here other lt =
     elim (cases_order other i) [

@@ -1,4 +1,4 @@
--- Tests on what a fold gathers, and on whole numbers.
+-- Laws about tests on the result of a fold, and about tests on numbers.
 use Rattle.std.proofs.Common.{◌≡◌, ℕ, ◌≤◌, List, [], ◌∷◌, Bool, true, false, not, ◌&&◌, ◌||◌, min, inl, inr, refl, sym, ap, ◌∙◌, arith}
 use Rattle.std.specs.Prelude.{nat_le}
 use Rattle.std.specs.List.{fold, list_all, list_any}
@@ -33,7 +33,7 @@ and_in_turn : (a b c : Bool) → ((a && b) && c) ≡ (a && (b && c))
 and_in_turn true b c = refl
 and_in_turn false b c = refl
 
--- what each step adds by "or", and by "and"
+-- The result of steps that each add with "or", and with "and".
 pub fold_or : {S A : Type 0} (told : S → Bool) (test : A → Bool) (step : S → A → S) → ((s : S) (x : A) → told (step s x) ≡ (told s || test x))
     → (s : S) (xs : List A) → told (fold step s xs) ≡ (told s || list_any test xs)
 fold_or told test step adds s [] = or_no (told s)
@@ -46,7 +46,7 @@ fold_and told test step adds s [] = and_yes (told s)
 fold_and told test step adds s (x ∷ xs) =
     fold_and told test step adds (step s x) xs ∙ ap (λ b. b && list_all test xs) (adds s x) ∙ and_in_turn (told s) (test x) (list_all test xs)
 
--- tests on numbers that say the same
+-- Two tests on numbers that are equivalent.
 pub le_same : (a b c d : ℕ) → (a ≤ b → c ≤ d) → (c ≤ d → a ≤ b) → nat_le a b ≡ nat_le c d
 le_same a b c d on back =
     elim (leb_tells a b) [

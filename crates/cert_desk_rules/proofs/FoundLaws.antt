@@ -1,4 +1,4 @@
--- What was gathered of extensions, by the definitions of what they say.
+-- Each field of the findings, in terms of the meanings of the extensions.
 use Rattle.std.proofs.Common.{◌≡◌, ℕ, List, Bool, ◌&&◌, ◌||◌, Option, Some, None, nat_le, refl, ap, ◌∙◌}
 use Rattle.std.specs.List.{list_all, list_any}
 use Rattle.cert_desk_bundle.specs.CertParts.Grammar.{PlainExtension, is_critical}
@@ -8,7 +8,7 @@ use Rattle.cert_desk_rules.specs.Paths.{is_within}
 use Rattle.cert_desk_rules.specs.Weighing.{Meaning, uses, other_names, constraints, purposes, malformed, unweighed, is_authority, is_malformed, is_unweighed, may_certify, path_length, serves, weigh}
 use Rattle.cert_desk_rules.proofs.Folds.{and_no, and_yes, fold_and, fold_or, le_min, or_no, or_yes}
 
--- what one extension more adds
+-- The effect of one more extension.
 module _ (purpose : List ℕ) (f : Findings) (critical : Bool) where
   adds_malformed : (m : Meaning) → (add f critical (weight_of purpose m)).malformed ≡ (f.malformed || is_malformed m)
   adds_malformed (uses set) = or_no f.malformed
@@ -64,7 +64,7 @@ adds_length purpose n f critical (purposes listed) = and_yes (is_within n f.path
 adds_length purpose n f critical malformed = and_yes (is_within n f.path_len)
 adds_length purpose n f critical unweighed = and_yes (is_within n f.path_len)
 
--- all of them
+-- All extensions.
 module _ (bound : ℕ) (purpose : List ℕ) (es : List PlainExtension) where
   pub found_malformed : (found bound purpose es).malformed ≡ list_any (λ e. is_malformed (weigh bound e)) es
   found_malformed =

@@ -1,4 +1,4 @@
--- What a content says, by its encodings and by reading.
+-- The meaning of a content, by its encodings and by decoding.
 use Rattle.std.proofs.Common.{◌≡◌, ℕ, List, true, Result, Ok, Err, refl, ap}
 use Rattle.cert_desk_bundle.specs.Der.ErrorTypes.ErrorKind.{ErrorKind}
 use Rattle.cert_desk_bundle.specs.Der.Limits.{levels_max}
@@ -15,7 +15,7 @@ use Rattle.cert_desk_rules.specs.Weighing.{Meaning, malformed, meaning_of}
 abbrev pub basic_constraints : Shape
 basic_constraints = sequence basic_constraints_fields
 
--- what reading gives of a content, said as its meaning
+-- The meaning of the result of decoding a content.
 abbrev pub read_meaning : {P Q : Type 0} → (P → Meaning) → Result (P × Q) ErrorKind → Meaning
 read_meaning says (Ok read) = says read.0
 read_meaning says (Err fault) = malformed

@@ -1,4 +1,5 @@
--- The room that path lengths leave, and the places that count behind each of them.
+-- Laws about the limit that path lengths set, and about the certificates that count after each of
+-- them.
 use Rattle.std.proofs.Common.{◌≡◌, ℕ, zero, suc, ◌+◌, ◌-◌, ◌<◌, List, [], Bool, true, false, cond, not, ◌&&◌, ◌||◌, Option, Some, None, slice_get, refl, sym, ap, ◌∙◌, subst, arith}
 use Rattle.std.specs.List.{list_all}
 use Rattle.std.specs.Option.{is_some, option_map, option_map_or}
@@ -10,7 +11,7 @@ use Rattle.cert_desk_rules.specs.Weighing.{path_length, weigh}
 use Rattle.cert_desk_rules.proofs.Folds.{le_same, or_yes}
 use Rattle.cert_desk_rules.proofs.FoundLaws.{found_length, within_shorter}
 
--- of the places from one on, that one and those behind it
+-- The certificates from an index on are the one at that index and those after it.
 pub used_up_first : (bound : ℕ) (cs : List PlainCertificate) (from n : ℕ) → used_up bound cs from (suc n) ≡ cond (counts bound cs from) 1 0 + used_up bound cs (suc from) n
 used_up_first bound cs from zero =
     let same : from + 0 ≡ from = omega arith in
@@ -34,7 +35,8 @@ keep_lengths-is bound cs (suc place) other h =
     ap (λ b. b && keeps_length bound cs place other) (keep_lengths-is bound cs place other (omega (arith, h)) ∙ ap (allow bound cs place) all)
     ∙ ap (λ n. allow bound cs place (one + behind) && list_all (λ e. is_within n (path_length (weigh bound e))) (extensions_at cs place)) same
 
--- a place that doesn't count is within the path lengths; one that does, where there is room
+-- A certificate that doesn't count is within the path lengths, and one that counts is exactly if
+-- the limit admits it.
 pub within_room : (bound : ℕ) (cs : List PlainCertificate) (place : ℕ) (room : PathRoom) (b : Bool) → counts bound cs place ≡ b → IsRoom bound cs place room
     → is_within_lengths bound cs place ≡ (not b || is_within 2 room.below)
 within_room bound cs place room false e h = ap (λ b. not b || keep_lengths bound cs place place) e
@@ -48,13 +50,13 @@ within_room bound cs place room true e h =
     ∙ ap (allow bound cs place) one
     ∙ h 1
 
--- a place more
+-- One more certificate.
 within_left : (below : Option ℕ) (b : Bool) (n : ℕ) → is_within (suc (cond b 1 0 + n)) below ≡ is_within (suc n) (left_by below b)
 within_left None b n = refl
 within_left (Some most) false n = le_same (suc (0 + n)) most (suc n) (most - 0) (λ k. omega (arith, k)) (λ k. omega (arith, k))
 within_left (Some most) true n = le_same (suc (1 + n)) most (suc n) (most - 1) (λ k. omega (arith, k)) (λ k. omega (arith, k))
 
--- so many places are within a path length where one more is below the limit
+-- The number n is within a path length exactly if n + 1 is below the limit.
 within_next : (n : ℕ) (p : Option ℕ) → is_within (suc n) (option_map suc p) ≡ is_within n p
 within_next n None = refl
 within_next n (Some most) = le_same (suc n) (suc most) n most (λ k. omega (arith, k)) (λ k. omega (arith, k))
@@ -73,7 +75,7 @@ IsRoom-more bound purpose cs place c room b p is same h e =
     within_next n p ∙ ap (is_within n) e ∙ found_length bound purpose (extensions_of c) n ∙ ap (list_all (λ e. is_within n (path_length (weigh bound e)))) here))
     ∙ sym (within_shorter (suc n) (left_by room.below b) (option_map suc p)))
 
--- where no path length is in force, it doesn't matter whether a place counts
+-- If there is no limit, it doesn't matter whether a certificate counts.
 pub admits_any : (below : Option ℕ) (b : Bool) → (not (is_some below && b) || is_within 2 below) ≡ (not b || is_within 2 below)
 admits_any None b = or_yes (not b)
 admits_any (Some most) b = refl

@@ -6,7 +6,7 @@ use Rattle.cert_desk_bundle.specs.DeskIo.Statuses.{code_of}
 use Rattle.cert_desk_rules.specs.Returned.{IsExact, IsExactWithMemory, IsFaultyStatus, IsTextStatus, IsValueStatus}
 use Rattle.cert_desk_rules.specs.Rooms.{IsLack}
 
--- No two statuses have one number.
+-- No two statuses have the same number.
 status_at : ℕ → ExitStatus
 status_at zero = statuses.Done
 status_at (suc zero) = statuses.Refused
@@ -40,7 +40,7 @@ is_exact IsSo status n e so only = record {
 }
 
 module _ (Some None : Type 0) where
-  -- there is a value
+  -- There is a value.
   pub found : (n : ℕ) → n ≡ code_of statuses.Done → Some → (None → ⊥) → IsExact (IsValueStatus Some None) n
   found n e some never = is_exact (IsValueStatus Some None) statuses.Done n e some only
     where
@@ -49,7 +49,7 @@ module _ (Some None : Type 0) where
       only statuses.Faulty h = absurd (never h)
       only _ h = absurd h
 
-  -- there is no value
+  -- There is no value.
   pub lacking : (status : ExitStatus) (n : ℕ) → n ≡ code_of status → (Some → None → ⊥) → IsLack None status → IsExactWithMemory (IsValueStatus Some None) n
   lacking status n e never (inr memory) = inr (e ∙ ap code_of memory)
   lacking status n e never (inl none) = inl (is_exact (IsValueStatus Some None) statuses.Faulty n (e ∙ ap code_of none.0) none.1 only)
@@ -60,7 +60,7 @@ module _ (Some None : Type 0) where
       only _ h = absurd h
 
 module _ (Says : List ℕ → Type 0) (Lacks : ExitStatus → Type 0) (room : List ℕ) where
-  -- there is a text, and all such texts have the same length
+  -- There is a text, and all such texts have the same length.
   pub given : (text : List ℕ) (n : ℕ) → Says text → ((other : List ℕ) → Says other → length other ≡ length text) → ((status : ExitStatus) → Lacks status → ⊥) → (n ≡ code_of statuses.Done) ⊎ (n ≡ code_of statuses.Device)
       → (n ≡ code_of statuses.Done → length text ≤ length room) → (n ≡ code_of statuses.Device → length room < length text) → IsExact (IsTextStatus Says Lacks room) n
   given text n says one never (inl done) fits exceeds = is_exact (IsTextStatus Says Lacks room) statuses.Done n done (text, says, fits done) only
@@ -76,7 +76,7 @@ module _ (Says : List ℕ → Type 0) (Lacks : ExitStatus → Type 0) (room : Li
       only statuses.Done h = let long = exceeds no_room in absurd (omega (arith, long, one h.0 h.1, h.2))
       only status h = absurd (never status h)
 
-  -- there is no text
+  -- There is no text.
   pub withheld : (status : ExitStatus) (n : ℕ) → n ≡ code_of status → ((text : List ℕ) → Says text → ⊥) → (Lacks statuses.Done → ⊥) → (Lacks statuses.Device → ⊥) → Lacks status → ((other : ExitStatus) → Lacks other → other ≡ status)
       → IsExact (IsTextStatus Says Lacks room) n
   withheld status n e never not_done not_device why one = is_exact (IsTextStatus Says Lacks room) status n e (so status why) only
@@ -91,7 +91,7 @@ module _ (Says : List ℕ → Type 0) (Lacks : ExitStatus → Type 0) (room : Li
       only statuses.Device h = absurd (never h.0 h.1)
       only other h = one other h
 
--- the bytes are the encoding of a value, or of none
+-- The bytes are the encoding of a value, or of none.
 module _ (Says : List ℕ → Type 0) (None : Type 0) (room : List ℕ) where
   abbrev pub Told : ℕ → Type 0
   Told n = IsExact (IsTextStatus Says (IsFaultyStatus None) room) n

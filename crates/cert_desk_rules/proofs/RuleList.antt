@@ -1,4 +1,5 @@
--- The rules in their order: each has its number there, and the first broken one is found.
+-- Laws about the rules in their order: the number of each rule, and the search for the first broken
+-- one.
 use Rattle.std.proofs.Common.{◌≡◌, ℕ, zero, suc, ◌-◌, ◌<◌, List, [], ◌∷◌, ◌++◌, length, get_or, Bool, true, false, not, ◌&&◌, cond, nat_lt, Option, Some, refl, sym, ap, ◌∙◌, subst, arith, inl, inr}
 use Rattle.std.specs.List.{find, list_all}
 use Rattle.std.proofs.lemmas.Bool.{and_parts, and_from, cases_lt, ltb-true}
@@ -8,7 +9,7 @@ use Rattle.cert_desk_rules.specs.declared.rule.Rule.{Rule}
 use Rattle.cert_desk_rules.specs.declared.rule.Rule.TheVariants as rules
 use Rattle.cert_desk_rules.specs.Judging.{number, before_signature, in_order}
 
--- the rule of a number
+-- The rule with this number.
 abbrev rule_at : ℕ → Rule
 rule_at n = get_or before_signature (n - 1) rules.WrongSignature
 
@@ -16,7 +17,7 @@ at_number : (rule : Rule) → rule_at (number rule) ≡ rule
 at_number rules.AlgorithmsDiffer = refl
 at_number _ = refl
 
--- a test that all of a list pass
+-- A test that all elements of a list pass.
 all_at : {A : Type 0} (test : A → Bool) (xs : List A) (d : A) (i : ℕ) → list_all test xs ≡ true → i < length xs → test (get_or xs i d) ≡ true
 all_at test [] d i h lt = absurd (omega arith)
 all_at test (x ∷ xs) d zero h lt = (and_parts (test x) (list_all test xs) h).0
@@ -28,7 +29,7 @@ all_from test weaker (x ∷ xs) h so =
     let both = and_parts (test x) (list_all test xs) h in
     and_from (weaker x) (list_all weaker xs) (so x both.0) (all_from test weaker xs both.1 so)
 
--- all rules before the signature pass a test, and each of them
+-- A test that all rules before that of the signature pass, and each of them.
 pub test_of_all : (test : Rule → Bool) → list_all test before_signature ≡ true → (rule : Rule) → number rule < number rules.WrongSignature → test rule ≡ true
 test_of_all test h rule lt =
     subst (λ (x : Rule). test x ≡ true) (at_number rule) (all_at test before_signature rules.WrongSignature (number rule - 1) h (omega (arith, lt)))
@@ -39,7 +40,7 @@ are_before = refl
 pub all_of_tests : (test : Rule → Bool) → ((rule : Rule) → number rule < number rules.WrongSignature → test rule ≡ true) → list_all test before_signature ≡ true
 all_of_tests test passes = all_from (λ rule. nat_lt (number rule) (number rules.WrongSignature)) test before_signature are_before (λ rule e. passes rule (ltb-true (number rule) (number rules.WrongSignature) e))
 
--- the rules before the signature, and the signature
+-- Each rule is one of those before the signature, or that of the signature.
 pub or_signature : (P : Rule → Type 0) → ((rule : Rule) → number rule < number rules.WrongSignature → P rule) → P rules.WrongSignature → (rule : Rule) → P rule
 or_signature P before signature rule =
     elim (cases_lt (number rule) (number rules.WrongSignature)) [
@@ -47,7 +48,7 @@ or_signature P before signature rule =
       | inr ge ↦ subst P (sym (get_or_past before_signature (number rule - 1) rules.WrongSignature (omega (arith, ge))) ∙ at_number rule) signature
     ]
 
--- the order with the signature
+-- The order that ends with the signature.
 
 get_or-last : {A : Type 0} (xs : List A) (d : A) (i : ℕ) → get_or (xs ++ d ∷ []) i d ≡ get_or xs i d
 get_or-last [] d zero = refl
@@ -65,7 +66,7 @@ within_order rule =
       | inr ge ↦ absurd (omega (arith, ge, ap number (sym (in_place rule) ∙ get_or_past in_order (number rule - 1) rules.WrongSignature ge)))
     ]
 
--- numbers rise along a list of rules
+-- The numbers rise along a list of rules.
 abbrev rise : List Rule → Bool
 rise [] = true
 rise (x ∷ xs) = list_all (λ later. nat_lt (number x) (number later)) xs && rise xs
@@ -74,7 +75,7 @@ module _ (kept : Rule → Bool) where
   abbrev first_in : List Rule → Option Rule
   first_in xs = find (λ rule. not (kept rule)) xs
 
-  -- a rule that is found is broken
+  -- The rule that is found is broken.
   pub broken_is : (xs : List Rule) (rule : Rule) → first_in xs ≡ Some rule → kept rule ≡ false
   broken_is [] rule e = absurd cc
   broken_is (x ∷ xs) rule e = by (kept x) refl (broken_is xs rule) e
@@ -83,7 +84,7 @@ module _ (kept : Rule → Bool) where
       by true is so e = so e
       by false is so e = ap kept (same_Some rule x (sym e)) ∙ is
 
-  -- the rules before it are kept
+  -- The rules before it are kept.
   before_kept : (xs : List Rule) (rule d : Rule) → rise xs ≡ true → first_in xs ≡ Some rule → (i : ℕ) → i < length xs → number (get_or xs i d) < number rule → kept (get_or xs i d) ≡ true
   before_kept [] rule d up e i lt less = absurd (omega arith)
   before_kept (x ∷ xs) rule d up e i lt less =
@@ -109,7 +110,7 @@ module _ (kept : Rule → Bool) where
       let later = ltb-true (number x) (number (get_or xs i d)) (all_at (λ later. nat_lt (number x) (number later)) xs d i both.0 (omega arith)) in
       ap (λ (b : Bool). cond (not b) (Some x) (first_in xs)) (before x later) ∙ found_at xs d i both.1 (omega arith) broken before
 
-  -- The first broken rule is broken, and the rules of lower numbers are kept; and the other way round.
+  -- The first broken rule is broken and the rules with lower numbers are kept, and conversely.
   pub first_broken : (rule : Rule) → first_in in_order ≡ Some rule → (kept rule ≡ false) × ((other : Rule) → number other < number rule → kept other ≡ true)
   first_broken rule e = (
     broken_is in_order rule e,
@@ -124,7 +125,7 @@ module _ (kept : Rule → Bool) where
       (found_at in_order rules.WrongSignature (number rule - 1) refl (within_order rule) (subst (λ (x : Rule). kept x ≡ false) (sym (in_place rule)) broken)
       (λ other less. before other (subst (λ (x : Rule). number other < number x) (in_place rule) less)))
 
--- tests that say the same find the same
+-- Equivalent tests find the same rule.
 pub find_same : (kept other : Rule → Bool) → ((rule : Rule) → kept rule ≡ other rule) → (xs : List Rule) → find (λ rule. not (kept rule)) xs ≡ find (λ rule. not (other rule)) xs
 find_same kept other same [] = refl
 find_same kept other same (x ∷ xs) =

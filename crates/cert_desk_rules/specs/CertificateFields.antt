@@ -1,4 +1,4 @@
--- The fields of a certificate by which a chain is judged, by their names (RFC 5280 4.1, 4.1.2).
+-- The fields of a certificate that validation needs, by their names (RFC 5280 4.1, 4.1.2).
 use Rattle.std.specs.Prelude.{List, []}
 use Rattle.std.specs.Option.{option_map_or}
 use Rattle.cert_desk_bundle.specs.Der.BitStrings.{Bits}
@@ -7,7 +7,8 @@ use Rattle.cert_desk_bundle.specs.CertNames.Names.{PlainName}
 use Rattle.cert_desk_bundle.specs.CertParts.Grammar.{Algorithm, PlainExtension, PublicKey, civil_of}
 use Rattle.cert_desk_bundle.specs.CertCertificates.Certificates.{PlainCertificate}
 
--- Of its dates not how they are spelled, and no extensions where that field is absent.
+-- The fields. A date is independent of its encoding, and an absent extensions field is an empty
+-- list.
 pub record Fields : Type 0 where
   pub signature : Algorithm
   pub issuer : PlainName
@@ -19,6 +20,7 @@ pub record Fields : Type 0 where
   pub signature_algorithm : Algorithm
   pub signature_value : Bits
 
+-- The fields of a certificate.
 abbrev pub fields : PlainCertificate → Fields
 fields ((_, (_, (a, (i, ((f, (t, _)), (s, (k, (_, (_, (e, _)))))))))), (o, (b, _))) = record {
   signature = a;

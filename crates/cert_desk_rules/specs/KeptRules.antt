@@ -1,4 +1,4 @@
--- The rules that certificates keep, each at its place.
+-- The rules that each certificate of a chain keeps.
 use Rattle.std.specs.Prelude.{◌≡◌, ◌<◌, ◌⊎◌, ℕ, List, length, Bool, true, false, Option, Some}
 use Rattle.std.specs.Prelude.{None, slice_get}
 use Rattle.std.specs.Option.{option_map_or}
@@ -8,7 +8,7 @@ use Rattle.cert_desk_rules.specs.declared.rule.Rule.{Rule}
 use Rattle.cert_desk_rules.specs.declared.rule.Rule.TheVariants as rules
 use Rattle.cert_desk_rules.specs.Judging.{Terms, keeps_at, number}
 
--- a new rule adds a line
+-- The certificate keeps a rule. A new rule adds a line.
 abbrev pub kept_by : KeptRules → Rule → Bool
 kept_by k rules.AlgorithmsDiffer = k.one_algorithm
 kept_by k rules.DuplicateExtension = k.distinct
@@ -22,13 +22,13 @@ kept_by k rules.NotAuthority = k.issuing
 kept_by k rules.PathTooLong = k.within_lengths
 kept_by k rules.WrongSignature = k.signed
 
--- the first one that isn't kept
+-- The first rule that the certificate breaks.
 abbrev pub IsFirstOf : KeptRules → Option Rule → Type 0
 IsFirstOf k None = (rule : Rule) → kept_by k rule ≡ true
 IsFirstOf k (Some rule) = (kept_by k rule ≡ false)
     × ((other : Rule) → number other < number rule → kept_by k other ≡ true)
 
--- the first one before the signature's that isn't kept
+-- The first rule before that of the signature that the certificate breaks.
 abbrev pub IsFirstUnsignedOf : KeptRules → Option Rule → Type 0
 IsFirstUnsignedOf k None =
     (rule : Rule) → number rule < number rules.WrongSignature → kept_by k rule ≡ true
@@ -36,22 +36,22 @@ IsFirstUnsignedOf k (Some rule) =
     (number rule < number rules.WrongSignature) × (kept_by k rule ≡ false)
     × ((other : Rule) → number other < number rule → kept_by k other ≡ true)
 
--- the certificate at a place keeps a rule, as it was judged
+-- The certificate at an index keeps a rule, according to the results of the check.
 abbrev pub kept_at : List KeptRules → ℕ → Rule → Bool
 kept_at judged place rule = option_map_or (λ k. kept_by k rule) (slice_get judged place) true
 
--- Of each certificate is said of each rule whether it keeps it at its place.
+-- The results say for each certificate and each rule whether the certificate keeps it.
 pub record AreJudged (t : Terms) (cs : List PlainCertificate) (stream : List ℕ)
     (judged : List KeptRules) : Type 0 where
   pub each : length judged ≡ length cs
   pub kept : (place : ℕ) (rule : Rule) → kept_at judged place rule ≡ keeps_at rule t cs stream place
 
--- the place comes first, then the rule
+-- The order of breaches: by index first, then by rule.
 abbrev pub Before : ℕ → Rule → ℕ → Rule → Type 0
 Before place rule other_place other = (place < other_place)
     ⊎ ((place ≡ other_place) × (number rule < number other))
 
--- This rule is broken at this place, and no rule before.
+-- This rule is broken at this index, and there is no earlier breach.
 abbrev pub IsFirstBreach : List KeptRules → ℕ → Rule → Type 0
 IsFirstBreach judged place rule = (kept_at judged place rule ≡ false)
     × ((other_place : ℕ) (other : Rule) → Before other_place other place rule

@@ -1,4 +1,4 @@
--- Why a certificate breaks a rule, where the rule alone leaves it open.
+-- Why a certificate breaks a rule, for rules that can be broken in several ways.
 use Rattle.std.specs.Prelude.{◌≡◌, ℕ, ◌<◌, ◌≤◌, ◌⊎◌, List, Bool, true, false, not, ◌&&◌}
 use Rattle.std.specs.Prelude.{slice_get}
 use Rattle.std.specs.Bool.{⊤}
@@ -16,7 +16,7 @@ use Rattle.cert_desk_rules.specs.Paths.{extensions_at, keeps_length}
 use Rattle.cert_desk_rules.specs.Weighing.{is_authority, is_malformed, is_unweighed}
 use Rattle.cert_desk_rules.specs.Weighing.{may_certify, may_take_memory, serves, weigh}
 
--- an extension breaks a rule by itself
+-- The extension alone breaks a rule.
 abbrev pub is_against : ℕ → List ℕ → Rule → PlainExtension → Bool
 is_against bound purpose rules.MalformedExtension e = is_malformed (weigh bound e)
 is_against bound purpose rules.UnweighedCritical e = is_critical e && is_unweighed (weigh bound e)
@@ -24,7 +24,7 @@ is_against bound purpose rules.AgainstPurpose e = not (serves purpose (weigh bou
 is_against bound purpose rules.NotAuthority e = not (may_certify (weigh bound e))
 is_against bound purpose _ e = false
 
--- whether an extension goes against a rule, by what was found in it
+-- Some extension breaks a rule, according to the findings.
 abbrev pub goes_against : Findings → Rule → Bool
 goes_against f rules.MalformedExtension = f.malformed
 goes_against f rules.UnweighedCritical = f.unweighed_critical
@@ -32,33 +32,35 @@ goes_against f rules.AgainstPurpose = not f.serves
 goes_against f rules.NotAuthority = not f.certifies
 goes_against f _ = false
 
--- what stands at a number, counted from 0, is so
+-- The element at an index exists and passes a test.
 abbrev pub is_at : {A : Type 0} → (A → Bool) → List A → ℕ → Bool
 is_at test xs number = option_map_or test (slice_get xs number) false
 
--- what stands at a number, counted from 0, is so, and nothing before it
+-- The element at an index is the first one that passes a test.
 abbrev pub IsFirstAt : {A : Type 0} → (A → Bool) → List A → ℕ → Type 0
 IsFirstAt test xs number = (is_at test xs number ≡ true)
     × ((other : ℕ) → other < number → is_at test xs other ≡ false)
 
+-- Two extensions have the same OID (RFC 5280 4.2).
 abbrev pub have_one_identifier : PlainExtension → PlainExtension → Bool
 have_one_identifier e other = owned_eq (extension_arcs e) (extension_arcs other)
 
--- the extensions of these numbers have one identifier
+-- The extensions at two indexes have the same OID (RFC 5280 4.2).
 abbrev pub are_twins : List PlainExtension → ℕ → ℕ → Bool
 are_twins es first second = is_at (λ e. is_at (have_one_identifier e) es second) es first
 
--- the two of one identifier of which the first stands first, and then the second
+-- The first pair of extensions with the same OID, in the order of the first index and then of the
+-- second.
 abbrev pub AreFirstTwins : List PlainExtension → ℕ → ℕ → Type 0
 AreFirstTwins es first second = (first < second) × (are_twins es first second ≡ true)
     × ((one other : ℕ) → one < other → (one < first) ⊎ ((one ≡ first) × (other < second))
     → are_twins es one other ≡ false)
 
--- No extension makes the subject an authority.
+-- No extension makes the subject a CA (RFC 5280 4.2.1.9).
 abbrev pub has_no_authority : ℕ → List PlainExtension → Bool
 has_no_authority bound es = not (list_any (λ e. is_authority (weigh bound e)) es)
 
--- The reason holds of the certificate at a place, and breaks the rule.
+-- The reason is true of the certificate at an index, and the rule is broken for it.
 abbrev pub Explains : ℕ → List ℕ → List PlainCertificate → ℕ → Rule → Reason → Type 0
 Explains bound purpose cs place rule (reasons.Extension number) =
     is_at (is_against bound purpose rule) (extensions_at cs place) number ≡ true
@@ -70,9 +72,9 @@ Explains bound purpose cs place rule reasons.NoConstraints = (rule ≡ rules.Not
 Explains bound purpose cs place rule (reasons.PathLength before) =
     (rule ≡ rules.PathTooLong) × (before < place) × (keeps_length bound cs before place ≡ false)
 
--- The order of the reasons for one breach: extensions and places as they stand; two extensions of
--- one identifier by the one that stands before, and then by the other; that there are no
--- constraints comes before what an extension says.
+-- The order of the reasons for one breach. Extensions are in the order of the certificate, pairs in
+-- the order of their first and then their second index, and path lengths in the order of the chain.
+-- The absence of basic constraints comes before an extension.
 abbrev pub Precedes : Reason → Reason → Type 0
 Precedes (reasons.Extension one) (reasons.Extension other) = one < other
 Precedes (reasons.Twins first second) (reasons.Twins other_first other_second) =
@@ -81,13 +83,13 @@ Precedes reasons.NoConstraints (reasons.Extension number) = ⊤
 Precedes (reasons.PathLength one) (reasons.PathLength other) = one < other
 Precedes _ _ = ⊥
 
--- The reason holds, and none before it.
+-- The reason is true, and no earlier one is.
 abbrev pub ExplainsFirst : ℕ → List ℕ → List PlainCertificate → ℕ → Rule → Reason → Type 0
 ExplainsFirst bound purpose cs place rule reason =
     Explains bound purpose cs place rule reason
     × ((other : Reason) → Precedes other reason → ¬ Explains bound purpose cs place rule other)
 
--- the rules of whose breach a reason can be told
+-- The rules for which a reason can be reported.
 abbrev pub is_explained : Rule → Bool
 is_explained rules.DuplicateExtension = true
 is_explained rules.MalformedExtension = true
@@ -97,7 +99,7 @@ is_explained rules.NotAuthority = true
 is_explained rules.PathTooLong = true
 is_explained _ = false
 
--- judging the extensions of a place, no later than this one, may take memory
+-- Checking the extensions of a certificate up to this index may allocate.
 abbrev pub SomeMayTakeMemory : List PlainCertificate → ℕ → Type 0
 SomeMayTakeMemory cs place = (other : ℕ) × (other ≤ place)
     × (may_take_memory (extensions_at cs other) ≡ true)

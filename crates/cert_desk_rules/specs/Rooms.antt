@@ -1,4 +1,4 @@
--- Texts in the caller's buffers, and why a call has no text to write.
+-- Texts in the caller's buffers, and the reasons why a call has no text to write.
 use Rattle.std.specs.Prelude.{◌≡◌, ◌≢◌, ℕ, ◌≤◌, ◌<◌, ◌⊎◌, List, drop, length}
 use Rattle.cert_desk_bundle.specs.DeskIo.declared.exit_status.ExitStatus.{ExitStatus}
 use Rattle.cert_desk_bundle.specs.DeskIo.declared.exit_status.ExitStatus.TheVariants as statuses
@@ -26,6 +26,6 @@ abbrev pub IsUnsized : ℕ → ℕ → Type 0
 IsUnsized returned size =
     returned ≢ code_of statuses.Done → returned ≢ code_of statuses.Device → size ≡ 0
 
--- Why there is no value: the bytes are the encoding of none, or an allocation failed.
+-- The reason why there is no value: the bytes aren't the encoding of one, or an allocation failed.
 abbrev pub IsLack : Type 0 → ExitStatus → Type 0
 IsLack None status = ((status ≡ statuses.Faulty) × None) ⊎ (status ≡ statuses.Memory)

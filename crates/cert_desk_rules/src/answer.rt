@@ -1,4 +1,4 @@
-//! Answers of a verifier.
+//! Answers of a signature verifier.
 ghost use Rattle.std.specs.Prelude.{◌≡◌};
 ghost use Rattle.cert_desk_bundle.specs.CertParts.Views.{key_plain, algorithm_plain};
 ghost use Rattle.cert_desk_rules.specs.Answers.{answer_plain, answer_rank, is_about, rank};
@@ -8,22 +8,22 @@ use cert_desk_bundle::cert_parts::{AlgorithmIdentifier, SubjectPublicKeyInfo};
 use cert_desk_bundle::types::BitString;
 use std::cmp::Ordering;
 
-/// A signature that is right, as a verifier says: the key, the algorithm, the octets that are
-/// signed, and the bits.
+/// A signature that a verifier outside the program found valid: the key, the algorithm, the signed
+/// bytes, and the bits.
 #[derive(Debug, Drop)]
 pub struct Answer {
-    /// The key.
+    /// The public key.
     pub key: SubjectPublicKeyInfo,
-    /// The algorithm.
+    /// The signature algorithm.
     pub algorithm: AlgorithmIdentifier,
-    /// The octets that are signed.
+    /// The signed bytes.
     pub signed: Vec<u8>,
     /// The bits of the signature.
     pub bits: BitString,
 }
 
 impl Answer {
-    /// Whether it is about this signature.
+    /// Returns whether the answer is about this signature.
     #[tactic(auto, unfolding(crate::specs::Answers::is_about))]
     pub fn is_about(
         &self,
@@ -41,8 +41,8 @@ impl Answer {
             && self.key == *key
     }
 
-    /// How it is ordered beside a signature: by the octets that are signed, then the bits of the
-    /// signature, then those of the key.
+    /// Compares the answer with a signature in the order of answers: by the signed bytes, then by
+    /// the bits of the signature, then by the bits of the key.
     pub fn ordering(&self, key: &SubjectPublicKeyInfo, signed: &[u8], bits: &BitString) -> Ordering
         ensures { result ≡ rank_cmp (answer_rank self.now) (rank (key_plain key.now) signed.now
             bits.now) }

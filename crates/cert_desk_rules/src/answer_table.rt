@@ -1,4 +1,4 @@
-//! Answers that are found by search.
+//! A table of answers with binary search.
 ghost use Rattle.std.specs.Prelude.{◌≡◌, map};
 ghost use Rattle.std.specs.List.{list_any};
 ghost use Rattle.std.specs.List.Sorted.{IsSortedByKey};
@@ -10,7 +10,7 @@ use crate::answer::Answer;
 use cert_desk_bundle::cert_parts::{AlgorithmIdentifier, SubjectPublicKeyInfo};
 use cert_desk_bundle::types::BitString;
 
-/// Answers in their order.
+/// Answers, sorted by `Answer::ordering`.
 #[derive(Debug, Drop)]
 pub struct AnswerTable {
     sorted: Vec<Answer>,
@@ -18,7 +18,7 @@ pub struct AnswerTable {
 }
 
 impl AnswerTable {
-    // A table of these answers.
+    // Returns a table of these answers.
     pub fn new(mut answers: Vec<Answer>) -> AnswerTable
         ensures { only_yes_to (map answer_plain result.sorted.items)
             ≡ only_yes_to (map answer_plain answers.items) }
@@ -27,7 +27,8 @@ impl AnswerTable {
         AnswerTable { sorted: answers }
     }
 
-    // Whether an answer is about this signature. Only those of one rank are compared whole.
+    // Returns whether an answer is about this signature. Finds the answers that compare equal by
+    // binary search, and compares only these in full.
     pub fn has(
         &self,
         key: &SubjectPublicKeyInfo,
@@ -47,7 +48,7 @@ impl AnswerTable {
     }
 }
 
-// Whether one of these answers is about this signature.
+// Returns whether one of these answers is about this signature.
 fn any_about(
     answers: &[Answer],
     key: &SubjectPublicKeyInfo,

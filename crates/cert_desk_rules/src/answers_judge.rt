@@ -1,4 +1,4 @@
-//! A signature verifier that says yes to what is listed.
+//! A signature verifier that accepts the signatures of a list.
 ghost use Rattle.std.specs.Prelude.{◌≡◌, map};
 ghost use Rattle.cert_desk_rules.specs.Answers.{answer_plain, only_yes_to};
 ghost use Rattle.cert_desk_rules.specs.Judges.{judge_answers, judge_questions};
@@ -9,8 +9,8 @@ use crate::signature_judge::SignatureJudge;
 use cert_desk_bundle::cert_parts::{AlgorithmIdentifier, SubjectPublicKeyInfo};
 use cert_desk_bundle::types::BitString;
 
-/// A judge that says yes exactly to the signatures of a list, which a verifier outside made. It
-/// finds them by search.
+/// A signature verifier that accepts exactly the signatures of a list, which a verifier outside the
+/// program made. It finds them by binary search.
 #[derive(Debug, Drop)]
 pub struct AnswersJudge {
     answers: AnswerTable,
@@ -18,7 +18,7 @@ pub struct AnswersJudge {
 }
 
 impl AnswersJudge {
-    /// A judge that says yes to these, and wasn't asked yet.
+    /// Returns a verifier that accepts exactly these signatures. Its count of questions is 0.
     pub fn new(answers: Vec<Answer>) -> AnswersJudge
         ensures answers { judge_answers result ≡ only_yes_to (map answer_plain answers.items) }
         ensures questions { judge_questions result ≡ 0 }

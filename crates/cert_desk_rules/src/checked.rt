@@ -1,46 +1,47 @@
-//! What is said of a stream.
+//! The verdict on a certificate chain.
 
 use crate::rule::Rule;
 use cert_desk_bundle::FaultKind;
 use thiserror::Error;
 
-/// The verdict on a stream.
+/// The verdict on a chain.
 #[derive(Clone, Copy, Debug, PartialEq, Eq)]
 pub enum Verdict {
-    /// The stream isn't certificates: `place` certificates stand before the fault, which begins at
-    /// `offset`.
+    /// The input isn't a sequence of certificates: there are `place` certificates before the error,
+    /// which begins at `offset`.
     StreamFault {
         place: usize,
         offset: u64,
         kind: FaultKind,
     },
-    /// There is no certificate.
+    /// The chain has no certificate.
     Empty,
-    /// Each certificate keeps every rule.
+    /// The chain is trusted: each certificate keeps every rule.
     Trusted,
-    /// The certificate at `place`, the first one that breaks a rule, breaks `rule`, its first one.
+    /// The certificate at index `place` is the first that breaks a rule, and `rule` is the first
+    /// rule that it breaks.
     Refused {
         place: usize,
         rule: Rule,
     },
 }
 
-/// What is said of a stream, and how often the judge was asked for it.
+/// The verdict on a chain, and the number of questions to the signature verifier.
 #[derive(Clone, Copy, Debug, PartialEq, Eq)]
 pub struct Checked {
     /// The verdict.
     pub verdict: Verdict,
-    /// How often the judge was asked. The count stays at 2^64 - 1.
+    /// The number of questions to the signature verifier. The count stays at 2^64 - 1.
     pub calls: u64,
 }
 
-/// Why nothing is said of a stream.
+/// Why there is no verdict.
 #[derive(Clone, Copy, Debug, PartialEq, Eq, Error)]
 pub enum CheckError {
-    /// Out of memory for the stream.
+    /// Memory ran out.
     #[error("out of memory")]
     OutOfMemory,
-    /// An I/O error: the device that the stream came from failed.
+    /// An I/O error: reading the chain failed.
     #[error("a device failed")]
     Device,
 }

@@ -1,4 +1,4 @@
-//! Basic constraints, read without memory (RFC 5280 4.2.1.9).
+//! Decodes basic constraints without allocating (RFC 5280 4.2.1.9).
 ghost use Rattle.std.specs.Prelude.{◌≡◌, ◌≢◌, ℕ, List, ◌∷◌, ◌++◌, false, length, IfSome, IfNone};
 ghost use Rattle.cert_desk_rules.specs.Findings.{weight_of};
 ghost use Rattle.cert_desk_rules.specs.Weighing.{basic_constraints_in, ca_octets, constraints_of};
@@ -8,8 +8,8 @@ use crate::weight::Weight;
 use cert_desk_bundle::der::making::leaf_from_der;
 use std::alloc::Global;
 
-// What basic constraints weigh. The only number in them is within eight bits, so their length is
-// one octet.
+// Decodes basic constraints and returns the facts that the rules need. `pathLenConstraint` fits in
+// eight bits, so the length of the SEQUENCE has one byte.
 pub fn weigh_constraints(alloc: Global, octets: &[u8]) -> Weight
     ensures { (purpose : List ℕ)
         → result ≡ weight_of purpose (meaning_of constraints_of (basic_constraints_in octets.now)) }
@@ -30,7 +30,7 @@ pub fn weigh_constraints(alloc: Global, octets: &[u8]) -> Weight
     }
 }
 
-// The fields of a SEQUENCE whose length is one octet (X.690 8.1.3.4).
+// Returns the fields of a SEQUENCE whose length has one byte (X.690 8.1.3.4).
 fn fields_of(octets: &[u8]) -> Option<&[u8]>
     ensures some { IfSome result (λ fields. octets.now ≡ 48 ∷ length fields.now ∷ fields.now) }
     ensures none { IfNone result ((fields : List ℕ)
@@ -45,7 +45,7 @@ fn fields_of(octets: &[u8]) -> Option<&[u8]>
     Some(fields)
 }
 
-// cA, and the octets behind it.
+// Splits off `cA`. Returns its value and the bytes after it.
 fn split_ca(fields: &[u8]) -> (bool, &[u8])
     ensures split { fields.now ≡ ca_octets result.0 ++ result.1.now }
     ensures spelled { result.0 ≡ false → (rest : List ℕ) → fields.now ≢ 1 ∷ 1 ∷ 255 ∷ rest }

@@ -1,4 +1,5 @@
-//! A signature verifier of digests, a stand-in where an algorithm would be.
+//! A signature verifier that compares digests. It takes the place of one with a real signature
+//! algorithm.
 ghost use Rattle.std.specs.Prelude.{◌≡◌};
 ghost use Rattle.cert_desk_bundle.specs.CertParts.Views.{algorithm_plain};
 ghost use Rattle.cert_desk_rules.specs.Digests.{digest_answers, is_digest};
@@ -8,10 +9,10 @@ use cert_desk_bundle::cert_parts::{AlgorithmIdentifier, SubjectPublicKeyInfo};
 use cert_desk_bundle::types::BitString;
 use sha2::{Digest, Sha256};
 
-// The octets of 1.3.6.1.4.1.32473.2, under the arc for examples (RFC 5612).
+// The content bytes of the OID 1.3.6.1.4.1.32473.2, which is under the arc for examples (RFC 5612).
 const DIGEST_ALGORITHM: [u8; 9] = [0x2b, 0x06, 0x01, 0x04, 0x01, 0x81, 0xfd, 0x59, 0x02];
 
-// Whether an algorithm is that one, without parameters.
+// Returns whether the algorithm is 1.3.6.1.4.1.32473.2, without parameters.
 fn is_digest(algorithm: &AlgorithmIdentifier) -> bool
     ensures { result ≡ is_digest (algorithm_plain algorithm.now) }
 {
@@ -21,18 +22,18 @@ fn is_digest(algorithm: &AlgorithmIdentifier) -> bool
     }
 }
 
-/// A judge that says yes exactly where the algorithm is 1.3.6.1.4.1.32473.2 without parameters and
-/// the bits are the 32 octets of the SHA-256 digest (FIPS 180-4) over the octets of the key's bit
-/// string followed by the signed octets.
+/// A signature verifier that accepts a signature exactly if two things are true: the algorithm is
+/// 1.3.6.1.4.1.32473.2 without parameters, and the bits are the 32 bytes of the SHA-256 digest
+/// (FIPS 180-4) over the bytes of the key's bit string followed by the signed bytes.
 ///
-/// It protects nothing: whoever knows the key can make the bits.
+/// It protects nothing, because everyone who knows the public key can make such a signature.
 #[derive(Debug, Drop)]
 pub struct DigestJudge {
     questions: u64,
 }
 
 impl DigestJudge {
-    /// A judge that wasn't asked yet.
+    /// Returns a verifier whose count of questions is 0.
     pub fn new() -> DigestJudge
         ensures answers { ⟦<DigestJudge as SignatureJudge>⟧.answers result ≡ digest_answers }
         ensures questions { ⟦<DigestJudge as SignatureJudge>⟧.questions result ≡ 0 }

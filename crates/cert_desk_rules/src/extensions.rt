@@ -1,4 +1,4 @@
-//! The extensions of a certificate, and which of them have one identifier (RFC 5280 4.2).
+//! The extensions of a certificate, and the search for two with the same OID (RFC 5280 4.2).
 
 ghost use Rattle.std.specs.Prelude.{◌≡◌, ◌<◌, ℕ, length, true, false, not};
 ghost use Rattle.std.specs.Prelude.{IfOk, IfSome, OnErr};
@@ -14,10 +14,10 @@ use cert_desk_bundle::cert_parts::{Extension, Raw};
 use std::alloc::{AllocError, Global};
 use std::collections::BTreeSet;
 
-// Up to so many extensions each is compared with each.
+// The largest number of extensions that are compared pairwise.
 const FEW: usize = 16;
 
-/// The extensions, in their order. Where the field is absent there are none.
+/// Returns the extensions in their order, or none if the field is absent.
 pub fn extensions_of(certificate: &CertificateInner<Raw>) -> &[Extension]
     ensures { extensions_plain result.now ≡ extensions_of (certificate_plain certificate.now) }
 {
@@ -27,8 +27,8 @@ pub fn extensions_of(certificate: &CertificateInner<Raw>) -> &[Extension]
     }
 }
 
-/// The first extension whose identifier one after it has. It takes n log n comparisons, and memory
-/// for more extensions than a few.
+/// Returns the index of the first extension whose OID a later extension has. Makes O(n log n)
+/// comparisons, and allocates only for more than 16 extensions.
 pub fn first_twin(alloc: Global, extensions: &[Extension]) -> Result<Option<usize>, AllocError>
     ensures distinct { IfOk result (λ twin. not (is_some twin)
         ≡ are_distinct (extensions_plain extensions.now)) }
@@ -46,7 +46,8 @@ pub fn first_twin(alloc: Global, extensions: &[Extension]) -> Result<Option<usiz
     Ok(twin)
 }
 
-// The first twin, found from the last extension to the first by a set of the identifiers so far.
+// Does the same as `first_twin`. Goes from the last extension to the first, with a set of the OIDs
+// so far.
 fn first_twin_of_many(alloc: Global, extensions: &[Extension]) -> Result<Option<usize>, AllocError>
     ensures distinct { IfOk result (λ twin. not (is_some twin)
         ≡ are_distinct (extensions_plain extensions.now)) }
@@ -66,7 +67,7 @@ fn first_twin_of_many(alloc: Global, extensions: &[Extension]) -> Result<Option<
     Ok(twin)
 }
 
-// The first twin, where each extension is compared with each: that takes no memory.
+// Does the same as `first_twin`. Compares each pair of extensions, which doesn't allocate.
 fn first_twin_of_few(extensions: &[Extension]) -> Option<usize>
     ensures distinct { not (is_some result) ≡ are_distinct (extensions_plain extensions.now) }
     ensures within { IfSome result (λ place. place < length extensions.now) }
@@ -83,7 +84,7 @@ fn first_twin_of_few(extensions: &[Extension]) -> Option<usize>
     None
 }
 
-// Whether none of the others has the extension's identifier.
+// Returns whether none of the others has the OID of this extension.
 fn is_alone(extension: &Extension, others: &[Extension]) -> bool
     ensures { result ≡ is_alone (extension_plain extension.now) (extensions_plain others.now) }
 {

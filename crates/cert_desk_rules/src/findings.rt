@@ -1,28 +1,29 @@
-//! What a certificate's extensions weigh together.
+//! Findings: the facts about all extensions of a certificate that the rules need.
 ghost use Rattle.std.specs.Prelude.{◌≡◌, ◌&&◌, ◌||◌};
 ghost use Rattle.cert_desk_rules.specs.Findings.{add, no_findings, shorter};
 
 use crate::weight::Weight;
 
-/// What is found in a certificate's extensions.
+/// The findings about a certificate's extensions.
 #[derive(Clone, Copy)]
 pub struct Findings {
-    /// An extension of a kind that is weighed isn't one value of it.
+    /// A keyUsage, subjectAltName, basicConstraints or extKeyUsage can't be decoded.
     pub malformed: bool,
-    /// A critical extension is of another kind.
+    /// A critical extension is none of these four.
     pub unweighed_critical: bool,
-    /// No extension lists key purposes without the one that is asked for.
+    /// Each extKeyUsage lists the key purpose of the check, or `anyExtendedKeyUsage` (RFC 5280
+    /// 4.2.1.12).
     pub serves: bool,
-    /// An extension makes the subject a CA (4.2.1.9).
+    /// An extension makes the subject a CA (RFC 5280 4.2.1.9).
     pub ca: bool,
-    /// No extension lists uses of the key without the signing of certificates.
+    /// Each keyUsage allows signing certificates (RFC 5280 4.2.1.3).
     pub certifies: bool,
-    /// The least path length.
+    /// The least `pathLenConstraint`, if there is one.
     pub path_len: Option<u8>,
 }
 
 impl Findings {
-    /// What is found in no extensions.
+    /// Returns the findings about no extensions.
     pub fn none() -> Findings
         ensures { result ≡ no_findings }
     {
@@ -36,7 +37,7 @@ impl Findings {
         }
     }
 
-    /// What is found with one extension more.
+    /// Adds the findings about one more extension.
     pub fn add(&mut self, critical: bool, weight: Weight)
         ensures { self.new ≡ add self.old critical weight }
     {
@@ -55,8 +56,8 @@ impl Findings {
         }
     }
 
-    /// Whether they are those of the last place of a chain, or of an authority whose key may sign
-    /// certificates.
+    /// Returns whether the certificate may be at its position: it is the last one, or that of a CA
+    /// whose key may sign certificates.
     pub fn may_issue(&self, is_last: bool) -> bool
         ensures { result ≡ (is_last || (self.now.ca && self.now.certifies)) }
     {
@@ -64,7 +65,7 @@ impl Findings {
     }
 }
 
-/// The shorter one of two path lengths, which needn't be there.
+/// Returns the smaller of two path lengths, either of which may be absent.
 pub fn shorter(one: Option<u8>, other: Option<u8>) -> Option<u8>
     ensures { result ≡ shorter one other }
 {

@@ -1,38 +1,41 @@
-//! Which rules a certificate keeps.
+//! The rules that a certificate keeps at its position in a chain.
 ghost use Rattle.std.specs.Prelude.{◌≡◌};
 ghost use Rattle.cert_desk_rules.specs.KeptRules.{IsFirstOf, IsFirstUnsignedOf, kept_by};
 
 use crate::rule::Rule;
 
-/// Which rules a certificate keeps at its place.
+/// The result of checking each rule for a certificate at its position in a chain. A field is true
+/// if the certificate keeps the rule.
 #[derive(Clone, Copy, Debug, PartialEq, Eq)]
 pub struct KeptRules {
-    /// `Rule::AlgorithmsDiffer` is kept.
+    /// Both signature algorithms are the same, so `Rule::AlgorithmsDiffer` isn't broken.
     pub one_algorithm: bool,
-    /// `Rule::DuplicateExtension` is kept.
+    /// No two extensions have the same OID, so `Rule::DuplicateExtension` isn't broken.
     pub distinct: bool,
-    /// `Rule::MalformedExtension` is kept.
+    /// Each keyUsage, subjectAltName, basicConstraints and extKeyUsage can be decoded, so
+    /// `Rule::MalformedExtension` isn't broken.
     pub well_formed: bool,
-    /// `Rule::UnweighedCritical` is kept.
+    /// Each critical extension is one of these four, so `Rule::UnweighedCritical` isn't broken.
     pub known: bool,
-    /// `Rule::WrongIssuer` is kept.
+    /// The issuer's name matches, so `Rule::WrongIssuer` isn't broken.
     pub linked: bool,
-    /// `Rule::NotYetValid` is kept.
+    /// The validation time isn't before the validity period, so `Rule::NotYetValid` isn't broken.
     pub begun: bool,
-    /// `Rule::Expired` is kept.
+    /// The validation time isn't after the validity period, so `Rule::Expired` isn't broken.
     pub lasting: bool,
-    /// `Rule::AgainstPurpose` is kept.
+    /// The key purpose is allowed, so `Rule::AgainstPurpose` isn't broken.
     pub serving: bool,
-    /// `Rule::NotAuthority` is kept.
+    /// The certificate is the last one, or that of a CA whose key may sign certificates, so
+    /// `Rule::NotAuthority` isn't broken.
     pub issuing: bool,
-    /// `Rule::PathTooLong` is kept.
+    /// The certification path is within the path lengths, so `Rule::PathTooLong` isn't broken.
     pub within_lengths: bool,
-    /// `Rule::WrongSignature` is kept.
+    /// The signature verifier accepts the signature, so `Rule::WrongSignature` isn't broken.
     pub signed: bool,
 }
 
 impl KeptRules {
-    /// Whether it keeps a rule.
+    /// Returns whether the certificate keeps a rule.
     pub fn keeps(&self, rule: Rule) -> bool
         ensures { result ≡ kept_by self.now rule }
     {
@@ -51,7 +54,7 @@ impl KeptRules {
         }
     }
 
-    /// The first rule that it breaks, in the order in which they are judged.
+    /// Returns the first rule that the certificate breaks, in the order in which rules are checked.
     pub fn first_broken(&self) -> Option<Rule>
         ensures { IsFirstOf self.now result }
     {
@@ -64,7 +67,8 @@ impl KeptRules {
         None
     }
 
-    /// The first rule that it breaks of those before the signature, which needs no verifier.
+    /// Returns the first rule that the certificate breaks, of those that need no signature
+    /// verifier.
     pub fn first_before_signature(&self) -> Option<Rule>
         ensures { IsFirstUnsignedOf self.now result }
     {

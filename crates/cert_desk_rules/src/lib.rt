@@ -1,5 +1,8 @@
-//! The rules that one place of a certification path keeps (RFC 5280 6.1), the reasons for which it
-//! doesn't, and signature verifiers.
+//! The rules that each certificate of a certification path has to keep (RFC 5280 6.1), the reasons
+//! why it breaks one, and signature verifiers.
+//!
+//! The crate depends on `cert_desk_bundle` for chains, and on `x509_cert_extensions` and
+//! `x509_cert_kinds` for the extensions that the rules check.
 #![tactic(auto)]
 
 mod answer;

@@ -1,24 +1,25 @@
-//! What a rule leaves open of its breach.
+//! Why a certificate breaks a rule.
 
-/// Why a certificate breaks a rule, where the rule alone leaves it open. Extensions are counted
-/// from 0, as they stand in the certificate.
+/// Why a certificate breaks a rule, for rules that can be broken in several ways. Extensions are
+/// counted from 0, in the order of the certificate.
 #[derive(Clone, Copy, Debug, PartialEq, Eq)]
 pub enum Reason {
-    /// This extension breaks it: it is malformed, critical and of no weighed kind, lists purposes
-    /// without the one that is asked for, or lists uses of the key without `keyCertSign`.
+    /// The extension at this index breaks the rule: it can't be decoded; it is critical and isn't
+    /// processed; it is an extKeyUsage without the key purpose of the check; or it is a keyUsage
+    /// without `keyCertSign`.
     Extension(usize),
-    /// These two extensions have one identifier.
+    /// The extensions at these two indexes have the same OID.
     Twins {
-        /// The one that stands before.
+        /// The index of the first one.
         first: usize,
-        /// The other one.
+        /// The index of the second one.
         second: usize,
     },
-    /// No basic constraints make the subject a CA (4.2.1.9).
+    /// No basic constraints make the subject a CA (RFC 5280 4.2.1.9).
     NoConstraints,
-    /// More places count after the certificate at this place than its path length allows.
+    /// More certificates follow than the path length of the certificate at this index allows.
     PathLength {
-        /// The place, before the one that is refused.
+        /// The index of that certificate, which is before the rejected one.
         place: usize,
     },
 }

@@ -14,8 +14,8 @@ pub fn code(status: ExitStatus) -> u32
     u32::from(status.code())
 }
 
-/// Copies bytes to the front of a buffer and reports their number, or only reports it if the buffer
-/// is too small.
+/// Copies the bytes to the beginning of a buffer and stores their number in `size`. If the buffer
+/// is too small, only stores the number and returns the code of `Device`.
 pub fn give(octets: &[u8], out: &mut [u8], size: &mut usize) -> u32
     ensures number { size.new ≡ length octets.now }
     ensures status { (result ≡ code_of Done) ⊎ (result ≡ code_of Device) }

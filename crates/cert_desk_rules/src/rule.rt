@@ -1,39 +1,44 @@
-//! The rules of a chain, a certification path (RFC 5280 6.1).
+//! The rules for the certificates of a chain (RFC 5280 6.1).
 ghost use Rattle.std.specs.Prelude.{◌≡◌, Some};
 ghost use Rattle.cert_desk_rules.specs.Judging.{number, rule_name};
 
 use std::fmt;
 
-/// The rule that a certificate of a chain breaks, in the order in which it is judged (RFC 5280
-/// 6.1).
+/// A rule that a certificate of a chain can break, in the order in which rules are checked (RFC
+/// 5280 6.1).
 #[derive(Clone, Copy, Debug, PartialEq, Eq)]
 pub enum Rule {
-    /// The algorithm inside the TBSCertificate isn't the one outside (RFC 5280 4.1.1.2).
+    /// The signature algorithm in the TBSCertificate differs from the one outside (RFC 5280
+    /// 4.1.1.2).
     AlgorithmsDiffer,
-    /// Two extensions have one identifier (4.2).
+    /// Two extensions have the same OID (RFC 5280 4.2).
     DuplicateExtension,
-    /// An extension of a weighed kind isn't one value of its kind.
+    /// A keyUsage, subjectAltName, basicConstraints or extKeyUsage can't be decoded.
     MalformedExtension,
-    /// A critical extension is of no weighed kind (4.2).
+    /// A critical extension is none of these four, so it isn't processed (RFC 5280 4.2).
     UnweighedCritical,
-    /// Name chaining: the issuer's octets aren't the subject's of the certificate before; of the
-    /// first one, they aren't those of any anchor's name (6.1.3 (a)(4)).
+    /// The issuer's name doesn't match: it isn't the subject of the certificate before or, for the
+    /// first certificate, the name of any trust anchor (RFC 5280 6.1.3 (a)(4)). Names are compared
+    /// by their bytes.
     WrongIssuer,
-    /// The validation time is before the validity (6.1.3 (a)(2)).
+    /// The validation time is before the validity period (RFC 5280 6.1.3 (a)(2)).
     NotYetValid,
-    /// The validation time is after the validity (6.1.3 (a)(2)).
+    /// The validation time is after the validity period (RFC 5280 6.1.3 (a)(2)).
     Expired,
-    /// The key purpose isn't allowed (4.2.1.12).
+    /// An extKeyUsage doesn't allow the key purpose of the check (RFC 5280 4.2.1.12).
     AgainstPurpose,
-    /// The certificate isn't the last, and isn't a CA's (6.1.4 (k), (n)).
+    /// The certificate isn't the last, and isn't that of a CA whose key may sign certificates (RFC
+    /// 5280 6.1.4 (k), (n)).
     NotAuthority,
-    /// The certification path is longer than a certificate before allows (6.1.4 (l), (m)).
+    /// The certification path is longer than an earlier certificate allows (RFC 5280 6.1.4 (l),
+    /// (m)).
     PathTooLong,
-    /// The signature over the TBSCertificate isn't the issuer's (6.1.3 (a)(1)).
+    /// The signature verifier doesn't accept the signature over the TBSCertificate under the
+    /// issuer's key (RFC 5280 6.1.3 (a)(1)).
     WrongSignature,
 }
 
-/// All rules, in the order in which they are judged.
+/// All rules, in the order in which they are checked.
 pub const RULES: [Rule; 11] = [
     Rule::AlgorithmsDiffer,
     Rule::DuplicateExtension,
@@ -69,7 +74,8 @@ impl fmt::Display for Rule {
     }
 }
 
-/// Returns the number of a rule.
+/// Returns the number of a rule, from 1 to 11, in the order in which rules are checked. C programs
+/// get this number.
 pub fn rule_number(rule: Rule) -> u64
     ensures { result ≡ number rule }
 {

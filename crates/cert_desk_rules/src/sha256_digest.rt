@@ -1,4 +1,4 @@
-//! The digest by which certificates are mostly named.
+//! The SHA-256 digest of a certificate.
 ghost use Rattle.sha2.specs.Sha256.{sha256};
 
 use cert_desk_bundle::cert_certificates::CertDigest;
@@ -6,7 +6,7 @@ use sha2::{Digest, Sha256};
 use std::alloc::{AllocError, Global};
 
 /// SHA-256 (FIPS 180-4) as a digest of certificates: `certificate.hash::<Sha256Digest>(alloc)`
-/// answers that of the certificate's encoding.
+/// returns the digest of the certificate's encoding.
 #[derive(Clone, Copy, Debug)]
 pub struct Sha256Digest;
 

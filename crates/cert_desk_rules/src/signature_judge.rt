@@ -1,4 +1,4 @@
-//! Who says whether a signature is right.
+//! The trait of signature verifiers.
 ghost use Rattle.std.specs.Prelude.{◌≡◌, ℕ};
 ghost use Rattle.cert_desk_bundle.specs.CertParts.Views.{key_plain, algorithm_plain};
 ghost use Rattle.cert_desk_rules.specs.Judging.{Answers};
@@ -7,16 +7,18 @@ ghost use Rattle.cert_desk_rules.specs.Verdicts.{raised};
 use cert_desk_bundle::cert_parts::{AlgorithmIdentifier, SubjectPublicKeyInfo};
 use cert_desk_bundle::types::BitString;
 
-/// A signature verifier: says whether a signature is right. The answer is a function of the key,
-/// the algorithm, the octets and the bits, which no call changes. Questions take no memory.
+/// A signature verifier. Its answer depends only on the key, the algorithm, the signed bytes and
+/// the bits of the signature, and no call changes it.
 pub trait SignatureJudge {
-    /// What it answers on a key, an algorithm, the octets that are signed, and the bits.
+    /// The answers: for each key, algorithm, signed bytes and signature, whether the verifier
+    /// accepts it.
     ghost answers: { Self → Answers };
 
-    /// How often it was asked. The count stays at 2^64 - 1.
+    /// The number of questions so far. The count stays at 2^64 - 1.
     ghost questions: { Self → ℕ };
 
-    /// Whether the bits are a signature of the octets, by this algorithm, under this key.
+    /// Returns whether the bits are a signature over the bytes, by this algorithm and under this
+    /// key.
     fn accepts(
         &mut self,
         key: &SubjectPublicKeyInfo,

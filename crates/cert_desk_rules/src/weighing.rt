@@ -1,4 +1,5 @@
-//! The extensions by which a chain is judged, read (RFC 5280 4.2.1.3, 4.2.1.6, 4.2.1.9, 4.2.1.12).
+//! Decodes the extensions that a chain is validated by (RFC 5280 4.2.1.3, 4.2.1.6, 4.2.1.9,
+//! 4.2.1.12).
 ghost use Rattle.std.specs.Prelude.{◌≡◌, ◌≢◌, ◌||◌, ℕ, List, [], true, IfOk, OnErr};
 ghost use Rattle.cert_desk_bundle.specs.Oid.Bound.{Bound};
 ghost use Rattle.cert_desk_bundle.specs.Oid.Comparing.{owned_eq};
@@ -18,7 +19,7 @@ use crate::findings::Findings;
 use crate::weight::Weight;
 use cert_desk_bundle::cert_names::Name;
 use cert_desk_bundle::cert_parts::Extension;
-use cert_desk_bundle::der::making::{is_want_of_memory, leaf_from_der, read_whole};
+use cert_desk_bundle::der::making::{is_out_of_memory, leaf_from_der, read_whole};
 use cert_desk_bundle::der::{Decode, Error, Explicit, Implicit, OneOf8, SliceReader};
 use cert_desk_bundle::oid::ObjectIdentifier;
 use cert_desk_bundle::types::{FlagSet, Ia5StringRef, OctetStringRef};
@@ -27,7 +28,7 @@ use x509_cert_extensions::cert_general_names::{EdiPartyName, OtherName};
 use x509_cert_extensions::{KeyUsage, KeyUsages};
 use x509_cert_kinds::ExtensionKind;
 
-// A name that the octets lend where it is a text or octets.
+// A GeneralName (RFC 5280 4.2.1.6) whose strings are borrowed from the bytes.
 type NameLent<'a> = OneOf8<
     Implicit<OtherName, 0>,
     Implicit<Ia5StringRef<'a>, 1>,
@@ -39,10 +40,11 @@ type NameLent<'a> = OneOf8<
     Implicit<ObjectIdentifier<39>, 8>,
 >;
 
-/// What is found in the extensions of a certificate. Each is read once.
+/// Returns the findings about the extensions of a certificate. Each is decoded at most once.
 ///
 /// # Errors
-/// Out of memory.
+///
+/// Fails if memory runs out.
 pub fn findings_of(
     alloc: Global,
     extensions: &[Extension],
@@ -60,7 +62,7 @@ pub fn findings_of(
     Ok(findings)
 }
 
-// What an extension weighs.
+// Decodes an extension and returns the facts that the rules need.
 fn weigh(
     alloc: Global,
     extension: &Extension,
@@ -84,7 +86,7 @@ fn weigh(
     }
 }
 
-// What a key usage weighs. It takes no memory.
+// Decodes a keyUsage. It doesn't allocate.
 fn weigh_key_usage(alloc: Global, octets: &[u8]) -> Weight
     ensures { (purpose : List ℕ)
         → result ≡ weight_of purpose (meaning_of uses (key_usage_in octets.now)) }
@@ -97,8 +99,8 @@ fn weigh_key_usage(alloc: Global, octets: &[u8]) -> Weight
     }
 }
 
-// The values of the list that octets spell, all of them. They are any here, so that the list is
-// checked here alone.
+// Decodes a SEQUENCE OF from all of the bytes. It is generic so that the list is checked once for
+// all types.
 fn list_in<'a, T: Decode<'a, SliceReader<'a>>>(
     alloc: Global,
     octets: &'a [u8],
@@ -109,7 +111,7 @@ fn list_in<'a, T: Decode<'a, SliceReader<'a>>>(
     read_whole(alloc, octets)
 }
 
-// What other names of the subject weigh.
+// Decodes a subjectAltName.
 fn weigh_names(alloc: Global, octets: &[u8]) -> Result<Weight, AllocError>
     ensures { IfOk result (λ weight. (purpose : List ℕ)
         → weight
@@ -121,7 +123,7 @@ fn weigh_names(alloc: Global, octets: &[u8]) -> Result<Weight, AllocError>
     }
 }
 
-// What purposes weigh.
+// Decodes an extKeyUsage.
 fn weigh_purposes(
     alloc: Global,
     octets: &[u8],
@@ -140,26 +142,26 @@ fn weigh_purposes(
     }
 }
 
-// Whether purposes name this one, or any.
+// Returns whether the list has this key purpose, or `anyExtendedKeyUsage`.
 fn is_listed(purpose: &ObjectIdentifier<39>, listed: &[ObjectIdentifier<39>]) -> bool
     ensures { result ≡ serves purpose.now (purposes listed.now) }
 {
     listed.iter().any(|one| *one == *purpose || is_any(one))
 }
 
-// Whether it is the purpose that stands for any.
+// Returns whether the key purpose is `anyExtendedKeyUsage`.
 fn is_any(purpose: &ObjectIdentifier<39>) -> bool
     ensures { result ≡ owned_eq purpose.now any_purpose }
 {
     purpose.as_bytes() == [0x55, 0x1d, 0x25, 0x00].as_slice()
 }
 
-// An extension that was refused is malformed, unless memory was wanting.
+// Returns the result for an extension that can't be decoded, or fails if memory ran out.
 fn malformed(error: Error) -> Result<Weight, AllocError>
     ensures { IfOk result (λ weight. (weight ≡ Weight.Malformed)
         × (error.kind ≢ ErrorKind.OutOfMemory)) }
 {
-    if is_want_of_memory(&error) {
+    if is_out_of_memory(&error) {
         return Err(AllocError);
     }
     Ok(Weight::Malformed)

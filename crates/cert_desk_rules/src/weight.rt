@@ -1,19 +1,20 @@
-//! What an extension weighs.
+//! The facts about one extension that the rules need.
 
-/// What the rules of a chain ask of an extension (RFC 5280 4.2.1).
+/// The facts about an extension that the rules of a chain need (RFC 5280 4.2.1). Only four kinds of
+/// extensions are checked, which are listed here.
 #[derive(Clone, Copy)]
 pub enum Weight {
-    /// The extension is of no kind that is weighed: processed, in RFC 5280's word.
+    /// The extension is of no checked kind. In the words of RFC 5280, it isn't processed.
     Unweighed,
-    /// The extension is of a kind that is weighed, and not one value of it.
+    /// The extension is of a checked kind, but can't be decoded.
     Malformed,
-    /// keyUsage (4.2.1.3): whether the key may sign certificates.
+    /// A keyUsage (RFC 5280 4.2.1.3), which allows signing certificates if `certifies`.
     KeyUsage { certifies: bool },
-    /// subjectAltName (4.2.1.6). No rule asks more of them than that they are names.
+    /// A subjectAltName (RFC 5280 4.2.1.6). The rules only require that it can be decoded.
     AlternativeNames,
-    /// basicConstraints (4.2.1.9).
+    /// Basic constraints (RFC 5280 4.2.1.9).
     Constraints { ca: bool, path_len: Option<u8> },
-    /// extKeyUsage (4.2.1.12): whether the key purpose that is asked for is among them, or any
-    /// is.
+    /// An extKeyUsage (RFC 5280 4.2.1.12). If `serves`, it lists the key purpose of the check or
+    /// `anyExtendedKeyUsage`.
     Purposes { serves: bool },
 }

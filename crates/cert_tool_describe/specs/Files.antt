@@ -1,4 +1,4 @@
--- What octets of a file spell, as they are read under `Raw`.
+-- What bytes of a file spell, as they are read under `Raw`.
 use Rattle.std.specs.Prelude.{ℕ, List, None}
 use Rattle.x509_cert_lists.specs.Oid.Bound.{Bound}
 use Rattle.x509_cert_lists.specs.Der.Shapes.{BodyValue, Spells}

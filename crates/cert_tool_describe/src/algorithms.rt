@@ -11,12 +11,12 @@ use x509_cert_lists::der::making::leaf_from_der;
 // The identifier id-RSASSA-PSS, 1.2.840.113549.1.1.10.
 const PSS: &[u8] = &[0x2a, 0x86, 0x48, 0x86, 0xf7, 0x0d, 1, 1, 0x0a];
 
-// The algorithm that octets spell.
+// Returns the algorithm that bytes encode.
 fn algorithm_in(alloc: Global, octets: &[u8]) -> Result<AlgorithmIdentifier, Error> {
     read(alloc, octets)
 }
 
-// Adds the name of the algorithm that octets spell, and of the one that is its parameter.
+// Adds the name of the algorithm that bytes encode, and of the one that is its parameter.
 fn add_named(lines: &mut Lines, octets: &[u8]) {
     match algorithm_in(lines.alloc, octets) {
         Ok(algorithm) => {
@@ -43,7 +43,7 @@ fn add_inner(lines: &mut Lines, parameters: &Any) {
     }
 }
 
-// The octets in the field of a number.
+// Returns the bytes in the field of a number.
 fn field(fields: &[Any], number: u32) -> Option<&[u8]> {
     for field in fields {
         let tag = field.tag();

@@ -28,13 +28,13 @@ fn add_octets(lines: &mut Lines, octets: &[u8]) {
     lines.octets_row("octets", "octets", octets);
 }
 
-// Adds that a content isn't what it should be, and its octets.
+// Adds that a content isn't what it should be, and its bytes.
 pub fn add_malformed(lines: &mut Lines, octets: &[u8], kind: ErrorKind) {
     lines.malformed("malformed", kind);
     add_octets(lines, octets);
 }
 
-// Adds the octets of a content that isn't read, and the text or the identifier that they spell.
+// Adds the bytes of a content that isn't read, and the text or the identifier that they spell.
 fn add_unread(lines: &mut Lines, octets: &[u8]) -> Option<Error> {
     add_octets(lines, octets);
     add_value_of(lines, octets);
@@ -84,12 +84,13 @@ fn add_content_of(lines: &mut Lines, extension: &Extension) -> Option<Error> {
     }
 }
 
-// Why octets aren't attributes, if they aren't (RFC 5280 4.2.1.8).
+// Returns why bytes aren't attributes, if they aren't (RFC 5280 4.2.1.8).
 fn attributes_fault(alloc: Global, octets: &[u8]) -> Option<Error> {
     read_members::<Attribute>(alloc, octets).err()
 }
 
-/// Why the content of an extension isn't one value of its kind, if it isn't, and the kind is known.
+/// Returns why the content of an extension isn't one value of its kind, if it isn't, and the kind
+/// is known.
 pub fn content_fault(alloc: Global, extension: &Extension) -> Option<Error> {
     let octets = extension.extn_value.as_bytes();
     match Kind::of(&extension.extn_id) {

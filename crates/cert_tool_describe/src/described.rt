@@ -8,14 +8,14 @@ use x509_cert_lists::der::{Error, ErrorKind};
 
 /// The content of an extension, or a key.
 pub trait Describe: Sized {
-    /// The content that octets spell. Each type's reading is checked here alone.
+    /// Returns the content that bytes encode. Each type's reading is checked here alone.
     fn read_content(alloc: Global, octets: &[u8]) -> Result<Self, Error>;
 
     // Adds its lines.
     fn describe(&self, lines: &mut Lines);
 }
 
-// Adds the lines of a content; answers why octets spell none, if they don't.
+// Adds the lines of a content; answers why bytes encode none, if they don't.
 pub fn add_content<T: Describe + Drop>(lines: &mut Lines, octets: &[u8]) -> Option<Error> {
     match T::read_content(lines.alloc, octets) {
         Ok(content) => {
@@ -28,19 +28,19 @@ pub fn add_content<T: Describe + Drop>(lines: &mut Lines, octets: &[u8]) -> Opti
 
 /// What fills a file: a certificate, a CRL or a CSR.
 pub trait DescribeFile: Sized {
-    /// Whether octets spell one.
+    /// Whether bytes encode one.
     ghost is_spelled: { List ℕ → Type 0 };
 
-    /// The value that octets spell.
+    /// Returns the value that bytes encode.
     fn read_file(alloc: Global, octets: &[u8]) -> Result<Self, Error>
         ensures spelled { OnOk result (is_spelled octets.now) }
         ensures refused { IfErr result (λ e. e.kind ≢ OutOfMemory → is_spelled octets.now → ⊥) };
 
-    // Adds its lines, and those of the digests of its octets and of its key.
+    // Adds its lines, and those of the digests of its bytes and of its key.
     fn describe_file(&self, lines: &mut Lines, octets: &[u8]);
 }
 
-// Adds what octets say, and their digests; answers why they are no value of the type, if they
+// Adds what bytes say, and their digests; answers why they aren't a value of the type, if they
 // aren't. Any value is held here, since a check takes long of what holds a certificate.
 pub fn add_file<T: DescribeFile + Drop>(lines: &mut Lines, octets: &[u8]) -> Option<ErrorKind>
     ensures spelled { IfNone result (T.is_spelled octets.now) }

@@ -29,7 +29,7 @@ pub fn add_kind(lines: &mut Lines, kind: &str, version: Version) {
     );
 }
 
-// Adds an identifier of issuer or subject, if it stands there.
+// Adds an identifier of issuer or subject, if it is there.
 fn add_unique(lines: &mut Lines, word: &str, key: &str, id: &Option<BitString>) {
     if let Some(id) = id {
         lines.octets_row(word, key, id.raw_bytes());
@@ -76,8 +76,8 @@ impl DescribeFile for CertificateInner<Raw> {
     }
 }
 
-/// Adds what a certificate says, and digests of its octets and of its key; answers why the octets
-/// are none, if they aren't.
+/// Adds what a certificate says, and digests of its bytes and of its key; answers why the bytes are
+/// none, if they aren't.
 pub fn add_certificate(lines: &mut Lines, octets: &[u8]) -> Option<ErrorKind>
     ensures spelled { IfNone result (IsCertificate octets.now) }
     ensures refused { IfSome result (λ kind. kind ≢ OutOfMemory → IsCertificate octets.now → ⊥) }

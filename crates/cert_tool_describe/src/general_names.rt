@@ -12,7 +12,7 @@ use x509_cert_lists::cert_names::DirectoryString;
 use x509_cert_lists::der::Error;
 use x509_cert_lists::der::making::read_whole;
 
-// Adds an address of four octets.
+// Adds an address of four bytes.
 fn add_short(lines: &mut Lines, octets: &[u8], behind: &str)
     requires { length octets.now ≡ 4 }
 {
@@ -21,7 +21,7 @@ fn add_short(lines: &mut Lines, octets: &[u8], behind: &str)
     lines.show("", Ipv4Addr::from(address), behind);
 }
 
-// Adds an address of 16 octets.
+// Adds an address of 16 bytes.
 fn add_long(lines: &mut Lines, octets: &[u8], behind: &str)
     requires { length octets.now ≡ 16 }
 {
@@ -69,7 +69,7 @@ fn add_party(lines: &mut Lines, party: &EdiPartyName) {
     }
 }
 
-// The word and the key of a name's kind.
+// Returns the word and the key of a name's kind.
 fn kind_of(name: &GeneralName) -> (&'static str, &'static str) {
     match name {
         GeneralName::Rfc822Name(_) => ("email", "rfc822Name"),

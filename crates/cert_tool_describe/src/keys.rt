@@ -14,7 +14,7 @@ use x509_cert_lists::der::making::leaf_from_der;
 use x509_cert_lists::der::{Error, ErrorKind, Tag, ToDer};
 use x509_cert_lists::oid::ObjectIdentifier;
 
-// How many bits a number has, of its octets with the most significant first.
+// Returns the number of bits of a number, of its bytes with the most significant first.
 fn bit_len(octets: &[u8]) -> usize {
     match octets {
         [] => 0,
@@ -37,7 +37,7 @@ fn add_natural(lines: &mut Lines, name: &str, octets: &[u8]) {
     lines.natural(octets);
 }
 
-// Adds a line for octets of a key.
+// Adds a line for bytes of a key.
 fn add_octets(lines: &mut Lines, name: &str, octets: &[u8]) {
     lines.octets_row(name, name, octets);
 }
@@ -60,8 +60,8 @@ impl Describe for Vec<Uint> {
     }
 }
 
-// How many bits a coordinate has of a point: its form tells whether one stands there, compressed,
-// or two, uncompressed or hybrid (X9.62 4.3.6).
+// Returns the number of bits of a coordinate of a point: its form tells whether one is there,
+// compressed, or two, uncompressed or hybrid (X9.62 4.3.6).
 fn coordinate_bits(octets: &[u8]) -> usize {
     let len = match octets {
         [2 | 3, rest @ ..] => rest.len(),
@@ -129,7 +129,7 @@ fn add_equation(lines: &mut Lines, parameters: &[Any]) {
     }
 }
 
-// Adds the name of a curve, or the type and the octets of what is none.
+// Adds the name of a curve, or the type and the bytes of what is none.
 fn add_curve_name(lines: &mut Lines, parameters: &Any) {
     match parameters.decode_as::<ObjectIdentifier<39>>(lines.alloc) {
         Ok(curve) => lines.members_of(&curve),
@@ -189,7 +189,7 @@ fn add_dsa(lines: &mut Lines, key: &SubjectPublicKeyInfo) {
     }
 }
 
-// Adds the lines of an RSA key, or that octets aren't one.
+// Adds the lines of an RSA key, or that bytes aren't one.
 fn add_rsa(lines: &mut Lines, octets: &[u8]) {
     if let Some(error) = add_content::<Vec<Uint>>(lines, octets) {
         add_malformed(lines, octets, error.kind);
@@ -220,7 +220,7 @@ pub fn add_key(lines: &mut Lines, key: &SubjectPublicKeyInfo) {
     lines.close();
 }
 
-// Adds the lines of the digests of octets, if they are asked for.
+// Adds the lines of the digests of bytes, if they are asked for.
 pub fn add_digests(lines: &mut Lines, names: [&str; 2], octets: &[u8]) {
     if !lines.has_digests {
         return;

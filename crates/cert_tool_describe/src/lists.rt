@@ -28,7 +28,7 @@ impl Describe for CrlNumber {
     }
 }
 
-// The name of a reason (RFC 5280 5.3.1).
+// Returns the name of a reason (RFC 5280 5.3.1).
 fn reason_name(reason: CrlReason) -> &'static str {
     match reason {
         CrlReason::Unspecified => "unspecified",
@@ -107,8 +107,7 @@ impl DescribeFile for CertificateList<Raw> {
     }
 }
 
-/// Adds what a list says, and digests of its octets; answers why the octets are none, if they
-/// aren't.
+/// Adds what a list says, and digests of its bytes; answers why the bytes are none, if they aren't.
 pub fn add_list(lines: &mut Lines, octets: &[u8]) -> Option<ErrorKind>
     ensures spelled { IfNone result (IsList octets.now) }
     ensures refused { IfSome result (λ kind. kind ≢ OutOfMemory → IsList octets.now → ⊥) }

@@ -74,7 +74,7 @@ impl Describe for CrlDistributionPoints {
     }
 }
 
-// Adds a line that says which certificates stand in a list, if it holds.
+// Adds a line that says which certificates are in a list, if it holds.
 fn add_scope(lines: &mut Lines, words: &str, key: &str, holds: bool) {
     if holds {
         lines.line();

@@ -18,7 +18,7 @@ use x509_cert_lists::der::{Error, ErrorKind};
 use x509_cert_lists::oid::AssociatedOid;
 use x509_cert_lists::{CertReq, CertReqInfo, ExtensionReq};
 
-// The extensions that a value asks for, if it is the one that asks.
+// Returns the extensions that a value asks for, if it is the one that asks.
 fn wanted_in(lines: &mut Lines, is_wanted: bool, value: &Any) -> Option<Extensions> {
     if !is_wanted {
         return None;
@@ -89,7 +89,7 @@ impl DescribeFile for CertReq {
     }
 }
 
-/// Adds what a request says, and digests of its octets and of its key; answers why the octets are
+/// Adds what a request says, and digests of its bytes and of its key; answers why the bytes are
 /// none, if they aren't.
 pub fn add_request(lines: &mut Lines, octets: &[u8]) -> Option<ErrorKind>
     ensures spelled { IfNone result (IsRequest octets.now) }

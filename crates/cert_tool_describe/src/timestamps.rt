@@ -11,7 +11,7 @@ use x509_cert_extensions::policy_types::timestamps::{
 use x509_cert_lists::der::making::leaf_from_der;
 use x509_cert_lists::der::{Error as DerError, ErrorKind, Tag};
 
-// The name of a hash (RFC 5246 7.4.1.4.1, RFC 8422 5.1.3).
+// Returns the name of a hash (RFC 5246 7.4.1.4.1, RFC 8422 5.1.3).
 fn hash_name(hash: &HashAlgorithm) -> &'static str {
     match hash {
         HashAlgorithm::None => "none",
@@ -25,7 +25,7 @@ fn hash_name(hash: &HashAlgorithm) -> &'static str {
     }
 }
 
-// The name of what signs (RFC 5246 7.4.1.4.1, RFC 8422 5.1.3).
+// Returns the name of what signs (RFC 5246 7.4.1.4.1, RFC 8422 5.1.3).
 fn signature_name(signature: &SignatureAlgorithm) -> &'static str {
     match signature {
         SignatureAlgorithm::Anonymous => "anonymous",
@@ -122,7 +122,7 @@ impl Describe for SignedCertificateTimestampList {
     }
 }
 
-// Why octets in an OCTET STRING aren't timestamps.
+// Returns why bytes in an OCTET STRING aren't timestamps.
 fn timestamps_error(error: Error) -> DerError {
     match error {
         Error::Der(error) => error,
@@ -133,7 +133,7 @@ fn timestamps_error(error: Error) -> DerError {
     }
 }
 
-// Why one of these isn't a timestamp, if one isn't.
+// Returns why one of these isn't a timestamp, if one isn't.
 fn timestamp_fault(alloc: Global, listed: &[SerializedSct]) -> Option<DerError> {
     for written in listed {
         if let Err(error) = written.parse_timestamp(alloc) {
@@ -143,7 +143,7 @@ fn timestamp_fault(alloc: Global, listed: &[SerializedSct]) -> Option<DerError> 
     None
 }
 
-// Why octets aren't a list of timestamps, if they aren't.
+// Returns why bytes aren't a list of timestamps, if they aren't.
 pub fn timestamps_fault(alloc: Global, octets: &[u8]) -> Option<DerError> {
     let list = match SignedCertificateTimestampList::read_content(alloc, octets) {
         Ok(list) => list,

@@ -21,7 +21,7 @@ impl Describe for SubjectKeyIdentifier {
     }
 }
 
-// Adds an array of the names of those of these flags that stand in a set, a line each, which a word
+// Adds an array of the names of those of these flags that are in a set, a line each, which a word
 // begins.
 pub fn add_flags<F: NamedBits>(
     lines: &mut Lines,
@@ -125,7 +125,7 @@ impl Describe for PrivateKeyUsagePeriod {
     }
 }
 
-// The name of an extension of TLS that a server must answer (RFC 6066 1.1, RFC 6961 2.2).
+// Returns the name of an extension of TLS that a server must answer (RFC 6066 1.1, RFC 6961 2.2).
 fn feature_name(feature: u16) -> &'static str {
     match feature {
         5 => "status_request (5)",

@@ -1,4 +1,4 @@
-//! Values of any type: their texts, or their octets.
+//! Values of any type: their texts, or their bytes.
 
 use cert_tool_lines::Lines;
 use cert_tool_lines::types::Any;
@@ -10,12 +10,12 @@ use x509_cert_lists::der::making::read_whole;
 use x509_cert_lists::der::{Error, FixedTag, SliceReader, Tag};
 use x509_cert_lists::oid::ObjectIdentifier;
 
-// The character of two octets, if they are one (X.690 8.23.8).
+// Returns the character of two bytes, if they are one (X.690 8.23.8).
 fn wide_letter(high: u8, low: u8) -> Option<char> {
     char::from_u32(u32::from(high) * 256 + u32::from(low))
 }
 
-// Whether the octets of a BMPString are characters.
+// Returns whether the bytes of a BMPString are characters.
 fn is_wide(octets: &[u8]) -> bool {
     for place in 0..octets.len() / 2 {
         if wide_letter(octets[2 * place], octets[2 * place + 1]).is_none() {
@@ -25,8 +25,8 @@ fn is_wide(octets: &[u8]) -> bool {
     octets.len() % 2 == 0
 }
 
-// Adds the text of a BMPString, of which two octets are a character. Those that aren't stand behind
-// `\u`, and so does an octet that is left.
+// Adds the text of a BMPString, of which two bytes are a character. Those that aren't stand after
+// `\u`, and so does a byte that is left.
 fn add_wide(lines: &mut Lines, octets: &[u8]) {
     for place in 0..octets.len() / 2 {
         let (high, low) = (octets[2 * place], octets[2 * place + 1]);
@@ -40,7 +40,7 @@ fn add_wide(lines: &mut Lines, octets: &[u8]) {
     }
 }
 
-// Adds the text that octets spell in UTF-8, or each of them behind a backslash.
+// Adds the text that bytes encode in UTF-8, or each of them after a backslash.
 fn add_narrow(lines: &mut Lines, octets: &[u8]) {
     match str::from_utf8(octets) {
         Ok(text) => lines.plain(text),
@@ -48,7 +48,7 @@ fn add_narrow(lines: &mut Lines, octets: &[u8]) {
     }
 }
 
-// Whether values of a type are texts.
+// Returns whether values of a type are texts.
 fn is_string(tag: Tag) -> bool {
     matches!(
         tag,
@@ -63,7 +63,7 @@ fn is_string(tag: Tag) -> bool {
     )
 }
 
-// Whether a text can be told as what it is: its octets spell characters.
+// Returns whether a text can be told as what it is: its bytes encode characters.
 fn is_spelled(value: &Any) -> bool {
     match value.tag() {
         Tag::BmpString => is_wide(value.value()),
@@ -72,7 +72,7 @@ fn is_spelled(value: &Any) -> bool {
 }
 
 // Adds the members of a value: its type, and its text if it is a string of characters, else its
-// octets.
+// bytes.
 pub fn add_value(lines: &mut Lines, value: &Any) {
     lines.key("type");
     lines.value(value.tag());
@@ -112,7 +112,7 @@ fn add_plain_value(lines: &mut Lines, value: &Any) {
     }
 }
 
-// Adds the line of the text or the identifier that octets spell, if they spell one alone.
+// Adds the line of the text or the identifier that bytes encode, if they spell one alone.
 pub fn add_value_of(lines: &mut Lines, octets: &[u8]) {
     match read_whole::<Any>(lines.alloc, octets) {
         Ok(value) => add_plain_value(lines, &value),
@@ -120,8 +120,8 @@ pub fn add_value_of(lines: &mut Lines, octets: &[u8]) {
     }
 }
 
-// The value that octets spell, of a type that names its way. What the way gives is checked here,
-// and not where the type is named.
+// Returns the value that bytes encode, of a type that names its way. What the way gives is checked
+// here, and not where the type is named.
 pub fn read<'a, T: Described + FixedTag + Drop>(alloc: Global, octets: &'a [u8]) -> Result<T, Error>
 where
     T::By: DecodeWay<'a, SliceReader<'a>, T>,
@@ -129,7 +129,7 @@ where
     read_whole(alloc, octets)
 }
 
-// The values of a type that names its way, which octets list.
+// Returns the values of a type that names its way, which bytes list.
 pub fn read_members<'a, T: Described + FixedTag + Drop>(
     alloc: Global,
     octets: &'a [u8],
@@ -140,12 +140,12 @@ where
     read_whole(alloc, octets)
 }
 
-// The values that stand in a SEQUENCE.
+// Returns the values that are in a SEQUENCE.
 pub fn values_in(alloc: Global, value: &Any) -> Result<Vec<Any>, Error> {
     value.decode_as(alloc)
 }
 
-// The values of a type that names its way, which stand in a SEQUENCE.
+// Returns the values of a type that names its way, which are in a SEQUENCE.
 pub fn list_in<'a, T: Described + FixedTag + Drop>(
     alloc: Global,
     value: &'a Any,
@@ -156,13 +156,13 @@ where
     value.decode_as(alloc)
 }
 
-// Whether the text of an attribute has its type by arcs, and its value by octets (RFC 4514 2.4):
-// the type has no short name there, or the value is no string that it spells.
+// Returns whether the text of an attribute has its type by arcs, and its value by bytes (RFC 4514
+// 2.4): the type has no short name there, or the value isn't a string that it spells.
 fn is_bare(text: &str) -> bool {
     matches!(text.as_bytes(), [b'0'..=b'9', ..])
 }
 
-// Whether the line of a name tells less than a line of this attribute.
+// Returns whether the line of a name tells less than a line of this attribute.
 fn is_told(lines: &mut Lines, attribute: &AttributeTypeAndValue) -> bool {
     if lines.is_json {
         return true;
@@ -177,7 +177,7 @@ fn is_told(lines: &mut Lines, attribute: &AttributeTypeAndValue) -> bool {
 }
 
 // Adds the attributes of a name; on lines those alone that the name's own line tells by arcs and
-// octets.
+// bytes.
 fn add_attributes(lines: &mut Lines, name: &Name) {
     for attribute in name.iter() {
         if is_told(lines, attribute) {
@@ -189,8 +189,8 @@ fn add_attributes(lines: &mut Lines, name: &Name) {
     }
 }
 
-// Adds the members of a name: its text, and its attributes. Octets stand behind `#` in the text
-// (RFC 4514 2.4), so without one it tells them all.
+// Adds the members of a name: its text, and its attributes. Bytes stand after `#` in the text (RFC
+// 4514 2.4), so without one it tells them all.
 pub fn add_name_members(lines: &mut Lines, name: &Name) {
     let text = match name.to_string(lines.alloc) {
         Ok(text) => text,

@@ -61,7 +61,7 @@ inside_of_shape (optional s) = inside_of_shape s
 inside_of_shape (defaulted s d) = inside_of_shape s
 inside_of_shape nothing = no_parts
 
--- the first octet of the tag, where one tag may stand
+-- the first byte of the tag, where one tag may be
 abbrev pub tag_of : Shape → Option ℕ
 tag_of (tagged t c) = Some (leading_octet t)
 tag_of any = None
@@ -185,7 +185,7 @@ inside_of nodes.Leaf = no_parts
 abbrev pub part_plain : Option ℕ × Bool × Bor (List ℕ) × Node → PlainPart
 part_plain p = record { tag = p.0; is_optional = p.1; inside = inside_of p.3 }
 
--- The names of these parts, in their order; of a list that of each member. What stands alone behind
+-- The names of these parts, in their order; of a list that of each member. What stands alone after
 -- a tag has none, nor have the types of dates and texts.
 abbrev pub names_of : Node → List (List ℕ)
 names_of nodes.Certificate =

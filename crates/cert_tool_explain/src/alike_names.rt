@@ -4,7 +4,7 @@ use crate::reasons::begin_detail;
 use cert_tool_describe::cert_names::{AttributeTypeAndValue, Name};
 use cert_tool_describe::tool_lines::Lines;
 
-// These octets behind the blanks in front.
+// These bytes after the blanks in front.
 fn without_blanks(octets: &[u8]) -> &[u8] {
     let mut rest = octets;
     for _ in 0..octets.len() {
@@ -16,7 +16,7 @@ fn without_blanks(octets: &[u8]) -> &[u8] {
     rest
 }
 
-// Whether texts differ in case and blanks alone, if at all.
+// Returns whether texts differ in case and blanks alone, if at all.
 fn are_near(this: &[u8], other: &[u8]) -> bool {
     let mut left = without_blanks(this);
     let mut right = without_blanks(other);
@@ -32,8 +32,8 @@ fn are_near(this: &[u8], other: &[u8]) -> bool {
     left.is_empty() && right.is_empty()
 }
 
-// Whether names have the same attributes, but for the types of strings, case and blanks. The answer
-// is a hint: no clause says when it is true.
+// Returns whether names have the same attributes, but for the types of strings, case and blanks.
+// The answer is a hint: no clause says when it is true.
 pub(crate) fn are_alike(this: &Name, other: &Name) -> bool {
     let mut others = other.iter();
     for attribute in this.iter() {

@@ -1,4 +1,4 @@
-//! Why octets give no anchors.
+//! Why bytes give no anchors.
 
 use crate::anchors::{add_anchor_fault, add_unjudged, begin_anchor};
 use crate::is_pem;
@@ -8,7 +8,7 @@ use cert_desk_checking::{AnchorFault, AnchorsError, read_anchors};
 use cert_tool_describe::tool_lines::Lines;
 use std::alloc::{AllocError, Global};
 
-// What a fault of an anchor means.
+// Returns what a fault of an anchor means.
 fn meaning(fault: AnchorFault) -> &'static str {
     match fault {
         AnchorFault::Malformed => "no trust anchor",
@@ -32,13 +32,13 @@ fn add_fault(lines: &mut Lines, octets: &[u8], offset: u64, fault: AnchorFault) 
     }
 }
 
-// How many anchors octets give.
+// Returns how many anchors bytes give.
 fn count_anchors(alloc: Global, octets: &[u8]) -> Result<usize, AnchorsError> {
     let anchors = read_anchors(alloc, &mut FromRead::new(octets))?;
     Ok(anchors.len())
 }
 
-// Adds what is to be said of octets that should be anchors.
+// Adds what is to be said of bytes that should be anchors.
 fn add_anchors(lines: &mut Lines, octets: &[u8]) {
     if is_pem(octets) {
         lines.finding(PEM_STREAM);
@@ -59,8 +59,8 @@ fn add_anchors(lines: &mut Lines, octets: &[u8]) {
     }
 }
 
-/// Why octets aren't trust anchors, one behind the other, each with a name and a key: the first
-/// fault, and the octet where it stands. Of octets that are, what they say that isn't judged.
+/// Returns why bytes aren't trust anchors, one after another, each with a name and a key: the first
+/// fault, and the byte where it stands. Of bytes that are, what they say that isn't judged.
 pub fn explain_anchors(alloc: Global, octets: &[u8], is_json: bool) -> Result<Vec<u8>, AllocError> {
     let mut lines = Lines::new(alloc, is_json);
     lines.list("findings");

@@ -1,4 +1,4 @@
-//! Trust anchors: why octets begin with none, and what anchors say that no rule looks at.
+//! Trust anchors: why bytes begin with none, and what anchors say that no rule looks at.
 
 use crate::{Node, add_fault};
 use cert_desk_checking::cert_anchors::TrustAnchorChoice;
@@ -8,7 +8,7 @@ use cert_tool_describe::cert_parts::{Extension, Extensions, Raw, Validity};
 use cert_tool_describe::der::{Decode, Error, FromDer, SliceReader};
 use cert_tool_describe::tool_lines::Lines;
 
-/// Begins what is said of the anchor at an octet.
+/// Begins what is said of the anchor at a byte.
 pub fn begin_anchor(lines: &mut Lines, offset: u64) {
     lines.entry("anchor at octet");
     lines.count_member("octet", offset);
@@ -63,7 +63,7 @@ fn add_beyond(lines: &mut Lines, anchor: &TrustAnchorChoice<Raw>) {
     lines.end_list();
 }
 
-// The name of an anchor, if it has one.
+// Returns the name of an anchor, if it has one.
 fn name_of(anchor: &TrustAnchorChoice<Raw>) -> Option<&Name> {
     match anchor {
         TrustAnchorChoice::Certificate(certificate) => {
@@ -77,7 +77,7 @@ fn name_of(anchor: &TrustAnchorChoice<Raw>) -> Option<&Name> {
     }
 }
 
-// Whether a name is that of an issuer, if one is asked for.
+// Returns whether a name is that of an issuer, if one is asked for.
 fn is_of(name: Option<&Name>, issuer: Option<&Name>) -> bool {
     match (name, issuer) {
         (_, None) => true,
@@ -88,7 +88,7 @@ fn is_of(name: Option<&Name>, issuer: Option<&Name>) -> bool {
 
 // Values that say what isn't judged.
 trait Unjudged {
-    // Adds it, of the value at an octet, if it is of an issuer that is asked for.
+    // Adds it, of the value at a byte, if it is of an issuer that is asked for.
     fn add_unjudged(&self, lines: &mut Lines, offset: u64, issuer: Option<&Name>);
 }
 
@@ -108,9 +108,9 @@ impl Unjudged for TrustAnchorChoice<Raw> {
     }
 }
 
-// Adds what the value says and isn't judged that begins these octets, which begin at an offset, if
-// it is of an issuer that is asked for. Answers the octets behind it. Any value is read here, and
-// not an anchor, of which a check takes long to hold one.
+// Adds what the value says and isn't judged that begins these bytes, which begin at an offset, if
+// it is of an issuer that is asked for. Answers the bytes after it. Any value is read here, and not
+// an anchor, of which a check takes long to hold one.
 fn add_front<'a, T: Decode<'a, SliceReader<'a>> + Unjudged + Drop>(
     lines: &mut Lines,
     octets: &'a [u8],
@@ -136,7 +136,7 @@ fn add_first<'a>(
     add_front::<TrustAnchorChoice<Raw>>(lines, octets, offset, issuer)
 }
 
-/// Adds what anchors say that isn't judged, one behind the other; where an issuer is asked for, of
+/// Adds what anchors say that isn't judged, one after another; where an issuer is asked for, of
 /// those that have its name.
 pub fn add_unjudged(lines: &mut Lines, octets: &[u8], issuer: Option<&Name>) {
     let mut rest = octets;
@@ -155,7 +155,7 @@ pub fn add_unjudged(lines: &mut Lines, octets: &[u8], issuer: Option<&Name>) {
     }
 }
 
-/// Adds why no trust anchor begins these octets, which begin at an offset of a file.
+/// Adds why no trust anchor begins these bytes, which begin at an offset of a file.
 pub fn add_anchor_fault(lines: &mut Lines, octets: &[u8], offset: u64) {
     if let Err(error) = add_first(lines, octets, offset, None) {
         add_fault(lines, octets, offset, Node::Anchor, &error);

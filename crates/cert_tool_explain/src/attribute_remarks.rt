@@ -7,14 +7,14 @@ use cert_tool_describe::oid::ObjectIdentifier;
 use cert_tool_describe::tool_lines::Lines;
 use std::str;
 
-// Whether an octet may stand in a PrintableString (X.680 41.4).
+// Returns whether a byte may be in a PrintableString (X.680 41.4).
 fn is_of_printable(octet: u8) -> bool {
     octet.is_ascii_alphanumeric()
         || matches!(octet, b' ' | b'\'' | b'('..=b')' | b'+'..=b'/' | b':' | b'=' | b'?')
 }
 
-// Whether octets are a text of this type of string (X.680 41). Of other types than these nothing is
-// said.
+// Returns whether bytes are a text of this type of string (X.680 41). Of other types than these
+// nothing is said.
 fn is_text_of(tag: Tag, octets: &[u8]) -> bool {
     match tag {
         Tag::Utf8String => str::from_utf8(octets).is_ok(),
@@ -25,7 +25,7 @@ fn is_text_of(tag: Tag, octets: &[u8]) -> bool {
     }
 }
 
-// How many characters a text of this type of string has.
+// Returns how many characters a text of this type of string has.
 fn length_of(tag: Tag, octets: &[u8]) -> usize {
     match (tag, str::from_utf8(octets)) {
         (Tag::Utf8String, Ok(text)) => text.chars().count(),
@@ -37,7 +37,7 @@ fn length_of(tag: Tag, octets: &[u8]) -> usize {
 // The identifier of emailAddress, 1.2.840.113549.1.9.1.
 const EMAIL_ADDRESS: &[u8] = &[0x2a, 0x86, 0x48, 0x86, 0xf7, 0x0d, 1, 9, 1];
 
-// The fewest and the most characters of the text of an attribute (RFC 5280 A.1).
+// Returns the fewest and the most characters of the text of an attribute (RFC 5280 A.1).
 fn lengths_of(kind: &ObjectIdentifier<39>) -> Option<(usize, usize)> {
     match kind.as_bytes() {
         [0x55, 4, number] => match *number {

@@ -25,7 +25,7 @@ struct Facts {
     // What the key may do, where that is read.
     uses: Option<FlagSet<KeyUsages>>,
     constraints: Option<BasicConstraints>,
-    // Whether constraints stand there that aren't read, so that nothing is known of an authority.
+    // Whether constraints are there that aren't read, so that nothing is known of an authority.
     are_constraints_unread: bool,
     are_constraints_critical: bool,
     // Whether the subject has other names, and the extension is critical.
@@ -37,7 +37,7 @@ struct Facts {
 }
 
 impl Facts {
-    // The facts of no extension.
+    // Returns the facts of no extension.
     fn new() -> Facts {
         Facts {
             has_key_usage: false,
@@ -52,7 +52,7 @@ impl Facts {
         }
     }
 
-    // Takes one extension more.
+    // Takes one more extension.
     fn take(&mut self, lines: &mut Lines, extension: &Extension) {
         let octets = extension.extn_value.as_bytes();
         match Kind::of(&extension.extn_id) {
@@ -79,7 +79,7 @@ impl Facts {
         }
     }
 
-    // Whether an authority is certified.
+    // Returns whether an authority is certified.
     fn is_authority(&self) -> bool {
         match self.constraints {
             Some(constraints) => constraints.ca,
@@ -87,12 +87,12 @@ impl Facts {
         }
     }
 
-    // Whether no authority is certified.
+    // Returns whether no authority is certified.
     fn is_no_authority(&self) -> bool {
         !self.are_constraints_unread && !self.is_authority()
     }
 
-    // Whether a path length stands there.
+    // Returns whether a path length is there.
     fn has_path_length(&self) -> bool {
         match self.constraints {
             Some(constraints) => constraints.path_len_constraint.is_some(),
@@ -100,7 +100,7 @@ impl Facts {
         }
     }
 
-    // Whether the key may sign certificates, where it is said what it may do.
+    // Returns whether the key may sign certificates, where it is said what it may do.
     fn signs(&self) -> bool {
         match self.uses {
             Some(uses) => uses.contains(KeyUsages::KeyCertSign),
@@ -109,7 +109,7 @@ impl Facts {
     }
 }
 
-// The extensions of a certificate.
+// Returns the extensions of a certificate.
 fn extensions_of(signed: &TbsCertificateInner<Raw>) -> &[Extension] {
     match signed.extensions() {
         Some(extensions) => extensions.as_slice(),

@@ -12,12 +12,12 @@ pub(crate) struct ChainPlace<'a> {
     // Counted from 0.
     pub(crate) number: usize,
     pub(crate) certificate: &'a CertificateInner<Raw>,
-    // The octets of its signed part.
+    // The bytes of its signed part.
     pub(crate) signed: &'a [u8],
 }
 
 impl<'a> ChainPlace<'a> {
-    // The place of this number, if a certificate stands there.
+    // Returns the place of this number, if a certificate is there.
     pub(crate) fn at(bundle: &'a Bundle, number: usize) -> Option<ChainPlace<'a>> {
         let Some(entry) = bundle.get(number) else {
             return None;
@@ -30,12 +30,12 @@ impl<'a> ChainPlace<'a> {
         })
     }
 
-    // The issuer.
+    // Returns the issuer.
     pub(crate) fn issuer(&self) -> &'a Name {
         self.certificate.tbs_certificate().issuer()
     }
 
-    // The extensions, in their order.
+    // Returns the extensions, in their order.
     pub(crate) fn extensions(&self) -> &'a [Extension] {
         match self.certificate.tbs_certificate().extensions() {
             Some(extensions) => extensions.as_slice(),
@@ -43,7 +43,7 @@ impl<'a> ChainPlace<'a> {
         }
     }
 
-    // The signed part of the certificate before, if there is one.
+    // Returns the signed part of the certificate before, if there is one.
     pub(crate) fn before(&self) -> Option<&'a TbsCertificateInner<Raw>> {
         if self.number == 0 {
             return None;

@@ -17,7 +17,7 @@ const ACCESSES: [Part; 1] = [(Some(0x30), false, "", Node::Accesses)];
 
 const OCTETS: [Part; 1] = [(Some(0x04), false, "", Node::Leaf)];
 
-// What the content of an extension of a kind is.
+// Returns what the content of an extension of a kind is.
 fn root_of(kind: Kind) -> &'static [Part] {
     match kind {
         Kind::SubjectDirectoryAttributes => &[(Some(0x30), false, "", Node::DirectoryAttributes)],

@@ -13,7 +13,7 @@ use cert_tool_describe::tool_lines::Lines;
 use cert_tool_describe::{add_certificate, add_list, add_request};
 use std::alloc::{AllocError, Global};
 
-// Adds the lines of what these octets spell; answers why they spell no value of the kind, if they
+// Adds the lines of what these bytes encode; answers why they spell no value of the kind, if they
 // don't.
 fn add_described(lines: &mut Lines, kind: Kind, octets: &[u8]) -> Option<ErrorKind>
     ensures of_kind { IfNone result (IsOfKind kind octets.now) }
@@ -27,7 +27,7 @@ fn add_described(lines: &mut Lines, kind: Kind, octets: &[u8]) -> Option<ErrorKi
     }
 }
 
-// The description of what these octets spell, if they spell a value of the kind.
+// Returns the description of what these bytes encode, if they spell a value of the kind.
 fn described(
     alloc: Global,
     kind: Kind,
@@ -50,7 +50,7 @@ fn described(
     }
 }
 
-// Tells why octets aren't of a kind.
+// Tells why bytes aren't of a kind.
 fn refuse<E: Output>(alloc: Global, kind: Kind, octets: &[u8], err: &mut E) -> ExitStatus
     ensures { IsRefusalTold (sink E.gives E.failures err.old err.new) result }
 {
@@ -60,7 +60,7 @@ fn refuse<E: Output>(alloc: Global, kind: Kind, octets: &[u8], err: &mut E) -> E
     }
 }
 
-/// Writes the description of what these octets spell to `out`, with digests if they are asked for,
+/// Writes the description of what these bytes encode to `out`, with digests if they are asked for,
 /// or to `err` why they aren't of the kind, and answers the exit status.
 pub fn describe<O: Output, E: Output>(
     alloc: Global,

@@ -95,7 +95,7 @@ pub fn add_mark_remarks(lines: &mut Lines, extension: &Extension, marks: &[Mark]
     }
 }
 
-// The content that octets spell, if they spell one.
+// Returns the content that bytes encode, if they spell one.
 pub fn content_in<T: Describe + Drop>(lines: &mut Lines, octets: &[u8]) -> Option<T> {
     match T::read_content(lines.alloc, octets) {
         Ok(content) => Some(content),
@@ -114,7 +114,7 @@ pub struct IssuerKey {
     pub is_half: bool,
 }
 
-// How a content names the key of the issuer, if it is read.
+// Returns how a content names the key of the issuer, if it is read.
 pub fn issuer_key_in(lines: &mut Lines, octets: &[u8]) -> Option<IssuerKey> {
     match content_in::<AuthorityKeyIdentifier>(lines, octets) {
         Some(key) => Some(IssuerKey {
@@ -133,7 +133,7 @@ fn add_names_remarks(lines: &mut Lines, octets: &[u8]) {
     }
 }
 
-// Whether a base is an address without its mask, or with half of one (RFC 5280 4.2.1.10).
+// Returns whether a base is an address without its mask, or with half of one (RFC 5280 4.2.1.10).
 fn is_no_range(name: &GeneralName) -> bool {
     match name {
         GeneralName::IpAddress(octets) => {
@@ -235,7 +235,7 @@ fn add_policy_remarks(lines: &mut Lines, octets: &[u8]) {
     );
 }
 
-// Whether an identifier is anyPolicy, 2.5.29.32.0.
+// Returns whether an identifier is anyPolicy, 2.5.29.32.0.
 fn is_any_policy(identifier: &ObjectIdentifier<39>) -> bool {
     matches!(identifier.as_bytes(), [0x55, 0x1d, 0x20, 0])
 }

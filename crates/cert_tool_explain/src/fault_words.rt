@@ -1,4 +1,4 @@
-//! Why values are refused, in the words of the standards.
+//! Why values are rejected, in the words of the standards.
 
 use cert_tool_describe::der::{ErrorKind, Tag};
 use cert_tool_describe::oid::ObjectIdentifier;
@@ -6,7 +6,7 @@ use cert_tool_describe::oid::ObjectIdentifier;
 // Why something is wrong, and the section that says so, if one does.
 type Words = (&'static str, &'static str);
 
-// The number that two digits at a place spell.
+// Returns the number that two digits at a place spell.
 fn two(octets: &[u8], place: usize) -> Option<u8> {
     match (octets.get(place), octets.get(place.saturating_add(1))) {
         (Some(tens @ b'0'..=b'9'), Some(ones @ b'0'..=b'9')) => {
@@ -17,7 +17,7 @@ fn two(octets: &[u8], place: usize) -> Option<u8> {
     }
 }
 
-// Whether two digits at a place spell one of these numbers.
+// Returns whether two digits at a place spell one of these numbers.
 fn spells(octets: &[u8], place: usize, least: u8, most: u8) -> bool {
     match two(octets, place) {
         Some(number) => least <= number && number <= most,
@@ -25,7 +25,7 @@ fn spells(octets: &[u8], place: usize, least: u8, most: u8) -> bool {
     }
 }
 
-// What is wrong with month, day, hour, minute and second, each two digits.
+// Returns what is wrong with month, day, hour, minute and second, each two digits.
 fn clock_words(octets: &[u8]) -> Words {
     if !spells(octets, 0, 1, 12) {
         (": its month isn't one from 01 to 12", "")
@@ -42,7 +42,7 @@ fn clock_words(octets: &[u8]) -> Words {
     }
 }
 
-// What is wrong with a UTCTime (X.690 11.8).
+// Returns what is wrong with a UTCTime (X.690 11.8).
 fn utc_words(content: &[u8]) -> Words {
     match content {
         [.., b'Z'] => {}
@@ -66,12 +66,12 @@ fn utc_words(content: &[u8]) -> Words {
     }
 }
 
-// Whether a year of four digits is one before 1970.
+// Returns whether a year of four digits is one before 1970.
 fn is_early(octets: &[u8]) -> bool {
     spells(octets, 0, 0, 18) || (spells(octets, 0, 19, 19) && spells(octets, 2, 0, 69))
 }
 
-// What is wrong with a GeneralizedTime (X.690 11.7, RFC 5280 4.1.2.5.2).
+// Returns what is wrong with a GeneralizedTime (X.690 11.7, RFC 5280 4.1.2.5.2).
 fn generalized_words(content: &[u8]) -> Words {
     match content {
         [.., b'Z'] => {}
@@ -100,7 +100,7 @@ fn generalized_words(content: &[u8]) -> Words {
 // What is said of a default that is written.
 const DEFAULT: Words = (": it is the default, which isn't written", "X.690 11.5");
 
-// Why a value isn't in the form of DER.
+// Returns why a value isn't in the form of DER.
 fn form_words(tag: Tag, content: &[u8]) -> Words {
     match (tag, content) {
         (Tag::Boolean, [0 | 0xff]) => DEFAULT,
@@ -119,7 +119,7 @@ fn form_words(tag: Tag, content: &[u8]) -> Words {
     }
 }
 
-// What is wrong with a BIT STRING.
+// Returns what is wrong with a BIT STRING.
 fn bits_words(content: &[u8]) -> Words {
     match content {
         [8..=0xff, ..] => (": more than 7 bits are unused", "X.690 8.6.2.2"),
@@ -137,7 +137,7 @@ fn bits_words(content: &[u8]) -> Words {
 // What is said of a text that isn't ASCII.
 const HIGH: Words = (": it has an octet above 7F", "");
 
-// What is wrong with a whole number, in a part of this name.
+// Returns what is wrong with a whole number, in a part of this name.
 fn number_words(content: &[u8], name: &str) -> Words {
     if name == "version" {
         return (
@@ -151,7 +151,7 @@ fn number_words(content: &[u8], name: &str) -> Words {
     }
 }
 
-// Why a value of another tag than its type's own isn't one of it, in a part of this name.
+// Returns why a value of another tag than its type's own isn't one of it, in a part of this name.
 fn implied_words(content: &[u8], name: &str) -> Words {
     match name {
         "rfc822Name" | "dNSName" | "uniformResourceIdentifier" => HIGH,
@@ -164,7 +164,7 @@ fn implied_words(content: &[u8], name: &str) -> Words {
     }
 }
 
-// Why a value isn't one of its type, in a part of this name.
+// Returns why a value isn't one of its type, in a part of this name.
 fn value_words(tag: Tag, content: &[u8], name: &str) -> Words {
     match tag {
         Tag::UtcTime => utc_words(content),
@@ -185,7 +185,7 @@ fn value_words(tag: Tag, content: &[u8], name: &str) -> Words {
     }
 }
 
-// What is wrong with an object identifier (X.690 8.19).
+// Returns what is wrong with an object identifier (X.690 8.19).
 fn identifier_words(content: &[u8]) -> Words {
     let mut begins_arc = true;
     for octet in content {
@@ -208,7 +208,7 @@ fn identifier_words(content: &[u8]) -> Words {
     }
 }
 
-// Which tag of the universal class isn't read (X.680 8.6).
+// Returns which tag of the universal class isn't read (X.680 8.6).
 fn unread_words(octets: &[u8]) -> Words {
     match octets {
         [0x00, ..] => (
@@ -230,7 +230,7 @@ fn unread_words(octets: &[u8]) -> Words {
     }
 }
 
-// Why a length isn't one of its type, or isn't spelled as DER spells it.
+// Returns why a length isn't one of its type, or isn't spelled as DER spells it.
 fn length_words(tag: Tag, octets: &[u8]) -> Words {
     match (tag, octets) {
         (_, [_, 0x81, 0..=0x7f, ..] | [_, 0x82..=0x84, 0, ..]) => {
@@ -245,9 +245,9 @@ fn length_words(tag: Tag, octets: &[u8]) -> Words {
     }
 }
 
-// Why the first of these octets begin no value that is right, behind the kind of the fault, in the
-// words of the standards; nothing where the kind says all. The content is that of the value, which
-// stands in a part of this name.
+// Returns why the first of these bytes begin no value that is right, after the kind of the fault,
+// in the words of the standards; nothing where the kind says all. The content is that of the value,
+// which is in a part of this name.
 pub fn words_of(kind: ErrorKind, octets: &[u8], content: &[u8], name: &str) -> Words {
     match kind {
         ErrorKind::Noncanonical { tag } => form_words(tag, content),

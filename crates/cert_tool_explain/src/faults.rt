@@ -1,4 +1,4 @@
-//! Faults of octets: where they stand, why they are faults, and the parts around them.
+//! Faults of bytes: where they stand, why they are faults, and the parts around them.
 
 use crate::fault_words::words_of;
 use crate::parts::{Node, Part, parts_of};
@@ -6,7 +6,7 @@ use crate::way_down::{Step, Way, content_at, is_followed, way_to};
 use cert_tool_describe::der::{Error, ErrorKind, Tag};
 use cert_tool_describe::tool_lines::Lines;
 
-// What octets of a kind are, as the one part of a file.
+// Returns what bytes of a kind are, as the one part of a file.
 fn alone(node: Node) -> &'static [Part] {
     match node {
         Node::Certificate => &[(Some(0x30), false, "", Node::Certificate)],
@@ -17,15 +17,15 @@ fn alone(node: Node) -> &'static [Part] {
     }
 }
 
-// Adds the tag with this first octet to a text.
+// Adds the tag with this first byte to a text.
 fn add_tag(lines: &mut Lines, first: u8) {
     if let Ok(tag) = Tag::peek(&[first]) {
         lines.show("", tag, "");
     }
 }
 
-// Adds one of those of which one stands to a text: the number of its own tag behind its name, or
-// its tag.
+// Adds one of those of which one stands to a text: the number of its own tag after its name, or its
+// tag.
 fn add_choice(lines: &mut Lines, name: &str, first: u8) {
     lines.push(name);
     if !name.is_empty() && first >= 0x80 {
@@ -51,12 +51,12 @@ fn add_choices(lines: &mut Lines, choices: &[Part]) {
     }
 }
 
-// What a part is called.
+// Returns what a part is called.
 fn called(name: &'static str) -> &'static str {
     if name.is_empty() { "a value" } else { name }
 }
 
-// Adds the tags that a part may have to a text; nothing where any may stand.
+// Adds the tags that a part may have to a text; nothing where any may be.
 fn add_tags(lines: &mut Lines, part: &Part) {
     let (tag, _, _, node) = *part;
     match tag {
@@ -65,13 +65,13 @@ fn add_tags(lines: &mut Lines, part: &Part) {
     }
 }
 
-// Whether any tag may stand where a part does.
+// Returns whether any tag may be where a part does.
 fn is_any(part: &Part) -> bool {
     let (tag, _, _, node) = *part;
     tag.is_none() && parts_of(node).is_empty()
 }
 
-// Adds a part that may stand there.
+// Adds a part that may be there.
 fn add_part(lines: &mut Lines, part: &Part) {
     let (_, _, name, _) = *part;
     lines.comma();
@@ -88,7 +88,7 @@ fn add_part(lines: &mut Lines, part: &Part) {
     lines.end_brace();
 }
 
-// Adds the parts of which one may stand there, as a line; nothing where none may.
+// Adds the parts of which one may be there, as a line; nothing where none may.
 fn add_wanted(lines: &mut Lines, wanted: &[Part]) {
     if wanted.is_empty() {
         return;
@@ -107,7 +107,7 @@ fn add_wanted(lines: &mut Lines, wanted: &[Part]) {
     lines.end_list();
 }
 
-// Adds the names of a value in which a fault is to a text, behind another; answers whether it has
+// Adds the names of a value in which a fault is to a text, after another; answers whether it has
 // one.
 fn add_names(lines: &mut Lines, before: &str, step: &Step) -> bool {
     let name = step.taken.name;
@@ -151,7 +151,8 @@ fn add_steps(lines: &mut Lines, offset: u64, steps: &[Step]) {
     lines.end_list();
 }
 
-// How many octets there are of the last of these, and how many its length counts, if they are more.
+// Returns the number of bytes of the last of these, and how many its length counts, if they are
+// more.
 fn cut(steps: &[Step]) -> Option<(usize, usize)> {
     match steps {
         [.., last] => {
@@ -166,7 +167,7 @@ fn cut(steps: &[Step]) -> Option<(usize, usize)> {
     }
 }
 
-// Adds to a text how many octets a length counts, and how many there are.
+// Adds to a text how many bytes a length counts, and how many there are.
 fn add_cut(lines: &mut Lines, there: usize, counted: usize) {
     lines.show("its length counts ", counted as u64, " octets, and ");
     lines.show("", there as u64, " are there");
@@ -184,8 +185,8 @@ fn add_way(lines: &mut Lines, offset: u64, way: &Way) {
     add_wanted(lines, way.wanted);
 }
 
-// Adds the kind of a fault to a text, why it is one, and the tag that stands there where another
-// may; answers the section that says so.
+// Adds the kind of a fault to a text, why it is one, and the tag that is there where another may;
+// answers the section that says so.
 fn add_kind(lines: &mut Lines, octets: &[u8], kind: ErrorKind, way: &Way) -> &'static str {
     let rest = match octets.get(way.place..) {
         Some(rest) => rest,
@@ -205,7 +206,7 @@ fn add_kind(lines: &mut Lines, octets: &[u8], kind: ErrorKind, way: &Way) -> &'s
     section
 }
 
-// Adds where a fault stands in a value that begins at an offset of a file, and what it is.
+// Adds where a fault is in a value that begins at an offset of a file, and what it is.
 fn add_place(lines: &mut Lines, octets: &[u8], offset: u64, kind: ErrorKind, way: &Way) {
     lines.place(offset, way.place as u64);
     lines.tail(": ");
@@ -216,7 +217,7 @@ fn add_place(lines: &mut Lines, octets: &[u8], offset: u64, kind: ErrorKind, way
     lines.section(section);
 }
 
-// Whether what is wrong with a certificate is that another one stands behind it.
+// Returns whether what is wrong with a certificate is that another one follows it.
 fn is_first_of_several(octets: &[u8], error: &Error) -> bool {
     match (error.kind, error.position) {
         (ErrorKind::TrailingData, Some(place)) => is_followed(octets, place.value as usize),
@@ -259,7 +260,7 @@ fn add_names_of_all(lines: &mut Lines, steps: &[Step]) {
     }
 }
 
-// Adds to a text what may stand where a fault of a content is.
+// Adds to a text what may be where a fault of a content is.
 fn add_wanted_there(lines: &mut Lines, wanted: &[Part]) {
     let mut between = "; there may stand ";
     for part in wanted {

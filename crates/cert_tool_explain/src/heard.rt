@@ -7,7 +7,7 @@ use cert_tool_describe::tool_lines::Lines;
 use std::alloc::{AllocError, Global};
 use std::collections::BTreeMap;
 
-/// Of which octets answers say that a signature over them is right.
+/// Of which bytes answers say that a signature over them is right.
 #[derive(Drop)]
 pub struct Heard {
     signed: BTreeMap<Vec<u8>, ()>,
@@ -16,7 +16,7 @@ pub struct Heard {
 }
 
 impl Heard {
-    /// What answers say.
+    /// Returns what answers say.
     pub fn of(alloc: Global, answers: &[Answer]) -> Result<Heard, AllocError> {
         let mut signed = BTreeMap::new(alloc);
         for answer in answers {
@@ -31,7 +31,7 @@ impl Heard {
         })
     }
 
-    // Adds whether answers are about these octets.
+    // Adds whether answers are about these bytes.
     pub(crate) fn add(&self, lines: &mut Lines, octets: &[u8]) {
         begin_detail(lines);
         if self.count == 0 {
@@ -64,7 +64,7 @@ const VERIFIED: [&[u8]; 13] = [
     &[0x2b, 0x65, 0x71],
 ];
 
-// Whether an algorithm is one of them.
+// Returns whether an algorithm is one of them.
 fn is_verified(algorithm: &ObjectIdentifier<39>) -> bool {
     for verified in &VERIFIED {
         if *verified == algorithm.as_bytes() {

@@ -1,4 +1,4 @@
-//! Which parts of a value may stand at a place inside it.
+//! Which parts of a value may be at a place inside it.
 
 use crate::parts::{Node, Part, is_list, parts_of};
 
@@ -11,7 +11,7 @@ pub struct Taken {
     pub node: Node,
 }
 
-// The part of a choice whose tag has this first octet: its name, and what is inside it.
+// Returns the part of a choice whose tag has this first byte: its name, and what is inside it.
 fn chosen(choice: Node, first: u8) -> Option<(&'static str, Node)> {
     for part in parts_of(choice) {
         let (tag, _, name, node) = *part;
@@ -22,7 +22,7 @@ fn chosen(choice: Node, first: u8) -> Option<(&'static str, Node)> {
     None
 }
 
-// What stands where a part may, if it begins with this octet.
+// Returns what stands where a part may, if it begins with this byte.
 fn part_taken(part: &Part, first: u8) -> Option<Taken> {
     let (tag, _, name, node) = *part;
     let choice = "";
@@ -37,12 +37,12 @@ fn part_taken(part: &Part, first: u8) -> Option<Taken> {
     }
 }
 
-/// The parts that may stand at a place, and after it.
+/// The parts that may be at a place, and after it.
 #[derive(Clone, Copy)]
 pub struct Fields {
     parts: &'static [Part],
     is_list: bool,
-    // The place of the first part that may stand next.
+    // The place of the first part that may be next.
     from: usize,
 }
 
@@ -56,17 +56,17 @@ impl Fields {
         }
     }
 
-    // The parts of a value, at its beginning.
+    // Returns the parts of a value, at its beginning.
     pub fn of(node: Node) -> Fields {
         Fields::new(parts_of(node), is_list(node))
     }
 
-    // Whether the parts of the value have names.
+    // Returns whether the parts of the value have names.
     pub fn is_named(&self) -> bool {
         !self.parts.is_empty()
     }
 
-    // The parts of which one may stand here: up to the first that may not be left out.
+    // Returns the parts of which one may be here: up to the first that may not be left out.
     pub fn next(&self) -> &'static [Part] {
         let Some(rest) = self.parts.get(self.from..) else {
             return &[];
@@ -85,7 +85,7 @@ impl Fields {
         }
     }
 
-    // Whether one of them must stand here.
+    // Returns whether one of them is required here.
     pub fn is_wanting(&self) -> bool {
         match self.next() {
             [.., last] => {
@@ -96,8 +96,8 @@ impl Fields {
         }
     }
 
-    // What stands here if it begins with this octet, and the parts that may stand behind it; none
-    // where it may not stand here.
+    // Returns what stands here if it begins with this byte, and the parts that may be after it;
+    // none if it isn't allowed here.
     pub fn take(&self, first: u8) -> Option<(Taken, Fields)> {
         let mut from = self.from;
         for part in self.next() {

@@ -1,4 +1,4 @@
-//! Why octets aren't read, and what RFC 5280 asks of what is read.
+//! Why bytes aren't read, and what RFC 5280 asks of what is read.
 #![tactic(auto)]
 
 mod alike_names;

@@ -28,7 +28,7 @@ struct Facts {
 }
 
 impl Facts {
-    // The facts of no extension.
+    // Returns the facts of no extension.
     fn new() -> Facts {
         Facts {
             has_number: false,
@@ -39,7 +39,7 @@ impl Facts {
         }
     }
 
-    // Takes one extension more.
+    // Takes one more extension.
     fn take(&mut self, lines: &mut Lines, extension: &Extension) {
         let octets = extension.extn_value.as_bytes();
         match Kind::of(&extension.extn_id) {
@@ -61,7 +61,7 @@ impl Facts {
     }
 }
 
-// The extensions of a list or of an entry.
+// Returns the extensions of a list or of an entry.
 fn listed(extensions: &Option<Extensions>) -> &[Extension] {
     match extensions {
         Some(extensions) => extensions.as_slice(),
@@ -82,7 +82,7 @@ struct EntryFacts {
 }
 
 impl EntryFacts {
-    // The facts of no entry.
+    // Returns the facts of no entry.
     fn new() -> EntryFacts {
         EntryFacts {
             has_wrong_serial: false,
@@ -290,7 +290,7 @@ fn add_malformed_entries(lines: &mut Lines, signed: &TbsCertList<Raw>) {
     }
 }
 
-// What the entries of a list are.
+// Returns what the entries of a list are.
 fn entry_facts(signed: &TbsCertList<Raw>) -> EntryFacts {
     let mut facts = EntryFacts::new();
     if let Some(entries) = &signed.revoked_certificates {

@@ -5,7 +5,7 @@ use cert_tool_describe::add_general_name;
 use cert_tool_describe::cert_general_names::GeneralName;
 use cert_tool_describe::tool_lines::Lines;
 
-// Whether octets are a label of a host's name (RFC 1034 3.5, RFC 1123 2.1).
+// Returns whether bytes are a label of a host's name (RFC 1034 3.5, RFC 1123 2.1).
 fn is_label(label: &[u8]) -> bool {
     let (Some(first), Some(last)) = (label.first(), label.last()) else {
         return false;
@@ -18,7 +18,7 @@ fn is_label(label: &[u8]) -> bool {
     *first != b'-' && *last != b'-' && label.len() <= 63
 }
 
-// Whether a text is the name of a host. Its first label may be `*` (RFC 6125 6.4.3).
+// Returns whether a text is the name of a host. Its first label may be `*` (RFC 6125 6.4.3).
 fn is_host(text: &str) -> bool {
     let mut is_first = true;
     for label in text.split('.') {
@@ -30,7 +30,7 @@ fn is_host(text: &str) -> bool {
     text.len() <= 253
 }
 
-// Whether a text has a blank, or another octet that stands in no address and no resource.
+// Returns whether a text has a blank, or another byte that is in no address and no resource.
 fn has_blank(text: &str) -> bool {
     for octet in text.as_bytes() {
         if !octet.is_ascii_graphic() || *octet == b'<' || *octet == b'>' {
@@ -40,7 +40,7 @@ fn has_blank(text: &str) -> bool {
     false
 }
 
-// Whether a text stands in quotes, between which blanks may stand.
+// Returns whether a text is in quotes, between which blanks may be.
 fn is_quoted(text: &str) -> bool {
     for octet in text.as_bytes() {
         if !octet.is_ascii_graphic() && *octet != b' ' {
@@ -50,14 +50,14 @@ fn is_quoted(text: &str) -> bool {
     text.len() > 1 && text.starts_with('"') && text.ends_with('"')
 }
 
-// Whether a text is the local part of a mailbox, in quotes or not.
+// Returns whether a text is the local part of a mailbox, in quotes or not.
 fn is_local_part(text: &str) -> bool {
     let is_atom = !text.is_empty() && !text.contains('@') && !text.contains('"');
     is_quoted(text) || (is_atom && !has_blank(text))
 }
 
-// Whether a text is a mailbox: a local part, `@` and a host, or an address in brackets (RFC 5321
-// 4.1.2).
+// Returns whether a text is a mailbox: a local part, `@` and a host, or an address in brackets (RFC
+// 5321 4.1.2).
 fn is_mailbox(text: &str) -> bool {
     match text.rsplit_once('@') {
         Some((local, host)) => {
@@ -67,7 +67,7 @@ fn is_mailbox(text: &str) -> bool {
     }
 }
 
-// Whether a text is the scheme of a resource (RFC 3986 3.1).
+// Returns whether a text is the scheme of a resource (RFC 3986 3.1).
 fn is_scheme(text: &str) -> bool {
     for octet in text.as_bytes() {
         if !octet.is_ascii_alphanumeric() && *octet != b'+' && *octet != b'-' && *octet != b'.' {
@@ -77,7 +77,7 @@ fn is_scheme(text: &str) -> bool {
     matches!(text.as_bytes(), [first, ..] if first.is_ascii_alphabetic())
 }
 
-// Whether a text is a resource with its scheme, and something behind it.
+// Returns whether a text is a resource with its scheme, and something after it.
 fn is_resource(text: &str) -> bool {
     match text.split_once(':') {
         Some((scheme, rest)) => is_scheme(scheme) && !rest.is_empty() && !has_blank(rest),
@@ -85,7 +85,7 @@ fn is_resource(text: &str) -> bool {
     }
 }
 
-// Whether a name is well formed.
+// Returns whether a name is well formed.
 fn is_well_formed(name: &GeneralName) -> bool {
     match name {
         GeneralName::DnsName(host) => is_host(host.as_str()),

@@ -8,7 +8,7 @@ ghost use Rattle.std.specs.Prelude.{◌≡◌, map};
 ghost use Rattle.cert_tool_explain.specs.NodeParts.{inside_of, is_many, names_of, part_plain};
 ghost use Rattle.cert_tool_explain.specs.NodeParts.{parts_in};
 
-/// What is inside a value; `Leaf` where no parts are that have names. Inside an explicit tag is one
+/// What is inside a value; `Leaf` if no parts are that have names. Inside an explicit tag is one
 /// part, and of a choice one part stands.
 #[derive(Clone, Copy)]
 pub enum Node {
@@ -73,8 +73,8 @@ pub enum Node {
     Leaf,
 }
 
-/// A part: the first octet of its tag, none where any tag may stand or one of a choice; whether it
-/// may be left out; its name; and what is inside it.
+/// A part: the first byte of its tag, none if any tag may be or one of a choice; whether it may be
+/// left out; its name; and what is inside it.
 pub type Part = (Option<u8>, bool, &'static str, Node);
 
 const CERTIFICATE: [Part; 3] = [
@@ -307,7 +307,7 @@ const USAGE_PERIOD: [Part; 2] = [
     (Some(0x81), true, "notAfter", Node::Leaf),
 ];
 
-// The parts inside a value, in their order; of a list that of each member.
+// Returns the parts inside a value, in their order; of a list that of each member.
 pub fn parts_of(node: Node) -> &'static [Part]
     ensures names { map (λ p. p.2.now) result.now ≡ names_of node }
     ensures parts { map part_plain result.now ≡ parts_in (inside_of node) }
@@ -375,7 +375,7 @@ pub fn parts_of(node: Node) -> &'static [Part]
     }
 }
 
-// Whether the members of a list are inside.
+// Returns whether the members of a list are inside.
 pub fn is_list(node: Node) -> bool
     ensures { result ≡ is_many (inside_of node) }
 {

@@ -114,7 +114,7 @@ fn add_broken(
     end_remark(lines, section);
 }
 
-// The first reason why the certificate at a place breaks a rule.
+// Returns the first reason why the certificate at a place breaks a rule.
 fn first_reason(
     lines: &mut Lines,
     bundle: &Bundle,
@@ -145,7 +145,7 @@ pub(crate) fn add_reason_of(
 
 // Why paths are too long. The further on a place stands, the further before stands the first one
 // whose path length it exceeds. So from the place on that has the reason of the last one, all have
-// it; and since a path length is at most 255, at most so many stand before that.
+// it; and since a path length is at most 255, at most so many come before that.
 #[derive(Drop)]
 pub(crate) struct LengthReasons {
     last: Option<Reason>,

@@ -1,4 +1,4 @@
-//! Why octets are refused.
+//! Why bytes are rejected.
 
 use crate::certificate_remarks::add_lone_remarks;
 use crate::faults::add_fault;
@@ -12,18 +12,18 @@ use cert_tool_describe::cert_parts::Raw;
 use cert_tool_describe::tool_lines::Lines;
 use std::alloc::{AllocError, Global};
 
-// How many octets are looked at for the first line of PEM.
+// How many bytes are looked at for the first line of PEM.
 const MOST_TEXT: usize = 65536;
 
 // What a line of PEM begins with.
 const PEM_MARK: &[u8] = b"-----BEGIN ";
 
-// Whether a text would have this octet.
+// Returns whether a text would have this byte.
 fn is_of_text(octet: u8) -> bool {
     octet >= b' ' || octet == b'\t' || octet == b'\n' || octet == b'\r'
 }
 
-// The octets behind a byte order mark of UTF-8, if one stands in front.
+// Returns the bytes after a byte order mark of UTF-8, if one is in front.
 fn without_mark(octets: &[u8]) -> &[u8] {
     match octets {
         [0xef, 0xbb, 0xbf, rest @ ..] => rest,
@@ -31,9 +31,8 @@ fn without_mark(octets: &[u8]) -> &[u8] {
     }
 }
 
-/// Returns whether octets are PEM (RFC 7468), of which nothing is read here: a line of theirs
-/// begins it, and what stands before is text too. The answer is a hint: no clause says when it is
-/// true.
+/// Returns whether bytes are PEM (RFC 7468), of which nothing is read here: a line of theirs begins
+/// it, and what comes before is text too. The answer is a hint: no clause says when it is true.
 pub fn is_pem(octets: &[u8]) -> bool {
     let mut rest = without_mark(octets);
     let mut begins_line = true;
@@ -74,7 +73,7 @@ impl Remarked for CertReq {
     fn add_remarks(&self, _lines: &mut Lines) {}
 }
 
-// How OpenSSL makes DER of PEM.
+// Returns how OpenSSL makes DER of PEM.
 fn pem_hint(kind: Kind) -> &'static str {
     match kind {
         Kind::Certificate => {
@@ -85,7 +84,7 @@ fn pem_hint(kind: Kind) -> &'static str {
     }
 }
 
-// Adds what is to be said of octets of a type. Any value is held here, since a check takes long of
+// Adds what is to be said of bytes of a type. Any value is held here, since a check takes long of
 // what holds a certificate.
 fn add_findings_of<T: DescribeFile + Remarked + Drop>(
     lines: &mut Lines,
@@ -101,7 +100,7 @@ fn add_findings_of<T: DescribeFile + Remarked + Drop>(
     }
 }
 
-// Adds what is to be said of octets of a kind.
+// Adds what is to be said of bytes of a kind.
 fn add_findings(lines: &mut Lines, octets: &[u8], kind: Kind) {
     match kind {
         Kind::Certificate => {
@@ -112,9 +111,9 @@ fn add_findings(lines: &mut Lines, octets: &[u8], kind: Kind) {
     }
 }
 
-/// Why octets aren't of a kind: the first fault, the octet where it stands, and the parts around
-/// it, from the outermost on. Of octets that are of the kind it says so, and what RFC 5280 asks for
-/// beyond that.
+/// Returns why bytes aren't of a kind: the first fault, the byte where it stands, and the parts
+/// around it, from the outermost on. Of bytes that are of the kind it says so, and what RFC 5280
+/// asks for beyond that.
 pub fn explain_octets(
     alloc: Global,
     octets: &[u8],

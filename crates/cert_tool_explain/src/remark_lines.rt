@@ -38,7 +38,7 @@ pub fn add_each(lines: &mut Lines, remarks: &[Remark]) {
     }
 }
 
-// Whether a date is a GeneralizedTime of a year that UTCTime can spell (RFC 5280 4.1.2.5).
+// Returns whether a date is a GeneralizedTime of a year that UTCTime can spell (RFC 5280 4.1.2.5).
 pub fn is_long_for_its_year(date: &Time) -> bool {
     match date {
         Time::UtcTime(_) => false,
@@ -46,7 +46,7 @@ pub fn is_long_for_its_year(date: &Time) -> bool {
     }
 }
 
-// Whether a serial number isn't above zero, or has more than 20 octets (RFC 5280 4.1.2.2).
+// Returns whether a serial number isn't above zero, or has more than 20 bytes (RFC 5280 4.1.2.2).
 pub fn is_wrong_serial(serial: &[u8]) -> bool {
     match serial {
         [] | [0] | [0x80..=0xff, ..] => true,
@@ -56,7 +56,7 @@ pub fn is_wrong_serial(serial: &[u8]) -> bool {
 }
 
 // What RFC 5280 4.1.2.2 forbids of a serial number that is read all the same: it is to be above
-// zero, and of at most 20 octets and one for the sign.
+// zero, and of at most 20 bytes and one for the sign.
 pub fn add_serial_remarks(lines: &mut Lines, serial: &[u8]) {
     let is_below_zero = matches!(serial, [0x80..=0xff, ..]);
     let amount = match serial {
@@ -85,7 +85,7 @@ pub fn add_serial_remarks(lines: &mut Lines, serial: &[u8]) {
     );
 }
 
-/// Texts of octets that were seen.
+/// Texts of bytes that were seen.
 #[derive(Drop)]
 pub struct Seen {
     texts: BTreeMap<Vec<u8>, ()>,
@@ -115,7 +115,7 @@ impl Seen {
     }
 }
 
-// Whether two of these extensions are of one kind (RFC 5280 4.2).
+// Returns whether two of these extensions are of one kind (RFC 5280 4.2).
 pub fn has_twins(lines: &mut Lines, extensions: &[Extension]) -> bool {
     let mut seen = Seen::new(lines.alloc);
     for extension in extensions {

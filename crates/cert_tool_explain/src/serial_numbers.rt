@@ -6,7 +6,7 @@ use cert_tool_describe::tool_lines::Lines;
 use std::alloc::{AllocError, Global};
 use std::collections::BTreeMap;
 
-// Who gave a certificate its serial number, and that number: the octets of both.
+// Who gave a certificate its serial number, and that number: the bytes of both.
 fn identity_of(alloc: Global, place: &ChainPlace<'_>) -> Result<Vec<u8>, AllocError> {
     let Ok(mut octets) = place.issuer().to_der(alloc) else {
         return Err(AllocError);

@@ -1,4 +1,4 @@
-//! Why octets are no stream of certificates.
+//! Why bytes aren't a stream of certificates.
 
 ghost use Rattle.std.specs.Prelude.{◌≤◌};
 
@@ -16,7 +16,7 @@ pub(crate) const LEAF_FIRST: &str =
     "the certificates stand as TLS sends them, the leaf first: `cert_tool reverse` turns them \
      round";
 
-// What a fault of a stream means.
+// Returns what a fault of a stream means.
 fn meaning(kind: FaultKind) -> &'static str {
     match kind {
         FaultKind::NoCertificate =>
@@ -30,7 +30,7 @@ fn meaning(kind: FaultKind) -> &'static str {
     }
 }
 
-// Adds why the octets at an offset are no certificate.
+// Adds why the bytes at an offset aren't a certificate.
 fn add_malformed(lines: &mut Lines, rest: &[u8], offset: u64) {
     match first_fault(lines.alloc, rest) {
         Ok(Some(error)) => add_fault(lines, rest, offset, Node::Certificate, &error),
@@ -63,8 +63,8 @@ fn add_stream_fault(lines: &mut Lines, octets: &[u8], error: BundleError) {
     }
 }
 
-// Whether each certificate's issuer is the subject of the next, and none's the subject of the one
-// before, as TLS sends them. The answer is a hint: no clause says when it is true.
+// Returns whether each certificate's issuer is the subject of the next, and none's the subject of
+// the one before, as TLS sends them. The answer is a hint: no clause says when it is true.
 pub(crate) fn is_leaf_first(bundle: &Bundle) -> bool {
     for place in 1..bundle.len() {
         let this = bundle.get(place).unwrap().certificate.tbs_certificate();
@@ -110,9 +110,9 @@ fn add_stream(lines: &mut Lines, octets: &[u8], limit: u32)
     }
 }
 
-/// Why octets aren't certificates, one behind the other, each of at most `limit` octets: the first
-/// fault, the octet where it stands, and the parts around it. Certificates in the order of TLS, the
-/// leaf first, are said to be so.
+/// Returns why bytes aren't certificates, one after another, each of at most `limit` bytes: the
+/// first fault, the byte where it stands, and the parts around it. Certificates in the order of
+/// TLS, the leaf first, are said to be so.
 pub fn explain_stream(
     alloc: Global,
     octets: &[u8],

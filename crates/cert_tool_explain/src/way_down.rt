@@ -5,28 +5,28 @@ use crate::parts::Part;
 use cert_tool_describe::der::{Error, ErrorKind, MAX_LEVELS, Tag, header_of};
 use std::alloc::{AllocError, Global};
 
-/// A value among others that stand one after the other.
+/// A value among others that stand one after another.
 #[derive(Clone, Copy)]
 pub struct Value {
     // Where it begins, and where its content begins and ends.
     pub start: usize,
     pub content: usize,
     pub end: usize,
-    // How many octets its length counts, of which there may be fewer.
+    // How many bytes its length counts, of which there may be fewer.
     pub len: usize,
     pub tag: Tag,
-    // The first octet of its tag.
+    // The first byte of its tag.
     first: u8,
 }
 
 impl Value {
-    // Whether its content begins at a place, and lacks octets.
+    // Returns whether its content begins at a place, and lacks bytes.
     fn is_cut_at(&self, place: usize) -> bool {
         self.content == place && self.len > self.end.saturating_sub(self.content)
     }
 }
 
-// The value that begins at a place, up to the end of the octets, if it has a header.
+// Returns the value that begins at a place, up to the end of the bytes, if it has a header.
 fn headed_at(octets: &[u8], start: usize) -> Option<Value> {
     if start >= octets.len() {
         return None;
@@ -49,8 +49,8 @@ fn headed_at(octets: &[u8], start: usize) -> Option<Value> {
     })
 }
 
-// The value that begins at a place, up to the end of the octets. Behind a tag whose length can't be
-// read no content is looked at.
+// Returns the value that begins at a place, up to the end of the bytes. After a tag whose length
+// can't be read no content is looked at.
 fn value_at(octets: &[u8], start: usize) -> Option<Value> {
     if let Some(value) = headed_at(octets, start) {
         return Some(value);
@@ -71,7 +71,7 @@ fn value_at(octets: &[u8], start: usize) -> Option<Value> {
     }
 }
 
-// The content of the value that begins at a place; nothing where none does.
+// Returns the content of the value that begins at a place; nothing where none does.
 pub fn content_at(octets: &[u8], place: usize) -> &[u8] {
     match headed_at(octets, place) {
         Some(value) if value.content <= value.end && value.end <= octets.len() => {
@@ -81,7 +81,7 @@ pub fn content_at(octets: &[u8], place: usize) -> &[u8] {
     }
 }
 
-// Whether the value that begins these octets ends at a place where a SEQUENCE begins.
+// Returns whether the value that begins these bytes ends at a place where a SEQUENCE begins.
 pub fn is_followed(octets: &[u8], place: usize) -> bool {
     match (headed_at(octets, 0), octets.get(place)) {
         (Some(first), Some(0x30)) => first.end == place,
@@ -97,7 +97,7 @@ pub struct Step {
 }
 
 impl Step {
-    // The parts inside it, and the octets up to its end; none where they have no names.
+    // Returns the parts inside it, and the bytes up to its end; none if they have no names.
     fn inside<'a>(&self, octets: &'a [u8]) -> Option<(Fields, &'a [u8])> {
         let fields = Fields::of(self.taken.node);
         if !fields.is_named() || !self.value.tag.is_constructed() {
@@ -110,8 +110,8 @@ impl Step {
     }
 }
 
-// The last of the values from a place on that stand where they may, and the parts that may stand
-// behind it.
+// Returns the last of the values from a place on that stand where they may, and the parts that may
+// be after it.
 fn last_from(octets: &[u8], start: usize, fields: Fields) -> (Option<Step>, Fields) {
     let mut last = None;
     let mut at = start;
@@ -130,7 +130,7 @@ fn last_from(octets: &[u8], start: usize, fields: Fields) -> (Option<Step>, Fiel
     (last, fields)
 }
 
-// Whether a part is wanting at the end of a value, or of the last of its parts, and so on.
+// Returns whether a part is wanting at the end of a value, or of the last of its parts, and so on.
 fn is_short(octets: &[u8], value: Step) -> bool {
     let mut around = value;
     for _ in 0..MAX_LEVELS {
@@ -149,7 +149,7 @@ fn is_short(octets: &[u8], value: Step) -> bool {
     false
 }
 
-// What is looked for: the octet of a fault, and whether octets are wanting there.
+// What is looked for: the byte of a fault, and whether bytes are wanting there.
 #[derive(Clone, Copy)]
 struct Sought {
     place: usize,
@@ -157,7 +157,7 @@ struct Sought {
 }
 
 impl Sought {
-    // Whether the fault is one of this value.
+    // Returns whether the fault is one of this value.
     fn is_in(&self, octets: &[u8], step: Step) -> bool {
         let end = step.value.end;
         let is_wanting = self.is_end
@@ -166,17 +166,17 @@ impl Sought {
     }
 }
 
-// What is found among values that stand one behind the other.
+// What is found among values that stand one after another.
 #[derive(Clone, Copy)]
 enum Found {
     // The one in which the fault is.
     In(Step),
-    // Where the first begins that may not stand there, or the last ends, and the parts that may
-    // stand there.
+    // Where the first begins that may not be there, or the last ends, and the parts that may are
+    // there.
     Between(usize, Fields),
 }
 
-// Where a fault is among the values from a place on.
+// Returns where a fault is among the values from a place on.
 fn find(octets: &[u8], start: usize, fields: Fields, sought: Sought) -> Found {
     let mut at = start;
     let mut fields = fields;
@@ -204,13 +204,13 @@ pub struct Way {
     pub steps: Vec<Step>,
     // Where it stands.
     pub place: usize,
-    // The parts of which one may stand there, if none does.
+    // The parts of which one may be there, if none does.
     pub wanted: &'static [Part],
 }
 
 impl Way {
-    // Goes down from a value that begins these octets, one of some parts, to a fault. A choice
-    // whose tag is none of those that may stand was found at the value around it.
+    // Goes down from a value that begins these bytes, one of some parts, to a fault. A choice whose
+    // tag is none of those that may be was found at the value around it.
     fn follow(
         &mut self,
         octets: &[u8],
@@ -256,7 +256,7 @@ impl Way {
         Ok(())
     }
 
-    // The name of the innermost of these values that has one.
+    // Returns the name of the innermost of these values that has one.
     pub fn name(&self) -> &'static str {
         let mut innermost = "";
         for step in &self.steps {
@@ -270,7 +270,7 @@ impl Way {
     }
 }
 
-// Whether the parts are told that may stand where such a fault is.
+// Returns whether the parts are reported that may be where such a fault is.
 fn is_of_parts(kind: ErrorKind) -> bool {
     match kind {
         ErrorKind::TagUnexpected | ErrorKind::TrailingData | ErrorKind::Incomplete => true,
@@ -278,7 +278,7 @@ fn is_of_parts(kind: ErrorKind) -> bool {
     }
 }
 
-// The way from a value that begins these octets, one of some parts, down to a fault.
+// Returns the way from a value that begins these bytes, one of some parts, down to a fault.
 pub fn way_to(
     alloc: Global,
     octets: &[u8],

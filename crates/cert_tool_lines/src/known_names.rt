@@ -1,7 +1,7 @@
 //! Identifiers that are well known, and their names.
 
-// Identifiers by their octets (X.690 8.19), in which an arc below 128 is an octet, and the names
-// that their documents give them.
+// Identifiers by their bytes (X.690 8.19), in which an arc below 128 is a byte, and the names that
+// their documents give them.
 type Names = &'static [(&'static [u8], &'static str)];
 
 const OF_KEYS: [(&[u8], &str); 24] = [
@@ -226,8 +226,8 @@ const OF_OTHER_EXTENSIONS: [(&[u8], &str); 8] = [
     (&[42, 0x86, 0x48, 0xce, 56, 2, 3], "holdInstructionReject"),
 ];
 
-// Each table is lent by a function of its own: where one is named its rows are checked, in a time
-// that grows with the square of their number.
+// Returns each table is borrowed by a function of its own: where one is named its rows are checked,
+// in a time that grows with the square of their number.
 
 fn of_keys() -> Names {
     &OF_KEYS
@@ -257,8 +257,8 @@ fn of_other_extensions() -> Names {
     &OF_OTHER_EXTENSIONS
 }
 
-// The name that a table has for an identifier of these octets. Most of a table differ in their last
-// octet.
+// Returns the name that a table has for an identifier of these bytes. Most of a table differ in
+// their last byte.
 fn name_in(names: Names, octets: &[u8]) -> Option<&'static str> {
     for (known, name) in names {
         if known.last() == octets.last() && *known == octets {
@@ -268,7 +268,7 @@ fn name_in(names: Names, octets: &[u8]) -> Option<&'static str> {
     None
 }
 
-/// The name of an identifier of these octets, if it is well known.
+/// Returns the name of an identifier of these bytes, if it is well known.
 pub fn known_name(octets: &[u8]) -> Option<&'static str> {
     match octets {
         [0x55, 29, ..] => name_in(of_extensions(), octets),

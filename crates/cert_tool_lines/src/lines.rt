@@ -12,8 +12,8 @@ use x509_cert_parts::oid::ObjectIdentifier;
 // The digits in base 16.
 const DIGITS: [u8; 16] = *b"0123456789ABCDEF";
 
-/// A text that is added to, part by part. Where there is no memory for something, that is noted,
-/// and `finish` is refused; so what adds to it has no error of its own.
+/// A text that is added to, part by part. If memory runs out for something, that is noted, and
+/// `finish` is rejected; so what adds to it has no error of its own.
 ///
 /// As lines, parts stand after a margin, and values after words, with a blank between them. As
 /// JSON, what stands between `open` and `close` are the members of an object, each begun by its
@@ -27,8 +27,8 @@ pub struct Lines {
     text: Vec<u8>,
     // How deep the line stands.
     depth: u32,
-    // Whether nothing stands on the line, or in the object or array, that the next part must be
-    // set off from.
+    // Whether nothing is on the line, or in the object or array, that the next part must be set off
+    // from.
     is_first: bool,
     // Whether there was no memory for something.
     has_failed: bool,
@@ -52,7 +52,7 @@ impl Lines {
         lines
     }
 
-    /// The text of all lines, or the document.
+    /// Returns the text of all lines, or the document.
     pub fn finish(mut self) -> Result<Vec<u8>, AllocError> {
         if self.is_json {
             self.add(b"}\n");
@@ -77,14 +77,14 @@ impl Lines {
         }
     }
 
-    // Adds octets.
+    // Adds bytes.
     fn add(&mut self, octets: &[u8]) {
         if self.text.extend_from_slice(octets).is_err() {
             self.has_failed = true;
         }
     }
 
-    // Adds an octet.
+    // Adds a byte.
     fn add_one(&mut self, octet: u8) {
         if self.text.push(octet).is_err() {
             self.has_failed = true;
@@ -176,13 +176,13 @@ impl Lines {
         self.date(date);
     }
 
-    /// Adds a member that is octets in base 16 on a line of its own.
+    /// Adds a member that is bytes in base 16 on a line of its own.
     pub fn octets_row(&mut self, word: &str, key: &str, octets: &[u8]) {
         self.row(word, key);
         self.octets(octets);
     }
 
-    /// Adds a member that is a number of these octets on a line of its own.
+    /// Adds a member that is a number of these bytes on a line of its own.
     pub fn number_row(&mut self, word: &str, key: &str, octets: &[u8]) {
         self.row(word, key);
         self.number(octets);
@@ -331,7 +331,7 @@ impl Lines {
     }
 
     // Adds such a text that was printed: what isn't printable stands as `\XX` on a line, for each
-    // octet of UTF-8.
+    // byte of UTF-8.
     pub fn printed(&mut self, text: &str) {
         if is_plain(text.as_bytes()) || (!self.is_json && is_ascii_printable(text.as_bytes())) {
             self.push(text);
@@ -379,8 +379,8 @@ impl Lines {
         }
     }
 
-    // Adds a character of a string of JSON (RFC 8259 7): quote and backslash behind a backslash,
-    // and what isn't printable behind `\u`, in UTF-16.
+    // Adds a character of a string of JSON (RFC 8259 7): quote and backslash after a backslash, and
+    // what isn't printable after `\u`, in UTF-16.
     fn escaped(&mut self, letter: char) {
         if letter == '"' || letter == '\\' {
             self.add_one(b'\\');
@@ -397,14 +397,14 @@ impl Lines {
         }
     }
 
-    // Adds an octet in base 16.
+    // Adds a byte in base 16.
     fn pair(&mut self, octet: u8) {
         let [high, low] = pair_of(octet);
         self.add_one(high);
         self.add_one(low);
     }
 
-    // Adds octets in base 16, with nothing between them.
+    // Adds bytes in base 16, with nothing between them.
     fn joined_pairs(&mut self, octets: &[u8]) {
         let (groups, rest) = octets.as_chunks::<16>();
         for group in groups {
@@ -415,7 +415,7 @@ impl Lines {
         }
     }
 
-    // Adds octets in base 16, each behind this.
+    // Adds bytes in base 16, each after this.
     fn pairs_behind(&mut self, octets: &[u8], separator: u8) {
         let (groups, rest) = octets.as_chunks::<16>();
         for group in groups {
@@ -427,7 +427,7 @@ impl Lines {
         }
     }
 
-    /// Adds octets in base 16, with this between them, if anything.
+    /// Adds bytes in base 16, with this between them, if anything.
     pub fn pairs(&mut self, before: &str, octets: &[u8], separator: Option<u8>) {
         self.push(before);
         match (separator, octets) {
@@ -492,7 +492,7 @@ impl Lines {
         self.value(date);
     }
 
-    /// Adds an octet of a value that begins at an offset of a file.
+    /// Adds a byte of a value that begins at an offset of a file.
     pub fn place(&mut self, offset: u64, octet: u64) {
         self.word("octet");
         if self.is_json || offset > 0 {
@@ -532,22 +532,22 @@ impl Lines {
         self.end();
     }
 
-    /// Adds octets in base 16, with a colon between them.
+    /// Adds bytes in base 16, with a colon between them.
     pub fn octets(&mut self, octets: &[u8]) {
         self.begin();
         self.pairs("", octets, Some(b':'));
         self.end();
     }
 
-    /// Adds a number in base 16, of its octets, after `0x`.
+    /// Adds a number in base 16, of its bytes, after `0x`.
     pub fn natural(&mut self, octets: &[u8]) {
         self.begin();
         self.pairs("0x", octets, None);
         self.end();
     }
 
-    /// Adds a number in base 16, of the octets of an INTEGER: as OpenSSL prints it, without a zero
-    /// octet in front, and below zero the amount after a sign.
+    /// Adds a number in base 16, of the bytes of an INTEGER: as OpenSSL prints it, without a zero
+    /// byte in front, and below zero the amount after a sign.
     pub fn number(&mut self, octets: &[u8]) {
         match octets {
             [0, rest @ ..] if !rest.is_empty() => self.natural(rest),
@@ -561,8 +561,8 @@ impl Lines {
         }
     }
 
-    // Adds the amount of a number below zero: each octet's complement, and one more than that,
-    // which is carried over the zeros at the end; without a zero octet in front.
+    // Adds the amount of a number below zero: each byte's complement, and one more than that, which
+    // is carried over the zeros at the end; without a zero byte in front.
     fn opposite(&mut self, octets: &[u8]) {
         let mut last = 0;
         for place in 0..octets.len() {
@@ -605,7 +605,7 @@ impl Write for Lines {
     }
 }
 
-// The digits of an octet.
+// Returns the digits of a byte.
 fn pair_of(octet: u8) -> [u8; 2] {
     [
         DIGITS[usize::from(octet >> 4)],
@@ -613,7 +613,7 @@ fn pair_of(octet: u8) -> [u8; 2] {
     ]
 }
 
-// The digits of sixteen octets.
+// Returns the digits of sixteen bytes.
 fn pairs_of(octets: &[u8; 16]) -> [u8; 32] {
     let mut text = [0; 32];
     for place in 0..16 {
@@ -624,7 +624,7 @@ fn pairs_of(octets: &[u8; 16]) -> [u8; 32] {
     text
 }
 
-// The digits of sixteen octets, each behind this.
+// Returns the digits of sixteen bytes, each after this.
 fn separated_pairs_of(octets: &[u8; 16], separator: u8) -> [u8; 48] {
     let mut text = [separator; 48];
     for place in 0..16 {
@@ -635,7 +635,7 @@ fn separated_pairs_of(octets: &[u8; 16], separator: u8) -> [u8; 48] {
     text
 }
 
-// Whether octets are printable characters of ASCII.
+// Returns whether bytes are printable characters of ASCII.
 fn is_ascii_printable(text: &[u8]) -> bool {
     for octet in text {
         if *octet < b' ' || *octet > b'~' {
@@ -645,7 +645,7 @@ fn is_ascii_printable(text: &[u8]) -> bool {
     true
 }
 
-// Whether octets are printable characters of ASCII that nothing escapes.
+// Returns whether bytes are printable characters of ASCII that nothing escapes.
 fn is_plain(text: &[u8]) -> bool {
     for octet in text {
         if *octet < b' ' || *octet > b'~' || *octet == b'\\' || *octet == b'"' {
@@ -655,7 +655,7 @@ fn is_plain(text: &[u8]) -> bool {
     true
 }
 
-// Whether a character stands for itself in a line: Unicode calls it a letter, mark, number,
+// Returns whether a character stands for itself in a line: Unicode calls it a letter, mark, number,
 // punctuation or symbol, or it is the blank.
 fn is_printable(letter: char) -> bool {
     if letter.is_ascii() {

@@ -1,4 +1,5 @@
--- Gathering answers an identifier, or the fault of the shortest faulty front of the arcs.
+-- Lemmas about collecting arcs: the result is an identifier, or the error of the shortest prefix
+-- that has one.
 use Rattle.std.proofs.Common.{◌≡◌, ◌≢◌, ℕ, ◌<◌, ◌≤◌, ◌⊎◌, inl, inr, false, List, [], ◌∷◌, ◌++◌, length, Result, Ok, Err, IfOk, IfErr, MatchResult, sym, refl, ap, subst, ◌∙◌, append_assoc, append-nil, length-append, arith}
 use Rattle.std.specs.List.{AllByRecursion, flat_map}
 use Rattle.std.proofs.lemmas.Bool.{lt-ltb, le-ltb, cases_lt}
@@ -12,7 +13,7 @@ use Rattle.const_oid.specs.ArcLists.{is_misplaced, add_arc, whole_arcs, gather}
 use Rattle.const_oid.specs.ArcFaults.{ArePlaced, IsFaultless, IsNextFault, first_large, second_large, past_capacity, IsArcsFault, at_arc, too_few, EndsAtFault}
 use Rattle.const_oid.proofs.EncodingLaws.{add_arc-misplaced, add_arc-long, add_arc-ok, whole-few, whole-many, gather-ok, gather-err, gather-end}
 
--- A front of arcs without a fault has none
+-- Prefixes without an error
 
 octets_front : (front more : List ℕ) → length (identifier_octets front) ≤ length (identifier_octets (front ++ more))
 unfolding identifier_octets
@@ -46,9 +47,9 @@ not_misplaced (x ∷ y ∷ front) a p = refl
 pub add_arc-faultless : (capacity : ℕ) (front : List ℕ) (a : ℕ) → IsFaultless capacity (front ++ (a ∷ [])) → add_arc capacity front a ≡ Ok (front ++ (a ∷ []))
 add_arc-faultless capacity front a f = add_arc-ok capacity front a (not_misplaced front a f.placed) f.fits
 
--- One arc more
+-- Adding one arc
 
--- whether an arc more is at fault, and what is answered
+-- The results of adding an arc: it is added, or it has an error.
 pub data Next (capacity : ℕ) (front : List ℕ) (a : ℕ) : Type 0 where
   faulty : (e : Error) → IsNextFault capacity front a e → add_arc capacity front a ≡ Err e → Next capacity front a
   fine : IsFaultless capacity (front ++ (a ∷ [])) → add_arc capacity front a ≡ Ok (front ++ (a ∷ [])) → Next capacity front a
@@ -83,12 +84,12 @@ next-not_overflow capacity front a e (first_large none large) h = cc
 next-not_overflow capacity front a e (second_large first one large) h = cc
 next-not_overflow capacity front a e (past_capacity placed long) h = cc
 
--- an arc more is never too few
+-- Adding an arc never returns `Empty`.
 pub add_arc-not_empty : (capacity : ℕ) (front : List ℕ) (a : ℕ) → add_arc capacity front a ≢ Err errors.Empty
 unfolding add_arc
 add_arc-not_empty capacity front a h = grind (arith, nat_tests)
 
--- What gathering answers
+-- The result of collecting
 
 abbrev pub Judged : (capacity : ℕ) → List ℕ → Result (List ℕ) Error → Type 0
 Judged capacity arcs r = MatchResult r (λ oid. (oid ≡ arcs) × IsFaultless capacity arcs × (2 ≤ length arcs)) (λ e. IsArcsFault capacity arcs e)
@@ -115,7 +116,7 @@ gather_judged capacity front (a ∷ arcs) f = by (next capacity front a f.placed
 judged : (capacity : ℕ) (arcs : List ℕ) (r : Result (List ℕ) Error) → r ≡ gather capacity [] arcs → Judged capacity arcs r
 judged capacity arcs r e = subst (Judged capacity arcs) (sym e) (gather_judged capacity [] arcs (faultless_none capacity))
 
--- arcs that are refused have the fault that is answered
+-- If collecting arcs returns an error, the arcs have that error.
 pub arc_fault_found : (capacity : ℕ) (arcs : List ℕ) (e : Error) → gather capacity [] arcs ≡ Err e → IsArcsFault capacity arcs e
 arc_fault_found capacity arcs e err = judged capacity arcs (Err e) (sym err)
 
@@ -128,14 +129,14 @@ placed_identifier bound (x ∷ y ∷ arcs) p many all = (p.0, omega (arith, p.1)
 pub faultless_identifier : (bound capacity : ℕ) (arcs : List ℕ) → IsFaultless capacity arcs → 2 ≤ length arcs → AllByRecursion (λ n. n < bound) arcs → IsIdentifier bound arcs
 faultless_identifier bound capacity arcs f many all = placed_identifier bound arcs f.placed many all
 
--- arcs that are gathered are an identifier
+-- If collecting arcs succeeds, they are an identifier.
 pub gathered_are_identifier : (bound capacity : ℕ) (arcs oid : List ℕ) → AllByRecursion (λ n. n < bound) arcs → gather capacity [] arcs ≡ Ok oid
     → (oid ≡ arcs) × IsIdentifier bound arcs × (length (identifier_octets arcs) ≤ capacity)
 gathered_are_identifier bound capacity arcs oid all ok =
     let j : Judged capacity arcs (Ok oid) = judged capacity arcs (Ok oid) (sym ok) in
     (j.0, placed_identifier bound arcs j.1.placed j.2 all, j.1.fits)
 
--- behind a front without a fault, the fault of what follows
+-- Collecting after a prefix without an error
 
 gather-front : (capacity : ℕ) (front more rest : List ℕ) → IsFaultless capacity (front ++ more) → gather capacity front (more ++ rest) ≡ gather capacity (front ++ more) rest
 gather-front capacity front [] rest f = ap (λ t. gather capacity t rest) (sym (append-nil front))
@@ -146,7 +147,7 @@ gather-front capacity front (a ∷ more) rest f =
     ∙ gather-front capacity (front ++ (a ∷ [])) more rest g
     ∙ ap (λ t. gather capacity t rest) whole
 
--- the arcs of an identifier are gathered whole
+-- The arcs of an identifier are in range.
 identifier_placed : (bound : ℕ) (arcs : List ℕ) → IsIdentifier bound arcs → ArePlaced arcs × (2 ≤ length arcs)
 unfolding IsIdentifier
 identifier_placed bound (x ∷ y ∷ arcs) id = ((id.0, omega (arith, id.1)), omega arith)
@@ -157,7 +158,7 @@ identifier_gathered bound capacity arcs id fits =
     let p = identifier_placed bound arcs id in
     ap (gather capacity []) (sym (append-nil arcs)) ∙ gather-front capacity [] arcs [] (record { placed = p.0; fits = fits }) ∙ gather-end capacity arcs ∙ whole-many arcs p.1
 
--- arcs of that fault are refused with it
+-- If arcs have an error, collecting them returns that error.
 pub arc_fault_answered : (capacity : ℕ) (arcs : List ℕ) (e : Error) → IsArcsFault capacity arcs e → gather capacity [] arcs ≡ Err e
 arc_fault_answered capacity arcs e (at_arc front a rest x whole f fault) =
     ap (gather capacity []) whole ∙ gather-front capacity [] front (a ∷ rest) f ∙ gather-err capacity front a rest x (next_answered capacity front a x fault)
@@ -168,7 +169,7 @@ pub arc_fault-not_overflow : (capacity : ℕ) (arcs : List ℕ) (e : Error) → 
 arc_fault-not_overflow capacity arcs e (at_arc front a rest x whole f fault) h = next-not_overflow capacity front a x fault h
 arc_fault-not_overflow capacity arcs e (too_few f few) h = cc
 
--- What an answer says of the arcs
+-- Consequences for a result
 
 pub answer_ok : (bound capacity : ℕ) (Q : List ℕ → Type 0) (arcs : List ℕ) (r : Result (List ℕ) Error) → AllByRecursion (λ n. n < bound) arcs → r ≡ gather capacity [] arcs
     → (IsIdentifier bound arcs → length (identifier_octets arcs) ≤ capacity → Q arcs) → IfOk r Q
@@ -181,13 +182,13 @@ pub answer_fault : (capacity : ℕ) (Q : Error → Type 0) (arcs : List ℕ) (r 
 answer_fault capacity Q arcs (Ok oid) e q = tt
 answer_fault capacity Q arcs (Err x) e q = q x (arc_fault_found capacity arcs x (sym e))
 
--- Taking arcs one after another
+-- Collecting from an iterator
 
--- a front without a fault is what is gathered of it
+-- Collecting a prefix without an error gives the prefix.
 pub gather-faultless : (capacity : ℕ) (front more : List ℕ) → IsFaultless capacity front → gather capacity [] (front ++ more) ≡ gather capacity front more
 gather-faultless capacity front more f = gather-front capacity [] front more f
 
--- an arc that is added leaves no fault
+-- If an arc is added without an error, the longer prefix has none.
 pub added-faultless : (capacity : ℕ) (front : List ℕ) (a : ℕ) (more : List ℕ) → IsFaultless capacity front → add_arc capacity front a ≡ Ok more
     → (more ≡ front ++ (a ∷ [])) × IsFaultless capacity (front ++ (a ∷ []))
 added-faultless capacity front a more f ok = by (next capacity front a f.placed)
@@ -196,7 +197,8 @@ added-faultless capacity front a more f ok = by (next capacity front a f.placed)
     by (faulty e fault err) = let h : Ok more ≡ Err e = sym ok ∙ err in cc
     by (fine g also) = let h : Ok more ≡ Ok (front ++ (a ∷ [])) = sym ok ∙ also in (cc, g)
 
--- behind a front without a fault at most one arc was taken
+-- After a prefix without an error, an iterator that stops at the first error has taken at most one
+-- more arc.
 pub ends_at_next : (capacity : ℕ) (front : List ℕ) (a : ℕ) → IsFaultless capacity front → EndsAtFault capacity (front ++ (a ∷ []))
 ends_at_next capacity front a f before last e = subst (IsFaultless capacity) (same_from_push front before a last e).0 f
 

@@ -1,4 +1,4 @@
--- What is read of octets is the arcs that they spell.
+-- Lemmas about decoding: the decoded arcs are those that the bytes contain.
 use Rattle.std.proofs.Common.{◌≡◌, ℕ, zero, suc, ◌+◌, ◌*◌, ◌/◌, ◌%◌, ◌<◌, ◌≤◌, true, ltb, List, [], ◌∷◌, length, get_or, drop, Result, Ok, Err, is_ok, Option, None, Some, MatchOption, cond, count_by, slice_get, sym, refl, ap, subst, ◌∙◌, inl, inr, arith}
 use Rattle.std.proofs.lemmas.Bool.{lt-ltb, le-ltb, cases_lt}
 use Rattle.std.proofs.lemmas.Bool.Decides.{nat_tests}
@@ -41,7 +41,7 @@ later_arcs-read bound value (o ∷ w) arcs ok = by (step bound value o) (λ valu
         let arc = value * 128 + o % 128 in
         later_arcs-more value o w l ∙ ih arc arcs (sym (read_arcs-more bound value o w free fits l) ∙ ok)
 
--- the capacity matters to longer octets alone
+-- The capacity matters only for bytes that are longer.
 pub read_identifier-within : (bound capacity : ℕ) (w : List ℕ) → length w ≤ capacity → read_identifier bound capacity w ≡ read_identifier bound (length w) w
 read_identifier-within bound capacity [] l = refl
 read_identifier-within bound capacity (r ∷ w) l = rw (le-ltb capacity (length (r ∷ w)) l, le-ltb (length (r ∷ w)) (length (r ∷ w)) (omega arith), read_identifier) refl
@@ -61,7 +61,7 @@ pub arcs_of-identifier_octets : (bound : ℕ) (arcs : List ℕ) → IsIdentifier
 arcs_of-identifier_octets bound arcs id =
     arcs_of-read bound (length (identifier_octets arcs)) (identifier_octets arcs) arcs (identifier_again bound (length (identifier_octets arcs)) arcs id (omega arith))
 
--- octets in which no fault is found spell their arcs
+-- If decoding succeeds, it returns some arcs.
 outcome-ok : (r : Result (List ℕ) Error) → outcome r ≡ Ok tt → (arcs : List ℕ) × (r ≡ Ok arcs)
 outcome-ok (Ok arcs) e = (arcs, refl)
 outcome-ok (Err x) e = cc
@@ -97,11 +97,11 @@ read_identifier-is_ok bound w e =
     let read = is_ok-ok (read_identifier bound (length w) w) e in
     read.1 ∙ ap (λ t. Ok t) (sym (arcs_of-read bound (length w) w read.0 read.1))
 
--- what octets spell whose reading succeeds
+-- Bytes whose decoding succeeds are the encoding of their arcs.
 pub is_ok_spells : (bound : ℕ) (w : List ℕ) → ((i : ℕ) → get_or w i 0 < 256) → is_ok (read_identifier bound (length w) w) ≡ true → SpellsIdentifier bound (length w) w
 is_ok_spells bound w bytes e = spells_from_read bound (length w) w bytes (read_identifier-is_ok bound w e)
 
--- One octet of octets that are whole arcs
+-- Bytes after the first one
 
 is_ok-with_arc : (a : ℕ) (r : Result (List ℕ) Error) → is_ok (with_arc a r) ≡ is_ok r
 is_ok-with_arc a (Ok arcs) = refl
@@ -142,13 +142,13 @@ pub whole_end : (bound value : ℕ) → is_ok (read_arcs bound value []) ≡ tru
 whole_end bound zero ok = refl
 whole_end bound (suc value) ok = let read = ap is_ok (read_arcs-cut bound (suc value) (omega arith)) in cc
 
--- the octets after the root are whole arcs
+-- If an identifier is decoded, the bytes after the first one are whole arcs.
 pub later_whole : (bound capacity r : ℕ) (w : List ℕ) → is_ok (read_identifier bound capacity (r ∷ w)) ≡ true → is_ok (read_arcs bound 0 w) ≡ true
 later_whole bound capacity r w ok =
     let read = is_ok-ok (read_identifier bound capacity (r ∷ w)) ok in
     ap is_ok (root_ok bound capacity r w read.0 read.1).2
 
--- the root is below 120
+-- If an identifier is decoded, its first byte is below 120.
 root_small : (bound capacity r : ℕ) (w : List ℕ) → is_ok (read_identifier bound capacity (r ∷ w)) ≡ true → r < 120
 root_small bound capacity r w ok =
     let read = is_ok-ok (read_identifier bound capacity (r ∷ w)) ok in
@@ -172,7 +172,7 @@ pub none_whole : (bound : ℕ) (w : List ℕ) → length w ≡ 0 → is_ok (read
 none_whole bound [] e = ap is_ok (read_arcs-end bound)
 none_whole bound (x ∷ w) e = absurd (omega arith)
 
--- the octets of an identifier are read
+-- Decoding the encoding of an identifier succeeds.
 pub is_ok-octets : (bound : ℕ) (w arcs : List ℕ) → IsIdentifier bound arcs → w ≡ identifier_octets arcs → is_ok (read_identifier bound (length w) w) ≡ true
 is_ok-octets bound w arcs id e =
     ap (λ t. is_ok (read_identifier bound (length t) t)) e
@@ -181,7 +181,7 @@ is_ok-octets bound w arcs id e =
 pub arcs_of-spelled : (bound : ℕ) (w arcs : List ℕ) → IsIdentifier bound arcs → w ≡ identifier_octets arcs → arcs_of w ≡ arcs
 arcs_of-spelled bound w arcs id e = ap arcs_of e ∙ arcs_of-identifier_octets bound arcs id
 
--- an octet without a mark ends an arc
+-- The number of bytes with bit 8 clear, each of which ends an arc.
 abbrev ends : List ℕ → ℕ
 ends w = count_by (λ o. ltb o 128) w
 
@@ -207,7 +207,7 @@ length-arcs_of bound (r ∷ w) ok =
     let one : ends (r ∷ w) ≡ 1 + ends w = ends-cons r w ∙ ap (λ b. cond b 1 0 + ends w) (lt-ltb r 128 (omega arith)) in
     omega (arith, one, ap length (arcs_of-cons r w), length-later_arcs 0 w)
 
--- Whether octets are read: the root, and the arcs after it
+-- The outcome of the first byte and of the arcs after it
 
 pub outcome-with_arc : (a : ℕ) (r : Result (List ℕ) Error) → outcome (with_arc a r) ≡ outcome r
 outcome-with_arc a (Ok arcs) = refl
@@ -223,7 +223,7 @@ pub outcome-empty : (bound capacity : ℕ) (w : List ℕ) → length w ≡ 0 →
 outcome-empty bound capacity [] e = refl
 outcome-empty bound capacity (x ∷ w) e = absurd (omega arith)
 
--- The arc at a place
+-- The arc at an index
 
 pub none_left : (xs : List ℕ) (i index : ℕ) → drop i xs ≡ [] → i ≤ index → None ≡ slice_get xs index
 none_left [] i index e l = refl
@@ -249,7 +249,7 @@ at_next (Some x) s t xs i index m e l k =
     let same : i ≡ index = omega arith in
     (next_left xs i x t (sym e ∙ m)).0 ∙ ap (slice_get xs) same
 
--- spelled octets are below 256
+-- The bytes of an encoding are below 256.
 later_below : (arcs : List ℕ) (i : ℕ) → get_or (flat_map arc_octets arcs) i 0 < 256
 later_below arcs i = at (flat_map arc_octets arcs) i (arcs_below arcs)
   where

@@ -1,4 +1,5 @@
--- What lists begin with; what a wider bound of arcs reads alike, and what it reads newly.
+-- Lemmas about two bounds of arcs: the larger one accepts the same encodings and texts with the
+-- same arcs, and others only because of a large arc.
 use Rattle.std.proofs.Common.{◌≡◌, ℕ, suc, ◌<◌, ◌≤◌, ◌⊎◌, inl, inr, List, [], ◌∷◌, ◌++◌, length, get_or, is_ok, true, Ok, Err, sym, ap, subst, ◌∙◌, append_assoc, append-nil, arith}
 use Rattle.std.specs.List.{AllByRecursion}
 use Rattle.std.proofs.lemmas.Bool.{cases_lt}
@@ -16,7 +17,7 @@ begins_itself a = ([], sym (append-nil a))
 pub begins_chained : (a b c : List ℕ) → (rest : List ℕ) × (a ≡ b ++ rest) → (rest : List ℕ) × (b ≡ c ++ rest) → (rest : List ℕ) × (a ≡ c ++ rest)
 begins_chained a b c p q = (q.0 ++ p.0, p.1 ∙ ap (λ t. t ++ p.0) q.1 ∙ append_assoc c q.0 p.0)
 
--- Octets under two bounds
+-- Encodings under two bounds
 
 below_wider : (small large : ℕ) → small ≤ large → (xs : List ℕ) → AllByRecursion (λ n. n < small) xs → AllByRecursion (λ n. n < large) xs
 below_wider small large le [] h = tt
@@ -27,14 +28,14 @@ unfolding IsIdentifier
 widen small large le (a ∷ b ∷ arcs) id = (id.0, id.1, below_wider small large le arcs id.2)
 widen small large le _ id = absurd id
 
--- a wider bound reads the same arcs
+-- Encodings that are accepted under one bound decode to the same arcs under a larger one.
 pub wider_read : (small large capacity : ℕ) (w arcs : List ℕ) → small ≤ large → ((i : ℕ) → get_or w i 0 < 256) → read_identifier small capacity w ≡ Ok arcs → read_identifier large capacity w ≡ Ok arcs
 wider_read small large capacity w arcs le bytes ok =
     let sound = identifier_sound small capacity w arcs bytes ok in
     ap (read_identifier large capacity) sound.2
     ∙ identifier_again large capacity arcs (widen small large le arcs sound.0) (subst (λ (t : List ℕ). length t ≤ capacity) sound.2 sound.1)
 
--- the octets of a constant are read alike under the bound
+-- The encoding of a constant decodes to the same result under the bound of the crate.
 pub constant_read : (small capacity : ℕ) (w : List ℕ) → small ≤ Bound → ((i : ℕ) → get_or w i 0 < 256) → is_ok (read_identifier small capacity w) ≡ true
     → read_identifier Bound capacity w ≡ read_identifier small capacity w
 constant_read small capacity w le bytes ok =
@@ -48,7 +49,7 @@ constant_refused small capacity w e le bytes ok refused =
     let read = is_ok-ok (read_identifier small capacity w) ok in
     cc
 
--- all numbers are below a bound, or one is not
+-- Either all numbers are below a bound, or one isn't.
 all_or_one : (bound : ℕ) (xs : List ℕ) → AllByRecursion (λ n. n < bound) xs ⊎ ((i : ℕ) × (i < length xs) × (bound ≤ get_or xs i 0))
 all_or_one bound [] = inl tt
 all_or_one bound (x ∷ xs) =
@@ -57,7 +58,7 @@ all_or_one bound (x ∷ xs) =
       | inl l ↦ elim (all_or_one bound xs) [ inl all ↦ inl (l, all) | inr p ↦ inr (suc p.0, omega (arith, p.1), p.2) ]
     ]
 
--- an identifier under a wide bound that is none under a narrow one has a large arc
+-- An identifier under the larger bound that isn't one under the smaller bound has a large arc.
 large_arc : (small large : ℕ) (arcs : List ℕ) → IsIdentifier large arcs → (IsIdentifier small arcs → ⊥) → (i : ℕ) × (i < length arcs) × (small ≤ get_or arcs i 0)
 unfolding IsIdentifier
 large_arc small large (a ∷ b ∷ arcs) id none =

@@ -1,9 +1,9 @@
--- A buffer keeps zeros past its end.
+-- Lemmas about buffers: copying bytes to the beginning of an array of zeros leaves zeros after
+-- them.
 use Rattle.std.proofs.Common.{◌≡◌, ℕ, ◌-◌, ◌≤◌, List, ◌++◌, length, drop, replicate, ◌∙◌, arith, length-append, length-drop}
 use Rattle.std.proofs.lemmas.List.{drop-replicate, length-replicate}
 use Rattle.std.proofs.Math.Seq.{drop-append_seam}
 
--- octets written over the front of an array of zeros
 pub zeros_after_copy : (size : ℕ) (octets : List ℕ) → length octets ≤ size
     → drop (length octets) (octets ++ drop (length octets) (replicate size 0)) ≡ replicate (size - length octets) 0
 zeros_after_copy size octets fits =

@@ -1,5 +1,5 @@
--- The digits of a number are below the base, begin with no zero, and have its value; marked digits tell where they
--- end.
+-- Lemmas about digits: they are below the base, don't begin with zero, and have the value of their
+-- number. Marked digits determine where they end.
 use Rattle.std.proofs.Common.{◌≡◌, ℕ, zero, suc, ◌+◌, ◌*◌, ◌/◌, ◌%◌, ◌^◌, ◌<◌, ◌≤◌, ◌⊎◌, inl, inr, List, [], ◌∷◌, ◌++◌, length, get_or, map, sym, refl, ap, subst, ◌∙◌, arith, div-add-mod', mod-lt, mul-le-mul_left, length-append, append_assoc, append-nil}
 use Rattle.std.specs.List.{AllByRecursion}
 use Rattle.std.specs.Int.Digits.{number_from_digits, number_from_digits_after, AllBelowBase}
@@ -10,20 +10,20 @@ use Rattle.std.proofs.lemmas.Bool.{cases_lt, lt-ltb, le-ltb}
 use Rattle.std.proofs.lemmas.Nat.{div-mul-add, mod-mul-add, div_below}
 use Rattle.const_oid.specs.Digits.{digits_within, digits, marked}
 
--- The digits have the number's value
+-- Digits and values
 
 pub below-push : (b : ℕ) (ds : List ℕ) (d : ℕ) → AllBelowBase b ds → d < b → AllBelowBase b (ds ++ (d ∷ []))
 below-push b [] d all here = (here, tt)
 below-push b (x ∷ ds) d all here = (all.0, below-push b ds d all.1 here)
 
--- half or less is left
+-- A quotient needs less room than its number.
 pub halved : (base room n : ℕ) → 2 ≤ base → base ≤ n → n ≤ suc room → n / base ≤ room
 halved base room n two large small =
     let parts : n / base * base + n % base ≡ n = div-add-mod' n base in
     let more : n / base * 2 ≤ n / base * base = mul-le-mul_left (n / base) two in
     omega arith
 
--- what is left of a number that is no digit is above 0
+-- The quotient of a number that is at least the base is above 0.
 pub quotient_pos : (base n : ℕ) → 2 ≤ base → base ≤ n → 0 < n / base
 quotient_pos base n two large = go (n / base) (div-add-mod' n base) (mod-lt n (omega arith))
   where
@@ -31,7 +31,7 @@ quotient_pos base n two large = go (n / base) (div-add-mod' n base) (mod-lt n (o
     go zero e less = absurd (omega arith)
     go (suc q) e less = omega arith
 
--- what the digits are, whatever the room
+-- The properties of the digits of `n`, whatever the room was.
 pub record Digits (base n : ℕ) (ds : List ℕ) : Type 0 where
   pub below : AllBelowBase base ds
   pub number : number_from_digits base ds ≡ n
@@ -47,7 +47,7 @@ more_digits base n ds two d = record {
   some = omega (arith, length-append ds (n % base ∷ []));
 }
 
--- One digit, and more
+-- One digit and more digits
 
 within-one : (base room n : ℕ) → n < base → digits_within base room n ≡ n ∷ []
 unfolding digits_within
@@ -58,7 +58,7 @@ within-more : (base room n : ℕ) → base ≤ n → digits_within base (suc roo
 unfolding digits_within
 within-more base room n l = rw (le-ltb n base l, digits_within) refl
 
--- more room changes nothing
+-- More room than enough doesn't change the digits.
 same_room : (base j k n : ℕ) → 2 ≤ base → n ≤ j → n ≤ k → digits_within base j n ≡ digits_within base k n
 same_room base zero k n two p q = within-one base zero n (omega arith) ∙ sym (within-one base k n (omega arith))
 same_room base (suc j) zero n two p q = within-one base (suc j) n (omega arith) ∙ sym (within-one base zero n (omega arith))
@@ -81,7 +81,8 @@ digits-more base (suc n) two l =
     within-more base n (suc n) l
     ∙ ap (λ ds. ds ++ (suc n % base ∷ [])) (same_room base n (suc n / base) (suc n / base) two (halved base n (suc n) two l (omega arith)) (omega arith))
 
--- what holds of each digit, and of a number where it holds of all its digits but the last, holds of each number
+-- Induction over digits: a property holds for each number if it holds for each digit and passes
+-- from a number's digits without the last one to the number.
 pub by_digits : (base : ℕ) (P : ℕ → Type 0) → 2 ≤ base → ((n : ℕ) → n < base → P n) → ((n : ℕ) → base ≤ n → P (n / base) → P n) → (n : ℕ) → P n
 by_digits base P two one more n = within n n (omega arith)
   where
@@ -101,14 +102,14 @@ digits-Digits base n two =
 pub number_from_digits-digits : (base n : ℕ) → 2 ≤ base → number_from_digits base (digits base n) ≡ n
 number_from_digits-digits base n two = (digits-Digits base n two).number
 
--- equal digits are of one number
+-- Numbers with equal digits are equal.
 pub same_from_digits : (base m n : ℕ) → 2 ≤ base → digits base m ≡ digits base n → m ≡ n
 same_from_digits base m n two e =
     sym (number_from_digits-digits base m two) ∙ ap (number_from_digits base) e ∙ number_from_digits-digits base n two
 
--- How many digits there are
+-- The number of digits
 
--- a number below a power of the base has no more digits than the power says
+-- A number below `base ^ k` has at most `k` digits.
 pub few_digits : (base k n : ℕ) → 2 ≤ base → 0 < k → n < base ^ k → length (digits base n) ≤ k
 few_digits base zero n two some l = absurd (omega arith)
 few_digits base (suc zero) n two some l =
@@ -126,11 +127,11 @@ below_power base n two =
     let d = digits-Digits base n two in
     subst (λ x. x < base ^ length (digits base n)) d.number (number_lt base (digits base n) d.below)
 
--- a smaller number has no more digits
+-- A smaller number has no more digits.
 pub fewer_digits : (base m n : ℕ) → 2 ≤ base → m ≤ n → length (digits base m) ≤ length (digits base n)
 fewer_digits base m n two l = few_digits base (length (digits base n)) m two (digits-Digits base n two).some (omega (arith, below_power base n two))
 
--- a digit after those of a number above 0
+-- Appending a digit to the digits of a number above 0.
 pub digits-push : (base n d : ℕ) → 2 ≤ base → 0 < n → d < base → digits base (n * base + d) ≡ digits base n ++ (d ∷ [])
 digits-push base n d two some small =
     let more : 1 * base ≤ n * base = mul-le n some in
@@ -142,7 +143,7 @@ digits-push base n d two some small =
     mul-le zero l = absurd (omega arith)
     mul-le (suc k) l = omega arith
 
--- no zero begins the digits of a number above 0
+-- Leading zeros
 
 pub first_of_digits-pos : (base n : ℕ) → 2 ≤ base → 0 < n → 0 < get_or (digits base n) 0 0
 first_of_digits-pos base n two l = by_digits base (λ k. 0 < k → 0 < get_or (digits base k) 0 0) two (λ k m l. rw (digits-one base k m) l) more n l
@@ -151,7 +152,7 @@ first_of_digits-pos base n two l = by_digits base (λ k. 0 < k → 0 < get_or (d
     more k m ih l =
         rw (digits-more base k two m, get_or_append_left (digits base (k / base)) (k % base ∷ []) 0 0 (digits-Digits base (k / base) two).some) (ih (quotient_pos base k two m))
 
--- the digits after those of a number above 0
+-- The digits of the number that further digits make of a number above 0.
 digits-after : (base n : ℕ) (ds : List ℕ) → 2 ≤ base → 0 < n → AllBelowBase base ds → digits base (number_from_digits_after base n ds) ≡ digits base n ++ ds
 digits-after base n [] two l all = sym (append-nil (digits base n))
 digits-after base n (d ∷ ds) two l all =
@@ -164,7 +165,7 @@ digits-after base n (d ∷ ds) two l all =
     grows zero base l m = absurd (omega arith)
     grows (suc k) base l m = omega arith
 
--- digits that no zero begins, or one digit, are the digits of their number
+-- Digits that don't begin with zero, or a single digit, are the digits of their value.
 pub digits-number_from_digits : (base : ℕ) (ds : List ℕ) → 2 ≤ base → AllBelowBase base ds → (length ds ≡ 1) ⊎ (0 < get_or ds 0 0)
     → digits base (number_from_digits base ds) ≡ ds
 digits-number_from_digits base (d ∷ []) two all h =
@@ -181,7 +182,7 @@ digits-number_from_digits base [] two all (inr l) = absurd (omega arith)
 
 -- Marked digits
 
--- lists that begin a common list, and are of one length, are one
+-- Two prefixes of a list that have the same length are equal.
 pub split-same_length : (a b r s : List ℕ) → length a ≡ length b → a ++ r ≡ b ++ s → (a ≡ b) × (r ≡ s)
 split-same_length [] [] r s l e = (refl, e)
 split-same_length (x ∷ a) (y ∷ b) r s l e =
@@ -191,7 +192,7 @@ split-same_length (x ∷ a) (y ∷ b) r s l e =
     (cc (more.0), more.1)
 split-same_length _ _ r s l e = absurd (omega arith)
 
--- marked digits end where a digit has no mark
+-- Marked digits end at the first digit without a mark.
 pub split-marked : (ds es r s : List ℕ) → AllBelowBase 128 ds → AllBelowBase 128 es → 0 < length ds → 0 < length es
     → marked ds ++ r ≡ marked es ++ s → (ds ≡ es) × (r ≡ s)
 unfolding marked
@@ -212,7 +213,7 @@ split-marked (d ∷ c ∷ ds) (f ∷ g ∷ es) r s p q i j e =
     (cc (h', more.0), more.1)
 split-marked _ _ r s p q i j e = absurd (omega arith)
 
--- all digits before the last are marked
+-- All digits before the last one are marked.
 pub marked-push : (ds : List ℕ) (d : ℕ) → marked (ds ++ (d ∷ [])) ≡ map (λ x. 128 + x) ds ++ (d ∷ [])
 unfolding marked
 marked-push [] d = refl

@@ -1,4 +1,4 @@
--- The dotted text, and what is written of it.
+-- Lemmas about writing the dotted text: the pieces that are written are its arcs and dots.
 use Rattle.std.proofs.Common.{◌≡◌, ℕ, ◌+◌, ◌/◌, ◌%◌, ◌^◌, ◌<◌, ◌≤◌, List, [], ◌∷◌, ◌++◌, map, sym, refl, ap, ◌∙◌, arith}
 use Rattle.std.specs.List.{flat_map}
 use Rattle.std.specs.Fmt as fmt
@@ -18,7 +18,7 @@ pub decimal-more : (n : ℕ) → 10 ≤ n → decimal n ≡ decimal (n / 10) ++ 
 unfolding decimal
 decimal-more n l = ap (map (λ d. 48 + d)) (digits-more 10 n (omega arith) l) ∙ map-append (λ d. 48 + d) (digits 10 (n / 10)) (n % 10 ∷ [])
 
--- the text that std writes of a number
+-- The standard library writes a number as its decimal digits.
 pub written_decimal : (n : ℕ) → n < 10 ^ 64 → fmt.decimal n ≡ decimal n
 written_decimal n l =
     decimal_by_steps_wide (λ n ds. ds ≡ decimal n) (λ n l. sym (decimal-one n l)) (λ n ds l e. ap (λ t. t ++ ((48 + n % 10) ∷ [])) e ∙ sym (decimal-more n l)) n l
@@ -27,7 +27,7 @@ pub written_dot : (n : ℕ) → n < 10 ^ 64 → 46 ∷ fmt.decimal n ≡ dot_dec
 unfolding dot_decimal
 written_dot n l = ap (λ t. 46 ∷ t) (written_decimal n l)
 
--- a dot, and one digit or two
+-- A dot, followed by a number of one or two digits.
 pub dot-one : (n : ℕ) → n < 10 → dot_decimal n ≡ 46 ∷ (48 + n) ∷ []
 unfolding dot_decimal
 dot-one n l = ap (λ t. 46 ∷ t) (decimal-one n l)

@@ -1,4 +1,5 @@
--- One arc more.
+-- Lemmas about the encoding of arcs, and about an identifier or an encoder to which one more arc is
+-- added.
 use Rattle.std.proofs.Common.{◌≡◌, ℕ, ◌+◌, ◌*◌, ◌/◌, ◌%◌, ◌<◌, ◌≤◌, true, false, ltb, List, [], ◌∷◌, ◌++◌, length, map, Result, Ok, Err, Option, None, Some, MatchResult, sym, refl, ap, subst, ◌∙◌, append_assoc, length-append, take, drop, ◌-◌, arith}
 use Rattle.std.proofs.Math.ListN.{set}
 use Rattle.std.proofs.lemmas.List.{take-set-le, drop-set}
@@ -16,7 +17,7 @@ use Rattle.const_oid.proofs.DigitLaws.{digits-Digits, digits-one, digits-more, m
 use Rattle.const_oid.proofs.IdentifierLaws.{identifier_octets-push, IsIdentifier-push}
 use Rattle.const_oid.proofs.ArcsLaws.{spells_octets, arcs_of-identifier_octets}
 
--- How many octets an arc has
+-- The length of an arc's encoding
 
 pub length-digits-pos : (n : ℕ) → 0 < length (digits 128 n)
 length-digits-pos n = (digits-Digits 128 n (omega arith)).some
@@ -25,7 +26,7 @@ pub length-arc_octets : (n : ℕ) → length (arc_octets n) ≡ length (digits 1
 unfolding arc_octets
 length-arc_octets n = length-marked (digits 128 n)
 
--- The octets of an arc
+-- The bytes of an arc's encoding
 
 pub arc_octets-one : (n : ℕ) → n < 128 → arc_octets n ≡ n ∷ []
 unfolding arc_octets marked
@@ -35,16 +36,16 @@ pub arc_octets-more : (n : ℕ) → 128 ≤ n → arc_octets n ≡ map (λ d. 12
 unfolding arc_octets
 arc_octets-more n l = ap marked (digits-more 128 n (omega arith) l) ∙ marked-push (digits 128 (n / 128)) (n % 128)
 
--- Writing from the last octet to the first
+-- Writing from the last byte to the first
 
--- more octets in front of it
+-- Writing one byte before those that are already written.
 pub written_front : (bytes : List ℕ) (last o k : ℕ) (front : List ℕ) → last < length bytes → k ≤ last
     → take k (set bytes last o) ++ (front ++ drop last (set bytes last o)) ≡ take k bytes ++ ((front ++ (o ∷ [])) ++ drop (last + 1) bytes)
 written_front bytes last o k front l m =
     ap (λ t. t ++ (front ++ drop last (set bytes last o))) (take-set-le k bytes last o m)
     ∙ ap (λ t. take k bytes ++ t) (ap (λ t. front ++ t) (drop-set bytes last o l) ∙ sym (append_assoc front (o ∷ []) (drop (last + 1) bytes)))
 
--- the last octet, with more in front of it
+-- Writing the last byte, and then the bytes before it.
 pub write_more : (bytes new octets front : List ℕ) (end o m n : ℕ) → octets ≡ front ++ (o ∷ []) → n ≡ m + 1 → n ≤ end → end ≤ length bytes
     → new ≡ take (end - 1 - m) (set bytes (end - 1) o) ++ (front ++ drop (end - 1) (set bytes (end - 1) o))
     → new ≡ take (end - n) bytes ++ (octets ++ drop end bytes)
@@ -57,7 +58,7 @@ write_more bytes new octets front end o m n e count some fits written =
     ∙ ap (λ k. take (end - n) bytes ++ ((front ++ (o ∷ [])) ++ drop k bytes)) last
     ∙ ap (λ t. take (end - n) bytes ++ (t ++ drop end bytes)) (sym e)
 
--- One arc more
+-- An encoding with one more arc
 
 pub spells_push : (bound capacity : ℕ) (w : List ℕ) (a : ℕ) → SpellsIdentifier bound capacity w → a < bound → length w + length (arc_octets a) ≤ capacity
     → SpellsIdentifier bound capacity (w ++ arc_octets a) × (arcs_of (w ++ arc_octets a) ≡ arcs_of w ++ (a ∷ []))
@@ -70,7 +71,7 @@ spells_push bound capacity w a s l fits =
       ap arcs_of (sym octets) ∙ arcs_of-identifier_octets bound (arcs_of w ++ (a ∷ [])) id,
     )
 
--- What an arc more answers
+-- The result of adding an arc
 
 pub add_arc-misplaced : (capacity : ℕ) (arcs : List ℕ) (a : ℕ) → is_misplaced arcs a ≡ true → add_arc capacity arcs a ≡ Err (errors.ArcInvalid a)
 unfolding add_arc
@@ -84,9 +85,8 @@ pub add_arc-ok : (capacity : ℕ) (arcs : List ℕ) (a : ℕ) → is_misplaced a
 unfolding add_arc
 add_arc-ok capacity arcs a e l = rw (e, le-ltb capacity (length (identifier_octets (arcs ++ (a ∷ [])))) l, add_arc) refl
 
--- The arcs so far
+-- The encoding of few arcs
 
--- the first arc
 one_octets : (a : ℕ) → identifier_octets (a ∷ []) ≡ []
 unfolding identifier_octets
 one_octets a = refl
@@ -97,7 +97,7 @@ add_first capacity a l = add_arc-ok capacity [] a (le-ltb 2 a l) (omega (arith, 
 pub misplaced_first : (capacity a : ℕ) → 2 < a → add_arc capacity [] a ≡ Err (errors.ArcInvalid a)
 misplaced_first capacity a l = add_arc-misplaced capacity [] a (lt-ltb 2 a l)
 
--- the second
+-- A second arc above 39 is an error.
 pub misplaced_second : (capacity first a : ℕ) → 40 ≤ a → add_arc capacity (first ∷ []) a ≡ Err (errors.ArcInvalid a)
 misplaced_second capacity first a l = add_arc-misplaced capacity (first ∷ []) a (lt-ltb 39 a (omega arith))
 
@@ -108,7 +108,7 @@ add_second bound capacity first a small l =
     let low : (40 * first + a) % 40 ≡ a = omega arith in
     grind (arith, nat_tests, high, low)
 
--- the later ones
+-- A later arc is an error only if the encoding exceeds the capacity.
 add_more : (capacity : ℕ) (arcs : List ℕ) (a : ℕ) → 2 ≤ length arcs → add_arc capacity arcs a ≡ child_of capacity arcs a
 unfolding add_arc
 add_more capacity (x ∷ y ∷ arcs) a many = refl
@@ -120,9 +120,9 @@ child-was capacity arcs child a e = grind (arith, nat_tests)
 child_many : (capacity : ℕ) (arcs child : List ℕ) (a : ℕ) → 2 ≤ length arcs → child_of capacity arcs a ≡ Ok child → 2 ≤ length child
 child_many capacity arcs child a many e = omega (arith, many, ap length (child-was capacity arcs child a e), length-append arcs (a ∷ []))
 
--- Where the encoder stands
+-- The states of an encoder
 
--- no arc yet, or a first one alone
+-- The encoder has no identifier yet.
 pub none_now : (first : Option ℕ) (identifier : Option (List ℕ)) (now : List ℕ) → first ≡ None → identifier ≡ None → arcs_so_far first identifier ≡ now → now ≡ []
 none_now first identifier now f i e = grind arith
 
@@ -132,13 +132,13 @@ one_now first identifier now x f i e = grind arith
 pub first_small : (first : Option ℕ) (identifier : Option (List ℕ)) (x : ℕ) → first ≡ Some x → identifier ≡ None → IsSoFar first identifier → x ≤ 2
 first_small first identifier x f i s = grind arith
 
--- an identifier's arcs
+-- The encoder has an identifier.
 many_arcs : (first : Option ℕ) (identifier : Option (List ℕ)) (arcs : List ℕ) → identifier ≡ Some arcs → IsSoFar first identifier → (x : ℕ) × (first ≡ Some x) × (2 ≤ length arcs)
 many_arcs None (Some b) arcs i s = absurd s
 many_arcs (Some x) (Some b) arcs i s = let same : b ≡ arcs = cc in (x, refl, omega (arith, s, ap length same))
 many_arcs _ _ arcs i s = cc
 
--- one arc more, or none
+-- Pushing an arc either adds it or leaves the arcs as they were.
 abbrev pub Pushed : (capacity : ℕ) → List ℕ → List ℕ → ℕ → Result (Unit {0}) Error → Type 0
 Pushed capacity arcs new a r = MatchResult r (λ _. child_of capacity arcs a ≡ Ok new) (λ e. (child_of capacity arcs a ≡ Err e) × (new ≡ arcs))
 
@@ -163,7 +163,7 @@ many_added capacity first identifier arcs new now a r i s e p = by r p
     by (Ok u) p = same ∙ p
     by (Err x) p = same ∙ p.0
 
--- the end
+-- Finishing an encoder
 
 pub whole-few : (arcs : List ℕ) → length arcs < 2 → whole_arcs arcs ≡ Err errors.Empty
 unfolding whole_arcs
@@ -178,13 +178,13 @@ unfolding IsIdentifier
 identifier-many bound (x ∷ y ∷ arcs) id = omega arith
 identifier-many bound _ id = absurd id
 
--- the first arc of an identifier
+-- The first arc of an identifier is at most 2.
 pub first_arc_small : (bound a : ℕ) (rest : List ℕ) → IsIdentifier bound (a ∷ rest) → a ≤ 2
 unfolding IsIdentifier
 first_arc_small bound a [] id = absurd id
 first_arc_small bound a (b ∷ rest) id = id.0
 
--- an identifier has an octet
+-- The encoding of an identifier isn't empty.
 pub some_octets : (bound : ℕ) (arcs : List ℕ) → IsIdentifier bound arcs → 0 < length (identifier_octets arcs)
 unfolding IsIdentifier identifier_octets
 some_octets bound (x ∷ y ∷ arcs) id = omega arith
@@ -196,7 +196,7 @@ finished (Some x) None s = whole-few (x ∷ []) (omega arith)
 finished None (Some arcs) s = absurd s
 finished (Some x) (Some arcs) s = whole-many arcs s
 
--- An identifier with one arc more, as a whole
+-- An identifier with one more arc
 
 pub pushed_ok : (bound capacity : ℕ) (w : List ℕ) (a : ℕ) → SpellsIdentifier bound capacity w → length w + length (arc_octets a) ≤ capacity
     → ltb capacity (length (identifier_octets (arcs_of w ++ (a ∷ [])))) ≡ false
@@ -212,7 +212,7 @@ pushed_long bound capacity w a s long =
     identifier_octets-push bound (arcs_of w) a s.identifier ∙ ap (λ t. t ++ arc_octets a) (sym s.spelled) in
     lt-ltb capacity (length (identifier_octets (arcs_of w ++ (a ∷ [])))) (omega (arith, ap length octets, length-append w (arc_octets a)))
 
--- Arcs from a list
+-- Collecting arcs from a list
 
 pub gather-ok : (capacity : ℕ) (arcs more : List ℕ) (a : ℕ) (rest : List ℕ) → add_arc capacity arcs a ≡ Ok more → gather capacity arcs (a ∷ rest) ≡ gather capacity more rest
 unfolding gather

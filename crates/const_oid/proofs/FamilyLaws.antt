@@ -1,4 +1,5 @@
--- A child's parent is the identifier itself, and the last arc behind the parent gives the child back.
+-- Lemmas about children and parents: the parent of a child is the identifier, and adding the last
+-- arc to the parent gives the identifier.
 use Rattle.std.proofs.Common.{◌≡◌, ℕ, ◌-◌, ◌<◌, ◌≤◌, ◌⊎◌, inl, inr, List, [], ◌∷◌, ◌++◌, length, take, Ok, None, Some, sym, refl, ap, subst, ◌∙◌, length-append, arith}
 use Rattle.std.proofs.Math.Seq.{take-append_seam}
 use Rattle.std.proofs.lemmas.Bool.{lt-ltb, le-ltb}
@@ -7,7 +8,7 @@ use Rattle.const_oid.specs.Family.{child_of, parent_of}
 use Rattle.const_oid.proofs.EncodingLaws.{identifier-many, child-was}
 use Rattle.const_oid.proofs.ParentLaws.{unsnoc}
 
--- all but the last
+-- Taking all elements but the last.
 pub front-push : (front : List ℕ) (a : ℕ) → take (length (front ++ (a ∷ [])) - 1) (front ++ (a ∷ [])) ≡ front
 front-push front a =
     let n : length (front ++ (a ∷ [])) - 1 ≡ length front = omega (arith, length-append front (a ∷ [])) in

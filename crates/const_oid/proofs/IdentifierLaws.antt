@@ -1,5 +1,5 @@
--- What is read as an identifier has its octets, what is refused has the fault of its shortest faulty front, and the
--- octets of an identifier are read as it.
+-- Lemmas about decoding identifiers: accepted bytes are the encoding of the result, rejected bytes
+-- have the error of their shortest wrong prefix, and the encoding of an identifier decodes to it.
 use Rattle.std.proofs.Common.{◌≡◌, ◌≢◌, ℕ, zero, suc, ◌+◌, ◌*◌, ◌/◌, ◌%◌, ◌<◌, ◌≤◌, ◌&&◌, ◌==◌, ◌⊎◌, inl, inr, false, eqb, List, [], ◌∷◌, ◌++◌, length, get_or, map, Result, Ok, Err, MatchResult, sym, refl, ap, subst, ◌∙◌, arith, append_assoc, append-nil, length-append, ne_eqb}
 use Rattle.std.specs.List.{AllByRecursion, flat_map}
 use Rattle.std.proofs.lemmas.Bool.{cases_lt, cases_eq, lt-ltb, le-ltb}
@@ -14,9 +14,9 @@ use Rattle.const_oid.specs.OctetFaults.{begun, IsOpen, IsArcFault, leading_zero,
 use Rattle.const_oid.specs.OctetFaults as faults
 use Rattle.const_oid.proofs.DigitLaws.{digits-Digits, digits-one, digits-push, marked-push, marked_below}
 
--- One step of reading arcs
+-- One step of decoding arcs
 
--- what the next octet does to an arc of this value
+-- The cases of the next byte after an unfinished arc of this value.
 pub data Step (bound value o : ℕ) : Type 0 where
   leading : value ≡ 0 → o ≡ 128 → Step bound value o
   too_big : ((value ≡ 0) × (o ≡ 128) → ⊥) → bound ≤ value * 128 + o % 128 → Step bound value o
@@ -63,9 +63,9 @@ pub read_arcs-more : (bound value o : ℕ) (w : List ℕ) → ((value ≡ 0) × 
     → read_arcs bound value (o ∷ w) ≡ read_arcs bound (value * 128 + o % 128) w
 read_arcs-more bound value o w free fits l = rw (free-test value o free, lt-ltb (value * 128 + o % 128) bound fits, le-ltb o 128 l, read_arcs) refl
 
--- What the root tells
+-- The first byte
 
--- what reading does with the first octet
+-- The cases of the first byte.
 pub data Root (bound capacity r : ℕ) (w : List ℕ) : Type 0 where
   long : capacity < length (r ∷ w) → read_identifier bound capacity (r ∷ w) ≡ Err errors.Length → Root bound capacity r w
   invalid : length (r ∷ w) ≤ capacity → 120 ≤ r → read_identifier bound capacity (r ∷ w) ≡ Err (errors.ArcInvalid (r / 40)) → Root bound capacity r w
@@ -79,12 +79,12 @@ root bound capacity r w = by (cases_lt capacity (length (r ∷ w))) (cases_lt r 
     by (inr l) (inl small) = valid l small (rw (le-ltb capacity (length (r ∷ w)) l, lt-ltb r 120 small, read_identifier) refl)
     by (inr l) (inr large) = invalid l large (rw (le-ltb capacity (length (r ∷ w)) l, le-ltb r 120 large, read_identifier) refl)
 
--- the arcs behind one that was read
+-- If the arcs with one before them are decoded, so are the arcs.
 pub with_arc-ok : (a : ℕ) (r : Result (List ℕ) Error) (arcs : List ℕ) → with_arc a r ≡ Ok arcs → (rest : List ℕ) × (r ≡ Ok rest) × (arcs ≡ a ∷ rest)
 with_arc-ok a (Ok rest) arcs e = (rest, refl, cc)
 with_arc-ok a (Err x) arcs e = cc
 
--- the root and the octets behind it, where they are read
+-- If an identifier is decoded, so are its first byte and the bytes after it.
 pub root_ok : (bound capacity r : ℕ) (w arcs : List ℕ) → read_identifier bound capacity (r ∷ w) ≡ Ok arcs
     → (later : List ℕ) × (r < 120) × (read_arcs bound 0 w ≡ Ok later) × (arcs ≡ r / 40 ∷ r % 40 ∷ later)
 root_ok bound capacity r w arcs ok = by (root bound capacity r w)
@@ -97,7 +97,7 @@ root_ok bound capacity r w arcs ok = by (root bound capacity r w)
         let second = with_arc-ok (r % 40) (read_arcs bound 0 w) first.0 first.1 in
         (second.0, small, second.1, first.2 ∙ ap (λ t. r / 40 ∷ t) second.2)
 
--- One arc more
+-- Encoding one more arc
 
 pub identifier_octets-push : (bound : ℕ) (arcs : List ℕ) (a : ℕ) → IsIdentifier bound arcs → identifier_octets (arcs ++ (a ∷ [])) ≡ identifier_octets arcs ++ arc_octets a
 unfolding identifier_octets IsIdentifier
@@ -114,7 +114,7 @@ unfolding IsIdentifier
 IsIdentifier-push bound (x ∷ y ∷ arcs) a id l = (id.0, id.1, all-push bound arcs a id.2 l)
 IsIdentifier-push bound _ a id l = absurd id
 
--- What is read has its octets, and what is refused its fault
+-- Accepted bytes and the errors of rejected bytes
 
 pub begun-some : (n : ℕ) → 0 < n → begun n ≡ map (λ d. 128 + d) (digits 128 n)
 unfolding begun
@@ -142,7 +142,7 @@ begun-push (suc v) o free l k =
     begun-some (suc v * 128 + o % 128) (omega arith)
     ∙ rw (digits-push 128 (suc v) (o % 128) (omega arith) (omega arith) (omega arith), map-append, m) refl
 
--- behind an opened front
+-- The meaning of a result after a prefix without an error.
 abbrev Judged : (bound : ℕ) → List ℕ → List ℕ → Result (List ℕ) Error → Type 0
 Judged bound w arcs r = MatchResult r (λ later. IsIdentifier bound (arcs ++ later) × (w ≡ identifier_octets (arcs ++ later))) (λ e. IsArcFault bound w e)
 
@@ -188,7 +188,7 @@ arcs_judged bound value front (o ∷ w) arcs bytes opened = by (step bound value
         subst (Judged bound (front ++ (o ∷ w)) arcs) (sym (read_arcs-more bound value o w free fits l))
         (subst (λ t. Judged bound t arcs (read_arcs bound a w)) whole (ih a (front ++ (o ∷ [])) arcs (record { identifier = opened.identifier; within = λ _. fits; octets = octets })))
 
--- behind the root
+-- The result after the first byte has this meaning.
 root_judged : (bound r : ℕ) (w : List ℕ) → r < 120 → ((i : ℕ) → get_or w i 0 < 256) → Judged bound (r ∷ w) (r / 40 ∷ r % 40 ∷ []) (read_arcs bound 0 w)
 unfolding IsIdentifier identifier_octets begun
 root_judged bound r w small bytes =
@@ -196,7 +196,7 @@ root_judged bound r w small bytes =
     arcs_judged bound 0 (r ∷ []) w (r / 40 ∷ r % 40 ∷ []) bytes
     (record { identifier = (omega arith, omega arith, tt); within = λ z. absurd (omega arith); octets = ap (λ x. x ∷ []) e })
 
--- what reading answers is the identifier of the octets, or their fault
+-- A result is the identifier of the bytes, or their error.
 abbrev pub JudgedOctets : (bound capacity : ℕ) → List ℕ → Result (List ℕ) Error → Type 0
 JudgedOctets bound capacity w r =
     MatchResult r (λ arcs. IsIdentifier bound arcs × (length w ≤ capacity) × (w ≡ identifier_octets arcs)) (λ e. IsOctetsFault bound capacity w e)
@@ -221,9 +221,9 @@ identifier_sound bound capacity w arcs bytes ok = subst (JudgedOctets bound capa
 pub fault_found : (bound capacity : ℕ) (w : List ℕ) (e : Error) → ((i : ℕ) → get_or w i 0 < 256) → read_identifier bound capacity w ≡ Err e → IsOctetsFault bound capacity w e
 fault_found bound capacity w e bytes err = subst (JudgedOctets bound capacity w) err (judged bound capacity w bytes)
 
--- The octets of an identifier are read as it
+-- Decoding the encoding of an identifier
 
--- all octets but the last have begun an arc
+-- All bytes of an arc but the last are those of an unfinished arc.
 pub begun-split : (v : ℕ) → 0 < v → begun v ≡ begun (v / 128) ++ ((128 + v % 128) ∷ [])
 begun-split v some =
     let n : v / 128 * 128 + (128 + v % 128) % 128 ≡ v = omega arith in
@@ -240,7 +240,7 @@ arc_octets-split a =
 pub length-arc : (a : ℕ) → length (arc_octets a) ≡ length (begun (a / 128)) + 1
 length-arc a = ap length (arc_octets-split a) ∙ length-append (begun (a / 128)) (a % 128 ∷ [])
 
--- an arc that has begun
+-- Decoding the bytes of an unfinished arc.
 pub read_arcs-begun : (bound room v : ℕ) (w : List ℕ) → v ≤ room → (0 < v → v < bound) → read_arcs bound 0 (begun v ++ w) ≡ read_arcs bound v w
 unfolding begun
 read_arcs-begun bound room zero w small fits = refl
@@ -280,7 +280,7 @@ identifier_again bound capacity (a ∷ b ∷ arcs) id fits =
     rw (le-ltb capacity (length ((40 * a + b) ∷ flat_map arc_octets arcs)) fits, lt-ltb (40 * a + b) 120 small, first, second, read_arcs-arcs bound arcs id.2, read_identifier) refl
 identifier_again bound capacity _ id fits = absurd id
 
--- Octets are below 256
+-- Bytes are below 256
 
 append_all : (P : ℕ → Type 0) (a b : List ℕ) → AllByRecursion P a → AllByRecursion P b → AllByRecursion P (a ++ b)
 append_all P [] b p q = q

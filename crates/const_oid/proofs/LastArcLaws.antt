@@ -1,4 +1,5 @@
--- The last arc: where its octets begin, and how many octets show it.
+-- Lemmas about the last arc: its position in the encoding, and the number of bytes that have to be
+-- read to find it.
 use Rattle.std.proofs.Common.{◌≡◌, ℕ, suc, ◌+◌, ◌-◌, ◌*◌, ◌%◌, ◌<◌, ◌≤◌, ◌⊎◌, inl, inr, List, [], ◌∷◌, ◌++◌, length, get_or, take, map, Result, Ok, Err, sym, refl, ap, subst, ◌∙◌, append_assoc, length-append, length-take-le, mod-lt, arith}
 use Rattle.std.specs.List.{AllByRecursion, flat_map}
 use Rattle.std.specs.Result.{MatchResult}
@@ -21,7 +22,7 @@ use Rattle.const_oid.specs.PackedOctets.{unmarked_front}
 use Rattle.const_oid.proofs.ParentLaws.{unsnoc, Last, root, more, last_of, arc_parts}
 use Rattle.const_oid.proofs.PackedLaws.{front-marks, front-none, front-identifier, front-within}
 
--- Where the last arc begins
+-- The position of the last arc
 
 pub place-two : (arcs : List ℕ) → length arcs ≡ 2 → place_of_last arcs ≡ 0
 unfolding place_of_last identifier_octets
@@ -32,7 +33,8 @@ pub place-push : (front : List ℕ) (a : ℕ) → place_of_last (front ++ (a ∷
 unfolding place_of_last
 place-push front a = ap (λ t. length (identifier_octets t)) (front-push front a)
 
--- up to the last octet but one, those up to the last one without a mark stand before the last arc
+-- If the last byte is left out, the bytes up to the last one with bit 8 clear are those before the
+-- last arc.
 pub before_last : (bound : ℕ) (arcs w : List ℕ) → IsIdentifier bound arcs → w ≡ identifier_octets arcs → length (unmarked_front (take (length w - 1) w)) ≡ place_of_last arcs
 before_last bound arcs w id e = by (last_of bound arcs id)
   where
@@ -47,7 +49,7 @@ before_last bound arcs w id e = by (last_of bound arcs id)
         ∙ ap length (front-marks f parts.front ∙ front-identifier bound front fid)
         ∙ sym (ap place_of_last whole ∙ place-push front a)
 
--- In one pass, from the first octet to the last
+-- One pass from the first byte to the last
 
 last_from-ends : (last begun here o : ℕ) (w : List ℕ) → o < 128 → last_from last begun here (o ∷ w) ≡ last_from begun (here + 1) (here + 1) w
 unfolding last_from
@@ -62,7 +64,7 @@ unfolding last_from
 last_from-end last begun here [] e = refl
 last_from-end last begun here (o ∷ w) e = cc
 
--- two later arcs of one octet each
+-- Two later arcs of one byte each.
 two_read : (bound a b : ℕ) → 128 ≤ bound → a < 128 → b < 128 → outcome (read_arcs bound 0 (a ∷ b ∷ [])) ≡ Ok tt
 two_read bound a b large first second =
     let a_below : a % 128 < 128 = mod-lt a (omega arith) in
@@ -85,7 +87,7 @@ two_found bound (a ∷ b ∷ []) large two first second = (
 )
 two_found bound _ large two first second = absurd (omega arith)
 
--- octets with marks
+-- Bytes with bit 8 set.
 last_from-marked : (last begun here : ℕ) (ds w : List ℕ) → last_from last begun here (map (λ d. 128 + d) ds ++ w) ≡ last_from last begun (here + length ds) w
 last_from-marked last begun here [] w = ap (λ n. last_from last begun n w) (let e : here ≡ here + 0 = omega arith in e)
 last_from-marked last begun here (d ∷ ds) w =
@@ -94,7 +96,7 @@ last_from-marked last begun here (d ∷ ds) w =
     ∙ last_from-marked last begun (here + 1) ds w
     ∙ ap (λ n. last_from last begun n w) e
 
--- an arc
+-- The bytes of one arc.
 last_from-arc : (last begun here a : ℕ) (w : List ℕ) → last_from last begun here (arc_octets a ++ w) ≡ last_from begun (here + length (arc_octets a)) (here + length (arc_octets a)) w
 last_from-arc last begun here a w =
     let parts = arc_parts a in
@@ -107,7 +109,7 @@ last_from-arc last begun here a w =
     ∙ last_from-ends last begun (here + length parts.front) parts.last w parts.unmarked
     ∙ ap (λ k. last_from begun k k w) n
 
--- arcs, and a last one
+-- The bytes of some arcs and of a last one.
 last_from-arcs : (last here : ℕ) (front : List ℕ) (a : ℕ) → last_from last here here (flat_map arc_octets (front ++ (a ∷ []))) ≡ here + length (flat_map arc_octets front)
 last_from-arcs last here [] a =
     let n : here ≡ here + 0 = omega arith in
@@ -121,7 +123,7 @@ last_from-arcs last here (x ∷ front) a =
     ∙ last_from-arcs here (here + length (arc_octets x)) front a
     ∙ n
 
--- the octets after the root
+-- The pass over the bytes after the first one finds the last arc.
 pub last_found : (bound r : ℕ) (w arcs : List ℕ) → IsIdentifier bound arcs → r ∷ w ≡ identifier_octets arcs → last_from 0 1 1 w ≡ place_of_last arcs
 unfolding IsIdentifier identifier_octets
 last_found bound r w (a ∷ b ∷ later) id e = by (unsnoc later)
@@ -141,7 +143,7 @@ last_found bound r w (a ∷ b ∷ later) id e = by (unsnoc later)
         ∙ sym (ap (λ t. place_of_last (a ∷ b ∷ t)) p.2 ∙ place-push (a ∷ b ∷ p.0) p.1)
 last_found bound r w _ id e = absurd id
 
--- marks leave the later arcs as many
+-- Bytes with bit 8 set don't change the number of later arcs.
 later_arcs-marked : (value : ℕ) (ds w : List ℕ) → (v : ℕ) × (later_arcs value (map (λ d. 128 + d) ds ++ w) ≡ later_arcs v w)
 later_arcs-marked value [] w = (value, refl)
 later_arcs-marked value (d ∷ ds) w =
@@ -156,12 +158,12 @@ later_arcs-arc a w =
     ∙ ap (λ t. length (later_arcs 0 t)) (append_assoc (map (λ d. 128 + d) parts.front) (parts.last ∷ []) w)
     ∙ ap length (before.1 ∙ later_arcs-last before.0 parts.last w parts.unmarked)
 
--- what the arcs so far give of the whole: its number of arcs, and the place of the last one
+-- The number of arcs and the position of the last one are known up to the position `here`.
 pub record SoFar (whole rest : List ℕ) (count last here : ℕ) : Type 0 where
   pub counted : count + length (later_arcs 0 rest) ≡ 2 + length (later_arcs 0 whole)
   pub placed : last_from last here here rest ≡ last_from 0 1 1 whole
 
--- one arc more
+-- The number of arcs and the position of the last one are known after one more arc, too.
 pub so_far_arc : (whole w rest : List ℕ) (count last here a : ℕ) → SoFar whole w count last here → w ≡ arc_octets a ++ rest
     → SoFar whole rest (count + 1) here (here + length (arc_octets a))
 so_far_arc whole w rest count last here a s e = record {
@@ -176,7 +178,7 @@ so_far_all whole rest count last here s e = (
   sym (last_from-end last here here rest e) ∙ s.placed,
 )
 
--- the root, and what is found behind it
+-- The result for the whole encoding, from the result for the bytes after the first one.
 pub found_whole : (bound r : ℕ) (rest w : List ℕ) (result : Result Found Error) → w ≡ r ∷ rest → ((i : ℕ) → get_or w i 0 < 256)
     → outcome (read_identifier bound (length w) w) ≡ outcome (read_arcs bound 0 rest)
     → MatchResult result
@@ -199,7 +201,7 @@ found_whole bound r rest w (Err x) e bytes read m = read ∙ m
 
 -- The arcs before the last one
 
--- no more octets stand before the last arc than there are
+-- The position of the last arc is within the encoding.
 pub placed_within : (bound : ℕ) (arcs : List ℕ) → IsIdentifier bound arcs → place_of_last arcs < length (identifier_octets arcs)
 placed_within bound arcs id = by (last_of bound arcs id)
   where
@@ -208,7 +210,7 @@ placed_within bound arcs id = by (last_of bound arcs id)
     by (more front a fid whole octets n) =
         omega (arith, ap place_of_last whole, place-push front a, ap length octets, length-append (identifier_octets front) (arc_octets a), length-arc_octets a, length-digits-pos a)
 
--- with no octet before the last arc there are two arcs
+-- If the last arc is at position 0, there are two arcs.
 pub none_before : (bound capacity count start : ℕ) (w : List ℕ) → SpellsIdentifier bound capacity w → KnowsLast (arcs_of w) count start → start ≡ 0 → length (arcs_of w) ≡ 2
 none_before bound capacity count start w s k e = by (last_of bound (arcs_of w) s.identifier)
   where
@@ -216,7 +218,7 @@ none_before bound capacity count start w s k e = by (last_of bound (arcs_of w) s
     by (root r small octets two) = two
     by (more front a fid whole octets n) = absurd (omega (arith, k.placed, ap place_of_last whole, place-push front a, some_octets bound front fid))
 
--- octets of an identifier before those of the last arc
+-- `octets` are the bytes before the last arc of an identifier.
 pub record Front (bound capacity : ℕ) (w octets : List ℕ) : Type 0 where
   pub spells : SpellsIdentifier bound capacity octets
   pub whole : SpellsIdentifier bound (length octets) octets
@@ -246,7 +248,7 @@ front_of bound capacity count start w octets s k ne e = by (last_of bound (arcs_
           many = omega (arith, ap length back, identifier-many bound front fid);
         }
 
--- one arc more
+-- The number of arcs and the position of the last one after an arc is pushed.
 pub knows_push : (bound capacity count start a : ℕ) (w new : List ℕ) → SpellsIdentifier bound capacity w → count ≡ length (arcs_of w)
     → arcs_of new ≡ arcs_of w ++ (a ∷ []) → start ≡ length w → KnowsLast (arcs_of new) (count + 1) start
 knows_push bound capacity count start a w new s counted pushed at = record {
@@ -254,9 +256,9 @@ knows_push bound capacity count start a w new s counted pushed at = record {
   placed = at ∙ ap length s.spelled ∙ sym (ap place_of_last pushed ∙ place-push (arcs_of w) a);
 }
 
--- How many octets show where the last arc begins
+-- The number of bytes that are read
 
--- the last arc is below the bound
+-- The last arc is below the bound.
 last_below : (bound : ℕ) (front : List ℕ) (a : ℕ) → IsIdentifier bound front → IsIdentifier bound (front ++ (a ∷ [])) → a < bound
 unfolding IsIdentifier
 last_below bound (x ∷ y ∷ front) a fid id = at front id.2
@@ -266,7 +268,7 @@ last_below bound (x ∷ y ∷ front) a fid id = at front id.2
     at (z ∷ front) all = at front all.1
 last_below bound _ a fid id = absurd fid
 
--- the last arc has no more octets than the greatest one
+-- The last arc has no more bytes than the largest possible one.
 few_behind : (bound : ℕ) (arcs : List ℕ) → IsIdentifier bound arcs → length (identifier_octets arcs) ≤ place_of_last arcs + length (digits 128 (bound - 1))
 few_behind bound arcs id = by (last_of bound arcs id)
   where
@@ -281,7 +283,7 @@ pub few_tested : (bound start : ℕ) (arcs w : List ℕ) → IsIdentifier bound 
 few_tested bound start arcs w id e l held =
     omega (arith, ap length e, few_behind bound arcs id, before_last bound arcs w id e, ap length held, front-within (take start w), length-take-le start w (omega arith))
 
--- there is an octet for each arc but one
+-- There are at most as many arcs as bytes, plus one.
 pub few_arcs : (bound : ℕ) (arcs : List ℕ) → IsIdentifier bound arcs → length arcs ≤ length (identifier_octets arcs) + 1
 unfolding IsIdentifier identifier_octets
 few_arcs bound (a ∷ b ∷ later) id = omega (arith, each later)

@@ -1,4 +1,4 @@
--- How many octets the arcs below the bound have, by their first octet.
+-- Lemmas about the longest arc below the bound, depending on its first byte.
 use Rattle.std.proofs.Common.{◌≡◌, ◌≢◌, ℕ, zero, suc, ◌+◌, ◌-◌, ◌*◌, ◌%◌, ◌<◌, ◌≤◌, ◌⊎◌, inl, inr, List, [], ◌∷◌, ◌++◌, length, get_or, take, drop, Err, sym, ap, subst, ◌∙◌, arith}
 use Rattle.std.proofs.lemmas.List.{drop_more, take_more}
 use Rattle.const_oid.specs.declared.error.Error.TheVariants as errors
@@ -8,7 +8,7 @@ use Rattle.const_oid.specs.OctetFaults.{begun}
 use Rattle.const_oid.proofs.BoundLaws.{Bound-is}
 use Rattle.const_oid.proofs.IdentifierLaws.{arc_octets-finish, begun-push, read_arcs-too_big, read_arcs-more}
 
--- a digit in base 128, and so many digits 0 behind it
+-- A digit in base 128, followed by `more` zeros.
 abbrev scaled : (digit more : ℕ) → ℕ
 scaled digit zero = digit
 scaled digit (suc more) = scaled digit more * 128
@@ -23,7 +23,8 @@ scaled-more a zero (suc more) le = omega (arith, scaled-more a zero more (omega 
 scaled-more a (suc few) zero le = absurd (omega arith)
 scaled-more a (suc few) (suc more) le = omega (arith, scaled-more a few more (omega arith))
 
--- what the first octet of an arc and so many more give: at least its digit and digits 0
+-- The value of an arc's first byte and of `more` further bytes: at least that of its first digit
+-- followed by zeros.
 pub record BeginsArc (first more value : ℕ) : Type 0 where
   pub marked : 128 < first
   pub octet : first < 256
@@ -46,7 +47,7 @@ begins_more first more value o b = record {
   below = omega (arith, b.below);
 }
 
--- the greatest number of octets that an arc with this first octet has
+-- `most` is the greatest number of bytes of an arc that begins with this byte.
 abbrev pub IsMost : (first most : ℕ) → Type 0
 IsMost first most = ((131 < first) × (most ≡ 18)) ⊎ ((first ≤ 131) × (most ≡ 19))
 
@@ -62,7 +63,7 @@ begins_past first most more value b (inl m) l =
 begins_past first most more value b (inr m) l =
     omega (arith, b.above, scaled-le 1 (first - 128) more (omega (arith, b.marked)), scaled-more 1 19 more (omega (arith, m.1)), Bound-is)
 
--- the octets before the place are those of an arc that isn't finished
+-- The bytes before `here` are those of an unfinished arc of this value.
 pub record IsInside (w : List ℕ) (here value : ℕ) : Type 0 where
   pub read : read_arcs Bound 0 w ≡ read_arcs Bound value (drop here w)
   pub some : 0 < value
@@ -78,7 +79,7 @@ inside_first w l mark some octet = record {
   begins = begins_first (get_or w 0 0) (let ne : get_or w 0 0 ≢ 128 = some in omega (arith, mark, ne)) octet;
 }
 
--- what one octet more gives
+-- The value after one more byte.
 one_more : (w : List ℕ) (i value : ℕ) → IsInside w i value → 0 < i → BeginsArc (get_or w 0 0) i (value * 128 + get_or w i 0 % 128)
 one_more w i value s l =
     let same : suc (i - 1) ≡ i = omega arith in

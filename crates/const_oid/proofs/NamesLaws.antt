@@ -1,4 +1,4 @@
--- The names of an identifier, entry by entry.
+-- Lemmas about looking up the names of an identifier, and identifiers by name, entry by entry.
 use Rattle.std.proofs.Common.{◌≡◌, ℕ, zero, suc, ◌+◌, ◌<◌, Bool, true, false, cond, List, [], ◌∷◌, length, get_or, drop, map, Some, refl, ap, ◌∙◌, arith}
 use Rattle.std.specs.Cmp.Lexicographic.{pointwise, bytes_decides}
 use Rattle.std.specs.Prelude.{nat_eq}
@@ -29,7 +29,7 @@ pub names-pass : (arcs : List ℕ) (entries : List Entry) (i : ℕ) (d : Entry) 
     → pointwise nat_eq (identifier_octets (get_or entries i d).0.now) (identifier_octets arcs) ≡ false → names_of arcs (drop i entries) ≡ names_of arcs (drop (i + 1) entries)
 names-pass arcs entries i d l same = at_entry arcs entries i d false l same
 
--- by name
+-- Looking up a name
 
 by_name_at : (name : List ℕ) (entries : List Entry) (i : ℕ) (d : Entry) (b : Bool) → i < length entries
     → pointwise nat_eq (map to_ascii_lowercase (get_or entries i d).1.now) (map to_ascii_lowercase name) ≡ b

@@ -1,4 +1,4 @@
--- Octets that have a fault are refused with it.
+-- Lemmas about the errors of bytes: bytes that have an error are rejected with it.
 use Rattle.std.proofs.Common.{◌≡◌, ℕ, ◌+◌, ◌*◌, ◌/◌, ◌%◌, ◌<◌, ◌≤◌, List, [], ◌∷◌, ◌++◌, length, get_or, Result, Ok, Err, IfOk, IfErr, sym, refl, ap, subst, ◌∙◌, append_assoc, append-nil, arith}
 use Rattle.std.specs.List.{AllByRecursion, flat_map}
 use Rattle.std.proofs.lemmas.Bool.{lt-ltb, le-ltb}
@@ -9,7 +9,7 @@ use Rattle.const_oid.specs.OctetFaults.{begun, IsOpen, IsArcFault, leading_zero,
 use Rattle.const_oid.proofs.IdentifierLaws.{read_arcs-cut, read_arcs-leading, read_arcs-too_big, read_arcs-begun, read_arcs-arc, identifier_sound, fault_found}
 use Rattle.const_oid.proofs.ArcsLaws.{read_identifier-long}
 
--- behind whole arcs, the fault of what follows
+-- After whole arcs, the error is that of the bytes that follow.
 behind_arcs : (bound : ℕ) (arcs t : List ℕ) (e : Error) → AllByRecursion (λ n. n < bound) arcs → read_arcs bound 0 t ≡ Err e → read_arcs bound 0 (flat_map arc_octets arcs ++ t) ≡ Err e
 behind_arcs bound [] t e all err = err
 behind_arcs bound (a ∷ arcs) t e all err =
@@ -43,7 +43,7 @@ arc_fault_answered bound capacity w e fits (unfinished arcs value opened some) =
     ap (read_identifier bound capacity) (sym (append-nil w))
     ∙ behind_open bound capacity value w arcs [] errors.Base128 opened (subst (λ (t : List ℕ). length t ≤ capacity) (sym (append-nil w)) fits) (read_arcs-cut bound value some)
 
--- octets of that fault are refused with it
+-- If bytes have an error, decoding returns that error.
 pub fault_answered : (bound capacity : ℕ) (w : List ℕ) (e : Error) → IsOctetsFault bound capacity w e → read_identifier bound capacity w ≡ Err e
 fault_answered bound capacity w e (no_octet none) = ap (read_identifier bound capacity) none
 fault_answered bound capacity w e (too_long long) = read_identifier-long bound capacity w long
@@ -53,7 +53,7 @@ fault_answered bound capacity w e (root_invalid r rest whole fits large) =
     ap (read_identifier bound capacity) whole ∙ read
 fault_answered bound capacity w e (arc x fits fault) = arc_fault_answered bound capacity w x fits fault
 
--- What an answer says of the octets
+-- Consequences for a result
 
 pub answer_ok : (bound capacity : ℕ) (w : List ℕ) (r : Result (List ℕ) Error) → ((i : ℕ) → get_or w i 0 < 256) → r ≡ read_identifier bound capacity w
     → IfOk r (λ arcs. IsIdentifier bound arcs × (length w ≤ capacity) × (w ≡ identifier_octets arcs))

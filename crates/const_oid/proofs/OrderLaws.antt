@@ -1,4 +1,4 @@
--- When identifiers are equal, and how the two orders place them.
+-- Lemmas about equality and the two orders of identifiers.
 use Rattle.std.proofs.Common.{◌≡◌, ◌≢◌, ℕ, ◌+◌, ◌/◌, ◌%◌, ◌<◌, ◌≤◌, ◌⊎◌, inl, inr, true, ltb, count_by, List, [], ◌∷◌, ◌++◌, length, suc, zero, sym, refl, ap, ◌∙◌, length-append, arith}
 use Rattle.std.specs.Hash as fed
 use Rattle.std.specs.declared.cmp.Ordering.{Ordering}
@@ -36,7 +36,7 @@ was_equal : (o : Ordering) → is_eq o ≡ true → o ≡ Equal
 was_equal Equal e = refl
 was_equal _ e = cc
 
--- Both orders are Equal exactly where the identifiers are
+-- Both orders return `Equal` exactly if the identifiers are equal
 
 pub owned_ties : (a b : List ℕ) → (owned_cmp a b ≡ Equal → owned_eq a b ≡ true) × (owned_eq a b ≡ true → owned_cmp a b ≡ Equal)
 owned_ties a b = (λ e. owned_cmp_ties a b ∙ ap is_eq e, λ t. was_equal (owned_cmp a b) (sym (owned_cmp_ties a b) ∙ t))
@@ -46,17 +46,17 @@ borrowed_ties a b =
     let ties = texts_ties (identifier_octets a) (identifier_octets b) in
     (λ e. ties ∙ ap is_eq e, λ t. was_equal (borrowed_cmp a b) (sym ties ∙ t))
 
--- equal identifiers feed a hasher the same
+-- Equal identifiers feed the same bytes to a hasher.
 pub equal_hashes : (a b : List ℕ) → owned_eq a b ≡ true → fed.slice fed.u8 (identifier_octets a) ≡ fed.slice fed.u8 (identifier_octets b)
 equal_hashes a b t = ap (fed.slice fed.u8) ((equal_octets a b).0 t)
 
--- the octets without a mark, and one more, are as many as the arcs
+-- The number of arcs is one more than the number of bytes with bit 8 clear.
 pub arcs_counted : (bound : ℕ) (arcs : List ℕ) → IsIdentifier bound arcs → length arcs ≡ count_by (λ o. ltb o 128) (identifier_octets arcs) + 1
 arcs_counted bound arcs id =
     let octets = identifier_octets arcs in
     sym (length-arcs_of bound octets (is_ok-octets bound octets arcs id refl) ∙ ap length (arcs_of-identifier_octets bound arcs id))
 
--- Numbers
+-- The order of numbers
 
 pub nat_cmp-less : (m n : ℕ) → m < n → nat_cmp m n ≡ Less
 nat_cmp-less m n l = sym (nat_cmp_is m n Less l)
@@ -67,9 +67,9 @@ nat_cmp-greater m n l = sym (nat_cmp_is m n Greater l)
 pub nat_cmp-same : (m n : ℕ) → m ≡ n → nat_cmp m n ≡ Equal
 nat_cmp-same m n e = sym (nat_cmp_is m n Equal e)
 
--- Lists
+-- The order of lists
 
--- what lies between two lists that begin alike begins so too
+-- A list between two lists with the same prefix has that prefix, too.
 between : (q x y z : List ℕ) → slice_cmp nat_cmp (q ++ x) y ≢ Greater → slice_cmp nat_cmp y (q ++ z) ≢ Greater → (t : List ℕ) × (y ≡ q ++ t)
 between [] x y z l m = (y, refl)
 between (o ∷ q) x [] z l m = absurd (l refl)
@@ -87,7 +87,7 @@ same_front : (q x y : List ℕ) → slice_cmp nat_cmp (q ++ x) (q ++ y) ≡ slic
 same_front [] x y = refl
 same_front (o ∷ q) x y = ap (λ r. ordering_then r (slice_cmp nat_cmp (q ++ x) (q ++ y))) (nat_cmp-same o o refl) ∙ same_front q x y
 
--- the first octet that differs decides
+-- The first element that differs decides.
 less_front : (xs ys r s : List ℕ) → length xs ≡ length ys → slice_cmp nat_cmp xs ys ≡ Less → slice_cmp nat_cmp (xs ++ r) (ys ++ s) ≡ Less
 less_front [] [] r s n e = cc
 less_front (x ∷ xs) (y ∷ ys) r s n e = by (less_front xs ys r s (omega arith)) (nat_cmp x y) refl e
@@ -98,7 +98,7 @@ less_front (x ∷ xs) (y ∷ ys) r s n e = by (less_front xs ys r s (omega arith
     by rest Greater c h = let g : Greater ≡ Less = sym (ap (λ k. ordering_then k (slice_cmp nat_cmp xs ys)) c) ∙ h in cc
 less_front _ _ r s n e = absurd (omega arith)
 
--- a subtree of the borrowed order is unbroken
+-- In the borrowed order, the identifiers that begin with the same arcs are contiguous.
 pub unbroken : (bound : ℕ) (front a b c : List ℕ) → IsIdentifier bound front → IsIdentifier bound b → IsAtMost borrowed_cmp (front ++ a) b → IsAtMost borrowed_cmp b (front ++ c)
     → (rest : List ℕ) × (b ≡ front ++ rest)
 unbroken bound front a b c f p l m =
@@ -107,7 +107,7 @@ unbroken bound front a b c f p l m =
     let found = between (identifier_octets front) (flat_map arc_octets a) (identifier_octets b) (flat_map arc_octets c) (λ g. l (ap (λ t. slice_cmp nat_cmp t (identifier_octets b)) first ∙ g)) (λ g. m (ap (λ t. slice_cmp nat_cmp (identifier_octets b) t) last ∙ g)) in
     octets_prefix bound b front found.0 p f found.1
 
--- an identifier stands before each that begins with it
+-- In the owned order, an identifier comes before those that begin with its arcs.
 pub ancestor_first : (bound : ℕ) (arcs : List ℕ) (a : ℕ) (rest : List ℕ) → IsIdentifier bound arcs → owned_cmp arcs (arcs ++ (a ∷ rest)) ≡ Less
 ancestor_first bound arcs a rest id =
     let octets = prefix_octets bound arcs (a ∷ rest) id in
@@ -115,9 +115,10 @@ ancestor_first bound arcs a rest id =
     omega (arith, ap length octets, length-append (identifier_octets arcs) (arc_octets a ++ flat_map arc_octets rest), length-append (arc_octets a) (flat_map arc_octets rest), length-arc_octets a, length-digits-pos a) in
     ap (λ o. ordering_then o (slice_cmp nat_cmp (identifier_octets arcs) (identifier_octets (arcs ++ (a ∷ rest))))) (nat_cmp-less _ _ longer)
 
--- Arcs
+-- The order of arcs
 
--- arcs of as many octets stand by their octets, whatever mark the last one has
+-- Encodings of arcs that have the same length are ordered by their bytes, whether or not the last
+-- one is marked.
 last_less : (m n x y : ℕ) → m < n → (m / 128 ≡ n / 128 → x < y) → length (begun (m / 128) ++ (x ∷ [])) ≡ length (begun (n / 128) ++ (y ∷ []))
     → (m / 128 < n / 128 → length (begun (m / 128)) ≡ length (begun (n / 128)) → slice_cmp nat_cmp (begun (m / 128)) (begun (n / 128)) ≡ Less)
     → slice_cmp nat_cmp (begun (m / 128) ++ (x ∷ [])) (begun (n / 128) ++ (y ∷ [])) ≡ Less
@@ -173,7 +174,7 @@ child_less bound front m n id l =
         ∙ same_front f (arc_octets m) (arc_octets n)
         ∙ arc_less m n l size
 
--- the children of one identifier stand by their last arc
+-- In the owned order, the children of an identifier are ordered by their last arc.
 pub children_by_arc : (bound : ℕ) (front : List ℕ) (m n : ℕ) → IsIdentifier bound front → owned_cmp (front ++ (m ∷ [])) (front ++ (n ∷ [])) ≡ nat_cmp m n
 children_by_arc bound front m n id = by (cases_lt m n) (cases_lt n m)
   where

@@ -1,4 +1,4 @@
--- The octets that an array holds, by those without a mark.
+-- Lemmas about bytes that are held in an array filled up with the byte 0x80.
 use Rattle.std.proofs.Common.{◌≡◌, ℕ, zero, suc, ◌+◌, ◌-◌, ◌<◌, ◌≤◌, List, [], ◌∷◌, ◌++◌, length, get_or, take, drop, replicate, set, map, ◌⊎◌, inl, inr, length-take-le, sym, refl, ap, ◌∙◌, arith, append_assoc, length-append, min}
 use Rattle.std.proofs.lemmas.Bool.{lt-ltb, le-ltb, cases_lt}
 use Rattle.std.proofs.lemmas.Bool.Decides.{nat_tests}
@@ -9,20 +9,20 @@ use Rattle.const_oid.specs.IdentifierOctets.{identifier_octets, IsIdentifier, ar
 use Rattle.const_oid.specs.PackedOctets.{octet_in_front, unmarked_front, IsPacked}
 use Rattle.const_oid.proofs.ParentLaws.{Last, root, more, last_of, arc_parts}
 
--- one octet more, without a mark
+-- Appending a byte with bit 8 clear.
 pub front-low : (w : List ℕ) (o : ℕ) → o < 128 → unmarked_front (w ++ (o ∷ [])) ≡ w ++ (o ∷ [])
 unfolding unmarked_front
 front-low [] o l = rw (lt-ltb o 128 l, octet_in_front) refl
 front-low (x ∷ []) o l = ap (octet_in_front x) (front-low [] o l)
 front-low (x ∷ y ∷ w) o l = ap (octet_in_front x) (front-low (y ∷ w) o l)
 
--- one octet more, with a mark
+-- Appending a byte with bit 8 set.
 pub front-marked : (w : List ℕ) (o : ℕ) → 128 ≤ o → unmarked_front (w ++ (o ∷ [])) ≡ unmarked_front w
 unfolding unmarked_front
 front-marked [] o l = rw (le-ltb o 128 l, octet_in_front) refl
 front-marked (x ∷ w) o l = ap (octet_in_front x) (front-marked w o l)
 
--- marks at the end
+-- Appending several bytes with bit 8 set.
 pub front-marks : (w ds : List ℕ) → unmarked_front (w ++ map (λ d. 128 + d) ds) ≡ unmarked_front w
 unfolding unmarked_front
 front-marks [] [] = refl
@@ -40,7 +40,7 @@ pub front-none : unmarked_front [] ≡ []
 unfolding unmarked_front
 front-none = refl
 
--- the octets of an arc behind others, and those of an identifier
+-- Appending the encoding of an arc, and the encoding of an identifier.
 front-arc : (w : List ℕ) (a : ℕ) → unmarked_front (w ++ arc_octets a) ≡ w ++ arc_octets a
 front-arc w a =
     let parts = arc_parts a in
@@ -58,7 +58,7 @@ front-identifier bound arcs id = by (last_of bound arcs id)
 pub front-spelled : (bound capacity : ℕ) (w : List ℕ) → SpellsIdentifier bound capacity w → unmarked_front w ≡ w
 front-spelled bound capacity w s = ap unmarked_front s.spelled ∙ front-identifier bound (arcs_of w) s.identifier ∙ sym s.spelled
 
--- From the end to the last octet without a mark
+-- Searching from the end for a byte with bit 8 clear
 
 take_before : (bytes : List ℕ) (end : ℕ) → 0 < end → end ≤ length bytes → take end bytes ≡ take (end - 1) bytes ++ (get_or bytes (end - 1) 0 ∷ [])
 take_before bytes end some within =
@@ -70,7 +70,7 @@ pub front-step : (bytes : List ℕ) (end : ℕ) → 0 < end → end ≤ length b
 front-step bytes end some within marked =
     sym (ap unmarked_front (take_before bytes end some within) ∙ front-marked (take (end - 1) bytes) (get_or bytes (end - 1) 0) marked)
 
--- where an octet without a mark, or none, comes before
+-- The search stops after a byte with bit 8 clear, or at the beginning.
 pub front-found : (bytes rest : List ℕ) (end : ℕ) → end ≤ length bytes → (0 < end → get_or bytes (end - 1) 0 < 128) → unmarked_front (take end bytes) ≡ rest → end ≡ length rest
 front-found bytes rest end within low held = by (cases_lt 0 end)
   where
@@ -91,7 +91,7 @@ front-within (o ∷ w) = by (unmarked_front w) (front-within w)
     by [] l = grind (arith, nat_tests)
     by (x ∷ v) l = omega arith
 
--- Octets written over the front of an array of marks
+-- Copying bytes to the beginning of the array
 
 copied : (size : ℕ) (octets : List ℕ) → octets ++ drop (length octets) (replicate size 128) ≡ octets ++ replicate (size - length octets) 128
 copied size octets = ap (λ t. octets ++ t) (drop-replicate (length octets) size 128)
@@ -110,20 +110,20 @@ packed_copy size count octets fits whole counted =
       counted = counted ∙ ap (λ t. min 255 (length t)) (sym front);
     }
 
--- three octets, written one by one
+-- Three bytes that are written separately.
 pub three_copied : (size : ℕ) (octets : List ℕ) → 3 ≤ length octets → length octets < 4 → length octets ≤ size
     → set (set (set (replicate size 128) 0 (get_or octets 0 0)) 1 (get_or octets 1 0)) 2 (get_or octets 2 0) ≡ octets ++ drop (length octets) (replicate size 128)
 three_copied (suc (suc (suc n))) (a ∷ b ∷ c ∷ []) three most fits = refl
 three_copied size octets three most fits = absurd (omega arith)
 
--- The octets that an array holds
+-- The bytes that an array contains
 
 pub packed_take : (size count : ℕ) (bytes : List ℕ) → IsPacked size bytes count → take (length (unmarked_front bytes)) bytes ≡ unmarked_front bytes
 packed_take size count bytes p =
     let w = unmarked_front bytes in
     ap (take (length w)) p.padded ∙ take-append_seam w (replicate (size - length w) 128)
 
--- so many octets that fit a front of their array are those of another whose array has that front
+-- Two lists are equal if they have the same length and the beginnings of their arrays agree.
 pub same_front : (size k c d : ℕ) (a b : List ℕ) → IsPacked size a c → IsPacked size b d → c ≡ d → c ≤ k → k < 255 → take k a ≡ take k b
     → unmarked_front a ≡ unmarked_front b
 same_front size k c d a b p q e within small fronts =
@@ -132,7 +132,7 @@ same_front size k c d a b p q e within small fronts =
     sym (packed_take size c a p) ∙ ap (λ n. take n a) mine ∙ sym (take-take c k a within) ∙ ap (take c) fronts
     ∙ take-take c k b within ∙ ap (λ n. take n b) (sym others) ∙ packed_take size d b q
 
--- the octets of an arc, written behind them
+-- Writing the encoding of an arc after them.
 pub packed_push : (size count end counts arc : ℕ) (bytes new : List ℕ) → IsPacked size bytes count
     → end ≡ length (unmarked_front bytes) + length (arc_octets arc) → end ≤ size → counts ≡ min 255 end
     → new ≡ take (end - length (arc_octets arc)) bytes ++ (arc_octets arc ++ drop end bytes)

@@ -1,4 +1,4 @@
--- The last arc of an identifier, and the last octet of an arc.
+-- Lemmas about splitting off the last arc of an identifier, and the last byte of an arc.
 use Rattle.std.proofs.Common.{◌≡◌, ℕ, ◌+◌, ◌*◌, ◌/◌, ◌%◌, ◌<◌, ◌≤◌, ◌⊎◌, inl, inr, List, [], ◌∷◌, ◌++◌, length, map, refl, ap, subst, ◌∙◌, length-append, arith}
 use Rattle.std.specs.List.{AllByRecursion, flat_map}
 use Rattle.std.proofs.lemmas.Bool.{cases_lt}
@@ -7,7 +7,7 @@ use Rattle.const_oid.specs.IdentifierOctets.{arc_octets, identifier_octets, IsId
 use Rattle.const_oid.proofs.EncodingLaws.{arc_octets-one, arc_octets-more}
 use Rattle.const_oid.proofs.IdentifierLaws.{identifier_octets-push}
 
--- marked octets, and one that is not
+-- Bytes with bit 8 set, followed by one with bit 8 clear.
 pub record Parts (octets : List ℕ) : Type 0 where
   pub front : List ℕ
   pub last : ℕ
@@ -21,7 +21,7 @@ arc_parts a = by (cases_lt a 128)
     by (inl l) = record { front = []; last = a; whole = arc_octets-one a l; unmarked = l }
     by (inr l) = record { front = digits 128 (a / 128); last = a % 128; whole = arc_octets-more a l; unmarked = omega arith }
 
--- a list is empty, or has a last element
+-- A list is empty, or has a last element.
 pub unsnoc : (xs : List ℕ) → (xs ≡ []) ⊎ ((front : List ℕ) × (last : ℕ) × (xs ≡ front ++ (last ∷ [])))
 unsnoc [] = inl refl
 unsnoc (x ∷ xs) = by (unsnoc xs)
@@ -30,7 +30,7 @@ unsnoc (x ∷ xs) = by (unsnoc xs)
     by (inl e) = inr ([], x, ap (λ t. x ∷ t) e)
     by (inr p) = inr (x ∷ p.0, p.1, ap (λ t. x ∷ t) p.2)
 
--- the root alone, or an identifier and one arc more
+-- The first byte alone, or an identifier and one more arc.
 pub data Last (bound : ℕ) (arcs : List ℕ) : Type 0 where
   root : (r : ℕ) → r < 128 → identifier_octets arcs ≡ r ∷ [] → length arcs ≡ 2 → Last bound arcs
   more : (front : List ℕ) (a : ℕ) → IsIdentifier bound front → arcs ≡ front ++ (a ∷ []) → identifier_octets arcs ≡ identifier_octets front ++ arc_octets a → length arcs ≡ length front + 1 → Last bound arcs

@@ -1,4 +1,5 @@
--- Octets begin with those of an identifier exactly where the arcs begin with its arcs.
+-- Lemmas about prefixes: an encoding begins with that of an identifier exactly if the arcs begin
+-- with its arcs.
 use Rattle.std.proofs.Common.{◌≡◌, ℕ, ◌+◌, ◌*◌, List, [], ◌∷◌, ◌++◌, length, sym, refl, ap, ◌∙◌, append_assoc, length-append, arith}
 use Rattle.std.specs.List.{flat_map}
 use Rattle.std.proofs.lemmas.Grind.{flat_map-append}
@@ -9,7 +10,7 @@ use Rattle.const_oid.proofs.EncodingLaws.{length-arc_octets, length-digits-pos}
 use Rattle.const_oid.proofs.ArcsLaws.{arcs_of-identifier_octets}
 use Rattle.const_oid.specs.Arcs.{arcs_of}
 
--- the octets of an arc tell where they end
+-- The encoding of an arc determines where it ends.
 pub split-arc : (x y : ℕ) (r s : List ℕ) → arc_octets x ++ r ≡ arc_octets y ++ s → (x ≡ y) × (r ≡ s)
 unfolding arc_octets
 split-arc x y r s e =
@@ -48,7 +49,7 @@ prefix_octets bound _ rest q = absurd q
 pub same_octets : (bound : ℕ) (a b : List ℕ) → IsIdentifier bound a → IsIdentifier bound b → identifier_octets a ≡ identifier_octets b → a ≡ b
 same_octets bound a b p q e = sym (arcs_of-identifier_octets bound a p) ∙ ap arcs_of e ∙ arcs_of-identifier_octets bound b q
 
--- the octets that spell a front of arcs begin the octets that spell the arcs
+-- If the arcs begin with others, the encoding begins with theirs.
 pub prefix_spelled : (bound : ℕ) (arcs front rest w v : List ℕ) → IsIdentifier bound front → w ≡ identifier_octets arcs → v ≡ identifier_octets front → arcs ≡ front ++ rest
     → w ≡ v ++ flat_map arc_octets rest
 prefix_spelled bound arcs front rest w v id p q e =

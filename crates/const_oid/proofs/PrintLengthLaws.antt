@@ -1,4 +1,4 @@
--- The dotted text of an identifier has at most four octets for each of its encoding.
+-- Lemmas about the length of the dotted text: at most four bytes for each byte of the encoding.
 use Rattle.std.proofs.Common.{◌≡◌, ℕ, zero, suc, ◌+◌, ◌*◌, ◌^◌, ◌<◌, ◌≤◌, List, [], ◌∷◌, length, ap, length-append, arith}
 use Rattle.std.specs.List.{flat_map}
 use Rattle.std.proofs.Math.Nat.{pow-suc}
@@ -14,7 +14,7 @@ few_decimals : (k n : ℕ) → 0 < k → n < 10 ^ k → length (decimal n) ≤ k
 unfolding decimal
 few_decimals k n some l = omega (arith, few_digits 10 k n (omega arith) some l, length-map (digits 10 n) (λ d. 48 + d))
 
--- three digits in base 10 are enough for one in base 128
+-- Three decimal digits are enough for one digit in base 128.
 thousands : (k : ℕ) → 128 ^ k ≤ 10 ^ (3 * k)
 thousands zero = omega arith
 thousands (suc k) =

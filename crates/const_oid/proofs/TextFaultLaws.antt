@@ -1,4 +1,5 @@
--- Reading of texts answers the arcs that they spell, or the fault of the shortest faulty front.
+-- Lemmas about parsing texts: the result is the arcs of which the text is a dotted text, or the
+-- error of the shortest prefix that has one.
 use Rattle.std.proofs.Common.{add-one, ◌≡◌, ◌≢◌, ℕ, zero, suc, ◌+◌, ◌*◌, ◌/◌, ◌%◌, ◌<◌, ◌≤◌, ◌⊎◌, inl, inr, List, [], ◌∷◌, ◌++◌, length, map, replicate, Result, Ok, Err, IfOk, IfErr, MatchResult, Option, None, Some, unwrap_or, sym, refl, ap, subst, ◌∙◌, append_assoc, append-nil, length-append, arith}
 use Rattle.std.specs.List.{AllByRecursion, flat_map, join_with_byte}
 use Rattle.std.proofs.lemmas.Bool.{cases_lt, cases_eq}
@@ -21,7 +22,7 @@ use Rattle.const_oid.proofs.EncodingLaws.{whole-few, whole-many, gather-end, ide
 use Rattle.const_oid.proofs.TextRoundLaws.{decimal_within, length-decimal-pos, gather-cons, alike, all_below}
 use Rattle.const_oid.proofs.ArcFaultLaws.{faultless_front, faultless_none, faultless_one, faultless_identifier, identifier_gathered, add_arc-faultless, Next, faulty, fine, next, next_answered, next-not_overflow}
 
--- Decimals, digit by digit
+-- Decimal numbers, digit by digit
 
 replicate-end : (k : ℕ) → replicate {A = ℕ} (suc k) 48 ≡ replicate k 48 ++ (48 ∷ [])
 replicate-end k = ap (λ n. replicate {A = ℕ} n 48) (sym (add-one k)) ∙ sym (replicate_more k 48)
@@ -79,7 +80,7 @@ joined-push (x ∷ y ∷ pieces) piece =
     ∙ append_assoc x (46 ∷ []) (with_dots (y ∷ pieces) ++ piece)
     ∙ ap (λ t. x ++ (46 ∷ t)) (joined-push (y ∷ pieces) piece)
 
--- A front without a fault, one octet more
+-- A prefix without an error, and one more byte
 
 open_start : (bound capacity : ℕ) → IsOpenText bound capacity [] [] None
 open_start bound capacity = record { pieces = []; last = []; decimals = tt; below = tt; faultless = faultless_none capacity; begins = refl; spelled = refl }
@@ -122,14 +123,15 @@ open_text bound capacity front arcs a o = record {
   joined = o.spelled ∙ joined-push o.pieces o.last;
 }
 
--- What reading answers
+-- The result of parsing
 
--- the arcs that a text spells, which are an identifier within the capacity, or the text's fault
+-- The result is an identifier within the capacity of which the text is a dotted text, or the text's
+-- error.
 abbrev pub Judged : (bound capacity : ℕ) → List ℕ → Result (List ℕ) Error → Type 0
 Judged bound capacity text r =
     MatchResult r (λ arcs. IsDottedText arcs text × IsIdentifier bound arcs × (length (identifier_octets arcs) ≤ capacity)) (λ e. IsTextFault bound capacity text e)
 
--- the text behind a front: where no arc has begun, and some are there, it goes on
+-- The text after a prefix isn't empty if some arcs are complete and no further one has begun.
 abbrev pub GoesOn : (arcs : List ℕ) → Option ℕ → List ℕ → Type 0
 GoesOn arcs begun text = begun ≡ None → text ≡ [] → arcs ≡ []
 
@@ -205,15 +207,15 @@ judged_behind bound capacity (c ∷ w) front arcs begun o goes = by (cases_eq c 
 judged : (bound capacity : ℕ) (w : List ℕ) (r : Result (List ℕ) Error) → r ≡ read_text bound capacity w → Judged bound capacity w r
 judged bound capacity w r e = subst (Judged bound capacity w) (sym e) (judged_behind bound capacity w [] [] None (open_start bound capacity) (λ _ _. refl))
 
--- a text that is refused has the fault that is answered
+-- If a text is rejected with an error, it has that error.
 pub text_fault_found : (bound capacity : ℕ) (w : List ℕ) (e : Error) → read_text bound capacity w ≡ Err e → IsTextFault bound capacity w e
 text_fault_found bound capacity w e err = judged bound capacity w (Err e) (sym err)
 
--- what is read of a text is spelled by it, and is an identifier
+-- If a text is accepted, it is a dotted text of the result, which is an identifier.
 pub text_sound : (bound capacity : ℕ) (w arcs : List ℕ) → read_text bound capacity w ≡ Ok arcs → IsDottedText arcs w × IsIdentifier bound arcs × (length (identifier_octets arcs) ≤ capacity)
 text_sound bound capacity w arcs ok = judged bound capacity w (Ok arcs) (sym ok)
 
--- Behind a front without a fault, what follows is read
+-- Parsing after a prefix without an error
 
 decimal-cons : (n : ℕ) → (c : ℕ) × (w : List ℕ) × (decimal n ≡ c ∷ w) × (c ≢ 46)
 unfolding decimal
@@ -223,7 +225,7 @@ decimal-cons n = by (digits 10 n) (digits-Digits 10 n (omega arith)).some
     by [] some = absurd (omega arith)
     by (d ∷ ds) some = (48 + d, map (λ d. 48 + d) ds, refl, λ h. omega (arith, h))
 
--- zeros in front of an arc count for nothing
+-- Leading zeros of an arc don't change the result.
 leading_zero : (bound capacity : ℕ) (arcs w : List ℕ) (c : ℕ) → 0 < bound → c ≢ 46 → text_arcs bound capacity arcs None (48 ∷ c ∷ w) ≡ text_arcs bound capacity arcs None (c ∷ w)
 leading_zero bound capacity arcs w c some ne =
     text-digit bound capacity arcs None 48 (c ∷ w) (λ h. omega (arith, h))
@@ -252,7 +254,7 @@ begun_read : (bound capacity : ℕ) (arcs w : List ℕ) (begun : Option ℕ) (pi
 begun_read bound capacity arcs w None piece b = ap (λ t. text_arcs bound capacity arcs None (t ++ w)) b
 begun_read bound capacity arcs w (Some a) piece b = piece_read bound capacity arcs w a piece b.0 b.1
 
--- an arc, and a dot that isn't the last octet
+-- An arc, followed by a dot that isn't the last byte.
 dotted_piece_read : (bound capacity : ℕ) (arcs w : List ℕ) (a : ℕ) (piece : List ℕ) → IsDecimal a piece → a < bound → 0 < length w
     → text_arcs bound capacity arcs None (piece ++ (46 ∷ w)) ≡ and_then (add_arc capacity arcs a) (λ more. text_arcs bound capacity more None w)
 dotted_piece_read bound capacity arcs w a piece p l some =
@@ -273,7 +275,7 @@ pieces_read bound capacity before (a ∷ arcs) (x ∷ pieces) w d all f some =
     ∙ ap (λ t. text_arcs bound capacity t None w) whole
 pieces_read bound capacity before _ _ w d all f some = absurd d
 
--- whether something is left of an arc that has begun and the text behind it
+-- The digits of an arc that has begun, together with the text after them, aren't empty.
 some_left : (bound : ℕ) (begun : Option ℕ) (piece w : List ℕ) → IsBegun bound begun piece → (begun ≡ None → 0 < length w) → 0 < length (piece ++ w)
 some_left bound None piece w b left = omega (arith, left refl, length-append piece w)
 some_left bound (Some a) piece w b left = omega (arith, length-piece-pos a piece b.0, length-append piece w)
@@ -286,7 +288,7 @@ open_read bound capacity front arcs begun w o left =
     ∙ pieces_read bound capacity [] arcs o.pieces (o.last ++ w) o.decimals o.below o.faultless (some_left bound begun o.last w o.begins left)
     ∙ begun_read bound capacity arcs w begun o.last o.begins
 
--- a text of that fault is refused with it
+-- If a text has an error, it is rejected with that error.
 pub text_fault_answered : (bound capacity : ℕ) (w : List ℕ) (e : Error) → IsTextFault bound capacity w e → read_text bound capacity w ≡ Err e
 text_fault_answered bound capacity w e (no_text none) = ap (read_text bound capacity) none ∙ text-none bound capacity [] None refl
 text_fault_answered bound capacity w e (first_dot rest whole) = ap (read_text bound capacity) whole ∙ text-early bound capacity [] None 46 rest refl refl
@@ -325,7 +327,7 @@ text_fault_answered bound capacity w e (one_arc a o small) =
     ∙ ap (λ r. and_then r whole_arcs) (add_arc-faultless capacity [] a (faultless_one capacity a small))
     ∙ whole-few (a ∷ []) (omega arith)
 
--- A text that spells arcs is judged as they are
+-- Parsing a dotted text gives the same result as collecting its arcs
 
 join-pos : (arcs : List ℕ) (pieces : List (List ℕ)) → AreDecimals arcs pieces → 0 < length arcs → 0 < length (join_with_byte 46 pieces)
 join-pos [] [] d some = absurd (omega arith)
@@ -354,12 +356,12 @@ joined_gathered bound capacity before _ _ d all some = absurd d.1
 pub text_gathered : (bound capacity : ℕ) (w arcs : List ℕ) → IsDottedText arcs w → AllByRecursion (λ n. n < bound) arcs → 0 < length arcs → read_text bound capacity w ≡ gather capacity [] arcs
 text_gathered bound capacity w arcs t all some = ap (read_text bound capacity) t.joined ∙ joined_gathered bound capacity [] arcs t.pieces t.decimals all some
 
--- a text that spells an identifier within the capacity is read as it
+-- A dotted text of an identifier within the capacity parses to it.
 pub text_read : (bound capacity : ℕ) (w arcs : List ℕ) → 40 ≤ bound → IsDottedText arcs w → IsIdentifier bound arcs → length (identifier_octets arcs) ≤ capacity → read_text bound capacity w ≡ Ok arcs
 text_read bound capacity w arcs large t id fits =
     text_gathered bound capacity w arcs t (all_below bound arcs large id) (omega (arith, identifier-many bound arcs id)) ∙ identifier_gathered bound capacity arcs id fits
 
--- What an answer says of the text
+-- Consequences for a result
 
 pub text_fault-not_overflow : (bound capacity : ℕ) (w : List ℕ) (e : Error) → IsTextFault bound capacity w e → e ≢ errors.Overflow
 text_fault-not_overflow bound capacity w e (arc front arcs a x ends o fault) h = next-not_overflow capacity arcs a x fault h
@@ -380,7 +382,7 @@ pub answer_fault : (bound capacity : ℕ) (w : List ℕ) (r : Result (List ℕ) 
 answer_fault bound capacity w (Ok arcs) e = tt
 answer_fault bound capacity w (Err x) e = judged bound capacity w (Err x) e
 
--- What is printed of arcs spells them
+-- The printed text is a dotted text of its arcs
 
 decimals-are : (arcs : List ℕ) → AreDecimals arcs (map decimal arcs)
 decimals-are [] = tt
@@ -396,15 +398,15 @@ unfolding dotted
 dotted_text [] = record { pieces = []; decimals = tt; joined = refl }
 dotted_text (a ∷ arcs) = record { pieces = map decimal (a ∷ arcs); decimals = decimals-are (a ∷ arcs); joined = joined-decimals a arcs }
 
--- the dotted text of arcs is read as from_arcs takes them
+-- Parsing the dotted text of arcs gives the same result as collecting the arcs.
 pub dotted_gathered : (bound capacity : ℕ) (arcs : List ℕ) → AllByRecursion (λ n. n < bound) arcs → 0 < length arcs → read_text bound capacity (dotted arcs) ≡ gather capacity [] arcs
 dotted_gathered bound capacity arcs all some = text_gathered bound capacity (dotted arcs) arcs (dotted_text arcs) all some
 
--- the dotted text of an identifier is read as it
+-- The dotted text of an identifier parses to it.
 pub dotted_read : (bound capacity : ℕ) (arcs : List ℕ) → 40 ≤ bound → IsIdentifier bound arcs → length (identifier_octets arcs) ≤ capacity → read_text bound capacity (dotted arcs) ≡ Ok arcs
 dotted_read bound capacity arcs large id fits = text_read bound capacity (dotted arcs) arcs large (dotted_text arcs) id fits
 
--- identifiers of one text are one
+-- Identifiers with the same dotted text are equal.
 pub same_text : (bound : ℕ) (a b : List ℕ) → 40 ≤ bound → IsIdentifier bound a → IsIdentifier bound b → dotted a ≡ dotted b → a ≡ b
 same_text bound a b large p q e =
     let capacity = length (identifier_octets a) + length (identifier_octets b) in

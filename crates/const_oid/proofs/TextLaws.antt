@@ -1,4 +1,4 @@
--- One octet more of a dotted text, and what a digit gives.
+-- Lemmas about one more byte of a dotted text.
 use Rattle.std.proofs.Common.{◌≡◌, ◌≢◌, ℕ, ◌+◌, ◌-◌, ◌*◌, ◌<◌, ◌≤◌, ◌⊎◌, inl, inr, List, [], ◌∷◌, length, Ok, Err, Option, None, Some, unwrap_or, ok_or, ltb, cond, refl, ap, ◌∙◌, ne_eqb, arith}
 use Rattle.std.proofs.lemmas.Bool.Decides.{nat_tests}
 use Rattle.std.proofs.lemmas.Bool.{cases_lt}
@@ -41,7 +41,7 @@ text-last bound capacity arcs (Some b) a n =
     let same : b ≡ a = cc in
     ap (λ k. and_then (add_arc capacity arcs k) whole_arcs) same
 
--- What an octet gives where a digit must stand
+-- A byte where a digit is required
 
 pub digit_read : (bound : ℕ) (value : Option ℕ) (d : ℕ) → d < 10 → unwrap_or value 0 * 10 + d < bound → with_digit bound value (48 + d) ≡ Ok (unwrap_or value 0 * 10 + d)
 digit_read bound value d l fits = grind (arith, nat_tests)
@@ -57,7 +57,7 @@ no_digit_read bound begun c n = grind (arith, nat_tests)
 pub past_read : (bound : ℕ) (begun : Option ℕ) (d : ℕ) → d ≤ 9 → bound ≤ unwrap_or begun 0 * 10 + d → with_digit bound begun (48 + d) ≡ Err errors.ArcTooBig
 past_read bound begun d l large = grind (arith, nat_tests)
 
--- a digit behind a value, as it is pushed
+-- Pushing a digit gives the value that parsing computes.
 pub digit_pushed : (bound : ℕ) (begun : Option ℕ) (c v : ℕ) (r : Option ℕ) → 48 ≤ c → c ≤ 57 → v ≡ unwrap_or begun 0
     → r ≡ cond (ltb (v * 10 + (c - 48)) bound) (Some (v * 10 + (c - 48))) None → with_digit bound begun c ≡ ok_or r errors.ArcTooBig
 digit_pushed bound begun c v r k l e p = grind (arith, nat_tests)

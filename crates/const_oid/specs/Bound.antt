@@ -1,10 +1,10 @@
--- The bound of arcs and the number of octets that this crate's contracts name.
+-- The limits of this crate: the bound of arcs, and the greatest length of an encoding.
 use Rattle.std.specs.Prelude.{ℕ, ◌^◌}
 
--- each arc is below it
+-- Each arc is below this bound, 2^128, because an `Arc` is a `u128`.
 unfoldable pub Bound : ℕ
 Bound = 2 ^ 128
 
--- the most octets of an identifier: `ObjectIdentifier::MAX_SIZE`
+-- The greatest length of an encoding, `ObjectIdentifier::MAX_SIZE`.
 abbrev pub max_size : ℕ
 max_size = 39

@@ -1,13 +1,14 @@
--- A list held at the front of an array whose rest is zero: its array is found again from the list.
+-- A list of bytes at the beginning of an array that is zero after the list. The list and its length
+-- determine the array.
 use Rattle.std.specs.Prelude.{◌≡◌, ℕ, ◌-◌, ◌≤◌, List, ◌++◌, length, take, drop, replicate}
 use Rattle.std.proofs.Common.{sym, ap, ◌∙◌, arith, length-take-le, take-append-drop}
 
--- the length of the list
+-- A list of `count` bytes has this length.
 pub length_front : (size count : ℕ) (bytes : List ℕ) → count ≤ size → length bytes ≡ size
     → length (take count bytes) ≡ count
 length_front size count bytes fits whole = length-take-le count bytes (omega arith)
 
--- the list and the zeros after it are the array
+-- The list, followed by zeros, is the array.
 pub padded : (size count : ℕ) (bytes : List ℕ) → count ≤ size → length bytes ≡ size
     → drop count bytes ≡ replicate (size - count) 0
     → take count bytes ++ replicate (size - length (take count bytes)) 0 ≡ bytes

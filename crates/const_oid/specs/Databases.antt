@@ -1,13 +1,13 @@
--- What a database and an iterator over names stand for.
+-- The abstract values of a database and of an iterator over names.
 use Rattle.std.specs.Prelude.{ℕ, List, drop}
 use Rattle.const_oid.specs.declared.database.Database.{Database}
 use Rattle.const_oid.specs.declared.database.Names.{Names}
 use Rattle.const_oid.specs.Names.{Entry, names_of}
 
--- the entries of a database
+-- The entries of a database.
 abbrev pub entries_of : Database → List Entry
 entries_of database = database.entries.now
 
--- the names that an iterator has yet to give
+-- The names that an iterator will still return.
 abbrev pub remaining_names : Names → List (List ℕ)
 remaining_names names = names_of names.oid (drop names.passed names.entries.now)

@@ -1,7 +1,8 @@
--- The digits of a number in a base, the most significant first.
+-- The digits of a number in a base, with the most significant digit first.
 use Rattle.std.specs.Prelude.{ℕ, zero, suc, ◌+◌, ◌/◌, ◌%◌, true, false, ltb, List, [], ◌∷◌, ◌++◌}
 
--- the digits of n, with room for so many after the first
+-- The digits of `n`. `room` bounds the number of digits after the first, and a `room` of `n` is
+-- enough.
 unfoldable pub digits_within : (base room n : ℕ) → List ℕ
 digits_within base zero n = n ∷ []
 digits_within base (suc room) n =
@@ -11,11 +12,11 @@ digits_within base (suc room) n =
           ++ (n % base ∷ [])
     ]
 
--- the digits of n, without a leading zero; zero is one digit (X.690 8.1.3.5, 8.19.2)
+-- The digits of `n` without leading zeros. The number 0 has one digit.
 unfoldable pub digits : (base n : ℕ) → List ℕ
 digits base n = digits_within base n n
 
--- 128 added to all but the last: the high bit says that more digits follow (X.690 8.19.2)
+-- Adds 128 to all digits but the last, because bit 8 says that more digits follow (X.690 8.19.2).
 unfoldable pub marked : List ℕ → List ℕ
 marked [] = []
 marked (d ∷ []) = d ∷ []

@@ -1,5 +1,4 @@
--- The order of lists of octets, and with it that of owned identifiers: by the number of octets,
--- then by the octets.
+-- The order of owned object identifiers: by the length of the encoding, then by its bytes.
 use Rattle.std.specs.Prelude.{◌≡◌, ℕ, List, length, nat_eq, Bool, true, false}
 use Rattle.std.specs.declared.cmp.Ordering.{Ordering}
 use Rattle.std.specs.declared.cmp.Ordering.TheVariants.{Less, Equal, Greater}
@@ -10,16 +9,20 @@ use Rattle.std.specs.Cmp.Lexicographic.{nat_list_cmp_total}
 use Rattle.std.proofs.Common.{refl, sym, ap, ◌∙◌}
 use Rattle.const_oid.specs.IdentifierOctets.{identifier_octets}
 
+-- The order of lists of bytes by their lengths, and then by the bytes.
 abbrev pub sized_cmp : List ℕ → List ℕ → Ordering
 sized_cmp = then_cmp (on length nat_cmp) (slice_cmp nat_cmp)
 
+-- The order by length is total.
 pub sized_cmp_total : IsTotalOrder sized_cmp
 sized_cmp_total = then_total (on_total length nat_cmp_total) nat_list_cmp_total
 
+-- The order of owned identifiers.
 abbrev pub owned_cmp : List ℕ → List ℕ → Ordering
 owned_cmp = then_cmp (on (λ arcs. length (identifier_octets arcs)) nat_cmp)
     (on identifier_octets (slice_cmp nat_cmp))
 
+-- The order of owned identifiers is total.
 pub owned_cmp_total : IsTotalOrder owned_cmp
 owned_cmp_total = then_total (on_total (λ arcs. length (identifier_octets arcs)) nat_cmp_total)
     (on_total identifier_octets nat_list_cmp_total)
@@ -40,9 +43,11 @@ sized_ties xs ys = by (nat_cmp (length xs) (length ys)) refl (pointwise nat_eq x
     by Greater e true t = let h = alike (sym t) in cc
     by Greater e false t = refl
 
+-- Identifiers are equal exactly if the order is `Equal`.
 pub owned_cmp_ties : (a b : List ℕ) → pointwise nat_eq (identifier_octets a) (identifier_octets b)
     ≡ eq_by_cmp owned_cmp a b
 owned_cmp_ties a b = sized_ties (identifier_octets a) (identifier_octets b)
 
+-- Lists are equal exactly if the order is `Equal`.
 pub sized_cmp_ties : (a b : List ℕ) → pointwise nat_eq a b ≡ eq_by_cmp sized_cmp a b
 sized_cmp_ties a b = sized_ties a b

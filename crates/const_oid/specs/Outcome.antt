@@ -1,4 +1,4 @@
--- Whether a reading succeeds, without what it reads.
+-- The outcome of decoding: its error, or success without the decoded arcs.
 use Rattle.std.specs.Prelude.{ℕ, List, Result, Ok, Err}
 use Rattle.const_oid.specs.declared.error.Error.{Error}
 

@@ -1,4 +1,4 @@
-//! Writing of the octets of one arc (X.690 8.19.2).
+//! Encoding one arc (X.690 8.19.2).
 
 ghost use Rattle.std.specs.Prelude.{◌≡◌, ◌-◌, ◌<◌, ◌≤◌, ◌++◌, length, take, drop};
 ghost use Rattle.const_oid.specs.IdentifierOctets.{arc_octets};
@@ -6,7 +6,7 @@ ghost use Rattle.const_oid.specs.OctetFaults.{begun};
 
 use crate::error::Arc;
 
-/// How many octets an arc has.
+/// Returns the number of bytes of an arc's encoding.
 pub(crate) fn octet_count(arc: Arc) -> usize
     ensures value { result ≡ length (arc_octets arc) }
     ensures some { 0 < result }
@@ -26,7 +26,8 @@ pub(crate) fn octet_count(arc: Arc) -> usize
     count
 }
 
-/// Writes the octets that an arc has begun with, each with its mark, so that they end at `end`.
+/// Writes all bytes of an arc but the last, each with its high bit set, so that they end before
+/// index `end`.
 fn write_marked(bytes: &mut [u8], end: usize, high: Arc)
     requires room { length (begun high) ≤ end }
     requires within { end ≤ length bytes.old }
@@ -41,7 +42,7 @@ fn write_marked(bytes: &mut [u8], end: usize, high: Arc)
     write_marked(bytes, last, high / 128);
 }
 
-/// Writes the octets of an arc, so that they end at `end`.
+/// Writes the encoding of an arc, so that it ends before index `end`.
 pub(crate) fn write_arc(bytes: &mut [u8], end: usize, arc: Arc)
     requires room { length (arc_octets arc) ≤ end }
     requires within { end ≤ length bytes.old }

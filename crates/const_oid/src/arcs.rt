@@ -1,4 +1,4 @@
-//! The arcs of an identifier, one after another.
+//! Iterating over the arcs of an object identifier.
 
 ghost use Rattle.std.specs.Prelude.{◌≡◌, ℕ, ◌∷◌, [], true, is_ok, Option, MatchOption, ◌<◌, length};
 ghost use Rattle.std.specs.Prelude.{slice_get, count_by, nat_lt, ◌≤◌, ◌-◌};
@@ -10,7 +10,7 @@ ghost use Rattle.const_oid.specs.LastArcs.{place_of_last};
 
 use crate::error::Arc;
 
-/// An iterator over the arcs of an identifier, in their order.
+/// An iterator over the arcs of an object identifier, in their order.
 #[derive(Clone, Copy, Drop)]
 pub struct Arcs<'a> {
     first: Option<u8>,
@@ -22,7 +22,7 @@ pub struct Arcs<'a> {
 impl<'a> Arcs<'a> {
     ghost use Rattle.const_oid.specs.References.{remaining_arcs};
 
-    /// The arcs of an identifier's octets.
+    /// Returns an iterator over the arcs of an encoding, which the caller has checked.
     #[inline]
     pub(crate) fn of(octets: &'a [u8]) -> Self
         requires { is_ok (read_identifier Bound (length octets.now) octets.now) ≡ true }
@@ -70,7 +70,7 @@ impl<'a> Iterator for Arcs<'a> {
     }
 }
 
-/// The first arc of octets of whole arcs, and the octets after it.
+/// Returns the first arc of bytes that are whole arcs, and the bytes after it.
 fn first_arc(octets: &[u8]) -> Option<(Arc, &[u8])>
     requires { is_ok (read_arcs Bound 0 octets.now) ≡ true }
     ensures { MatchOption result (octets.now ≡ [])
@@ -87,7 +87,7 @@ fn first_arc(octets: &[u8]) -> Option<(Arc, &[u8])>
     None
 }
 
-/// How many octets have no mark, and so end an arc.
+/// Returns the number of bytes with a clear high bit, which is the number of arcs that end in them.
 fn unmarked(octets: &[u8]) -> usize
     ensures value { result ≡ count_by (λ o. nat_lt o 128) octets.now }
     ensures bound { result ≤ length octets.now }
@@ -95,8 +95,8 @@ fn unmarked(octets: &[u8]) -> usize
     octets.iter().filter(|octet| **octet < 0x80).count()
 }
 
-/// How many arcs identifier octets have: one for each octet without a mark, and one more, since the
-/// root has two.
+/// Returns the number of arcs of an encoding. Each byte with a clear high bit ends an arc, and the
+/// first byte has one arc more.
 pub(crate) fn count(octets: &[u8]) -> usize
     requires { is_ok (read_identifier Bound (length octets.now) octets.now) ≡ true }
     ensures { result ≡ length (arcs_of octets.now) }
@@ -104,7 +104,7 @@ pub(crate) fn count(octets: &[u8]) -> usize
     unmarked(octets) + 1
 }
 
-/// The arc at `index` of identifier octets.
+/// Returns the arc at an index of an encoding, or `None` if there are fewer arcs.
 pub(crate) fn arc_at(octets: &[u8], index: usize) -> Option<Arc>
     requires { is_ok (read_identifier Bound (length octets.now) octets.now) ≡ true }
     ensures { result ≡ slice_get (arcs_of octets.now) index }
@@ -118,8 +118,8 @@ pub(crate) fn arc_at(octets: &[u8], index: usize) -> Option<Arc>
     arcs.next()
 }
 
-/// Where the octets of the last arc begin, after the last octet without a mark but one, or 0 where
-/// there is none; and how many octets were tested for a mark.
+/// Returns the position of the last arc, or 0 if there are only two arcs, and the number of bytes
+/// whose high bit was tested.
 pub(crate) fn last_start(octets: &[u8]) -> (usize, u32)
     requires { SpellsIdentifier Bound (length octets.now) octets.now }
     ensures start { result.0 ≡ place_of_last (arcs_of octets.now) }

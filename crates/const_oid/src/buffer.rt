@@ -1,4 +1,4 @@
-//! Octets in place: a list of at most `SIZE` octets that needs no memory of its own.
+//! A list of at most `SIZE` bytes, stored inline.
 
 ghost use Rattle.std.specs.Prelude.{◌≡◌, ℕ, ◌+◌, ◌<◌, ◌≤◌, ◌==◌, List, [], ◌∷◌, ◌++◌, length, take};
 ghost use Rattle.std.specs.Prelude.{nat_eq, refl, Some, MatchResult};
@@ -15,8 +15,9 @@ use std::fmt;
 use std::hash::{Hash, Hasher};
 use std::marker::Model;
 
-/// A list of at most `SIZE` octets, held in place. A contract sees the list; past its end the array
-/// is zero.
+/// A list of at most `SIZE` bytes, stored inline, so it needs no allocator.
+///
+/// In contracts, its value is the list. The array is zero after the end of the list.
 #[derive(Clone, Copy)]
 pub struct Buffer<const SIZE: usize> {
     bytes: [u8; SIZE],
@@ -47,7 +48,7 @@ impl<const SIZE: usize> Model for Buffer<SIZE> {
 }
 
 impl<const SIZE: usize> Buffer<SIZE> {
-    /// The empty list.
+    /// Returns the empty list.
     #[inline]
     pub fn new() -> Self
         ensures { result ≡ [] }
@@ -58,7 +59,7 @@ impl<const SIZE: usize> Buffer<SIZE> {
         }
     }
 
-    /// A copy of `octets`, which fit.
+    /// Returns a copy of `octets`. The caller proves that there are at most `SIZE` bytes.
     #[inline]
     pub fn from_slice(octets: &[u8]) -> Self
         requires { length octets.now ≤ SIZE }
@@ -72,7 +73,7 @@ impl<const SIZE: usize> Buffer<SIZE> {
         }
     }
 
-    /// The octets.
+    /// Returns the bytes.
     #[inline]
     pub fn as_bytes(&self) -> &[u8]
         ensures octets { result.now ≡ self.now }
@@ -81,7 +82,7 @@ impl<const SIZE: usize> Buffer<SIZE> {
         &self.bytes[..self.count]
     }
 
-    /// How many octets there are.
+    /// Returns the number of bytes.
     #[inline]
     pub fn len(&self) -> usize
         ensures { result ≡ length self.now }
@@ -89,7 +90,7 @@ impl<const SIZE: usize> Buffer<SIZE> {
         self.count
     }
 
-    /// Whether there is no octet.
+    /// Returns whether the list is empty.
     #[inline]
     pub fn is_empty(&self) -> bool
         ensures { result ≡ (length self.now == 0) }
@@ -120,7 +121,7 @@ impl<const SIZE: usize> Eq for Buffer<SIZE> {
     ghost laws = { nat_list_eq_equiv };
 }
 
-/// The order of the number of octets, then of the octets.
+/// Compares the lengths, then the bytes.
 impl<const SIZE: usize> PartialOrd for Buffer<SIZE> {
     ghost partial_cmp = { λ a b. Some (sized_cmp a b) };
 
@@ -131,7 +132,7 @@ impl<const SIZE: usize> PartialOrd for Buffer<SIZE> {
     }
 }
 
-/// The order of the number of octets, then of the octets.
+/// Compares the lengths, then the bytes.
 impl<const SIZE: usize> Ord for Buffer<SIZE> {
     ghost cmp = { sized_cmp };
 

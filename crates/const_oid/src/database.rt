@@ -1,20 +1,21 @@
-//! Databases of identifiers and their names, as slices that the caller gives.
+//! Databases of object identifiers and their names, over a slice that the caller provides.
 
 ghost use Rattle.std.specs.Prelude.{◌≡◌, ℕ, List, Option};
 
 use crate::{ObjectIdentifier, Result};
 
-/// An identifier and its name.
+/// An object identifier and its name.
 pub type Entry<'a> = (&'a ObjectIdentifier<39>, &'a str);
 
-/// A database of identifiers and their names. Entries may repeat either; the first match is the
-/// answer.
+/// A database of object identifiers and their names.
+///
+/// An identifier or a name may occur in several entries. A lookup returns the first match.
 #[derive(Clone, Copy)]
 pub struct Database<'a> {
     entries: &'a [Entry<'a>],
 }
 
-/// The names of one identifier, in the order of the entries.
+/// An iterator over the names of one identifier, in the order of the entries.
 #[derive(Clone, Copy, Drop)]
 pub struct Names<'a> {
     entries: &'a [Entry<'a>],
@@ -31,7 +32,7 @@ impl<'a> Database<'a> {
     ghost use Rattle.const_oid.specs.Bound.{Bound, max_size};
     ghost use Rattle.std.specs.Result.{result_map_both};
 
-    /// A database of these entries.
+    /// Returns a database of these entries.
     #[inline]
     pub const fn new(entries: &'a [Entry<'a>]) -> Self
         ensures { entries_of result ≡ entries.now }
@@ -39,7 +40,7 @@ impl<'a> Database<'a> {
         Database { entries }
     }
 
-    /// The names of an identifier, in the order of the entries.
+    /// Returns an iterator over the names of an identifier, in the order of the entries.
     #[inline]
     pub fn find_names_for_oid(&self, oid: ObjectIdentifier<39>) -> Names<'a>
         ensures { remaining_names result ≡ names_of oid (entries_of self.now) }
@@ -51,7 +52,7 @@ impl<'a> Database<'a> {
         }
     }
 
-    /// The first name of an identifier.
+    /// Returns the first name of an identifier.
     pub fn by_oid(&self, oid: &ObjectIdentifier<39>) -> Option<&'a str>
         ensures { option_map (λ name. name.now) result
             ≡ first (names_of oid.now (entries_of self.now)) }
@@ -59,7 +60,7 @@ impl<'a> Database<'a> {
         self.find_names_for_oid(*oid).next()
     }
 
-    /// The identifier of the first entry of this name, ASCII case put aside.
+    /// Returns the identifier of the first entry with this name. The comparison ignores ASCII case.
     pub fn by_name(&self, name: &str) -> Option<&'a ObjectIdentifier<39>>
         ensures { option_map (λ oid. oid.now) result ≡ by_name name.now (entries_of self.now) }
     {
@@ -72,11 +73,12 @@ impl<'a> Database<'a> {
         None
     }
 
-    /// The first name of the identifier that a dotted text writes, or the text itself where the
-    /// identifier has none.
+    /// Parses a dotted text and returns the first name of its identifier, or the text itself if the
+    /// identifier has no name.
     ///
     /// # Errors
-    /// Those of `ObjectIdentifier::new`: the text's first fault from the left.
+    ///
+    /// The errors of `ObjectIdentifier::new`.
     pub fn resolve<'b>(&self, oid: &'b str) -> Result<&'b str>
     where
         'a: 'b,

@@ -1,4 +1,4 @@
-//! The dotted text of identifiers.
+//! Printing object identifiers as dotted text.
 
 ghost use Rattle.std.specs.Prelude.{◌≡◌, ◌≤◌, ℕ, true, is_ok, length};
 ghost use Rattle.std.specs.Fmt.{WritesOnOk};
@@ -15,7 +15,7 @@ use crate::object_identifier::ObjectIdentifier;
 use crate::object_identifier_ref::ObjectIdentifierRef;
 use std::{fmt, str};
 
-/// Writes the arcs of identifier octets in decimal, joined by dots.
+/// Writes the arcs of an encoded identifier in decimal, separated by dots.
 fn write_dotted<W: fmt::Write>(octets: &[u8], f: &mut fmt::Formatter<W>) -> fmt::Result
     requires { is_ok (read_identifier Bound (length octets.now) octets.now) ≡ true }
     ensures { WritesOnOk W.write_str_gives f.old result (dotted (arcs_of octets.now)) f.new }
@@ -28,7 +28,7 @@ fn write_dotted<W: fmt::Write>(octets: &[u8], f: &mut fmt::Formatter<W>) -> fmt:
     write_later(arcs, f)
 }
 
-/// Writes a dot and its decimal digits for each arc that is left.
+/// Writes a dot and the decimal digits of each remaining arc.
 fn write_later<W: fmt::Write>(mut arcs: Arcs<'_>, f: &mut fmt::Formatter<W>) -> fmt::Result
     ensures { WritesOnOk W.write_str_gives f.old result
         (flat_map dot_decimal (remaining_arcs arcs.entry)) f.new }
@@ -39,7 +39,7 @@ fn write_later<W: fmt::Write>(mut arcs: Arcs<'_>, f: &mut fmt::Formatter<W>) -> 
     Ok(())
 }
 
-/// The text of a first arc, which is one digit.
+/// Returns the text of a first arc, which is one digit.
 #[tactic(auto, using(crate::proofs::DottedLaws::one_digit))]
 fn first_text(first: Arc) -> &'static str
     requires { first ≤ 2 }
@@ -52,7 +52,7 @@ fn first_text(first: Arc) -> &'static str
     }
 }
 
-/// Writes a dot and an arc in decimal. Most arcs have one digit or two.
+/// Writes a dot and an arc in decimal. Most arcs have one digit or two, which are written directly.
 #[tactic(auto, using(crate::proofs::DottedLaws::short_dots))]
 fn write_dot_decimal<W: fmt::Write>(arc: Arc, f: &mut fmt::Formatter<W>) -> fmt::Result
     ensures { WritesOnOk W.write_str_gives f.old result (dot_decimal arc) f.new }
@@ -74,7 +74,7 @@ fn write_long<W: fmt::Write>(arc: Arc, f: &mut fmt::Formatter<W>) -> fmt::Result
     write!(f, ".{arc}")
 }
 
-/// Writes octets of ASCII.
+/// Writes ASCII bytes.
 fn write_ascii<W: fmt::Write>(octets: &[u8], f: &mut fmt::Formatter<W>) -> fmt::Result
     ensures { WritesOnOk W.write_str_gives f.old result octets.now f.new }
 {

@@ -1,4 +1,4 @@
-//! Identifiers made of their arcs, one after another.
+//! Building an object identifier from its arcs, one after another.
 
 ghost use Rattle.std.specs.Prelude.{◌≡◌, ℕ, ◌↔◌, [], IsTrue, MatchResult, Result, Ok, Err};
 ghost use Rattle.const_oid.specs.ArcLists.{add_arc, whole_arcs};
@@ -7,8 +7,8 @@ use crate::error::{Arc, Error, Result};
 use crate::object_identifier::ObjectIdentifier;
 use std::marker::Model;
 
-/// The arcs of an identifier so far: none, a first one alone, or an identifier's. A contract sees
-/// their list.
+/// The arcs collected so far: none, only a first arc, or those of an identifier. In contracts, its
+/// value is the list of these arcs.
 #[derive(Drop)]
 pub(crate) struct Encoder<const MAX_SIZE: usize> {
     first: Option<u8>,
@@ -27,7 +27,7 @@ impl<const MAX_SIZE: usize> Model for Encoder<MAX_SIZE> {
 }
 
 impl<const MAX_SIZE: usize> Encoder<MAX_SIZE> {
-    /// No arc yet.
+    /// Returns an encoder without arcs.
     pub(crate) fn new() -> Self
         ensures { result ≡ [] }
     {
@@ -37,14 +37,19 @@ impl<const MAX_SIZE: usize> Encoder<MAX_SIZE> {
         }
     }
 
-    /// Whether there is no arc yet.
+    /// Returns whether there is no arc yet.
     pub(crate) fn is_empty(&self) -> bool
         ensures { IsTrue result ↔ (self.now ≡ []) }
     {
         self.first.is_none()
     }
 
-    /// One arc more.
+    /// Appends an arc.
+    ///
+    /// # Errors
+    ///
+    /// - `ArcInvalid`: the arc is a first arc above 2, or a second arc above 39.
+    /// - `Length`: the encoding exceeds the capacity.
     pub(crate) fn add(&mut self, arc: Arc) -> Result<()>
         ensures { MatchResult result
             (λ _. add_arc MAX_SIZE self.old arc ≡ Ok self.new)
@@ -68,7 +73,11 @@ impl<const MAX_SIZE: usize> Encoder<MAX_SIZE> {
         Ok(())
     }
 
-    /// The identifier, if it has two arcs.
+    /// Returns the identifier.
+    ///
+    /// # Errors
+    ///
+    /// - `Empty`: there are fewer than two arcs.
     #[tactic(auto, using(crate::proofs::EncodingLaws::finished))]
     pub(crate) fn finish(self) -> Result<ObjectIdentifier<MAX_SIZE>>
         ensures { result ≡ whole_arcs self.entry }

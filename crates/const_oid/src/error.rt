@@ -1,40 +1,40 @@
-//! What is wrong with octets, texts or arcs that are no identifier.
+//! Errors of decoding, parsing and building object identifiers.
 
 use std::fmt;
 
-/// An arc of an identifier.
+/// An arc of an object identifier.
 pub type Arc = u128;
 
-/// Why octets, a text or arcs are no identifier.
+/// The reason why bytes, a text or arcs aren't an object identifier.
 #[derive(Clone, Copy, Debug, PartialEq, Eq)]
 pub enum Error {
-    /// A first arc above 2, or a second arc above 39.
+    /// The first arc is above 2, or the second arc is above 39.
     ArcInvalid {
         /// The arc.
         arc: Arc,
     },
-    /// An arc that is not below the bound of arcs.
+    /// An arc is 2^128 or more.
     ArcTooBig,
-    /// An arc that begins with the octet `80`, or that has no last octet.
+    /// An arc begins with the byte `0x80`, or its last byte is missing.
     Base128,
-    /// An octet of a text that is no digit, where a digit must stand.
+    /// A byte of a text isn't a digit, but a digit is required.
     DigitExpected {
-        /// The octet.
+        /// The byte.
         actual: u8,
     },
-    /// No octet, no text, or fewer than two arcs.
+    /// There are no bytes, there is no text, or there are fewer than two arcs.
     Empty,
-    /// More octets than the capacity.
+    /// The encoding has more bytes than the capacity.
     Length,
-    /// Never answered.
+    /// Never returned. The Rust crate `const-oid` has this variant.
     Overflow,
-    /// A dot after a dot.
+    /// A dot follows a dot.
     RepeatedDot,
-    /// A dot at the end of a text.
+    /// The text ends with a dot.
     TrailingDot,
 }
 
-/// What a call that may find one of these errors answers.
+/// The result of a call that may return one of these errors.
 pub type Result<T> = std::result::Result<T, Error>;
 
 impl fmt::Display for Error {

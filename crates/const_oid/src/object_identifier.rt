@@ -1,4 +1,4 @@
-//! Owned identifiers.
+//! Owned object identifiers.
 
 ghost use Rattle.std.specs.Prelude.{◌≡◌, ℕ, ◌+◌, ◌-◌, ◌<◌, ◌≤◌, ◌↔◌, IsTrue, is_ok, true, nat_eq};
 ghost use Rattle.std.specs.Prelude.{refl, Some, None, IsNone, IfSome, [], ◌∷◌, ◌++◌, nat_lt};
@@ -32,13 +32,15 @@ use std::hash::{Hash, Hasher};
 use std::marker::Model;
 use std::str::FromStr;
 
-/// An identifier of at most `MAX_SIZE` octets, held in place. A contract sees the list of its arcs.
+/// An object identifier (X.660) whose encoding has at most `MAX_SIZE` bytes, stored inline.
+///
+/// In contracts, its value is the list of its arcs.
 #[derive(Clone, Copy)]
 pub struct ObjectIdentifier<const MAX_SIZE: usize> {
     octets: Packed<MAX_SIZE>,
-    // How many arcs there are.
+    // The number of arcs.
     arc_count: usize,
-    // Where the octets of the last arc begin, or 0 where there are two arcs.
+    // The position of the last arc, or 0 if there are two arcs.
     last_start: usize,
 }
 
@@ -74,7 +76,19 @@ impl<const MAX_SIZE: usize> ObjectIdentifier<MAX_SIZE> {
     ghost use Rattle.std.specs.Prelude.{◌≢◌};
     ghost use Rattle.const_oid.specs.References.{reference_octets, reference_arcs, remaining_arcs};
 
-    /// The identifier that these octets spell (X.690 8.19), or their first fault from the left.
+    /// Decodes an object identifier from its content bytes, without tag and length (X.690 8.19).
+    ///
+    /// # Errors
+    ///
+    /// The first of these that applies:
+    ///
+    /// - `Empty`: there are no bytes.
+    /// - `Length`: there are more than `MAX_SIZE` bytes.
+    /// - `ArcInvalid`: the first byte is above 119, so the first arc would be above 2.
+    /// - `Base128`: an arc begins with the byte `0x80`, or its last byte is missing.
+    /// - `ArcTooBig`: an arc is 2^128 or more.
+    ///
+    /// If several arcs are wrong, the error is that of the first one.
     #[inline(always)]
     pub fn from_bytes_sized(ber_bytes: &[u8]) -> Result<Self>
         ensures read { result ≡ read_identifier Bound MAX_SIZE ber_bytes.now }
@@ -90,7 +104,7 @@ impl<const MAX_SIZE: usize> ObjectIdentifier<MAX_SIZE> {
         Self::read_octets(ber_bytes)
     }
 
-    // Inlined, so that an identifier is moved less often.
+    // Inlined, so that the identifier is moved less often.
     #[inline(always)]
     fn read_octets(ber_bytes: &[u8]) -> Result<Self>
         ensures read { result ≡ read_identifier Bound MAX_SIZE ber_bytes.now }
@@ -106,8 +120,11 @@ impl<const MAX_SIZE: usize> ObjectIdentifier<MAX_SIZE> {
         })
     }
 
-    /// The identifier with one arc more. It answers `Length` where the octets pass the capacity,
-    /// and no other error.
+    /// Returns the identifier with one more arc.
+    ///
+    /// # Errors
+    ///
+    /// - `Length`: the encoding exceeds the capacity.
     pub fn push_arc(mut self, arc: Arc) -> Result<Self>
         ensures { result ≡ child_of MAX_SIZE self.entry arc }
     {
@@ -115,7 +132,11 @@ impl<const MAX_SIZE: usize> ObjectIdentifier<MAX_SIZE> {
         Ok(self)
     }
 
-    /// One arc more at the end, where there is room.
+    /// Appends an arc. After an error the identifier is unchanged.
+    ///
+    /// # Errors
+    ///
+    /// - `Length`: the encoding exceeds the capacity.
     pub(crate) fn push(&mut self, arc: Arc) -> Result<()>
         ensures { MatchResult result
             (λ _. child_of MAX_SIZE self.old arc ≡ Ok self.new)
@@ -127,7 +148,7 @@ impl<const MAX_SIZE: usize> ObjectIdentifier<MAX_SIZE> {
         Ok(())
     }
 
-    /// The identifier without its last arc, or `None` where only two are there.
+    /// Returns the identifier without its last arc, or `None` if there are only two arcs.
     pub fn parent(&self) -> Option<Self>
         ensures none { IsNone result ↔ (length self.now ≡ 2) }
         ensures some { IfSome result (λ front. (last : ℕ) × (self.now ≡ front ++ last ∷ [])) }
@@ -136,8 +157,8 @@ impl<const MAX_SIZE: usize> ObjectIdentifier<MAX_SIZE> {
         self.parent_counted().0
     }
 
-    /// The parent, and how many octets were tested for their high bit: at most one more than the
-    /// octets of the greatest arc.
+    /// Returns the parent as `parent` does, and the number of bytes whose high bit was tested to
+    /// find it. That number is at most one more than the length of the longest arc.
     pub fn parent_counted(&self) -> (Option<Self>, u32)
         ensures none { IsNone result.0 ↔ (length self.now ≡ 2) }
         ensures some { IfSome result.0 (λ front. (last : ℕ) × (self.now ≡ front ++ last ∷ [])) }
@@ -157,7 +178,7 @@ impl<const MAX_SIZE: usize> ObjectIdentifier<MAX_SIZE> {
         (Some(parent), tests)
     }
 
-    /// Whether the arcs begin with those of `other`.
+    /// Returns whether the arcs begin with those of `other`.
     pub fn starts_with<const SIZE: usize>(&self, other: ObjectIdentifier<SIZE>) -> bool
         ensures { IsTrue result ↔ ((rest : List ℕ) × (self.now ≡ other.entry ++ rest)) }
     {
@@ -166,14 +187,14 @@ impl<const MAX_SIZE: usize> ObjectIdentifier<MAX_SIZE> {
         if mine.len() <= last {
             return false;
         }
-        // Identifiers share their first arcs: where they differ, this octet mostly tells.
+        // Most identifiers share their first arcs, so this byte is the likeliest to differ.
         if mine[last] != others[last] {
             return false;
         }
         mine.starts_with(others)
     }
 
-    /// The octets (X.690 8.19).
+    /// Returns the encoding (X.690 8.19).
     #[inline]
     pub fn as_bytes(&self) -> &[u8]
         ensures octets { result.now ≡ identifier_octets self.now }
@@ -183,7 +204,7 @@ impl<const MAX_SIZE: usize> ObjectIdentifier<MAX_SIZE> {
         self.octets.as_bytes()
     }
 
-    /// The identifier, borrowed.
+    /// Returns the borrowed form of the identifier.
     #[inline]
     pub fn as_oid_ref(&self) -> ObjectIdentifierRef<'_>
         ensures octets { reference_octets result ≡ identifier_octets self.now }
@@ -192,7 +213,7 @@ impl<const MAX_SIZE: usize> ObjectIdentifier<MAX_SIZE> {
         ObjectIdentifierRef::trusted(self.as_bytes())
     }
 
-    /// The arcs, in order.
+    /// Returns an iterator over the arcs, in their order.
     #[inline]
     pub fn arcs(&self) -> Arcs<'_>
         ensures { remaining_arcs result ≡ self.now }
@@ -200,14 +221,14 @@ impl<const MAX_SIZE: usize> ObjectIdentifier<MAX_SIZE> {
         self.as_oid_ref().arcs()
     }
 
-    /// The arc at this place, counted from 0, if there is one.
+    /// Returns the arc at this index, or `None` if there are fewer arcs.
     pub fn arc(&self, index: usize) -> Option<Arc>
         ensures { result ≡ slice_get self.now index }
     {
         self.as_oid_ref().arc(index)
     }
 
-    /// How many arcs there are.
+    /// Returns the number of arcs.
     pub fn len(&self) -> usize
         ensures { result ≡ length self.now }
     {
@@ -229,8 +250,8 @@ impl<const MAX_SIZE: usize> Eq for ObjectIdentifier<MAX_SIZE> {
     ghost laws = { on_equiv identifier_octets nat_list_eq_equiv };
 }
 
-/// The order of the number of octets, then of the octets: an identifier stands before each that
-/// begins with it, and those that differ in their last arc alone stand by that arc.
+/// Compares the lengths of the encodings, then the encodings. An identifier comes before each one
+/// that begins with it, and identifiers that differ only in their last arc are ordered by that arc.
 impl<const MAX_SIZE: usize> PartialOrd for ObjectIdentifier<MAX_SIZE> {
     ghost partial_cmp = { λ a b. Some (owned_cmp a b) };
 
@@ -282,15 +303,22 @@ impl ObjectIdentifier<39> {
     ghost use Rattle.const_oid.specs.TextReading.{read_text};
     ghost use Rattle.const_oid.specs.TextFaults.{IsDottedText, IsTextFault};
 
-    /// The greatest number of octets.
+    /// The greatest length of an encoding.
     pub const MAX_SIZE: usize = 39;
 
-    /// The identifier that a dotted text spells, as `2.5.4.3`. Zeros in front of an arc are read.
+    /// Parses a dotted text such as `2.5.4.3`. Arcs may have leading zeros.
     ///
     /// # Errors
-    /// The first fault from the left: `Empty`, `DigitExpected`, `RepeatedDot`, `TrailingDot`,
-    /// `ArcTooBig` from 2^128 on, `ArcInvalid` for a first arc above 2 or a second above 39,
-    /// `Length` past 39 octets.
+    ///
+    /// The first of these from the left:
+    ///
+    /// - `Empty`: the text is empty, or has only one arc.
+    /// - `DigitExpected`: a byte is neither a digit nor a dot, or the text begins with a dot.
+    /// - `RepeatedDot`: a dot follows a dot.
+    /// - `TrailingDot`: the text ends with a dot.
+    /// - `ArcTooBig`: an arc is 2^128 or more.
+    /// - `ArcInvalid`: the first arc is above 2, or the second above 39.
+    /// - `Length`: the encoding has more than 39 bytes.
     pub fn new(s: &str) -> Result<Self>
         ensures read { result ≡ read_text Bound max_size s.now }
         ensures ok { IfOk result (λ arcs. IsDottedText arcs s.now × IsIdentifier Bound arcs
@@ -304,7 +332,7 @@ impl ObjectIdentifier<39> {
         text::read(s.as_bytes())
     }
 
-    /// The identifier of a dotted text that is one.
+    /// Parses a dotted text that the caller proves to be valid.
     pub fn new_unwrap(s: &str) -> Self
         requires { is_ok (read_text Bound max_size s.now) ≡ true }
         ensures { Ok result ≡ read_text Bound max_size s.now }
@@ -315,9 +343,10 @@ impl ObjectIdentifier<39> {
         }
     }
 
-    /// The identifier of octets (X.690 8.19) that a program knows, as `&[0x55, 0x1d, 0x0f]` of
-    /// 2.5.29.15. Its arcs are below 2^64: at a literal both clauses are computed, and no text is
-    /// read.
+    /// Decodes content bytes (X.690 8.19) that the caller proves to be valid, with arcs below 2^64.
+    ///
+    /// Use it for constants, such as `&[0x55, 0x1d, 0x0f]` for 2.5.29.15. The checker proves a
+    /// literal by computation.
     pub fn from_bytes_unwrap(ber_bytes: &[u8]) -> Self
         requires { is_ok (read_identifier (2 ^ 64) max_size ber_bytes.now) ≡ true }
         ensures { Ok result ≡ read_identifier (2 ^ 64) max_size ber_bytes.now }
@@ -328,7 +357,12 @@ impl ObjectIdentifier<39> {
         }
     }
 
-    /// The identifier that these octets spell (X.690 8.19), or their first fault from the left.
+    /// Decodes an object identifier from at most 39 content bytes, without tag and length (X.690
+    /// 8.19).
+    ///
+    /// # Errors
+    ///
+    /// The errors of `from_bytes_sized`.
     pub fn from_bytes(ber_bytes: &[u8]) -> Result<Self>
         ensures read { result ≡ read_identifier Bound max_size ber_bytes.now }
         ensures ok { IfOk result
@@ -350,8 +384,16 @@ impl ObjectIdentifier<39> {
     ghost use Rattle.const_oid.specs.ArcLists.{gather};
     ghost use Rattle.const_oid.specs.ArcFaults.{IsArcsFault, EndsAtFault};
 
-    /// The identifier of these arcs, or the first fault of their list. It takes the items up to
-    /// that fault, and all of them where there is none.
+    /// Returns the identifier of these arcs. It takes the items up to the first error, or all of
+    /// them if there is none.
+    ///
+    /// # Errors
+    ///
+    /// The first of these that applies:
+    ///
+    /// - `ArcInvalid`: the first arc is above 2, or the second above 39.
+    /// - `Length`: the encoding of the arcs so far has more than 39 bytes.
+    /// - `Empty`: all items were taken, and there are fewer than two.
     pub fn from_arcs<I: IntoIterator<Item = Arc>>(arcs: I) -> Result<Self>
         requires { IsFiniteIterable I.into_iter_gives I.IntoIter.can_next
             I.IntoIter.remaining arcs }
@@ -359,14 +401,14 @@ impl ObjectIdentifier<39> {
             × DrainsIf I.IntoIter.next_gives (IsOk result) it xs
             × (result ≡ gather max_size [] xs) }
 
-        // The identifier's arcs are all items.
+        // The arcs of the identifier are all items.
         ensures ok { IfOk result
             (λ oid. (it : I.IntoIter) × I.into_iter_gives arcs it
             × DrainsIf I.IntoIter.next_gives ⊤ it oid
             × IsIdentifier Bound oid × (length (identifier_octets oid) ≤ max_size)) }
 
-        // The items that were taken have this fault, and those before the last one have none. Where
-        // they are too few, they are all items.
+        // The error is that of the items that were taken, and the items before the last one have
+        // none. For `Empty`, all items were taken.
         ensures fault { IfErr result
             (λ e. (it : I.IntoIter) × (xs : List ℕ) × I.into_iter_gives arcs it
             × DrainsIf I.IntoIter.next_gives (e ≡ errors.Empty) it xs × IsArcsFault max_size xs e
@@ -382,7 +424,7 @@ impl ObjectIdentifier<39> {
     }
 }
 
-/// As `new` reads a text.
+/// Parses a dotted text, as `new` does.
 impl FromStr for ObjectIdentifier<39> {
     ghost use Rattle.std.specs.Prelude.{◌≡◌, ◌≢◌};
     ghost use Rattle.const_oid.specs.Bound.{Bound, max_size};
@@ -407,7 +449,7 @@ impl FromStr for ObjectIdentifier<39> {
     }
 }
 
-/// As `from_bytes` reads octets.
+/// Decodes bytes, as `from_bytes` does.
 impl<'a> TryFrom<&'a [u8]> for ObjectIdentifier<39> {
     ghost use Rattle.std.specs.Prelude.{◌≡◌};
     ghost use Rattle.const_oid.specs.Bound.{Bound, max_size};
@@ -422,7 +464,7 @@ impl<'a> TryFrom<&'a [u8]> for ObjectIdentifier<39> {
     }
 }
 
-/// A copy of the identifier, or `Length` where its octets pass the capacity.
+/// Copies a borrowed identifier. The error is `Length` if its encoding exceeds the capacity.
 impl<'a, const MAX_SIZE: usize> TryFrom<ObjectIdentifierRef<'a>> for ObjectIdentifier<MAX_SIZE> {
     ghost use Rattle.std.specs.Prelude.{◌≡◌};
     ghost use Rattle.const_oid.specs.Bound.{Bound, max_size};

@@ -1,4 +1,4 @@
-//! Borrowed identifiers.
+//! Borrowed object identifiers.
 
 ghost use Rattle.std.specs.Prelude.{◌≡◌, ℕ, ◌<◌, ◌↔◌, IsTrue, ◌≤◌, true, is_ok, length, slice_get};
 ghost use Rattle.std.specs.Prelude.{Result, Ok, IfOk, List};
@@ -13,7 +13,9 @@ use crate::object_identifier::ObjectIdentifier;
 use crate::octets;
 use std::convert::AsSlice;
 
-/// An identifier by its octets, of which there may be any number.
+/// An object identifier that borrows its encoding, which may have any length.
+///
+/// In contracts, `reference_octets` is its encoding, and `reference_arcs` are its arcs.
 #[derive(Clone, Copy, PartialEq, Eq, PartialOrd, Ord, Hash)]
 pub struct ObjectIdentifierRef<'a> {
     octets: &'a [u8],
@@ -28,8 +30,11 @@ impl<'a> ObjectIdentifierRef<'a> {
     ghost use Rattle.const_oid.specs.OctetFaults.{IsOctetsFault};
     ghost use Rattle.const_oid.specs.References.{reference_octets, reference_arcs, remaining_arcs};
 
-    /// The identifier that these octets spell (X.690 8.19), or their first fault from the left,
-    /// whatever their number.
+    /// Decodes an identifier of any length (X.690 8.19).
+    ///
+    /// # Errors
+    ///
+    /// The errors of `ObjectIdentifier::from_bytes_sized`, without `Length`.
     pub fn from_bytes(ber: &'a [u8]) -> Result<Self>
         ensures read { result_map_both reference_arcs (λ e. e) result
             ≡ read_identifier Bound (length ber.now) ber.now }
@@ -41,7 +46,7 @@ impl<'a> ObjectIdentifierRef<'a> {
             → IsIdentifier Bound arcs
             → result_map_both reference_arcs (λ e. e) result ≡ Ok arcs }
 
-        // The capacity is the number of octets: none are too many.
+        // The capacity is the number of bytes, so `Length` can't occur.
         ensures fault { IfErr result (λ e. IsOctetsFault Bound (length ber.now) ber.now e) }
         ensures never_overflow { result ≢ Err errors.Overflow }
     {
@@ -49,7 +54,7 @@ impl<'a> ObjectIdentifierRef<'a> {
         Ok(ObjectIdentifierRef { octets: ber })
     }
 
-    /// The identifier of octets that are known to spell one.
+    /// Returns the identifier of bytes that were already checked.
     #[inline]
     pub(crate) fn trusted(octets: &'a [u8]) -> Self
         requires identifier { is_ok (read_identifier Bound (length octets.now) octets.now) ≡ true }
@@ -59,7 +64,7 @@ impl<'a> ObjectIdentifierRef<'a> {
         ObjectIdentifierRef { octets }
     }
 
-    /// The octets.
+    /// Returns the encoding.
     #[inline]
     pub fn as_bytes(&self) -> &'a [u8]
         ensures octets { result.now ≡ reference_octets self.now }
@@ -71,7 +76,7 @@ impl<'a> ObjectIdentifierRef<'a> {
         self.octets
     }
 
-    /// The arcs, in order.
+    /// Returns an iterator over the arcs, in their order.
     #[inline]
     pub fn arcs(&self) -> Arcs<'a>
         ensures { remaining_arcs result ≡ reference_arcs self.now }
@@ -79,14 +84,14 @@ impl<'a> ObjectIdentifierRef<'a> {
         Arcs::of(self.octets)
     }
 
-    /// The arc at this place, counted from 0, if there is one.
+    /// Returns the arc at this index, or `None` if there are fewer arcs.
     pub fn arc(&self, index: usize) -> Option<Arc>
         ensures { result ≡ slice_get (reference_arcs self.now) index }
     {
         arcs::arc_at(self.octets, index)
     }
 
-    /// Whether it is the same identifier as this owned one.
+    /// Returns true if an owned identifier has the same arcs.
     pub fn equals_owned<const MAX_SIZE: usize>(&self, other: &ObjectIdentifier<MAX_SIZE>) -> bool
         ensures arcs { IsTrue result ↔ (reference_arcs self.now ≡ other.now) }
     {
@@ -94,7 +99,7 @@ impl<'a> ObjectIdentifierRef<'a> {
         octets == other.as_bytes()
     }
 
-    /// How many arcs there are.
+    /// Returns the number of arcs.
     pub fn len(&self) -> usize
         ensures { result ≡ length (reference_arcs self.now) }
     {
@@ -132,7 +137,7 @@ impl<'a> TryFrom<&'a [u8]> for ObjectIdentifierRef<'a> {
     }
 }
 
-/// The identifier, borrowed.
+/// Returns the borrowed form of the identifier.
 impl<'a, const MAX_SIZE: usize> From<&'a ObjectIdentifier<MAX_SIZE>> for ObjectIdentifierRef<'a> {
     ghost use Rattle.std.specs.Prelude.{◌≡◌};
     ghost use Rattle.const_oid.specs.References.{reference_arcs};

@@ -1,4 +1,4 @@
-//! Reading of identifier octets (X.690 8.19), in one pass and with the first fault.
+//! Decoding an object identifier (X.690 8.19) in one pass.
 
 ghost use Rattle.std.specs.Prelude.{◌≡◌, ℕ, ◌+◌, ◌<◌, ◌≤◌, Ok, Err, MatchResult, IsTrue, length};
 ghost use Rattle.std.specs.Prelude.{slice_index, take};
@@ -10,16 +10,16 @@ ghost use Rattle.const_oid.specs.LastArcs.{KnowsLast, last_from};
 
 use crate::error::{Arc, Error, Result};
 
-/// What a reading of identifier octets finds.
+/// The facts about an encoding that one pass finds.
 #[derive(Clone, Copy)]
 pub(crate) struct Found {
-    /// How many arcs there are.
+    /// The number of arcs.
     pub(crate) arc_count: usize,
-    /// Where the octets of the last arc begin, or 0 where there are two arcs.
+    /// The position of the last arc, or 0 if there are two arcs.
     pub(crate) last_start: usize,
 }
 
-/// Finds the first fault of identifier octets of any number.
+/// Checks an encoding of any length, and returns its first error.
 pub(crate) fn check(octets: &[u8]) -> Result<()>
     ensures { result ≡ outcome (read_identifier Bound (length octets.now) octets.now) }
 {
@@ -27,8 +27,8 @@ pub(crate) fn check(octets: &[u8]) -> Result<()>
     Ok(())
 }
 
-/// How many arcs identifier octets of any number have, and where the last one begins, or their
-/// first fault.
+/// Returns the number of arcs of an encoding of any length and the position of the last one, or the
+/// first error.
 pub(crate) fn find(octets: &[u8]) -> Result<Found>
     ensures { MatchResult result
         (λ found. (outcome (read_identifier Bound (length octets.now) octets.now) ≡ Ok tt)
@@ -46,7 +46,7 @@ pub(crate) fn find(octets: &[u8]) -> Result<Found>
     find_arcs(later)
 }
 
-/// How many octets the arc has that these begin with, or its fault.
+/// Returns the length of the arc with which the bytes begin, or its error.
 #[inline]
 fn first_arc_len(octets: &[u8]) -> Result<usize>
     requires { 0 < length octets.now }
@@ -62,7 +62,7 @@ fn first_arc_len(octets: &[u8]) -> Result<usize>
     if first == 0x80 {
         return Err(Error::Base128);
     }
-    // Most arcs of more octets than one have two or three.
+    // Most arcs of more than one byte have two or three.
     if octets.len() > 2 {
         if octets[1] < 0x80 {
             return Ok(2);
@@ -71,7 +71,8 @@ fn first_arc_len(octets: &[u8]) -> Result<usize>
             return Ok(3);
         }
     }
-    // 18 octets give 126 bits, and 19 of them 128 where the first gives at most two.
+    // An arc has at most 18 bytes (126 bits), or 19 if its first byte has at most two significant
+    // bits.
     let most = if first > 0x83 { 18 } else { 19 };
     for i in 1..octets.len() {
         if i >= most {
@@ -84,7 +85,7 @@ fn first_arc_len(octets: &[u8]) -> Result<usize>
     Err(Error::Base128)
 }
 
-/// Whether there are two octets, each of which is an arc.
+/// Returns true if there are two bytes, each of which is an arc.
 #[inline]
 fn are_two_arcs(octets: &[u8]) -> bool
     ensures { IsTrue result → (length octets.now ≡ 2) × (slice_index octets.now 0 < 128)
@@ -99,8 +100,8 @@ fn are_two_arcs(octets: &[u8]) -> bool
     true
 }
 
-/// How many arcs there are with those of the octets after the root, and where the last one begins,
-/// or the first fault of these octets.
+/// Returns the number of arcs and the position of the last one, or the first error of the bytes
+/// after the first one.
 fn find_arcs(octets: &[u8]) -> Result<Found>
     ensures { MatchResult result
         (λ found. (outcome (read_arcs Bound 0 octets.now) ≡ Ok tt)
@@ -108,7 +109,7 @@ fn find_arcs(octets: &[u8]) -> Result<Found>
         × (found.last_start ≡ last_from 0 1 1 octets.now))
         (λ e. outcome (read_arcs Bound 0 octets.now) ≡ Err e) }
 {
-    // Most identifiers of attributes and extensions have two.
+    // Most identifiers of attributes and extensions have two bytes after the first one.
     if are_two_arcs(octets) {
         return Ok(Found {
             arc_count: 4,

@@ -1,4 +1,4 @@
-//! Octets of an identifier in place, in one octet more than the greatest number of them.
+//! The encoding of an object identifier, stored inline, with its length in one byte.
 
 ghost use Rattle.std.specs.Prelude.{◌≡◌, ◌+◌, ◌<◌, ◌≤◌, ◌++◌, length, min, take, MatchResult};
 ghost use Rattle.std.specs.Prelude.{nat_eq};
@@ -12,14 +12,15 @@ use crate::arc_octets::{octet_count, write_arc};
 use crate::error::{Arc, Error, Result};
 use std::marker::Model;
 
-/// A list of at most `SIZE` octets whose last one has no mark, held in place. A contract sees the
-/// list; past its end each octet of the array is `80`.
+/// A list of at most `SIZE` bytes whose last byte has its high bit clear, stored inline.
+///
+/// In contracts, its value is the list. After its end, each byte of the array is `0x80`.
 #[derive(Clone, Copy)]
 pub(crate) struct Packed<const SIZE: usize> {
     bytes: [u8; SIZE],
-    // How many octets there are, or 255 for that many and more.
+    // The number of bytes, or 255 for 255 and more.
     count: u8,
-    // None; with it the list lies as words do, and is moved in few of them.
+    // Empty. It aligns the bytes to words, so that they are moved word by word.
     words: [u64; 0],
 }
 
@@ -48,15 +49,15 @@ impl<const SIZE: usize> Model for Packed<SIZE> {
 }
 
 impl<const SIZE: usize> Packed<SIZE> {
-    /// A copy of `octets`, which fit. It isn't inlined, so that it is made where the caller wants
-    /// it, and moved less.
+    /// Returns a copy of `octets`. The caller proves that they fit. It isn't inlined, so that the
+    /// copy is made where the caller needs it.
     #[inline(never)]
     pub(crate) fn from_slice(octets: &[u8]) -> Self
         requires fits { length octets.now ≤ SIZE }
         requires whole { unmarked_front octets.now ≡ octets.now }
         ensures { result ≡ octets.now }
     {
-        // Most identifiers of attributes and extensions have three: these need no call.
+        // Most identifiers of attributes and extensions have three bytes, and need no call here.
         if let [first, second, third] = octets {
             let mut bytes = [0x80; SIZE];
             bytes[0] = *first;
@@ -78,13 +79,13 @@ impl<const SIZE: usize> Packed<SIZE> {
         }
     }
 
-    /// The octets.
+    /// Returns the bytes.
     #[inline]
     pub(crate) fn as_bytes(&self) -> &[u8]
         ensures octets { result.now ≡ self.now }
         ensures fits { length self.now ≤ SIZE }
     {
-        // Below this capacity the count is that of the octets, and no test is left.
+        // Below this capacity the count is always the number of bytes, so no search is compiled in.
         let count = if SIZE < 255 || self.count < 255 {
             self.count as usize
         } else {
@@ -93,7 +94,7 @@ impl<const SIZE: usize> Packed<SIZE> {
         &self.bytes[..count]
     }
 
-    /// The first `len` octets. No octet is looked at.
+    /// Returns the first `len` bytes, without reading them.
     #[inline]
     pub(crate) fn front(&self, len: usize) -> &[u8]
         requires { len ≤ length self.now }
@@ -103,7 +104,11 @@ impl<const SIZE: usize> Packed<SIZE> {
         &self.bytes[..len]
     }
 
-    /// The octets of an arc at the end, where there is room. It answers where they begin.
+    /// Appends the encoding of an arc, and returns the index at which it begins.
+    ///
+    /// # Errors
+    ///
+    /// - `Length`: there isn't enough capacity.
     pub(crate) fn push_arc(&mut self, arc: Arc) -> Result<usize>
         ensures { MatchResult result
             (λ start. (start ≡ length self.old) × (self.new ≡ self.old ++ arc_octets arc)
@@ -123,8 +128,7 @@ impl<const SIZE: usize> Packed<SIZE> {
     }
 }
 
-/// Whether the octets are the same. Most identifiers are told by how many they are and by the first
-/// eight places.
+/// Compares the bytes. For most identifiers, the length and the first eight bytes decide.
 impl<const SIZE: usize> PartialEq for Packed<SIZE> {
     ghost eq = { pointwise nat_eq };
 
@@ -151,14 +155,14 @@ impl<const SIZE: usize> PartialEq for Packed<SIZE> {
     }
 }
 
-/// A number of octets, or 255 for that many and more.
+/// Returns the number of bytes, or 255 for 255 and more.
 fn counted(len: usize) -> u8
     ensures { result ≡ min 255 len }
 {
     if len < 255 { len as u8 } else { 255 }
 }
 
-/// How many octets there are up to the last one without a mark.
+/// Returns the number of bytes up to the last one whose high bit is clear.
 fn front_len(bytes: &[u8]) -> usize
     ensures { result ≡ length (unmarked_front bytes.now) }
 {

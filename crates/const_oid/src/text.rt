@@ -1,4 +1,4 @@
-//! Reading of dotted texts, in one pass and with the first fault.
+//! Parsing a dotted text in one pass.
 
 ghost use Rattle.std.specs.Prelude.{◌≡◌, ℕ, ◌+◌, ◌*◌, Option, Some, None, [], nat_lt};
 ghost use Rattle.std.specs.Prelude.{if◌then◌else◌, Result, Ok, Err};
@@ -9,13 +9,13 @@ use crate::encoder::Encoder;
 use crate::error::{Arc, Error, Result};
 use crate::object_identifier::ObjectIdentifier;
 
-/// A number with one decimal digit more, or `None` where that passes the bound of arcs.
+/// Returns a number with one more decimal digit, or `None` if it reaches the bound of arcs.
 #[inline]
 fn push_digit(value: Arc, digit: u8) -> Option<Arc>
     ensures { result
         ≡ (if nat_lt (value * 10 + digit) Bound then Some (value * 10 + digit) else None) }
 {
-    // One word is enough for most arcs.
+    // Most arcs fit a 64-bit word.
     if value < 1 << 60 {
         return Some(Arc::from(value as u64 * 10 + u64::from(digit)));
     }
@@ -25,7 +25,7 @@ fn push_digit(value: Arc, digit: u8) -> Option<Arc>
     tens.checked_add(Arc::from(digit))
 }
 
-/// The identifier of a dotted text.
+/// Parses a dotted text, as `ObjectIdentifier::new` does.
 pub(crate) fn read(text: &[u8]) -> Result<ObjectIdentifier<39>>
     ensures { result ≡ read_text Bound max_size text.now }
 {
@@ -54,7 +54,7 @@ pub(crate) fn read(text: &[u8]) -> Result<ObjectIdentifier<39>>
     finish(arcs, value)
 }
 
-/// The identifier at the end of a text, with its last arc.
+/// Returns the identifier at the end of a text, after adding its last arc.
 fn finish(mut arcs: Encoder<39>, value: Option<Arc>) -> Result<ObjectIdentifier<39>>
     ensures { result ≡ text_arcs Bound max_size arcs value [] }
 {
@@ -65,7 +65,8 @@ fn finish(mut arcs: Encoder<39>, value: Option<Arc>) -> Result<ObjectIdentifier<
     arcs.finish()
 }
 
-/// What is wrong with a dot where a digit must stand: it is the first octet, or follows a dot.
+/// Returns the error of a dot where a digit is required, which is at the beginning of the text or
+/// after a dot.
 fn early_dot(arcs: &Encoder<39>) -> Error
     ensures { result ≡ early_dot arcs.now }
 {

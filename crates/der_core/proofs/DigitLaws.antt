@@ -1,4 +1,4 @@
--- Lemmas that definitions of other crates rest on.
+-- Lemmas about digits for definitions of other crates.
 pub use Rattle.const_oid.proofs.DigitLaws.{below-push, halved, quotient_pos, Digits}
 pub use Rattle.const_oid.proofs.DigitLaws.{digits-one, digits-more, by_digits}
 pub use Rattle.const_oid.proofs.DigitLaws.{digits-Digits, number_from_digits-digits}

@@ -1,4 +1,4 @@
--- Lemmas that code of other crates imports.
+-- Lemmas about integers for other crates.
 pub use Rattle.der_core_head.proofs.IntegerLaws.{IsPositive, integer_of-octets}
 pub use Rattle.der_core_head.proofs.IntegerLaws.{integer_octets-of}
 pub use Rattle.der_core_head.proofs.IntegerLaws.{integer_octets-not_redundant}

@@ -1,4 +1,4 @@
--- The order of the values that two iterators give, and one more in a list.
+-- Lemmas about comparing the values of two iterators, and about inserting a value into a list.
 use Rattle.std.proofs.Common.{◌≡◌, ℕ, zero, suc, true, false, List, [], ◌∷◌, drop, Option, Some, None, Result, Ok, Err, refl, sym, ap, subst, ◌∙◌, arith, slice_get, Ordering, Less, Equal, Greater, map-id, length, inl, inr, ◌++◌, take, Bool, ◌||◌, if◌then◌else◌}
 use Rattle.std.specs.Iterator.{AlwaysYields}
 use Rattle.std.specs.Ordering.{ordering_then, is_ne, ordering_reverse}
@@ -27,9 +27,9 @@ use Rattle.der_core.specs.Placed.{is_equal, is_less, put_in_front, placed, stand
 use Rattle.std.specs.Prelude.{IfSome}
 use Rattle.std.specs.List.{AllByRecursion}
 
--- The order of the values that two iterators give.
+-- The order of the values that two iterators give
 
--- What is left at a place
+-- The remaining elements at an index
 
 pub next_left : {A : Type 0} (xs : List A) (n : ℕ) (x : A) (rest : List A) → drop n xs ≡ x ∷ rest → (slice_get xs n ≡ Some x) × (rest ≡ drop (suc n) xs)
 next_left [] zero x rest e = absurd cc
@@ -38,7 +38,7 @@ next_left (y ∷ xs) zero x rest e = (cc, cc)
 next_left (y ∷ xs) (suc n) x rest e = next_left xs n x rest e
 
 module _ {S A : Type 0} (steps : S → Option A → S → Type 0) (s : Shape) (f : A → Value s) where
-  -- a call gave the first of what is always given
+  -- A call returned the first of the values that an iterator always yields.
   pub record Next (zs : List (Value s)) (x : A) (t : S) : Type 0 where
     pub rest : List (Value s)
     pub is : zs ≡ f x ∷ rest
@@ -52,22 +52,22 @@ module _ {S A : Type 0} (steps : S → Option A → S → Type 0) (s : Shape) (f
   none_given a [] t h e = refl
   none_given a (z ∷ zs) t h e = absurd (h.0 t e)
 
-  -- what is left of two lists decides their order
+  -- The remaining values of two lists decide their order.
   abbrev pub Decides : (xs ys more others : List (Value s)) → Type 0
   Decides xs ys more others = is_body_apart (many s) ≡ true → bodies_cmp (many s) xs ys ≡ bodies_cmp (many s) more others
 
-  -- what is left of values that have encodings has them, too
+  -- The remaining values are valid if all values are.
   abbrev pub StillValid : (xs more : List (Value s)) → Type 0
   StillValid xs more = IsBody (many s) xs → IsBody (many s) more
 
-  -- values that are too long for any number of bytes before them
+  -- Values that exceed the greatest length, whatever length comes before them.
   abbrev pub TooLong : List (Value s) → Type 0
   TooLong xs = (n : ℕ) → many_len (size s) xs n ≡ Err kinds.Overflow
 
   more_long : (x : Value s) (xs : List (Value s)) → TooLong xs → TooLong (x ∷ xs)
   more_long x xs h n = over_or (size s x) (λ m. sum_len n m >>= many_len (size s) xs) (size_only s x) (λ m. over_or (sum_len n m) (many_len (size s) xs) (sum_only n m) h)
 
-  -- the iterators give what is left of the two lists
+  -- The iterators yield the remaining values of the two lists.
   pub record At (xs ys : List (Value s)) (a b : S) : Type 0 where
     pub more : List (Value s)
     pub others : List (Value s)
@@ -99,7 +99,7 @@ module _ {S A : Type 0} (steps : S → Option A → S → Type 0) (s : Shape) (f
       let e : is_element s ≡ true = grind (arith, nat_tests) in
       elements_cmp s (x ∷ xs) (y ∷ ys) e ∙ ap (ordering_then (encodings_cmp s x y)) (sym (elements_cmp s xs ys e))
 
-  -- both gave a value
+  -- Both iterators returned a value.
   record Both (xs ys : List (Value s)) (c d : S) (x y : A) : Type 0 where
     pub more : List (Value s)
     pub others : List (Value s)
@@ -127,7 +127,7 @@ module _ {S A : Type 0} (steps : S → Option A → S → Type 0) (s : Shape) (f
         other_long = rw q.is at k.other_long;
       }
 
-  -- the order of the two is told of valid ones, and what is told is their order
+  -- A result for two values is their order, and two valid values have a result.
   abbrev pub IsOrder : A → A → Result Ordering Error → Type 0
   IsOrder x y r = is_apart s ≡ true → IsValid s (f x) → IsValid s (f y) → r ≡ Ok (encodings_cmp s (f x) (f y))
 
@@ -159,7 +159,7 @@ module _ {S A : Type 0} (steps : S → Option A → S → Type 0) (s : Shape) (f
       let e : o ≡ encodings_cmp s (f x) (f y) = is (grind (arith, nat_tests)) in
       sym (n.decides apart ∙ first_cmp (f x) (f y) n.more n.others apart ∙ rw (← e) (sym (first_decides o (bodies_cmp (many s) n.more n.others) differ)))
 
-  -- a comparison that is rejected contradicts what is valid
+  -- If a comparison fails, not all values are valid.
   pub at_not_refused : (xs ys : List (Value s)) (a b c d : S) (x y : A) (e : Error) → At xs ys a b → steps a (Some x) c → steps b (Some y) d → IsOrder x y (Err e)
       → is_body_apart (many s) ≡ true → IsBody (many s) xs → IsBody (many s) ys → ⊥
   unfolding IsBody
@@ -195,29 +195,29 @@ module _ {S A : Type 0} (steps : S → Option A → S → Type 0) (s : Shape) (f
       let left = rw (none_given a k.more c k.first i, none_given b k.others d k.second j) at (k.decides apart) in
       sym left
 
--- What is seen of the items, seen further
+-- Views of views of the items
 
 pub seen_further : {S A B C : Type 0} (steps : S → Option A → S → Type 0) (v : A → B) (f : B → C) (s : S) (ys : List B) → AlwaysYields steps v s ys → AlwaysYields steps (λ x. f (v x)) s (plain_list f ys)
 seen_further steps v f s [] h = h
 seen_further steps v f s (y ∷ ys) h = (h.0, λ x t e. let k = h.1 x t e in (ap f k.0, seen_further steps v f t ys k.1))
 
--- the elements of a slice
+-- The elements of a slice.
 pub slice_lends : {A B : Type 0} (f : A → B) (s : _) (xs : List A) → iter_rest s ≡ xs → AlwaysYields fronts (λ r. f r.now) s (plain_list f xs)
 slice_lends f s xs e = seen_further fronts (λ r. r.now) f s xs (YieldsList-from_slice {s = s} xs e).runs
 
--- the items, mapped one by one to what is seen alike
+-- Mapped items have the same view, one after another.
 pub lent_further : {S A R B F : Type 0} {steps : S → Option A → S → Type 0} {v : A → B} {xs : List B} (g : Mut F (A × Unit {0}) R) (w : R → B) {f : F} {s : _} → YieldsList steps v (map_source s) xs → map_callee s ≡ f
     → ((x : A) (r : R) (q : F) → Called g f (x, tt) r q → (q ≡ f) × (w r ≡ v x)) → AlwaysYields (map_steps steps g) w s xs
 lent_further {steps = steps} {xs = xs} g w {s = s} items callee step = subst (AlwaysYields (map_steps steps g) w s) (map-id xs) (YieldsList-from_map_by g w (λ b. b) items callee step).runs
 
--- One more in a list, by a loop that looks for its place, and what is reported of a list told of an
--- equal one.
+-- Inserting a value with a loop that looks for its position, and results for equal lists
 
--- so many come before it, and it goes among the others
+-- The value goes after the first elements, of which there are this many, and among the remaining
+-- ones.
 abbrev pub IsPast : {A P : Type 0} → (A → P) → (P → P → Bool) → P → List A → ℕ → Type 0
 IsPast f g x xs i = put_in_front g x (plain_list f xs) ≡ plain_list f (take i xs) ++ put_in_front g x (plain_list f (drop i xs))
 
--- A set that rises, with one more at its place, whose encoding isn't there.
+-- Inserting a value into a set in ascending order, if no member has its encoding
 
 turned : (a b : List ℕ) → octets_cmp a b ≡ Greater → octets_cmp b a ≡ Less
 turned a b e = nat_list_cmp_total.antisymm b a ∙ ap ordering_reverse e
@@ -225,7 +225,7 @@ turned a b e = nat_list_cmp_total.antisymm b a ∙ ap ordering_reverse e
 abbrev Rises : (s : Shape) → List (Value s) → Type 0
 Rises s vs = AllRising (octets_of s) vs
 
--- after a lower one that is in front
+-- The value goes after the first member, which is less.
 step : (s : Shape) (v u w : Value s) (ws : List (Value s)) (o : Ordering) → encodings_cmp s v w ≡ o → encodings_cmp s u v ≡ Less → Rises s (u ∷ w ∷ ws) → (is_equal o || stands_among s v ws) ≡ false
     → (encodings_cmp s w v ≡ Less → stands_among s v ws ≡ false → Rises s (w ∷ placed s v ws)) → Rises s (u ∷ (if is_less o then v ∷ w ∷ ws else w ∷ placed s v ws))
 step s v u w ws Less e less rises none behind = (less, (e, rises.1))
@@ -250,22 +250,22 @@ placed_rises s v (w ∷ ws) rises none = first s v w ws (encodings_cmp s v w) re
 pub still_rises : (s : Shape) (v : Value s) (ws new : List (Value s)) → new ≡ placed s v ws → stands_among s v ws ≡ false → Rises s ws → Rises s new
 still_rises s v ws new is none rises = subst (Rises s) (sym is) (placed_rises s v ws rises none)
 
--- The members of a set, compared one by one.
+-- The members of a set, compared one after another
 
--- what is left of a list is compared as all of it is
+-- The remaining members are compared as all members are.
 pub record ComparedAlike {A : Type 0} (how : Step) (s : Shape) (f : A → Value s) (v : List A) (i : ℕ) (last : Option (Value s)) : Type 0 where
   pub fits : AllByRecursion (λ x. Fits (octets_of s x)) (plain_list f (drop i v))
   pub before : IfSome last (λ x. Fits (octets_of s x))
   pub order : all_follow how (octets_of s) (plain_option (octets_of s) last) (plain_list f (drop i v)) ≡ all_follow how (octets_of s) None (plain_list f v)
 
--- A comparison of values whose octets can be counted isn't refused.
+-- Comparing two values doesn't fail if their lengths are valid.
 pub not_refused : (s : Shape) (v w : Value s) (e : Error) → Overflows e (size s v) (size s w) → Fits (octets_of s v) → Fits (octets_of s w) → ⊥
 not_refused s v w e h p q =
     let first = counted s v ∙ count_ok (length (octets_of s v)) p in
     let second = counted s w ∙ count_ok (length (octets_of s w)) q in
     elim h.length [ inl o ↦ absurd (cc (first, o)) | inr o ↦ absurd (cc (second, o)) ]
 
--- The octets of each member that was written can be counted.
+-- The length of each written member is valid.
 pub list_fits : (s : Shape) (v : List (Value s)) (o z : Out) → write_many (write s) v o ≡ Ok z → AllByRecursion (λ x. Fits (octets_of s x)) v
 list_fits s [] o z e = tt
 list_fits s (x ∷ xs) o z e =

@@ -1,4 +1,5 @@
--- The order of lists of bytes, and of tags, lengths, headers, contents and whole encodings.
+-- Lemmas about the order of lists of bytes, and of the encodings of tags, lengths, headers,
+-- contents and values.
 use Rattle.std.proofs.Common.{◌≡◌, ℕ, ◌<◌, List, [], ◌∷◌, ◌++◌, length, true, false, refl, sym, ap, subst, ◌∙◌, arith, ◌≢◌, Ordering, Equal, append-nil, zero, suc, ◌+◌, ◌*◌, ◌/◌, ◌%◌, ◌≤◌, inl, inr, length-append, mul-le-mul_right, mod-lt, div-add-mod', Ok, Err, Bool, Result, IfOk, lt-ltb, le-ltb}
 use Rattle.std.specs.Bool.{⊤}
 use Rattle.std.specs.Ordering.{nat_cmp, ordering_then, is_eq, is_ne, MatchOrdering, bool_cmp}
@@ -26,7 +27,7 @@ use Rattle.der_core_head.proofs.Written.{sized_content, content_counted, count_i
 use Rattle.der_core.proofs.Sizes.{content_only, tlv_over, longer}
 use Rattle.der_core_coding.specs.CoreHead.Leaves.{Leaf, LeafValue, boolean, null, leaf_contents as octets_of_leaf}
 
--- The order of lists of bytes, and of joined lists.
+-- The order of lists of bytes and of concatenated lists
 
 -- Orderings
 
@@ -36,14 +37,14 @@ then_assoc a b c = grind (arith, nat_tests)
 pub then_equal : (a : Ordering) → ordering_then a Equal ≡ a
 then_equal a = grind (arith, nat_tests)
 
--- the second matters only if the first is Equal
+-- The second order matters only if the first is `Equal`.
 pub then_same : (a b c : Ordering) → (a ≡ Equal → b ≡ c) → ordering_then a b ≡ ordering_then a c
 then_same a b c h = grind (arith, nat_tests)
 
 pub then_first : (a b : Ordering) → a ≢ Equal → ordering_then a b ≡ a
 then_first a b h = grind (arith, nat_tests)
 
--- an order that decides, and one that does not
+-- A first order that decides, and one that doesn't.
 pub first_decides : (a b : Ordering) → is_ne a ≡ true → a ≡ ordering_then a b
 first_decides a b h = grind (arith, nat_tests)
 
@@ -63,14 +64,14 @@ octets_cmp-self a = tied_itself nat_list_cmp_total a
 pub octets_cmp-equal : (a b : List ℕ) → octets_cmp a b ≡ Equal → a ≡ b
 octets_cmp-equal a b e = same_text a b (sym (texts_ties a b ∙ ap is_eq e))
 
--- neither list begins the other, but for equal ones
+-- Neither list is a proper prefix of the other.
 abbrev pub Splits : List ℕ → List ℕ → Type 0
 Splits [] [] = ⊤
 Splits [] (y ∷ b) = ⊥
 Splits (x ∷ a) [] = ⊥
 Splits (x ∷ a) (y ∷ b) = x ≡ y → Splits a b
 
--- lists of which neither begins the other decide what is joined to them
+-- If neither of two lists is a prefix of the other, they decide before what follows them.
 pub octets_cmp-append : (a b r s : List ℕ) → Splits a b → octets_cmp (a ++ r) (b ++ s) ≡ ordering_then (octets_cmp a b) (octets_cmp r s)
 octets_cmp-append [] [] r s h = refl
 octets_cmp-append (x ∷ a) (y ∷ b) r s h =
@@ -88,7 +89,8 @@ splits_append [] [] r s h k = k refl
 splits_append (x ∷ a) (y ∷ b) r s h k = λ e. splits_append a b r s (h e) (λ f. k cc)
 splits_append a b r s h k = absurd h
 
--- where no more bytes make the lists begin alike
+-- Neither of two lists is a proper prefix of the other if they are equal whenever they are prefixes
+-- of the same list.
 pub splits_free : (a b : List ℕ) → ((r s : List ℕ) → a ++ r ≡ b ++ s → a ≡ b) → Splits a b
 splits_free [] [] h = tt
 splits_free [] (y ∷ b) h = let e : [] ≡ y ∷ b = h (y ∷ b) [] (sym (append-nil (y ∷ b))) in absurd cc
@@ -98,9 +100,9 @@ splits_free (x ∷ a) (y ∷ b) h = λ e. splits_free a b (λ r s f. let k : x �
 pub then_both : (a b c d : Ordering) → a ≡ c → b ≡ d → ordering_then a b ≡ ordering_then c d
 then_both a b c d p q = ap (λ o. ordering_then o b) p ∙ ap (ordering_then c) q
 
--- The order of tags, lengths, headers and whole encodings.
+-- The order of tags, lengths, headers and encodings
 
--- one more digit
+-- Appending one digit.
 push_cmp : (base m n d e : ℕ) → d < base → e < base → nat_cmp (m * base + d) (n * base + e) ≡ ordering_then (nat_cmp m n) (nat_cmp d e)
 push_cmp base m n d e p q = grind (arith, nat_tests, higher m n d e p, higher n m e d q, equal)
   where
@@ -112,13 +114,13 @@ push_cmp base m n d e p q = grind (arith, nat_tests, higher m n d e p, higher n 
     equal : m ≡ n → m * base ≡ n * base
     equal same = ap (λ k. k * base) same
 
--- a number is in the order of what it has before its last digit, and then of that digit
+-- Numbers are ordered by their digits without the last one, and then by the last digit.
 pub split_cmp : (base m n : ℕ) → 0 < base → ordering_then (nat_cmp (m / base) (n / base)) (nat_cmp (m % base) (n % base)) ≡ nat_cmp m n
 split_cmp base m n some =
     sym (push_cmp base (m / base) (n / base) (m % base) (n % base) (mod-lt m some) (mod-lt n some))
     ∙ (λ i. nat_cmp (div-add-mod' m base i) (div-add-mod' n base i))
 
--- as many digits are in the order of their numbers
+-- Numbers with equally many digits are ordered as their digits are.
 pub after_cmp : (m n : ℕ) (ds es : List ℕ) → AllBelowBase 256 ds → AllBelowBase 256 es → length ds ≡ length es
     → ordering_then (nat_cmp m n) (octets_cmp ds es) ≡ nat_cmp (number_from_digits_after 256 m ds) (number_from_digits_after 256 n es)
 after_cmp m n [] [] p q l = then_equal (nat_cmp m n)
@@ -128,7 +130,7 @@ after_cmp m n (d ∷ ds) (e ∷ es) p q l =
     ∙ after_cmp (m * 256 + d) (n * 256 + e) ds es p.1 q.1 (omega arith)
 after_cmp m n ds es p q l = absurd (omega arith)
 
--- a greater number has no fewer digits
+-- A greater number has no fewer digits.
 one_digit : (m n : ℕ) → n < 256 → length (digits 256 n) ≤ length (digits 256 m)
 one_digit m n l = omega (arith, ap length (digits-one 256 n l), (digits-Digits 256 m (omega arith)).some)
 
@@ -157,7 +159,7 @@ long_cmp m n l k =
     fewer : (m n : ℕ) → length (digits 256 m) < length (digits 256 n) → m < n
     fewer m n lt = elim (cases_lt m n) [ inl less ↦ less | inr le ↦ absurd (omega (arith, digits-monotone n m n (omega arith) le)) ]
 
--- the bytes of lengths are in the order of the lengths (X.690 8.1.3)
+-- The encodings of lengths are ordered as the lengths are (X.690 8.1.3).
 pub length_octets_cmp : (m n : ℕ) → octets_cmp (length_octets m) (length_octets n) ≡ nat_cmp m n
 length_octets_cmp m n =
     elim (cases_lt m 128) [
@@ -171,7 +173,7 @@ length_octets_cmp m n =
       ]
     ]
 
--- as many digits, or other first octets
+-- Two lengths have equally many digits, or their encodings differ in the first byte.
 length_splits : (m n : ℕ) → Splits (length_octets m) (length_octets n)
 length_splits m n =
     elim (cases_lt m 128) [
@@ -188,7 +190,7 @@ length_splits m n =
 
 -- Tags
 
--- the low bits of a leading octet
+-- The five bits of the number in a first byte.
 leading_low : (class : ℕ) (c : Bool) (low : ℕ) → low < 32 → leading class c low % 32 ≡ low
 leading_low class true low l = omega arith
 leading_low class false low l = omega arith
@@ -202,7 +204,7 @@ octet_low (tags.ContextSpecific c number) = leading_low 2 c (low_bits number.val
 octet_low (tags.Private c number) = leading_low 3 c (low_bits number.value) (low-lt number.value)
 octet_low t = refl
 
--- the last octet of a number says that it is the last
+-- The last byte of a number is known as the last.
 number_splits : (m n : ℕ) → low_bits m ≡ low_bits n → Splits (number_octets m) (number_octets n)
 number_splits m n e =
     elim (cases_lt m 31) [
@@ -226,7 +228,7 @@ pub tag_splits : (a b : Tag) → Splits (tag_octets a) (tag_octets b)
 unfolding tag_octets
 tag_splits a b = λ e. number_splits (number_of a) (number_of b) (sym (octet_low a) ∙ ap (λ o. o % 32) e ∙ octet_low b)
 
--- only one tag has its bytes
+-- Two tags with the same encoding are equal.
 pub tag_cmp-equal : (a b : Tag) → IsTag a → IsTag b → octets_cmp (tag_octets a) (tag_octets b) ≡ Equal → a ≡ b
 tag_cmp-equal a b p q e =
     let same : tag_octets a ++ [] ≡ tag_octets b ++ [] = ap (λ w. w ++ []) (octets_cmp-equal (tag_octets a) (tag_octets b) e) in
@@ -247,7 +249,7 @@ head_splits a b m n = splits_append (tag_octets a) (tag_octets b) (length_octets
 then_second : (a b : Ordering) → ordering_then a b ≡ Equal → b ≡ Equal
 then_second a b h = grind (arith, nat_tests)
 
--- a header says how many octets follow
+-- The header determines the length of the content.
 head_length : (a b : Tag) (m n : ℕ) → head_octets a m ≡ head_octets b n → m ≡ n
 head_length a b m n e =
     nat_cmp-equal m n
@@ -255,7 +257,7 @@ head_length a b m n e =
     ∙ then_second (octets_cmp (tag_octets a) (tag_octets b)) (octets_cmp (length_octets m) (length_octets n))
     (sym (head_cmp a b m n) ∙ ap (octets_cmp (head_octets a m)) (sym e) ∙ octets_cmp-self (head_octets a m)))
 
--- Whole encodings
+-- Encodings of values
 
 pub tlv_splits : (a b : Tag) (c d : List ℕ) → Splits (tlv a c) (tlv b d)
 unfolding tlv
@@ -263,7 +265,7 @@ tlv_splits a b c d =
     splits_append (head_octets a (length c)) (head_octets b (length d)) c d (head_splits a b (length c) (length d))
     (λ e. splits_lengths c d (head_length a b (length c) (length d) e))
 
--- headers before contents
+-- The headers decide before the contents.
 pub tlv_cmp : (a b : Tag) (c d : List ℕ)
     → octets_cmp (tlv a c) (tlv b d) ≡ ordering_then (octets_cmp (tag_octets a) (tag_octets b)) (ordering_then (nat_cmp (length c) (length d)) (octets_cmp c d))
 unfolding tlv
@@ -271,7 +273,7 @@ tlv_cmp a b c d =
     octets_cmp-append (head_octets a (length c)) (head_octets b (length d)) c d (head_splits a b (length c) (length d))
     ∙ rw (head_cmp a b (length c) (length d), length_octets_cmp (length c) (length d)) (then_assoc (octets_cmp (tag_octets a) (tag_octets b)) (nat_cmp (length c) (length d)) (octets_cmp c d))
 
--- The order of contents after tags, by the headers and then by the contents.
+-- The order of tagged contents, by their headers and then by their contents
 
 tagged_sized : (t : Tag) (c : Content) (v : ContentValue c) → IsValid (tagged t c) v → size_content c v ≡ Ok (length (contents c v))
 unfolding IsValid
@@ -281,11 +283,11 @@ pub tagged_content : (t : Tag) (c : Content) (v : ContentValue c) → IsValid (t
 unfolding IsValid
 tagged_content t c v h = h.0
 
--- a valid value has a length
+-- A valid value has a length.
 pub never_long : (t : Tag) (c : Content) (v : ContentValue c) (k : ErrorKind) → IsValid (tagged t c) v → size_content c v ≡ Err k → ⊥
 never_long t c v k h e = let s = tagged_sized t c v h in absurd cc
 
--- what is too long inside is too long with its header
+-- If the content is too long, so is the value with its header.
 pub long_inside : (a b : Tag) (c : Content) (v w : ContentValue c) (e : Error) → Overflows e (size_content c v) (size_content c w) → Overflows e (size (tagged a c) v) (size (tagged b c) w)
 long_inside a b c v w e = longer e (tlv_over a (size_content c v)) (tlv_over b (size_content c w))
 
@@ -295,7 +297,7 @@ first_long a b c v w e h = let k = content_only c v e.kind h in long_inside a b 
 pub second_long : (a b : Tag) (c : Content) (v w : ContentValue c) (e : Error) → size_content c w ≡ Err e.kind → Overflows e (size (tagged a c) v) (size (tagged b c) w)
 second_long a b c v w e h = let k = content_only c w e.kind h in long_inside a b c v w e (record { kind = k; length = inr (h ∙ ap (λ j. Err j) k) })
 
--- what was counted are the octets
+-- The length that was computed is that of the content.
 content_length : (c : Content) (v : ContentValue c) (n : ℕ) → size_content c v ≡ Ok n → length (contents c v) ≡ n
 content_length c v n e = (count_is (length (contents c v)) n (sym (content_counted c v) ∙ e)).0
 
@@ -308,28 +310,28 @@ module _ (a b : Tag) (c : Content) (v w : ContentValue c) (m n : ℕ) (o : Order
       tlv_cmp a b (contents c v) (contents c w)
       ∙ rw (content_length c v m i, content_length c w n j, length_octets_cmp m n, then_assoc (octets_cmp (tag_octets a) (tag_octets b)) (nat_cmp m n) (contents_cmp c v w)) refl
 
-  -- where the headers differ
+  -- The headers differ.
   pub headers_decide : size_content c v ≡ Ok m → size_content c w ≡ Ok n
       → o ≡ ordering_then (octets_cmp (tag_octets a) (tag_octets b)) (octets_cmp (length_octets m) (length_octets n)) → is_ne o ≡ true
       → o ≡ octets_cmp (octets_of (tagged a c) v) (octets_of (tagged b c) w)
   headers_decide i j e differ = rw (by_headers i j, ← e) (first_decides o (contents_cmp c v w) differ)
 
-  -- where they don't
+  -- The headers are equal.
   pub contents_decide : size_content c v ≡ Ok m → size_content c w ≡ Ok n
       → o ≡ ordering_then (octets_cmp (tag_octets a) (tag_octets b)) (octets_cmp (length_octets m) (length_octets n)) → is_ne o ≡ false
       → contents_cmp c v w ≡ octets_cmp (octets_of (tagged a c) v) (octets_of (tagged b c) w)
   contents_decide i j e same = rw (by_headers i j, ← e) (others_decide o (contents_cmp c v w) same)
 
--- an answer that is one order is another one, where the two are one
+-- A result that is one order is also another order that equals it.
 pub told_as : (r : Result Ordering Error) {x y : Ordering} → x ≡ y → IfOk r (λ o. o ≡ x) → IfOk r (λ o. o ≡ y)
 told_as (Ok o) e h = h ∙ e
 told_as (Err k) e h = tt
 
--- of one tag
+-- Two values with the same tag.
 pub one_tag : (t : Tag) (m n : ℕ) (o : Ordering) → o ≡ octets_cmp (length_octets m) (length_octets n) → o ≡ ordering_then (octets_cmp (tag_octets t) (tag_octets t)) (octets_cmp (length_octets m) (length_octets n))
 one_tag t m n o e = rw (octets_cmp-self (tag_octets t)) e
 
--- The order of contents that aren't lists of values.
+-- The order of contents that aren't sequences of values
 
 pub leaf_contents : (l : Leaf) (v w : LeafValue l) → contents_cmp (leaf l) v w ≡ octets_cmp (octets_of_leaf l v) (octets_of_leaf l w)
 unfolding contents

@@ -1,4 +1,4 @@
--- The order of the encodings of a shape, by its parts, and of choices, and the tags with which they begin.
+-- Lemmas about the order of the encodings of a shape, by its parts, and about their first tags.
 use Rattle.std.proofs.Common.{◌≡◌, ℕ, Bool, true, false, List, [], ◌∷◌, ◌++◌, Option, Some, None, refl, sym, ap, subst, ◌∙◌, append_assoc, arith, inl, inr, ◌≢◌, bytes_eq, Less, Equal, Result, Ok, Ordering, IfOk, IfErr, Greater, ◌⊎◌}
 use Rattle.std.specs.List.{flat_map}
 use Rattle.std.specs.Ordering.{ordering_then, ordering_reverse}
@@ -18,9 +18,9 @@ use Rattle.der_core_coding.specs.CoreHead.declared.error.Error.{Error}
 use Rattle.der_core_coding.specs.CoreHead.Writing.{both_len, size, size_body, default_len}
 use Rattle.der_core.proofs.Sizes.{size_only, first_over, second_over, longer}
 
--- No encoding begins another
+-- No encoding is a prefix of another
 
--- bytes that are a header and its content
+-- The bytes are a header and its content.
 pub record IsWhole (b : List ℕ) : Type 0 where
   pub tag : Tag
   pub contents : List ℕ
@@ -43,7 +43,7 @@ element_whole s v e = absurd (false≢true e)
 pub element_splits : (s : Shape) (v w : Value s) → is_element s ≡ true → Splits (octets_of s v) (octets_of s w)
 element_splits s v w e = whole_splits (octets_of s v) (octets_of s w) (element_whole s v e) (element_whole s w e)
 
--- there are octets of it, whether it has an encoding or not
+-- The encoding of an element isn't empty, whether or not the value is valid.
 stands : (s : Shape) (v : Value s) → is_element s ≡ true → (b : ℕ) × (w : List ℕ) × (octets_of s v ≡ b ∷ w)
 stands s v e =
     let whole = element_whole s v e in
@@ -51,7 +51,7 @@ stands s v e =
     let some = tag_octets-some whole.tag in
     (some.0, some.1 ++ first.0, whole.octets ∙ first.1 ∙ ap (λ x. x ++ first.0) some.2)
 
--- a field that stands is a whole encoding
+-- The encoding of a field that isn't empty is a header and its content.
 field_whole : (s : Shape) (v : Value s) → is_apart s ≡ true → octets_of s v ≢ [] → IsWhole (octets_of s v)
 unfolding octets_of unless
 field_whole (optional s) None a some = absurd (some refl)
@@ -64,7 +64,7 @@ field_whole (defaulted s d) v a some = go (bytes_eq (octets_of s v) d) some
     go false k = element_whole s v (grind (arith, nat_tests))
 field_whole s v a some = element_whole s v (grind (arith, nat_tests))
 
--- what begins with a tag is not nothing
+-- Bytes that begin with a tag aren't empty.
 pub not_nothing : (first : Tag → Bool) (t : Tag) (b : List ℕ) → StartsWith first (Some t) b → b ≢ []
 not_nothing first t b h e =
     let some = tag_octets-some t in
@@ -76,15 +76,15 @@ pub present_splits : (s : Shape) (v w : Value s) (t u : Tag) → is_apart s ≡ 
 present_splits s v w t u a i j =
     whole_splits (octets_of s v) (octets_of s w) (field_whole s v a (not_nothing (begins s) t (octets_of s v) i)) (field_whole s w a (not_nothing (begins s) u (octets_of s w) j))
 
--- Fields in a row
+-- Rows of fields
 
--- the first fields, and then the others
+-- The first field decides, and then the others.
 pub field_cmp : (s : Shape) (b : Body) (v w : Value s × BodyValue b) → Splits (octets_of s v.0) (octets_of s w.0)
     → bodies_cmp (field s b) v w ≡ ordering_then (encodings_cmp s v.0 w.0) (bodies_cmp b v.1 w.1)
 unfolding body_octets
 field_cmp s b v w h = octets_cmp-append (octets_of s v.0) (octets_of s w.0) (body_octets b v.1) (body_octets b w.1) h
 
--- a field that may be absent begins otherwise than what follows it
+-- A field that may be absent doesn't begin with a tag that may follow it.
 other_tag : (s : Shape) (b : Body) (v : Value s) (x : BodyValue b) (t u : Tag) (r : List ℕ) → is_clear s b ≡ true → octets_of s v ≡ []
     → body_octets b x ≡ tag_octets u ++ r → begins s t ≡ true → body_begins b u ≡ true → u ≢ t
 other_tag s b v x t u r c absent starts first next same =
@@ -113,7 +113,7 @@ absent_first s b v w (Some u) t a absent i next =
     (octets_cmp-append (tag_octets u) (tag_octets t) next.0 (i.0 ++ body_octets b w.1) (tag_splits u t)
     ∙ then_first (octets_cmp (tag_octets u) (tag_octets t)) (octets_cmp next.0 (i.0 ++ body_octets b w.1)) other)
 
--- Values one after another
+-- Lists of values
 
 pub elements_cmp : (s : Shape) (xs ys : List (Value s)) → is_element s ≡ true
     → octets_cmp (flat_map (octets_of s) xs) (flat_map (octets_of s) ys) ≡ slice_cmp (encodings_cmp s) xs ys
@@ -124,26 +124,27 @@ elements_cmp s (x ∷ xs) (y ∷ ys) e =
     octets_cmp-append (octets_of s x) (octets_of s y) (flat_map (octets_of s) xs) (flat_map (octets_of s) ys) (element_splits s x y e)
     ∙ ap (ordering_then (encodings_cmp s x y)) (elements_cmp s xs ys e)
 
--- The order of rows of fields, and the tags with which they begin.
+-- The order of rows of fields, and their first tags
 
 field_parts : (s : Shape) (b : Body) → is_body_apart (field s b) ≡ true → (is_apart s ≡ true) × (is_body_apart b ≡ true)
 field_parts s b a = grind (arith, nat_tests)
 
--- The four cases of the first fields' tags
+-- The four cases of the first fields
 
--- the tag that a call answered
+-- The tag that a call returned for a value.
 abbrev pub TagIs : (s : Shape) → Value s → Option Tag → Type 0
 TagIs s v t = StartsWith (begins s) t (octets_of s v)
 
 abbrev pub FieldsTagIs : (b : Body) → BodyValue b → Option Tag → Type 0
 FieldsTagIs b v t = is_body_apart b ≡ true → StartsWith (body_begins b) t (body_octets b v)
 
--- where neither of the first fields stands, the others are compared
+-- If both first fields are absent, the others decide.
 without_first : (s : Shape) (b : Body) (v w : Value s × BodyValue b) → TagIs s v.0 None → TagIs s w.0 None → bodies_cmp b v.1 w.1 ≡ bodies_cmp (field s b) v w
 unfolding body_octets
 without_first s b v w i j = rw (i, j) refl
 
--- where both stand, the others matter only where these are the same
+-- If both first fields are there, the others matter only if the first fields have the same
+-- encoding.
 with_first : (s : Shape) (b : Body) (v w : Value s × BodyValue b) (t u : Tag) → TagIs s v.0 (Some t) → TagIs s w.0 (Some u) → is_body_apart (field s b) ≡ true
     → ordering_then (encodings_cmp s v.0 w.0) (bodies_cmp b v.1 w.1) ≡ bodies_cmp (field s b) v w
 with_first s b v w t u i j a = sym (field_cmp s b v w (present_splits s v.0 w.0 t u (field_parts s b a).0 i j))
@@ -180,15 +181,15 @@ pub first_stands : (s : Shape) (b : Body) (v w : Value s × BodyValue b) (n : Op
 first_stands s b v w n t i j k a =
     ap ordering_reverse (second_stands s b w v n t j i k a) ∙ sym (nat_list_cmp_total.antisymm (body_octets (field s b) v) (body_octets (field s b) w))
 
--- The tag of a row
+-- The first tag of a row
 
--- that of the first field, where it stands
+-- The first tag of a row is that of the first field, if that is there.
 pub first_starts : (s : Shape) (b : Body) (v : Value s × BodyValue b) (t : Tag) → TagIs s v.0 (Some t) → FieldsTagIs (field s b) v (Some t)
 unfolding body_octets
 first_starts s b v t h a =
     (h.0 ++ body_octets b v.1, ap (λ x. x ++ body_octets b v.1) h.1 ∙ append_assoc (tag_octets t) h.0 (body_octets b v.1), h.2, or_left (begins s t) _ h.3)
 
--- that of the others, where it doesn't
+-- The first tag of a row is that of the other fields, if the first field is absent.
 pub next_starts : (s : Shape) (b : Body) (v : Value s × BodyValue b) (n : Option Tag) → TagIs s v.0 None → FieldsTagIs b v.1 n → FieldsTagIs (field s b) v n
 unfolding body_octets
 next_starts s b v n i h a = rw i (onto n (is_element s) refl (h (field_parts s b a).1))
@@ -198,7 +199,7 @@ next_starts s b v n i h a = rw i (onto n (is_element s) refl (h (field_parts s b
     onto (Some t) false is k = (k.0, k.1, k.2, let starts = k.3 in grind (arith, nat_tests))
     onto (Some t) true is k = let there = (stands s v.0 is).2 in absurd (cc i)
 
--- Where a part is too long, so is the whole
+-- If a part is too long, so is the whole
 
 pub first_long : (s : Shape) (b : Body) (v w : Value s × BodyValue b) (e : Error) → Overflows e (size s v.0) (size s w.0) → Overflows e (both_len (size s v.0) (size_body b v.1)) (both_len (size s w.0) (size_body b w.1))
 first_long s b v w e = longer e (first_over (size s v.0) (size_body b v.1)) (first_over (size s w.0) (size_body b w.1))
@@ -206,7 +207,7 @@ first_long s b v w e = longer e (first_over (size s v.0) (size_body b v.1)) (fir
 pub others_long : (s : Shape) (b : Body) (v w : Value s × BodyValue b) (e : Error) → Overflows e (size_body b v.1) (size_body b w.1) → Overflows e (both_len (size s v.0) (size_body b v.1)) (both_len (size s w.0) (size_body b w.1))
 others_long s b v w e = longer e (second_over (size s v.0) (size_body b v.1) (size_only s v.0)) (second_over (size s w.0) (size_body b w.1) (size_only s w.0))
 
--- The order of values with a default, which is written as nothing.
+-- The order of fields with a default, whose encoding is empty
 
 pub both_default : (s : Shape) (d : List ℕ) (v w : Value s) → true ≡ bytes_eq (octets_of s v) d → true ≡ bytes_eq (octets_of s w) d → Equal ≡ encodings_cmp (defaulted s d) v w
 unfolding octets_of unless
@@ -246,9 +247,9 @@ pub default_starts : (s : Shape) (d : List ℕ) (v : Value s) (t : Option _) →
 unfolding octets_of unless
 default_starts s d v t e h = rw (← e) h
 
--- The order of values of a choice, and the tags with which they begin.
+-- The order of the values of a choice, and their first tags
 
--- Values of one alternative
+-- Values of the same alternative
 
 pub both_first : (a b : Shape) (x y : Value a ⊎ Value b) (v w : Value a) (r : Result Ordering Error) → x ≡ inl v → y ≡ inl w
     → (is_apart a ≡ true → IsValid a v → IsValid a w → r ≡ Ok (encodings_cmp a v w))
@@ -272,9 +273,9 @@ pub second_told : (a b : Shape) (x y : Value a ⊎ Value b) (v w : Value b) (r :
 unfolding octets_of
 second_told a b x y v w r i j h = rw (i, j) (λ apart. h (grind (arith, nat_tests)))
 
--- Values of two alternatives
+-- Values of different alternatives
 
--- bytes that begin with different tags
+-- Bytes that begin with different tags.
 tags_decide : (t u : Tag) (f g : Tag → Bool) (c d : List ℕ) → t ≢ u → StartsWith f (Some t) c → StartsWith g (Some u) d → octets_cmp c d ≡ octets_cmp (tag_octets t) (tag_octets u)
 tags_decide t u f g c d other i j =
     rw (i.1, j.1)
@@ -305,7 +306,7 @@ pub mixed_turned : (a b : Shape) (x y : Value a ⊎ Value b) (v : Value a) (w : 
 mixed_turned a b x y v w o i j h apart =
     ap ordering_reverse (mixed a b y x v w o j i h apart) ∙ sym (nat_list_cmp_total.antisymm (octets_of (either a b) x) (octets_of (either a b) y))
 
--- What is told of a value, told of what it is known to be
+-- Results for a value that equals a known one
 
 pub compared : (s : Shape) (v w x y : Value s) (r : Result Ordering Error) → v ≡ x → w ≡ y
     → (IsValid s v → IsValid s w → r ≡ Ok (encodings_cmp s v w)) → IsValid s x → IsValid s y → r ≡ Ok (encodings_cmp s x y)
@@ -321,7 +322,7 @@ pub overflowing : (s : Shape) (v w x y : Value s) (r : Result Ordering Error) �
 overflowing s v w x y r d e h =
     subst (λ (a : Value s). IfErr r (λ f. Overflows f (size s a) (size s y))) d (subst (λ (a : Value s). IfErr r (λ f. Overflows f (size s v) (size s a))) e h)
 
--- The tag of a value
+-- The first tag of a value
 
 pub left_starts : (a b : Shape) (x : Value a ⊎ Value b) (v : Value a) (t : Option Tag) → x ≡ inl v → TagIs a v t → TagIs (either a b) x t
 unfolding octets_of
@@ -333,7 +334,7 @@ unfolding octets_of
 right_starts a b x w None i h = rw i h
 right_starts a b x w (Some t) i h = rw i (h.0, h.1, h.2, or_right (begins a t) (begins b t) h.3)
 
--- With which tag a value begins, and the order of values that may be absent.
+-- The first tag of a value, and the order of optional values
 
 pub tagged_starts : (t : Tag) (c : Content) (v : ContentValue c) → IsTag t → StartsWith (begins (tagged t c)) (Some t) (octets_of (tagged t c) v)
 unfolding octets_of

@@ -1,4 +1,4 @@
--- A length is rejected only if it passes what a length can count.
+-- Lemmas: computing a length fails only if it exceeds `length_max`.
 use Rattle.std.proofs.Common.{◌≡◌, ℕ, zero, suc, Bool, List, [], ◌∷◌, length, Some, None, Result, Ok, Err, refl, arith, inl, inr, slice_get, bytes_eq}
 use Rattle.std.proofs.lemmas.Bool.Decides.{nat_tests}
 use Rattle.der_core_coding.specs.CoreHead.declared.error.Error.{Error}
@@ -64,7 +64,7 @@ mutual
   body_only (few n s) v = many_only (size s) (size_only s) v 0
   body_only (in_order how s) v = many_only (size s) (size_only s) v 0
 
--- Where a part is too long, so is the whole
+-- If a part is too long, so is the whole
 
 pub tlv_over : (t : Tag) (n : Result ℕ ErrorKind) → n ≡ Err kinds.Overflow → tlv_len t n ≡ Err kinds.Overflow
 unfolding tlv_len

@@ -1,4 +1,4 @@
--- Lemmas that code of other crates imports.
+-- Lemmas about texts for other crates.
 pub use Rattle.der_core_head.proofs.TextLaws.{text_sound, text_again, utf8_sound}
 pub use Rattle.der_core_head.proofs.TextLaws.{utf8_again, printable_below, all_ascii}
 pub use Rattle.der_core_head.proofs.TextLaws.{bmp_octets-units, are_pairs-octets}

@@ -1,4 +1,5 @@
--- Two values are alike where what `==` says of them is of their plain values: of those of a record, of a list and of what may be absent it is where it is of their parts.
+-- Lemmas for proving that the `==` of a type compares abstract values: for a record, a list or an
+-- optional value, this follows from its parts.
 use Rattle.std.proofs.Common.{◌≡◌, ℕ, pos, List, [], ◌∷◌, ◌++◌, Bool, true, false, Option, None, Some, refl, ap, subst, inl, inr, arith, nat_eq, ◌&&◌}
 use Rattle.std.specs.Bool.{beq}
 use Rattle.std.specs.Cmp.{first_so, second_so}
@@ -20,18 +21,18 @@ pub record AlikeWithin (b : Body) (e : Bool) (v w : BodyValue b) : Type 0 where
   pub encoding : e ≡ true → body_octets b v ≡ body_octets b w
   pub itself : v ≡ w → e ≡ true
 
--- all of a type
+-- All values of a type are compared by their abstract values.
 pub all_alike : {s : Shape} {T : Type 0} {eq : T → T → Bool} {plain : T → Value s} → ((x y : T) → Alike s (eq x y) (plain x) (plain y)) → IsOfValues eq plain (octets_of s)
 all_alike h = record { encoding = λ x y. (h x y).encoding; itself = λ x y. (h x y).itself }
 
 pub each : {s : Shape} {T : Type 0} {eq : T → T → Bool} {plain : T → Value s} → IsOfValues eq plain (octets_of s) → (x y : T) → Alike s (eq x y) (plain x) (plain y)
 each h x y = record { encoding = h.encoding x y; itself = h.itself x y }
 
--- what `==` tells exactly
+-- A test that is true exactly if the abstract values are equal.
 pub exact : {s : Shape} {e : Bool} {v w : Value s} → (e ≡ true → v ≡ w) → (v ≡ w → e ≡ true) → Alike s e v w
 exact {s} one itself = record { encoding = λ o. ap (octets_of s) (one o); itself = itself }
 
--- leaves told by their contents, numbers, named bits, and whether something is so
+-- Leaves that are compared by their contents, numbers, named bits and booleans.
 pub leaves : {t : Tag} {l : Leaf} {v w : LeafValue l} → Alike (tagged t (leaf l)) (pointwise nat_eq (leaf_contents l v) (leaf_contents l w)) v w
 unfolding octets_of contents
 leaves {t} {l} {v} {w} = record { encoding = λ e. ap (tlv t) ((bytes_decides (leaf_contents l v) (leaf_contents l w)).0 e); itself = λ e. (bytes_decides (leaf_contents l v) (leaf_contents l w)).1 (ap (leaf_contents l) e) }
@@ -47,7 +48,7 @@ flags true true = exact (λ e. refl) (λ e. refl)
 flags false false = exact (λ e. refl) (λ e. refl)
 flags a b = exact (λ e. absurd cc) (λ e. absurd cc)
 
--- values within
+-- Values inside a value.
 pub behind : {t : Tag} {b : Body} {e : Bool} {v w : BodyValue b} → AlikeWithin b e v w → Alike (tagged t (nested b)) e v w
 unfolding octets_of contents
 behind {t} h = record { encoding = λ o. ap (tlv t) (h.encoding o); itself = h.itself }
@@ -71,11 +72,11 @@ pub last : {s : Shape} {e : Bool} {v w : BodyValue (field s done)} → Alike s e
 unfolding body_octets
 last h = record { encoding = λ o. ap (λ r. r ++ []) (h.encoding o); itself = λ o. h.itself (ap (λ p. p.0) o) }
 
--- before a field that says nothing, as a marker
+-- A row before a field that has no content, such as a marker.
 pub marked : {b : Body} {e : Bool} {v w : BodyValue b} → AlikeWithin b e v w → AlikeWithin b (e && true) v w
 marked {e = e} h = record { encoding = λ o. h.encoding (first_so e true o); itself = λ o. rw (h.itself o) refl }
 
--- one of two
+-- One of two alternatives.
 pub first : {a b : Shape} {e : Bool} {v w : Value a} → Alike a e v w → Alike (either a b) e (inl v) (inl w)
 unfolding octets_of
 first h = record { encoding = h.encoding; itself = λ o. h.itself cc }
@@ -104,7 +105,7 @@ module _ {s : Shape} {T : Type 0} {eq : T → T → Bool} {plain : T → Value s
   unfolding body_octets
   set xs ys = record { encoding = (list xs ys).encoding; itself = (list xs ys).itself }
 
--- of what is its own plain value
+-- A value that is its own abstract value.
 pub itself_absent : {V : Type 0} (o : Option V) → plain_option (λ v. v) o ≡ o
 itself_absent None = refl
 itself_absent (Some v) = refl

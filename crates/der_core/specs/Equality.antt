@@ -1,7 +1,8 @@
--- What `==` of a type says of plain values.
+-- The relation of a type's `==` to abstract values.
 use Rattle.std.specs.Prelude.{◌≡◌, ℕ, List, Bool, true}
 
--- what it takes for equal has one encoding, and one plain value is equal to itself
+-- Values that `==` takes for equal have the same encoding, and values with the same abstract value
+-- are equal.
 pub record IsOfValues {T V : Type 0} (eq : T → T → Bool) (plain : T → V) (octets : V → List ℕ)
     : Type 0 where
   pub encoding : (x y : T) → eq x y ≡ true → octets (plain x) ≡ octets (plain y)

@@ -1,4 +1,4 @@
--- One more member of a strict set, at its place (X.690 11.6).
+-- The position of a further member in a strict set (X.690 11.6).
 use Rattle.std.specs.Prelude.{◌≡◌, ◌⊎◌, List, [], ◌∷◌, Bool, true, false, if◌then◌else◌}
 use Rattle.std.specs.List.{AllByRecursion, list_any}
 use Rattle.std.specs.declared.cmp.Ordering.{Ordering}
@@ -9,7 +9,7 @@ use Rattle.der_core_coding.specs.CoreHead.Grammar.{plain_list}
 use Rattle.der_core_coding.specs.CoreHead.Shapes.{Shape, Value, IsValid}
 use Rattle.der_core.specs.Orders.{encodings_cmp}
 
--- whether an order is this one
+-- True for this order.
 abbrev pub is_less : Ordering → Bool
 is_less Less = true
 is_less Equal = false
@@ -20,33 +20,34 @@ is_equal Less = false
 is_equal Equal = true
 is_equal Greater = false
 
--- whether the encoding of a value is below that of another one, or the same
+-- The encoding of a value is less than that of another one.
 abbrev pub is_below : (s : Shape) → Value s → Value s → Bool
 is_below s v w = is_less (encodings_cmp s v w)
 
+-- Two values have the same encoding.
 abbrev pub is_same : (s : Shape) → Value s → Value s → Bool
 is_same s v w = is_equal (encodings_cmp s v w)
 
--- one more in a list, before the first before which it goes
+-- Inserts an element before the first one before which it goes.
 abbrev pub put_in_front : {P : Type 0} → (P → P → Bool) → P → List P → List P
 put_in_front goes_before x [] = x ∷ []
 put_in_front goes_before x (y ∷ left) =
     if goes_before x y then x ∷ y ∷ left else y ∷ put_in_front goes_before x left
 
--- a value among others, before the first whose encoding is above its own (X.690 11.6)
+-- Inserts a value before the first one whose encoding is greater than its own (X.690 11.6).
 abbrev pub placed : (s : Shape) → Value s → List (Value s) → List (Value s)
 placed s v others = put_in_front (is_below s) v others
 
--- whether one of the others has its encoding
+-- One of the values has the same encoding as `v`.
 abbrev pub stands_among : (s : Shape) → Value s → List (Value s) → Bool
 stands_among s v others = list_any (λ w. is_same s v w) others
 
--- each has an encoding
+-- All values of the list are valid.
 abbrev pub AllValid : {A : Type 0} (s : Shape) → (A → Value s) → List A → Type 0
 AllValid s f xs = AllByRecursion (λ x. IsValid s (f x)) xs
 
--- why a member isn't placed among others: its encoding is there, or not all have an encoding, as
--- where one has 2^32 bytes or more; or out of memory
+-- The possible errors of inserting a member: memory ran out; or a member has the same encoding; or
+-- not all values are valid, such as one with 2^32 bytes or more.
 abbrev pub IsNotPlaced : {A : Type 0} (s : Shape) → (A → Value s) → A → List A → Error → Type 0
 IsNotPlaced s f x others e =
     (e.kind ≡ kinds.OutOfMemory)

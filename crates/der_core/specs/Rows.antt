@@ -1,4 +1,4 @@
--- A list as the logic holds it, for clauses on what a `&mut` to one lends.
+-- The logical type of a list, for clauses about the value that a `&mut` reference lends.
 use Rattle.std.specs.Borrow.{RattleType}
 use Rattle.std.specs.contracts.alloc.Global as global
 use Rattle.std.specs.contracts.vec.Vec as vec

@@ -8,7 +8,7 @@ use crate::order::ValueOrd;
 use der_core_coding::core_head::Error;
 use std::cmp::Ordering;
 
-/// False, `00`, is below true, `FF` (X.690 11.1).
+/// False, `0x00`, is below true, `0xFF` (X.690 11.1).
 impl ValueOrd for bool {
     #[tactic(auto, using(crate::proofs::OrderLaws::bool_contents))]
     fn value_cmp(&self, other: &Self) -> Result<Ordering, Error> {

@@ -1,4 +1,4 @@
-//! Types whose own order is that of their contents.
+//! Types whose `Ord` is the order of their contents.
 
 ghost use Rattle.std.specs.Prelude.{◌≡◌, length, true, Ok, IfErr, string_bytes};
 ghost use Rattle.der_core_coding.specs.Oid.Bound.{Bound};
@@ -17,9 +17,10 @@ use std::cmp::Ordering;
 
 /// A type whose `Ord` is the order of contents of equal length, as lists of bytes.
 ///
-/// Of contents of other lengths it may be another one: identifiers are ordered by the number of
-/// their bytes first.
+/// Values whose contents have different lengths may be ordered otherwise. For example, `Ord` of
+/// object identifiers compares the lengths first.
 pub trait OrdIsValueOrd: ShapedValue + Ord {
+    /// For valid contents of equal length, `Ord` is the order of the contents.
     ghost order: { (v w : Self) → IsContent Self.content (Self.value_written v)
         → IsContent Self.content (Self.value_written w)
         → length (contents Self.content (Self.value_written v))
@@ -27,9 +28,10 @@ pub trait OrdIsValueOrd: ShapedValue + Ord {
         → Self.cmp v w ≡ contents_cmp Self.content (Self.value_written v) (Self.value_written w) };
 }
 
-/// Compares the contents of two values by their `Ord`, if the contents have the same length.
+/// Compares two values by their `Ord`, which is the order of their contents if these have the same
+/// length.
 pub fn value_cmp_by_ord<T: OrdIsValueOrd>(a: &T, b: &T) -> Ordering
-    // The order is that of their `Ord` whatever the lengths are.
+    // The result is that of `Ord`, whatever the lengths are.
     ensures ord { result ≡ T.cmp a.now b.now }
     ensures order { IsContent T.content (T.value_written a.now)
         → IsContent T.content (T.value_written b.now)

@@ -13,8 +13,8 @@ use der_core_coding::core_head::{Error, Tag};
 use der_core_coding::core_values::{OneOf2, OneOf3, OneOf4, Shaped};
 use std::cmp::Ordering;
 
-/// The alternative `k` of `n`, two to nine, as a pattern or as a value: `case!(5 of 8: value)` is
-/// `OneOf4::Fourth(OneOf4::Second(value))`.
+/// Alternative `k` of `n`, where `n` is two to nine, as a pattern or as a value:
+/// `case!(5 of 8: value)` is `OneOf4::Fourth(OneOf4::Second(value))`.
 #[macro_export]
 macro_rules! case {
     (1 of 2: $($v:tt)+) => { $crate::OneOf2::First($($v)+) };
@@ -39,7 +39,7 @@ macro_rules! case {
     (@rest 9 of $n:tt: $($v:tt)+) => { $crate::case!(6 of $n: $($v)+) };
 }
 
-/// Returns the order of values of two alternatives, which begin with different tags.
+/// Returns the order of values of two different alternatives, which begin with different tags.
 fn other_cmp<A: FirstTag, B: FirstTag>(value: &A, other: &B) -> Ordering
     ensures { is_apart (either A.shape B.shape) ≡ true
         → result ≡ octets_cmp (octets_of A.shape (A.written value.now))
@@ -51,7 +51,8 @@ fn other_cmp<A: FirstTag, B: FirstTag>(value: &A, other: &B) -> Ordering
     }
 }
 
-/// Values of one alternative are compared as such. Of others the tags decide.
+/// Values of the same alternative are compared. For values of different alternatives, the tags
+/// decide.
 impl<A: DerOrd + FirstTag, B: DerOrd + FirstTag> DerOrd for OneOf2<A, B> {
     fn der_cmp(&self, other: &Self) -> Result<Ordering, Error> {
         match (self, other) {
@@ -74,8 +75,8 @@ impl<A: FirstTag, B: FirstTag> FirstTag for OneOf2<A, B> {
     }
 }
 
-/// Compares two choices by the alternatives that they lend. The result holds for any values that
-/// these are known to encode.
+/// Compares two choices by their alternatives, which are borrowed. The result holds for any values
+/// that these are known to encode.
 ///
 /// # Errors
 ///
@@ -92,7 +93,7 @@ pub(crate) fn values_cmp<T: DerOrd>(cases: &T, other: &T) -> Result<Ordering, Er
     cases.der_cmp(other)
 }
 
-/// Returns the tag of a value. The result holds for any value that this is known to encode.
+/// Returns the first tag of a value. The result holds for any value that this is known to encode.
 pub(crate) fn values_tag<T: FirstTag>(cases: &T) -> Option<Tag>
     ensures { (v : Value T.shape) → T.written cases.now ≡ v
         → StartsWith (begins T.shape) result (octets_of T.shape v) }
@@ -105,7 +106,7 @@ type FourRef<'a, A, B, C, D> = OneOf2<
     OneOf3<EncodeRef<'a, B>, EncodeRef<'a, C>, EncodeRef<'a, D>>,
 >;
 
-/// Returns a borrowed choice of four as the first alternative, or one of the others.
+/// Returns a borrowed choice of four as a choice of the first alternative and of the others.
 fn four_as_two<'a, A: Shaped, B: Shaped, C: Shaped, D: Shaped>(
     value: &'a OneOf4<A, B, C, D>,
 ) -> FourRef<'a, A, B, C, D>

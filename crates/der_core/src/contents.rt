@@ -1,4 +1,4 @@
-//! Comparison of contents that are bytes.
+//! Comparison of contents that are stored as bytes.
 
 ghost use Rattle.std.specs.Prelude.{◌≡◌, ◌∷◌};
 ghost use Rattle.std.specs.List.{cons_option};
@@ -6,14 +6,14 @@ ghost use Rattle.der_core.specs.Orders.{octets_cmp};
 
 use std::cmp::Ordering;
 
-/// Returns the order of two contents, which are these bytes.
+/// Compares two contents, which are these bytes.
 pub fn value_cmp_by_contents(octets: &[u8], other: &[u8]) -> Ordering
     ensures { result ≡ octets_cmp octets.now other.now }
 {
     octets.cmp(other)
 }
 
-/// Returns the order of one byte and others after it, and of bytes.
+/// Compares one byte followed by other bytes with some bytes.
 fn led_cmp(lead: u8, octets: &[u8], other: &[u8]) -> Ordering
     ensures { result ≡ octets_cmp (lead ∷ octets.now) other.now }
 {
@@ -23,9 +23,9 @@ fn led_cmp(lead: u8, octets: &[u8], other: &[u8]) -> Ordering
     }
 }
 
-/// Compares two contents. Each is these bytes, after a leading byte if there is one: the number of
-/// unused bits of a bit string (X.690 8.6.2), or a zero before a natural number whose first bit is
-/// one (8.3).
+/// Compares two contents. Each consists of an optional leading byte and these bytes. The leading
+/// byte is the number of unused bits of a bit string (X.690 8.6.2), or a zero before a natural
+/// number whose first bit is one (X.690 8.3).
 pub fn value_cmp_behind(
     lead: Option<u8>,
     octets: &[u8],

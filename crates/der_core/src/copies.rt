@@ -1,4 +1,4 @@
-//! Copies of lists and of optional values, with one allocator.
+//! Copies of lists and of optional values, made with a given allocator.
 
 ghost use Rattle.std.specs.Prelude.{◌≡◌, IfOk};
 ghost use Rattle.der_core_coding.specs.CoreHead.Grammar.{plain_list, plain_option};
@@ -10,7 +10,7 @@ use std::alloc::{AllocError, Global};
 ///
 /// # Errors
 ///
-/// Fails if memory runs out.
+/// - `AllocError`: memory runs out.
 pub fn copies_of<T: Shaped + Drop, F: Fn(&T, Global) -> Result<T, AllocError>>(
     alloc: Global,
     members: &[T],
@@ -33,7 +33,7 @@ pub fn copies_of<T: Shaped + Drop, F: Fn(&T, Global) -> Result<T, AllocError>>(
 ///
 /// # Errors
 ///
-/// Fails if memory runs out.
+/// - `AllocError`: memory runs out.
 pub fn copy_of_option<T: Shaped + Drop, F: Fn(&T, Global) -> Result<T, AllocError>>(
     alloc: Global,
     value: &Option<T>,
@@ -54,7 +54,7 @@ pub fn copy_of_option<T: Shaped + Drop, F: Fn(&T, Global) -> Result<T, AllocErro
 ///
 /// # Errors
 ///
-/// Fails if memory runs out.
+/// - `AllocError`: memory runs out.
 pub fn copies_of_option<T: Shaped + Drop, F: Fn(&T, Global) -> Result<T, AllocError>>(
     alloc: Global,
     members: &Option<Vec<T>>,

@@ -1,18 +1,19 @@
-//! How a type says in which way its values are coded and compared: it names one (`Described`), and
-//! says what that way asks.
+//! Descriptions of types. A type names its description (`Described`), and implements the traits
+//! that this description requires:
 //!
-//! - `AsRecord`, a SEQUENCE of fields: `FieldsView`, `DecodeFields` (which reads a row by `read_row!`)
-//!   and `Rows` (which lends rows by `lend!`).
+//! - `AsRecord`, a SEQUENCE of fields: `FieldsView`, `DecodeFields` (which decodes a row by
+//!   `read_row!`) and `Rows` (which lends rows by `lend!`).
 //! - `AsField<F>`, a type of one field: `From<F>` and `Wraps<F>`.
-//! - `AsOctets`, a content whose bytes a value holds: `FixedTag`, `Primitive`, `Leaf`, `Octets`.
-//! - `AsLeaf`, another content that isn't a list of values: `FixedTag`, `Primitive`, `Leaf`,
+//! - `AsOctets`, a content whose bytes a value stores: `FixedTag`, `Primitive`, `Leaf` and
+//!   `Octets`.
+//! - `AsLeaf`, another content that isn't a sequence of values: `FixedTag`, `Primitive`, `Leaf` and
 //!   `EncodeLeaf`.
-//! - `AsInteger`, a whole number of at most 128 bits: `Integer`.
-//! - `AsNumbered`, a type each of whose values has a number of eight bits: `Numbered`;
-//!   `AsEnumerated`, such a number after the tag ENUMERATED.
+//! - `AsInteger`, an integer of at most 128 bits: `Integer`.
+//! - `AsNumbered`, a type whose values have numbers of eight bits: `Numbered`. `AsEnumerated` is
+//!   the same with the tag ENUMERATED.
 //!
-//! A record is compared field after field; another type says `Ordered`, or has an order of its own.
-//! Where the way doesn't know that values are in range, the type says it (`InRangeValue`).
+//! Records are compared field by field. Another type implements `Ordered`, or `ValueOrd` itself. If
+//! the description doesn't know that all values are in range, the type implements `InRangeValue`.
 
 pub use crate::lent::{LentField, LentRow};
 pub use crate::order::{OrderWay, Ordered};

@@ -1,4 +1,4 @@
-//! Comparison of values after a reference.
+//! Comparison of values through references.
 
 use crate::order::{DerOrd, FirstTag, ValueOrd};
 use der_core_coding::core_head::{Error, Tag};
@@ -12,7 +12,7 @@ impl<'a, T: ValueOrd> ValueOrd for EncodeValueRef<'a, T> {
     }
 }
 
-/// The value after the reference.
+/// The first tag and the order are those of the value.
 impl<'a, T: DerOrd> DerOrd for EncodeRef<'a, T> {
     fn der_cmp(&self, other: &Self) -> Result<Ordering, Error> {
         self.0.der_cmp(other.0)

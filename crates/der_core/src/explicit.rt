@@ -1,4 +1,4 @@
-//! Comparison of explicit tags around a value.
+//! Comparison of values with explicit tags.
 
 use crate::order::{DerOrd, ValueOrd};
 use der_core_coding::Explicit;

@@ -1,4 +1,4 @@
-//! The order of tags, lengths and headers, by their bytes.
+//! The order of the encodings of tags, lengths and headers.
 
 ghost use Rattle.std.specs.Prelude.{◌≡◌, ◌≤◌, take};
 ghost use Rattle.der_core_coding.specs.CoreHead.Tags.{IsTag, tag_octets};
@@ -41,11 +41,13 @@ fn tag_octets_of(tag: Tag) -> ([u8; 6], usize)
     ([first, d4, d3, d2, d1, last], 6)
 }
 
-/// Compares the encodings of two tags. This isn't the order of their numbers: 16383 is `FF 7F`
-/// after the first byte, and 16384 is `81 80 00`.
+/// Compares the encodings of two tags.
+///
+/// This isn't the order of their numbers. After the first byte, 16383 is encoded as `FF 7F`, and
+/// 16384 as `81 80 00`.
 pub fn tag_cmp(a: Tag, b: Tag) -> Ordering
     ensures order { result ≡ octets_cmp (tag_octets a) (tag_octets b) }
-    // Their numbers fit 32 bits.
+    // The numbers of both tags have at most 32 bits.
     ensures numbers { IsTag a × IsTag b }
 {
     let (a_octets, a_len) = tag_octets_of(a);

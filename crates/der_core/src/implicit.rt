@@ -1,4 +1,4 @@
-//! Comparison of implicit tags.
+//! Comparison of values with implicit tags.
 
 use crate::order::ValueOrd;
 use der_core_coding::core_head::Error;

@@ -24,8 +24,7 @@ pub use der_core_coding::core_head::laws::{
 pub use der_core_coding::core_octets::laws::scanned_in_one_way;
 use der_core_coding::core_values::{Element, InRange, Member};
 
-/// What was encoded for a value has an encoding, if the values of its type are in range, and
-/// decodes to that value.
+/// If a value whose type is in range was encoded, it is valid, and the bytes decode to it.
 ///
 /// So the results of `to_der`, `encode_to_slice` and `encode_to_vec` are the encoding of the value.
 pub fn in_range_is_spelled<T: InRange + Element + Member>(value: &T)
@@ -41,8 +40,8 @@ pub fn in_range_is_spelled<T: InRange + Element + Member>(value: &T)
     written_is_read();
 }
 
-/// The order is total: it is `Equal` exactly if the bytes are the same, it is antisymmetric, and it
-/// is transitive.
+/// The order of encodings is total: it is `Equal` exactly if the bytes are the same, it is
+/// antisymmetric, and it is transitive.
 pub fn order_is_total()
     ensures equal { (a b : List ℕ) → (octets_cmp a b ≡ Equal) ↔ (a ≡ b) }
     ensures reversed { (a b : List ℕ) → octets_cmp a b ≡ ordering_reverse (octets_cmp b a) }
@@ -51,12 +50,13 @@ pub fn order_is_total()
     ensures same { (a b c : List ℕ) → octets_cmp a b ≡ Equal → octets_cmp a c ≡ octets_cmp b c }
 {}
 
-/// Lengths are in the order of their bytes (X.690 8.1.3).
+/// The encodings of lengths are ordered as the lengths are (X.690 8.1.3).
 pub fn lengths_in_order()
     ensures { (m n : ℕ) → octets_cmp (length_octets m) (length_octets n) ≡ nat_cmp m n }
 {}
 
-/// No encoding begins another, so what follows two encodings matters only if these are the same.
+/// No encoding is a proper prefix of another, so what follows two encodings matters only if they
+/// are the same.
 pub fn first_encoding_decides()
     ensures { (s : Shape) (v w : Value s) (r t : List ℕ) → is_element s ≡ true → IsValid s v
         → IsValid s w
@@ -64,14 +64,14 @@ pub fn first_encoding_decides()
         (octets_cmp r t) }
 {}
 
-/// The order of two values of a shape is `Equal` exactly if they are the same value.
+/// The order of two valid values of a shape is `Equal` exactly if the values are equal.
 pub fn equal_values_alone()
     ensures { (s : Shape) (v w : Value s) → is_element s ≡ true → is_apart s ≡ true
         → IsValid s v → IsValid s w → (encodings_cmp s v w ≡ Equal) ↔ (v ≡ w) }
 {}
 
-/// If `==` of a type compares abstract values, two values that have encodings are equal exactly if
-/// their abstract values are the same.
+/// If `==` of a type compares abstract values, two valid values are equal exactly if their abstract
+/// values are.
 pub fn equality_of_values<T: Element + Member + PartialEq>()
     ensures { IsOfValues T.eq T.plain (octets_of T.shape)
         → (x y : T) → IsValid T.shape (T.plain x) → IsValid T.shape (T.plain y)

@@ -1,4 +1,4 @@
-//! Comparison of values whose content isn't a list of values.
+//! Comparison of values whose content isn't a sequence of values.
 
 ghost use Rattle.std.specs.Prelude.{◌≡◌};
 ghost use Rattle.der_core_coding.specs.CoreHead.Integers.{integer_octets};
@@ -41,7 +41,7 @@ impl<T: Numbered, K> OrderWay<T> for AsNumbered<K> {
     }
 }
 
-/// The bytes themselves.
+/// Compares the stored bytes.
 impl<T: Octets> OrderWay<T> for AsOctets {
     #[tactic(auto, using(crate::proofs::OrderLaws::leaf_contents))]
     fn cmp_by(value: &T, other: &T) -> Result<Ordering, Error> {

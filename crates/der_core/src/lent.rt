@@ -1,10 +1,12 @@
-//! Fields and rows that are lent (`lend!`).
+//! Fields and rows of fields that a record lends (`lend!`).
 //!
-//! `LentField` has all operations on a lent field, and `LentRow` all operations on a row of them.
-//! They have no supertraits, and the impl for a field's form asks for traits of the type that the
-//! field holds. The reason is the cost of a check: for a bound of a type parameter it writes
-//! evidence for each supertrait as well, once more for each type around. So a row costs a fifth of
-//! what one of `EncodeFields` and `FieldsOrd` costs.
+//! `LentField` has all operations on a borrowed field, and `LentRow` all operations on a row of
+//! them. They have no supertraits. Instead, the impl for each form of field requires traits of the
+//! field's type.
+//!
+//! The reason is the time that a check takes. For each bound of a type parameter, the checker
+//! writes evidence for all supertraits as well, and again for each enclosing type. A row costs a
+//! fifth of one with the bounds `EncodeFields` and `FieldsOrd`.
 
 ghost use Rattle.std.specs.Prelude.{◌≡◌, true, Ok, IfOk, IfErr};
 ghost use Rattle.der_core_coding.specs.CoreHead.Grammar.{plain_option};
@@ -28,14 +30,15 @@ use der_core_coding::core_values::{Encode, EncodeValue, FieldRow, FixedTag, Shap
 use der_core_coding::{DefaultValue, EncodeFields, EncodeRef, Explicit, ImplicitRef, WithDefault};
 use std::cmp::Ordering;
 
-/// A field that is lent.
+/// A field that a record lends.
 pub trait LentField {
+    /// The shape of the field.
     ghost shape: { Shape };
 
     /// The value that is encoded for the field.
     ghost written: { Self → Value shape };
 
-    /// Returns the result of `Encode::encoded_len`.
+    /// Returns the length of the encoding, as `Encode::encoded_len` does.
     ///
     /// # Errors
     ///
@@ -43,11 +46,11 @@ pub trait LentField {
     fn field_len(&self) -> Result<Length, Error>
         ensures { GivesNow (λ l. l.value) result (size shape (written self.now)) };
 
-    /// Writes what `Encode::encode` writes.
+    /// Encodes the field, as `Encode::encode` does.
     ///
     /// # Errors
     ///
-    /// - The errors of `Encode::encode`.
+    /// The errors of `Encode::encode`.
     fn encode_field<W: Writer>(&self, writer: &mut W) -> Result<(), Error>
         ensures exact { Writes W.takes_memory (W.out writer.old) (W.out writer.new) result
             (write shape (written self.now)) }
@@ -55,11 +58,11 @@ pub trait LentField {
         ensures front { AddsFront (octets_of shape (written self.now)) (W.out writer.old)
             (W.out writer.new) };
 
-    /// Returns the result of `DerOrd::der_cmp`.
+    /// Compares two fields, as `DerOrd::der_cmp` does.
     ///
     /// # Errors
     ///
-    /// - The errors of `DerOrd::der_cmp`.
+    /// The errors of `DerOrd::der_cmp`.
     fn field_cmp(&self, other: &Self) -> Result<Ordering, Error>
         ensures order { is_apart shape ≡ true → IsValid shape (written self.now)
             → IsValid shape (written other.now)
@@ -69,19 +72,20 @@ pub trait LentField {
         ensures refused { IfErr result
             (λ e. Overflows e (size shape (written self.now)) (size shape (written other.now))) };
 
-    /// Returns the result of `FirstTag::first_tag`.
+    /// Returns the tag with which the encoding begins, as `FirstTag::first_tag` does.
     fn field_tag(&self) -> Option<Tag>
         ensures { StartsWith (begins shape) result (octets_of shape (written self.now)) };
 }
 
-/// Fields that are lent in a row, as `(A, (B, (C, ())))`.
+/// A row of fields that a record lends, as nested pairs such as `(A, (B, (C, ())))`.
 pub trait LentRow {
+    /// The shapes of the fields.
     ghost fields: { Body };
 
     /// The values that are encoded for the fields.
     ghost fields_written: { Self → BodyValue fields };
 
-    /// Returns the result of `EncodeFields::fields_len`.
+    /// Returns the total length of the fields, as `EncodeFields::fields_len` does.
     ///
     /// # Errors
     ///
@@ -89,11 +93,11 @@ pub trait LentRow {
     fn row_len(&self) -> Result<Length, Error>
         ensures { GivesNow (λ l. l.value) result (size_body fields (fields_written self.now)) };
 
-    /// Writes what `EncodeFields::encode_fields` writes.
+    /// Encodes the fields, as `EncodeFields::encode_fields` does.
     ///
     /// # Errors
     ///
-    /// - The errors of `EncodeFields::encode_fields`.
+    /// The errors of `EncodeFields::encode_fields`.
     fn encode_row<W: Writer>(&self, writer: &mut W) -> Result<(), Error>
         ensures exact { Writes W.takes_memory (W.out writer.old) (W.out writer.new) result
             (write_body fields (fields_written self.now)) }
@@ -101,11 +105,11 @@ pub trait LentRow {
         ensures front { AddsFront (body_octets fields (fields_written self.now))
             (W.out writer.old) (W.out writer.new) };
 
-    /// Returns the result of `FieldsOrd::fields_cmp`.
+    /// Compares two rows, as `FieldsOrd::fields_cmp` does.
     ///
     /// # Errors
     ///
-    /// - The errors of `FieldsOrd::fields_cmp`.
+    /// The errors of `FieldsOrd::fields_cmp`.
     fn row_cmp(&self, other: &Self) -> Result<Ordering, Error>
         ensures order { is_body_apart fields ≡ true → IsBody fields (fields_written self.now)
             → IsBody fields (fields_written other.now)
@@ -117,7 +121,7 @@ pub trait LentRow {
             (λ e. Overflows e (size_body fields (fields_written self.now))
             (size_body fields (fields_written other.now))) };
 
-    /// Returns the result of `FieldsOrd::fields_tag`.
+    /// Returns the tag of the first field that is present, as `FieldsOrd::fields_tag` does.
     fn row_tag(&self) -> Option<Tag>
         ensures { is_body_apart fields ≡ true → StartsWith (body_begins fields) result
             (body_octets fields (fields_written self.now)) };
@@ -148,7 +152,7 @@ impl<'a, T: Encode + DerOrd + FirstTag> LentField for EncodeRef<'a, T> {
     }
 }
 
-/// A default is encoded as nothing.
+/// The encoding of a default is empty.
 impl<T: DefaultValue + Encode + DerOrd + FirstTag> LentField for WithDefault<T> {
     ghost shape = { defaulted T.shape T.default_octets };
 
@@ -198,7 +202,7 @@ impl<'a, T: EncodeValue + ValueOrd + FixedTag, const N: u32> LentField for Impli
     }
 }
 
-/// The implicit tag replaces the tag of the value. `None` is encoded as nothing.
+/// The implicit tag replaces the tag of the value. The encoding of `None` is empty.
 impl<'a, T: EncodeValue + ValueOrd + FixedTag, const N: u32> LentField
     for Option<ImplicitRef<'a, T, N>> {
     ghost shape = { optional (tagged (implicit_tag N T.fixed_tag) T.content) };
@@ -249,7 +253,7 @@ impl<'a, T: Encode + DerOrd, const N: u32> LentField for Explicit<EncodeRef<'a, 
     }
 }
 
-/// The explicit tag encloses the value. `None` is encoded as nothing.
+/// The explicit tag encloses the value. The encoding of `None` is empty.
 impl<'a, T: Encode + DerOrd, const N: u32> LentField for Option<Explicit<EncodeRef<'a, T>, N>> {
     ghost shape = { optional (explicit N T.shape) };
 
@@ -298,7 +302,7 @@ impl LentRow for () {
     }
 }
 
-/// A lent field as a value, which has `Encode`, `DerOrd` and `FirstTag`.
+/// A borrowed field as a value that implements `Encode`, `DerOrd` and `FirstTag`.
 #[derive(Drop)]
 pub(crate) struct FieldOf<'a, F>(pub(crate) &'a F);
 
@@ -334,7 +338,7 @@ impl<'a, F: LentField> FirstTag for FieldOf<'a, F> {
     }
 }
 
-/// A lent row as fields, which have `EncodeFields` and `FieldsOrd`.
+/// A borrowed row as fields that implement `EncodeFields` and `FieldsOrd`.
 #[derive(Drop)]
 struct RowOf<'a, R>(&'a R);
 
@@ -368,7 +372,7 @@ impl<'a, R: LentRow> FieldsOrd for RowOf<'a, R> {
     }
 }
 
-/// The first field, and then the others.
+/// The first field comes before the others.
 impl<A: LentField, B: LentRow> LentRow for (A, B) {
     ghost fields = { field A.shape B.fields };
 

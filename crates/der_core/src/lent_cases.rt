@@ -1,4 +1,4 @@
-//! Choices of lent fields. A `case!` of lent fields is itself a lent field.
+//! Choices of borrowed fields. A `case!` of such fields is itself a `LentField`.
 
 ghost use Rattle.std.specs.Prelude.{◌≡◌, true, Ok, IfOk, IfErr};
 ghost use Rattle.der_core_coding.specs.CoreHead.Shapes.{IsValid, Value, begins, either, octets_of};
@@ -14,8 +14,10 @@ use der_core_coding::core_octets::Writer;
 use der_core_coding::core_values::{OneOf2, OneOf4, Shaped};
 use std::cmp::Ordering;
 
+/// A choice of two borrowed fields as a choice of values.
 type TwoOf<'a, A, B> = OneOf2<FieldOf<'a, A>, FieldOf<'a, B>>;
 
+/// A choice of four borrowed fields as a choice of values.
 type FourOf<'a, A, B, C, D> = OneOf4<
     FieldOf<'a, A>,
     FieldOf<'a, B>,
@@ -111,8 +113,8 @@ impl<A: LentField, B: LentField, C: LentField, D: LentField> LentField for OneOf
     }
 }
 
-/// Compares two choices by the alternatives that they lend, as `der_cmp` of a choice of your own
-/// does. The result holds for any values that these are known to encode.
+/// Compares two choices by their borrowed alternatives, as `der_cmp` of an enum should. The result
+/// holds for any values that these are known to encode.
 ///
 /// # Errors
 ///
@@ -129,8 +131,8 @@ pub fn cases_cmp<T: LentField>(cases: &T, other: &T) -> Result<Ordering, Error>
     values_cmp(&FieldOf(cases), &FieldOf(other))
 }
 
-/// Returns the tag of a choice by the alternative that it lends, as `first_tag` of a choice of your
-/// own does. The result holds for any value that this is known to encode.
+/// Returns the first tag of a choice from its borrowed alternative, as `first_tag` of an enum
+/// should. The result holds for any value that this is known to encode.
 pub fn cases_tag<T: LentField>(cases: &T) -> Option<Tag>
     ensures { (v : Value T.shape) → T.written cases.now ≡ v
         → StartsWith (begins T.shape) result (octets_of T.shape v) }

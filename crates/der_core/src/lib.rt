@@ -1,6 +1,25 @@
-//! DER: readers, writers, the traits that decode, encode and compare values, the order of
-//! encodings, and sets in that order (X.690 11.6). This crate is the facade of the `der_core_*`
-//! crates.
+//! DER and BER (X.690): readers and writers, and the traits that decode, encode and compare values.
+//!
+//! `FromDer` decodes values from slices, and `ToDer` encodes them. Types of the language, such as
+//! `u32`, `String` and `Vec`, implement the traits. `describing` has the descriptions by which a
+//! type of your own gets them, and `laws` has the laws that are proved for all types.
+//!
+//! # Examples
+//!
+//! As in `tools/guide/facades.rt.txt`:
+//!
+//! ```rust
+//! /// Decodes an INTEGER of 32 bits, and returns the encoding of the next number, or of 0.
+//! fn next_number(alloc: Global, octets: &[u8]) -> Result<Vec<u8>> {
+//!     let number = u32::from_der(alloc, octets)?;
+//!     number.wrapping_add(1).to_der(alloc)
+//! }
+//! ```
+//!
+//! # Dependencies
+//!
+//! This crate re-exports `der_core_head`, `der_core_octets`, `der_core_values` and
+//! `der_core_coding`, and depends only on them, on `const_oid` and on the standard library.
 #![tactic(auto)]
 
 mod absent;

@@ -14,8 +14,9 @@ use der_core_coding::EncodeRef;
 use der_core_coding::core_head::Error;
 use std::cmp::Ordering;
 
-/// Compares the joined encodings of values: the first that differ decide, and then the numbers of
-/// values. The result is right even if parts of the values are out of range.
+/// Compares the concatenated encodings of two slices. The first encodings that differ decide, and
+/// then the numbers of values. A result is the order of the encodings even if the values aren't
+/// valid, for example because a number is out of range.
 ///
 /// # Errors
 ///
@@ -52,8 +53,8 @@ impl<T: DerOrd> ValueOrd for StrictSetOf<T> {
     }
 }
 
-/// Compares the joined encodings of the values of two iterators: the first that differ decide, and
-/// then the numbers of values.
+/// Compares the concatenated encodings of the values of two iterators. The first encodings that
+/// differ decide, and then the numbers of values.
 ///
 /// # Errors
 ///
@@ -94,15 +95,15 @@ pub fn iter_cmp_owned<T: DerOrd + Drop, I: Iterator<Item = T> + Drop>(
     }
 }
 
-/// Returns a value, after a reference.
+/// Wraps a reference to a value.
 fn lent<'a, T>(value: &'a T) -> EncodeRef<'a, T>
     ensures { result.0.now ≡ value.now }
 {
     EncodeRef(value)
 }
 
-/// Compares the joined encodings of the borrowed values of two iterators: the first that differ
-/// decide, and then the numbers of values.
+/// Compares the concatenated encodings of the borrowed values of two iterators. The first encodings
+/// that differ decide, and then the numbers of values.
 ///
 /// # Errors
 ///

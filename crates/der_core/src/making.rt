@@ -1,5 +1,5 @@
-//! What the declaration of a type needs that the traits alone don't serve: decoding, counting and
-//! encoding of headers and contents, tagged fields, and comparison of contents.
+//! Functions for types that implement the traits by hand: decoding and encoding of headers,
+//! contents and tagged fields, lengths, copies, and comparison of contents.
 
 ghost use Rattle.std.specs.Prelude.{◌≡◌, ◌↔◌, IsTrue};
 
@@ -26,7 +26,7 @@ pub use der_core_coding::{
     optional_explicit, optional_implicit, read_ascending, read_explicit, read_rising, read_whole,
 };
 
-/// Returns whether an error says that memory ran out.
+/// Returns whether the error is `OutOfMemory`.
 pub fn is_out_of_memory(error: &Error) -> bool
     ensures { IsTrue result ↔ (error.now.kind ≡ ErrorKind.OutOfMemory) }
 {

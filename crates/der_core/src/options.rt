@@ -7,7 +7,7 @@ use crate::order::{DerOrd, FirstTag};
 use der_core_coding::core_head::{Error, Tag};
 use std::cmp::Ordering;
 
-/// Nothing is below any encoding.
+/// `None`, whose encoding is empty, is less than any value with an encoding.
 impl<T: DerOrd> DerOrd for Option<T> {
     #[tactic(auto, using(crate::proofs::ShapeOrders::option_orders))]
     fn der_cmp(&self, other: &Self) -> Result<Ordering, Error> {

@@ -14,16 +14,17 @@ use der_core_coding::core_values::describing::{Described, Way};
 use der_core_coding::core_values::{EncodeValue, FixedTag, Shaped, ShapedValue};
 use std::cmp::Ordering;
 
-/// A type whose values are compared by their contents.
+/// A type whose values are compared by their contents, which are the bytes after the header.
 pub trait ValueOrd: ShapedValue {
-    /// Compares the contents of two values, as lists of bytes, whatever their lengths are. The
-    /// result is right even if parts of the values are out of range.
+    /// Compares the contents of two values as lists of bytes, whatever their lengths are. A result
+    /// is the order of the contents even if the values aren't valid, for example because a number
+    /// is out of range.
     ///
     /// # Errors
     ///
     /// - `Overflow`: the content of one of the two has 2^32 bytes or more.
     fn value_cmp(&self, other: &Self) -> Result<Ordering, Error>
-        // There is a result whenever both values have a content.
+        // If both contents are valid, there is a result.
         ensures order { is_content_apart Self.content ≡ true
             → IsContent Self.content (Self.value_written self.now)
             → IsContent Self.content (Self.value_written other.now)
@@ -39,13 +40,13 @@ pub trait ValueOrd: ShapedValue {
             (size_content Self.content (Self.value_written other.now))) };
 }
 
-/// A way of comparing contents, as lists of bytes (X.690 11.6).
+/// A way of coding (`Way`) that also compares contents as lists of bytes (X.690 11.6).
 pub trait OrderWay<T>: Way<T> {
-    /// Returns the result of `ValueOrd::value_cmp`.
+    /// Compares the contents of two values, as lists of bytes.
     ///
     /// # Errors
     ///
-    /// - The errors of `ValueOrd::value_cmp`.
+    /// The errors of `ValueOrd::value_cmp`.
     fn cmp_by(value: &T, other: &T) -> Result<Ordering, Error>
         ensures order { is_content_apart Self.content_by ≡ true
             → IsContent Self.content_by (Self.written_by value.now)
@@ -62,7 +63,8 @@ pub trait OrderWay<T>: Way<T> {
             (size_content Self.content_by (Self.written_by other.now))) };
 }
 
-/// A type whose contents are compared by the way in which it is coded, so that it has `ValueOrd`.
+/// A marker for types whose values are compared by their way of coding (`Described::By`). Such a
+/// type implements `ValueOrd`.
 pub trait Ordered: Described {}
 
 impl<T: Ordered> ValueOrd for T
@@ -76,14 +78,15 @@ where
 
 /// A type whose values are compared by their whole encodings (X.690 11.6).
 pub trait DerOrd: Shaped {
-    /// Compares the encodings of two values, as lists of bytes. It doesn't allocate. The result is
-    /// right even if parts of the values are out of range.
+    /// Compares the encodings of two values as lists of bytes. It doesn't allocate. A result is the
+    /// order of the encodings even if the values aren't valid, for example because a number is out
+    /// of range.
     ///
     /// # Errors
     ///
     /// - `Overflow`: the encoding of one of the two has 2^32 bytes or more.
     fn der_cmp(&self, other: &Self) -> Result<Ordering, Error>
-        // There is a result whenever both values have an encoding.
+        // If both values are valid, there is a result.
         ensures order { is_apart Self.shape ≡ true → IsValid Self.shape (Self.written self.now)
             → IsValid Self.shape (Self.written other.now)
             → result
@@ -95,16 +98,22 @@ pub trait DerOrd: Shaped {
             (size Self.shape (Self.written other.now))) };
 }
 
-/// A type that knows the first tag of a value's encoding.
+/// A type that returns the first tag of a value's encoding.
 pub trait FirstTag: Shaped {
-    /// Returns the tag with which the encoding begins, or none if the value is written as nothing.
+    /// Returns the tag with which the encoding begins, or `None` if the encoding is empty, as for
+    /// an absent option or a default.
     fn first_tag(&self) -> Option<Tag>
         ensures { StartsWith (begins Self.shape) result
             (octets_of Self.shape (Self.written self.now)) };
 }
 
-/// Returns the order of two headers, and then that of their contents. The result is right even if
-/// parts of the contents are out of range.
+/// Compares the encodings of two contents with these tags: first the headers, and then the
+/// contents. A result is the order of the encodings even if the contents aren't valid, for example
+/// because a number is out of range.
+///
+/// # Errors
+///
+/// - `Overflow`: one of the two encodings has 2^32 bytes or more.
 pub fn cmp_behind<T: EncodeValue + ValueOrd>(
     tag: Tag,
     value: &T,
@@ -134,7 +143,7 @@ pub fn cmp_behind<T: EncodeValue + ValueOrd>(
     Ok(contents)
 }
 
-/// Compares the headers, which have the tag of the type, then the contents.
+/// Compares the headers, which have the tag of the type, and then the contents.
 impl<T: ValueOrd + EncodeValue + FixedTag> DerOrd for T {
     fn der_cmp(&self, other: &Self) -> Result<Ordering, Error> {
         cmp_behind(T::tag(), self, T::tag(), other)
@@ -144,6 +153,8 @@ impl<T: ValueOrd + EncodeValue + FixedTag> DerOrd for T {
 impl<T: ValueOrd + FixedTag> FirstTag for T {
     fn first_tag(&self) -> Option<Tag> {
         let tag = T::tag();
+        // This call is only for the proof: its result is a `u32`, so the number of the tag is in
+        // range.
         let _number = number_of(tag);
         Some(tag)
     }

@@ -1,4 +1,4 @@
-//! Comparison of fields in a row.
+//! Comparison of rows of fields.
 
 ghost use Rattle.std.specs.Prelude.{◌≡◌, true, Ok, IfOk, IfErr};
 ghost use Rattle.std.specs.Ordering.{ordering_then};
@@ -15,14 +15,15 @@ use std::cmp::Ordering;
 
 /// Fields that are compared one after another.
 pub trait FieldsOrd: FieldRow {
-    /// Compares the joined encodings of two rows of fields, as lists of bytes. The result is right
-    /// even if parts of the fields are out of range.
+    /// Compares the concatenated encodings of two rows of fields, as lists of bytes. A result is
+    /// the order of the encodings even if the fields aren't valid, for example because a number is
+    /// out of range.
     ///
     /// # Errors
     ///
     /// - `Overflow`: the fields of one of the two have 2^32 bytes or more.
     fn fields_cmp(&self, other: &Self) -> Result<Ordering, Error>
-        // There is a result whenever all fields have encodings.
+        // If all fields are valid, there is a result.
         ensures order { is_body_apart Self.fields ≡ true
             → IsBody Self.fields (Self.fields_written self.now)
             → IsBody Self.fields (Self.fields_written other.now)
@@ -44,7 +45,7 @@ pub trait FieldsOrd: FieldRow {
             (body_octets Self.fields (Self.fields_written self.now)) };
 }
 
-/// Compares what begins with a tag, or is empty, with what begins with another tag.
+/// Compares bytes that begin with a tag, or are empty, with bytes that begin with another tag.
 pub(crate) fn next_cmp(next: Option<Tag>, tag: Tag) -> Ordering
     ensures { result ≡ next_cmp next tag }
 {
@@ -95,7 +96,7 @@ impl FieldsOrd for () {
 }
 
 /// The first field decides, unless its encodings are the same. If only one row has it, it is
-/// compared with the next field of the other row, which begins with another tag.
+/// compared with the first field that the other row has, which begins with another tag.
 impl<A: DerOrd + FirstTag, B: FieldsOrd> FieldsOrd for (A, B) {
     fn fields_cmp(&self, other: &Self) -> Result<Ordering, Error> {
         match (self.0.first_tag(), other.0.first_tag()) {

@@ -1,7 +1,7 @@
-//! Fields and rows that are decoded (`read_row!`).
+//! Fields and rows of fields that are decoded (`read_row!`).
 //!
-//! As for lent fields and rows, one trait has the operations on a field and one those on a row, and
-//! neither has supertraits.
+//! As for the fields that a record lends, one trait has the operations on a field and one those on
+//! a row, and neither has supertraits.
 
 ghost use Rattle.der_core_coding.specs.CoreHead.Grammar.{plain_option};
 ghost use Rattle.der_core_coding.specs.CoreHead.Reading.{Reads, read_at, read_body_at};
@@ -17,37 +17,41 @@ use std::alloc::Global;
 
 /// A field that is decoded.
 pub trait ReadField<'a, R: Reader<'a>>: Sized {
+    /// The shape of the field.
     ghost shape: { Shape };
 
+    /// Maps a field to its abstract value.
     ghost plain: { Self → Value shape };
 
-    /// Decodes the field as `Decode::decode` does.
+    /// Decodes the field, as `Decode::decode` does.
     ///
     /// # Errors
     ///
-    /// - The errors of `Decode::decode`.
+    /// The errors of `Decode::decode`.
     fn read_field(alloc: Global, reader: &mut R) -> Result<Self, Error>
         ensures { Reads plain (R.state reader.old) (R.state reader.new) result
             (read_at (R.state reader.old) shape) };
 }
 
-/// Fields that are decoded in a row, as `(A, (B, (C, ())))`.
+/// A row of fields that is decoded, as nested pairs such as `(A, (B, (C, ())))`.
 pub trait ReadRow<'a, R: Reader<'a>>: Sized {
+    /// The shapes of the fields.
     ghost fields: { Body };
 
+    /// Maps a value to the abstract values of its fields.
     ghost fields_plain: { Self → BodyValue fields };
 
-    /// Decodes the fields as `DecodeRow::decode_row` does.
+    /// Decodes the fields, as `DecodeRow::decode_row` does.
     ///
     /// # Errors
     ///
-    /// - The errors of `DecodeRow::decode_row`.
+    /// The errors of `DecodeRow::decode_row`.
     fn read_row(alloc: Global, reader: &mut R) -> Result<Self, Error>
         ensures { Reads fields_plain (R.state reader.old) (R.state reader.new) result
             (read_body_at (R.state reader.old) fields) };
 }
 
-/// A field without a form of its own.
+/// A field without a tag of its own and without a default.
 #[derive(Drop)]
 pub struct Whole<T>(pub T);
 

@@ -1,4 +1,5 @@
-//! Choices that are decoded by one trait of their alternatives, which has no supertraits.
+//! Alternatives of choices that are decoded. The trait has no supertraits, which saves time when a
+//! choice is checked.
 
 ghost use Rattle.std.specs.Prelude.{◌≡◌};
 ghost use Rattle.der_core_coding.specs.CoreHead.Reading.{Reads, read_at};
@@ -14,21 +15,23 @@ use der_core_coding::core_values::{Choice, Decode, DecodeValue, FixedTag, OneOf2
 use der_core_coding::{Explicit, Implicit};
 use std::alloc::Global;
 
-/// An alternative that is decoded.
+/// An alternative of a choice that is decoded.
 pub trait ReadCase<'a, R: Reader<'a>>: Sized {
+    /// The shape of the alternative.
     ghost shape: { Shape };
 
+    /// Maps an alternative to its abstract value.
     ghost plain: { Self → Value shape };
 
-    /// Returns the result of `Choice::can_decode`.
+    /// Returns whether the alternative may begin with this tag, as `Choice::can_decode` does.
     fn can_read(tag: Tag) -> bool
         ensures { result ≡ begins shape tag };
 
-    /// Decodes the alternative as `Decode::decode` does.
+    /// Decodes the alternative, as `Decode::decode` does.
     ///
     /// # Errors
     ///
-    /// - The errors of `Decode::decode`.
+    /// The errors of `Decode::decode`.
     fn read_case(alloc: Global, reader: &mut R) -> Result<Self, Error>
         ensures { Reads plain (R.state reader.old) (R.state reader.new) result
             (read_at (R.state reader.old) shape) };

@@ -1,4 +1,4 @@
-//! Records: a SEQUENCE of fields (X.690 8.9), which a type lends in rows.
+//! Records, which are SEQUENCEs of fields (X.690 8.9). A type lends its fields in rows.
 
 ghost use Rattle.std.specs.Prelude.{◌≡◌, true, Ok, IfOk, IfErr};
 ghost use Rattle.der_core_coding.specs.CoreHead.declared.tag.Tag.TheVariants.{Sequence};
@@ -19,10 +19,11 @@ use der_core_coding::core_values::{AsReadFields, DecodeFields, Fields, read_fiel
 use std::alloc::Global;
 use std::cmp::Ordering;
 
-/// Lends the fields of two values to a user of rows: `lend!(self, other, user; first, second)`.
+/// Passes the fields of two values, as two borrowed rows, to a user of rows:
+/// `lend!(self, other, user; first, second)`.
 ///
-/// A field of another form states it: `third: default`, or `implicit 0` or `explicit 0`, alone or
-/// followed by `default` or `optional`.
+/// A field with a tag or a default states its form: `third: default`, or `implicit 0` or
+/// `explicit 0`, alone or followed by `default` or `optional`.
 #[macro_export]
 macro_rules! lend {
     (@row) => { () };
@@ -60,7 +61,7 @@ macro_rules! lend {
     };
 }
 
-/// The fields of a row, as a pattern: `let row!(first, second) = DecodeRow::decode_row(..)?`.
+/// The pattern of a row of fields: `let row!(first, second) = DecodeRow::decode_row(..)?`.
 #[macro_export]
 macro_rules! row {
     () => { () };
@@ -69,7 +70,7 @@ macro_rules! row {
     };
 }
 
-/// Reads a record by a row of its fields, in the notation of `lend!`:
+/// Decodes the fields of a record and builds it. The fields are written as in `lend!`:
 /// `read_row!(alloc, reader; Point { x, y: implicit 0 optional })`.
 #[macro_export]
 macro_rules! read_row {
@@ -103,16 +104,18 @@ macro_rules! read_row {
     }};
 }
 
-/// An operation on the fields of two values, each of which is lent as a row.
+/// An operation on the fields of two values, each of which is passed as a borrowed row.
 pub trait RowUser {
+    /// The result of the operation.
     type Answer;
 
-    /// The result, given the fields and what is encoded for those of each value.
+    /// The relation of an answer to the fields: their description, the fields that are encoded for
+    /// each value, and the user before and after.
     ghost answers: { (b : Body) → BodyValue b → BodyValue b → Self → Self → Self.Answer → Type 0 };
 
     /// Receives the two rows.
     fn take<Row: LentRow>(&mut self, row: &Row, other: &Row) -> Self::Answer
-        // This holds for any values that the rows are known to encode.
+        // The clause holds for any values that the rows are known to encode.
         ensures { (v w : BodyValue Row.fields) → Row.fields_written row.now ≡ v
             → Row.fields_written other.now ≡ w
             → answers Row.fields v w self.old self.new result };
@@ -167,16 +170,16 @@ impl RowUser for Comparing {
 
 /// A type that is a SEQUENCE of its fields.
 pub trait Rows: Fields {
-    /// Lends the fields of two values, each as a row (`lend!`).
+    /// Passes the fields of two values to a user of rows, each value as a borrowed row (`lend!`).
     fn with_rows<U: RowUser>(&self, other: &Self, user: &mut U) -> U::Answer
         ensures { U.answers Self.fields (Self.fields_written self.now)
             (Self.fields_written other.now) user.old user.new result };
 
-    /// The fields are reported apart by their first tags.
+    /// The first tags of the fields are unambiguous.
     ghost apart: { is_body_apart Self.fields ≡ true };
 }
 
-/// The way of a SEQUENCE of the type's fields (X.690 8.9). Values are compared field by field.
+/// Describes a type as a SEQUENCE of its fields (X.690 8.9). Values are compared field by field.
 pub struct AsRecord;
 
 impl<T: Rows> Way<T> for AsRecord {
@@ -220,7 +223,7 @@ impl<T: Rows + AsReadFields> AsReadWay<T> for AsRecord {
     ghost as_read_by = { T.as_read_fields };
 }
 
-/// Field after field.
+/// Compares field after field.
 impl<T: Rows> OrderWay<T> for AsRecord {
     #[tactic(auto, unfolding(crate::specs::Opened::contents, crate::specs::Opened::IsContent))]
     fn cmp_by(value: &T, other: &T) -> Result<Ordering, Error> {
@@ -228,5 +231,5 @@ impl<T: Rows> OrderWay<T> for AsRecord {
     }
 }
 
-/// Records are compared by their way.
+/// Records are compared as their description says.
 impl<T: Rows + Described> Ordered for T {}

@@ -1,4 +1,5 @@
-//! SET OF whose members ascend (X.690 8.12, 11.6), and the positions of values among such members.
+//! SET OF whose members are in ascending order (X.690 8.12, 11.6), and the positions of values
+//! among such members.
 
 ghost use Rattle.std.specs.Prelude.{◌≡◌, ◌==◌, None, IfSome, IfErr, OnOk, OnErr, false, length};
 ghost use Rattle.std.specs.Prelude.{◌∷◌, slice_get, IsPermutation, option_copied, ◌≤◌, IfOk, IsOk};
@@ -32,8 +33,8 @@ use std::slice::Iter;
 ///
 /// # Errors
 ///
-/// - `SetDuplicate`: they have the same encoding, and equal members aren't allowed.
-/// - `SetOrdering`: its encoding is lower.
+/// - `SetDuplicate`: the encodings are the same, and equal members aren't allowed.
+/// - `SetOrdering`: the encoding is less than the one before it.
 fn check_follows<T: DerOrd + Member>(last: Option<&T>, value: &T, equal: bool) -> Result<(), Error>
     requires before { IfSome (plain_option (λ r. T.written r.now) last)
         (λ v. Fits (octets_of T.shape v)) }
@@ -59,13 +60,14 @@ fn check_follows<T: DerOrd + Member>(last: Option<&T>, value: &T, equal: bool) -
     }
 }
 
-/// Checks that the encodings of values are in the order of a set. None of them has 2^32 bytes or
-/// more. `equal` says whether equal members are allowed.
+/// Checks that the encodings of values are in the order of a set. The caller proves that each has
+/// fewer than 2^32 bytes. `equal` says whether equal members are allowed.
 ///
 /// # Errors
 ///
-/// - `SetDuplicate`: an encoding is the same as the one before, and equal members aren't allowed.
-/// - `SetOrdering`: an encoding is lower than the one before.
+/// - `SetDuplicate`: an encoding is the same as the one before it, and equal members aren't
+///   allowed.
+/// - `SetOrdering`: an encoding is less than the one before it.
 pub fn check_in_order<T: DerOrd + Member>(values: &[T], equal: bool) -> Result<(), Error>
     requires { AllByRecursion (λ x. Fits (octets_of T.shape x)) (plain_list T.written values.now) }
     ensures { GivesNow (λ x. x) result
@@ -79,10 +81,11 @@ pub fn check_in_order<T: DerOrd + Member>(values: &[T], equal: bool) -> Result<(
     Ok(())
 }
 
-/// Values whose encodings ascend.
+/// SET OF without equal members. It is encoded only if the encodings of its members are in
+/// ascending order.
 #[derive(Clone, Debug, Drop, PartialEq, Eq)]
 pub struct StrictSetOf<T> {
-    /// The values, which are encoded only if their encodings ascend.
+    /// The members. Encoding fails if their encodings aren't in ascending order.
     pub values: Vec<T>,
 }
 
@@ -94,21 +97,21 @@ impl<T> StrictSetOf<T> {
         self.values.as_slice()
     }
 
-    /// Returns the member at an index, if there is one.
+    /// Returns the member at an index, or `None` if there are fewer members.
     pub fn get(&self, index: usize) -> Option<&T>
         ensures { option_copied result ≡ slice_get self.now.values.items index }
     {
         self.values.as_slice().get(index)
     }
 
-    /// Returns the members, borrowed one after another.
+    /// Returns an iterator over the members.
     pub fn iter(&self) -> Iter<'_, T>
         ensures { iter_rest result ≡ self.now.values.items }
     {
         self.values.as_slice().iter()
     }
 
-    /// Returns whether there isn't a member.
+    /// Returns whether the set has no members.
     pub fn is_empty(&self) -> bool
         ensures { result ≡ (length self.now.values.items == 0) }
     {
@@ -124,19 +127,18 @@ impl<T> StrictSetOf<T> {
 }
 
 impl<T: DerOrd + Member + Drop> StrictSetOf<T> {
-    /// Inserts a member before the first one whose encoding is above its own.
+    /// Inserts a member before the first one whose encoding is greater than its own. After an error
+    /// the set is unchanged.
     ///
     /// # Errors
     ///
     /// - `SetDuplicate`: a member has the same encoding.
-    /// - `Overflow`: an encoding has 2^32 bytes or more.
+    /// - `Overflow`: a member has no encoding, for example because its length exceeds 2^32 - 1.
     /// - `OutOfMemory`: memory runs out.
-    ///
-    /// The set is then as it was.
     pub fn insert(&mut self, item: T) -> Result<(), Error>
         ensures gained { OnOk result
             (IsPermutation (item ∷ self.old.values.items) self.new.values.items) }
-        // If all have an encoding.
+        // If all values are valid, this is the position of the member.
         ensures placed { AllValid T.shape T.written self.old.values.items
             → IsValid T.shape (T.written item)
             → OnOk result (plain_list T.written self.new.values.items
@@ -145,7 +147,7 @@ impl<T: DerOrd + Member + Drop> StrictSetOf<T> {
             → IsValid T.shape (T.written item)
             → OnOk result (stands_among T.shape (T.written item)
             (plain_list T.written self.old.values.items) ≡ false) }
-        // So a set in ascending order stays so.
+        // So a set in ascending order stays in that order.
         ensures rises { AllValid T.shape T.written self.old.values.items
             → IsValid T.shape (T.written item)
             → AllRising (octets_of T.shape) (plain_list T.written self.old.values.items)
@@ -205,9 +207,10 @@ impl<'a, R: Reader<'a>, T: Decode<'a, R> + Member> DecodeValue<'a, R> for Strict
     }
 }
 
-/// Writes the members, each of which is above the one before.
+/// The content is the members, whose encodings must be in ascending order.
 ///
-/// The members are written first, so their bytes can be counted and compared.
+/// The members are encoded before their order is checked, because then their lengths are known to
+/// be valid.
 impl<T: Encode + DerOrd + Member> EncodeValue for StrictSetOf<T> {
     fn value_len(&self) -> Result<Length, Error> {
         self.values.value_len()
@@ -216,8 +219,8 @@ impl<T: Encode + DerOrd + Member> EncodeValue for StrictSetOf<T> {
     /// # Errors
     ///
     /// - The errors of the members and of the writer.
-    /// - `SetDuplicate`: a member has the same encoding as the one before.
-    /// - `SetOrdering`: its encoding is lower (X.690 11.6).
+    /// - `SetDuplicate`: a member has the same encoding as the one before it.
+    /// - `SetOrdering`: the encoding of a member is less than the one before it (X.690 11.6).
     #[tactic(auto, unfolding(crate::specs::Opened::contents))]
     fn encode_value<W: Writer>(&self, writer: &mut W) -> Result<(), Error> {
         self.values.encode_value(writer)?;
@@ -243,18 +246,18 @@ impl<T: InRange> InRangeValue for StrictSetOf<T> {
     }
 }
 
-/// Returns the position of a value among others: before the first one whose encoding is above its
-/// own (X.690 11.6).
+/// Returns the position at which a value would be inserted among others: before the first one whose
+/// encoding is greater than its own (X.690 11.6).
 ///
 /// # Errors
 ///
-/// - `Overflow`: an encoding has 2^32 bytes or more.
+/// - `Overflow`: a member has no encoding, for example because its length exceeds 2^32 - 1.
 pub fn place_of<T: DerOrd + Member>(values: &[T], item: &T) -> Result<usize, Error>
     ensures within { IfOk result (λ i. i ≤ length values.now) }
     ensures place { AllValid T.shape T.written values.now → IsValid T.shape (T.written item.now)
         → IfOk result (λ i. plain_list T.written (insert values.now i item.now)
         ≡ placed T.shape (T.written item.now) (plain_list T.written values.now)) }
-    // There is a result whenever all values have an encoding.
+    // If all values are valid, there is a result.
     ensures answered { AllValid T.shape T.written values.now
         → IsValid T.shape (T.written item.now) → IsOk result }
     ensures refused { IfErr result (λ e. e.kind ≡ ErrorKind.Overflow) }
@@ -268,16 +271,16 @@ pub fn place_of<T: DerOrd + Member>(values: &[T], item: &T) -> Result<usize, Err
     Ok(values.len())
 }
 
-/// Returns whether one of the others has the same encoding as a value.
+/// Returns whether one of the values has the same encoding as `item`.
 ///
 /// # Errors
 ///
-/// - `Overflow`: an encoding has 2^32 bytes or more.
+/// - `Overflow`: a member has no encoding, for example because its length exceeds 2^32 - 1.
 pub fn stands_among<T: DerOrd + Member>(values: &[T], item: &T) -> Result<bool, Error>
     ensures found { AllValid T.shape T.written values.now → IsValid T.shape (T.written item.now)
         → IfOk result
         (λ b. b ≡ stands_among T.shape (T.written item.now) (plain_list T.written values.now)) }
-    // There is a result whenever all values have an encoding.
+    // If all values are valid, there is a result.
     ensures answered { AllValid T.shape T.written values.now
         → IsValid T.shape (T.written item.now) → IsOk result }
     ensures refused { IfErr result (λ e. e.kind ≡ ErrorKind.Overflow) }

@@ -1,4 +1,4 @@
-//! Comparison of contents of no bytes.
+//! Comparison of NULL values.
 
 ghost use Rattle.std.specs.Prelude.{Ok};
 ghost use Rattle.der_core.specs.OrdLaws.{null_order};
@@ -8,7 +8,7 @@ use crate::order::ValueOrd;
 use der_core_coding::core_head::Error;
 use std::cmp::Ordering;
 
-/// There is one content, of no bytes.
+/// All values have the same content, which is empty.
 impl ValueOrd for () {
     #[tactic(auto, using(crate::proofs::OrderLaws::null_contents))]
     fn value_cmp(&self, _other: &Self) -> Result<Ordering, Error> {

@@ -5,7 +5,7 @@ use der_core_coding::core_head::{Error, Tag};
 use der_core_coding::{DefaultValue, WithDefault};
 use std::cmp::Ordering;
 
-/// The default is written as nothing, and nothing is below any encoding (X.690 11.5).
+/// The encoding of the default is empty, which is less than any other encoding (X.690 11.5).
 impl<T: DerOrd + DefaultValue> DerOrd for WithDefault<T> {
     fn der_cmp(&self, other: &Self) -> Result<Ordering, Error> {
         match (self.value.is_default(), other.value.is_default()) {

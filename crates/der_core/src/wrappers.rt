@@ -1,4 +1,4 @@
-//! Comparison of boxed values, of tags around a value, and of defaults.
+//! Comparison of types of one field.
 
 use crate::order::{OrderWay, ValueOrd};
 use der_core_coding::core_head::Error;

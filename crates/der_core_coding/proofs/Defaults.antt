@@ -1,4 +1,5 @@
--- A default after a tag: it is read, and no other value has its bytes.
+-- Lemmas about defaults: the encoding of a default decodes to it, and no other value has this
+-- encoding.
 use Rattle.std.proofs.Common.{◌≡◌, ℕ, zero, suc, Bool, true, false, not, nat_eq, ◌<◌, ◌≤◌, List, [], ◌∷◌, ◌++◌, Ok, bytes_eq, nat_lt, length, drop, refl, sym, ap, ◌∙◌, subst, arith, inl, inr, length-append, ℤ, pos}
 use Rattle.std.proofs.lemmas.Bool.{cases_lt, ltb-true, lt-ltb}
 use Rattle.std.proofs.lemmas.Bool.Decides.{same_from_decides, Decides-eqb, Decides-like, nat_tests}
@@ -34,7 +35,7 @@ unfolding tag_octets
 short_few t c h few =
     omega (arith, few, tag_few t h, length-append (number_octets (number_of t)) (length c ∷ c))
 
--- No other content has those bytes.
+-- No other content has the same bytes
 
 length_some : (n : ℕ) → 0 < length (length_octets n)
 length_some n = grind (arith, nat_tests, length-short n, (λ (h : 128 ≤ n). length-long n _ h refl))
@@ -58,7 +59,7 @@ same t c v d h =
     same_from_decides (bytes_eq w d) (bytes_eq (tlv t w) (short_tlv t d)) (bytes_eq-Decides w d)
     (Decides-like (bytes_eq (tlv t w) (short_tlv t d)) (λ e. tlv_alone t w d h e) (λ e. ap (tlv t) e ∙ tlv_short t d h) (bytes_eq-Decides (tlv t w) (short_tlv t d)))
 
--- The value has an encoding, and is read.
+-- The value is valid and is decoded
 
 spelled : (t : Tag) (c : Content) (v : ContentValue c) (d : List ℕ) → length d < 128 → contents c v ≡ d
     → octets_of (tagged t c) v ≡ short_tlv t d
@@ -78,7 +79,7 @@ is_read t c v d tag h e apart enough is =
     let front : octets_of (tagged t c) v ++ [] ≡ short_tlv t d = append-nil (octets_of (tagged t c) v) ∙ spelled t c v d h e in
     ap (λ w. read (tagged t c) 64 w) (sym front) ∙ complete_element (tagged t c) 64 v [] refl apart enough is
 
--- After one tag, for a content of fewer than 100 bytes
+-- One tag and a content of fewer than 100 bytes
 
 below : (d : List ℕ) → nat_lt (length d) 100 ≡ true → length d < 100
 below d h = ltb-true (length d) 100 h
@@ -97,7 +98,7 @@ pub tagged_valid : (t : Tag) (c : Content) (v : ContentValue c) (d : List ℕ) (
     → r ≡ bytes_eq (contents c v) d → (r ≡ true → IsContent c v) → r ≡ true → IsValid (tagged t c) v
 tagged_valid t c v d r tag few e is h = wide t c v d tag (omega (arith, below d few)) ((bytes_eq-Decides (contents c v) d).0 (sym e ∙ h)) (is h)
 
--- what is read after an explicit tag before another one
+-- An explicit tag before another tag
 
 pub explicit_read : (n : ℕ) (t : Tag) (c : Content) (v : ContentValue c) (d : List ℕ) → IsTag (context true n) → IsTag t → nat_lt (length d) 100 ≡ true
     → is_content_apart c ≡ true → ((room : ℕ) → are_content_enough c room ≡ true) → contents c v ≡ d → IsContent c v
@@ -126,7 +127,7 @@ explicit_valid n t c v d r outer tag few e is h =
     let b = below d few in
     wide (context true n) (nested (only (tagged t c))) v (short_tlv t d) outer (omega (arith, short_few t d tag b)) (spelled t c v d (omega (arith, b)) w) (wide t c v d tag (omega (arith, b)) w (is h))
 
--- Whole numbers
+-- Integers
 
 small_octets : (k : ℕ) → k < 128 → integer_octets (pos k) ≡ k ∷ []
 unfolding integer_octets
@@ -136,7 +137,7 @@ small_alone : (z : ℤ) (k : ℕ) → k < 128 → integer_octets z ≡ k ∷ [] 
 unfolding integer_of
 small_alone z k l e = sym (integer_of-octets z) ∙ ap integer_of e ∙ rw (lt-ltb k 128 l, number-1 k) refl
 
--- a number below 128 is one octet
+-- A number below 128 has one content byte.
 pub small_content : (r : Numbers) (z : ℤ) (k : ℕ) → k < 128 → z ≡ pos k → contents (leaf (integer r)) z ≡ k ∷ []
 unfolding contents
 small_content r z k l e = ap integer_octets e ∙ small_octets k l

@@ -1,5 +1,4 @@
--- A value at the beginning of bytes, as its spelling, and what is written into a slice and into
--- memory.
+-- Lemmas about decoding a prefix of bytes, and about encoding into a slice or a vector.
 use Rattle.std.proofs.Common.{◌≡◌, ℕ, true, ltb, List, ◌++◌, length, Result, Ok, Err, sym, ap, ◌∙◌, arith, le-ltb, ltb-false, IfOk, ◌≤◌, ◌-◌, [], take, drop, inl, inr, drop_of_length-le, take_at, take-append-drop, length-append, length-drop, false, Some, refl, IsOkAnd, Bool}
 use Rattle.der_core_values.specs.CoreHead.Limits.{length_max, levels_max}
 use Rattle.der_core_values.specs.CoreHead.declared.error.Error.{Error}
@@ -35,12 +34,12 @@ pub front_again : (s : Shape) (v : Value s) (r w : List ℕ) → is_element s �
 front_again s v r w element apart enough valid e short =
     rw (le-ltb length_max (length w) (omega (arith, short))) (ap (read s levels_max) e ∙ complete_element s 64 v r element apart enough valid)
 
--- what reading gives is what was returned
+-- The decoder gives what was returned.
 pub gives_so : {X P : Type 0} (view : X → P) (r : Result X Error) (f x : Result P ErrorKind) → f ≡ x → Gives view r f → Gives view r x
 gives_so view (Ok y) f x e h = sym e ∙ h
 gives_so view (Err d) f x e h = λ memory. sym e ∙ h memory
 
--- The bytes that a value was read from, between what was left before and what is left after.
+-- The bytes of a value, between the bytes left before and those left after
 
 pub record Consumed (s : Shape) (v : Value s) (w r : List ℕ) : Type 0 where
   pub shorter : length r ≤ length w
@@ -55,7 +54,7 @@ consumed s room v w r apart bytes fits e =
       octets = ap (take (length w - length r)) all ∙ take_at (octets_of s v) r (length w - length r) (omega (arith, lengths, length-append (octets_of s v) r));
     }
 
--- what was passed over comes before the rest
+-- The consumed bytes come before the remaining ones.
 pub passed_over : (w r : List ℕ) → IsRest r w → w ≡ take (length w - length r) w ++ r
 passed_over w r n =
     let long = ap length n.1 in
@@ -70,9 +69,9 @@ passed_over w r n =
           sym (take-append-drop n.0 w) ∙ ap (λ k. take k w ++ drop n.0 w) (sym m) ∙ ap (λ (x : List ℕ). take (length w - length r) w ++ x) (sym n.1)
     ]
 
--- What is written to a slice, and that a valid value is written where there is room for it.
+-- A valid value is written to a slice if there is room for it
 
--- bytes that there is room for
+-- Writing bytes for which there is room.
 put_blank : (b : List ℕ) (room : ℕ) → length b ≤ room → put b (blank room) ≡ Ok (record { written = b; room = Some (room - length b); failed = false })
 unfolding put
 put_blank b room l = rw (le-ltb room (length b) l) refl
@@ -83,7 +82,7 @@ filled_valid s v room h l = ap (λ r. r >>= finished) (put_written s v (blank ro
 filled_content : (c : Content) (v : ContentValue c) (room : ℕ) → IsContent c v → length (contents c v) ≤ room → filled (write_content c v) room ≡ Ok (contents c v)
 filled_content c v room h l = ap (λ r. r >>= finished) (put_content c v (blank room) refl h ∙ put_blank (contents c v) room l)
 
--- what is given is this
+-- The returned bytes are these.
 given_is : {T : Type 0} (view : T → List ℕ) (f : Result (List ℕ) ErrorKind) (w : List ℕ) (r : Result T Error) → GivesNow view r f → f ≡ Ok w → IsOkAnd r (λ x. view x ≡ w)
 given_is view f w (Ok x) h e = ok_is (view x) w (sym h ∙ e)
 given_is view f w (Err d) h e = absurd (cc (h, e))
@@ -96,7 +95,7 @@ pub content_spelled : {T : Type 0} (c : Content) (v : ContentValue c) (room : �
     → length (contents c v) ≤ room → IsOkAnd r (λ x. view x ≡ contents c v)
 content_spelled c v room view r e h l = given_is view (filled (write_content c v) room) (contents c v) r e (filled_content c v room h l)
 
--- what was written is what is given
+-- The written bytes are the returned ones.
 finished_is : (f : Out → Result Out ErrorKind) (room : ℕ) (w : List ℕ) → filled f room ≡ Ok w → (z : Out) × (f (blank room) ≡ Ok z) × (z.written ≡ w)
 finished_is f room w e =
     let h = bind_ok (f (blank room)) finished w e in
@@ -115,8 +114,7 @@ pub filled_contents : {T : Type 0} (c : Content) (v : ContentValue c) (room : �
 filled_contents c v room view (Ok x) e = let h = finished_is (write_content c v) room (view x) e in sym h.2 ∙ writes_contents c v (blank room) h.0 h.1
 filled_contents c v room view (Err e) h = tt
 
--- What was returned by a call that writes has an encoding, where the parts of the value are in
--- their ranges.
+-- A value that was encoded is valid if its parts are in their ranges
 
 pub ok_valid : {T : Type 0} (s : Shape) (v : Value s) (view : T → Out) (r : Result T Error) → Gives view r (write s v (out [])) → IfOk r (λ _. IsInRange s v → IsValid s v)
 ok_valid s v view (Ok x) e = written_valid s v (out []) (view x) e
@@ -137,7 +135,7 @@ appended_in_range s v w new (Ok len) e =
     written_valid s v (out w) q.0 q.1
 appended_in_range s v w new (Err d) e = tt
 
--- What is written in two pieces is what is written at once.
+-- Writing in two calls, or in one
 
 pub first_refused : (memory : Bool) (a b : List ℕ) (o : Out) (k : ErrorKind) → FailsTaking memory k (put a o) → FailsTaking memory k (put (a ++ b) o)
 first_refused memory a b o k h = λ other. sym (put-append a b o) ∙ ap (λ r. r >>= put b) (h other)

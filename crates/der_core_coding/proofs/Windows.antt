@@ -1,4 +1,4 @@
--- What the reader of a slice sees when its end or its place moves.
+-- Lemmas about the reader of a slice, when its end or its position moves.
 use Rattle.std.proofs.Common.{◌≡◌, ℕ, ◌+◌, ◌-◌, ◌<◌, ◌≤◌, Bool, List, ◌++◌, length, take, drop, refl, sym, ap, ◌∙◌, arith}
 use Rattle.std.proofs.lemmas.List.{take-append-drop, take-take, drop-take, drop-drop, length-take, length-drop}
 use Rattle.der_core_values.specs.CoreHead.Reading.{Source, State, entered, restored, past}
@@ -53,6 +53,6 @@ closed a k f ok h d =
     let m : 64 - (a.depth - 1) ≡ (64 - a.depth) + 1 = omega (arith, ok.depth) in
     same _ _ _ _ _ _ _ _ _ r b m refl
 
--- the place moves
+-- The position moves.
 pub passed : (a : Inside) (n : ℕ) → n ≤ a.end - a.position → a.position ≤ a.end → view_of (record a { position = a.position + n }) ≡ past n (view_of a)
 passed a n h ok = ap (λ (r : List ℕ). record (view_of a) { rest = r }) (sym (window_drop a.position a.end n a.bytes.now (omega arith)))

@@ -1,4 +1,4 @@
--- Definitions of other crates that attributes of this one unfold.
+-- Definitions of other crates that attributes of this crate unfold.
 unfoldable pub use Rattle.der_core_values.specs.CoreHead.Grammar.{default_at, opt_at, read_whole}
 unfoldable pub use Rattle.der_core_values.specs.CoreHead.Grammar.{tlv_at}
 unfoldable pub use Rattle.der_core_values.specs.CoreHead.Shapes.{IsContent, body_octets, contents}

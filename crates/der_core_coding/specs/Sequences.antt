@@ -1,4 +1,4 @@
--- Why a SEQUENCE that a closure writes is rejected.
+-- Errors of encoding a SEQUENCE whose content a closure writes.
 use Rattle.std.specs.Prelude.{◌≡◌, ◌≢◌, ◌+◌, ◌⊎◌, ℕ, length, true, Result, Ok, Err}
 use Rattle.std.specs.Borrow.{MutBor}
 use Rattle.std.specs.Fn.{Once, FnOnceReturnsAtMut}
@@ -8,19 +8,20 @@ use Rattle.der_core_values.specs.CoreHead.declared.tag.Tag.TheVariants as tags
 use Rattle.der_core_values.specs.CoreHead.Writing.{Out, put_head}
 use Rattle.der_core_values.specs.CoreOctets.Outputs.{Continues}
 
--- f was called after the header of a SEQUENCE of n bytes, answered r, and left the writer so
+-- The closure `f` was called after the header of a SEQUENCE with `n` content bytes, returned `r`,
+-- and left the writer `outer`.
 abbrev pub Called : {W F : Type 0} → (W → Out)
     → Once F (MutBor W × Unit {0}) (Result (Unit {0}) Error × (MutBor W × Unit {0})) → F → ℕ → Out
     → Result (Unit {0}) Error → W → W → Type 0
 Called out g f n old r inner outer = (put_head tags.Sequence n old ≡ Ok (out inner))
     × FnOnceReturnsAtMut g f inner r outer
 
--- what was written, of a writer that has failed
+-- The state of the writer after a failure.
 abbrev pub failing : Out → Out
 failing o = record o { failed = true }
 
--- why it was refused, and what is left then: the header couldn't be written, f was refused, or f
--- wrote another number of bytes
+-- The possible errors, and the states after them: the header couldn't be written, `f` returned an
+-- error, or `f` wrote another number of bytes.
 abbrev pub RefusesEnclosed : {W F : Type 0} → (W → Out)
     → Once F (MutBor W × Unit {0}) (Result (Unit {0}) Error × (MutBor W × Unit {0})) → F → ℕ → Out
     → Out → Error → Type 0

@@ -1,4 +1,4 @@
--- What the reader of a slice holds, and the writer to one.
+-- The states of the reader and of the writer of a slice.
 use Rattle.std.specs.Prelude.{◌-◌, ◌≤◌, ℕ, List, [], Some, false, take, drop, length}
 use Rattle.der_core_values.specs.CoreHead.Limits.{levels_max}
 use Rattle.der_core_values.specs.CoreHead.Heads.{Fits}
@@ -8,6 +8,7 @@ use Rattle.der_core_values.specs.CoreHead.Writing.{Out}
 use Rattle.der_core_coding.specs.declared.slice_reader.SliceReader.TheInside.{Inside}
 use Rattle.der_core_coding.specs.declared.slice_writer.SliceWriter.{SliceWriter}
 
+-- The state of a reader.
 abbrev pub view_of : Inside → State
 view_of a =
     record {
@@ -19,7 +20,7 @@ view_of a =
           record { encoding = a.encoding; size = length a.bytes.now };
     }
 
--- a reader of these bytes by DER, in which so many ends can be set, before any call
+-- The state of a reader under DER, before any call, that may open this many levels.
 abbrev pub unread_within : ℕ → List ℕ → State
 unread_within levels w =
     record {
@@ -30,13 +31,14 @@ unread_within levels w =
       source = record { encoding = encodings.Der; size = length w };
     }
 
+-- The fields of a reader are consistent.
 pub record IsReader (a : Inside) : Type 0 where
   pub position : a.position ≤ a.end
   pub end : a.end ≤ length a.bytes.now
   pub bytes : Fits a.bytes.now
   pub depth : a.depth ≤ levels_max
 
--- what was written, up to the place of the writer, and the room after it
+-- The state of a writer: the bytes before its position, and the room after it.
 abbrev pub output : SliceWriter → Out
 output w =
     record {

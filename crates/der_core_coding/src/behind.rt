@@ -1,4 +1,4 @@
-//! A byte before bytes.
+//! Contents that consist of one byte and further bytes.
 
 ghost use Rattle.std.specs.Prelude.{◌≡◌, ◌+◌, ◌∷◌};
 ghost use Rattle.der_core_values.specs.CoreHead.Reading.{GivesNow};
@@ -8,7 +8,7 @@ ghost use Rattle.der_core_values.specs.CoreOctets.Outputs.{AddsFront, Continues}
 use der_core_values::core_head::{Error, Length};
 use der_core_values::core_octets::Writer;
 
-/// Returns a number of bytes and one more.
+/// Returns the length of one byte and the given number of bytes.
 ///
 /// # Errors
 ///

@@ -1,4 +1,4 @@
-//! Encoding a value into a new vector, into a slice, or after other bytes.
+//! Encoding a value into a new vector, into a slice, or after the bytes of a vector.
 
 ghost use Rattle.std.specs.Prelude.{◌≡◌, ◌≤◌, ◌++◌, [], length, take, Ok, None, false, true};
 ghost use Rattle.std.specs.Prelude.{IfOk, IfErr, IsOkAnd};
@@ -15,8 +15,8 @@ use der_core_values::core_head::{Error, Length};
 use der_core_values::core_octets::{Writer, header_of};
 use std::alloc::{AllocError, Global};
 
-/// A writer to a vector of its own. It allocates for a whole value when the header of the value
-/// comes.
+/// A writer to a vector of its own. When the header of a value is written first, it allocates for
+/// the whole value.
 #[derive(Drop)]
 struct VecWriter {
     octets: Vec<u8>,
@@ -43,8 +43,8 @@ impl Writer for VecWriter {
 ///
 /// # Errors
 ///
-/// Fails if memory runs out.
-// Not inlined, since it is called once for a value.
+/// - `AllocError`: memory runs out.
+// Not inlined, because it is called once for a value.
 #[inline(never)]
 fn take_room(out: &mut Vec<u8>, header: &[u8]) -> Result<(), AllocError>
     ensures { out.new.items ≡ out.old.items }
@@ -57,7 +57,7 @@ fn take_room(out: &mut Vec<u8>, header: &[u8]) -> Result<(), AllocError>
     }
 }
 
-/// Returns the encoding of a value, in a vector of that size.
+/// Returns the encoding of a value in a new vector.
 fn encoded<T: Encode>(alloc: Global, value: &T) -> Result<Vec<u8>, Error>
     ensures { Gives (λ v. record { written = v.items; room = None; failed = false }) result
         (write T.shape (T.written value.now)
@@ -85,7 +85,7 @@ fn append<T: Encode>(value: &T, out: &mut Vec<u8>) -> Result<Length, Error>
         ≡ Ok (len.value, out.new.items)) }
     ensures refused { IfErr result
         (λ e. Fails e.kind (appended T.shape (T.written value.now) out.old.items)) }
-    // The earlier bytes of the vector stay first, and are the only ones after an error.
+    // The earlier bytes of the vector are unchanged. After an error, it has no other bytes.
     ensures kept { take (length out.old.items) out.new.items ≡ out.old.items }
     ensures unchanged { IfErr result (λ _. out.new.items ≡ out.old.items) }
 {
@@ -101,16 +101,11 @@ fn append<T: Encode>(value: &T, out: &mut Vec<u8>) -> Result<Length, Error>
     }
 }
 
-/// A type whose values are written as bytes: in a vector, in a slice, or after other bytes.
+/// A type whose values can be encoded: into a new vector, into a slice, or after the bytes of a
+/// vector.
 pub trait ToDer: Encode {
     /// Returns the encoding of the value. It allocates once, for the whole encoding, if the tag has
     /// one byte.
-    ///
-    /// As in `crates/example_build_certificates/src/main.rt`:
-    ///
-    /// ```rust
-    /// let octets = made.to_der(alloc)?;
-    /// ```
     ///
     /// # Errors
     ///
@@ -118,17 +113,29 @@ pub trait ToDer: Encode {
     /// - `SetOrdering`, `SetDuplicate`: a strict set in the value isn't in ascending order (X.690
     ///   11.6).
     /// - `OutOfMemory`: memory runs out.
+    ///
+    /// # Examples
+    ///
+    /// As in `crates/example_build_certificates/src/main.rt`:
+    ///
+    /// ```rust
+    /// /// Returns the encoding of a value as a line in base 16.
+    /// pub(crate) fn line_of<T: Encode>(alloc: Global, made: &T) -> Result<String, Error> {
+    ///     let octets = made.to_der(alloc)?;
+    ///     line_in_hex(alloc, octets.as_slice())
+    /// }
+    /// ```
     final fn to_der(&self, alloc: Global) -> Result<Vec<u8>, Error>
-        // The bytes of an `Ok` are those of the value, no more than a length can count.
+        // The result is the encoding of the value, of at most 2^32 - 1 bytes.
         ensures octets { IfOk result (λ v. (v.items ≡ octets_of Self.shape (Self.written self.now))
             × Fits v.items) }
-        // The value has an encoding, if its parts are in their ranges.
+        // The value is valid if its parts are in their ranges.
         ensures valid { IfOk result (λ _. IsInRange Self.shape (Self.written self.now)
             → IsValid Self.shape (Self.written self.now)) }
-        // The encoding of a valid value is the result, unless memory runs out.
+        // A valid value is encoded, unless memory runs out.
         ensures spelled { IsValid Self.shape (Self.written self.now)
             → Gives (λ v. v.items) result (Ok (octets_of Self.shape (Self.written self.now))) }
-        // The error is exact.
+        // The result is that of the definition, including the kind of the error.
         ensures exact { Gives (λ v. record { written = v.items; room = None; failed = false })
             result (write Self.shape (Self.written self.now)
             (record { written = []; room = None; failed = false })) }
@@ -146,17 +153,17 @@ pub trait ToDer: Encode {
     /// - `SetOrdering`, `SetDuplicate`: a strict set in the value isn't in ascending order (X.690
     ///   11.6).
     final fn encode_to_slice<'a>(&self, bytes: &'a mut [u8]) -> Result<&'a [u8], Error>
-        // The bytes of an `Ok` are those of the value, no more than a length can count.
+        // The result is the encoding of the value, of at most 2^32 - 1 bytes.
         ensures octets { IfOk result (λ octets.
             (octets.now ≡ octets_of Self.shape (Self.written self.now)) × Fits octets.now) }
-        // The value has an encoding, if its parts are in their ranges.
+        // The value is valid if its parts are in their ranges.
         ensures valid { IfOk result (λ _. IsInRange Self.shape (Self.written self.now)
             → IsValid Self.shape (Self.written self.now)) }
         // A valid value is encoded if there is room for its encoding.
         ensures spelled { IsValid Self.shape (Self.written self.now)
             → length (octets_of Self.shape (Self.written self.now)) ≤ length bytes.entry.now
             → IsOkAnd result (λ octets. octets.now ≡ octets_of Self.shape (Self.written self.now)) }
-        // The error is exact.
+        // The result is that of the definition, including the kind of the error.
         ensures exact { GivesNow (λ octets. octets.now) result
             (filled (write Self.shape (Self.written self.now)) (length bytes.entry.now)) }
     {
@@ -165,8 +172,8 @@ pub trait ToDer: Encode {
 
     /// Encodes the value after the bytes of a vector, and returns the length of the encoding.
     ///
-    /// The earlier bytes stay. After an error, nothing was added. It allocates once, for the whole
-    /// encoding.
+    /// The earlier bytes are unchanged. After an error, nothing was added. It allocates once, for
+    /// the whole encoding.
     ///
     /// # Errors
     ///
@@ -175,14 +182,14 @@ pub trait ToDer: Encode {
     ///   11.6).
     /// - `OutOfMemory`: memory runs out.
     final fn encode_to_vec(&self, out: &mut Vec<u8>) -> Result<Length, Error>
-        // The bytes that an `Ok` adds are those of the value, and it returns their number.
+        // The encoding of the value was appended, and the result is its length.
         ensures octets { IfOk result (λ len.
             (out.new.items ≡ out.old.items ++ octets_of Self.shape (Self.written self.now))
             × (len.value ≡ length (octets_of Self.shape (Self.written self.now)))) }
-        // The value has an encoding, if its parts are in their ranges.
+        // The value is valid if its parts are in their ranges.
         ensures valid { IfOk result (λ _. IsInRange Self.shape (Self.written self.now)
             → IsValid Self.shape (Self.written self.now)) }
-        // A valid value is written, unless memory runs out.
+        // A valid value is encoded, unless memory runs out.
         ensures spelled { IsValid Self.shape (Self.written self.now)
             → Gives (λ len. len.value) result
             (Ok (length (octets_of Self.shape (Self.written self.now)))) }
@@ -191,7 +198,7 @@ pub trait ToDer: Encode {
             ≡ Ok (len.value, out.new.items)) }
         ensures refused { IfErr result
             (λ e. Fails e.kind (appended Self.shape (Self.written self.now) out.old.items)) }
-        // The earlier bytes of the vector stay first, and are the only ones after an error.
+        // The earlier bytes of the vector are unchanged. After an error, it has no other bytes.
         ensures kept { take (length out.old.items) out.new.items ≡ out.old.items }
         ensures unchanged { IfErr result (λ _. out.new.items ≡ out.old.items) }
     {

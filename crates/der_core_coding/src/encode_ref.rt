@@ -1,4 +1,4 @@
-//! A value after a reference.
+//! Encoding a value through a reference.
 
 ghost use Rattle.std.specs.Prelude.{◌≡◌};
 
@@ -6,7 +6,7 @@ use der_core_values::core_head::{Error, Length};
 use der_core_values::core_octets::Writer;
 use der_core_values::{AsRead, Element, Encode, InRange, Member, Shaped};
 
-/// A value after a reference, which is written as the value.
+/// A reference to a value, which is encoded as the value.
 #[derive(Drop)]
 pub struct EncodeRef<'a, T>(pub &'a T);
 

@@ -12,7 +12,7 @@ use der_core_values::{
 };
 use std::alloc::Global;
 
-/// A value after a context-specific tag of number `N`, with its own tag inside (X.690 8.14.2).
+/// A value with an explicit context-specific tag with number `N` before its own tag (X.690 8.14.2).
 #[derive(Debug, Drop, PartialEq, Eq, Hash)]
 pub struct Explicit<T, const N: u32> {
     /// The value inside.

@@ -9,7 +9,7 @@ use der_core_values::{
 };
 use std::alloc::Global;
 
-/// A value whose own tag is replaced by a context-specific one of number `N` (X.690 8.14.3).
+/// A value whose own tag is replaced by the context-specific tag with number `N` (X.690 8.14.3).
 #[derive(Debug, Drop, PartialEq, Eq, Hash)]
 pub struct Implicit<T, const N: u32> {
     /// The value whose tag is replaced.

@@ -1,4 +1,4 @@
-//! Defaults.
+//! Types with a default value.
 
 ghost use Rattle.std.specs.Prelude.{◌≡◌, List, ℕ, [], ◌∷◌, Ok, true, bytes_eq, nat_lt, length};
 ghost use Rattle.std.specs.Prelude.{◌<◌, pos, refl};
@@ -17,9 +17,10 @@ use der_core_values::core_head::number_of;
 use der_core_values::describing::{AsNumbered, AsReadWay, Described, Numbered};
 use der_core_values::{ApartValue, AsRead, AsReadValue, FixedTag, Integer, Shaped, ShapedValue};
 
-/// A type with a value that is never written (X.690 11.5), whose values are written as they are
-/// read.
+/// A type with a default value, which is never encoded (X.690 11.5). Its other values are encoded
+/// as they are decoded.
 pub trait DefaultValue: Shaped + AsRead {
+    /// The encoding of the default.
     ghost default_octets: { List ℕ };
 
     /// Returns the default.
@@ -30,18 +31,19 @@ pub trait DefaultValue: Shaped + AsRead {
     fn is_default(&self) -> bool
         ensures value { result
             ≡ bytes_eq (octets_of Self.shape (Self.plain self.now)) default_octets }
-        // A value that is the default has an encoding.
+        // If the value is the default, it is valid.
         ensures valid { result ≡ true → IsValid Self.shape (Self.plain self.now) };
 }
 
-/// A type with a default value whose content has fewer than 100 bytes, contains no other values,
-/// and is never encoded in a field (X.690 11.5).
+/// A type with a default value, which is never encoded in a field (X.690 11.5). Its content has
+/// fewer than 100 bytes and needs no level of nesting.
 ///
-/// The type, and each implicit or explicit tag around it, can be in `WithDefault`.
+/// Such a type can be in `WithDefault`, and so can an implicit or explicit tag around it.
 pub trait DefaultContent: ShapedValue + ApartValue + AsReadValue {
+    /// The content of the default.
     ghost content_octets: { List ℕ };
 
-    /// Returns the default: the value with the content that the type states.
+    /// Returns the default, which has the content that the type states.
     fn default_content() -> Self
         ensures octets { contents Self.content (Self.value_plain result) ≡ content_octets }
         ensures valid { IsContent Self.content (Self.value_plain result) };
@@ -52,31 +54,36 @@ pub trait DefaultContent: ShapedValue + ApartValue + AsReadValue {
             ≡ bytes_eq (contents Self.content (Self.value_plain self.now)) content_octets }
         ensures valid { result ≡ true → IsContent Self.content (Self.value_plain self.now) };
 
+    /// The content of the default has fewer than 100 bytes.
     ghost few: { nat_lt (length content_octets) 100 ≡ true };
 
+    /// The content needs no level of nesting.
     ghost enough: { (room : ℕ) → are_content_enough Self.content room ≡ true };
 }
 
-/// The default after the tag of the type.
+/// The encoding of the default is the tag of the type and the content of the default.
 impl<T: DefaultContent + FixedTag> DefaultValue for T {
     ghost default_octets = { short_tlv T.fixed_tag T.content_octets };
 
     fn default_value() -> T {
+        // Only for the proof: `number_of` returns a `u32`, so the tag number fits 32 bits.
         let _number = number_of(T::tag());
         T::default_content()
     }
 
     fn is_default(&self) -> bool {
+        // Only for the proof, as above.
         let _number = number_of(T::tag());
         self.is_default_content()
     }
 }
 
-/// The default after both tags.
+/// The encoding of the default is both tags and the content of the default.
 impl<T: DefaultContent + FixedTag, const N: u32> DefaultValue for Explicit<T, N> {
     ghost default_octets = { short_tlv (context true N) (short_tlv T.fixed_tag T.content_octets) };
 
     fn default_value() -> Explicit<T, N> {
+        // Only for the proof, as above.
         let _outer = number_of(Explicit::<T, N>::tag());
         let _number = number_of(T::tag());
         Explicit {
@@ -85,13 +92,14 @@ impl<T: DefaultContent + FixedTag, const N: u32> DefaultValue for Explicit<T, N>
     }
 
     fn is_default(&self) -> bool {
+        // Only for the proof, as above.
         let _outer = number_of(Explicit::<T, N>::tag());
         let _number = number_of(T::tag());
         self.value.is_default_content()
     }
 }
 
-/// The default of the type.
+/// The default is that of the type.
 impl<T: DefaultContent, const N: u32> DefaultContent for Implicit<T, N> {
     ghost content_octets = { T.content_octets };
 
@@ -110,7 +118,7 @@ impl<T: DefaultContent, const N: u32> DefaultContent for Implicit<T, N> {
     }
 }
 
-/// False.
+/// The default is false.
 impl DefaultContent for bool {
     ghost content_octets = { 0 ∷ [] };
 
@@ -129,27 +137,30 @@ impl DefaultContent for bool {
     }
 }
 
-/// A way in which a type's default is coded. The content of the default has fewer than 100 bytes.
+/// A description of types with a default, whose content has fewer than 100 bytes.
 pub trait DefaultWay<T>: AsReadWay<T> {
+    /// The content of the default.
     ghost octets_by: { List ℕ };
 
-    /// Returns the result of `DefaultContent::default_content`.
+    /// Returns the default, as `DefaultContent::default_content` does.
     fn default_by() -> T
         ensures octets { contents Self.content_by (Self.plain_by result) ≡ octets_by }
         ensures valid { IsContent Self.content_by (Self.plain_by result) };
 
-    /// Returns the result of `DefaultContent::is_default_content`.
+    /// Returns whether a value is the default, as `DefaultContent::is_default_content` does.
     fn is_default_by(value: &T) -> bool
         ensures value { result
             ≡ bytes_eq (contents Self.content_by (Self.plain_by value.now)) octets_by }
         ensures valid { result ≡ true → IsContent Self.content_by (Self.plain_by value.now) };
 
+    /// The content of the default has fewer than 100 bytes.
     ghost few_by: { nat_lt (length octets_by) 100 ≡ true };
 
+    /// The content needs no level of nesting.
     ghost enough_by: { (room : ℕ) → are_content_enough Self.content_by room ≡ true };
 }
 
-/// A type that names its default, which has a number. It has `DefaultContent`.
+/// A type that names the number of its default. Such a type implements `DefaultContent`.
 pub trait DefaultNumber: Numbered {
     /// The number of the default.
     ghost default_number: { ℕ };
@@ -158,7 +169,7 @@ pub trait DefaultNumber: Numbered {
     fn default_named() -> Self
         ensures { Self.known_number result ≡ default_number };
 
-    /// The number is below 128, so it has one byte.
+    /// The number is below 128, so it is encoded in one byte.
     ghost small: { nat_lt default_number 128 ≡ true };
 }
 
@@ -173,6 +184,7 @@ impl<T: DefaultNumber, K> DefaultWay<T> for AsNumbered<K> {
     fn default_by() -> T {
         let value = T::default_named();
         let number = value.to_number();
+        // Only for the proof: `is_small` states the content of the number.
         let _small = is_small(&number, number);
         value
     }
@@ -209,7 +221,7 @@ pub fn is_small<T: Integer>(value: &T, small: u8) -> bool
     requires { small < 128 }
     ensures octets { result
         ≡ bytes_eq (contents (leaf (integer T.numbers)) (T.number value.now)) (small ∷ []) }
-    // `small` has one byte.
+    // The content of `small` has one byte.
     ensures small { T.number value.now ≡ pos small
         → contents (leaf (integer T.numbers)) (T.number value.now) ≡ small ∷ [] }
     ensures valid { IsContent (leaf (integer T.numbers)) (T.number value.now) }
@@ -222,7 +234,7 @@ pub fn is_small<T: Integer>(value: &T, small: u8) -> bool
 pub fn is_zero<T: Integer>(value: &T) -> bool
     ensures octets { result
         ≡ bytes_eq (contents (leaf (integer T.numbers)) (T.number value.now)) (0 ∷ []) }
-    // 0 is one byte.
+    // The content of 0 has one byte.
     ensures zero { T.number value.now ≡ pos 0
         → contents (leaf (integer T.numbers)) (T.number value.now) ≡ 0 ∷ [] }
     ensures valid { IsContent (leaf (integer T.numbers)) (T.number value.now) }
@@ -230,7 +242,7 @@ pub fn is_zero<T: Integer>(value: &T) -> bool
     is_small(value, 0)
 }
 
-/// 0.
+/// The default is 0.
 impl DefaultContent for u32 {
     ghost content_octets = { 0 ∷ [] };
 
@@ -240,6 +252,7 @@ impl DefaultContent for u32 {
 
     fn default_content() -> u32 {
         let number = 0;
+        // Only for the proof: `is_zero` states the content of 0.
         let _zero = is_zero(&number);
         number
     }

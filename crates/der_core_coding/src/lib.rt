@@ -1,5 +1,6 @@
-//! Readers and writers of slices, whole encodings, and types around values: tags known when they
-//! are read or written, defaults, fields in a row, and reading of sets in order.
+//! Decoding and encoding of whole values, readers and writers of slices, tags around values,
+//! defaults, rows of fields, and the members of sets in order. Users import the items of this crate
+//! from `der_core`.
 #![tactic(auto)]
 
 mod behind;

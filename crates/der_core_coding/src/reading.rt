@@ -1,4 +1,4 @@
-//! Decoding the next value of a reader, by its type.
+//! Decoding the next value of a reader.
 
 ghost use Rattle.std.specs.Prelude.{◌≡◌, OnErr, true};
 ghost use Rattle.der_core_values.specs.CoreHead.Tags.{context, implicit_tag};
@@ -121,9 +121,9 @@ pub fn optional_implicit<'a, R: Reader<'a>, T: DecodeValue<'a, R>>(
     }
 }
 
-/// A reader from which values are decoded by their type.
+/// A reader that decodes values of any type.
 pub trait Reading<'r>: Reader<'r> + Sized {
-    /// Returns the value that is next. After an error the reader has failed.
+    /// Decodes the next value. After an error the reader has failed.
     ///
     /// # Errors
     ///
@@ -139,7 +139,7 @@ pub trait Reading<'r>: Reader<'r> + Sized {
     }
 
     /// Decodes a value with the context-specific tag with this number, if that tag is next (X.690
-    /// 8.14).
+    /// 8.14). Otherwise it returns `None`.
     ///
     /// # Errors
     ///

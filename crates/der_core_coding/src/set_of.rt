@@ -13,13 +13,13 @@ use der_core_values::{Decode, Member};
 use std::alloc::Global;
 use std::cmp::Ordering;
 
-/// Checks that an encoding at a position may follow the one before it in a set. `equal` says
-/// whether equal members are allowed.
+/// Checks that an encoding may follow the one before it in a set. `equal` says whether equal
+/// members are allowed, and `place` is the position for an error.
 ///
 /// # Errors
 ///
-/// - `SetDuplicate`: it is the same, and equal members aren't allowed.
-/// - `SetOrdering`: it is lower.
+/// - `SetDuplicate`: the encodings are equal, and equal members aren't allowed.
+/// - `SetOrdering`: the encoding is less than the one before it.
 fn check_follows(
     last: Option<&[u8]>,
     octets: &[u8],
@@ -45,12 +45,12 @@ fn check_follows(
     }
 }
 
-/// Decodes values up to the end by DER. No encoding may be below the one before, and none the same
-/// unless equal members are allowed.
+/// Decodes values up to the end, under DER. No encoding may be less than the one before it, or
+/// equal to it unless equal members are allowed.
 ///
 /// # Errors
 ///
-/// - The errors of `read_rising`.
+/// The errors of `read_rising`.
 fn read_members_by_der<'a, R: Reader<'a>, T: Decode<'a, R> + Member>(
     alloc: Global,
     reader: &mut R,
@@ -63,7 +63,7 @@ fn read_members_by_der<'a, R: Reader<'a>, T: Decode<'a, R> + Member>(
     if reader.is_failed() {
         return Err(Error::from(ErrorKind::Failed));
     }
-    // Most sets have one member, and a list that grows from nothing allocates for four.
+    // Most sets have one member, and an empty vector allocates for four when it grows.
     let mut values = match Vec::with_capacity(alloc, 1) {
         Ok(values) => values,
         Err(error) => {
@@ -106,12 +106,12 @@ fn read_members_by_der<'a, R: Reader<'a>, T: Decode<'a, R> + Member>(
 /// Decodes values up to the end. Their encodings must be in order. `equal` says whether equal
 /// members are allowed.
 ///
-/// The order is a rule of DER (X.690 11.6), so the values are decoded by DER, whatever the rules of
-/// the reader are.
+/// The order is a rule of DER (X.690 11.6), so the values are decoded under DER, whatever the
+/// reader's encoding rules are.
 ///
 /// # Errors
 ///
-/// - The errors of `read_rising`.
+/// The errors of `read_rising`.
 fn read_members<'a, R: Reader<'a>, T: Decode<'a, R> + Member>(
     alloc: Global,
     reader: &mut R,
@@ -127,12 +127,12 @@ fn read_members<'a, R: Reader<'a>, T: Decode<'a, R> + Member>(
     values
 }
 
-/// Decodes values up to the end by DER. The encoding of each must be above the one before.
+/// Decodes values up to the end, under DER. Each encoding must be greater than the one before it.
 ///
 /// # Errors
 ///
 /// - The first error of a value.
-/// - `SetDuplicate`, `SetOrdering`: a value isn't above the one before.
+/// - `SetDuplicate`, `SetOrdering`: an encoding isn't greater than the one before it.
 /// - `OutOfMemory`: memory runs out.
 /// - `Failed`: the reader failed before.
 pub fn read_rising<'a, R: Reader<'a>, T: Decode<'a, R> + Member>(
@@ -145,12 +145,12 @@ pub fn read_rising<'a, R: Reader<'a>, T: Decode<'a, R> + Member>(
     read_members(alloc, reader, false)
 }
 
-/// Decodes values up to the end by DER. No encoding may be below the one before.
+/// Decodes values up to the end, under DER. No encoding may be less than the one before it.
 ///
 /// # Errors
 ///
 /// - The first error of a value.
-/// - `SetOrdering`: a value is below the one before.
+/// - `SetOrdering`: an encoding is less than the one before it.
 /// - `OutOfMemory`: memory runs out.
 /// - `Failed`: the reader failed before.
 pub fn read_ascending<'a, R: Reader<'a>, T: Decode<'a, R> + Member>(

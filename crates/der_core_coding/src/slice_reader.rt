@@ -1,4 +1,4 @@
-//! A reader over a slice.
+//! The reader of a slice.
 
 ghost use Rattle.std.specs.Prelude.{◌≡◌, ◌≤◌, ◌<◌, length, [], false, IfOk, IfErr, IsSomeAnd, ⊤};
 ghost use Rattle.der_core_values.specs.CoreHead.Limits.{length_max, levels_max};
@@ -12,7 +12,7 @@ use der_core_values::core_octets::Reader;
 use std::alloc::AllocError;
 use std::marker::Model;
 
-/// A reader over a slice of at most `Length::MAX` bytes.
+/// A reader of a slice of at most `Length::MAX` bytes.
 #[derive(Drop)]
 pub struct SliceReader<'a> {
     bytes: &'a [u8],
@@ -36,11 +36,11 @@ impl<'a> Model for SliceReader<'a> {
 }
 
 impl<'a> SliceReader<'a> {
-    /// Returns a reader of all the bytes, by DER.
+    /// Returns a reader of all bytes, under DER.
     ///
     /// # Errors
     ///
-    /// - `Overflow`: 2^32 bytes or more.
+    /// - `Overflow`: there are 2^32 bytes or more.
     pub fn new(bytes: &'a [u8]) -> Result<SliceReader<'a>, Error>
         ensures ok { IfOk result (λ r. Fits bytes.now × (r ≡ unread EncodingRules.Der bytes.now)) }
         ensures err { IfErr result (λ e. (length_max < length bytes.now)
@@ -49,11 +49,11 @@ impl<'a> SliceReader<'a> {
         Ok(SliceReader::new_with_encoding_rules(bytes, EncodingRules::Der)?)
     }
 
-    /// Returns a reader of all the bytes, by those rules.
+    /// Returns a reader of all bytes, under these encoding rules.
     ///
     /// # Errors
     ///
-    /// - `Overflow`: 2^32 bytes or more.
+    /// - `Overflow`: there are 2^32 bytes or more.
     pub fn new_with_encoding_rules(
         bytes: &'a [u8],
         encoding_rules: EncodingRules,
@@ -75,7 +75,7 @@ impl<'a> SliceReader<'a> {
         })
     }
 
-    /// Returns a reader over all bytes, by DER, with this many levels of nesting.
+    /// Returns a reader of all bytes, under DER, that may open this many levels of nesting.
     ///
     /// # Errors
     ///
@@ -105,7 +105,7 @@ impl<'a> SliceReader<'a> {
     }
 }
 
-/// Returns another reader at the same position. It doesn't allocate.
+/// Returns another reader of the same bytes in the same state. It doesn't allocate.
 impl<'a> Clone for SliceReader<'a> {
     ghost is_clone = { λ x y. y ≡ x };
 

@@ -15,8 +15,8 @@ use der_core_values::core_head::{Error, ErrorKind, Length, Tag, TagMode, TagNumb
 use der_core_values::core_octets::{Writer, encode_header};
 use der_core_values::{Encode, EncodeValue, FixedTag};
 
-/// A writer into a slice, which doesn't allocate. After a write for which there isn't enough room,
-/// it has failed.
+/// A writer to a slice, which doesn't allocate. It has failed after a write for which there wasn't
+/// enough room.
 #[derive(Drop)]
 pub struct SliceWriter<'a> {
     bytes: &'a mut [u8],
@@ -65,12 +65,12 @@ impl<'a> SliceWriter<'a> {
         Ok(&bytes[..len])
     }
 
-    /// Returns an error at the position of the writer, and marks the writer as failed. A position
-    /// of 2^32 or more is left out.
+    /// Returns an error at the position of the writer, and marks the writer as failed. If the
+    /// position is 2^32 or more, the error has none.
     ///
     /// # Errors
     ///
-    /// - Always this error.
+    /// Always the error of this kind.
     pub fn error<T>(&mut self, kind: ErrorKind) -> Result<T, Error>
         ensures kind { IsErrAnd result (λ e. e.kind ≡ kind) }
         ensures place { IsLength (length (output self.old).written) → IfErr result (λ e.
@@ -182,11 +182,12 @@ impl<'a> SliceWriter<'a> {
         f: F,
     ) -> Result<(), Error>
         requires { F.IsAlwaysCallable f }
-        // The closure was called after the header, and wrote that many bytes.
+        // The closure was called after the header, and wrote `length` bytes.
         ensures ok { OnOk result
             (Encloses output F.FnOnce f length.value (output self.old) (output self.new)) }
-        // The error is that of the header, that of the closure, or another number of bytes. What
-        // was before the header stays, and what the closure wrote.
+        // The error is that of the header or that of the closure, or the closure wrote another
+        // number of bytes. The bytes before the header are unchanged, and what the closure wrote is
+        // still there.
         ensures fault { IfErr result (λ e. (output self.old).failed ≡ false → RefusesEnclosed output
             F.FnOnce f length.value (output self.old) (output self.new) e) }
         ensures failed { (output self.old).failed ≡ true

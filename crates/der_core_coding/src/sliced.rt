@@ -9,8 +9,8 @@ use der_core_values::core_octets::Reader;
 use der_core_values::{Decode, Member};
 use std::alloc::Global;
 
-/// Decodes the next value, and returns it with its bytes, under either rules. Under DER, the bytes
-/// are its encoding.
+/// Decodes the next value, and returns it with its bytes, under either encoding rules. Under DER,
+/// the bytes are its encoding.
 ///
 /// # Errors
 ///

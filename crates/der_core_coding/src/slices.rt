@@ -1,4 +1,4 @@
-//! Contents of values in slices, and their headers.
+//! Headers of values, and contents that are encoded into slices.
 
 ghost use Rattle.std.specs.Prelude.{◌≡◌, ◌≤◌, length, Ok, IfOk, IsOkAnd};
 ghost use Rattle.der_core_values.specs.CoreHead.Ranges.{IsContentInRange};
@@ -40,17 +40,17 @@ pub fn encode_value_to_slice<'a, T: EncodeValue>(
     value: &T,
     bytes: &'a mut [u8],
 ) -> Result<&'a [u8], Error>
-    // The bytes of an `Ok` are those of the content.
+    // The result is the content of the value.
     ensures octets { IfOk result
         (λ octets. octets.now ≡ contents T.content (T.value_written value.now)) }
-    // The content is valid, if its parts are in their ranges.
+    // The content is valid if its parts are in their ranges.
     ensures valid { IfOk result (λ _. IsContentInRange T.content (T.value_written value.now)
         → IsContent T.content (T.value_written value.now)) }
     // A valid content is encoded if there is room for it.
     ensures spelled { IsContent T.content (T.value_written value.now)
         → length (contents T.content (T.value_written value.now)) ≤ length bytes.entry.now
         → IsOkAnd result (λ octets. octets.now ≡ contents T.content (T.value_written value.now)) }
-    // The error is exact.
+    // The result is that of the definition, including the kind of the error.
     ensures exact { GivesNow (λ octets. octets.now) result
         (filled (write_content T.content (T.value_written value.now)) (length bytes.entry.now)) }
 {

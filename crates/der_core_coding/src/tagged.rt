@@ -1,4 +1,4 @@
-//! The tag of a value.
+//! The tags of values.
 
 ghost use Rattle.std.specs.Prelude.{◌≡◌, Bool, Ok};
 ghost use Rattle.der_core_values.specs.CoreHead.declared.tag.Tag.{Tag};
@@ -10,6 +10,7 @@ use der_core_values::{ApartValue, AsReadValue, EncodeValue, FixedTag, InRangeVal
 
 /// A value that has a tag.
 pub trait Tagged {
+    /// Maps a value to its tag.
     ghost own_tag: { Self → Tag };
 
     /// Returns the tag.
@@ -27,9 +28,10 @@ impl<T: FixedTag> Tagged for T {
 
 /// A type whose values are all constructed, or all primitive.
 pub trait IsConstructed {
+    /// True if the values are constructed.
     ghost constructed: { Bool };
 
-    /// Returns whether they are constructed (X.690 8.1.2.5).
+    /// Returns whether the values are constructed (X.690 8.1.2.5).
     fn is_constructed() -> bool
         ensures { result ≡ constructed };
 }
@@ -42,7 +44,7 @@ impl<T: FixedTag> IsConstructed for T {
     }
 }
 
-/// A reference to a value, whose content is encoded as that of the value.
+/// A reference to a value, with the same content.
 #[derive(Drop)]
 pub struct EncodeValueRef<'a, T>(pub &'a T);
 

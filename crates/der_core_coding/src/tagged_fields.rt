@@ -1,4 +1,4 @@
-//! Fields after tags, from and for a row.
+//! Conversions between tagged fields of a row and fields of a record.
 
 ghost use Rattle.std.specs.Prelude.{◌≡◌};
 ghost use Rattle.der_core_values.specs.CoreHead.Grammar.{plain_option};
@@ -7,21 +7,21 @@ use crate::encode_ref::EncodeRef;
 use crate::explicit::Explicit;
 use crate::implicit::{Implicit, ImplicitRef};
 
-/// Returns the value after a tag that replaced its own.
+/// Returns the value of a field with an implicit tag.
 pub fn implicit_of<T, const N: u32>(field: Option<Implicit<T, N>>) -> Option<T>
     ensures { result ≡ plain_option (λ f. f.value) field }
 {
     Some(field?.value)
 }
 
-/// Returns the value after a tag before its own.
+/// Returns the value of a field with an explicit tag.
 pub fn explicit_of<T, const N: u32>(field: Option<Explicit<T, N>>) -> Option<T>
     ensures { result ≡ plain_option (λ f. f.value) field }
 {
     Some(field?.value)
 }
 
-/// Returns the value, borrowed after a tag that replaces its own.
+/// Returns a field with an implicit tag that borrows the value.
 pub fn implicit_ref<'a, T, const N: u32>(value: &'a Option<T>) -> Option<ImplicitRef<'a, T, N>>
     ensures { plain_option (λ r. r.value.now) result ≡ value.now }
 {
@@ -29,7 +29,7 @@ pub fn implicit_ref<'a, T, const N: u32>(value: &'a Option<T>) -> Option<Implici
     Some(ImplicitRef { value })
 }
 
-/// Returns the value, borrowed after a tag before its own.
+/// Returns a field with an explicit tag that borrows the value.
 pub fn explicit_ref<'a, T, const N: u32>(
     value: &'a Option<T>,
 ) -> Option<Explicit<EncodeRef<'a, T>, N>>

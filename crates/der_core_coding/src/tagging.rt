@@ -1,4 +1,4 @@
-//! Values after tags that are known when they are written.
+//! Encoding values with tags that are only known at run time.
 
 ghost use Rattle.std.specs.Prelude.{◌≡◌, true};
 ghost use Rattle.der_core_values.specs.CoreHead.Tags.{context, implicit_tag};
@@ -12,7 +12,7 @@ use der_core_values::core_head::{Error, Tag, TagNumber, is_constructed};
 use der_core_values::core_octets::{Writer, encode_header};
 use der_core_values::{Encode, EncodeValue, FixedTag};
 
-/// Encodes a content after a tag.
+/// Encodes a content after a header with this tag.
 ///
 /// # Errors
 ///
@@ -35,7 +35,7 @@ pub fn encode_tagged<W: Writer, T: EncodeValue>(
     value.encode_value(writer)
 }
 
-/// Encodes a value with a context-specific tag before its own (X.690 8.14.2).
+/// Encodes a value with an explicit context-specific tag before its own (X.690 8.14.2).
 ///
 /// # Errors
 ///
@@ -58,7 +58,7 @@ pub fn encode_explicit<W: Writer, T: Encode>(
         constructed,
         number,
     };
-    // The number in this type is unused: the tag is the one above.
+    // The number in this type isn't used. The tag is the one above.
     let field: Explicit<EncodeRef<'_, T>, 0> = Explicit {
         value: EncodeRef(value),
     };

@@ -1,4 +1,4 @@
-//! Decoding a value from all bytes, or from the beginning of the bytes.
+//! Decoding a value from all bytes, or from a prefix of them.
 
 ghost use Rattle.std.specs.Prelude.{◌≡◌, ◌<◌, ◌^◌, ◌++◌, ℕ, List, length, [], true, false, Ok};
 ghost use Rattle.std.specs.Prelude.{◌≢◌, IfOk, IfErr};
@@ -18,11 +18,11 @@ use der_core_values::core_octets::Reader;
 use der_core_values::{Decode, FixedTag, Leaf, decode_leaf_of_tag};
 use std::alloc::Global;
 
-/// Returns the value that the bytes encode. All bytes are used.
+/// Decodes a value from all bytes.
 ///
 /// # Errors
 ///
-/// - The errors of `from_der`.
+/// The errors of `from_der`.
 #[tactic(auto, unfolding(crate::specs::Opened::read_whole))]
 pub fn read_whole<'a, T: Decode<'a, SliceReader<'a>>>(
     alloc: Global,
@@ -38,7 +38,7 @@ pub fn read_whole<'a, T: Decode<'a, SliceReader<'a>>>(
     value
 }
 
-/// Decodes a value from all bytes. Headers are decoded by BER.
+/// Decodes a value from all bytes. Headers are decoded under BER, and contents as under DER.
 #[tactic(auto, unfolding(crate::specs::Wholes::whole_ber_at))]
 fn read_whole_by_ber<'a, T: Decode<'a, SliceReader<'a>>>(
     alloc: Global,
@@ -55,7 +55,7 @@ fn read_whole_by_ber<'a, T: Decode<'a, SliceReader<'a>>>(
     }
 }
 
-/// Decodes the value at the beginning of the bytes.
+/// Decodes a value from a prefix of the bytes.
 fn read_front<'a, T: Decode<'a, SliceReader<'a>>>(
     alloc: Global,
     bytes: &'a [u8],
@@ -67,11 +67,11 @@ fn read_front<'a, T: Decode<'a, SliceReader<'a>>>(
     Ok((value, reader.remaining()))
 }
 
-/// Decodes a value of a primitive type, with its tag, from all bytes.
+/// Decodes a value with a primitive content, including its tag, from all bytes.
 ///
 /// # Errors
 ///
-/// - The errors of `from_der`, but `OutOfMemory` only for a type that allocates.
+/// The errors of `from_der`, but `OutOfMemory` only for a type that allocates.
 #[tactic(auto, unfolding(crate::specs::Opened::read_whole))]
 pub fn leaf_from_der<'a, T: Leaf<'a> + FixedTag>(alloc: Global, bytes: &'a [u8]) -> Result<T, Error>
     ensures exact { Gives (λ v. (T.leaf_plain v, [])) result
@@ -89,41 +89,48 @@ pub fn leaf_from_der<'a, T: Leaf<'a> + FixedTag>(alloc: Global, bytes: &'a [u8])
     }
 }
 
-/// A type whose values are decoded from slices: from all bytes, or from their beginning.
+/// A type whose values can be decoded from slices.
 pub trait FromDer<'a>: Decode<'a, SliceReader<'a>> {
-    /// Returns the value that the bytes encode. All bytes are used.
+    /// Decodes a value from all bytes.
+    ///
+    /// # Errors
+    ///
+    /// - `Overflow`: there are 2^32 bytes or more.
+    /// - The first error that decoding meets.
+    /// - `TrailingData`: bytes are left after the value.
+    /// - `OutOfMemory`: memory runs out.
+    ///
+    /// # Examples
     ///
     /// As in `crates/example_own_types/src/main.rt`:
     ///
     /// ```rust
-    /// let ticket = Ticket::from_der(alloc, octets.as_slice())?;
+    /// /// Decodes a ticket. Returns its text and its encoding.
+    /// fn of_ticket(alloc: Global, octets: &[u8]) -> Result<String, Error> {
+    ///     let ticket = Ticket::from_der(alloc, octets)?;
+    ///     let written = hex::encode(alloc, ticket.to_der(alloc)?)?;
+    ///     Ok(format!(in alloc; "{ticket:?} {written}")?)
+    /// }
     /// ```
-    ///
-    /// # Errors
-    ///
-    /// - `Overflow`: 2^32 bytes or more.
-    /// - The first error that decoding meets.
-    /// - `TrailingData`: bytes are left after the value.
-    /// - `OutOfMemory`: memory runs out.
     final fn from_der(alloc: Global, bytes: &'a [u8]) -> Result<Self, Error>
-        // What is accepted is an encoding.
+        // Accepted bytes are the encoding of the result.
         ensures spelled { is_apart Self.shape ≡ true
             → IfOk result (λ v. Spells Self.shape (Self.plain v) bytes.now) }
         // An encoding is accepted, unless memory runs out.
         ensures only { (v : Value Self.shape) → is_apart Self.shape ≡ true
             → are_enough Self.shape levels_max ≡ true
             → Spells Self.shape v bytes.now → Gives Self.plain result (Ok v) }
-        // If an error isn't that memory ran out, the bytes encode no value.
+        // After any error but `OutOfMemory`, the bytes aren't the encoding of any value.
         ensures refused { is_apart Self.shape ≡ true → are_enough Self.shape levels_max ≡ true
             → IfErr result (λ e. e.kind ≢ ErrorKind.OutOfMemory
             → (v : Value Self.shape) → Spells Self.shape v bytes.now → ⊥) }
-        // The error is exact.
+        // The result is that of the definition, including the kind of the error.
         ensures exact { Gives (λ v. (Self.plain v, [])) result (read_whole Self.shape bytes.now) }
     {
         read_whole(alloc, bytes)
     }
 
-    /// Decodes the value at the beginning of the bytes, and returns it with the remainder.
+    /// Decodes a value from a prefix of the bytes, and returns it with the remainder.
     ///
     /// # Errors
     ///
@@ -131,7 +138,7 @@ pub trait FromDer<'a>: Decode<'a, SliceReader<'a>> {
     /// - The first error that decoding meets.
     /// - `OutOfMemory`: memory runs out.
     final fn from_der_partial(alloc: Global, bytes: &'a [u8]) -> Result<(Self, &'a [u8]), Error>
-        // The bytes are the encoding of the value and the remainder.
+        // The bytes are the encoding of the value, followed by the remainder.
         ensures spelled { is_apart Self.shape ≡ true → IfOk result (λ x.
             IsValid Self.shape (Self.plain x.0)
             × (bytes.now ≡ octets_of Self.shape (Self.plain x.0) ++ x.1.now)) }
@@ -141,20 +148,23 @@ pub trait FromDer<'a>: Decode<'a, SliceReader<'a>> {
             → IsValid Self.shape v → bytes.now ≡ octets_of Self.shape v ++ r → Fits bytes.now
             → Gives {P = Value Self.shape × List ℕ} (λ x. (Self.plain x.0, x.1.now)) result
             (Ok (v, r)) }
-        // The error is exact.
+        // The result is that of the definition, including the kind of the error.
         ensures exact { Gives (λ x. (Self.plain x.0, x.1.now)) result
             (read_front Self.shape bytes.now) }
     {
         read_front(alloc, bytes)
     }
 
-    /// Decodes a value from all bytes, by BER (X.690 8).
-    ///
-    /// Headers are decoded by BER, and contents as under DER.
+    /// Decodes a value from all bytes. Headers are decoded under BER (X.690 8.1), which also
+    /// accepts indefinite lengths, and contents as under DER. So most encodings that only BER
+    /// allows are rejected.
     ///
     /// # Errors
     ///
-    /// - The errors of `from_der`.
+    /// - `Overflow`: there are 2^32 bytes or more.
+    /// - The first error that decoding meets.
+    /// - `TrailingData`: bytes are left after the value.
+    /// - `OutOfMemory`: memory runs out.
     final fn from_ber(alloc: Global, bytes: &'a [u8]) -> Result<Self, Error>
         ensures { Gives (λ v. (Self.plain v, [])) result (whole_ber_at Self.shape bytes.now) }
     {

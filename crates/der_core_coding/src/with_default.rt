@@ -9,7 +9,7 @@ use der_core_values::core_octets::{Reader, Writer};
 use der_core_values::{AsRead, Choice, Decode, Encode, InRange, Shaped};
 use std::alloc::Global;
 
-/// A value that is absent if it is the default.
+/// A value of a field that is absent if the value is the default.
 #[derive(Debug, Drop, PartialEq, Eq, Hash)]
 pub struct WithDefault<T> {
     /// The value, which isn't encoded if it is the default.
@@ -29,7 +29,7 @@ impl<T: DefaultValue> AsRead for WithDefault<T> {
 }
 
 impl<'a, R: Reader<'a>, T: Decode<'a, R> + Choice + DefaultValue> Decode<'a, R> for WithDefault<T> {
-    // Inlined, since a default that is absent is reported by one byte.
+    // Inlined, because one byte tells that the field is absent.
     #[inline(always)]
     #[tactic(auto, unfolding(crate::specs::Opened::default_at))]
     fn decode(alloc: Global, reader: &mut R) -> Result<WithDefault<T>, Error> {
@@ -77,10 +77,11 @@ impl<T: Encode + DefaultValue> Encode for WithDefault<T> {
     }
 }
 
-/// A default has an encoding, though it isn't written.
+/// The default is in range, too, although it isn't encoded.
 impl<T: InRange + DefaultValue> InRange for WithDefault<T> {
     fn in_range(&self) {
         self.value.in_range();
+        // Only for the proof: `is_default` states that a default is valid.
         let _absent = self.value.is_default();
     }
 }

@@ -1,5 +1,5 @@
--- Headers under BER and bodies of indefinite length are read from their bytes, and what is read has
--- these bytes (X.690 8.1.3.6, 8.1.5).
+-- Lemmas about headers under BER and bodies of indefinite length (X.690 8.1.3.6, 8.1.5): encodings
+-- decode to what they encode, and what was decoded is the encoding of the result.
 use Rattle.std.proofs.lemmas.Bool.Decides.{nat_tests}
 use Rattle.std.proofs.Common.{◌≡◌, ℕ, zero, suc, ◌+◌, ◌-◌, ◌<◌, ◌≤◌, Bool, true, cond, ltb, eqb, List, [], ◌∷◌, ◌++◌, length, take, drop, length-append, Option, Some, None, Result, Ok, Err, sym, refl, ap, subst, ◌∙◌, append_assoc, arith, ◌⊎◌, inl, inr, take-append-drop, append-nil, length-take, length-drop, drop_at, take_at, ◌&&◌}
 use Rattle.std.proofs.lemmas.Bool.{le-ltb, ltb-false, ne_eqb, eqb-true, and_parts, cases_eq}
@@ -23,7 +23,7 @@ tag_at-in_parts : (w : List ℕ) → tag_at (0x24 ∷ w) ≡ Err kinds.TagUnknow
 unfolding tag_at universal_tag
 tag_at-in_parts w = refl
 
--- what DER reads, BER reads
+-- A tag that DER accepts is accepted under BER.
 pub tag_ber_more : (w : List ℕ) (t : Tag) (r : List ℕ) → tag_at w ≡ Ok (t, r) → tag_ber_at w ≡ Ok (t, r)
 unfolding tag_at tag_ber_at
 tag_ber_more [] t r e = absurd cc
@@ -55,9 +55,9 @@ unfolding tag_octets
 tag-some t o (inl h) = rw h.1 (omega arith)
 tag-some t o (inr h) = rw h.1 (omega arith)
 
--- Marks
+-- Tags and lengths
 
--- the bytes that tell a length, or that it is indefinite
+-- The bytes of a length after a tag, which may be indefinite.
 abbrev Tells : Bool → Option ℕ → List ℕ → Type 0
 Tells constructed None l = (constructed ≡ true) × (l ≡ 0x80 ∷ [])
 Tells constructed (Some n) l = IsLength n × (l ≡ length_octets n)
@@ -110,9 +110,9 @@ mark_sound w m r bytes e =
     subst (λ (q : Mark × List ℕ). (o l : List ℕ) × SpellsTag q.0.tag o × Tells (is_constructed_at o) q.0.len l × (w ≡ o ++ (l ++ q.1))) (ok_is made (m, r) n.2)
     (a.0, b.0, a.1, subst (λ c. Tells c n.0.0 b.0) same b.1, a.2 ∙ ap (λ (x : List ℕ). a.0 ++ x) b.2)
 
--- Pieces
+-- Parts of a body
 
--- the bytes of a piece
+-- The bytes of a part.
 abbrev Spells : Piece → List ℕ → Type 0
 Spells ending x = x ≡ 0 ∷ 0 ∷ []
 Spells opening x = (t : Tag) × (o : List ℕ) × SpellsTag t o × (is_constructed_at o ≡ true) × (x ≡ o ++ (0x80 ∷ []))
@@ -146,7 +146,7 @@ piece_again encoding x r (t, o, c, tag, fits, e) =
     ap piece_at regrouped ∙ piece-mark (o ++ (l ++ (c ++ r))) made (c ++ r) (mark_again made o l (c ++ r) tag (fits, refl))
     ∙ (rw (le-ltb (length (c ++ r)) (length c) enough, drop_at c r (length c) refl) refl)
 
--- after a mark
+-- The content after a header.
 content_sound : (w : List ℕ) (t : Tag) (n : Option ℕ) (o l v : List ℕ) (p : Piece) (r : List ℕ) → SpellsTag t o → Tells (is_constructed_at o) n l → w ≡ o ++ (l ++ v)
     → content_at n v ≡ Ok (p, r) → (x : List ℕ) × Spells p x × (w ≡ x ++ r)
 content_sound w t None o l v p r tag tells octets e =
@@ -166,7 +166,7 @@ content_sound w t (Some k) o l v p r tag tells octets e =
         let parts : w ≡ x ++ s = octets ∙ (rw (form, e) (simp append_assoc)) in
         (x, (t, o, c, tag, fits, refl), parts)
 
--- what is read as a piece is its bytes and what follows
+-- A decoded part is the encoding of the result, followed by the remaining bytes.
 piece_sound : (w : List ℕ) (p : Piece) (r : List ℕ) → IsBytes w → piece_at w ≡ Ok (p, r) → (x : List ℕ) × Spells p x × (w ≡ x ++ r)
 unfolding piece_at
 piece_sound [] p r bytes e = absurd cc
@@ -200,7 +200,7 @@ piece_shorter w p r bytes e =
 
 -- Levels
 
--- the end of all levels, by the piece that is at the prefix
+-- The end of all levels, from the first part of the bytes.
 pub closed-step : (pieces levels room : ℕ) (w : List ℕ) → length w ≤ pieces
     → closed_at pieces (suc levels) room w ≡ (piece_at w >>= λ p. levels_after p.0 (suc levels) room >>= λ l. closed_at (pieces - 1) l.0 l.1 p.1)
 unfolding closed_at piece_at
@@ -208,7 +208,7 @@ closed-step zero levels room [] h = refl
 closed-step zero levels room (b ∷ w) h = absurd (omega arith)
 closed-step (suc pieces) levels room w h = let e : suc pieces - 1 ≡ pieces = omega arith in rw e refl
 
--- reading comes from there to here
+-- Decoding goes from the first state to the second.
 record Reaches (pieces levels room : ℕ) (w : List ℕ) (levels' room' : ℕ) (r : List ℕ) : Type 0 where
   pub left : ℕ
   pub enough : length r ≤ left
@@ -218,7 +218,7 @@ then : (pieces levels room : ℕ) (w : List ℕ) (levels' room' : ℕ) (v : List
     → Reaches a.left levels' room' v levels'' room'' r → Reaches pieces levels room w levels'' room'' r
 then pieces levels room w levels' room' v levels'' room'' r a b = record { left = b.left; enough = b.enough; same = a.same ∙ b.same }
 
--- after a piece
+-- Decoding goes on after a part.
 past_piece : (p : Piece) (x r : List ℕ) (pieces levels room levels' room' : ℕ) → Spells p x → length (x ++ r) ≤ pieces → levels_after p (suc levels) room ≡ Ok (levels', room')
     → Reaches pieces (suc levels) room (x ++ r) levels' room' r
 past_piece p x r pieces levels room levels' room' h enough after = record {
@@ -227,16 +227,16 @@ past_piece p x r pieces levels room levels' room' h enough after = record {
   same = closed-step pieces levels room (x ++ r) enough ∙ (rw (piece_again p x r h, after) refl);
 }
 
--- What is a body is read
+-- The decoder accepts bodies
 
 abbrev IsItem : ℕ → List ℕ → Type 0
 IsItem k i = IsDefinite i ⊎ IsIndefinite (IsIndefiniteBody k) i
 
--- a body is read to its end, which closes the level that it opens
+-- A body is decoded to its end, which closes the level that it opened.
 abbrev IsRead : ℕ → ℕ → List ℕ → Type 0
 IsRead room after c = (levels pieces : ℕ) (r : List ℕ) → length (c ++ r) ≤ pieces → Reaches pieces (suc levels) room (c ++ r) levels after r
 
--- after items, where the bodies inside are read
+-- Items are decoded if the bodies inside them are.
 items_read : (k : ℕ) → ((c : List ℕ) → IsIndefiniteBody k c → (0 < k) × IsRead (k - 1) k c) → (items : List (List ℕ)) → AllByRecursion (IsItem k) items
     → IsRead k (k + 1) (concat items ++ (0 ∷ 0 ∷ []))
 items_read k inner [] all levels pieces r enough =
@@ -276,9 +276,9 @@ body_read (suc k) c (items, all, e) =
     let after : k + 1 ≡ suc k = omega arith in
     (omega arith, (rw before (subst (λ (w : List ℕ). IsRead k (suc k) w) (sym e) (subst (λ n. IsRead k n (concat items ++ (0 ∷ 0 ∷ []))) after (items_read k (body_read k) items all)))))
 
--- What is read is a body
+-- The decoder accepts only bodies
 
--- bytes that end so many levels, of which the innermost may open so many more
+-- Bytes that end this many levels, the innermost of which may open this many more.
 abbrev Ends : ℕ → ℕ → List ℕ → Type 0
 Ends zero room b = b ≡ []
 Ends (suc levels) room b = (c d : List ℕ) × IsIndefiniteBody (suc room) c × Ends levels (suc room) d × (b ≡ c ++ d)
@@ -291,7 +291,7 @@ item_before : (k : ℕ) (i c : List ℕ) → IsItem k i → IsIndefiniteBody (su
 unfolding IsIndefiniteBody
 item_before k i c item (items, all, e) = (i ∷ items, (item, all), ap (λ (u : List ℕ). i ++ u) e ∙ sym (append_assoc i (concat items) (0 ∷ 0 ∷ [])))
 
--- the header of a level before bytes that end it
+-- The header of a level, before bytes that end it.
 opened_before : (levels room : ℕ) (t : Tag) (o b : List ℕ) → SpellsTag t o → is_constructed_at o ≡ true → Ends (suc (suc levels)) room b
     → Ends (suc levels) (suc room) ((o ++ (0x80 ∷ [])) ++ b)
 opened_before levels room t o b tag constructed (c, d, inner, (c', d', outer, ends, e'), e) =
@@ -332,7 +332,7 @@ closed_sound (suc pieces) (suc levels) room w r bytes e =
 
 -- Whole bodies
 
--- a body within 64 levels is counted, whatever follows it
+-- The length of a body with at most 64 levels is found, whatever follows it.
 pub body_len_again : (b r : List ℕ) → IsIndefiniteBody 64 b → Fits b → body_len_at (b ++ r) ≡ Ok (length b)
 unfolding body_len_at closed_at
 body_len_again b r body fits =
@@ -354,7 +354,7 @@ body_len_sound w n bytes e =
     let told : (n ≡ length c) × Fits c = grind (arith, nat_tests, r.2) in
     (c, r.0, s.1.2, told.1, told.0, parts)
 
--- a body has the bytes that end it
+-- A body ends with two end-of-contents bytes.
 pub body-ge : (k : ℕ) (b : List ℕ) → IsIndefiniteBody k b → 2 ≤ length b
 unfolding IsIndefiniteBody
 body-ge zero b h = absurd h
@@ -371,7 +371,7 @@ body_len-body w n bytes e =
     let front : take n w ≡ s.0 = ap (take n) s.5 ∙ take_at s.0 s.1 n (sym s.4) in
     subst (IsIndefiniteBody 64) (sym front) s.2
 
--- the bytes after a body don't matter
+-- The length of a body doesn't depend on the bytes after it.
 pub body_len_alone : (w : List ℕ) (n : ℕ) (more : List ℕ) → IsBytes w → body_len_at w ≡ Ok n → body_len_at (take n w ++ more) ≡ Ok n
 body_len_alone w n more bytes e =
     let s = body_len_sound w n bytes e in
@@ -380,7 +380,7 @@ body_len_alone w n more bytes e =
 
 -- Headers
 
--- the bytes of a header under BER, and what follows, are read as that header
+-- The encoding of a header decodes to it, whatever follows it.
 pub head_ber_again : (h : Head) (r w : List ℕ) → SpellsHead h r w → head_ber_at w ≡ Ok (h, r)
 unfolding head_ber_at
 head_ber_again h r w (o, l, tag, inl length, e) =
@@ -393,7 +393,7 @@ head_ber_again h r w (o, l, tag, inr (constructed, form, b, more, body, fits, co
     let n : body_len_at r ≡ Ok h.len = ap body_len_at rest ∙ body_len_again b more body fits ∙ ap (λ k. Ok k) (sym count) in
     rw (m, n) refl
 
--- what DER reads, BER reads
+-- A header that DER accepts is accepted under BER.
 pub head_ber_more : (w : List ℕ) (h : Head) (r : List ℕ) → head_at w ≡ Ok (h, r) → head_ber_at w ≡ Ok (h, r)
 unfolding head_at mark_at head_ber_at
 head_ber_more w h r e =
@@ -401,7 +401,7 @@ head_ber_more w h r e =
     let n = bind_ok (length_at t.0.0 t.0.1) (λ n. Ok (record { tag = t.0.0; len = n.0 }, n.1)) (h, r) t.2 in
     rw (tag_ber_more w t.0.0 t.0.1 t.1, length_ber_more (is_constructed_at w) t.0.0 t.0.1 n.0.0 n.0.1 n.1) n.2
 
--- what is read as a header under BER is its bytes and what follows
+-- A decoded header is the encoding of the result, followed by the remaining bytes.
 pub head_ber_sound : (w : List ℕ) (h : Head) (r : List ℕ) → IsBytes w → head_ber_at w ≡ Ok (h, r) → SpellsHead h r w
 unfolding head_ber_at
 head_ber_sound w h r bytes e =
@@ -419,7 +419,7 @@ head_ber_sound w h r bytes e =
     told None o l r n bytes tells e = let s = body_len_sound r n bytes e in inr (tells.0, tells.1, s.0, s.1, s.2, s.3, s.4, s.5)
     told (Some k) o l r n bytes tells e = let same = ok_is k n e in subst (λ n. SpellsLength o n l r) same (inl tells)
 
--- bytes after what a header counts don't matter
+-- Bytes after the body don't change the length.
 length-more : (o l r : List ℕ) (n : ℕ) (more : List ℕ) → SpellsLength o n l r → SpellsLength o n l (take n r ++ more)
 length-more o l r n more (inl definite) = inl definite
 length-more o l r n more (inr (constructed, form, b, rest, body, fits, number, e)) =

@@ -1,4 +1,4 @@
--- Values under two bounds of arcs.
+-- Lemmas about valid values under two bounds of arcs.
 use Rattle.std.proofs.Common.{ℕ, zero, suc, ◌<◌, ◌≤◌, ◌⊎◌, inl, inr, List, [], ◌∷◌, ◌++◌, length, Some, None, refl, subst, arith, ◌↔◌, flat_map, Contains, ◌≡◌, Ok, Err, true, sym, ap, ◌∙◌}
 use Rattle.std.specs.List.{AllByRecursion}
 use Rattle.std.proofs.lemmas.Bool.{cases_lt}
@@ -16,7 +16,7 @@ use Rattle.der_core_head.proofs.OneEncoding.{bytes_are, sound, is_spelled, whole
 use Rattle.der_core_head.proofs.Complete.{complete_element}
 use Rattle.der_core_head.proofs.Results.{each_alike}
 
--- Under another bound, where each identifier is one under that bound
+-- From one bound to another
 
 abbrev IsBelow : ℕ → List ℕ → Type 0
 IsBelow bound arcs = AllByRecursion (λ n. n < bound) arcs
@@ -29,7 +29,7 @@ pub back_all : {P : Type 0} (F : P → Type 0) (a b : List P) → AllByRecursion
 back_all F [] b h = h
 back_all F (x ∷ a) b h = back_all F a b h.1
 
--- each of these identifiers under the one bound is one under the other
+-- Each of these identifiers that is one under the first bound is one under the second.
 abbrev Carry : ℕ → ℕ → List (List ℕ) → Type 0
 Carry old new ids = AllByRecursion (λ arcs. IsIdentifier old arcs → IsIdentifier new arcs) ids
 
@@ -70,7 +70,7 @@ mutual
   body_carried old new (few n s) v h k = (each_carried (λ x. IsValidUnder old s x) (λ x. IsValidUnder new s x) (λ x. identifiers_of s x) old new (λ x h k. carried old new s x h k) v h.0 k, h.1)
   body_carried old new (in_order how s) v h k = (each_carried (λ x. IsValidUnder old s x) (λ x. IsValidUnder new s x) (λ x. identifiers_of s x) old new (λ x h k. carried old new s x h k) v h.0 k, h.1)
 
--- under a wider bound each is one
+-- An identifier under one bound is one under a larger bound.
 all_of : {P : Type 0} (F : P → Type 0) → ((x : P) → F x) → (xs : List P) → AllByRecursion F xs
 all_of F each [] = tt
 all_of F each (x ∷ xs) = (each x, all_of F each xs)
@@ -78,7 +78,7 @@ all_of F each (x ∷ xs) = (each x, all_of F each xs)
 pub wider : (small large : ℕ) → small ≤ large → (s : Shape) (v : Value s) → IsValidUnder small s v → IsValidUnder large s v
 wider small large le s v h = carried small large s v h (all_of _ (widen small large le) (identifiers_of s v))
 
--- under a narrower one, where each arc is below it
+-- An identifier is one under a smaller bound if its arcs are below that bound.
 arcs_narrow : (small large : ℕ) (arcs : List ℕ) → IsBelow small arcs → IsIdentifier large arcs → IsIdentifier small arcs
 unfolding IsIdentifier
 arcs_narrow small large (a ∷ b ∷ arcs) k h = (h.0, h.1, k.1.1)
@@ -87,7 +87,7 @@ arcs_narrow small large _ k h = absurd h
 pub narrow : (small large : ℕ) (s : Shape) (v : Value s) → IsValidUnder large s v → AreBelow small (identifiers_of s v) → IsValidUnder small s v
 narrow small large s v h k = carried large small s v h (each_alike (IsBelow small) _ (arcs_narrow small large) (identifiers_of s v) k)
 
--- Each arc is below a bound, or one isn't
+-- Large arcs
 
 all_or_large : (bound : ℕ) (xs : List ℕ) → IsBelow bound xs ⊎ ((n : ℕ) × Contains xs n × (bound ≤ n))
 all_or_large bound [] = inl tt
@@ -107,7 +107,8 @@ below_or_large bound (arcs ∷ ids) = by (all_or_large bound arcs) (below_or_lar
     by (inl l) (inl all) = inl (l, all)
     by (inl l) (inr p) = inr (p.0, p.1, (suc p.2.0, omega (arith, p.2.1), p.2.2), p.3, p.4)
 
--- what is valid under a bound and not under another holds an arc that isn't below that one
+-- A value that is valid under one bound and not under another has an arc that isn't below the other
+-- bound.
 pub new_holds_large : (small large : ℕ) (s : Shape) (v : Value s) → IsValidUnder large s v → (IsValidUnder small s v → ⊥) → HoldsLarge small (identifiers_of s v)
 new_holds_large small large s v h n = by (below_or_large small (identifiers_of s v))
   where
@@ -115,7 +116,7 @@ new_holds_large small large s v h n = by (below_or_large small (identifiers_of s
     by (inl k) = absurd (n (narrow small large s v h k))
     by (inr p) = p
 
--- A shape's own bound
+-- The bound of the shape itself
 
 each_own : {P : Type 0} (F G : P → Type 0) → ((x : P) → F x ↔ G x) → (xs : List P) → AllByRecursion F xs ↔ AllByRecursion G xs
 each_own F G each xs = (each_alike F G (λ x. (each x).0) xs, each_alike G F (λ x. (each x).1) xs)
@@ -156,7 +157,7 @@ mutual
   body_own bound (few n s) v e = beside (each_own (λ x. IsValid s x) (λ x. IsValidUnder bound s x) (λ x. own bound s x e) v) alike
   body_own bound (in_order how s) v e = beside (each_own (λ x. IsValid s x) (λ x. IsValidUnder bound s x) (λ x. own bound s x e) v) alike
 
--- What is valid under a bound has no arc that isn't below it, where the bound lets each second arc pass
+-- The arcs of a valid value are below the bound, if the bound is at least 40
 
 pub both_all : {P : Type 0} (F : P → Type 0) (a b : List P) → AllByRecursion F a → AllByRecursion F b → AllByRecursion F (a ++ b)
 both_all F [] b h k = k
@@ -203,10 +204,10 @@ mutual
 
 pub ruleset large_arcs = (narrow, below, new_holds_large)
 
--- Shapes that differ in their bound of arcs alone: what is spelled and read under two bounds.
+-- Shapes that differ only in their bound
 
--- one shape for each bound, whose values and bytes are those of a base; at concrete shapes `at`
--- changes nothing
+-- A shape for each bound, whose abstract values and encodings are those of a base shape. If the
+-- shape is known, `at` is the identity.
 pub record Family (base : Shape) (S : ℕ → Shape) : Type 0 where
   pub at : (b : ℕ) → Value base → Value (S b)
   pub judged : (b : ℕ) (v : Value base) → IsValid (S b) (at b v) ↔ IsValidUnder b base v
@@ -227,8 +228,8 @@ valid_narrow base S f small large v h k = (f.judged small v).1 (narrow small lar
 pub new_valid : (base : Shape) (S : ℕ → Shape) (f : Family base S) (small large : ℕ) (v : Value base) → IsValid (S large) (f.at large v) → (IsValid (S small) (f.at small v) → ⊥) → HoldsLarge small (identifiers_of base v)
 new_valid base S f small large v h n = new_holds_large small large base v ((f.judged large v).0 h) (λ k. n ((f.judged small v).1 k))
 
--- bytes that encode a value under one bound spell it under a wider one, and under a narrower one
--- where its arcs are below that
+-- The encoding of a value under one bound is its encoding under a larger bound, and under a smaller
+-- bound if its arcs are below that bound.
 pub spelled_wider : (base : Shape) (S : ℕ → Shape) (f : Family base S) (small large : ℕ) (v : Value base) (w : List ℕ) → small ≤ large → Spells (S small) (f.at small v) w → Spells (S large) (f.at large v) w
 spelled_wider base S f small large v w le h = record { valid = valid_wider base S f small large v le h.valid; octets = h.octets ∙ same_octets base S f small large v }
 
@@ -238,13 +239,13 @@ spelled_narrow base S f small large v w h k = record { valid = valid_narrow base
 pub new_spelled : (base : Shape) (S : ℕ → Shape) (f : Family base S) (small large : ℕ) (v : Value base) (w : List ℕ) → Spells (S large) (f.at large v) w → (Spells (S small) (f.at small v) w → ⊥) → HoldsLarge small (identifiers_of base v)
 new_spelled base S f small large v w h n = new_valid base S f small large v h.valid (λ k. n (record { valid = k; octets = h.octets ∙ same_octets base S f large small v }))
 
--- so it is exactly for these arcs, where the narrower bound lets each second arc pass
+-- The converse, if the smaller bound is at least 40.
 pub spelled_exactly : (base : Shape) (S : ℕ → Shape) (f : Family base S) (small large : ℕ) (v : Value base) (w : List ℕ) → 40 ≤ small → small ≤ large
     → Spells (S small) (f.at small v) w ↔ (Spells (S large) (f.at large v) w × AreBelow small (identifiers_of base v))
 spelled_exactly base S f small large v w root le =
     (λ h. (spelled_wider base S f small large v w le h, below small root base v ((f.judged small v).0 h.valid)), λ p. spelled_narrow base S f small large v w p.0 p.1)
 
--- all of the bytes
+-- Decoding all bytes
 
 whole_spelled : (s : Shape) (v : Value s) (w : List ℕ) → is_apart s ≡ true → IsOctets w → read_whole s w ≡ Ok (v, []) → Spells s v w
 whole_spelled s v w a o e = is_spelled s (λ v. v) w (Ok v) a (bytes_are w o) e
@@ -260,7 +261,7 @@ whole_new base S f small large v w e o read refused =
     new_spelled base S f small large v w (whole_spelled (S large) (f.at large v) w (f.apart large) o read)
     (λ h. absurd (cc (whole_again (S small) (f.at small v) w (f.apart small) (f.enough small) h, refused)))
 
--- at the beginning of bytes
+-- Decoding a prefix
 
 pub front_wider : (base : Shape) (S : ℕ → Shape) (f : Family base S) (small large : ℕ) (v : Value base) (w r : List ℕ) → small ≤ large → IsOctets w → Fits w
     → read (S small) 64 w ≡ Ok (f.at small v, r) → read (S large) 64 w ≡ Ok (f.at large v, r)

@@ -1,4 +1,4 @@
--- What is spelled is read, at every room that is enough.
+-- Lemmas: the encoding of a valid value decodes to that value, if there are enough levels.
 use Rattle.std.proofs.Common.{◌≡◌, ℕ, zero, suc, ◌-◌, ◌≤◌, Bool, true, false, not, List, [], ◌∷◌, ◌++◌, length, Option, Some, None, Result, Ok, refl, sym, ap, subst, ◌∙◌, append_assoc, arith, inl, inr, ◌⊎◌, append-nil, take_at, drop_at, length-append, bytes_eq, cond, ltb, take, drop, Err}
 use mathlib.Core.Bool.{◌&&◌}
 use Rattle.std.proofs.lemmas.Bool.Decides.{nat_tests}
@@ -21,7 +21,7 @@ use Rattle.der_core_head.proofs.HeadLaws.{head_again, fits_contents}
 use Rattle.der_core_head.proofs.LeafLaws.{leaf_again}
 use Rattle.der_core_head.proofs.Results.{value_enough, slice_ok, follows_ok, bind_ok}
 
--- What is spelled so is read.
+-- Encodings are decoded
 
 value_again : {P : Type 0} (F : Readings P) (c r : List ℕ) (p : P) → F c ≡ Ok (p, []) → value_at F (length c) (c ++ r) ≡ Ok (p, r)
 value_again F c r p e =
@@ -39,19 +39,19 @@ any_again v r k h =
     slice_ok (length v.contents) (v.contents ++ r) (omega (arith, length-append v.contents r)) ∙ rw (take_at v.contents r (length v.contents) refl, drop_at v.contents r (length v.contents) refl) refl in
     ap (any_at encodings.Der) (append_assoc (head_octets v.tag (length v.contents)) v.contents r) ∙ rw (head_again v.tag (length v.contents) (v.contents ++ r) k (fits_contents v.tag v.contents h), s) refl
 
--- a value with a header begins with its tag
+-- A value with a header begins with its tag.
 pub tlv_first : (t : Tag) (c : List ℕ) → (w : List ℕ) × (tlv t c ≡ tag_octets t ++ w)
 unfolding tlv head_octets
 tlv_first t c = (length_octets (length c) ++ c, append_assoc (tag_octets t) (length_octets (length c)) c)
 
--- the bytes of a tag are in front
+-- The bytes begin with one of these tags.
 abbrev pub StandsFirst : (Tag → Bool) → List ℕ → Type 0
 StandsFirst first b = (t : Tag) × (w : List ℕ) × (b ≡ tag_octets t ++ w) × IsTag t × (first t ≡ true)
 
 abbrev pub BeginsShape : Shape → List ℕ → Type 0
 BeginsShape s b = StandsFirst (begins s) b
 
--- as they do where more bytes follow
+-- Bytes still begin with one of these tags if more bytes follow.
 pub first_more : (first : Tag → Bool) (b r : List ℕ) → StandsFirst first b → StandsFirst first (b ++ r)
 first_more first b r f = (f.0, f.1 ++ r, ap (λ (x : List ℕ). x ++ r) f.2 ∙ append_assoc (tag_octets f.0) f.1 r, f.3, f.4)
 
@@ -67,14 +67,14 @@ element_first (either a b) (inr v) e h =
     (f.0, f.1, f.2, f.3, or_right (begins a f.0) (begins b f.0) f.4)
 element_first _ v e h = absurd (false≢true e)
 
--- an element takes a byte
+-- The encoding of an element isn't empty.
 pub element_some : (s : Shape) (v : Value s) → is_element s ≡ true → IsValid s v → (b : ℕ) × (w : List ℕ) × (octets_of s v ≡ b ∷ w)
 element_some s v e h =
     let f = element_first s v e h in
     let t = tag_octets-some f.0 in
     (t.0, t.1 ++ f.1, f.2 ∙ ap (λ (x : List ℕ). x ++ f.1) t.2)
 
--- a field's bytes are none, or begin as its shape may
+-- The encoding of a field is empty, or begins with one of the first tags of its shape.
 pub field_first : (s : Shape) (v : Value s) → is_apart s ≡ true → IsValid s v → ((octets_of s v ≡ []) × (is_element s ≡ false)) ⊎ BeginsShape s (octets_of s v)
 unfolding octets_of IsValid unless
 field_first (tagged t c) v a h = inr (element_first (tagged t c) v refl h)
@@ -93,7 +93,7 @@ list_first : (s : Shape) (v : List (Value s)) → (is_element s && is_apart s) �
 list_first s [] a h = inl refl
 list_first s (x ∷ xs) a h = inr (first_more (begins s) (octets_of s x) (flat_map (octets_of s) xs) (element_first s x (and_parts (is_element s) (is_apart s) a).0 h.0))
 
--- so do bodies
+-- The encoding of a body is empty, or begins with one of its first tags.
 pub body_first : (b : Body) (v : BodyValue b) → is_body_apart b ≡ true → IsBody b v → (body_octets b v ≡ []) ⊎ StandsFirst (body_begins b) (body_octets b v)
 unfolding body_octets IsBody
 body_first done v a h = inl refl
@@ -115,7 +115,7 @@ body_first (exactly n s) v a h = list_first s v a h.0
 body_first (few n s) v a h = list_first s v a h.0
 body_first (in_order how s) v a h = list_first s v a h.0
 
--- what the next tag is, if one stands
+-- Peeking at the encoding of a tag gives the tag.
 pub peek_again : (t : Tag) (r : List ℕ) → IsTag t → peek_at encodings.Der (tag_octets t ++ r) ≡ Ok (Some t)
 peek_again t r h =
     let f = tag_octets-some t in
@@ -123,7 +123,7 @@ peek_again t r h =
     let e : tag_at (f.0 ∷ (f.1 ++ r)) ≡ Ok (t, r) = ap tag_at (sym is) ∙ tag_again t r h in
     ap (peek_at encodings.Der) is ∙ rw e refl
 
--- bytes that may follow: none, or those of a tag that isn't one of these
+-- The bytes are empty, or begin with a tag that isn't one of these.
 abbrev pub StopsBefore : (Tag → Bool) → List ℕ → Type 0
 StopsBefore first r = (t : Option Tag) × (peek_at encodings.Der r ≡ Ok t) × (chosen first t ≡ None)
 
@@ -136,7 +136,7 @@ stops_end s absent = (None, refl, refl)
 pub stops_tag : (s : Shape) (t : Tag) (r : List ℕ) → IsTag t → begins s t ≡ false → Stops s (tag_octets t ++ r)
 stops_tag s t r h n absent = (Some t, peek_again t r h, rw n refl)
 
--- an element stops wherever it ends
+-- Any bytes may follow an element.
 pub stops_element : (s : Shape) (r : List ℕ) → is_element s ≡ true → Stops s r
 stops_element s r e absent = absurd (false≢true (sym absent ∙ e))
 
@@ -158,7 +158,7 @@ unfolding body_octets
 end_empty done v e = refl
 end_empty _ v e = absurd (false≢true e)
 
--- what follows a field doesn't begin as the field would
+-- The bytes after a field don't begin with one of its first tags.
 pub next_stops : (s : Shape) (b : Body) (v : BodyValue b) → is_clear s b ≡ true → is_body_apart b ≡ true → IsBody b v → Stops s (body_octets b v)
 next_stops s b v c a h =
     elim (or_cases (is_element s) _ c) [
@@ -176,7 +176,7 @@ opt_none : {P : Type 0} (first : Tag → Bool) (F : Readings P) (r : List ℕ) �
 unfolding opt_at
 opt_none first F r h = rw (h.1, h.2) refl
 
--- a value of one of the first tags is read where it stands
+-- An optional value is decoded if the bytes begin with one of its first tags.
 opt_some : {P : Type 0} (first : Tag → Bool) (F : Readings P) (b : List ℕ) (x : P) (r : List ℕ) → StandsFirst first b → F b ≡ Ok (x, r) → opt_at encodings.Der first F b ≡ Ok (Some x, r)
 unfolding opt_at
 opt_some first F b x r f e = rw (ap (peek_at encodings.Der) f.2 ∙ peek_again f.0 f.1 f.3, f.4, e) refl
@@ -197,7 +197,7 @@ right_again : {P Q : Type 0} (a b : Tag → Bool) (F : Readings P) (G : Readings
 unfolding either_at
 right_again a b F G w x r f n e = rw (ap tag_at f.2 ∙ tag_again f.0 f.1 f.3, n, f.4, e) refl
 
--- what a reader of values owes: a valid value is read from its bytes, whatever follows
+-- The decoder decodes the encoding of each valid value, whatever follows it.
 abbrev ReadsAgain : {P : Type 0} → Readings P → (P → Type 0) → (P → List ℕ) → Type 0
 ReadsAgain {P} F V o = (x : P) (t : List ℕ) → V x → F (o x ++ t) ≡ Ok (x, t)
 
@@ -217,7 +217,7 @@ many_again e F V o each some (x ∷ xs) (suc n) l h =
     let first : F (f.0 ∷ (f.1 ++ rest)) ≡ Ok (x, rest) = ap F (sym is) ∙ each x rest h.0 in
     ap (read_many e F (suc n)) is ∙ rw (first, more) refl
 
--- values that take bytes are no more than these
+-- There are no more values than bytes if no encoding is empty.
 no_more : {P : Type 0} (V : P → Type 0) (o : P → List ℕ) → TakesSome V o → (xs : List P) → AllByRecursion V xs → length xs ≤ length (flat_map o xs)
 no_more V o some [] h = omega arith
 no_more V o some (x ∷ xs) h =
@@ -272,7 +272,7 @@ default_again s d room v r true is stops f now at =
 default_again s d room v r false is stops f now at =
     default_some (begins s) (read s 64 d) (λ v. bytes_eq (octets_of s v) d) (read s room) (octets_of s v ++ r) v r (first_more (begins s) (octets_of s v) r f) now is
 
--- what is spelled so is read
+-- The encoding of a valid value decodes to it.
 mutual
   unfolding octets_of IsValid
 
@@ -315,13 +315,13 @@ mutual
   complete_body (in_order how s) room v a n h =
       ordered_again how (read s room) (IsValid s) (octets_of s) (λ x t k. complete s room x t (grind (arith, nat_tests)) n k (stops_element s t (grind (arith, nat_tests)))) (λ x k. element_some s x (grind (arith, nat_tests)) k) None v (length (flat_map (octets_of s) v)) (omega arith) h.0 (none_behind how (octets_of s) v) h.1
 
--- whatever follows
+-- The encoding of an element decodes to it, whatever follows.
 pub complete_element : (s : Shape) (room : ℕ) (v : Value s) (r : List ℕ) → is_element s ≡ true → is_apart s ≡ true → are_enough s room ≡ true → IsValid s v → read s room (octets_of s v ++ r) ≡ Ok (v, r)
 complete_element s room v r e a n h = complete s room v r a n h (stops_element s r e)
 
--- What is read with fewer levels is read alike with more.
+-- More levels
 
--- what the one reads the other reads alike
+-- The second decoder decodes what the first one does, with the same result.
 abbrev pub Extends : {P : Type 0} → Readings P → Readings P → Type 0
 Extends {P} F G = (w : List ℕ) (x : P × List ℕ) → F w ≡ Ok x → G w ≡ Ok x
 
@@ -372,7 +372,7 @@ either_more a b F H G K h k w x e = then_more (tag_at w) _ _ x (λ t. both (a t.
     both false true e = before_more (G w) (K w) (λ x. Ok (inr x.0, x.1)) x (k w) e
     both false false e = e
 
--- a value, and the values after it
+-- A value, and the values after it.
 front_more : {P Q : Type 0} (F G : Readings P) (K L : P → Readings Q) → Extends F G → ((x : P) → Extends (K x) (L x)) → Extends (λ w. F w >>= λ x. K x.0 x.1) (λ w. G w >>= λ x. L x.0 x.1)
 front_more F G K L h k w z e =
     let x = bind_ok (F w) (λ x. K x.0 x.1) z e in

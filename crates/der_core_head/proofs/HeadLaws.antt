@@ -1,4 +1,5 @@
--- Lengths and headers: how they are written, that they are read so, and what begins with them.
+-- Lemmas about lengths and headers: their encodings, how they are decoded, and prefixes that are
+-- headers.
 use Rattle.std.proofs.lemmas.Bool.Decides.{nat_tests}
 use Rattle.std.proofs.Common.{◌≡◌, ℕ, ◌+◌, ◌-◌, ◌*◌, ◌^◌, ◌/◌, ◌%◌, ◌<◌, ◌≤◌, cond, ltb, eqb, List, [], ◌∷◌, ◌++◌, length, get_or, length-append, Ok, Err, refl, ◌∙◌, arith, inr, lt-ltb, le-ltb, ne_eqb, take_at, drop_at, take, drop, sym, ap, subst, append_assoc, inl, take-append-drop, length-take, bytes_eq, Some, None, Result, IfOk}
 use Rattle.std.proofs.lemmas.Slice.Eq.{bytes_eq-Decides}
@@ -21,8 +22,7 @@ use Rattle.der_core_head.specs.declared.error.Error.{Error}
 use Rattle.der_core_head.specs.declared.error.ErrorKind.{ErrorKind}
 use Rattle.der_core_head.specs.Fronts.{ReadsFront}
 
--- The forms of a length, by its size (X.690 8.1.3.4, 8.1.3.5, 10.1), and what is read from bytes in
--- such a form.
+-- The forms of a length, by its size (X.690 8.1.3.4, 8.1.3.5, 10.1)
 
 -- The digits of a length
 
@@ -62,26 +62,26 @@ length-3 n l h = length-long n _ (omega arith) (digits-3 n l h)
 pub length-4 : (n : ℕ) → 2 ^ 24 ≤ n → n < 2 ^ 32 → length_octets n ≡ 132 ∷ n / 16777216 ∷ n / 65536 % 256 ∷ n / 256 % 256 ∷ n % 256 ∷ []
 length-4 n l h = length-long n _ (omega arith) (digits-4 n l h)
 
--- the form of each length
+-- The rules that give the form of each length.
 pub ruleset length_forms = (length-short, length-1, length-2, length-3, length-4)
 
--- no length needs more than four digits
+-- A length has at most four digits.
 pub length-digits-le : (n : ℕ) → n < 2 ^ 32 → length (digits 256 n) ≤ 4
 length-digits-le n h = grind (arith, nat_tests, digits-one 256 n, digits-2 n, digits-3 n, digits-4 n)
 
--- The numbers of digits
+-- The values of digits
 
 pub number-1 : (a : ℕ) → number_from_digits 256 (a ∷ []) ≡ a
 number-1 a = omega arith
 
--- What is read
+-- The decoded lengths
 
--- digits in the one form of their number are read
+-- Digits in the shortest form of their value are accepted.
 pub shortest-ok : (t : Tag) (first : ℕ) (ds w : List ℕ) → length_octets (number_from_digits 256 ds) ≡ first ∷ ds
     → shortest t first ds w ≡ Ok (number_from_digits 256 ds, w)
 shortest-ok t first ds w e = rw ((bytes_eq-Decides (length_octets (number_from_digits 256 ds)) (first ∷ ds)).1 e) refl
 
--- others are not
+-- Other digits are rejected.
 pub shortest-err : (t : Tag) (first : ℕ) (ds w : List ℕ) → (length_octets (number_from_digits 256 ds) ≡ first ∷ ds → ⊥)
     → shortest t first ds w ≡ Err (kinds.Length t)
 shortest-err t first ds w other = grind (arith, nat_tests, bytes_eq-Decides (length_octets (number_from_digits 256 ds)) (first ∷ ds))
@@ -90,7 +90,7 @@ from_digits-ge : (ds : List ℕ) → 2 ≤ length ds → 0 < get_or ds 0 0 → 2
 from_digits-ge (a ∷ b ∷ ds) l h = omega (arith, number_after_ge 256 ((0 * 256 + a) * 256 + b) ds (omega arith))
 from_digits-ge _ l h = absurd (omega arith)
 
--- two digits or more are those of their number where no zero begins them, and only there
+-- Two or more digits are in the shortest form exactly if the first isn't zero.
 length_octets-from_digits : (ds : List ℕ) → AllBelowBase 256 ds → 2 ≤ length ds → 0 < get_or ds 0 0
     → length_octets (number_from_digits 256 ds) ≡ (128 + length ds) ∷ ds
 length_octets-from_digits ds all l h =
@@ -99,7 +99,7 @@ length_octets-from_digits ds all l h =
 no_leading_zero : (n : ℕ) (ds : List ℕ) → 2 ≤ length ds → get_or ds 0 0 ≡ 0 → length_octets n ≡ (128 + length ds) ∷ ds → ⊥
 no_leading_zero n ds l z e = grind (arith, length-short n, length-long n (digits 256 n), first_of_digits-pos 256 n)
 
--- a length below 128, and the first bytes that begin no length
+-- A length below 128, and the first bytes that no length has.
 pub length_at-short : (t : Tag) (n : ℕ) (w : List ℕ) → n < 128 → length_at t (n ∷ w) ≡ Ok (n, w)
 unfolding length_at
 length_at-short t n w l = rw (lt-ltb n 128 l) refl
@@ -116,13 +116,13 @@ pub length_at-large : (t : Tag) (n : ℕ) (w : List ℕ) → 132 < n → length_
 unfolding length_at
 length_at-large t n w l = rw (le-ltb n 128 (omega arith), ne_eqb n 128 (λ e. omega arith), lt-ltb 132 n l) refl
 
--- the digits run out
+-- The bytes end before the last digit.
 pub length_at-cut : (t : Tag) (n : ℕ) (w : List ℕ) → 128 < n → n ≤ 132 → length w < n - 128 → length_at t (n ∷ w) ≡ Err kinds.Incomplete
 unfolding length_at
 length_at-cut t n w l m h =
     rw (le-ltb n 128 (omega arith), ne_eqb n 128 (λ e. omega arith), le-ltb 132 n m, lt-ltb (length w) (n - 128) h) refl
 
--- a length of one to four digits, which are there
+-- A length of one to four digits, all of which are there.
 pub length_at-digits : (t : Tag) (ds w : List ℕ) → 0 < length ds → length ds ≤ 4
     → length_at t ((128 + length ds) ∷ (ds ++ w)) ≡ shortest t (128 + length ds) ds w
 unfolding length_at
@@ -133,7 +133,7 @@ length_at-digits t ds w l h =
 pub length_at-1 : (t : Tag) (a : ℕ) (w : List ℕ) → a < 256 → length_at t (129 ∷ a ∷ w) ≡ cond (ltb a 128) (Err (kinds.Length t)) (Ok (a, w))
 length_at-1 t a w l = length_at-digits t (a ∷ []) w (omega arith) (omega arith) ∙ grind (arith, nat_tests, number-1 a, length-short a, length-1 a, shortest-ok t 129 (a ∷ []) w, shortest-err t 129 (a ∷ []) w)
 
--- two digits or more are read where the first is not zero
+-- Two or more digits are accepted if the first isn't zero.
 length_at-more : (t : Tag) (a : ℕ) (ds w : List ℕ) (n : ℕ) → AllBelowBase 256 (a ∷ ds) → 0 < length ds → length ds < 4
     → number_from_digits 256 (a ∷ ds) ≡ n
     → length_at t ((129 + length ds) ∷ a ∷ (ds ++ w)) ≡ cond (eqb a 0) (Err (kinds.Length t)) (Ok (n, w))
@@ -155,12 +155,12 @@ pub length_at-4 : (t : Tag) (a b c d : ℕ) (w : List ℕ) → a < 256 → b < 2
 length_at-4 t a b c d w p q r s =
     length_at-more t a (b ∷ c ∷ d ∷ []) w _ (p, (q, (r, (s, tt)))) (omega arith) (omega arith) (omega arith)
 
--- A length and a header are read from their bytes, what is read has these bytes, and no encoding
--- begins another (X.690 8.1.3, 10.1).
+-- Encodings of lengths and headers decode to them, and no encoding is a prefix of another (X.690
+-- 8.1.3, 10.1)
 
 -- Lengths
 
--- the bytes of a length, and what follows, are read as that length
+-- The encoding of a length decodes to it, whatever follows it.
 pub length_again : (t : Tag) (n : ℕ) (r : List ℕ) → IsLength n → length_at t (length_octets n ++ r) ≡ Ok (n, r)
 unfolding length_at
 length_again t n r h = elim (cases_lt n 128) [ inl l ↦ rw (length-short n l, lt-ltb n 128 l) refl | inr l ↦ long l ]
@@ -175,13 +175,13 @@ length_again t n r h = elim (cases_lt n 128) [ inl l ↦ rw (length-short n l, l
         ∙ shortest-ok t (128 + length ds) ds r (ap length_octets is.number ∙ form)
         ∙ ap (λ k. Ok (k, r)) is.number)
 
--- what four digits or fewer spell
+-- At most four digits have a value that is a length.
 from_digits-lt : (ds : List ℕ) → IsOctets ds → length ds ≤ 4 → IsLength (number_from_digits 256 ds)
 from_digits-lt ds all l =
     let most : 256 ^ length ds ≤ 256 ^ 4 = pow-le-pow_right {n = 256} (omega arith) l in
     omega (arith, number_lt 256 ds all)
 
--- digits that were read are in the one form of their number
+-- Accepted digits are in the shortest form of their value.
 shortest_sound : (t : Tag) (first : ℕ) (ds w : List ℕ) (n : ℕ) (r : List ℕ) → IsOctets ds → length ds ≤ 4 → shortest t first ds w ≡ Ok (n, r)
     → (first ∷ (ds ++ w) ≡ length_octets n ++ r) × IsLength n
 shortest_sound t first ds w n r all l e =
@@ -191,7 +191,7 @@ shortest_sound t first ds w n r all l e =
     subst (λ (q : ℕ × List ℕ). (first ∷ (ds ++ w) ≡ length_octets q.0 ++ q.1) × IsLength q.0) (ok_is (number, w) (n, r) h.1)
     (ap (λ (o : List ℕ). o ++ w) (sym form), from_digits-lt ds all l)
 
--- what is read as a length is its bytes and what follows
+-- A decoded length is the encoding of the result, followed by the remaining bytes.
 pub length_sound : (t : Tag) (w : List ℕ) (n : ℕ) (r : List ℕ) → IsBytes w → length_at t w ≡ Ok (n, r) → (w ≡ length_octets n ++ r) × IsLength n
 unfolding length_at
 length_sound t [] n r bytes e = absurd cc
@@ -212,12 +212,12 @@ length_sound t (m ∷ w) n r bytes e =
 
 -- Headers
 
--- the bytes of a header, and what follows, are read as that header
+-- The encoding of a header decodes to it, whatever follows it.
 pub head_again : (t : Tag) (n : ℕ) (r : List ℕ) → IsTag t → IsLength n → head_at (head_octets t n ++ r) ≡ Ok (record { tag = t; len = n }, r)
 unfolding head_at head_octets
 head_again t n r tag fits = rw (append_assoc (tag_octets t) (length_octets n) r, tag_again t (length_octets n ++ r) tag, length_again t n r fits) refl
 
--- what is read as a header is its bytes and what follows
+-- A decoded header is the encoding of the result, followed by the remaining bytes.
 pub head_sound : (w : List ℕ) (h : Head) (r : List ℕ) → IsBytes w → head_at w ≡ Ok (h, r)
     → (w ≡ head_octets h.tag h.len ++ r) × IsTag h.tag × IsLength h.len
 unfolding head_at head_octets
@@ -250,7 +250,8 @@ head_octets-below t n tag fits = below-append (tag_octets t) (length_octets n) (
 
 -- Encodings
 
--- two encodings with what follows them are equal only if tags, contents and what follows are
+-- If two encodings with what follows them are equal, so are their tags, their contents and what
+-- follows.
 pub split-tlv : (a b : Tag) (c d r s : List ℕ) → IsTag a → IsTag b → Fits c → Fits d
     → tlv a c ++ r ≡ tlv b d ++ s → (a ≡ b) × (c ≡ d) × (r ≡ s)
 unfolding tlv
@@ -263,9 +264,9 @@ split-tlv a b c d r s p q i j e =
     let contents = split-same_length c d r s lengths (ap (λ (x : Head × List ℕ). x.1) heads) in
     (tags, contents.0, contents.1)
 
--- Bytes that a length can count.
+-- Lengths of parts
 
--- a part of what fits fits
+-- A prefix of bytes whose number is a length has such a number of bytes.
 pub fits_front : (u r w : List ℕ) → w ≡ u ++ r → Fits w → Fits u
 fits_front u r w e h = omega (arith, ap length e, length-append u r)
 
@@ -276,7 +277,7 @@ pub fits_contents : (t : Tag) (c : List ℕ) → Fits (tlv t c) → Fits c
 unfolding tlv
 fits_contents t c h = fits_rest (head_octets t (length c)) c (head_octets t (length c) ++ c) refl h
 
--- what is valid fits
+-- The number of bytes of a valid value is a length.
 pub valid_fits : (s : Shape) (v : Value s) → IsValid s v → Fits (octets_of s v)
 unfolding octets_of IsValid unless
 valid_fits (tagged t c) v h = h.2
@@ -288,9 +289,9 @@ valid_fits (optional s) (Some v) h = valid_fits s v h
 valid_fits nothing v h = omega arith
 valid_fits (defaulted s d) v h = grind (arith, nat_tests, valid_fits s v h)
 
--- Tags at the beginning of bytes, as the grammar spells them.
+-- Prefixes that are tags
 
--- what reading gives there is what was counted
+-- The decoded prefix is the one whose length was returned.
 pub front_so : {X P : Type 0} (view : X → P) (w : List ℕ) (r : Result (X × ℕ) Error) (f : Readings P) (x : Result (P × List ℕ) ErrorKind) → f w ≡ x → ReadsFront view w r f → ReadsFront view w r (λ _. x)
 front_so view w (Ok y) f x e h = (sym e ∙ h.0, h.1)
 front_so view w (Err d) f x e h = sym e ∙ h

@@ -1,4 +1,4 @@
--- Contents of integers, and of named bits, which are numbers.
+-- Lemmas about the contents of integers, and of named bits, which are numbers.
 use Rattle.std.proofs.lemmas.Bool.Decides.{nat_tests}
 use Rattle.std.proofs.Common.{◌≡◌, ℕ, zero, suc, ◌-◌, ◌<◌, ◌≤◌, true, false, List, [], ◌∷◌, length, get_or, Ok, Err, refl, ap, subst, sym, ◌∙◌, arith, ◌⊎◌, inl, inr, ⊎_elim, ℤ, pos, negsuc, nat_lt, ◌==◌, Contains, ◌+◌, ◌*◌, ◌/◌, ◌%◌, map, reverse}
 use Rattle.std.specs.List.{list_any}
@@ -19,9 +19,9 @@ use Rattle.std.proofs.lemmas.Nat.Bits.{bit_at-trailing_zeros}
 use Rattle.der_core_head.specs.BitStrings.{last_octet}
 use Rattle.der_core_head.specs.NamedBits.{set_octets, unused_bits, named_octets, spelled_set, IsNamed, ends_in_one, named_read}
 
--- The contents of a whole number are of one number, and are read as it.
+-- The content of an integer decodes to it, and no two integers have the same content
 
--- Turned bits
+-- Inverted bits
 
 complement-complement : (w : List ℕ) → IsOctets w → complement (complement w) ≡ w
 complement-complement [] h = refl
@@ -31,22 +31,22 @@ complement-below : (w : List ℕ) → IsOctets (complement w)
 complement-below [] = tt
 complement-below (d ∷ ds) = (omega arith, complement-below ds)
 
--- whether the first nine bits are one is no matter of which
+-- Inverting all bits doesn't change whether the first nine bits are equal.
 is_redundant-complement : (w : List ℕ) → IsOctets w → is_redundant w ≡ false → is_redundant (complement w) ≡ false
 is_redundant-complement [] h e = refl
 is_redundant-complement (a ∷ []) h e = refl
 is_redundant-complement (a ∷ b ∷ w) h e = grind (arith, nat_tests)
 
--- The contents of a number that is not negative
+-- Integers that aren't negative
 
--- no byte could be left out, and the first bit is zero
+-- The bytes of `n` are the fewest, and their first bit is zero.
 pub record IsPositive (n : ℕ) (w : List ℕ) : Type 0 where
   pub below : IsOctets w
   pub number : number_from_digits 256 w ≡ n
   pub first : get_or w 0 128 < 128
   pub shortest : is_redundant w ≡ false
 
--- one digit, or no leading zero
+-- There is one digit, or the first digit isn't zero.
 digits_shortest : (n : ℕ) → (length (digits 256 n) ≡ 1) ⊎ (0 < get_or (digits 256 n) 0 0)
 digits_shortest n = grind (arith, nat_tests, digits-one 256 n, first_of_digits-pos 256 n)
 
@@ -68,7 +68,7 @@ positive_of n =
     let ds = digits-Digits 256 n (omega arith) in
     subst (λ m. IsPositive m (positive (digits 256 n))) ds.number (positive_is (digits 256 n) ds.below ds.some (digits_shortest n))
 
--- what is so spelled is its own spelling
+-- Bytes in the shortest form are those of their value.
 positive-digits : (w : List ℕ) → IsOctets w → get_or w 0 128 < 128 → is_redundant w ≡ false → positive (digits 256 (number_from_digits 256 w)) ≡ w
 positive-digits [] h l e = absurd (omega arith)
 positive-digits (d ∷ []) h l e =
@@ -146,12 +146,12 @@ unfolding integer_octets
 integer_octets-below (pos n) = (positive_of n).below
 integer_octets-below (negsuc n) = complement-below (positive (digits 256 n))
 
--- The numbers that a type has
+-- The numbers that a type allows
 
 Contains-more : (m n : ℕ) (ns : List ℕ) → Contains ns n → Contains (m ∷ ns) n
 Contains-more m n ns h = (suc h.0, omega (arith, h.1), h.2)
 
--- a number that is found is one of the numbers
+-- A number that is found in the list is in it.
 pub listed : (n : ℕ) (ns : List ℕ) → list_any (λ m. m == n) ns ≡ true → Contains ns n
 listed n [] e = absurd (false≢true e)
 listed n (m ∷ ns) e =
@@ -187,7 +187,7 @@ checked-again (among ns) t (pos n) h = grind (arith, nat_tests, test-from_Contai
 checked-again (within k) t z h = grind (arith, nat_tests)
 checked-again _ t z h = absurd h
 
--- Reading
+-- Decoding
 
 shortest_integer-sound : (t : Tag) (w : List ℕ) (z : ℤ) → IsBytes w → shortest_integer t w ≡ Ok z → w ≡ integer_octets z
 unfolding shortest_integer
@@ -212,9 +212,9 @@ integer_again r t z h =
     ap (λ x. x >>= checked r t) (shortest_integer-again t (integer_octets z) (integer_octets-some z) (integer_octets-not_redundant z))
     ∙ ap (checked r t) (integer_of-octets z) ∙ checked-again r t z h
 
--- The contents of a set of named bits are of one set, and are read as it.
+-- The content of a set of named bits decodes to it, and no two sets have the same content
 
--- Turned bytes
+-- Reversed bits
 
 turned-turned : (o : ℕ) → o < 256 → reverse_bits w8 (reverse_bits w8 o) ≡ o
 unfolding reverse_bits_onto
@@ -239,7 +239,7 @@ all-turned-below : (w : List ℕ) → IsOctets w → IsOctets (turned w)
 all-turned-below [] h = tt
 all-turned-below (o ∷ w) h = (turned-below o h.0, all-turned-below w h.1)
 
--- The first and the last
+-- The first and the last byte
 
 reverse-below : (w : List ℕ) → IsOctets w → IsOctets (reverse w)
 reverse-below w h = onto w [] h tt
@@ -302,7 +302,7 @@ spelled_set-octets n = by (cases_eq n 0)
         ∙ ap (number_from_digits 256) (reverse-reverse (digits 256 n))
         ∙ (digits-Digits 256 n (omega arith)).number
 
--- the names from the eighth on are those of the bytes after the first
+-- The names from the ninth on are those of the bytes after the first one.
 pub set_octets-step : (n : ℕ) → 0 < n → set_octets n ≡ reverse_bits w8 (n % 256) ∷ set_octets (n / 256)
 set_octets-step n some = set_octets-pos n some ∙ by (cases_lt n 256)
   where
@@ -332,7 +332,7 @@ last-set_octets n some =
     let turned_large = turned-pos (last_octet (reverse ds)) below (omega arith) in
     rw e turned_large
 
--- bytes whose last is not zero are those of their set
+-- Bytes whose last one isn't zero are those of their set.
 set_octets-of : (w : List ℕ) → IsOctets w → 0 < last_octet w → set_octets (spelled_set w) ≡ w
 set_octets-of w h some =
     let ds = reverse (turned w) in

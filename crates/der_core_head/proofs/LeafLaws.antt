@@ -1,4 +1,5 @@
--- The contents of a primitive type are of one value, and are read as it.
+-- Lemmas about the contents of leaves: the content of a value decodes to it, and a decoded content
+-- is that of the result.
 use Rattle.std.proofs.lemmas.Bool.Decides.{nat_tests}
 use Rattle.std.proofs.Common.{◌≡◌, ℕ, ◌≤◌, Bool, true, false, List, [], ◌∷◌, length, Result, Ok, Err, refl, ap, subst, arith, ◌<◌, ◌+◌, ◌*◌, ◌-◌, ◌%◌, cond, ltb, eqb, ◌++◌, take, drop, Option, Some, None, inl, inr, ◌≢◌, bytes_eq}
 use Rattle.const_oid.specs.IdentifierOctets.{read_identifier}
@@ -19,7 +20,7 @@ use Rattle.der_core_head.specs.declared.error.ErrorKind.{ErrorKind}
 use Rattle.der_core_head.specs.Tags.{universal_tag, known_tag, digits_at, number_at, tag_at}
 use Rattle.der_core_head.specs.Heads.{Head, length_octets, shortest, length_at, head_at}
 
--- The contents of a bit string are of one value, and are read as it.
+-- A decoded content of a BIT STRING is that of the result.
 bits_sound : (t : Tag) (w : List ℕ) (v : Bits) → IsBytes w → bits_read t w ≡ Ok v → IsBits v × (w ≡ bit_contents v)
 unfolding bits_read
 bits_sound t [] v h e = absurd cc
@@ -33,7 +34,7 @@ bits_again : (t : Tag) (v : Bits) → IsBits v → bits_read t (bit_contents v) 
 unfolding bits_read
 bits_again t v h = cond-true (are_bits v.unused v.octets) (fine v) (Err (kinds.Value t)) h.unused
 
--- a number of unused bits, and bytes
+-- The number of unused bits and the bytes are bytes.
 bit_contents-below : (v : Bits) → IsBits v → IsOctets (bit_contents v)
 bit_contents-below v h = (small v.unused v.octets h.unused, h.octets)
   where
@@ -106,10 +107,10 @@ leaf_below utf8 v h = h.octets
 leaf_below bmp v h = bmp_below v h
 leaf_below (named n) v h = named_below v
 
--- What was read is read before any further bytes, and an error stays the error, unless bytes ran
--- out (X.690 8.1.2, 8.1.3).
+-- Prefixes: more bytes don't change a result, unless the error was `Incomplete` (X.690 8.1.2,
+-- 8.1.3)
 
--- the second is what the first is before more bytes
+-- The second result is the first one, with more bytes after it.
 abbrev pub Stays : {P : Type 0} → List ℕ → Result (P × List ℕ) ErrorKind → Result (P × List ℕ) ErrorKind → Type 0
 Stays more (Ok x) s = s ≡ Ok (x.0, x.1 ++ more)
 Stays more (Err k) s = k ≢ kinds.Incomplete → s ≡ Err k
@@ -154,7 +155,7 @@ shortest_stays more t n ds w =
     let number = number_from_digits 256 ds in
     if_stays more (bytes_eq (length_octets number) (n ∷ ds)) (Ok (number, w)) (Ok (number, w ++ more)) (Err (kinds.Length t)) (Err (kinds.Length t)) refl (λ other. refl)
 
--- where that many bytes stand
+-- The digits of a length, if that many bytes are there.
 abbrev cut : Tag → ℕ → ℕ → List ℕ → Result (ℕ × List ℕ) ErrorKind
 cut t n k w = cond (ltb (length w) k) (Err kinds.Incomplete) (shortest t n (take k w) (drop k w))
 
@@ -179,7 +180,7 @@ pub head_stays : (more w : List ℕ) → Stays more (head_at w) (head_at (w ++ m
 unfolding head_at
 head_stays more w = bind_stays more (tag_at w) _ _ (tag_stays more w) (λ t r. bind_stays more (length_at t r) _ _ (length_stays more t r) (λ n z. refl))
 
--- by what was read, and by the error
+-- Decoded headers, and errors
 
 pub read_stays : (h : Head) (r w more : List ℕ) → head_at w ≡ Ok (h, r) → head_at (w ++ more) ≡ Ok (h, r ++ more)
 read_stays h r w more e = rw e at (head_stays more w)

@@ -1,4 +1,5 @@
--- What is read is spelled, in bytes, and no two values share an encoding.
+-- Lemmas: values with the same encoding are equal (`one_encoding`), and bytes that were decoded are
+-- the encoding of the result.
 use Rattle.std.proofs.Common.{arith, ◌≡◌, ℕ, Bool, true, false, List, [], ◌∷◌, ◌++◌, Some, None, refl, sym, ap, subst, ◌∙◌, inl, inr, bytes_eq, zero, suc, ◌≤◌, cond, ltb, length, take, drop, take_at, Option, Result, Ok, Err, append_assoc, ◌⊎◌, append-nil, take-append-drop, length-take, le-ltb, IfOk}
 use mathlib.Core.Bool.{◌&&◌}
 use Rattle.std.proofs.lemmas.Bool.Decides.{nat_tests}
@@ -28,26 +29,28 @@ use Rattle.der_core_head.specs.Reading.{Gives}
 use Rattle.der_core_head.specs.Limits.{length_max}
 use Rattle.der_core_head.proofs.Written.{valid_goes}
 
--- No encoding begins another, and no two values have one encoding, however many levels a value has.
+-- Part 1: valid values with the same encoding are equal, at any depth of nesting.
 
--- bytes of one of the first tags don't stand where none of these may
+-- Bytes can't begin with one of these tags and also stop before them.
 none_stands : (first : Tag → Bool) (b : List ℕ) → StandsFirst first b → StopsBefore first b → ⊥
 none_stands first b f h =
     let t : Some f.0 ≡ h.0 = ok_is (Some f.0) h.0 (sym (peek_again f.0 f.1 f.3) ∙ ap (peek_at encodings.Der) (sym f.2) ∙ h.1) in
     absurd (cc (h.2, t, f.4))
 
--- nor those of two kinds of first tags that share none
+-- Bytes can't begin both with a first tag of the shape and with one of these tags, if the two have
+-- none in common.
 none_both : (a : Shape) (first : Tag → Bool) (b : List ℕ) → none_of a first ≡ true → StandsFirst (begins a) b → StandsFirst first b → ⊥
 none_both a first b n f g =
     let same = ok_is (f.0, f.1) (g.0, g.1) (sym (tag_again f.0 f.1 f.3) ∙ ap tag_at (sym f.2 ∙ g.2) ∙ tag_again g.0 g.1 g.3) in
     let tag : f.0 ≡ g.0 = ap (λ (x : Tag × List ℕ). x.0) same in
     absurd (false≢true (sym (not_begins a first g.0 n g.4) ∙ ap (begins a) (sym tag) ∙ f.4))
 
--- what two values with what follows them owe
+-- The two values are equal, and so are the two remainders.
 abbrev AreOne : {P : Type 0} → P → P → List ℕ → List ℕ → Type 0
 AreOne v w r t = (v ≡ w) × (r ≡ t)
 
--- each value takes a byte, so two lists end together
+-- If the encodings of two lists are equal, so are the lists. They have the same length because no
+-- encoding is empty. `one` is the same fact for their members.
 one_list : (s : Shape) → (is_element s && is_apart s) ≡ true
     → ((v w : Value s) (r t : List ℕ) → IsValid s v → IsValid s w → Stops s r → Stops s t → octets_of s v ++ r ≡ octets_of s w ++ t → AreOne v w r t)
     → (v w : List (Value s)) → AllByRecursion (IsValid s) v → AllByRecursion (IsValid s) w → flat_map (octets_of s) v ≡ flat_map (octets_of s) w → v ≡ w
@@ -61,6 +64,7 @@ one_list s a one (x ∷ xs) (y ∷ ys) h k e =
     let first = one x y r t h.0 k.0 (stops_element s r element) (stops_element s t element) e in
     cc (first.0, one_list s a one xs ys h.1 k.1 first.1)
 
+-- A value with a default: the default is omitted, and every other value is encoded.
 one_default : (s : Shape) (d : List ℕ) (v w : Value s) (r t : List ℕ) (b c : Bool) → bytes_eq (octets_of s v) d ≡ b → bytes_eq (octets_of s w) d ≡ c
     → StandsFirst (begins s) (octets_of s v) → StandsFirst (begins s) (octets_of s w) → StopsBefore (begins s) r → StopsBefore (begins s) t
     → ((x y : List ℕ) → octets_of s v ++ x ≡ octets_of s w ++ y → AreOne v w x y)
@@ -75,15 +79,20 @@ one_default s d v w r t false true is js f g stops ends one e =
     absurd (none_stands (begins s) (octets_of s v ++ r) (first_more (begins s) (octets_of s v) r f) (subst (StopsBefore (begins s)) (sym e) ends))
 one_default s d v w r t false false is js f g stops ends one e = one r t e
 
+-- Values of any type are equal if their tags and contents are.
 same_any : (v w : AnyValue) → v.tag ≡ w.tag → v.contents ≡ w.contents → v ≡ w
 same_any v w tag contents = rw (← tag, ← contents) refl
 
+-- Pairs are equal if their parts are.
 same_pair : {A B : Type 0} (v w : A × B) → v.0 ≡ w.0 → v.1 ≡ w.1 → v ≡ w
 same_pair v w first second = rw (← first, ← second) refl
 
 mutual
   unfolding octets_of IsValid
 
+  -- If the encodings of two valid values, each followed by a remainder, are the same bytes, the
+  -- values are equal, and so are the remainders. A remainder must not begin with a tag that could
+  -- still belong to the value (`Stops`).
   pub one_encoding : (s : Shape) (v w : Value s) (r t : List ℕ) → is_apart s ≡ true → IsValid s v → IsValid s w → Stops s r → Stops s t
       → octets_of s v ++ r ≡ octets_of s w ++ t → (v ≡ w) × (r ≡ t)
   one_encoding (tagged u c) v w r t a h k o p e =
@@ -119,10 +128,12 @@ mutual
       (λ x y. one_encoding s v w x y (grind (arith, nat_tests)) h k (stops_element s x (grind (arith, nat_tests))) (stops_element s y (grind (arith, nat_tests)))) e
   one_encoding nothing v w r t a h k o p e = (refl, e)
 
+  -- Two valid contents with the same bytes are equal.
   pub one_content : (c : Content) (v w : ContentValue c) → is_content_apart c ≡ true → IsContent c v → IsContent c w → contents c v ≡ contents c w → v ≡ w
   one_content (leaf l) v w a h k e = ok_is v w (sym (leaf_again l tags.Null v h) ∙ ap (leaf_read l tags.Null) e ∙ leaf_again l tags.Null w k)
   one_content (nested b) v w a h k e = one_body b v w a h k e
 
+  -- Two valid bodies with the same bytes are equal.
   pub one_body : (b : Body) (v w : BodyValue b) → is_body_apart b ≡ true → IsBody b v → IsBody b w → body_octets b v ≡ body_octets b w → v ≡ w
   one_body done v w a h k e = refl
   one_body (field s b) v w a h k e =
@@ -135,14 +146,14 @@ mutual
   one_body (few n s) v w a h k e = one_list s a (λ x y r t. one_encoding s x y r t (grind (arith, nat_tests))) v w h.0 k.0 e
   one_body (in_order how s) v w a h k e = one_list s a (λ x y r t. one_encoding s x y r t (grind (arith, nat_tests))) v w h.0 k.0 e
 
--- whatever follows
+-- Elements have one encoding whatever bytes follow.
 pub one_value : (s : Shape) (v w : Value s) (r t : List ℕ) → is_element s ≡ true → is_apart s ≡ true → IsValid s v → IsValid s w
     → octets_of s v ++ r ≡ octets_of s w ++ t → (v ≡ w) × (r ≡ t)
 one_value s v w r t element apart h k e = one_encoding s v w r t apart h k (stops_element s r element) (stops_element s t element) e
 
--- What is read is spelled so.
+-- Part 2: bytes that were decoded are the encoding of the result.
 
--- a part in front, and what the rest is
+-- Three consecutive parts of some bytes.
 pub joined : (a b c rest w : List ℕ) → w ≡ a ++ rest → rest ≡ b ++ c → w ≡ (a ++ b) ++ c
 joined a b c rest w e s = e ∙ ap (λ (x : List ℕ). a ++ x) s ∙ sym (append_assoc a b c)
 
@@ -154,7 +165,7 @@ pub value_sound : {P : Type 0} (F : Readings P) (n : ℕ) (w : List ℕ) (p : P)
 unfolding value_at
 value_sound {P} F n w p r e = (grind (arith, nat_tests), grind (arith, nat_tests), grind (arith, nat_tests))
 
--- a header, and as many bytes as it says, are an encoding
+-- A header and as many bytes as its length are an encoding.
 tlv_is : (t : Tag) (n : ℕ) (c r rest w : List ℕ) → w ≡ head_octets t n ++ rest → length c ≡ n → rest ≡ c ++ r → w ≡ tlv t c ++ r
 unfolding tlv
 tlv_is t n c r rest w e l s = joined (head_octets t (length c)) c r rest w (e ∙ ap (λ k. head_octets t k ++ rest) (sym l)) s
@@ -238,14 +249,14 @@ leaf_at_ok : {P : Type 0} (o : Result P ErrorKind) (v : P) (r : List ℕ) → le
 leaf_at_ok {P} (Ok x) v r e = let same = ok_is (x, []) (v, r) e in (ap (λ (q : P × List ℕ). Ok q.0) same, sym (ap (λ (q : P × List ℕ). q.1) same))
 leaf_at_ok (Err d) v r e = absurd cc
 
--- what a reader of values may answer: a valid value, whose bytes the input begins with
+-- The decoded value is valid, and the bytes are its encoding, followed by the remaining bytes.
 abbrev pub Found : {P : Type 0} → (P → Type 0) → (P → List ℕ) → List ℕ → P → List ℕ → Type 0
 Found V o w v r = V v × (w ≡ o v ++ r)
 
 abbrev pub Finds : {P : Type 0} → Readings P → (P → Type 0) → (P → List ℕ) → Type 0
 Finds {P} F V o = (w : List ℕ) (v : P) (r : List ℕ) → IsBytes w → Fits w → F w ≡ Ok (v, r) → Found V o w v r
 
--- what is read of no more than so many values is found
+-- At most `n` decoded values are valid, and the bytes are their encodings, followed by the rest.
 few_sound : {P : Type 0} (k : ErrorKind) (F : Readings P) (V : P → Type 0) (o : P → List ℕ) → Finds F V o
     → (n : ℕ) (w : List ℕ) (v : List P) (r : List ℕ) → IsBytes w → Fits w → read_many k F n w ≡ Ok (v, r) → Found (λ v. AllByRecursion V v × (length v ≤ n)) (flat_map o) w v r
 unfolding read_many
@@ -277,7 +288,7 @@ exactly_sound {P} F V o each (suc n) w v r bytes fits e =
     subst (λ (q : List P × List ℕ). Found (λ v. AllByRecursion V v × (length v ≡ suc n)) (flat_map o) w q.0 q.1) {x = (x.0.0 ∷ y.0.0, y.0.1)} same
     (((u.0, m.0.0), ap suc m.0.1), joined (o x.0.0) (flat_map o y.0.0) y.0.1 x.0.1 w u.1 m.1)
 
--- values are in order, the first after the bytes before
+-- The encodings are in order, also with the previous one.
 abbrev pub OrderedFrom : {P : Type 0} → Step → (P → List ℕ) → Option (List ℕ) → List P → Type 0
 OrderedFrom how o last [] = ⊤
 OrderedFrom how o None (x ∷ xs) = AllInOrder how o (x ∷ xs)
@@ -310,7 +321,7 @@ pub from_none : {P : Type 0} (how : Step) (o : P → List ℕ) (xs : List P) →
 from_none how o [] h = tt
 from_none how o (x ∷ xs) h = h
 
--- what is read is spelled so
+-- The decoded value is valid, and the bytes are its encoding, followed by the remaining bytes.
 mutual
   unfolding octets_of IsValid unless
 
@@ -371,7 +382,7 @@ mutual
       let h = ordered_sound how (read s room) (IsValid s) (octets_of s) (λ w v r bytes fits e. sound s room w v r (and_parts (is_element s) _ a).1 bytes fits e) None (length w) w v r bytes fits e in
       ((h.0.0, from_none how (octets_of s) v h.0.1), h.1)
 
--- All bytes, as their spelling.
+-- Decoding all bytes
 
 pub is_spelled : {T : Type 0} (s : Shape) (plain : T → Value s) (w : List ℕ) (r : Result T Error) → is_apart s ≡ true → IsBytes w → Gives (λ v. (plain v, [])) r (read_whole s w) → IfOk r (λ v. Spells s (plain v) w)
 unfolding read_whole
@@ -394,9 +405,9 @@ is_read s plain p w (Ok v) a n h e =
     ap (λ (q : Value s × List ℕ). Ok q.0) same
 is_read s plain p w (Err d) a n h e = λ memory. absurd (cc (whole_again s p w a n h, e memory))
 
--- The bytes of a valid value are bytes.
+-- The encoding of a valid value consists of bytes
 
--- the other way to say it
+-- Each number of the list is a byte, at any index.
 pub bytes_are : (w : List ℕ) → IsOctets w → IsBytes w
 bytes_are [] h i = omega arith
 bytes_are (b ∷ w) h zero = h.0

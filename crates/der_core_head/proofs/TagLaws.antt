@@ -1,4 +1,4 @@
--- Tags: their bytes, their numbers, when two are one.
+-- Lemmas about tags: their encodings, their numbers, and equal tags.
 use Rattle.std.proofs.lemmas.Bool.Decides.{nat_tests}
 use Rattle.std.proofs.Common.{◌≡◌, ℕ, ◌+◌, ◌*◌, ◌/◌, ◌%◌, ◌<◌, ◌≤◌, Bool, true, false, cond, ltb, eqb, List, [], ◌∷◌, ◌++◌, length, get_or, Option, Some, None, Ok, sym, refl, ap, subst, ◌∙◌, arith, ◌⊎◌, inl, inr, find, drop, Err, ◌≢◌}
 use Rattle.std.proofs.lemmas.Bool.{cases_lt, cases_eq, lt-ltb, le-ltb, eq-eqb, ne_eqb, eqb-true, and_parts, and_from}
@@ -14,14 +14,15 @@ use Rattle.der_core_head.proofs.Results.{fine, ok_is, bind_ok, IsBytes, bytes_ta
 use Rattle.std.proofs.lemmas.List.{drop_all, drop_more}
 use Rattle.der_core_head.specs.declared.error.ErrorKind.TheVariants as kinds
 
--- A tag is read from its bytes, and what is read has these bytes (X.690 8.1.2).
+-- The encoding of a tag decodes to it, and a decoded tag is the encoding of the result (X.690
+-- 8.1.2)
 
--- The parts of a leading byte
+-- The parts of a first byte
 
 low-lt : (n : ℕ) → low_bits n < 32
 low-lt n = grind (arith, nat_tests)
 
--- the class, whether it is constructed, and the low bits
+-- The class, the bit of the constructed form, and the five bits of the number.
 record Parts (k : ℕ) (c : Bool) (n octet : ℕ) : Type 0 where
   pub class : octet / 64 ≡ k
   pub constructed : eqb ((octet / 32) % 2) 1 ≡ c
@@ -31,11 +32,11 @@ leading-Parts : (class : ℕ) (c : Bool) (low : ℕ) → low < 32 → Parts clas
 leading-Parts class true low l = record { class = omega arith; constructed = eq-eqb _ 1 (omega arith); low = omega arith }
 leading-Parts class false low l = record { class = omega arith; constructed = ne_eqb _ 1 (λ e. omega arith); low = omega arith }
 
--- the byte of these parts
+-- The first byte is determined by its parts.
 leading-from_parts : (octet : ℕ) → leading (octet / 64) (eqb ((octet / 32) % 2) 1) (octet % 32) ≡ octet
 leading-from_parts octet = grind (arith, nat_tests)
 
--- The tag of a class, and its parts
+-- Tags of a class
 
 leading-class_tag : (class : ℕ) (c : Bool) (n : ℕ) → 0 < class → class < 4 → leading_octet (class_tag class c n) ≡ leading class c (low_bits n)
 leading-class_tag class c n p q = grind (arith, nat_tests)
@@ -43,9 +44,9 @@ leading-class_tag class c n p q = grind (arith, nat_tests)
 number-class_tag : (class : ℕ) (c : Bool) (n : ℕ) → number_of (class_tag class c n) ≡ n
 number-class_tag class c n = grind (arith, nat_tests)
 
--- Numbers that take bytes of their own
+-- Numbers after the first byte
 
--- digits, marked, are read after those of m
+-- Marked digits decode to the value that they have after digits of value `m`.
 digits_again : (m : ℕ) (ds r : List ℕ) → AllBelowBase 128 ds → 0 < length ds → number_from_digits_after 128 m ds < 4294967296
     → digits_at m (marked ds ++ r) ≡ Ok (number_from_digits_after 128 m ds, r)
 unfolding digits_at marked
@@ -60,7 +61,7 @@ digits_again m (d ∷ e ∷ ds) r all l h =
     let fits : m * 128 + d < 4294967296 = omega (arith, number_after_ge 128 (m * 128 + d) (e ∷ ds) (omega arith)) in
     rw (same, lt-ltb (m * 128 + d) 4294967296 fits, le-ltb (128 + d) 128 (omega arith)) (digits_again (m * 128 + d) (e ∷ ds) r all.1 (omega arith) h)
 
--- the digits of a number from 31, marked, are read as that number
+-- The marked digits of a number of 31 or more decode to it.
 pub number_again : (n : ℕ) (r : List ℕ) → 31 ≤ n → n < 4294967296 → number_at (marked (digits 128 n) ++ r) ≡ Ok (n, r)
 unfolding number_at marked
 number_again n r large l = go (digits 128 n) (digits-Digits 128 n (omega arith)) (first_of_digits-pos 128 n (omega arith) (omega arith))
@@ -73,7 +74,7 @@ number_again n r large l = go (digits 128 n) (digits-Digits 128 n (omega arith))
     go (a ∷ b ∷ ds) d h =
         rw (ne_eqb (128 + a) 128 (λ e. omega arith), digits_again 0 (a ∷ b ∷ ds) r d.below d.some (omega arith), d.number, le-ltb n 31 large) refl
 
--- what digits were read after those of m
+-- `ds` are the digits that were decoded after digits of value `m`.
 record Read (m : ℕ) (w : List ℕ) (n : ℕ) (r ds : List ℕ) : Type 0 where
   pub below : AllBelowBase 128 ds
   pub some : 0 < length ds
@@ -110,7 +111,7 @@ digits_sound m (d ∷ w) n r bytes e =
           fits = i.fits;
         }
 
--- what is read as a number is its digits, marked, and what follows
+-- A decoded number is its marked digits, followed by the remaining bytes.
 pub number_sound : (w : List ℕ) (n : ℕ) (r : List ℕ) → IsBytes w → number_at w ≡ Ok (n, r)
     → (w ≡ marked (digits 128 n) ++ r) × (31 ≤ n) × (n < 4294967296)
 unfolding number_at marked
@@ -129,7 +130,7 @@ number_sound (d ∷ w) n r bytes e =
 
 -- Tags
 
--- a tag of another class than the universal one, with its number in the byte or after it
+-- A tag that isn't universal, with its number in the first byte or after it.
 tag_at-low : (octet class : ℕ) (c : Bool) (n : ℕ) (w : List ℕ) → Parts class c n octet → 64 ≤ octet → n < 31
     → tag_at (octet ∷ w) ≡ Ok (class_tag class c n, w)
 unfolding tag_at
@@ -153,7 +154,7 @@ class_again class c n r some fits =
       | inr l ↦ rw (le-ltb n 31 l) (tag_at-high _ class c n _ r (leading-Parts class c 31 (omega arith)) (leading-ge class c 31 some) (number_again n r l fits))
     ]
 
--- the bytes of a tag, and what follows, are read as that tag
+-- The encoding of a tag decodes to it, whatever follows it.
 pub tag_again : (t : Tag) (r : List ℕ) → IsTag t → tag_at (tag_octets t ++ r) ≡ Ok (t, r)
 unfolding tag_octets tag_at universal_tag
 tag_again (tags.Application c number) r h = class_again 1 c number.value r (omega arith) h
@@ -161,7 +162,7 @@ tag_again (tags.ContextSpecific c number) r h = class_again 2 c number.value r (
 tag_again (tags.Private c number) r h = class_again 3 c number.value r (omega arith) h
 tag_again t r h = refl
 
--- a tag below 64 is universal, and its byte is all
+-- A tag whose first byte is below 64 is universal and has only this byte.
 below_universal : (t : Tag) → leading_octet t < 64 → (tag_octets t ≡ leading_octet t ∷ []) × IsTag t
 unfolding tag_octets
 below_universal (tags.Application c number) l = absurd (omega (arith, leading-ge 1 c (low_bits number.value)))
@@ -169,12 +170,12 @@ below_universal (tags.ContextSpecific c number) l = absurd (omega (arith, leadin
 below_universal (tags.Private c number) l = absurd (omega (arith, leading-ge 3 c (low_bits number.value)))
 below_universal t l = (refl, omega arith)
 
--- what is found passes the test
+-- An element that is found passes the test.
 find_passes : {X : Type 0} (p : X → Bool) (xs : List X) (x : X) → find p xs ≡ Some x → p x ≡ true
 find_passes p [] x e = absurd cc
 find_passes p (y ∷ xs) x e = grind (arith, nat_tests, find_passes p xs x)
 
--- the tag found for a byte has that byte alone
+-- The universal tag of a byte has this byte as its encoding.
 universal_sound : (octet : ℕ) (t : Tag) → octet < 64 → universal_tag octet ≡ Some t → (tag_octets t ≡ octet ∷ []) × IsTag t
 unfolding universal_tag
 universal_sound octet t l e =
@@ -182,7 +183,7 @@ universal_sound octet t l e =
     let universal = below_universal t (omega arith) in
     (universal.0 ∙ ap (λ x. x ∷ []) same, universal.1)
 
--- a tag made of a byte and a number has that byte, and the bytes of the number
+-- A tag that is made from a first byte and a number has the encoding that begins with this byte.
 class_sound : (octet n : ℕ) (w r : List ℕ) (t : Tag) → 64 ≤ octet → octet < 256 → n < 4294967296 → low_bits n ≡ octet % 32 → w ≡ number_octets n ++ r
     → class_tag (octet / 64) (eqb ((octet / 32) % 2) 1) n ≡ t → (octet ∷ w ≡ tag_octets t ++ r) × IsTag t
 unfolding tag_octets
@@ -196,7 +197,7 @@ class_sound octet n w r t large small fits low e same =
     let number : number_of (class_tag class c n) < 4294967296 = rw (number-class_tag class c n) fits in
     subst (λ t. (octet ∷ w ≡ tag_octets t ++ r) × IsTag t) same (octets, number)
 
--- what is read as a tag is its bytes and what follows
+-- A decoded tag is the encoding of the result, followed by the remaining bytes.
 pub tag_sound : (w : List ℕ) (t : Tag) (r : List ℕ) → IsBytes w → tag_at w ≡ Ok (t, r) → (w ≡ tag_octets t ++ r) × IsTag t
 unfolding tag_at
 tag_sound [] t r bytes e = absurd cc
@@ -239,12 +240,12 @@ tag_sound (octet ∷ w) t r bytes e =
         let rest : w ≡ r = ap (λ (q : Tag × List ℕ). q.1) same in
         class_sound octet (octet % 32) w r t large small (omega arith) (rw room refl) (rw room rest) (ap (λ (q : Tag × List ℕ). q.0) same)
 
--- Tags with the same bytes
+-- Tags with the same encoding
 
 pub same_tag-refl : (t : Tag) → same_tag t t ≡ true
 same_tag-refl t = and_from _ _ (eq-eqb (leading_octet t) (leading_octet t) refl) (eq-eqb (number_of t) (number_of t) refl)
 
--- the tag with that leading byte and number
+-- The tag with this first byte and this number.
 tag_of : ℕ → ℕ → Option Tag
 tag_of octet n = cond (ltb octet 64) (universal_tag octet) (Some (class_tag (octet / 64) (eqb ((octet / 32) % 2) 1) n))
 
@@ -291,7 +292,7 @@ tag_octets-below (tags.ContextSpecific c number) h = (leading-lt 2 c _ (omega ar
 tag_octets-below (tags.Private c number) h = (leading-lt 3 c _ (omega arith) (low-lt number.value), number_octets-below number.value)
 tag_octets-below t h = (omega arith, tt)
 
--- The forms of a tag, by the size of its number (X.690 8.1.2).
+-- The forms of a tag, by the size of its number (X.690 8.1.2)
 
 digits-2 : (n : ℕ) → 128 ≤ n → n < 16384 → digits 128 n ≡ n / 128 ∷ n % 128 ∷ []
 digits-2 n l h = rw (digits-more 128 n (omega arith) l, digits-one 128 (n / 128) (omega arith)) refl
@@ -347,7 +348,7 @@ tag-5 t l h = long t _ (omega arith) (digits-5 (number_of t) l h)
 
 pub ruleset tag_forms = (tag-0, tag-1, tag-2, tag-3, tag-4, tag-5)
 
--- The number of a tag, byte by byte.
+-- The number of a tag, byte by byte
 
 abbrev next : ℕ → ℕ → ℕ
 next n d = 128 * n + d % 128
@@ -372,7 +373,7 @@ number-none n i w h = rw (drop_all i w h) refl
 
 pub ruleset digit_steps = (number-past, number-more, number-last, number-none)
 
--- Tags with the same bytes are the same tag.
+-- Tags with the same encoding are equal
 
 pub other : (a b : Tag) → same_tag a b ≡ false → a ≢ b
 other a b differ e = absurd (grind (arith, same_tag-refl a))

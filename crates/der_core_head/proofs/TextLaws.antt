@@ -1,4 +1,5 @@
--- Contents of texts and of dates: each is of one value, and read as it.
+-- Lemmas about the contents of texts and of dates: the content of a value decodes to it, and a
+-- decoded content is that of the result.
 use Rattle.std.proofs.lemmas.Bool.Decides.{nat_tests}
 use Rattle.std.proofs.Common.{◌≡◌, ℕ, zero, suc, ◌<◌, Bool, true, refl, List, [], ◌∷◌, Ok, Err, subst, arith, ⊎_elim, ◌==◌, nat_lt, ◌+◌, ◌*◌, ◌/◌, ◌%◌, ap, sym, ◌∙◌, ◌&&◌, false, ◌≤◌, ◌++◌, Option, Some, None, option_and_then}
 use Rattle.std.specs.List.{list_all, list_any}
@@ -15,7 +16,7 @@ use Rattle.std.proofs.lemmas.Str.{IsUtf8-from_is_utf8, is_utf8-from_IsUtf8}
 use Rattle.std.proofs.lemmas.Option.{option_and_then_some, same_Some}
 use Rattle.der_core_head.specs.Dates.{Civil, days_in_month, is_civil, two_digits, after_year, utc_octets, generalized_octets, full_year, digit_at, two_at, zulu, civil_at, or_value, utc_read, generalized_read, IsUtc}
 
--- The contents of a character string are read as it.
+-- Character strings
 
 pub text_sound : (r : Repertoire) (t : Tag) (w v : List ℕ) → IsBytes w → text_read r t w ≡ Ok v → IsText r v × (w ≡ v)
 unfolding text_read
@@ -55,12 +56,12 @@ all_ascii p [] below e i = omega arith
 all_ascii p (b ∷ w) below e zero = below b (and_parts (p b) (list_all p w) e).0
 all_ascii p (b ∷ w) below e (suc i) = all_ascii p w below (and_parts (p b) (list_all p w) e).1 i
 
--- The contents of a BMPString are of one value, and are read as it.
+-- BMPString
 
 unit_below : (u : ℕ) → is_unit u ≡ true → u < 65536
 unit_below u e = grind (arith, nat_tests)
 
--- pairs of bytes are those of their characters
+-- Pairs of bytes are the encoding of their characters.
 pub bmp_octets-units : (w : List ℕ) → IsOctets w → are_pairs w ≡ true → bmp_octets (units w) ≡ w
 unfolding bmp_octets
 bmp_octets-units [] h e = refl
@@ -102,7 +103,7 @@ pub bmp_again : (t : Tag) (us : List ℕ) → IsBmp us → bmp_read t (bmp_octet
 unfolding bmp_read
 bmp_again t us h = grind (arith, nat_tests, units-octets us, are_pairs-octets us)
 
--- What reading bytes as UTF-8 gives.
+-- UTF-8
 
 pub is_text : (w : List ℕ) → IsUtf8 w → is_utf8 w ≡ true
 is_text = is_utf8-from_IsUtf8
@@ -120,7 +121,7 @@ utf8_read-err w h = rw (is_none w h) refl
 
 pub ruleset utf8_reads = (is_text, utf8_read-ok, utf8_read-err)
 
--- The contents of a date are of one date, and are read as it.
+-- Dates
 
 -- Two digits
 
@@ -151,7 +152,7 @@ two_at-sound _ p e = absurd cc
 two_digits_below : (n : ℕ) (w : List ℕ) → n < 100 → IsOctets w → IsOctets (two_digits n ++ w)
 two_digits_below n w l h = (omega arith, (omega arith, h))
 
--- What a date tells of its parts
+-- The ranges of a date's parts
 
 days_in_month-le : (y m : ℕ) → days_in_month y m ≤ 31
 days_in_month-le y m = grind (arith, nat_tests)
@@ -178,7 +179,7 @@ civil_ranges c e =
       second = grind (arith, nat_tests);
     }
 
--- What follows the year
+-- The bytes after the year
 
 pub zulu-sound : (c : Civil) (w : List ℕ) (d : Civil) → zulu c w ≡ Some d → (c ≡ d) × (is_civil c ≡ true) × (w ≡ 90 ∷ [])
 zulu-sound c (z ∷ []) d e = grind (arith, nat_tests)
@@ -230,7 +231,7 @@ full_year-again y low high = grind (arith, nat_tests)
 full_year-sound : (n : ℕ) → n < 100 → (full_year n % 100 ≡ n) × (full_year n ≤ 2049)
 full_year-sound n l = grind (arith, nat_tests)
 
--- The types
+-- UTCTime and GeneralizedTime
 
 pub utc_sound : (t : Tag) (w : List ℕ) (c : Civil) → utc_read t w ≡ Ok c → IsUtc c × (w ≡ utc_octets c)
 unfolding utc_read utc_octets

@@ -1,4 +1,5 @@
--- What is written of a value is its encoding, and has one where its parts are in range.
+-- Lemmas about encoding to a writer: the written bytes are the encoding of the value, which is
+-- valid if its parts are in their ranges.
 use Rattle.std.proofs.lemmas.Bool.Decides.{nat_tests}
 use Rattle.std.proofs.Common.{◌≡◌, ℕ, ◌+◌, Bool, true, false, List, [], ◌∷◌, ◌++◌, length, Some, None, Result, Ok, Err, refl, sym, ap, ◌∙◌, append_assoc, arith, inl, inr, ◌-◌, Option, nat_lt, if◌then◌else◌, le-ltb, append-nil, length-append, bytes_eq, IfOk}
 use Rattle.std.specs.List.{flat_map, AllByRecursion}
@@ -23,9 +24,9 @@ use Rattle.std.specs.Bool.{⊤}
 use Rattle.der_core_head.specs.Grammar.{follows}
 use Rattle.der_core_head.proofs.Complete.{complete_element}
 
--- What is written is what spells the value.
+-- Writing a valid value
 
--- a number that a length may be
+-- A number of bytes, if it is a length.
 abbrev pub count : ℕ → Result ℕ ErrorKind
 count n = if nat_lt length_max n then Err kinds.Overflow else Ok n
 
@@ -60,7 +61,7 @@ default_counted b w = grind (arith, nat_tests)
 pub fit_counted : (n : ℕ) → fit_len n ≡ count n
 fit_counted n = ap count (omega arith)
 
--- the size of a value is the number of its bytes, if that is a length
+-- The size of a value is the length of its encoding, or `Overflow`.
 mutual
   unfolding octets_of
 
@@ -87,7 +88,7 @@ mutual
   body_counted (few n s) v = all_counted (size s) (octets_of s) (λ x. counted s x) v
   body_counted (in_order how s) v = all_counted (size s) (octets_of s) (λ x. counted s x) v
 
--- so it is where the value is valid
+-- The size of a valid value.
 pub sized : (s : Shape) (v : Value s) → IsValid s v → size s v ≡ Ok (length (octets_of s v))
 sized s v h = counted s v ∙ count_ok (length (octets_of s v)) (valid_fits s v h)
 
@@ -97,7 +98,7 @@ sized_content c v h fits = content_counted c v ∙ count_ok (length (contents c 
 pub sized_body : (b : Body) (v : BodyValue b) → IsBody b v → Fits (body_octets b v) → size_body b v ≡ Ok (length (body_octets b v))
 sized_body b v h fits = body_counted b v ∙ count_ok (length (body_octets b v)) fits
 
--- a writer without a limit
+-- The state of a writer without a limit.
 abbrev pub out : List ℕ → Out
 out a = record { written = a; room = None; failed = false }
 
@@ -105,7 +106,7 @@ pub put_is : (b a : List ℕ) → put b (out a) ≡ Ok (out (a ++ b))
 unfolding put
 put_is b a = refl
 
--- bytes one after another, or at once
+-- Writing bytes in two calls or in one.
 in_two : (a b w : List ℕ) (r : Option ℕ) (f : Bool) → (put a (record { written = w; room = r; failed = f }) >>= put b) ≡ put (a ++ b) (record { written = w; room = r; failed = f })
 unfolding put
 in_two a b w r true = refl
@@ -115,7 +116,7 @@ in_two a b w (Some r) false = grind (arith, nat_tests, append_assoc w a b, lengt
 pub put-append : (a b : List ℕ) (o : Out) → (put a o >>= put b) ≡ put (a ++ b) o
 put-append a b o = in_two a b o.written o.room o.failed
 
--- members in order follow one another
+-- Members in order pass the check of the order.
 pub members_follow : {P : Type 0} (how : Step) (w : P → List ℕ) (x : P) (xs : List P) → AllInOrder how w (x ∷ xs) → all_follow how w (Some (w x)) xs ≡ Ok tt
 members_follow how w x [] h = refl
 members_follow how w x (y ∷ xs) h = rw (follows_ok how (w x) (w y) h.0) (members_follow how w y xs h.1)
@@ -127,14 +128,13 @@ order_followed how w (x ∷ xs) h = members_follow how w x xs h
 bind-ok : (r : Result Out ErrorKind) → (r >>= λ z. Ok z) ≡ r
 bind-ok r = grind (arith, nat_tests)
 
--- a set in order is written as its members are
+-- A set in order is written as its members are.
 pub ordered_written : {P : Type 0} (how : Step) (f : P → Out → Result Out ErrorKind) (w : P → List ℕ) (xs : List P) (o : Out) → AllInOrder how w xs → write_in_order how f w xs o ≡ write_many f xs o
 ordered_written how f w xs o h = rw (order_followed how w xs h) (bind-ok (write_many f xs o))
 
--- What is written of a valid value are its bytes, whatever room the writer has, and whether it
--- failed or not; and its parts are in their ranges
+-- Writing to a writer with a limit, or one that has failed
 
--- a writer that has written did not fail
+-- A writer that has written bytes hadn't failed.
 has_written : (a w : List ℕ) (room : Option ℕ) (failed : Bool) (x : Out) → put a (record { written = w; room = room; failed = failed }) ≡ Ok x → x.failed ≡ false
 unfolding put
 has_written a w room failed x e = grind (arith, nat_tests)
@@ -146,7 +146,7 @@ put-then a o f g same = go (put a o) (has_written a o.written o.room o.failed)
     go (Ok x) h = same x (h x refl)
     go (Err e) h = refl
 
--- bytes, where there are any
+-- Writes bytes, if there are any.
 abbrev pub put_some : List ℕ → Out → Result Out ErrorKind
 put_some [] o = Ok o
 put_some (b ∷ w) o = put (b ∷ w) o
@@ -156,7 +156,7 @@ unfolding put
 same_out w None = ap (λ (x : List ℕ). Ok (record { written = x; room = None; failed = false })) (append-nil w)
 same_out w (Some n) = let all : n - 0 ≡ n = omega arith in rw (le-ltb n 0 (omega arith), all, append-nil w) refl
 
--- a writer that did not fail takes no bytes, too
+-- If the writer hasn't failed, writing no bytes succeeds, too.
 pub put_some-put : (b : List ℕ) (o : Out) → o.failed ≡ false → put_some b o ≡ put b o
 put_some-put [] o e = sym (ap (λ f. put [] (record { written = o.written; room = o.room; failed = f })) e ∙ same_out o.written o.room ∙ ap (λ f. Ok (record { written = o.written; room = o.room; failed = f })) (sym e))
 put_some-put (x ∷ b) o e = refl
@@ -169,7 +169,7 @@ put_some-append [] b o = refl
 put_some-append (x ∷ a) [] o = bind-ok (put (x ∷ a) o) ∙ ap (λ (w : List ℕ). put (x ∷ w) o) (sym (append-nil a))
 put_some-append (x ∷ a) (y ∷ b) o = put-append (x ∷ a) (y ∷ b) o
 
--- a header and a content
+-- A header and a content.
 tlv_put : (t : Tag) (c : List ℕ) (n : Result ℕ ErrorKind) (f : Out → Result Out ErrorKind) (o : Out) → Fits (tlv t c) → n ≡ Ok (length c) → ((x : Out) → x.failed ≡ false → f x ≡ put c x)
     → write_tlv t n f o ≡ put_some (tlv t c) o
 unfolding write_tlv put_head tlv head_octets
@@ -187,7 +187,7 @@ unfolding default_write unless
 default_put true w f o e = refl
 default_put false w f o e = e
 
--- bytes that are written, whatever wrote them, of what is in its range
+-- The function writes these bytes, for a value in its range.
 abbrev Goes : (Out → Result Out ErrorKind) → List ℕ → Type 0 → Type 0
 Goes f w R = IsOctets w × R × ((o : Out) → f o ≡ put_some w o)
 
@@ -254,14 +254,14 @@ put_content c v o e h = (content_goes c v h).2 o e
 pub put_body : (b : Body) (v : BodyValue b) (o : Out) → IsBody b v → write_body b v o ≡ put_some (body_octets b v) o
 put_body b v o h = (body_goes b v h).2 o
 
--- into a writer without a limit
+-- Writing to a writer without a limit.
 put_out : (b a : List ℕ) → put_some b (out a) ≡ Ok (out (a ++ b))
 put_out b a = put_some-put b (out a) refl ∙ put_is b a
 
 pub written : (s : Shape) (v : Value s) (a : List ℕ) → IsValid s v → write s v (out a) ≡ Ok (out (a ++ octets_of s v))
 written s v a h = put_written s v (out a) h ∙ put_out (octets_of s v) a
 
--- What is too long to be counted isn't written, and is rejected alike.
+-- A value whose length isn't valid isn't written; the error is that of its size.
 tlv_unsized : (t : Tag) (n : Result ℕ ErrorKind) (f : Out → Result Out ErrorKind) (o : Out) (k : ErrorKind) → tlv_len t n ≡ Err k → write_tlv t n f o ≡ Err k
 unfolding tlv_len head_len write_tlv put_head
 tlv_unsized t (Ok n) f o k e = rw e refl
@@ -284,24 +284,23 @@ unsized (optional s) (Some v) o k e = unsized s v o k e
 unsized (defaulted s d) v o k e = default_unsized (bytes_eq (octets_of s v) d) (size s v) (write s v) o k (unsized s v o k) e
 unsized nothing v o k e = absurd cc
 
--- what a call answered that wrote into nothing
+-- The result of a call that encodes to an empty writer.
 pub is_written : {T : Type 0} (s : Shape) (v : Value s) (items : T → List ℕ) (r : Result T Error) → IsValid s v
     → Gives (λ x. out (items x)) r (write s v (out [])) → Gives items r (Ok (octets_of s v))
 is_written s v items (Ok x) h e = ap (λ (w : List ℕ). Ok w) (ap (λ (o : Out). o.written) (ok_is (out (octets_of s v)) (out (items x)) (sym (written s v [] h) ∙ e)))
 is_written s v items (Err d) h e = λ memory. absurd (cc (written s v [] h, e memory))
 
--- What an Ok of a call counted or wrote are the bytes of the value, whether it is valid or not, and
--- what was written is valid where its parts are in their ranges.
+-- Successful calls: the written bytes are the encoding, whether or not the value is valid
 
--- an Ok is the number of these bytes, and a length can count them
+-- If the size is returned, it is the length of the encoding, and at most `length_max`.
 pub counts_octets : (s : Shape) (v : Value s) (n : ℕ) → size s v ≡ Ok n → (n ≡ length (octets_of s v)) × Fits (octets_of s v)
 counts_octets s v n e = grind (arith, nat_tests, counted s v)
 
--- what was written can be counted
+-- The number of written bytes is at most `length_max`.
 pub writes_fitting : (s : Shape) (v : Value s) (o z : Out) → write s v o ≡ Ok z → Fits (octets_of s v)
 writes_fitting s v o z e = grind (arith, nat_tests, counted s v, unsized s v o kinds.Overflow)
 
--- an Ok has these bytes after what was written before, and what was in range is valid
+-- The function appends these bytes, and a value in its range is valid.
 abbrev Does : (Out → Result Out ErrorKind) → List ℕ → Type 0 → Type 0 → Type 0
 Does f w R V = (o z : Out) → f o ≡ Ok z → (z.written ≡ o.written ++ w) × (R → V)
 
@@ -343,7 +342,7 @@ pub many_done : {P : Type 0} (f : P → Out → Result Out ErrorKind) (w : P →
 many_done f w R V each [] = none_done
 many_done f w R V each (x ∷ xs) = two_done (f x) (write_many f xs) (w x) (flat_map w xs) (R x) (AllByRecursion R xs) (V x) (AllByRecursion V xs) (each x) (many_done f w R V each xs)
 
--- of so many members as there must be
+-- A list that was written is valid if it also has the required number of members.
 so_many : {R V X : Type 0} (f : Out → Result Out ErrorKind) (w : List ℕ) → Does f w R V → Does f w (R × X) (V × X)
 so_many f w inner o z e = let p = inner o z e in (p.0, λ r. (p.1 r.0, r.1))
 
@@ -357,7 +356,7 @@ all_in_order : {P : Type 0} (how : Step) (w : P → List ℕ) (xs : List P) (y :
 all_in_order how w [] y e = tt
 all_in_order how w (x ∷ xs) y e = follow_all how w x xs y e
 
--- a set that was written is in order
+-- A set that was written is in order.
 ordered_done : {P : Type 0} (how : Step) (f : P → Out → Result Out ErrorKind) (w : P → List ℕ) (R V : P → Type 0) → ((x : P) → Does (f x) (w x) (R x) (V x))
     → (xs : List P) → Does (write_in_order how f w xs) (flat_map w xs) (AllByRecursion R xs) (AllByRecursion V xs × AllInOrder how w xs)
 ordered_done how f w R V each xs o z e =
@@ -404,7 +403,7 @@ writes_octets s v o z e = (wrote s v o z e).0
 pub writes_contents : (c : Content) (v : ContentValue c) (o z : Out) → write_content c v o ≡ Ok z → z.written ≡ o.written ++ contents c v
 writes_contents c v o z e = (wrote_content c v o z e).0
 
--- what a call answered that wrote into nothing
+-- The result of a call that encodes to an empty writer.
 pub ok_octets : {T : Type 0} (s : Shape) (v : Value s) (items : T → List ℕ) (r : Result T Error) → Gives (λ x. record { written = items x; room = None; failed = false }) r (write s v (record { written = []; room = None; failed = false }))
     → IfOk r (λ x. (items x ≡ octets_of s v) × Fits (items x))
 ok_octets s v items (Ok x) e =
@@ -412,7 +411,7 @@ ok_octets s v items (Ok x) e =
     (same, omega (arith, ap length same, writes_fitting s v (out []) (out (items x)) e))
 ok_octets s v items (Err d) e = tt
 
--- What was written is valid, where its parts are in their ranges, and these are where it is valid.
+-- A value that was written is valid exactly if its parts are in their ranges
 
 pub written_valid : (s : Shape) (v : Value s) (o z : Out) → write s v o ≡ Ok z → IsInRange s v → IsValid s v
 written_valid s v o z e h = (wrote s v o z e).1 h
@@ -420,7 +419,7 @@ written_valid s v o z e h = (wrote s v o z e).1 h
 pub content_valid : (c : Content) (v : ContentValue c) (o z : Out) → write_content c v o ≡ Ok z → IsContentInRange c v → IsContent c v
 content_valid c v o z e h = (wrote_content c v o z e).1 h
 
--- the members of what was written one after another
+-- The members of a list that was written.
 pub list_valid : (s : Shape) (v : List (Value s)) (o z : Out) → write_many (write s) v o ≡ Ok z → AllByRecursion (λ x. IsInRange s x) v → AllByRecursion (λ x. IsValid s x) v
 list_valid s v o z e h = (many_done (write s) (octets_of s) (λ x. IsInRange s x) (λ x. IsValid s x) (λ x. wrote s x) v o z e).1 h
 

@@ -1,6 +1,6 @@
--- Values under a bound of arcs: what has an encoding where one bound is in place of those that a
--- shape states, and the identifiers that a value holds. Neither plain values nor bytes depend on
--- the bounds in a shape, so one value is judged under any bound.
+-- Valid values under another bound of arcs than the one that the shape has, and the object
+-- identifiers of a value. Abstract values and encodings don't depend on the bounds in a shape, so a
+-- value can be examined under any bound.
 use Rattle.std.specs.Prelude.{◌≡◌, ℕ, ◌<◌, ◌≤◌, List, [], ◌∷◌, ◌++◌, length, Some, None, flat_map}
 use Rattle.std.specs.Prelude.{Contains, ⊤}
 use Rattle.std.proofs.Common.{inl, inr}
@@ -15,13 +15,14 @@ use Rattle.der_core_head.specs.Shapes.{defaulted, nothing, leaf, nested, done, f
 use Rattle.der_core_head.specs.Shapes.{exactly, few, in_order, Value, ContentValue, BodyValue}
 use Rattle.der_core_head.specs.Shapes.{octets_of, contents, AllInOrder}
 
+-- A leaf is valid if this bound of arcs is taken in place of its own.
 abbrev pub IsLeafUnder : ℕ → (l : Leaf) → LeafValue l → Type 0
 IsLeafUnder bound (identifier own capacity) v = IsIdentifier bound v
     × (length (identifier_octets v) ≤ capacity)
 IsLeafUnder bound other v = IsLeafValue other v
 
--- what has an encoding where the arcs of each identifier are below this bound, whatever bound the
--- shape states
+-- A value is valid if this bound of arcs is taken for each object identifier in place of the
+-- shape's own bound.
 unfoldable mutual
   pub IsValidUnder : ℕ → (s : Shape) → Value s → Type 0
   IsValidUnder bound (tagged t c) v = IsContentUnder bound c v × IsTag t
@@ -49,11 +50,12 @@ unfoldable mutual
   IsBodyUnder bound (in_order how s) v = AllByRecursion (λ x. IsValidUnder bound s x) v
       × AllInOrder how (λ x. octets_of s x) v
 
--- a shape states this bound of arcs, and no other
+-- The shape has this bound of arcs, and no other.
 abbrev pub IsLeafOf : ℕ → Leaf → Type 0
 IsLeafOf bound (identifier own capacity) = own ≡ bound
 IsLeafOf bound other = ⊤
 
+-- The shape has this bound of arcs for all its identifiers, and no other.
 abbrev mutual
   pub IsOf : ℕ → Shape → Type 0
   IsOf bound (tagged t c) = IsContentOf bound c
@@ -76,8 +78,8 @@ abbrev mutual
   IsBodyOf bound (few n s) = IsOf bound s
   IsBodyOf bound (in_order how s) = IsOf bound s
 
--- the identifiers that a value holds, each as its arcs, in the order of its bytes; what stands
--- inside `any` isn't looked into
+-- The object identifiers of a value, as lists of arcs, in the order of its encoding. Identifiers
+-- inside `any` aren't included.
 abbrev pub leaf_identifiers : (l : Leaf) → LeafValue l → List (List ℕ)
 leaf_identifiers (identifier bound capacity) v = v ∷ []
 leaf_identifiers other v = []
@@ -106,12 +108,12 @@ unfoldable mutual
   body_identifiers (few n s) v = flat_map (λ x. identifiers_of s x) v
   body_identifiers (in_order how s) v = flat_map (λ x. identifiers_of s x) v
 
--- every arc of some identifiers is below a bound
+-- Each arc of these identifiers is below the bound.
 abbrev pub AreBelow : ℕ → List (List ℕ) → Type 0
 AreBelow bound identifiers =
     AllByRecursion (λ arcs. AllByRecursion (λ n. n < bound) arcs) identifiers
 
--- one of them has an arc that isn't
+-- One of these identifiers has an arc that isn't below the bound.
 abbrev pub HoldsLarge : ℕ → List (List ℕ) → Type 0
 HoldsLarge bound identifiers = (arcs : List ℕ) × (n : ℕ) × Contains identifiers arcs
     × Contains arcs n × (bound ≤ n)

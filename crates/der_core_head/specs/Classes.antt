@@ -5,13 +5,13 @@ use Rattle.der_core_head.specs.declared.class.Class.TheVariants as classes
 use Rattle.der_core_head.specs.declared.tag.Tag.{Tag}
 use Rattle.der_core_head.specs.Tags.{leading_octet}
 
--- the two bits of a class, as a number
+-- The number of a class, which has two bits.
 abbrev pub class_number : Class → ℕ
 class_number classes.Universal = 0
 class_number classes.Application = 1
 class_number classes.ContextSpecific = 2
 class_number classes.Private = 3
 
--- the two highest bits of the first byte of a tag
+-- The class of a tag: the two highest bits of its first byte.
 abbrev pub tag_class : Tag → ℕ
 tag_class t = leading_octet t / 64

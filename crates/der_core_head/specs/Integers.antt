@@ -1,4 +1,4 @@
--- Whole numbers: two's complement in the fewest bytes (X.690 8.3, 8.4).
+-- INTEGER and ENUMERATED: two's complement in the fewest bytes (X.690 8.3, 8.4).
 use Rattle.std.specs.Prelude.{ℕ, ℤ, pos, negsuc, ◌-◌, ◌<◌, ◌≤◌, ◌^◌, List, [], ◌∷◌, length, map}
 use Rattle.std.specs.Prelude.{Bool, false, not, Result, Ok, Err, nat_lt, ◌==◌, ◌&&◌, ◌||◌}
 use Rattle.std.specs.Prelude.{if◌then◌else◌, Contains, ⊤}
@@ -10,29 +10,30 @@ use Rattle.der_core_head.specs.declared.error.ErrorKind.TheVariants as kinds
 use Rattle.der_core_head.specs.declared.tag.Tag.{Tag}
 use Rattle.der_core_head.specs.Octets.{◌>>=◌}
 
--- a first byte from 128 on would be a negative number's
+-- Puts a zero byte before a first byte of 128 or more, so that the number isn't negative.
 abbrev pub positive : List ℕ → List ℕ
 positive [] = []
 positive (d ∷ ds) = if nat_lt d 128 then d ∷ ds else 0 ∷ d ∷ ds
 
--- each bit turned
+-- Inverts each bit.
 abbrev pub complement : List ℕ → List ℕ
 complement ds = map (λ d. 255 - d) ds
 
--- a number, or -(n + 1), whose bits are those of n turned
+-- The content of an integer. The bits of -(n + 1) are those of n, inverted.
 unfoldable pub integer_octets : ℤ → List ℕ
 integer_octets (pos n) = positive (digits 256 n)
 integer_octets (negsuc n) = complement (positive (digits 256 n))
 
--- Which numbers a type has.
+-- The numbers that a type allows.
 pub data Numbers : Type 0 where
-  every : Numbers  -- all
+  every : Numbers  -- all integers
   natural : Numbers  -- those that aren't negative
-  unsigned : ℕ → Numbers  -- those of so many bits that aren't negative
-  signed : ℕ → Numbers  -- those of so many bits in two's complement
-  among : List ℕ → Numbers  -- these alone, as in an enumeration
-  within : ℕ → Numbers  -- those of at most so many content bytes
+  unsigned : ℕ → Numbers  -- those of this many bits that aren't negative
+  signed : ℕ → Numbers  -- those of this many bits in two's complement
+  among : List ℕ → Numbers  -- only these, as in an enumeration
+  within : ℕ → Numbers  -- those with at most this many content bytes
 
+-- A type allows an integer.
 abbrev pub IsNumber : Numbers → ℤ → Type 0
 IsNumber every z = ⊤
 IsNumber natural (pos n) = ⊤
@@ -45,18 +46,18 @@ IsNumber (among ns) (pos n) = Contains ns n
 IsNumber (among ns) (negsuc n) = ⊥
 IsNumber (within k) z = length (integer_octets z) ≤ k
 
--- the first nine bits are all zeros, or all ones (8.3.2)
+-- The first nine bits are all zero or all one (X.690 8.3.2).
 abbrev pub is_redundant : List ℕ → Bool
 is_redundant (a ∷ b ∷ ds) = (a == 0 && nat_lt b 128) || (a == 255 && not (nat_lt b 128))
 is_redundant w = false
 
--- the number that bytes encode in two's complement
+-- The integer that bytes are in two's complement.
 unfoldable pub integer_of : List ℕ → ℤ
 integer_of [] = pos 0
 integer_of (d ∷ ds) = if nat_lt d 128 then pos (number_from_digits 256 (d ∷ ds))
     else negsuc (number_from_digits 256 (complement (d ∷ ds)))
 
--- why a type doesn't have a number
+-- Checks that a type allows an integer.
 abbrev pub checked : Numbers → Tag → ℤ → Result ℤ ErrorKind
 checked every t z = Ok z
 checked natural t (pos n) = Ok (pos n)
@@ -70,10 +71,12 @@ checked (among ns) t (pos n) = if list_any (λ m. m == n) ns then Ok (pos n) els
 checked (among ns) t (negsuc n) = Err (kinds.Value t)
 checked (within k) t z = if nat_lt k (length (integer_octets z)) then Err (kinds.Value t) else Ok z
 
+-- Decodes an integer, which must have the fewest bytes (X.690 8.3.2).
 unfoldable pub shortest_integer : Tag → List ℕ → Result ℤ ErrorKind
 shortest_integer t [] = Err (kinds.Length t)
 shortest_integer t (d ∷ ds) = if is_redundant (d ∷ ds) then Err (kinds.Noncanonical t)
     else Ok (integer_of (d ∷ ds))
 
+-- Decodes an integer that a type allows.
 abbrev pub integer_read : Numbers → Tag → List ℕ → Result ℤ ErrorKind
 integer_read r t w = shortest_integer t w >>= checked r t

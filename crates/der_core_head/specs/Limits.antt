@@ -1,14 +1,14 @@
--- How many bytes a length can count, and how many levels may be open at once.
+-- The limits of lengths and of nesting.
 use Rattle.std.specs.Prelude.{ℕ, suc, ◌<◌}
 
--- the greatest length: 2^32 - 1
+-- The greatest length, 2^32 - 1.
 abbrev pub length_max : ℕ
 length_max = 4294967295
 
--- a length can count so many
+-- A length that isn't above the greatest one.
 abbrev pub IsLength : ℕ → Type 0
 IsLength n = n < suc length_max
 
--- the greatest number of levels that may be open, one within the other
+-- The greatest number of nested levels.
 abbrev pub levels_max : ℕ
 levels_max = 64

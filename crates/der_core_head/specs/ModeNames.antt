@@ -7,22 +7,24 @@ use Rattle.der_core_head.specs.declared.tag_mode.TagMode.TheVariants as modes
 use Rattle.der_core_head.specs.declared.encoding_rules.EncodingRules.{EncodingRules}
 use Rattle.der_core_head.specs.declared.encoding_rules.EncodingRules.TheVariants as rules
 
+-- The name of a tag mode.
 abbrev pub mode_name : TagMode → List ℕ
 mode_name modes.Explicit = codes "EXPLICIT"
 mode_name modes.Implicit = codes "IMPLICIT"
 
--- the mode of a name, in capitals or without
+-- The tag mode of this name, in upper case or lower case.
 abbrev pub mode_named : List ℕ → Result TagMode ErrorKind
 mode_named w =
     if bytes_eq w (codes "EXPLICIT") || bytes_eq w (codes "explicit") then Ok modes.Explicit
     else if bytes_eq w (codes "IMPLICIT") || bytes_eq w (codes "implicit") then Ok modes.Implicit
     else Err kinds.TagModeUnknown
 
+-- The name of encoding rules.
 abbrev pub rules_name : EncodingRules → List ℕ
 rules_name rules.Ber = codes "BER"
 rules_name rules.Der = codes "DER"
 
--- the rules of a name, in capitals or without
+-- The encoding rules of this name, in upper case or lower case.
 abbrev pub rules_named : List ℕ → Result EncodingRules ErrorKind
 rules_named w =
     if bytes_eq w (codes "BER") || bytes_eq w (codes "ber") then Ok rules.Ber

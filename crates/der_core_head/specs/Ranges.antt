@@ -1,4 +1,4 @@
--- Values whose parts are in their ranges: what of validity neither a length nor an order decides.
+-- Values that are valid except for lengths and the order of sets.
 use Rattle.std.specs.Prelude.{◌≡◌, ◌≤◌, length, true, Some, None, bytes_eq, ⊤}
 use Rattle.std.proofs.Common.{inl, inr}
 use Rattle.std.specs.List.{AllByRecursion}
@@ -10,8 +10,8 @@ use Rattle.der_core_head.specs.Shapes.{defaulted, nothing, leaf, nested, done, f
 use Rattle.der_core_head.specs.Shapes.{exactly, few, in_order, Value, ContentValue, BodyValue}
 use Rattle.der_core_head.specs.Shapes.{octets_of, IsValid}
 
--- leaves in their ranges, tags whose number fits, and so many values as there must be; a default
--- that isn't written is valid
+-- Leaves are valid, tag numbers fit, and there are as many values as the shape requires. A default
+-- that isn't encoded is valid.
 abbrev mutual
   pub IsInRange : (s : Shape) → Value s → Type 0
   IsInRange (tagged t c) v = IsContentInRange c v × IsTag t

@@ -1,4 +1,4 @@
--- What a reader has left, and what a call did to it.
+-- The state of a reader, and the effects of calls on it.
 use Rattle.std.specs.Prelude.{◌-◌, ◌+◌, ◌<◌, ◌≤◌, length, take, drop, ◌||◌, ◌≡◌, ◌≢◌, ℕ, List, []}
 use Rattle.std.specs.Prelude.{◌++◌, Bool, true, false, Result, Ok, Err}
 use Rattle.der_core_head.specs.declared.error.Error.{Error}
@@ -16,13 +16,13 @@ use Rattle.der_core_head.specs.Limits.{levels_max}
 use Rattle.der_core_head.specs.Grammar.{read_by, read_body_by, read_content_by, value_at, kept}
 use Rattle.der_core_head.specs.Leaves.{Leaf, leaf_read}
 
--- by which rules an input is read, and how many bytes it has
+-- The input: its encoding rules, and its number of bytes.
 pub record Source : Type 0 where
   pub encoding : EncodingRules
   pub size : ℕ
 
--- the bytes up to the end in force, those after it, the levels that can still be opened, whether a
--- call failed, and the input
+-- The state of a reader: the bytes up to its current end, the bytes after that end, the number of
+-- levels that may still be opened, whether a call has failed, and the input.
 pub record State : Type 0 where
   pub rest : List ℕ
   pub behind : List ℕ
@@ -30,7 +30,7 @@ pub record State : Type 0 where
   pub failed : Bool
   pub source : Source
 
--- a reader of these bytes, by those rules, before any call
+-- The state before any call.
 abbrev pub unread : EncodingRules → List ℕ → State
 unread rules w =
     record {
@@ -41,34 +41,34 @@ unread rules w =
       source = record { encoding = rules; size = length w };
     }
 
--- DER rules, or BER
+-- The input is decoded under DER, or under BER.
 abbrev pub IsDer : State → Type 0
 IsDer s = s.source.encoding ≡ encodings.Der
 
 abbrev pub IsBer : State → Type 0
 IsBer s = s.source.encoding ≡ encodings.Ber
 
--- what a call may answer: the named error, or that memory ran out
+-- The error of a call that may allocate: the error that decoding gives, or `OutOfMemory`.
 abbrev pub Fails : {Y : Type 0} → ErrorKind → Result Y ErrorKind → Type 0
 Fails e r = e ≢ kinds.OutOfMemory → r ≡ Err e
 
--- that many bytes further on
+-- The state after `n` more bytes were read.
 abbrev pub past : ℕ → State → State
 past n s = record s { rest = drop n s.rest }
 
--- where it was, and failed
+-- The state after a failure that read nothing.
 abbrev pub broken : State → State
 broken s = record s { failed = true }
 
--- a reader that reads headers by these rules from then on
+-- The state after a change of the encoding rules.
 abbrev pub ruled : EncodingRules → State → State
 ruled rules s = record s { source = record { encoding = rules; size = s.source.size } }
 
--- bytes r are a rest of bytes w: what is left of w after its first n
+-- The bytes `r` are a suffix of the bytes `w`.
 abbrev pub IsRest : List ℕ → List ℕ → Type 0
 IsRest r w = (n : ℕ) × (r ≡ drop n w)
 
--- A reader, further on or failed. One that failed stays failed.
+-- The reader may have moved on or failed. A reader that had failed is still failed.
 pub record Kept (old new : State) : Type 0 where
   pub rest : IsRest new.rest old.rest
   pub behind : new.behind ≡ old.behind
@@ -76,7 +76,7 @@ pub record Kept (old new : State) : Type 0 where
   pub source : new.source ≡ old.source
   pub failed : old.failed ≡ true → new.failed ≡ true
 
--- what reading gives at a reader: by its rules, with the levels that it may open
+-- Decodes at a reader, under its encoding rules and with the levels that it may open.
 abbrev pub read_at : State → (s : Shape) → Readings (Value s)
 read_at r s = read_by r.source.encoding s r.room
 
@@ -86,16 +86,16 @@ read_content_at r c t = read_content_by r.source.encoding c t r.room
 abbrev pub read_body_at : State → (b : Body) → Readings (BodyValue b)
 read_body_at r b = read_body_by r.source.encoding b r.room
 
--- The call answered what reading gives, seen by view, and moved the reader on. After a refusal the
--- reader has failed, and a failed reader returns that it failed.
+-- The call returned what the decoder `f` gives, under the view, and moved the reader on. After an
+-- error the reader is failed. A failed reader returns `Failed`.
 abbrev pub Reads : {X P : Type 0} → (X → P) → State → State → Result X Error → Readings P → Type 0
 Reads view old new (Ok x) f = (f old.rest ≡ Ok (view x, new.rest))
     × (new ≡ record old { rest = new.rest }) × (old.failed ≡ false) × IsRest new.rest old.rest
 Reads view old new (Err e) f = (old.failed ≡ false → Fails e.kind (f old.rest)) × Kept old new
     × (old.failed ≡ true → e.kind ≡ kinds.Failed) × (new.failed ≡ true)
 
--- As `Reads`, of a call that doesn't allocate: after a refusal the reader is where it was, and
--- failed.
+-- As `Reads`, for a call that doesn't allocate. After an error the reader is at its old position
+-- and failed.
 abbrev pub ReadsNow : {X P : Type 0} → (X → P) → State → State → Result X Error → Readings P
     → Type 0
 ReadsNow view old new (Ok x) f = (f old.rest ≡ Ok (view x, new.rest))
@@ -103,13 +103,13 @@ ReadsNow view old new (Ok x) f = (f old.rest ≡ Ok (view x, new.rest))
 ReadsNow view old new (Err e) f = (old.failed ≡ false → f old.rest ≡ Err e.kind)
     × (new ≡ broken old) × (old.failed ≡ true → e.kind ≡ kinds.Failed)
 
--- The call answered what is there, seen by view, and left the reader as it was.
+-- The call returned what the decoder gives, under the view, and didn't change the reader.
 abbrev pub Peeks : {X P : Type 0} → (X → P) → State → Result X Error → Result P ErrorKind → Type 0
 Peeks view s (Ok x) r = (r ≡ Ok (view x)) × (s.failed ≡ false)
 Peeks view s (Err e) r = (s.failed ≡ false → r ≡ Err e.kind)
     × (s.failed ≡ true → e.kind ≡ kinds.Failed)
 
--- what a call of f may give at a reader is what reading gives
+-- Every call of the closure `f` returns what decoding the body gives.
 abbrev pub ClosureReads : {R T F : Type 0} → (R → State)
     → Once F (MutBor R × Unit {0}) (Result T Error × (MutBor R × Unit {0})) → F → (b : Body)
     → (T → BodyValue b) → Type 0
@@ -117,12 +117,13 @@ ClosureReads {R} {T} state g f b view = (old : R) (r : Result T Error) (new : R)
     → FnOnceReturnsAtMut g f old r new
     → Reads view (state old) (state new) r (read_body_at (state old) b)
 
+-- Every call of the closure `f` leaves the reader further on, or failed.
 abbrev pub HandsBack : {R T F : Type 0} → (R → State)
     → Once F (MutBor R × Unit {0}) (Result T Error × (MutBor R × Unit {0})) → F → Type 0
 HandsBack {R} {T} state g f = (old : R) (r : Result T Error) (new : R)
     → FnOnceReturnsAtMut g f old r new → Kept (state old) (state new)
 
--- the end is set n bytes ahead
+-- The end of the reader is moved to `n` bytes after its position, one level deeper.
 abbrev pub entered : ℕ → State → State
 entered n s = record {
   rest = take n s.rest;
@@ -132,7 +133,7 @@ entered n s = record {
   source = s.source;
 }
 
--- k bytes that stand after the end are given back
+-- The end of the reader is moved back, past `k` bytes that were after it, one level up.
 abbrev pub restored : ℕ → Bool → State → State
 restored k failed s =
     record {
@@ -143,37 +144,38 @@ restored k failed s =
       source = s.source;
     }
 
--- which refusal it is
+-- The conditions under which opening `n` bytes fails with this error.
 abbrev pub Refuses : ℕ → State → ErrorKind → Type 0
 Refuses n old kinds.Incomplete = length old.rest < n
 Refuses n old kinds.NestingDepth = (n ≤ length old.rest) × (old.room ≡ 0)
 Refuses n old _ = ⊥
 
--- what setting the end answers: how many bytes are after it that weren't
+-- The result of opening `n` bytes: the number of bytes that are now after the end and weren't
+-- before, or an error.
 abbrev pub Opens : ℕ → State → State → Result Length Error → Type 0
 Opens n old new (Ok taken) = (n + taken.value ≡ length old.rest) × (0 < old.room)
     × (old.room ≤ levels_max) × (old.failed ≡ false) × (new ≡ entered n old)
 Opens n old new (Err e) = (old.failed ≡ false → Refuses n old e.kind) × (new ≡ broken old)
     × (old.failed ≡ true → e.kind ≡ kinds.Failed)
 
--- what giving bytes back answers, after a call that failed or not
+-- The result of closing a level, after the calls inside it failed or didn't fail.
 abbrev pub Closes : ℕ → Bool → State → State → Result (Unit {0}) Error → Type 0
 Closes k failed old new (Ok _) = (failed ≡ false → old.rest ≡ [])
     × (new ≡ restored k (old.failed || failed) old)
 Closes k failed old new (Err e) = (failed ≡ false) × (old.rest ≢ []) × (e.kind ≡ kinds.TrailingData)
     × (new ≡ restored k true old)
 
--- What was returned, seen by view, is what reading gives, unless memory ran out.
+-- The call returned what the decoder gives, under the view, or memory ran out.
 abbrev pub Gives : {X P : Type 0} → (X → P) → Result X Error → Result P ErrorKind → Type 0
 Gives view (Ok x) r = r ≡ Ok (view x)
 Gives view (Err e) r = Fails e.kind r
 
--- As `Gives`, of a call that doesn't allocate.
+-- As `Gives`, for a call that doesn't allocate.
 abbrev pub GivesNow : {X P : Type 0} → (X → P) → Result X Error → Result P ErrorKind → Type 0
 GivesNow view (Ok x) r = r ≡ Ok (view x)
 GivesNow view (Err e) r = r ≡ Err e.kind
 
--- The bytes of a content were read, whatever leaf they are.
+-- The content bytes were read, as for any leaf.
 abbrev pub TakesContent : State → State → Result (Bor (List ℕ)) Error → ℕ → Type 0
 TakesContent old new (Ok x) n =
     ((l : Leaf) (t : Tag) (room : ℕ)

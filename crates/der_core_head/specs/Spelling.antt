@@ -1,4 +1,5 @@
--- Which shapes keep first tags apart, and how many levels are enough for them.
+-- Tests of shapes: whether their first tags distinguish fields and alternatives, and whether a
+-- number of levels of nesting is enough to decode their values.
 use Rattle.std.specs.Prelude.{ℕ, zero, suc, length, Bool, true, false, ◌&&◌, ◌||◌, nat_lt, not}
 use Rattle.der_core_head.specs.declared.tag.Tag.{Tag}
 use Rattle.der_core_head.specs.Octets.{are_octets}
@@ -7,7 +8,7 @@ use Rattle.der_core_head.specs.Shapes.{Shape, Content, Body, tagged, any, either
 use Rattle.der_core_head.specs.Shapes.{defaulted, nothing, leaf, nested, done, field, only, many}
 use Rattle.der_core_head.specs.Shapes.{exactly, few, in_order, begins}
 
--- so many levels are enough
+-- No value of the shape needs more than this number of levels of nesting.
 abbrev mutual
   pub are_enough : Shape → ℕ → Bool
   are_enough (tagged t c) room = are_content_enough c room
@@ -31,7 +32,7 @@ abbrev mutual
   are_body_enough (few n s) room = are_enough s room
   are_body_enough (in_order how s) room = are_enough s room
 
--- one header, always there
+-- Each encoding of the shape consists of one header and its content. It is never empty.
 abbrev pub is_element : Shape → Bool
 is_element (tagged t c) = true
 is_element any = true
@@ -40,7 +41,7 @@ is_element (optional s) = false
 is_element (defaulted s d) = false
 is_element nothing = false
 
--- no tag that the shape begins with is one of these
+-- No encoding of the shape begins with one of these tags.
 abbrev pub none_of : Shape → (Tag → Bool) → Bool
 none_of (tagged t c) f = not (f t)
 none_of any f = false
@@ -49,7 +50,7 @@ none_of (optional s) f = none_of s f
 none_of (defaulted s d) f = none_of s f
 none_of nothing f = true
 
--- the tags that a body may begin with
+-- The tags with which the encoding of a body may begin.
 abbrev pub body_begins : Body → Tag → Bool
 body_begins done t = false
 body_begins (field s b) t = begins s t || (not (is_element s) && body_begins b t)
@@ -59,15 +60,20 @@ body_begins (exactly n s) t = begins s t
 body_begins (few n s) t = begins s t
 body_begins (in_order how s) t = begins s t
 
+-- There are no further fields.
 abbrev pub is_end : Body → Bool
 is_end done = true
 is_end _ = false
 
--- a field that may be absent shares no first tag with what may follow it
+-- A field that can be encoded as no bytes has no first tag in common with the fields after it.
 abbrev pub is_clear : Shape → Body → Bool
 is_clear s b = is_element s || (is_end b || none_of s (body_begins b))
 
--- each value has one spelling, and no spelling begins another: computed from tags alone
+-- The first tags decide which value is next: alternatives have no first tag in common, and a field
+-- that can be encoded as no bytes has none in common with the fields after it. Alternatives,
+-- optional values, values with a default, and the values of lists and explicit tags are elements
+-- (`is_element`), and a default has at most `length_max` bytes. For such shapes, two valid values
+-- with the same encoding are equal (`OneEncoding.one_encoding`).
 abbrev mutual
   pub is_apart : Shape → Bool
   is_apart (tagged t c) = is_content_apart c

@@ -1,26 +1,29 @@
--- The printed names of tags: of the types of the universal class (X.680 8.6), and of a class, a
--- number and a form.
+-- The printed names of tags: for the universal class, those of the types (X.680 8.6), and otherwise
+-- the class, the number and the form.
 use Rattle.std.specs.Prelude.{ℕ, List, ◌++◌, Bool, if◌then◌else◌, codes, decimal}
 use Rattle.der_core_head.specs.declared.class.Class.{Class}
 use Rattle.der_core_head.specs.declared.class.Class.TheVariants as classes
 use Rattle.der_core_head.specs.declared.tag.Tag.{Tag}
 use Rattle.der_core_head.specs.declared.tag.Tag.TheVariants as tags
 
+-- The name of a class.
 abbrev pub class_name : Class → List ℕ
 class_name classes.Universal = codes "UNIVERSAL"
 class_name classes.Application = codes "APPLICATION"
 class_name classes.ContextSpecific = codes "CONTEXT-SPECIFIC"
 class_name classes.Private = codes "PRIVATE"
 
+-- The name of the constructed or of the primitive form.
 abbrev pub form_name : Bool → List ℕ
 form_name constructed = if constructed then codes "constructed" else codes "primitive"
 
--- as `CONTEXT-SPECIFIC [0] (constructed)`
+-- A name such as `CONTEXT-SPECIFIC [0] (constructed)`.
 abbrev pub numbered_name : Class → ℕ → Bool → List ℕ
 numbered_name class n constructed =
     class_name class
     ++ (codes " [" ++ (decimal n ++ (codes "] (" ++ (form_name constructed ++ codes ")"))))
 
+-- The name of a tag.
 abbrev pub tag_name : Tag → List ℕ
 tag_name tags.Boolean = codes "BOOLEAN"
 tag_name tags.Integer = codes "INTEGER"

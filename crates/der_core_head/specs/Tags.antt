@@ -1,4 +1,4 @@
--- Tags: their bytes, and reading of them (X.690 8.1.2).
+-- Tags: their encodings and their decoder (X.690 8.1.2).
 use Rattle.std.specs.Prelude.{ℕ, ◌+◌, ◌*◌, ◌/◌, ◌%◌, ◌<◌, List, [], ◌∷◌, Bool, Option, Some, None}
 use Rattle.std.specs.Prelude.{Result, Ok, Err, nat_lt, ◌==◌, ◌&&◌, if◌then◌else◌, find}
 use Rattle.const_oid.specs.Digits.{digits, marked}
@@ -8,15 +8,16 @@ use Rattle.der_core_head.specs.declared.tag.Tag.{Tag}
 use Rattle.der_core_head.specs.declared.tag.Tag.TheVariants as tags
 use Rattle.der_core_head.specs.Octets.{◌>>=◌, Readings}
 
--- two bits of class, the bit of a constructed value, and five bits of number
+-- The first byte of a tag: two bits of the class, the bit of the constructed form, and five bits of
+-- the number.
 abbrev pub leading : ℕ → Bool → ℕ → ℕ
 leading class constructed low = 64 * class + (if constructed then 32 else 0) + low
 
--- five bits of number, all of them set where the number follows
+-- The five bits of the number, all of which are set if the number is in the bytes after them.
 abbrev pub low_bits : ℕ → ℕ
 low_bits n = if nat_lt n 31 then n else 31
 
--- the first byte of a tag
+-- The first byte of a tag.
 abbrev pub leading_octet : Tag → ℕ
 leading_octet tags.Boolean = 0x01
 leading_octet tags.Integer = 0x02
@@ -45,41 +46,42 @@ leading_octet (tags.ContextSpecific constructed number) =
     leading 2 constructed (low_bits number.value)
 leading_octet (tags.Private constructed number) = leading 3 constructed (low_bits number.value)
 
--- the number of a tag
+-- The number of a tag.
 abbrev pub number_of : Tag → ℕ
 number_of (tags.Application constructed number) = number.value
 number_of (tags.ContextSpecific constructed number) = number.value
 number_of (tags.Private constructed number) = number.value
 number_of t = leading_octet t % 32
 
--- the bytes of a number for which the leading byte has no room (8.1.2.4)
+-- The bytes of a number that doesn't fit the first byte (X.690 8.1.2.4).
 abbrev pub number_octets : ℕ → List ℕ
 number_octets n = if nat_lt n 31 then [] else marked (digits 128 n)
 
+-- The encoding of a tag.
 unfoldable pub tag_octets : Tag → List ℕ
 tag_octets t = leading_octet t ∷ number_octets (number_of t)
 
--- a tag whose number fits 32 bits
+-- A tag whose number has at most 32 bits.
 abbrev pub IsTag : Tag → Type 0
 IsTag t = number_of t < 4294967296
 
--- whether two tags have the same bytes
+-- Two tags have the same encoding.
 abbrev pub same_tag : Tag → Tag → Bool
 same_tag a b = (leading_octet a == leading_octet b) && (number_of a == number_of b)
 
--- the bit of a constructed value
+-- The bit of the constructed form.
 abbrev pub is_constructed : Tag → Bool
 is_constructed t = ((leading_octet t / 32) % 2) == 1
 
--- a context-specific tag
+-- A context-specific tag.
 abbrev pub context : Bool → ℕ → Tag
 context constructed n = tags.ContextSpecific constructed (record { value = n })
 
--- the tag of an implicitly tagged value: constructed where the value's own tag is
+-- The tag of an implicitly tagged value, which is constructed if the value's own tag is.
 abbrev pub implicit_tag : ℕ → Tag → Tag
 implicit_tag n t = context (is_constructed t) n
 
--- the tags of the universal class that are read
+-- The tags of the universal class that are accepted.
 abbrev pub universal_tags : List Tag
 universal_tags =
     tags.Boolean ∷ tags.Integer ∷ tags.BitString ∷ tags.OctetString ∷ tags.Null
@@ -89,18 +91,19 @@ universal_tags =
     ∷ tags.VideotexString ∷ tags.Ia5String ∷ tags.UtcTime ∷ tags.GeneralizedTime
     ∷ tags.VisibleString ∷ tags.GeneralString ∷ tags.BmpString ∷ []
 
--- the one with that byte
+-- The universal tag with this first byte.
 unfoldable pub universal_tag : ℕ → Option Tag
 universal_tag octet = find (λ t. leading_octet t == octet) universal_tags
 
--- a tag of another class than the universal one
+-- A tag of this class, which isn't the universal one.
 abbrev pub class_tag : ℕ → Bool → ℕ → Tag
 class_tag class constructed n =
     if class == 1 then tags.Application constructed (record { value = n })
     else if class == 2 then tags.ContextSpecific constructed (record { value = n })
     else tags.Private constructed (record { value = n })
 
--- a number whose digits before were n: the byte in which it passes 32 bits is the error
+-- Decodes the digits of a tag number, after digits of value `n`. The error is at the byte with
+-- which the number exceeds 32 bits.
 unfoldable pub digits_at : ℕ → Readings ℕ
 digits_at n [] = Err kinds.Incomplete
 digits_at n (d ∷ w) =
@@ -108,17 +111,19 @@ digits_at n (d ∷ w) =
     then (if nat_lt d 128 then Ok (128 * n + d, w) else digits_at (128 * n + d % 128) w)
     else Err kinds.TagNumberInvalid
 
--- a number of 31 or more, without a leading zero digit
+-- Decodes a tag number of 31 or more, without leading zero digits.
 unfoldable pub number_at : Readings ℕ
 number_at [] = Err kinds.Incomplete
 number_at (d ∷ w) =
     if d == 128 then Err kinds.TagNumberInvalid
     else (digits_at 0 (d ∷ w) >>= λ n. if nat_lt n.0 31 then Err kinds.TagNumberInvalid else Ok n)
 
+-- Gives the universal tag, or `TagUnknown` if it isn't supported.
 abbrev pub known_tag : Option Tag → List ℕ → Result (Tag × List ℕ) ErrorKind
 known_tag (Some t) w = Ok (t, w)
 known_tag None w = Err kinds.TagUnknown
 
+-- Decodes a tag under DER.
 unfoldable pub tag_at : Readings Tag
 tag_at [] = Err kinds.Incomplete
 tag_at (octet ∷ w) =

@@ -9,7 +9,7 @@ use crate::error::{Error, ErrorKind};
 use std::fmt;
 use std::str::FromStr;
 
-/// The rules by which bytes are decoded (X.690 8, 10).
+/// The rules under which bytes are decoded (X.690 8, 10).
 #[derive(Clone, Copy, Debug, PartialEq, Eq, PartialOrd, Ord, Hash)]
 pub enum EncodingRules {
     /// The basic encoding rules: lengths may be indefinite.

@@ -1,4 +1,4 @@
-//! Why bytes can't be decoded, or a value can't be encoded.
+//! The errors of decoding and encoding.
 
 ghost use Rattle.std.specs.Prelude.{◌≡◌, ◌≢◌, ◌⊎◌, Some, None, IsSome};
 ghost use Rattle.der_core_head.specs.declared.error.ErrorKind.TheVariants.{OidMalformed, Overflow};
@@ -12,64 +12,65 @@ use std::num::TryFromIntError;
 use std::str::Utf8Error;
 use std::string::FromUtf8Error;
 
-/// The kinds of error.
+/// The kinds of errors.
 #[derive(Clone, Copy, Debug, PartialEq, Eq)]
 pub enum ErrorKind {
-    /// A date or a text that isn't a date, or is outside of 1970 to 9999.
+    /// A text isn't a date, or the date is before 1970 or after 9999.
     DateTime,
-    /// A text that isn't the name of encoding rules.
+    /// A text isn't the name of encoding rules.
     EncodingRules,
-    /// The reader or the writer has failed before.
+    /// The reader or the writer failed in an earlier call.
     Failed,
     /// The input ends too early.
     Incomplete,
-    /// An indefinite length under DER.
+    /// A length is indefinite, which DER doesn't allow.
     IndefiniteLength,
-    /// A length that the type can't have, or that isn't in its shortest form.
+    /// The type can't have this length, or the length isn't in its shortest form.
     Length { tag: Tag },
     /// There are more levels of nesting than may be open.
     NestingDepth,
-    /// A value that isn't in the one form that DER allows.
+    /// A value isn't encoded in the only form that DER allows.
     Noncanonical { tag: Tag },
-    /// Bytes that aren't an object identifier.
+    /// The bytes aren't an object identifier.
     OidMalformed,
-    /// An object identifier that the caller's protocol doesn't know. No call of these crates
-    /// returns this.
+    /// The caller's protocol doesn't know an object identifier. No function of these crates returns
+    /// this error.
     OidUnknown,
     /// An allocation failed.
     OutOfMemory,
-    /// A sum exceeds the greatest length, or a difference is below zero.
+    /// A length exceeds 2^32 - 1, or a difference of lengths is negative.
     Overflow,
-    /// A length of more than four bytes, or more bytes than there is room for.
+    /// A length has more than four bytes, or there isn't room for all bytes or members.
     Overlength,
     /// The reader doesn't support the operation.
     Reader,
-    /// A set has a member twice.
+    /// A set contains a member twice.
     SetDuplicate,
-    /// A member of a set is below the one before it.
+    /// A member of a set is less than the one before it.
     SetOrdering,
-    /// A text that isn't the name of a tag mode.
+    /// A text isn't the name of a tag mode.
     TagModeUnknown,
-    /// A tag number that isn't in its shortest form, or exceeds 32 bits.
+    /// A tag number isn't in its shortest form, or exceeds 32 bits.
     TagNumberInvalid,
     /// The tag isn't the expected one.
     TagUnexpected,
-    /// A tag of the universal class that isn't supported.
+    /// The tag is of the universal class and isn't supported.
     TagUnknown,
     /// There are bytes after the last field or value.
     TrailingData,
-    /// A text that isn't UTF-8.
+    /// A text isn't UTF-8.
     Utf8,
-    /// A value that the type doesn't have.
+    /// The type doesn't have this value.
     Value { tag: Tag },
 }
 
 /// An error, with its position in the input, if that is known.
 #[derive(Clone, Copy, Debug, PartialEq, Eq)]
 pub struct Error {
-    /// What is wrong.
+    /// The kind of the error.
     pub kind: ErrorKind,
-    /// The index in the whole input of the byte at which the error was found.
+    /// The index of the byte at which the error was found, counted from the beginning of the whole
+    /// input.
     pub position: Option<Length>,
 }
 
@@ -116,8 +117,8 @@ impl Error {
         ErrorKind::Incomplete.at(actual_len)
     }
 
-    /// Returns the error with a position in the input, unless it has one already. Out of memory has
-    /// none.
+    /// Returns the error with a position in the input, unless it has one already. `OutOfMemory`
+    /// gets no position.
     ///
     /// This function isn't inlined, so that a decoded value isn't moved in the parts of an error.
     #[inline(never)]

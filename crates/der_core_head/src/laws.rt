@@ -34,7 +34,7 @@ pub fn apart_is_lawful()
 
 /// A value that was decoded is valid, and the bytes are its encoding, followed by the remainder.
 ///
-/// The bytes are no more than a length can count. This holds for optional values and defaults, too.
+/// This holds for inputs of at most 2^32 - 1 bytes, and for optional values and defaults, too.
 pub fn read_is_spelled()
     ensures valid { (s : Shape) (room : ℕ) (w : List ℕ) (v : Value s) (r : List ℕ)
         → is_apart s ≡ true
@@ -52,15 +52,15 @@ pub fn spelled_is_read()
         → IsValid s v → read s room (octets_of s v ++ r) ≡ Ok (v, r) }
 {}
 
-/// What decodes with some levels of nesting decodes alike with more.
+/// Bytes that decode with some levels of nesting decode to the same value with more levels.
 #[tactic(auto, using(crate::proofs::Complete::more_read))]
 pub fn more_levels_read_alike()
     ensures { (s : Shape) (room more : ℕ) (w : List ℕ) (v : Value s) (r : List ℕ) → room ≤ more
         → read s room w ≡ Ok (v, r) → read s more w ≡ Ok (v, r) }
 {}
 
-/// Encoding appends the encoding of the value, which is no longer than a length can count. The
-/// value has an encoding, if its parts are in their ranges.
+/// Encoding appends the encoding of the value, whose length is at most the greatest length. The
+/// value is valid if its parts are in their ranges.
 ///
 /// So a value that is too long is rejected, and so is one with a set that isn't in order (X.690
 /// 11.6).
@@ -72,7 +72,7 @@ pub fn written_is_spelled()
         → IsValid s v }
 {}
 
-/// A value that has an encoding is encoded, if there is room for any number of bytes.
+/// A valid value is encoded if the writer has no limit.
 #[tactic(auto, using(crate::proofs::Written::written))]
 pub fn valid_is_written()
     ensures { (s : Shape) (v : Value s) (w : List ℕ) → IsValid s v
@@ -80,8 +80,8 @@ pub fn valid_is_written()
         ≡ Ok (record { written = w ++ octets_of s v; room = None; failed = false }) }
 {}
 
-/// What was encoded for a value whose parts are in their ranges decodes to that value and the
-/// remainder, whatever follows it.
+/// If a value whose parts are in their ranges is encoded, the bytes decode to that value and the
+/// remainder, whatever follows them.
 #[tactic(auto, using(crate::proofs::Written::as_written))]
 pub fn written_is_read()
     ensures { (s : Shape) (room : ℕ) (v : Value s) (o z : Out) (r : List ℕ) → is_element s ≡ true
@@ -99,8 +99,8 @@ pub fn headers_are_spelled()
         → head_at (head_octets t n ++ r) ≡ Ok (record { tag = t; len = n }, r) }
 {}
 
-/// Further bytes change nothing: the header at the beginning of some bytes stays the header when
-/// more bytes follow, and an error stays the error, unless it was that the bytes ran out.
+/// More bytes don't change a header: the header at the beginning of some bytes stays the header
+/// when more bytes follow, and an error stays the error, unless it is `Incomplete`.
 #[tactic(auto, using(crate::proofs::LeafLaws::headers_stay))]
 pub fn headers_stay()
     ensures read { (h : Head) (r w more : List ℕ) → head_at w ≡ Ok (h, r)
@@ -140,8 +140,8 @@ pub fn bodies_end_themselves()
         ≡ Ok (h, take h.len (drop n w) ++ more) }
 {}
 
-/// A value is valid under a bound of arcs if and only if it is valid in a shape that states this
-/// bound and no other.
+/// A value is valid under a bound of arcs if and only if it is valid in the shape with this bound
+/// and no other.
 #[tactic(auto, using(crate::proofs::BoundLaws::own))]
 pub fn bounds_are_those_of_shapes()
     ensures { (bound : ℕ) (s : Shape) (v : Value s) → IsOf bound s

@@ -1,5 +1,5 @@
-//! The base of the DER crates: errors, lengths and tags as data, and the definitions and laws of
-//! decoding and encoding DER.
+//! The base of the DER crates: errors, lengths and tags, and the definitions and laws of decoding
+//! and encoding DER (X.690). Users import its items from `der_core`.
 #![tactic(auto)]
 
 mod class;

@@ -9,10 +9,10 @@ use crate::error::{Error, ErrorKind};
 use std::fmt;
 use std::str::FromStr;
 
-/// How a tag relates to the tag of the type (X.690 8.14).
+/// The way in which a tag relates to the tag of the type (X.690 8.14).
 #[derive(Clone, Copy, Debug, PartialEq, Eq, PartialOrd, Ord, Hash)]
 pub enum TagMode {
-    /// The tag is written before that of the type.
+    /// The tag is encoded before that of the type.
     Explicit,
     /// The tag replaces that of the type.
     Implicit,

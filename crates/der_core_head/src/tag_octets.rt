@@ -12,12 +12,12 @@ use crate::tag::Tag;
 use crate::tag_number::TagNumber;
 
 /// Returns the tag of the universal class with this byte, if it is supported. It is inlined, so
-/// that it is a look into a table.
+/// that it becomes a table lookup.
 #[inline(always)]
 #[tactic(auto, unfolding(crate::specs::Tags::universal_tag))]
 fn universal_tag_of(octet: u8) -> Option<Tag>
     ensures tag { result ≡ universal_tag octet }
-    // These bytes have clear class bits.
+    // The class bits of these bytes are clear.
     ensures low { OnSome result (octet < 64) }
 {
     match octet {
@@ -75,7 +75,7 @@ pub fn short_tag_of(octet: u8) -> Option<Tag>
     ensures some { IfSome result (λ t. (w : List ℕ) → tag_at (octet ∷ w) ≡ Ok (t, w)) }
     ensures unknown { IfNone result
         (octet < 64 → (w : List ℕ) → tag_at (octet ∷ w) ≡ Err ErrorKind.TagUnknown) }
-    // Otherwise the number follows.
+    // A byte of another class is rejected only if the number follows it.
     ensures number { IfNone result (64 ≤ octet → octet % 32 ≡ 31) }
 {
     if let Some(tag) = universal_tag_of(octet) {
@@ -182,13 +182,13 @@ fn read_tag(octets: &[u8]) -> Result<(Tag, usize), Error>
 /// - `TagNumberInvalid`: a number of 31 or more isn't in its shortest form, or exceeds 32 bits.
 #[tactic(auto, using(crate::proofs::HeadLaws::tag_fronts))]
 pub fn tag_of(octets: &[u8]) -> Result<(Tag, usize), Error>
-    // What is accepted is an encoding.
+    // Accepted bytes begin with the encoding of the tag.
     ensures spelled { IfOk result (λ x.
         IsTag x.0 × (octets.now ≡ tag_octets x.0 ++ drop x.1 octets.now)) }
     // An encoding is accepted, whatever follows it.
     ensures only { (t : Tag) (r : List ℕ) → IsTag t → octets.now ≡ tag_octets t ++ r
         → ReadsFront (λ t. t) octets.now result (λ _. Ok (t, r)) }
-    // The error is exact.
+    // The result is exactly that of `tag_at`, including the error.
     ensures exact { ReadsFront (λ t. t) octets.now result tag_at }
 {
     read_tag(octets)

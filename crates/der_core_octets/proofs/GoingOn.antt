@@ -1,4 +1,4 @@
--- A reader goes on, through nested values and closures, or stops.
+-- Lemmas about readers: decoding goes on through nested values and closures, or stops.
 use Rattle.std.proofs.Common.{◌≡◌, ℕ, suc, zero, ◌+◌, Bool, true, false, List, [], ◌∷◌, ◌++◌, drop, Some, Result, Ok, Err, refl, ap, arith, ◌∙◌, drop-drop, ◌<◌, inl, inr, sym, if◌then◌else◌, ◌≢◌, ◌⊎◌, ◌==◌, length, ◌-◌, ◌≤◌, take, is_err, take_at, drop_at, take-append-drop, length-drop, length-append, subst, OnOk, OnErr, IfOk, IfErr, MutBor}
 use Rattle.std.proofs.lemmas.Bool.Decides.{nat_tests}
 use Rattle.der_core_head.specs.declared.error.Error.{Error}
@@ -27,13 +27,13 @@ use Rattle.der_core_octets.specs.Parts.{part_at, are_closed, joined, join_by, pa
 use Rattle.der_core_head.specs.Writing.{Out, Writes, put, put_head, sum_len}
 use Rattle.der_core_head.proofs.Written.{put-append}
 
--- Reading that goes on where a call before it stopped.
+-- Consecutive calls
 
--- a rest of a rest is a rest
+-- A suffix of a suffix is a suffix.
 pub rest_then : (a b d : List ℕ) → IsRest b a → IsRest d b → IsRest d a
 rest_then a b d m n = (m.0 + n.0, n.1 ∙ ap (drop n.0) m.1 ∙ drop-drop n.0 m.0 a)
 
--- a rest stays one where the same bytes stand after both
+-- A suffix stays one if the same bytes are appended to both.
 pub rest_more : (n : ℕ) (xs ys : List ℕ) → IsRest (drop n xs ++ ys) (xs ++ ys)
 rest_more zero xs ys = (0, refl)
 rest_more (suc n) [] ys = (0, refl)
@@ -41,7 +41,7 @@ rest_more (suc n) (x ∷ xs) ys =
     let r = rest_more n xs ys in
     (suc r.0, r.1)
 
--- what is left to a later call is read by it
+-- A later call decodes what an earlier one left.
 pub reads_after : {T P : Type 0} (view : T → P) (old mid new : State) (r : Result T Error) (f g : Readings P)
     → mid ≡ record old { rest = mid.rest } → old.failed ≡ false → IsRest mid.rest old.rest → f old.rest ≡ g mid.rest → Reads view mid new r g → Reads view old new r f
 reads_after view old mid new (Ok v) f g m ready passed e h = (
@@ -57,7 +57,7 @@ reads_after view old mid new (Err d) f g m ready passed e h = (
   h.3,
 )
 
--- an encoding is a header of the expected tag, and its content
+-- An encoding is a header with the expected tag, and its content.
 pub tlv_wanted : {P : Type 0} (rules : EncodingRules) (tag : Tag) (f : Readings P) (w : List ℕ) → tlv_at rules tag f w ≡ (wanted_at tag (head_by rules) w >>= λ h. value_at f h.0.len h.1)
 unfolding tlv_at wanted_at
 tlv_wanted rules tag f w = grind (arith, nat_tests)
@@ -74,27 +74,27 @@ kept_then a b d m passed k = record {
   failed = λ o. k.failed (ap (λ (s : State). s.failed) m ∙ o);
 }
 
--- what stands under one of the first tags is read
+-- An optional value is decoded if the next tag is one of its first tags.
 pub opt_stops : {P : Type 0} (rules : EncodingRules) (first : Tag → Bool) (f : Readings P) (w : List ℕ) (t : Tag) (k : ErrorKind) → peek_at rules w ≡ Ok (Some t) → first t ≡ true → f w ≡ Err k → opt_at rules first f w ≡ Err k
 unfolding opt_at
 opt_stops rules first f w t k e h stops = rw (e, h, stops) refl
 
--- Headers of an expected tag.
+-- Headers with an expected tag
 
--- a tag of one byte is reported by it
+-- A tag of one byte is determined by that byte.
 pub by_octet : (t : Tag) (first : ℕ) (w : List ℕ) → number_of t < 31 → first ≡ leading_octet t → tag_at (first ∷ w) ≡ Ok (t, w)
 by_octet t first w low e =
     let one : tag_octets t ++ w ≡ first ∷ w = rw (tag-0 t low, e) refl in
     ap tag_at (sym one) ∙ tag_again t w (omega arith)
 
--- a header of that tag is the wanted one
+-- A header with this tag is the expected one.
 pub wanted_is : (t : Tag) (head : Readings Head) (w : List ℕ) (h : Head) (r : List ℕ) → head w ≡ Ok (h, r) → h.tag ≡ t → wanted_at t head w ≡ Ok (h, r)
 unfolding wanted_at
 wanted_is t head w h r e is =
     let same : same_tag h.tag t ≡ true = ap (λ x. same_tag x t) is ∙ same_tag-refl t in
     rw (e, same) refl
 
--- a header that is wanted is one, and where none is, no header stands or one of another tag
+-- The expected header is a header. If it isn't there, there is no header or one with another tag.
 pub wanted_ok : (t : Tag) (head : Readings Head) (w : List ℕ) (h : Head) (r : List ℕ) → wanted_at t head w ≡ Ok (h, r) → head w ≡ Ok (h, r)
 unfolding wanted_at
 wanted_ok t head w h r e = grind (arith, nat_tests)
@@ -110,7 +110,7 @@ pub wanted_err : (t : Tag) (head : Readings Head) (w : List ℕ) (k : ErrorKind)
 unfolding wanted_at
 wanted_err t head w k e = found_err t (head w) k e
 
--- a tag that stands is the one that stands if bytes are left
+-- If bytes are left, the next tag is that of the bytes.
 pub peek_ok : (rules : EncodingRules) (w : List ℕ) (t : Tag) → w ≢ [] → alone (tag_by rules w) ≡ Ok t → peek_at rules w ≡ Ok (Some t)
 peek_ok rules [] t left e = absurd (left refl)
 peek_ok rules (b ∷ w) t left e = grind (arith, nat_tests)
@@ -119,19 +119,19 @@ pub peek_err : (rules : EncodingRules) (w : List ℕ) (k : ErrorKind) → w ≢ 
 peek_err rules [] k left e = absurd (left refl)
 peek_err rules (b ∷ w) k left e = grind (arith, nat_tests)
 
--- bytes that aren't empty are left
+-- Some bytes are left.
 pub some_left : (x w : List ℕ) (b : Bool) → b ≡ (length x == 0) → b ≡ false → x ≡ w → w ≢ []
 some_left (y ∷ x) w b e f r = λ none. absurd (cc (r, none))
 some_left _ w _ e f r = absurd cc
 
--- A call of a closure between two ends is a reading of the bytes between them.
+-- A call of a closure between two ends decodes the bytes between them
 
 pub refused : (t : Tag) (k : ErrorKind) (n : ℕ) (old : State) (s : Body) → Refuses n old k → Fails k (value_at (read_content_at old (nested s) t) n old.rest)
 refused t kinds.Incomplete n old s h = λ _. value_short (read_content_at old (nested s) t) n old.rest h
 refused t kinds.NestingDepth n old s h = λ _. value_enough (read_content_at old (nested s) t) n old.rest h.0 ∙ rw h.1 refl
 refused t _ n old s h = absurd h
 
--- what reading one level further in gives
+-- The result of decoding one level deeper.
 pub nested_is : (rules : EncodingRules) (t : Tag) (s : Body) (n room : ℕ) (w : List ℕ) → n ≤ length w → 0 < room → value_at (read_content_by rules (nested s) t room) n w ≡ (read_body_by rules s (room - 1) (take n w) >>= whole >>= whole >>= λ x. Ok (x.0, drop n w))
 nested_is rules t s n room w h r =
     let e : room ≡ suc (room - 1) = omega arith in
@@ -140,7 +140,7 @@ nested_is rules t s n room w h r =
 pub behind_long : (n taken : ℕ) (old : State) → n + taken ≡ length old.rest → taken ≤ length (entered n old).behind
 behind_long n taken old h = omega (arith, length-append (drop n old.rest) old.behind, length-drop n old.rest)
 
--- a reader that moved on, and one that failed where it was, are kept
+-- A reader that moved on, or failed where it was, is kept.
 pub moved_kept : (old new : State) → new ≡ record old { rest = new.rest } → IsRest new.rest old.rest → Kept old new
 moved_kept old new e passed = record { rest = passed; behind = ap (λ (s : State). s.behind) e; room = ap (λ (s : State). s.room) e; source = ap (λ (s : State). s.source) e; failed = λ o. ap (λ (s : State). s.failed) e ∙ o }
 
@@ -154,7 +154,7 @@ left_over p (b ∷ w) h = refl
 pub at_length : (n taken : ℕ) (w : List ℕ) → n + taken ≡ length w → length (drop n w) ≡ taken
 at_length n taken w h = omega (arith, length-drop n w)
 
--- what is left before an end and the bytes after it is a rest of all of them
+-- The bytes left before an end, with the bytes after it, are a suffix of all bytes.
 pub rest_closed : (n taken : ℕ) (f : Bool) (old outer new : State) → n + taken ≡ length old.rest → Kept (entered n old) outer → new ≡ restored taken f outer → IsRest new.rest old.rest
 rest_closed n taken f old outer new h k e =
     let behind : take taken outer.behind ≡ drop n old.rest = ap (take taken) k.behind ∙ take_at (drop n old.rest) old.behind taken (at_length n taken old.rest h) in
@@ -198,9 +198,9 @@ trails t s view n taken old outer new (Ok v) e h r f reads closes =
     (λ o m. rw (nested_is old.source.encoding t s n old.room old.rest (omega arith) r, reads.0, left_over (view v) outer.rest closes.1, closes.2) refl, is_kept n taken true old outer new h r k closes.3 f, λ o. absurd (cc (o, f)), ap (λ (s : State). s.failed) closes.3)
 trails t s view n taken old outer new (Err d) e h r f reads closes = absurd cc
 
--- What a call of a closure between two ends gives, by cases of what it answered.
+-- The result of a closure that is called between two ends, by cases
 
--- the reader follows a header that was wanted
+-- The reader is after the expected header.
 pub enters_wanted : (old mid : State) (t : Tag) (h : Header) → h.tag ≡ t
     → ReadsNow head_of old mid (Ok h) (wanted_at t (head_by old.source.encoding)) → Enters t h.length.value old mid
 enters_wanted old mid t h is front =
@@ -212,7 +212,7 @@ pub by_failed : (b : Bool) {A B : Type 0} → (b ≡ false → A) → (b ≡ tru
 by_failed true a b = inl (refl, b refl)
 by_failed false a b = inr (refl, a refl)
 
--- what is read of the content after a header that was wanted is read of both
+-- Decoding the content after the expected header decodes both.
 pub wanted_reads : {T : Type 0} (t : Tag) (b : Body) (view : T → BodyValue b) (old mid new : State) (h : Header) (r : Result T Error)
     → ReadsNow head_of old mid (Ok h) (wanted_at t (head_by old.source.encoding))
     → Reads view mid new r (value_at (read_content_at mid (nested b) t) h.length.value)
@@ -231,7 +231,7 @@ module _ {R T F : Type 0} (state : R → State) (g : Once F (MutBor R × Unit {0
         | inr h ↦ inr (inl h)
       ]
 
-  -- an end was set, that many bytes before the one in force, and f was called there
+  -- The end was moved nearer by `taken` bytes, and `f` was called there.
   pub record Ran (taken : ℕ) (inner outer : R) (r : Result T Error) : Type 0 where
     pub enough : n + taken ≡ length old.rest
     pub room : 0 < old.room
@@ -250,14 +250,14 @@ module _ {R T F : Type 0} (state : R → State) (g : Once F (MutBor R × Unit {0
     called : (r : Result T Error) → Ran taken inner outer r → CalledWithin state g f n old r outer
     called r ran = ((omega (arith, ran.enough), ran.room), inner, ran.enters, ran.call)
 
-    -- what f reads up to the end
+    -- The result of `f` up to the end.
     reads_there : (b : Body) (view : T → BodyValue b) (r : Result T Error) → Ran taken inner outer r → ClosureReads state g f b view
         → Reads view (entered n old) (state outer) r (read_body_at (entered n old) b)
     reads_there b view r ran calls =
         let P : State → Type 0 = λ s. Reads view s (state outer) r (read_body_at s b) in
         subst P ran.enters (calls inner r outer ran.call)
 
-    -- the bytes after the end were given back
+    -- The end was moved back
 
     pub kept_there : (r : Result T Error) (failed : Bool) → Ran taken inner outer r → new ≡ restored taken failed (state outer) → Kept old new
     kept_there r failed ran e = is_kept n taken failed old (state outer) new ran.enough ran.room ran.kept e ran.ready
@@ -280,7 +280,7 @@ module _ {R T F : Type 0} (state : R → State) (g : Once F (MutBor R × Unit {0
         → ClosureReads state g f b view → Reads view old new r (value_at (read_content_at old (nested b) t) n)
     nested_reads t b view r ran closes calls = gives t b view n taken old (state outer) new r ran.enough ran.room ran.ready (reads_there b view r ran calls) closes
 
-    -- bytes were left before the end
+    -- Bytes were left before the end
 
     pub left_refused : (r : Result T Error) (e : Error) → Ran taken inner outer r → Closes taken (is_err r) (state outer) new (Err e) → RefusesNested state g f n old e
     left_refused (Ok x) e ran closes = inr (inr (inr ((outer, x, called (Ok x) ran, closes.1), closes.2)))
@@ -290,7 +290,7 @@ module _ {R T F : Type 0} (state : R → State) (g : Once F (MutBor R × Unit {0
         → ClosureReads state g f b view → Reads view old new (Err e) (value_at (read_content_at old (nested b) t) n)
     left_reads t b view r e ran closes calls = trails t b view n taken old (state outer) new r e ran.enough ran.room ran.ready (reads_there b view r ran calls) closes
 
--- Strings in parts, one part after the other, as a loop reads them.
+-- Constructed strings, one part after another, as a loop decodes them
 
 pub part_short : (t : Tag) (w r : List ℕ) (h : Head) → wanted_at t head_at w ≡ Ok (h, r) → length r < h.len → part_at t w ≡ Err kinds.Incomplete
 unfolding part_at
@@ -324,7 +324,7 @@ pub is_over : (t : Tag) (n i : ℕ) (front w : List ℕ) (total : Result (List �
 unfolding joined
 is_over t n i front w total past goes so_far = let k : n - i ≡ 0 = omega arith in sym so_far ∙ rw (k, goes) refl
 
--- the parts in the next bytes
+-- The parts in the next bytes
 
 pub parts_none : (rules : EncodingRules) (t : Tag) (n : ℕ) (w : List ℕ) (k : ErrorKind) → slice_at n w ≡ Err k → parts_at rules t n w ≡ Err k
 unfolding parts_at
@@ -338,7 +338,7 @@ pub parts_stop : (rules rules' : EncodingRules) (t : Tag) (n : ℕ) (w x r : Lis
 unfolding parts_at
 parts_stop rules rules' t n w x r k same e h = rw (e, sym (ap (λ q. join_by q t x) same) ∙ h) refl
 
--- A header that is written at once.
+-- A header that is written in one call
 
 at_once : (t : Tag) (n m : ℕ) (o : Out) → sum_len (length (head_octets t n)) n ≡ Ok m → put_head t n o ≡ put (tag_octets t ++ length_octets n) o
 unfolding put_head

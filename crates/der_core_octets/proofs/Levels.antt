@@ -1,4 +1,4 @@
--- Bodies of indefinite length, level by level.
+-- Lemmas about bodies of indefinite length, level by level.
 use Rattle.std.proofs.Common.{◌≡◌, ℕ, zero, suc, ◌+◌, ◌-◌, ◌<◌, ◌≤◌, cond, ltb, List, [], ◌∷◌, length, take, drop, Ok, Err, sym, refl, ap, subst, ◌∙◌, arith, eq-eqb, ne_eqb, take_all, length-take, length-drop, Bool, true, false}
 use Rattle.der_core_head.specs.declared.error.ErrorKind.{ErrorKind}
 use Rattle.der_core_head.specs.declared.error.ErrorKind.TheVariants as kinds
@@ -15,7 +15,8 @@ unfolding mark_at tag_ber_at
 mark-none [] h = refl
 mark-none (b ∷ w) h = absurd (omega arith)
 
--- what is left ends the levels still open as all bytes end the first
+-- The end of the remaining bytes, with the levels that are still open, is the end of all bytes with
+-- the first level.
 pub record Continues (octets : List ℕ) (levels : ℕ) (rest : List ℕ) : Type 0 where
   pub depth : levels ≤ 64
   pub within : length rest ≤ length octets
@@ -27,7 +28,7 @@ pub record Continues (octets : List ℕ) (levels : ℕ) (rest : List ℕ) : Type
 pub start : (octets : List ℕ) → IsBytes octets → Continues octets 1 octets
 start octets bytes = record { depth = omega arith; within = omega arith; bytes = bytes; pieces = length octets; enough = omega arith; same = refl }
 
--- by the piece at the prefix
+-- The cases of the next part.
 front : (octets : List ℕ) (levels : ℕ) (rest : List ℕ) → (c : Continues octets levels rest) → 0 < levels
     → closed_at (length octets) 1 63 octets ≡ (piece_at rest >>= λ p. levels_after p.0 levels (64 - levels) >>= λ l. closed_at (c.pieces - 1) l.0 l.1 p.1)
 front octets zero rest c some = absurd (omega arith)
@@ -52,7 +53,7 @@ finished octets levels rest c none =
     let e : closed_at (length octets) 1 63 octets ≡ Ok rest = sym c.same ∙ ap (λ n. closed_at c.pieces n (64 - n) rest) none in
     rw e refl
 
--- what is left after that many bytes
+-- The bytes after the first `n`.
 abbrev tail : ℕ → List ℕ → List ℕ
 tail n w = take (length w - n) (drop n w)
 
@@ -95,9 +96,9 @@ pub skipped : (octets : List ℕ) (levels : ℕ) (rest : List ℕ) (n : ℕ) →
 skipped octets levels rest n c some e =
     behind octets levels rest encoding n levels (64 - levels) c some e refl c.depth refl
 
--- Reading, by cases of what is there.
+-- Decoding, by cases
 
--- no more bytes than that
+-- A slice of `n` bytes has at most `n` bytes.
 pub slice_few : (n : ℕ) (w x r : List ℕ) → slice_at n w ≡ Ok (x, r) → length x ≤ n
 unfolding slice_at
 slice_few n w x r e = grind (arith, nat_tests, length-take n w)

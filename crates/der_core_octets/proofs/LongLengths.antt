@@ -1,4 +1,4 @@
--- Lengths of several bytes, and what is read of more bytes.
+-- Lemmas about lengths of several bytes, and about results for longer inputs.
 use Rattle.std.proofs.Common.{◌≡◌, ℕ, ◌+◌, ◌-◌, ◌*◌, ◌<◌, ◌≤◌, Bool, true, false, cond, ltb, eqb, List, [], ◌∷◌, length, get_or, take, drop, ◌%◌, suc, Result, Ok, Err, arith, refl, ap, ◌∙◌, length-drop, inl, inr, IsErr, ◌≢◌, take_all, ◌++◌, IfOk, Option, Some, None, sym}
 use Rattle.der_core_head.specs.declared.error.ErrorKind.{ErrorKind}
 use Rattle.std.proofs.lemmas.Bool.Decides.{nat_tests}
@@ -20,9 +20,9 @@ use Rattle.der_core_octets.specs.Headers.{head_of, AreAlike, Scans}
 use Rattle.std.proofs.lemmas.List.{length-append, drop-append-le}
 use Rattle.der_core_head.proofs.LeafLaws.{read_stays, fault_stays}
 
--- Lengths of two to five bytes.
+-- Lengths of two to five bytes
 
--- the bytes after the first one
+-- The bytes after the first one.
 fewest-1 : (t : Tag) (first : ℕ) (w : List ℕ) → first ≡ 129 → 1 ≤ length w → get_or w 0 0 < 256
     → length_at t (first ∷ w) ≡ cond (ltb (get_or w 0 0) 128) (Err (kinds.Length t)) (Ok (get_or w 0 0, drop 1 w))
 fewest-1 t first [] e l a = absurd (omega arith)
@@ -79,12 +79,12 @@ zero-more t first w low high l h z =
       ]
     ]
 
--- Why there isn't a length
+-- Bytes that aren't a length
 
 pub is_fault : {A : Type 0} (r : Result A ErrorKind) (k : ErrorKind) → r ≡ Err k → IsErr r
 is_fault r k e = rw e refl
 
--- a byte below 128 is a length
+-- A first byte below 128 is a length.
 pub fault-first : (t : Tag) (first : ℕ) (w : List ℕ) → IsErr (length_at t (first ∷ w)) → 128 ≤ first
 unfolding length_at
 fault-first t first w e = grind (arith, nat_tests)
@@ -95,7 +95,7 @@ unfolding length_at
 stands t first w low high l =
     rw (le-ltb first 128 (omega arith), ne_eqb first 128 (λ z. omega arith), le-ltb 132 first (omega arith), le-ltb (length w) (first - 128) l) refl
 
--- where the digits stand, it is their form
+-- If all digits are there, the error is that of their form.
 pub fault-form : (t : Tag) (first : ℕ) (w : List ℕ) → IsErr (length_at t (first ∷ w)) → 128 < first → first < 133 → first - 128 ≤ length w
     → length_at t (first ∷ w) ≡ Err (kinds.Length t)
 fault-form t first w e low high l =
@@ -106,9 +106,9 @@ fault-form t first w e low high l =
     form true y e = absurd cc
     form false y e = refl
 
--- by the byte at the prefix
+-- The first byte
 
--- the bytes after it
+-- The bytes after it.
 abbrev behind : List ℕ → List ℕ
 behind w = take (length w - 1) (drop 1 w)
 
@@ -149,7 +149,7 @@ fault-shape t (a ∷ w) e l n h s =
     let long : 128 < a = omega (arith, fault-first t a w e, n) in
     fault-form t a w e long (omega arith) (omega arith)
 
--- a header whose tag is one byte
+-- A header whose tag has one byte.
 pub plain : (w : List ℕ) (t : Tag) (n count : ℕ) → 1 ≤ length w → ((r : List ℕ) → tag_at (get_or w 0 0 ∷ r) ≡ Ok (t, r))
     → length_at t (behind w) ≡ Ok (n, drop count (behind w)) → head_at w ≡ Ok (record { tag = t; len = n }, drop (1 + count) w)
 unfolding head_at
@@ -162,7 +162,7 @@ plain (a ∷ w) t n count l tag len =
 pub behind-le : (w : List ℕ) (n : ℕ) → 1 ≤ length w → n ≤ length (behind w) → 1 + n ≤ length w
 behind-le w n l h = omega (arith, ap (λ (u : List ℕ). length u) (behind-is w), length-drop 1 w)
 
--- A length alone is read as one after a tag, but for the error of a form that isn't the shortest.
+-- A length without a tag is decoded as one after a tag, except for the error `Length`
 
 pub lone_is : (w : List ℕ) (r : Result (ℕ × List ℕ) ErrorKind) → length_at tags.Null w ≡ r → lone_length_at w ≡ lone r
 unfolding lone_length_at
@@ -181,7 +181,7 @@ lone_spelled w (Err e) bytes h = tt
 pub lone_again : (n : ℕ) (r : List ℕ) → IsLength n → lone_length_at (length_octets n ++ r) ≡ Ok (n, r)
 lone_again n r fits = lone_is (length_octets n ++ r) (Ok (n, r)) (length_again tags.Null n r fits)
 
--- Lengths and headers at the beginning of bytes, as the grammar spells them.
+-- Decoded lengths and headers are their encodings
 
 pub length_spelled : (t : Tag) (w : List ℕ) (r : Result (Length × ℕ) Error) → IsBytes w → ReadsFront (λ (l : Length). l.value) w r (length_at t) → IfOk r (λ x. w ≡ length_octets x.0.value ++ drop x.1 w)
 length_spelled t w (Ok x) bytes h = (length_sound t w x.0.value (drop x.1 w) bytes h.0).0
@@ -193,7 +193,7 @@ head_spelled w (Ok x) bytes h =
     (s.1, s.0)
 head_spelled w (Err e) bytes h = tt
 
--- What was scanned is so before any further bytes.
+-- A result of scanning stays the same for longer inputs
 
 pub scans_longer : (w more : List ℕ) (r : Result (Option (Header × ℕ)) Error) → Scans w r → r ≢ Ok None → Scans (w ++ more) r
 scans_longer w more (Ok (Some x)) h other =
@@ -202,7 +202,7 @@ scans_longer w more (Ok (Some x)) h other =
 scans_longer w more (Ok None) h other = absurd (other refl)
 scans_longer w more (Err e) h other = (fault_stays e.kind w more h.0 h.1, h.1)
 
--- what was scanned is scanned so alone
+-- The scanned bytes have the same result without the bytes after them
 
 front_is : (w : List ℕ) (x y : Header × ℕ) → Scans w (Ok (Some x)) → Scans w (Ok (Some y)) → x ≡ y
 front_is w x y h i =

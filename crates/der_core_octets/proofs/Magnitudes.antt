@@ -1,4 +1,4 @@
--- The number of a content, byte by byte.
+-- Lemmas about the integer of a content, byte by byte.
 use Rattle.std.proofs.Common.{◌≡◌, ℕ, ◌+◌, ◌*◌, ◌-◌, ◌^◌, ◌<◌, ◌≤◌, Bool, true, false, List, ◌∷◌, length, get_or, drop, refl, ap, subst, sym, ◌∙◌, arith, leb, [], Some, Ok, Err, slice_get, pos, lt-ltb, le-ltb, pow_mono, pow-suc, zero, suc, ◌/◌, ◌%◌, ◌++◌, append_assoc}
 use Rattle.std.proofs.lemmas.Bool.Decides.{nat_tests}
 use Rattle.std.specs.Int.Digits.{number_from_digits, number_from_digits_after, AllBelowBase}
@@ -26,14 +26,14 @@ pub magnitude_large : (b : Bool) (n i : ℕ) (w : List ℕ) → i < length w →
 magnitude_large b n i w h large =
     rw (magnitude_more b n i w h) (omega (arith, number_after_ge 256 (256 * n + turn b (get_or w i 0)) (turned b (drop (i + 1) w)) (omega arith)))
 
--- the number of the bytes, by the first one
+-- The integer of the bytes depends on the first bit.
 pub shortest_is : (t : Tag) (w : List ℕ) (d : ℕ) → slice_get w 0 ≡ Some d → is_redundant w ≡ false
     → shortest_integer t w ≡ Ok (with_sign (leb 128 d) (number_from_digits 256 (turned (leb 128 d) w)))
 unfolding shortest_integer integer_of
 shortest_is t [] d e h = absurd cc
 shortest_is t (a ∷ w) d e h = grind (arith, nat_tests)
 
--- a number past the greatest of its type
+-- An integer that exceeds its type.
 pub unsigned_large : (k : ℕ) (t : Tag) (w : List ℕ) (n : ℕ) → shortest_integer t w ≡ Ok (pos n) → k ≤ 128 → 2 ^ 128 ≤ n → integer_read (unsigned k) t w ≡ Err (kinds.Length t)
 unsigned_large k t w n e le large = rw (e, le-ltb n (2 ^ k) (omega (arith, pow_mono {i = k} {j = 128} le))) refl
 
@@ -41,7 +41,7 @@ pub signed_large : (k : ℕ) (t : Tag) (w : List ℕ) (b : Bool) (n : ℕ) → s
 signed_large k t w true n e le large = rw (e, le-ltb n (2 ^ (k - 1)) (omega (arith, pow_mono {i = k - 1} {j = 128} (omega arith)))) refl
 signed_large k t w false n e le large = rw (e, le-ltb n (2 ^ (k - 1)) (omega (arith, pow_mono {i = k - 1} {j = 128} (omega arith)))) refl
 
--- Writing, from the last byte on
+-- Writing, from the last byte to the first
 
 turned-append : (b : Bool) (u w : List ℕ) → turned b (u ++ w) ≡ turned b u ++ turned b w
 turned-append true u w = map-append (λ d. 255 - d) u w
@@ -72,7 +72,7 @@ pub place_some : (n at : ℕ) → 128 ≤ n → n < 256 ^ at → 0 < at
 place_some n zero l h = absurd (omega arith)
 place_some n (suc k) l h = omega arith
 
--- the content of a number, from its digits
+-- The content of an integer, from its digits
 
 content_is : (b : Bool) (n : ℕ) → integer_octets (with_sign b n) ≡ turned b (positive (digits 256 n))
 unfolding integer_octets

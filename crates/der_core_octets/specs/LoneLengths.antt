@@ -1,4 +1,4 @@
--- Lengths that stand alone, after no tag (X.690 8.1.3, 10.1).
+-- Lengths without a tag before them (X.690 8.1.3, 10.1).
 use Rattle.std.specs.Prelude.{ℕ, List, Result, Ok, Err}
 use Rattle.der_core_head.specs.declared.error.ErrorKind.{ErrorKind}
 use Rattle.der_core_head.specs.declared.error.ErrorKind.TheVariants as kinds
@@ -6,8 +6,8 @@ use Rattle.der_core_head.specs.declared.tag.Tag.TheVariants as tags
 use Rattle.der_core_head.specs.Octets.{Readings}
 use Rattle.der_core_head.specs.Heads.{length_at}
 
--- the error after no tag: a form that isn't the shortest is too long, and no tag is there to be
--- named
+-- The error of a length without a tag: `Overlength` takes the place of `Length`, which would name
+-- the tag.
 abbrev pub lone_fault : ErrorKind → ErrorKind
 lone_fault (kinds.Length t) = kinds.Overlength
 lone_fault k = k
@@ -16,6 +16,6 @@ abbrev pub lone : Result (ℕ × List ℕ) ErrorKind → Result (ℕ × List ℕ
 lone (Ok x) = Ok x
 lone (Err k) = Err (lone_fault k)
 
--- the number that is reported, as after any tag
+-- Decodes a length as after any tag, except for that error.
 unfoldable pub lone_length_at : Readings ℕ
 lone_length_at w = lone (length_at tags.Null w)

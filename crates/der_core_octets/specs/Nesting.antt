@@ -1,4 +1,4 @@
--- Reading by a closure up to an end that is set nearer for the while.
+-- Decoding nested values with a closure, for which the end of the reader is moved nearer.
 use Rattle.std.specs.Prelude.{◌≡◌, ◌≢◌, ◌<◌, ◌≤◌, ◌⊎◌, ℕ, length, drop, [], true, false, Result, Ok}
 use Rattle.std.specs.Prelude.{Err}
 use Rattle.std.specs.Borrow.{MutBor}
@@ -9,26 +9,27 @@ use Rattle.der_core_head.specs.declared.tag.Tag.{Tag}
 use Rattle.der_core_head.specs.Bodies.{head_by}
 use Rattle.der_core_head.specs.Reading.{State, Kept, Refuses, entered}
 
--- a header of that tag and of n content bytes stands next, by the rules of the reader, and mid is
--- the reader after it
+-- The reader `old` is at a header with this tag and a content of `n` bytes, and `mid` is the reader
+-- after the header.
 pub record Enters (t : Tag) (n : ℕ) (old mid : State) : Type 0 where
   pub ready : old.failed ≡ false
   pub head : head_by old.source.encoding old.rest ≡ Ok (record { tag = t; len = n }, mid.rest)
   pub moved : mid ≡ record old { rest = mid.rest }
 
--- an end can be set n bytes ahead: so many are left, and a level
+-- The end can be moved to `n` bytes ahead: there are as many bytes, and another level may be
+-- opened.
 abbrev pub CanEnter : ℕ → State → Type 0
 CanEnter n old = (n ≤ length old.rest) × (0 < old.room)
 
--- the next n bytes were passed over, and the end and the levels are those before
+-- The next `n` bytes were consumed, and the end and the levels are as before.
 pub record IsNested (n : ℕ) (old new : State) : Type 0 where
   pub ready : old.failed ≡ false
   pub enters : CanEnter n old
   pub rest : new.rest ≡ drop n old.rest
   pub kept : Kept old new
 
--- an end was set n bytes ahead, and f was called at a reader with that end, answered r, and left
--- the reader so
+-- The end was moved to `n` bytes ahead, and `f` was called with a reader that has this end. It
+-- returned `r`, and changed the reader to `outer`.
 abbrev pub CalledWithin : {R T F : Type 0} → (R → State)
     → Once F (MutBor R × Unit {0}) (Result T Error × (MutBor R × Unit {0})) → F → ℕ → State
     → Result T Error → R → Type 0
@@ -36,20 +37,21 @@ CalledWithin {R} state g f n old r outer =
     CanEnter n old × (inner : R) × (state inner ≡ entered n old)
     × FnOnceReturnsAtMut g f inner r outer
 
--- f answered x, and left nothing
+-- The closure `f` returned `x` and read all bytes.
 abbrev pub Answered : {R T F : Type 0} → (R → State)
     → Once F (MutBor R × Unit {0}) (Result T Error × (MutBor R × Unit {0})) → F → ℕ → State → T
     → Type 0
 Answered {R} state g f n old x = (outer : R) × CalledWithin state g f n old (Ok x) outer
     × ((state outer).rest ≡ [])
 
--- f answered something, and left bytes
+-- The closure `f` succeeded and left bytes unread.
 abbrev pub LeavesOctets : {R T F : Type 0} → (R → State)
     → Once F (MutBor R × Unit {0}) (Result T Error × (MutBor R × Unit {0})) → F → ℕ → State → Type 0
 LeavesOctets {R} {T} state g f n old = (outer : R) × (x : T)
     × CalledWithin state g f n old (Ok x) outer × ((state outer).rest ≢ [])
 
--- why it was refused: the reader had failed, the end can't be set, f was refused, or it left bytes
+-- The possible errors: the reader had failed, the end can't be moved, `f` returned the error, or
+-- `f` left bytes unread.
 abbrev pub RefusesNested : {R T F : Type 0} → (R → State)
     → Once F (MutBor R × Unit {0}) (Result T Error × (MutBor R × Unit {0})) → F → ℕ → State → Error
     → Type 0
@@ -59,22 +61,22 @@ RefusesNested {R} state g f n old e =
     ⊎ (((outer : R) × CalledWithin state g f n old (Err e) outer)
     ⊎ (LeavesOctets state g f n old × (e.kind ≡ kinds.TrailingData))))
 
--- a header of the expected tag was passed over, and its content
+-- The reader was at a header with this tag, which was consumed together with its content.
 abbrev pub IsEnclosed : Tag → State → State → Type 0
 IsEnclosed t old new = (n : ℕ) × (mid : State) × Enters t n old mid × IsNested n mid new
 
--- f was called at that content, answered x, and left nothing
+-- The closure `f` was called at that content, returned `x`, and read all of it.
 abbrev pub AnsweredIn : {R T F : Type 0} → Tag → (R → State)
     → Once F (MutBor R × Unit {0}) (Result T Error × (MutBor R × Unit {0})) → F → State → T → Type 0
 AnsweredIn t state g f old x = (n : ℕ) × (mid : State) × Enters t n old mid
     × Answered state g f n mid x
 
--- another tag is there
+-- The reader is at a header with another tag.
 abbrev pub IsOther : Tag → State → Type 0
 IsOther t old = (s : Tag) × (n : ℕ) × (mid : State) × Enters s n old mid × (s ≢ t)
 
--- why it was refused: the reader had failed, no header is there, one of another tag, or f at the
--- content was refused
+-- The possible errors: the reader had failed, there is no header, the header has another tag, or
+-- decoding the content with `f` failed.
 abbrev pub RefusesIn : {R T F : Type 0} → Tag → (R → State)
     → Once F (MutBor R × Unit {0}) (Result T Error × (MutBor R × Unit {0})) → F → State → Error
     → Type 0

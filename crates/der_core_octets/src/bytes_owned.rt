@@ -1,4 +1,4 @@
-//! Owned bytes that a length can count.
+//! Owned bytes, of which there are at most 2^32 - 1.
 
 ghost use Rattle.std.specs.Prelude.{◌≡◌, ◌↔◌, ◌<◌, [], length, nat_eq, IsTrue, IfOk, Some};
 ghost use Rattle.std.proofs.Common.{refl, rules};
@@ -23,7 +23,9 @@ use std::convert::AsSlice;
 use std::hash::{Hash, Hasher};
 use std::marker::Model;
 
-/// Owned bytes, at most `Length::MAX` of them. A contract sees the bytes.
+/// Owned bytes, at most `Length::MAX` of them.
+///
+/// In contracts, its value is the bytes.
 #[derive(Debug, Drop)]
 pub struct BytesOwned {
     bytes: Vec<u8>,
@@ -55,17 +57,21 @@ impl BytesOwned {
         Ok(BytesOwned { bytes })
     }
 
-    /// Returns the joined contents of the parts of a string in parts (X.690 8.7.3). The parts
-    /// follow its header. Each is an encoding of `inner_tag` by DER. They end with the content, or
-    /// with the mark that closes an indefinite length (8.1.5). After an error the reader has
-    /// failed.
+    /// Decodes the content of a string in constructed form (X.690 8.7.3), after its header, and
+    /// returns the joined contents of its parts.
     ///
-    /// A header doesn't say whether a string is in parts; bit 6 of its first byte does.
+    /// Each part is a DER encoding with the tag `inner_tag`. The parts end with the content of the
+    /// string, or with the end-of-contents bytes of an indefinite length (X.690 8.1.5). After an
+    /// error the reader has failed.
+    ///
+    /// A `Header` doesn't tell whether the string is in constructed form. Bit 6 of the first byte
+    /// of the encoding does.
     ///
     /// # Errors
     ///
     /// - `Incomplete`: the content is longer than the remaining bytes.
-    /// - `TagUnknown`: the rules are DER, which has no strings in parts (10.2).
+    /// - `TagUnknown`: the reader's encoding rules are DER, which doesn't allow the constructed
+    ///   form (X.690 10.2).
     /// - `TagUnexpected`: a part has another tag.
     /// - The first error of a part.
     /// - `OutOfMemory`: memory runs out.
@@ -90,11 +96,11 @@ impl BytesOwned {
         }
     }
 
-    /// Returns a copy of bytes that a length can count.
+    /// Returns a copy of bytes that the caller proves to be at most 2^32 - 1.
     ///
     /// # Errors
     ///
-    /// Fails if memory runs out.
+    /// - `AllocError`: memory runs out.
     pub fn copy_of(alloc: Global, octets: &[u8]) -> Result<BytesOwned, AllocError>
         requires { Fits octets.now }
         ensures { IfOk result (λ copy. copy ≡ octets.now) }
@@ -107,7 +113,7 @@ impl BytesOwned {
     ///
     /// # Errors
     ///
-    /// Fails if memory runs out.
+    /// - `AllocError`: memory runs out.
     pub fn clone(&self, alloc: Global) -> Result<BytesOwned, AllocError>
         ensures { IfOk result (λ copy. copy ≡ self.now) }
     {
@@ -129,14 +135,14 @@ impl BytesOwned {
         self.bytes.as_slice()
     }
 
-    /// Returns how many there are.
+    /// Returns the number of bytes.
     pub fn len(&self) -> Length
         ensures { result.value ≡ length self.now }
     {
         Length::new(self.bytes.len() as u32)
     }
 
-    /// Returns whether there are none.
+    /// Returns whether there are no bytes.
     pub fn is_empty(&self) -> bool
         ensures { IsTrue result ↔ (self.now ≡ []) }
     {

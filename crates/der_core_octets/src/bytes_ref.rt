@@ -1,4 +1,4 @@
-//! Borrowed bytes that a length can count.
+//! Borrowed bytes, of which there are at most 2^32 - 1.
 
 ghost use Rattle.std.specs.Prelude.{◌≡◌, ◌↔◌, ◌<◌, ◌≤◌, [], length, take, IsTrue, IfOk, IfErr};
 ghost use Rattle.der_core_head.specs.Heads.{Fits};
@@ -43,14 +43,14 @@ impl<'a> BytesRef<'a> {
         self.bytes
     }
 
-    /// Returns how many there are.
+    /// Returns the number of bytes.
     pub fn len(&self) -> Length
         ensures { result.value ≡ length (held_octets self.now) }
     {
         Length::new(self.bytes.len() as u32)
     }
 
-    /// Returns whether there are none.
+    /// Returns whether there are no bytes.
     pub fn is_empty(&self) -> bool
         ensures { IsTrue result ↔ (held_octets self.now ≡ []) }
     {
@@ -61,7 +61,7 @@ impl<'a> BytesRef<'a> {
     ///
     /// # Errors
     ///
-    /// - `Incomplete`: there are fewer; the position is after the last one.
+    /// - `Incomplete`: there are fewer bytes. The position of the error is after the last one.
     pub fn prefix(&self, len: Length) -> Result<BytesRef<'a>, Error>
         ensures ok { IfOk result
             (λ front. (len.value ≤ length (held_octets self.now))
@@ -90,7 +90,7 @@ impl AsSlice<u8> for BytesRef<'_> {
     }
 }
 
-/// Wraps these bytes. 2^32 bytes or more are `Overflow`.
+/// Wraps these bytes. The error is `Overflow` if there are 2^32 bytes or more.
 impl<'a> TryFrom<&'a [u8]> for BytesRef<'a> {
     ghost use Rattle.der_core_octets.specs.Held.{held_octets};
     ghost use Rattle.der_core_head.specs.Reading.{GivesNow};

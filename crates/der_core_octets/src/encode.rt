@@ -114,6 +114,7 @@ pub fn encode_header<W: Writer>(writer: &mut W, tag: Tag, len: Length) -> Result
     ensures kept { Continues (W.out writer.old) (W.out writer.new) }
     ensures front { AddsFront (head_octets tag len.value) (W.out writer.old) (W.out writer.new) }
 {
+    // Checks that the header and the content together aren't too long.
     let _whole = len.for_tlv(tag)?;
     if number_of(tag) < 31 {
         return encode_short_header(writer, tag, len);

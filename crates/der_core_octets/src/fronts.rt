@@ -1,4 +1,4 @@
-//! Decoding tags and headers by BER or DER.
+//! Decoding tags and headers under BER or DER.
 
 ghost use Rattle.std.specs.Prelude.{◌≡◌, ◌≤◌, length, Ok, IfOk, IfSome};
 ghost use Rattle.der_core_head.specs.declared.encoding_rules.EncodingRules.{EncodingRules};

@@ -19,17 +19,17 @@ use der_core_head::{Error, Length, Tag};
 /// # Errors
 ///
 /// - `Incomplete`: the bytes end too early.
-/// - `IndefiniteLength`: the first byte is `80`.
+/// - `IndefiniteLength`: the first byte is `0x80`.
 /// - `Overlength`: the length has more than four bytes.
 /// - `Length`: fewer bytes would be enough.
 pub fn length_of(tag: Tag, octets: &[u8]) -> Result<(Length, usize), Error>
-    // What is accepted is an encoding.
+    // Accepted bytes begin with the encoding of the length.
     ensures spelled { IfOk result
         (λ x. octets.now ≡ length_octets x.0.value ++ drop x.1 octets.now) }
     // An encoding is accepted, whatever follows it.
     ensures only { (n : ℕ) (r : List ℕ) → IsLength n → octets.now ≡ length_octets n ++ r
         → ReadsFront (λ l. l.value) octets.now result (λ _. Ok (n, r)) }
-    // The error is exact.
+    // The result is that of the definition, including the kind of the error.
     ensures exact { ReadsFront (λ l. l.value) octets.now result (length_at tag) }
 {
     parse::length_of(tag, octets)
@@ -41,16 +41,16 @@ pub fn length_of(tag: Tag, octets: &[u8]) -> Result<(Length, usize), Error>
 /// # Errors
 ///
 /// - `Incomplete`: the bytes end too early.
-/// - `IndefiniteLength`: the first byte is `80`.
+/// - `IndefiniteLength`: the first byte is `0x80`.
 /// - `Overlength`: the length has more than four bytes, or fewer bytes would be enough.
 pub fn lone_length_of(octets: &[u8]) -> Result<(Length, usize), Error>
-    // What is accepted is an encoding.
+    // Accepted bytes begin with the encoding of the length.
     ensures spelled { IfOk result
         (λ x. octets.now ≡ length_octets x.0.value ++ drop x.1 octets.now) }
     // An encoding is accepted, whatever follows it.
     ensures only { (n : ℕ) (r : List ℕ) → IsLength n → octets.now ≡ length_octets n ++ r
         → ReadsFront (λ l. l.value) octets.now result (λ _. Ok (n, r)) }
-    // The error is exact.
+    // The result is that of the definition, including the kind of the error.
     ensures exact { ReadsFront (λ l. l.value) octets.now result lone_length_at }
 {
     parse::lone_length_of(octets)
@@ -63,7 +63,7 @@ pub fn lone_length_of(octets: &[u8]) -> Result<(Length, usize), Error>
 ///
 /// - The errors of its tag, and then of its length.
 pub fn header_of(octets: &[u8]) -> Result<(Header, usize), Error>
-    // What is accepted is an encoding.
+    // Accepted bytes begin with the encoding of the header.
     ensures spelled { IfOk result
         (λ x. IsTag x.0.tag
         × (octets.now ≡ head_octets x.0.tag x.0.length.value ++ drop x.1 octets.now)) }
@@ -71,7 +71,7 @@ pub fn header_of(octets: &[u8]) -> Result<(Header, usize), Error>
     ensures only { (t : Tag) (n : ℕ) (r : List ℕ) → IsTag t → IsLength n
         → octets.now ≡ head_octets t n ++ r
         → ReadsFront head_of octets.now result (λ _. Ok (record { tag = t; len = n }, r)) }
-    // The error is exact.
+    // The result is that of the definition, including the kind of the error.
     ensures exact { ReadsFront head_of octets.now result head_at }
 {
     parse::header_of(octets)

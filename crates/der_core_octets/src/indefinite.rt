@@ -14,12 +14,12 @@ use crate::header::Header;
 use crate::parse::length_of;
 use der_core_head::{Error, ErrorKind, Length, MAX_LEVELS, Tag, tag_of};
 
-/// Returns the tag with which the bytes begin, under BER, and its length in bytes. The byte `24` is
-/// the tag of an OCTET STRING in parts (X.690 8.1.2, 8.7.1).
+/// Returns the tag with which the bytes begin, under BER, and its length in bytes. The byte `0x24`
+/// is the tag of an OCTET STRING in constructed form (X.690 8.1.2, 8.7.1).
 ///
 /// # Errors
 ///
-/// - The errors of [`tag_of`].
+/// The errors of `tag_of`.
 #[tactic(auto, unfolding(der_core_head::specs::Bodies::tag_ber_at))]
 pub fn tag_ber_of(octets: &[u8]) -> Result<(Tag, usize), Error>
     ensures { ReadsFront (λ t. t) octets.now result tag_ber_at }
@@ -47,7 +47,7 @@ struct Mark {
 /// # Errors
 ///
 /// - The errors of the tag.
-/// - The errors of the length, and `IndefiniteLength` for the byte `80` after a tag that isn't
+/// - The errors of the length, and `IndefiniteLength` for the byte `0x80` after a tag that isn't
 ///   constructed.
 #[tactic(auto, unfolding(der_core_head::specs::Bodies::mark_at))]
 fn mark_of(octets: &[u8]) -> Result<(Mark, usize), Error>
@@ -75,23 +75,23 @@ fn mark_of(octets: &[u8]) -> Result<(Mark, usize), Error>
     ))
 }
 
-/// An element of a body of indefinite length.
+/// A part of a body of indefinite length.
 #[derive(Drop)]
 enum Piece {
-    /// The two zero bytes that end a level.
+    /// The end-of-contents bytes, two zero bytes, which end a level.
     Ending,
-    /// A tag and the byte 80, which open a level.
+    /// A tag and the byte `0x80`, which open a level.
     Opening,
     /// A complete encoding of definite length.
     Encoding,
 }
 
-/// Returns the element with which the body begins, and its length in bytes.
+/// Returns the part with which the body begins, and its length in bytes.
 ///
 /// # Errors
 ///
 /// - `Incomplete`: the bytes end too early.
-/// - `TagUnknown`: a zero byte comes before one that isn't zero.
+/// - `TagUnknown`: a zero byte is followed by a byte that isn't zero.
 /// - The errors of a header.
 #[tactic(auto, unfolding(der_core_head::specs::Bodies::piece_at))]
 fn piece_of(octets: &[u8]) -> Result<(Piece, usize), Error>
@@ -147,11 +147,11 @@ fn body_len_of(octets: &[u8]) -> Result<Length, Error>
     Ok(Length { value: len as u32 })
 }
 
-/// Returns the length of the body of indefinite length with which the bytes begin, including the
-/// bytes that end it (X.690 8.1.3.6, 8.1.5).
+/// Returns the length of the body of indefinite length with which the bytes begin, including its
+/// end-of-contents bytes (X.690 8.1.3.6, 8.1.5).
 ///
-/// At most 64 levels are open at once, including that of the body. The contents of encodings of
-/// definite length aren't looked into.
+/// At most 64 levels may be open at once, including that of the body. The contents of encodings of
+/// definite length aren't decoded.
 ///
 /// # Errors
 ///
@@ -159,22 +159,22 @@ fn body_len_of(octets: &[u8]) -> Result<Length, Error>
 ///
 /// - `Incomplete`: the bytes end too early.
 /// - `NestingDepth`: a 65th level is opened.
-/// - `TagUnknown`: a zero byte comes before one that isn't zero.
+/// - `TagUnknown`: a zero byte is followed by a byte that isn't zero.
 /// - The error of a header inside.
-/// - `Overflow`: the body is longer than a length can count.
+/// - `Overflow`: the body has 2^32 bytes or more.
 pub fn indefinite_length_of(octets: &[u8]) -> Result<Length, Error>
-    // The counted bytes are a body, with the bytes that end it.
+    // The counted bytes are a body, including its end-of-contents bytes.
     ensures body { IfOk result (λ n. IsIndefiniteBody levels_max (take n.value octets.now)) }
     ensures within { IfOk result (λ n. n.value ≤ length octets.now) }
     ensures least { IfOk result (λ n. 2 ≤ n.value) }
-    // A body is counted, whatever follows it.
+    // A body is accepted, whatever follows it.
     ensures counted { (b more : List ℕ) → IsIndefiniteBody levels_max b → Fits b
         → octets.now ≡ b ++ more
         → GivesNow (λ n. n.value) result (Ok (length b)) }
-    // The result is the same whatever follows the counted bytes.
+    // The result doesn't depend on the bytes after the counted ones.
     ensures alone { IfOk result
         (λ n. (more : List ℕ) → body_len_at (take n.value octets.now ++ more) ≡ Ok n.value) }
-    // The error is exact.
+    // The result is that of the definition, including the kind of the error.
     ensures exact { GivesNow (λ n. n.value) result (body_len_at octets.now) }
 {
     let length = body_len_of(octets)?;
@@ -184,23 +184,24 @@ pub fn indefinite_length_of(octets: &[u8]) -> Result<Length, Error>
 /// Returns the header with which the bytes begin, under BER, and the number of bytes of its tag and
 /// length.
 ///
-/// An indefinite length is the length of the body, including the bytes that end it.
+/// If the length is indefinite, the length of the header is that of the body, including its
+/// end-of-contents bytes.
 ///
 /// # Errors
 ///
-/// - The first error from the left: that of the tag, of the length, or of a body of indefinite
-///   length.
+/// The first error from the left, which is that of the tag, of the length, or of a body of
+/// indefinite length.
 pub fn header_ber_of(octets: &[u8]) -> Result<(Header, usize), Error>
-    // What is accepted is an encoding.
+    // Accepted bytes begin with an encoding of the header.
     ensures spelled { IfOk result (λ x. SpellsHead (head_of x.0) (drop x.1 octets.now) octets.now) }
     // An encoding is accepted.
     ensures only { (h : Head) (r : List ℕ) → SpellsHead h r octets.now
         → ReadsFront head_of octets.now result (λ w. Ok (h, r)) }
-    // The result is the same whatever follows the counted bytes.
+    // The result doesn't depend on the bytes after the counted ones.
     ensures alone { IfOk result (λ x. (more : List ℕ)
         → head_ber_at (take x.1 octets.now ++ (take x.0.length.value (drop x.1 octets.now) ++ more))
         ≡ Ok (head_of x.0, take x.0.length.value (drop x.1 octets.now) ++ more)) }
-    // The error is exact.
+    // The result is that of the definition, including the kind of the error.
     ensures exact { ReadsFront head_of octets.now result head_ber_at }
 {
     let (header, count) = read_header(octets)?;

@@ -10,11 +10,11 @@ ghost use Rattle.der_core_octets.specs.Numbers.{IsWholeNumber};
 
 use der_core_head::{Error, ErrorKind, Tag};
 
-/// The smallest number that can't be followed by another byte within 128 bits: 2^120.
+/// The smallest number that has no room for another byte in 128 bits, 2^120.
 const LARGE: u128 = 0x0100_0000_0000_0000_0000_0000_0000_0000;
 
-/// Returns the number that the bytes encode in base 256, if it fits 128 bits. For a negative
-/// number, each byte is inverted.
+/// Returns the number that the bytes are in base 256, if it fits 128 bits. For a negative number,
+/// each byte is inverted.
 fn magnitude_of(octets: &[u8], negative: bool) -> Option<u128>
     ensures { IsMagnitude (number_from_digits 256 (turned negative octets.now)) result }
 {
@@ -119,7 +119,7 @@ pub fn signed_of(tag: Tag, octets: &[u8], bits: u32) -> Result<(bool, u128), Err
 }
 
 /// Returns the content of the integer n, or of -(n + 1) if it is negative: an array, and the index
-/// from which its bytes are the content.
+/// at which the content begins in it.
 pub fn integer_octets_of(negative: bool, number: u128) -> ([u8; 17], usize)
     ensures octets { drop result.1 result.0 ≡ integer_octets (with_sign negative number) }
     ensures some { result.1 < 17 }

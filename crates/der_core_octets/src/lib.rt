@@ -1,5 +1,5 @@
 //! The layer between bytes and values: headers and integers (X.690 8.1), readers and writers, and
-//! bytes and texts whose length fits a `Length`.
+//! bytes and texts of at most 2^32 - 1 bytes. Users import its items from `der_core`.
 #![tactic(auto)]
 
 mod bytes_owned;

@@ -19,7 +19,7 @@ use der_core_head::{
 /// # Errors
 ///
 /// - `Incomplete`: the bytes end too early.
-/// - `IndefiniteLength`: the first byte is `80`.
+/// - `IndefiniteLength`: the first byte is `0x80`.
 /// - `Overlength`: the length has more than four bytes.
 /// - `Length`: fewer bytes would be enough.
 #[tactic(auto, unfolding(der_core_head::specs::Heads::length_at))]
@@ -122,7 +122,7 @@ fn long_length_of(first: u8, rest: &[u8]) -> Option<Length>
     Some(Length { value })
 }
 
-/// Returns why the bytes, after a tag, don't begin with a length.
+/// Returns the reason why the bytes, after a tag, don't begin with a length.
 fn length_fault(tag: Tag, octets: &[u8]) -> ErrorKind
     requires { IsErr (length_at tag octets.now) }
     ensures { length_at tag octets.now ≡ Err result }
@@ -143,8 +143,10 @@ fn length_fault(tag: Tag, octets: &[u8]) -> ErrorKind
     ErrorKind::Length { tag }
 }
 
-/// Returns the header with which the bytes begin, and its length in bytes, if its tag has one byte.
-/// Most headers are like this, and the loops that decode headers need no call for them.
+/// Returns the header with which the bytes begin, and its length in bytes, if its tag has one byte
+/// and its length is in its shortest form.
+///
+/// Most headers are like this, so the loops that decode headers need no call for them.
 #[inline(always)]
 #[tactic(auto, unfolding(der_core_head::specs::Heads::head_at))]
 pub fn short_header_of(octets: &[u8]) -> Option<(Header, usize)>

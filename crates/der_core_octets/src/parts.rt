@@ -1,4 +1,4 @@
-//! Strings in parts (X.690 8.7.3).
+//! Strings in constructed form (X.690 8.7.3).
 
 ghost use Rattle.std.specs.Prelude.{◌≡◌, ◌≤◌, [], length, IfOk};
 ghost use Rattle.der_core_head.specs.Fronts.{ReadsFront};
@@ -35,7 +35,7 @@ fn are_closed(octets: &[u8]) -> bool
     }
 }
 
-/// Returns the joined contents of parts, by BER.
+/// Returns the joined contents of parts, under BER.
 fn join_parts(alloc: Global, tag: Tag, octets: &[u8]) -> Result<Vec<u8>, Error>
     ensures exact { Gives (λ v. v.items) result (joined tag (length octets.now) [] octets.now) }
     ensures fewer { IfOk result (λ v. length v.items ≤ length octets.now) }
@@ -62,7 +62,7 @@ fn join_parts(alloc: Global, tag: Tag, octets: &[u8]) -> Result<Vec<u8>, Error>
 ///
 /// # Errors
 ///
-/// - `TagUnknown`: the rules are DER.
+/// - `TagUnknown`: the rules are DER, which doesn't allow the constructed form.
 /// - The first error of a part.
 /// - `OutOfMemory`: memory runs out.
 pub fn join_by(

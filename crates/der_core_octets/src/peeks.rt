@@ -7,11 +7,11 @@ ghost use Rattle.der_core_head.specs.Fronts.{matches_at};
 use crate::reader::Reader;
 use der_core_head::{Class, Error, TagNumber};
 
-/// Returns whether the next tag has this class and this number. At the end, it doesn't.
+/// Returns whether the next tag has this class and this number, or `false` if no bytes are left.
 ///
 /// # Errors
 ///
-/// - The errors of `peek_tag`.
+/// The errors of `peek_tag`.
 pub fn peek_matches<'a, R: Reader<'a>>(
     reader: &R,
     class: Class,

@@ -26,20 +26,21 @@ use crate::{
 use der_core_head::{EncodingRules, Error, ErrorKind, Length, Tag};
 use std::alloc::Global;
 
-/// A source of bytes. It has an end, which can be set nearer for a nested value, and a limit on
-/// such nesting.
+/// A source of bytes, with a position and an end. For a nested value, the end is moved to the end
+/// of that value (`begin_nested`). At most 64 levels of nesting can be open.
 ///
-/// A reader that returned an error from a call that reads has failed: each later call that reads
-/// returns `Failed`, and `is_failed` returns `true`. A call that peeks leaves the reader as it is,
+/// A reader that returned an error from a call that reads has failed. Each later call that reads
+/// returns `Failed`, and `is_failed` returns `true`. A call that peeks doesn't change the reader,
 /// even if it returns an error.
 pub trait Reader<'r>: Drop {
+    /// The abstract state of the reader.
     ghost state: { Self → State };
 
-    /// Returns the rules by which headers are decoded.
+    /// Returns the encoding rules under which headers are decoded.
     fn encoding_rules(&self) -> EncodingRules
         ensures { result ≡ (state self.now).source.encoding };
 
-    /// Sets the rules by which headers are decoded from now on.
+    /// Sets the encoding rules under which headers are decoded from now on.
     fn set_encoding_rules(&mut self, encoding_rules: EncodingRules)
         ensures { state self.new ≡ ruled encoding_rules (state self.old) };
 
@@ -51,12 +52,12 @@ pub trait Reader<'r>: Drop {
     fn position(&self) -> Length
         ensures { IsAt result.value (state self.now) };
 
-    /// Returns how many more levels of nesting can be opened.
+    /// Returns the number of levels of nesting that may still be opened.
     fn levels_left(&self) -> usize
         ensures left { result ≡ (state self.now).room }
         ensures most { result ≤ levels_max };
 
-    /// Returns whether a call has failed before.
+    /// Returns whether the reader has failed.
     fn is_failed(&self) -> bool
         ensures { result ≡ (state self.now).failed };
 
@@ -65,7 +66,7 @@ pub trait Reader<'r>: Drop {
         ensures rest { result.now ≡ (state self.now).rest }
         ensures short { Fits result.now };
 
-    /// Skips this many bytes.
+    /// Skips this many bytes, which the caller proves to be left.
     fn skip(&mut self, len: usize)
         requires { len ≤ length (state self.old).rest }
         ensures { state self.new ≡ past len (state self.old) };
@@ -74,20 +75,22 @@ pub trait Reader<'r>: Drop {
     fn fail(&mut self)
         ensures { state self.new ≡ broken (state self.old) };
 
-    /// Sets the end `len` bytes ahead, and returns by how many bytes it moved.
+    /// Opens a level of nesting: moves the end to `len` bytes ahead, and returns the number of
+    /// bytes by which it moved.
     ///
     /// # Errors
     ///
     /// - `Incomplete`: fewer bytes are left.
-    /// - `NestingDepth`: 64 ends are set.
+    /// - `NestingDepth`: no further level may be opened.
     fn begin_nested(&mut self, len: Length) -> Result<Length, Error>
         ensures { Opens len.value (state self.old) (state self.new) result };
 
-    /// Restores the end that `begin_nested` moved, whether or not reading failed there.
+    /// Closes a level of nesting: moves the end back by `behind` bytes, which `begin_nested`
+    /// returned. `failed` says whether a call inside the level failed.
     ///
     /// # Errors
     ///
-    /// - `TrailingData`: nothing failed, and bytes are left before the end.
+    /// - `TrailingData`: `failed` is false, and bytes are left before the end.
     fn end_nested(&mut self, behind: Length, failed: bool) -> Result<(), Error>
         requires behind { behind.value ≤ length (state self.old).behind }
         requires room { (state self.old).room < levels_max }
@@ -107,18 +110,18 @@ pub trait Reader<'r>: Drop {
         Length::new(self.remaining().len() as u32)
     }
 
-    /// Returns the next byte without consuming it. The reader stays as it is.
+    /// Returns the next byte without consuming it, or `None` if no bytes are left.
     final fn peek_byte(&self) -> Option<u8>
         ensures { result ≡ slice_get (state self.now).rest 0 }
     {
         self.remaining().first().copied()
     }
 
-    /// Returns the next bytes.
+    /// Returns the next `len` bytes, borrowed from the input.
     ///
     /// # Errors
     ///
-    /// - `Incomplete`: fewer are left.
+    /// - `Incomplete`: fewer bytes are left.
     final fn read_slice(&mut self, len: Length) -> Result<&'r [u8], Error>
         ensures { ReadsNow (λ s. s.now) (state self.old) (state self.new) result
             (slice_at len.value) }
@@ -139,7 +142,7 @@ pub trait Reader<'r>: Drop {
     ///
     /// # Errors
     ///
-    /// - `Incomplete`: none is left.
+    /// - `Incomplete`: no byte is left.
     final fn read_byte(&mut self) -> Result<u8, Error>
         ensures { ReadsNow (λ b. b) (state self.old) (state self.new) result byte_at }
     {
@@ -153,24 +156,24 @@ pub trait Reader<'r>: Drop {
         Ok(*octet)
     }
 
-    /// Decodes the next header, by the rules of the reader.
+    /// Decodes the next header under the reader's encoding rules.
     ///
     /// # Errors
     ///
-    /// - The errors of `header_of`, and under BER those of `header_ber_of`.
+    /// The errors of `header_of`, and under BER those of `header_ber_of`.
     #[inline(always)]
     final fn read_header(&mut self) -> Result<Header, Error>
-        // Under DER, what is accepted is an encoding.
+        // Under DER, accepted bytes begin with the encoding of the header.
         ensures spelled { IfOk result (λ h. IsDer (state self.old)
             → IsTag h.tag × ((state self.old).rest
             ≡ head_octets h.tag h.length.value ++ (state self.new).rest)) }
-        // An encoding is accepted, whatever follows it.
+        // Under DER, an encoding is accepted, whatever follows it.
         ensures only { (t : Tag) (n : ℕ) (r : List ℕ) → IsDer (state self.old)
             → (state self.old).failed ≡ false → IsTag t → IsLength n
             → (state self.old).rest ≡ head_octets t n ++ r
             → GivesNow head_of result (Ok (record { tag = t; len = n }))
             × ((state self.new).rest ≡ r) }
-        // The error is exact.
+        // The result is that of the definition, including the kind of the error.
         ensures front { ReadsNow head_of (state self.old) (state self.new) result
             (head_by (state self.old).source.encoding) }
     {
@@ -185,7 +188,7 @@ pub trait Reader<'r>: Drop {
         Ok(header)
     }
 
-    /// Decodes the next header, by the rules of the reader. It must have this tag.
+    /// Decodes the next header, under the reader's encoding rules. It must have this tag.
     ///
     /// # Errors
     ///
@@ -207,12 +210,11 @@ pub trait Reader<'r>: Drop {
         Ok(Header { tag, length })
     }
 
-    /// Returns the next header, by the rules of the reader, without consuming it. The reader stays
-    /// as it is.
+    /// Returns the next header under the reader's encoding rules, without consuming it.
     ///
     /// # Errors
     ///
-    /// - The errors of `read_header`.
+    /// The errors of `read_header`. The reader is unchanged by them.
     final fn peek_header(&self) -> Result<Header, Error>
         ensures { Peeks head_of (state self.now) result
             (alone (head_by (state self.now).source.encoding (state self.now).rest)) }
@@ -227,12 +229,12 @@ pub trait Reader<'r>: Drop {
         }
     }
 
-    /// Returns the next tag, by the rules of the reader, without consuming it. The reader stays as
-    /// it is.
+    /// Returns the next tag under the reader's encoding rules, without consuming it.
     ///
     /// # Errors
     ///
-    /// - The errors of `tag_of`, and under BER those of `tag_ber_of`.
+    /// The errors of `tag_of`, and under BER those of `tag_ber_of`. The reader is unchanged by
+    /// them.
     final fn peek_tag(&self) -> Result<Tag, Error>
         ensures { Peeks (λ t. t) (state self.now) result
             (alone (tag_by (state self.now).source.encoding (state self.now).rest)) }
@@ -247,12 +249,12 @@ pub trait Reader<'r>: Drop {
         }
     }
 
-    /// Returns the next tag, by the rules of the reader, without consuming it, or `None` if no
-    /// bytes are left. The reader stays as it is.
+    /// Returns the next tag under the reader's encoding rules, without consuming it, or `None` if
+    /// no bytes are left.
     ///
     /// # Errors
     ///
-    /// - The errors of `peek_tag`.
+    /// The errors of `peek_tag`. The reader is unchanged by them.
     final fn peek_tag_or_end(&self) -> Result<Option<Tag>, Error>
         ensures { Peeks (λ t. t) (state self.now) result
             (peek_at (state self.now).source.encoding (state self.now).rest) }
@@ -270,12 +272,12 @@ pub trait Reader<'r>: Drop {
         }
     }
 
-    /// Returns the next tag, by the rules of the reader, without consuming it, where a value is
-    /// required.
+    /// Returns the next tag under the reader's encoding rules, without consuming it. Use it if a
+    /// value is required.
     ///
     /// # Errors
     ///
-    /// - The errors of `peek_tag`. The reader has then failed.
+    /// The errors of `peek_tag`, after which the reader has failed.
     #[inline(always)]
     final fn next_tag(&mut self) -> Result<Tag, Error>
         ensures front { Peeks (λ t. t) (state self.old) result
@@ -291,12 +293,12 @@ pub trait Reader<'r>: Drop {
         Ok(next_any_tag(self)?)
     }
 
-    /// Returns the next tag, by the rules of the reader, without consuming it, or `None` if no
-    /// bytes are left, where a value is optional.
+    /// Returns the next tag under the reader's encoding rules, without consuming it, or `None` if
+    /// no bytes are left. Use it if a value is optional.
     ///
     /// # Errors
     ///
-    /// - The errors of `peek_tag`. The reader has then failed.
+    /// The errors of `peek_tag`, after which the reader has failed.
     #[inline(always)]
     final fn next_tag_or_end(&mut self) -> Result<Option<Tag>, Error>
         ensures front { Peeks (λ t. t) (state self.old) result
@@ -337,8 +339,8 @@ pub trait Reader<'r>: Drop {
         }
     }
 
-    /// Returns the bytes of the next encoding, including its header, by the rules of the reader.
-    /// The content isn't looked into.
+    /// Returns the bytes of the next encoding, including its header, under the reader's encoding
+    /// rules. The content isn't decoded.
     ///
     /// # Errors
     ///
@@ -367,11 +369,11 @@ pub trait Reader<'r>: Drop {
         Ok(&octets[..count + len])
     }
 
-    /// Fills the buffer with the next bytes, without consuming them. The reader stays as it is.
+    /// Fills the buffer with the next bytes, without consuming them.
     ///
     /// # Errors
     ///
-    /// - `Incomplete`: fewer bytes are left.
+    /// - `Incomplete`: fewer bytes are left. The reader is unchanged.
     final fn peek_into(&self, buffer: &mut [u8]) -> Result<(), Error>
         ensures ok { OnOk result
             ((buffer.new ≡ take (length buffer.old) (state self.now).rest)
@@ -467,27 +469,26 @@ pub trait Reader<'r>: Drop {
         true
     }
 
-    /// Calls `f` on the reader with its end set `len` bytes ahead. `f` must read all of these
+    /// Calls `f` on the reader with its end moved to `len` bytes ahead. `f` must read all of these
     /// bytes.
     ///
     /// # Errors
     ///
     /// - `Incomplete`: fewer bytes are left.
-    /// - `NestingDepth`: 64 ends are set.
+    /// - `NestingDepth`: no further level may be opened.
     /// - The error of `f`.
-    /// - `TrailingData`: `f` leaves bytes.
+    /// - `TrailingData`: `f` left bytes unread.
     final fn read_nested<T: Drop, F: FnOnce(&mut Self) -> Result<T, Error>>(
         &mut self,
         len: Length,
         f: F,
     ) -> Result<T, Error>
         requires callable { F.IsAlwaysCallable f }
-        // The closure returns the same reader, with the same end, at the same or a later position.
+        // The closure must leave the reader with the same end, at the same or a later position.
         requires hands_back { HandsBack state F.FnOnce f }
         // The bytes were consumed, and the end and the levels are as before.
         ensures moved { OnOk result (IsNested len.value (state self.old) (state self.new)) }
-        // The result is that of the closure, which left no bytes before the end that was set for
-        // it.
+        // The result is that of the closure, which read all bytes before the end.
         ensures ran { IfOk result (λ x. Answered state F.FnOnce f len.value (state self.old) x) }
         ensures kept { OnErr result (Kept (state self.old) (state self.new)) }
         ensures failed { OnErr result ((state self.new).failed ≡ true) }
@@ -508,7 +509,7 @@ pub trait Reader<'r>: Drop {
     ///
     /// # Errors
     ///
-    /// - The errors of `read_nested`.
+    /// The errors of `read_nested`.
     final fn read_value<T: Drop, F: FnOnce(&mut Self) -> Result<T, Error>>(
         &mut self,
         header: Header,
@@ -546,10 +547,10 @@ pub trait Reader<'r>: Drop {
     ) -> Result<T, Error>
         requires callable { F.IsAlwaysCallable f }
         requires hands_back { HandsBack state F.FnOnce f }
-        // Under either rules, the header of a SEQUENCE was next, and it and its content were
+        // Under BER as under DER, the header of a SEQUENCE was next, and it and its content were
         // consumed.
         ensures moved { OnOk result (IsEnclosed Tag.Sequence (state self.old) (state self.new)) }
-        // The result is that of the closure, which left nothing of the content.
+        // The result is that of the closure, which read all of the content.
         ensures ran { IfOk result
             (λ x. AnsweredIn Tag.Sequence state F.FnOnce f (state self.old) x) }
         ensures kept { Kept (state self.old) (state self.new) }
@@ -589,12 +590,12 @@ pub trait Reader<'r>: Drop {
     }
 }
 
-/// Returns the next tag, of any form, where a value is required. It isn't inlined into the calls
+/// Returns the next tag, of any form, where a value is required. This isn't inlined into the calls
 /// that choose by a tag, so that the usual tags cost little.
 ///
 /// # Errors
 ///
-/// - The errors of `peek_tag`. The reader has then failed.
+/// The errors of `peek_tag`, after which the reader has failed.
 #[inline(never)]
 fn next_any_tag<'r, R: Reader<'r>>(reader: &mut R) -> Result<Tag, Error>
     ensures front { Peeks (λ t. t) (R.state reader.old) result

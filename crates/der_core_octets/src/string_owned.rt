@@ -1,4 +1,4 @@
-//! Owned text whose length fits a `Length`.
+//! Owned text of at most 2^32 - 1 bytes.
 
 ghost use Rattle.std.specs.Prelude.{◌≡◌, ◌↔◌, ◌<◌, [], length, nat_eq, IsTrue, IfOk, Some, true};
 ghost use Rattle.std.proofs.Common.{refl, rules};
@@ -22,7 +22,9 @@ use std::convert::AsStr;
 use std::hash::{Hash, Hasher};
 use std::marker::Model;
 
-/// Owned text, at most `Length::MAX` bytes of UTF-8. A contract sees its bytes.
+/// Owned text, at most `Length::MAX` bytes of UTF-8.
+///
+/// In contracts, its value is these bytes.
 #[derive(Debug, Drop)]
 pub struct StringOwned {
     text: String,
@@ -45,7 +47,7 @@ impl StringOwned {
     ///
     /// # Errors
     ///
-    /// - `Overflow`: it has 2^32 bytes or more.
+    /// - `Overflow`: the text has 2^32 bytes or more.
     pub fn new(text: String) -> Result<StringOwned, Error>
         ensures { GivesNow (λ s. s) result (counted (string_bytes text)) }
     {
@@ -55,12 +57,12 @@ impl StringOwned {
         Ok(StringOwned { text })
     }
 
-    /// Returns the text of these bytes.
+    /// Copies the text of these bytes.
     ///
     /// # Errors
     ///
-    /// - `Utf8`: they aren't UTF-8.
-    /// - `Overflow`: 2^32 bytes or more.
+    /// - `Utf8`: the bytes aren't UTF-8.
+    /// - `Overflow`: there are 2^32 bytes or more.
     /// - `OutOfMemory`: memory runs out.
     pub fn from_bytes(alloc: Global, bytes: &[u8]) -> Result<StringOwned, Error>
         ensures { Gives (λ s. s) result (counted_text bytes.now) }
@@ -73,11 +75,11 @@ impl StringOwned {
         Ok(StringOwned { text })
     }
 
-    /// Returns a copy of a text that a length can count.
+    /// Returns a copy of a text that the caller proves to have at most 2^32 - 1 bytes.
     ///
     /// # Errors
     ///
-    /// Fails if memory runs out.
+    /// - `AllocError`: memory runs out.
     pub fn copy_of(alloc: Global, text: &str) -> Result<StringOwned, AllocError>
         requires { Fits text.now }
         ensures { IfOk result (λ copy. copy ≡ text.now) }
@@ -90,7 +92,7 @@ impl StringOwned {
     ///
     /// # Errors
     ///
-    /// Fails if memory runs out.
+    /// - `AllocError`: memory runs out.
     pub fn clone(&self, alloc: Global) -> Result<StringOwned, AllocError>
         ensures { IfOk result (λ copy. copy ≡ self.now) }
     {
@@ -129,7 +131,7 @@ impl StringOwned {
         Length::new(self.text.as_bytes().len() as u32)
     }
 
-    /// Returns whether there are none.
+    /// Returns whether the text is empty.
     pub fn is_empty(&self) -> bool
         ensures { IsTrue result ↔ (self.now ≡ []) }
     {

@@ -1,4 +1,4 @@
-//! Borrowed text whose length fits a `Length`.
+//! Borrowed text of at most 2^32 - 1 bytes.
 
 ghost use Rattle.std.specs.Prelude.{◌≡◌, ◌↔◌, ◌<◌, [], length, IsTrue, true};
 ghost use Rattle.std.specs.Str.{is_utf8};
@@ -24,7 +24,7 @@ impl<'a> StringRef<'a> {
     ///
     /// # Errors
     ///
-    /// - `Overflow`: it has 2^32 bytes or more.
+    /// - `Overflow`: the text has 2^32 bytes or more.
     pub fn new(text: &'a str) -> Result<StringRef<'a>, Error>
         ensures { GivesNow held_text result (counted text.now) }
     {
@@ -34,12 +34,12 @@ impl<'a> StringRef<'a> {
         Ok(StringRef { text })
     }
 
-    /// Returns the text of these bytes.
+    /// Wraps the text of these bytes.
     ///
     /// # Errors
     ///
-    /// - `Utf8`: they aren't UTF-8.
-    /// - `Overflow`: 2^32 bytes or more.
+    /// - `Utf8`: the bytes aren't UTF-8.
+    /// - `Overflow`: there are 2^32 bytes or more.
     #[tactic(auto, using(der_core_head::proofs::TextLaws::utf8_reads))]
     pub fn from_bytes(bytes: &'a [u8]) -> Result<StringRef<'a>, Error>
         ensures { GivesNow held_text result (counted_text bytes.now) }
@@ -73,7 +73,7 @@ impl<'a> StringRef<'a> {
         Length::new(self.text.len() as u32)
     }
 
-    /// Returns whether there are none.
+    /// Returns whether the text is empty.
     pub fn is_empty(&self) -> bool
         ensures { IsTrue result ↔ (held_text self.now ≡ []) }
     {

@@ -8,20 +8,21 @@ use der_core_head::Error;
 
 /// A destination of bytes.
 pub trait Writer: Drop {
+    /// The abstract state of the writer.
     ghost out: { Self → Out };
 
-    /// Whether a write may fail because memory runs out.
+    /// True if a write may fail because memory runs out.
     ghost takes_memory: { Bool };
 
     /// Appends bytes.
+    ///
+    /// If a call fails, nothing is written, and a writer that doesn't allocate has failed.
     ///
     /// # Errors
     ///
     /// - `Failed`: the writer failed before.
     /// - `Overlength`: there isn't enough room.
     /// - `OutOfMemory`: memory runs out.
-    ///
-    /// If a call fails, nothing is written, and a writer that doesn't allocate has failed.
     fn write(&mut self, octets: &[u8]) -> Result<(), Error>
         ensures exact { Writes takes_memory (out self.old) (out self.new) result (put octets.now) }
         ensures refused { OnErr result (IsRefused takes_memory (out self.old) (out self.new)) }

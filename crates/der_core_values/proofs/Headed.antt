@@ -1,4 +1,4 @@
--- A value after a header of the tag that is wanted.
+-- Lemmas about decoding a value after its header, which must have the expected tag.
 use Rattle.std.proofs.Common.{◌≡◌, ℕ, List, Result, Ok, Err, ap, subst, ◌∙◌, arith, Bool, true, false, length, take, drop, refl, sym, inl, inr}
 use Rattle.der_core_octets.specs.CoreHead.declared.error.Error.{Error}
 use Rattle.der_core_octets.specs.CoreHead.declared.error.ErrorKind.{ErrorKind}
@@ -24,7 +24,7 @@ module _ (c : Content) (wanted tag : Tag) (same : wanted ≡ tag) (old : State) 
   abbrev value : Readings (ContentValue c)
   value = read_content_at old c tag
 
-  -- what is there is what follows the header
+  -- Decoding the value is decoding the content after the header.
   pub headed : {k : Result (Head × List ℕ) ErrorKind} → wanted_at wanted (head_by old.source.encoding) old.rest ≡ k
       → tlv_at old.source.encoding tag (read_content_at old c tag) old.rest ≡ (k >>= λ x. value_at (read_content_at old c tag) x.0.len x.1)
   headed {k} e =
@@ -41,7 +41,7 @@ module _ (c : Content) (wanted tag : Tag) (same : wanted ≡ tag) (old : State) 
       let P : Tag → State → Type 0 = λ t s. Reads view mid new r (value_at (read_content_at s c t) k.len) in
       reads_after view old mid new r (tlv_at old.source.encoding tag value) (value_at value k.len) front.1 front.2 front.3 (headed front.0) (subst (P tag) front.1 (subst (λ t. P t mid) (is ∙ same) inner))
 
--- Bytes of a content, and what a leaf reads of them.
+-- The content of a leaf
 
 leaf_then : {P : Type 0} (o : Result P ErrorKind) (r : List ℕ) → (leaf_at o >>= whole >>= λ y. Ok (y.0, r)) ≡ (o >>= kept r)
 leaf_then (Ok v) r = refl
@@ -72,7 +72,7 @@ module _ {X : Type 0} (l : Leaf) (t : Tag) (view : X → LeafValue l) (old mid :
   pub leaf_reads : (v : X) → leaf_read l t x ≡ Ok (view v) → Reads view old mid (Ok v) (value_at (read_content_at old (leaf l) t) n)
   leaf_reads v says = (took l t old.room ∙ ap (λ o. o >>= kept mid.rest) says, moved, ready, passed)
 
-  -- the reader fails where the bytes of a leaf are rejected
+  -- If the bytes of a leaf are rejected, the reader has failed.
   pub leaf_refuses : (new : State) (e : Error) → new ≡ broken mid → Fails e.kind (leaf_read l t x) → Reads view old new (Err e) (value_at (read_content_at old (leaf l) t) n)
   leaf_refuses new e failed says = (
     λ _ memory. took l t old.room ∙ ap (λ o. o >>= kept mid.rest) (says memory),
@@ -85,11 +85,11 @@ pub content_reads : {X : Type 0} (t : Tag) (n : ℕ) (view : X → List ℕ) (ol
 content_reads t n view old new (Ok v) h = (content_ok old.source.encoding octets t old.room n old.rest (view v) new.rest h.0, h.1, h.2, h.3)
 content_reads t n view old new (Err e) h = (λ ready memory. content_err old.source.encoding octets t old.room n old.rest e.kind (h.0 ready memory), h.1, h.2, h.3)
 
--- bytes that a length can count
+-- At most 2^32 - 1 bytes pass the check of their number.
 pub counted_fits : (w : List ℕ) → Fits w → counted w ≡ Ok w
 counted_fits w h = rw (le-ltb length_max (length w) (omega arith)) refl
 
--- what a call returns that takes none it returns too where it may take some
+-- The result of a call that doesn't allocate is also one of a call that may allocate.
 pub gives : {X P : Type 0} (memory : Bool) (view : X → P) (r : Result X Error) (p : Result P ErrorKind) → GivesTaking memory view r p → Gives view r p
 gives true view r p h = h
 gives false view (Ok x) p h = h

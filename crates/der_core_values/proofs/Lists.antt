@@ -1,4 +1,4 @@
--- Lists and arrays are read and written member by member, and in order.
+-- Lemmas about lists and arrays, which are decoded and encoded one member after another.
 use Rattle.std.proofs.Common.{◌≡◌, ℕ, suc, ◌-◌, ◌+◌, ◌≤◌, ◌<◌, true, false, List, [], ◌∷◌, ◌++◌, Result, Ok, Err, refl, sym, ap, ◌∙◌, append_assoc, arith, ◌≢◌, Option, Some, append-nil, length, subst, None}
 use Rattle.der_core_octets.specs.CoreHead.declared.error.ErrorKind.{ErrorKind}
 use Rattle.der_core_octets.specs.CoreHead.declared.error.ErrorKind.TheVariants as kinds
@@ -9,13 +9,13 @@ use Rattle.der_core_octets.specs.CoreHead.Reading.{State, IsRest, Kept, Fails, r
 use Rattle.der_core_octets.proofs.CoreHead.Results.{plain-append}
 use Rattle.der_core_octets.proofs.GoingOn.{frame_then, kept_then, rest_then}
 
--- Values that are read one after another, as a loop does.
+-- Values that a loop decodes one after another
 
--- a value before those that are read after it
+-- Puts a value before those that are decoded after it.
 abbrev pub led : {P : Type 0} → P → Result (List P × List ℕ) ErrorKind → Result (List P × List ℕ) ErrorKind
 led x r = r >>= λ y. Ok (x ∷ y.0, y.1)
 
--- the values before, and what is still read
+-- Puts the decoded values before those that are left to decode.
 abbrev pub with_front : {A P : Type 0} → (A → P) → List A → Result (List P × List ℕ) ErrorKind → Result (List P × List ℕ) ErrorKind
 with_front f xs r = r >>= λ x. Ok (plain_list f xs ++ x.0, x.1)
 
@@ -27,7 +27,7 @@ regroup : {A P : Type 0} (f : A → P) (xs : List A) (x : A) (r : Result (List P
 regroup f xs x (Ok y) = ap (λ (p : List _). Ok (p, y.1)) (sym (ap (λ (p : List _). p ++ y.0) (plain-append f xs (x ∷ [])) ∙ append_assoc (plain_list f xs) (f x ∷ []) y.0))
 regroup f xs x (Err e) = refl
 
--- these values were read since the start, and with what is left they are all
+-- These values were decoded since the start, and with those that are left they are all values.
 pub record Reached {A : Type 0} (s : Shape) (plain : A → Value s) (start now : State) (values : List A) (left all : Result (List (Value s) × List ℕ) ErrorKind) : Type 0 where
   pub same : now ≡ record start { rest = now.rest }
   pub passed : IsRest now.rest start.rest
@@ -53,12 +53,12 @@ module _ {A : Type 0} {s : Shape} {plain : A → Value s} {start now : State} {v
   pub reached_end : {w : List ℕ} → left ≡ Ok ([], w) → all ≡ Ok (plain_list plain values, w)
   reached_end {w} is = sym h.total ∙ ap (with_front plain values) is ∙ ap (λ (p : List _). Ok (p, w)) (append-nil (plain_list plain values))
 
-  -- what a reader that failed after these is
+  -- The state of a reader that failed after these values.
   pub reached_refused : {k : ErrorKind} {new : State} → start.failed ≡ false → Fails k all → Kept now new → new.failed ≡ true
       → (start.failed ≡ false → Fails k all) × Kept start new × (start.failed ≡ true → k ≡ kinds.Failed) × (new.failed ≡ true)
   reached_refused {k} {new} ready fault kept failed = (λ _. fault, kept_then start now new h.same h.passed kept, λ f. absurd (cc (f, ready)), failed)
 
--- Up to the end, or no more than so many
+-- Up to the end of the bytes, with or without a limit
 
 many_step : {P : Type 0} (z : ErrorKind) (F : Readings P) (n i : ℕ) (w : List ℕ) → i < n → w ≢ [] → read_many z F (n - i) w ≡ (F w >>= λ x. read_many z F (n - (i + 1)) x.1 >>= λ y. Ok (x.0 ∷ y.0, y.1))
 unfolding read_many
@@ -81,7 +81,7 @@ unfolding read_many
 many_over z F n i [] le some = absurd (some refl)
 many_over z F n i (b ∷ w) le some = let k : n - i ≡ 0 = omega arith in rw k refl
 
--- So many values, one after another
+-- A fixed number of values
 
 exactly_step : {P : Type 0} (F : Readings P) (n i : ℕ) (w : List ℕ) → i < n → read_exactly F (n - i) w ≡ (F w >>= λ x. read_exactly F (n - (i + 1)) x.1 >>= λ y. Ok (x.0 ∷ y.0, y.1))
 unfolding read_exactly
@@ -97,7 +97,7 @@ pub exactly_end : {P : Type 0} (F : Readings P) (n i : ℕ) (w : List ℕ) → n
 unfolding read_exactly
 exactly_end F n i w le = let k : n - i ≡ 0 = omega arith in rw k refl
 
--- The values of a set, whose bytes are in order
+-- The members of a set, whose encodings are in order
 
 order_step : {P : Type 0} (how : Step) (o : P → List ℕ) (F : Readings P) (last : Option (List ℕ)) (n i : ℕ) (w : List ℕ) → i < n → w ≢ []
     → read_in_order how o F last (n - i) w ≡ (F w >>= λ x. follows_last how last (o x.0) >>= λ _. read_in_order how o F (Some (o x.0)) (n - (i + 1)) x.1 >>= λ y. Ok (x.0 ∷ y.0, y.1))
@@ -126,13 +126,13 @@ unfolding read_in_order
 order_over how o F last n i [] le some = absurd (some refl)
 order_over how o F last n i (b ∷ w) le some = let k : n - i ≡ 0 = omega arith in rw k refl
 
--- Values that are read one after another, as a loop does, each as it follows the one before.
+-- Members of a set that a loop decodes one after another, each of which follows the one before
 
--- what is read of all, from the start on
+-- The result of decoding all members, from the start.
 abbrev pub all_in_turn : Step → (s : Shape) → State → Result (List (Value s) × List ℕ) ErrorKind
 all_in_turn how s start = read_in_order how (octets_of s) (read s start.room) None (length start.rest) start.rest
 
--- these values were read since the start, so many, and the last of these bytes
+-- These members were decoded since the start, and the last one has these bytes.
 pub record InTurn {A : Type 0} (how : Step) (s : Shape) (plain : A → Value s) (start : State) (last : Option (List ℕ)) (now : State) (values : List A) (i : ℕ) : Type 0 where
   pub reached : Reached s plain start now values (read_in_order how (octets_of s) (read s start.room) last (length start.rest - i) now.rest) (all_in_turn how s start)
 

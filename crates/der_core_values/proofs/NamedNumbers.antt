@@ -1,4 +1,5 @@
--- What a content is read as where only some numbers of eight bits are read, by what it is read as where all of them are.
+-- Lemmas about named numbers: the result of decoding one of these numbers, from the result of
+-- decoding any number of eight bits.
 use Rattle.std.proofs.Common.{rules, ◌≡◌, ℕ, ◌≤◌, ◌<◌, ◌^◌, Bool, true, false, cond, List, [], ◌∷◌, length, Ok, Err, refl, sym, ap, arith, ℤ, pos, negsuc, nat_lt, ◌==◌, ◌≢◌}
 use Rattle.std.specs.List.{AllByRecursion, list_any}
 use Rattle.std.proofs.lemmas.Bool.{ltb-false, ltb-true, ne_eqb, and_parts}
@@ -14,7 +15,7 @@ not_fine : (b : Bool) (z : ℤ) (d k : ErrorKind) → cond b (fine z) (Err d) �
 not_fine true z d k e = absurd cc
 not_fine false z d k e = (refl, cc)
 
--- the numbers, each of eight bits
+-- The named numbers have at most eight bits.
 abbrev pub AreOctets : List ℕ → Type 0
 AreOctets ns = (n : ℕ) → 256 ≤ n → list_any (λ m. m == n) ns ≡ false
 
@@ -40,7 +41,7 @@ module _ (ns : List ℕ) (small : AreOctets ns) where
   past_shortest t u true z e = absurd cc
   past_shortest t u false z e = past_number t u z e
 
-  -- more than eight bits
+  -- The number has more than eight bits.
   pub past : (t u : Tag) (w : List ℕ) → 0 < length w → integer_read (unsigned 8) t w ≡ Err (kinds.Length u) → integer_read (among ns) t w ≡ Err (kinds.Value t)
   unfolding shortest_integer
   past t u [] h e = absurd (omega (arith, h))
@@ -52,13 +53,13 @@ module _ (ns : List ℕ) (small : AreOctets ns) where
   other_shortest t false (pos n) k e h = absurd (h (sym (not_fine (nat_lt n (2 ^ 8)) (pos n) (kinds.Length t) k e).1))
   other_shortest t false (negsuc n) k e h = e
 
-  -- another error
+  -- There is another error.
   pub other : (t : Tag) (w : List ℕ) (k : ErrorKind) → integer_read (unsigned 8) t w ≡ Err k → k ≢ kinds.Length t → integer_read (among ns) t w ≡ Err k
   unfolding shortest_integer
   other t [] k e h = absurd (h (sym cc))
   other t (d ∷ ds) k e h = other_shortest t (is_redundant (d ∷ ds)) (integer_of (d ∷ ds)) k e h
 
-  -- a number of eight bits: whether it is one of them decides
+  -- The number has at most eight bits, and is accepted if it is one of the named numbers.
   fine_number : (t : Tag) (z : ℤ) (n : ℕ) (b : Bool) → list_any (λ m. m == n) ns ≡ b → checked (unsigned 8) t z ≡ Ok (pos n) → checked (among ns) t z ≡ cond b (Ok (pos n)) (Err (kinds.Value t))
   fine_number t (pos m) n b h e = search (rules, h, e)
   fine_number t (negsuc m) n b h e = absurd cc
@@ -73,13 +74,13 @@ module _ (ns : List ℕ) (small : AreOctets ns) where
   known t [] n b h e = absurd cc
   known t (d ∷ ds) n b h e = fine_shortest t (is_redundant (d ∷ ds)) (integer_of (d ∷ ds)) n b h e
 
--- no bytes
+-- There are no bytes.
 pub empty : (ns : Numbers) (t : Tag) (w : List ℕ) → length w < 1 → integer_read ns t w ≡ Err (kinds.Length t)
 unfolding shortest_integer
 empty ns t [] h = refl
 empty ns t (d ∷ ds) h = absurd (omega (arith, h))
 
--- a number that differs from each isn't found
+-- A number that differs from each element isn't found in the list.
 pub unlisted : (ns : List ℕ) (n : ℕ) → AllByRecursion (λ m. n ≢ m) ns → list_any (λ m. m == n) ns ≡ false
 unlisted [] n h = refl
 unlisted (m ∷ ms) n h = rw (ne_eqb m n (λ e. h.0 (sym e))) (unlisted ms n h.1)

@@ -1,4 +1,4 @@
--- Values of choices.
+-- The abstract values of `OneOf2` and `OneOf4`.
 use Rattle.std.specs.Prelude.{◌⊎◌}
 use Rattle.std.proofs.Common.{inl, inr}
 use Rattle.der_core_values.specs.declared.one_of_two.OneOf2.{OneOf2}

@@ -1,7 +1,7 @@
--- Named numbers.
+-- The range of named numbers.
 use Rattle.std.specs.Prelude.{ℕ, List, [], ◌∷◌, Bool, true, ◌&&◌, nat_lt}
 
--- each is of eight bits
+-- Each number has at most eight bits.
 abbrev pub are_octets : List ℕ → Bool
 are_octets [] = true
 are_octets (n ∷ ns) = nat_lt n 256 && are_octets ns

@@ -1,4 +1,5 @@
--- Two views that agree on each value agree on options and on lists of values.
+-- Lemmas that impls cite: two views that agree on each value agree on options and on lists of
+-- values.
 use Rattle.std.specs.Prelude.{◌≡◌, List, [], ◌∷◌, Option, Some, None, refl}
 use Rattle.std.proofs.Common.{ap, ◌∙◌}
 use Rattle.der_core_octets.specs.CoreHead.Grammar.{plain_option, plain_list}

@@ -1,4 +1,4 @@
-//! A field of no bytes, as `PhantomData`.
+//! A field without bytes: `PhantomData`.
 
 ghost use Rattle.std.specs.Prelude.{refl};
 ghost use Rattle.der_core_octets.specs.CoreHead.Shapes.{nothing, done};
@@ -13,7 +13,7 @@ use der_core_octets::{Reader, Writer};
 use std::alloc::Global;
 use std::marker::PhantomData;
 
-/// No bytes, whatever `T` is.
+/// The encoding is empty, whatever `T` is.
 impl<T> Shaped for PhantomData<T> {
     ghost shape = { nothing };
 
@@ -36,7 +36,7 @@ impl<T> AsRead for PhantomData<T> {
     ghost as_read = { λ _. refl };
 }
 
-/// Nothing is consumed.
+/// Decoding consumes nothing.
 impl<'a, R: Reader<'a>, T> Decode<'a, R> for PhantomData<T> {
     fn decode(_alloc: Global, reader: &mut R) -> Result<PhantomData<T>, Error> {
         if reader.is_failed() {
@@ -57,7 +57,7 @@ impl<T> Encode for PhantomData<T> {
     }
 }
 
-/// No fields.
+/// The row is empty.
 impl<T> FieldRow for PhantomData<T> {
     ghost fields = { done };
 

@@ -24,7 +24,7 @@ impl<T, const N: usize> FixedTag for [T; N] {
     }
 }
 
-/// Exactly `N` values.
+/// An array is exactly `N` values.
 impl<T: Shaped, const N: usize> Fields for [T; N] {
     ghost fields = { exactly N T.shape };
 
@@ -51,7 +51,7 @@ impl<T: AsRead, const N: usize> AsReadValue for [T; N] {
     ghost as_read_value = { same_list T.as_read };
 }
 
-/// Fewer values are `Incomplete`. The values are collected in a vector, which allocates.
+/// Fewer values give the error `Incomplete`. The values are collected in a vector, which allocates.
 impl<'a, R: Reader<'a>, T: Decode<'a, R>, const N: usize> DecodeFields<'a, R> for [T; N] {
     fn decode_fields(alloc: Global, reader: &mut R) -> Result<[T; N], Error> {
         if reader.is_failed() {
@@ -78,7 +78,7 @@ impl<'a, R: Reader<'a>, T: Decode<'a, R>, const N: usize> DecodeFields<'a, R> fo
     }
 }
 
-/// Fewer values are `Incomplete`, and more are `TrailingData`.
+/// Fewer values give the error `Incomplete`, and more give `TrailingData`.
 impl<'a, R: Reader<'a>, T: Decode<'a, R>, const N: usize> DecodeValue<'a, R> for [T; N] {
     fn decode_value(alloc: Global, reader: &mut R, header: Header) -> Result<[T; N], Error> {
         read_fields(alloc, reader, header)

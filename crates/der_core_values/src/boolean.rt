@@ -1,4 +1,4 @@
-//! BOOLEAN, as `bool` (X.690 8.2, 11.1).
+//! BOOLEAN as `bool` (X.690 8.2, 11.1).
 
 ghost use Rattle.std.specs.Prelude.{true, false, Err, refl};
 ghost use Rattle.der_core_octets.specs.CoreHead.declared.tag.Tag.TheVariants.{Boolean};
@@ -28,7 +28,7 @@ impl Primitive for bool {
     ghost leaf_plain = { λ b. b };
 }
 
-/// `00` is false and `FF` true (X.690 8.2, 11.1).
+/// `0x00` is false and `0xFF` is true (X.690 8.2, 11.1).
 impl<'a> Leaf<'a> for bool {
     ghost takes_memory = { false };
 

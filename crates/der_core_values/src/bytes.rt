@@ -1,4 +1,4 @@
-//! Contents that are kept as they are, whatever tag they have (X.690 8.7).
+//! Contents that are kept undecoded, whatever tag they have (X.690 8.7).
 
 ghost use Rattle.std.specs.Prelude.{◌≡◌, false};
 ghost use Rattle.der_core_octets.specs.CoreHead.Grammar.{slice_at, value_at};
@@ -50,7 +50,7 @@ impl Primitive for BytesOwned {
     ghost leaf_plain = { λ bytes. bytes };
 }
 
-/// Copied.
+/// Decoding copies the content.
 impl<'a> Leaf<'a> for BytesOwned {
     fn from_content(alloc: Global, _tag: Tag, octets: &'a [u8]) -> Result<BytesOwned, Error> {
         let bytes = Vec::from_slice(alloc, octets)?;
@@ -65,8 +65,10 @@ impl Octets for BytesOwned {
     }
 }
 
-/// Returns a copy of the content bytes after a header, under either rules. Under BER, the content
-/// of a string in parts is the encodings of its parts. After an error the reader has failed.
+/// Returns a copy of the content bytes after a header, under either encoding rules. After an error
+/// the reader has failed.
+///
+/// Under BER, if a string is in constructed form, its content is the encodings of its parts.
 ///
 /// # Errors
 ///
@@ -80,7 +82,7 @@ pub fn decode_octets<'a, R: Reader<'a>>(
 ) -> Result<BytesOwned, Error>
     ensures octets { Reads (λ bytes. bytes) (R.state reader.old) (R.state reader.new) result
         (slice_at header.length.value) }
-    // The result is what decoding a content gives.
+    // The result is the one that decoding a content gives.
     ensures content { Reads (λ bytes. bytes) (R.state reader.old) (R.state reader.new) result
         (value_at (read_content_at (R.state reader.old) (leaf octets) header.tag)
         header.length.value) }

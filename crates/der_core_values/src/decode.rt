@@ -1,4 +1,4 @@
-//! Reading of values.
+//! The traits of types that are decoded.
 
 ghost use Rattle.std.specs.Prelude.{◌≡◌};
 ghost use Rattle.der_core_octets.specs.CoreHead.declared.tag.Tag.{Tag};
@@ -13,6 +13,7 @@ use std::alloc::Global;
 
 /// A type whose values have one tag.
 pub trait FixedTag {
+    /// The tag.
     ghost fixed_tag: { Tag };
 
     /// Returns the tag of the type's values.
@@ -22,18 +23,20 @@ pub trait FixedTag {
 
 /// A type with its abstract values and their encodings.
 pub trait Shaped {
+    /// The shape, which says what the abstract values and their encodings are.
     ghost shape: { Shape };
 
+    /// Maps a value to its abstract value.
     ghost plain: { Self → Value shape };
 
-    /// The value that is encoded: itself, unless a profile re-encodes it.
+    /// The value that is encoded. It is the value itself, unless a profile re-encodes it.
     ghost written: { Self → Value shape };
 }
 
 /// A type that is decoded from bytes, with its header.
 pub trait Decode<'a, R: Reader<'a>>: Shaped + Drop {
-    /// Decodes the next value. Headers are decoded by the rules of the reader. After an error the
-    /// reader has failed.
+    /// Decodes the next value. Headers are decoded under the reader's encoding rules. After an
+    /// error the reader has failed.
     ///
     /// # Errors
     ///
@@ -47,11 +50,13 @@ pub trait Decode<'a, R: Reader<'a>>: Shaped + Drop {
 
 /// A type with its abstract values and the encodings of their contents.
 pub trait ShapedValue {
+    /// The part of the shape after the header.
     ghost content: { Content };
 
+    /// Maps a value to its abstract value.
     ghost value_plain: { Self → ContentValue content };
 
-    /// The value that is encoded: itself, unless a profile re-encodes it.
+    /// The content that is encoded. It is the content itself, unless a profile re-encodes it.
     ghost value_written: { Self → ContentValue content };
 }
 
@@ -101,7 +106,7 @@ fn decode_tagged<'a, R: Reader<'a>, T: DecodeValue<'a, R> + FixedTag>(
 }
 
 impl<'a, R: Reader<'a>, T: DecodeValue<'a, R> + FixedTag> Decode<'a, R> for T {
-    /// An error without a position gets that of the header.
+    /// An error without a position gets the position of the header.
     #[inline(always)]
     fn decode(alloc: Global, reader: &mut R) -> Result<T, Error> {
         let place = reader.position();
@@ -112,7 +117,7 @@ impl<'a, R: Reader<'a>, T: DecodeValue<'a, R> + FixedTag> Decode<'a, R> for T {
     }
 }
 
-/// A type that knows with which tags its values may begin.
+/// A type that knows the tags with which its values may begin.
 pub trait Choice: Shaped {
     /// Returns whether a value of the type may begin with this tag.
     fn can_decode(tag: Tag) -> bool

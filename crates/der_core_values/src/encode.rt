@@ -1,4 +1,4 @@
-//! Writing of values.
+//! The traits of types that are encoded.
 
 ghost use Rattle.der_core_octets.specs.CoreHead.Reading.{GivesNow};
 ghost use Rattle.der_core_octets.specs.CoreHead.Shapes.{contents, octets_of};

@@ -1,4 +1,4 @@
-//! Values whose content is a list of fields.
+//! Values whose content is a series of fields.
 
 ghost use Rattle.std.specs.Prelude.{◌≡◌, refl};
 ghost use Rattle.der_core_octets.specs.CoreHead.Shapes.{Body, BodyValue, nested};
@@ -11,19 +11,24 @@ use std::alloc::Global;
 
 /// The fields of a record or of a list, and the abstract values of the type.
 pub trait Fields {
+    /// The shapes of the fields.
     ghost fields: { Body };
 
+    /// Maps a value to the abstract values of its fields.
     ghost fields_plain: { Self → BodyValue fields };
 
-    /// The value that is encoded: itself, unless a profile re-encodes it.
+    /// The fields that are encoded. They are those of the value itself, unless a profile re-encodes
+    /// it.
     ghost fields_written: { Self → BodyValue fields };
 }
 
 /// The fields of a type that is encoded as it is decoded, and its abstract values. Such a type
 /// implements `Fields`.
 pub trait FieldsView {
+    /// The shapes of the fields.
     ghost body: { Body };
 
+    /// Maps a value to the abstract values of its fields.
     ghost view: { Self → BodyValue body };
 }
 
@@ -35,8 +40,9 @@ impl<T: FieldsView> Fields for T {
     ghost fields_written = { T.view };
 }
 
-/// Fields that are written as they are read.
+/// A type whose fields are encoded as they are decoded.
 pub trait AsReadFields: Fields {
+    /// The fields that are encoded are those that were decoded.
     ghost as_read_fields: { (v : Self) → Self.fields_written v ≡ Self.fields_plain v };
 }
 
@@ -58,37 +64,39 @@ pub trait DecodeFields<'a, R: Reader<'a>>: Fields {
             (read_body_at (R.state reader.old) Self.fields) };
 }
 
-/// Fields in a row, as `(A, (B, ()))`, and what they hold.
+/// Nested pairs of fields, such as `(A, (B, ()))`, and their abstract values.
 ///
-/// Rows have a trait of their own, since that of all types with a view would be tried at each
-/// field, too.
+/// Rows don't implement `Fields`, because the impl of `Fields` for all types with a view would then
+/// be tried at each field.
 pub trait FieldRow {
+    /// The shapes of the fields.
     ghost fields: { Body };
 
+    /// Maps a value to the abstract values of its fields.
     ghost fields_plain: { Self → BodyValue fields };
 
-    /// The row that is encoded: itself, unless a profile re-encodes a field.
+    /// The row that is encoded. It is the row itself, unless a profile re-encodes a field.
     ghost fields_written: { Self → BodyValue fields };
 }
 
-/// A row that is read, field after field.
+/// A row that is decoded, field after field.
 pub trait DecodeRow<'a, R: Reader<'a>>: FieldRow {
     /// Decodes the next fields. After an error the reader has failed.
     ///
     /// # Errors
     ///
-    /// - The errors of `DecodeFields::decode_fields`.
+    /// The errors of `DecodeFields::decode_fields`.
     fn decode_row(alloc: Global, reader: &mut R) -> Result<Self, Error>
         ensures { Reads Self.fields_plain (R.state reader.old) (R.state reader.new) result
             (read_body_at (R.state reader.old) Self.fields) };
 }
 
-/// Decodes the fields after a header, which must use the whole content.
+/// Decodes the fields after a header. They must use the whole content.
 ///
 /// # Errors
 ///
 /// - `Incomplete`: there are fewer bytes than the header says.
-/// - `NestingDepth`: 64 levels are open.
+/// - `NestingDepth`: no further level may be opened.
 /// - The first error of the fields.
 /// - `TrailingData`: bytes are left after them.
 /// - `OutOfMemory`: memory runs out.

@@ -1,8 +1,8 @@
-//! Types whose values always have their parts in range. Encoding such a value can fail only because
-//! of its length or of the order of a set.
+//! Types whose values always have their parts in range, so that encoding fails only because of a
+//! length, the order of a set, or the writer.
 //!
-//! Each of these is a law about the values of a type, stated as the contract of a function that
-//! does nothing.
+//! Each function here is a law about the values of a type. It does nothing, and its contract is the
+//! law.
 
 ghost use Rattle.der_core_octets.specs.CoreHead.Octets.{IsOctets};
 ghost use Rattle.der_core_octets.specs.CoreHead.Texts.{IsUtf8Text};
@@ -45,9 +45,10 @@ pub fn text_in_range(text: &str)
     octets_in_range(text.as_bytes());
 }
 
-/// After one tag values are in range as their contents are.
+/// A type with one tag has values in range if its contents are in range.
 impl<T: InRangeValue + FixedTag> InRange for T {
     fn in_range(&self) {
+        // `number_of` returns a `u32`, so the tag number fits 32 bits.
         let _number = number_of(T::tag());
         self.value_in_range();
     }

@@ -1,4 +1,4 @@
-//! Whole numbers: two's complement in the fewest bytes (X.690 8.3).
+//! INTEGER: two's complement in the fewest bytes (X.690 8.3).
 
 ghost use Rattle.std.specs.Prelude.{◌≡◌, ℤ, pos, false, refl};
 ghost use Rattle.der_core_octets.specs.CoreHead.declared.tag.Tag.TheVariants as tags;
@@ -15,11 +15,12 @@ use der_core_octets::core_head::{Error, Length, Tag};
 use der_core_octets::{Header, Reader, Writer, integer_octets_of, signed_of, unsigned_of};
 use std::alloc::Global;
 
-/// A type of whole numbers.
+/// A type of integers.
 pub trait Integer: Drop {
     /// The numbers of the type.
     ghost numbers: { Numbers };
 
+    /// Maps a value to its integer.
     ghost number: { Self → ℤ };
 
     /// Returns the number that a content encodes.
@@ -32,10 +33,11 @@ pub trait Integer: Drop {
     fn from_integer(tag: Tag, octets: &[u8]) -> Result<Self, Error>
         ensures { GivesNow number result (integer_read numbers tag octets.now) };
 
-    /// Returns whether it is negative, and the number n that it is, or of which it is -(n + 1).
+    /// Returns whether the integer is negative, and the number n such that the integer is n, or -(n
+    /// + 1) if it is negative.
     fn sign_and_bits(&self) -> (bool, u128)
         ensures value { number self.now ≡ with_sign result.0 result.1 }
-        // The type has it.
+        // The integer is one that the type has.
         ensures has { IsNumber numbers (number self.now) };
 }
 
@@ -53,7 +55,7 @@ impl<'a, T: Integer> Leaf<'a> for T {
     }
 }
 
-/// As an INTEGER: two's complement in the fewest bytes (X.690 8.3).
+/// Describes a type as an INTEGER, in two's complement and in the fewest bytes (X.690 8.3).
 pub struct AsInteger;
 
 impl<T: Integer> Way<T> for AsInteger {
@@ -99,6 +101,7 @@ impl<'a, R: Reader<'a>, T: Integer> DecodeWay<'a, R, T> for AsInteger {
 
 impl<T: Integer> RangeWay<T> for AsInteger {
     fn range_by(value: &T) {
+        // `sign_and_bits` states that the type has the integer.
         let _bits = value.sign_and_bits();
     }
 }

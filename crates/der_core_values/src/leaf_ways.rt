@@ -1,4 +1,4 @@
-//! Ways of types whose content isn't a list of values.
+//! Descriptions of types whose content isn't a sequence of values.
 
 ghost use Rattle.std.specs.Prelude.{◌≡◌, refl};
 ghost use Rattle.der_core_octets.specs.CoreHead.Leaves.{leaf_contents, IsLeafValue};
@@ -13,7 +13,7 @@ use der_core_octets::core_head::{Error, Length};
 use der_core_octets::{Header, Reader, Writer, slice_len};
 use std::alloc::Global;
 
-/// A type whose values hold the bytes of their content.
+/// A type whose values store the bytes of their content.
 pub trait Octets: Primitive {
     /// Returns the content bytes.
     fn content(&self) -> &[u8]
@@ -22,7 +22,7 @@ pub trait Octets: Primitive {
         ensures in_range { IsLeafValue Self.kind (Self.leaf_plain self.now) };
 }
 
-/// As the bytes that a value holds. Its tag is the type's own.
+/// Describes a type as the bytes that its values store. The type itself has the tag.
 pub struct AsOctets;
 
 impl<T: Octets> Way<T> for AsOctets {
@@ -58,11 +58,12 @@ impl<'a, R: Reader<'a>, T: Octets + Leaf<'a>> DecodeWay<'a, R, T> for AsOctets {
 
 impl<T: Octets> RangeWay<T> for AsOctets {
     fn range_by(value: &T) {
+        // `content` states that the value is in range.
         let _content = value.content();
     }
 }
 
-/// A type that encodes a content which its values don't store.
+/// A type that encodes its content from values that don't store it.
 pub trait EncodeLeaf: Primitive {
     /// Returns the length of the content.
     ///
@@ -86,8 +87,8 @@ pub trait EncodeLeaf: Primitive {
             (W.out writer.old) (W.out writer.new) };
 }
 
-/// As a content that the type reads from bytes and writes. Its tag, its range and its order are the
-/// type's own.
+/// Describes a type by its own decoder and encoder of a content. The type itself has the tag, the
+/// range and the order.
 pub struct AsLeaf;
 
 impl<T: EncodeLeaf> Way<T> for AsLeaf {

@@ -1,4 +1,4 @@
-//! Values whose content isn't a list of values.
+//! Types whose content isn't a sequence of values.
 
 ghost use Rattle.std.specs.Prelude.{◌≡◌, Bool, true, false, IfOk, IfErr, Err};
 ghost use Rattle.der_core_octets.specs.CoreHead.Heads.{Fits};
@@ -12,20 +12,21 @@ use der_core_octets::core_head::{Error, Tag};
 use der_core_octets::{Header, Reader};
 use std::alloc::Global;
 
-/// A type whose content isn't a list of values.
+/// A type whose content isn't a sequence of values.
 pub trait Primitive {
-    /// The primitive type.
+    /// The kind of content.
     ghost kind: { LeafKind };
 
+    /// Maps a value to its abstract value.
     ghost leaf_plain: { Self → LeafValue kind };
 }
 
-/// A type whose values are read from the bytes of their content.
+/// A type whose values are decoded from the bytes of their content.
 pub trait Leaf<'a>: Primitive + Drop {
-    /// Whether decoding may fail because memory runs out.
+    /// True if decoding may fail because memory runs out.
     ghost takes_memory: { Bool } = { true };
 
-    /// Decodes a content after its tag. The content is no longer than a length can count.
+    /// Decodes a content after its tag. The content has at most 2^32 - 1 bytes.
     ///
     /// # Errors
     ///

@@ -1,5 +1,5 @@
-//! The abstract values of types, their encodings, and the traits that decode and encode them; the
-//! types of the language.
+//! Abstract values of types, the traits that decode and encode them, and the types of the language
+//! that implement these traits. Users import the items of this crate from `der_core`.
 #![tactic(auto)]
 
 mod absent;

@@ -1,4 +1,4 @@
-//! Encodings of members, one after another.
+//! Encodings of several values, one after another.
 
 ghost use Rattle.der_core_octets.specs.CoreHead.Shapes.{body_octets, many};
 ghost use Rattle.der_core_octets.specs.CoreHead.Grammar.{plain_list};

@@ -1,4 +1,4 @@
-//! Values whose contents are leaves, after their tags.
+//! Types with one tag whose content isn't a sequence of values.
 
 ghost use Rattle.std.specs.Prelude.{◌≡◌, false, IfErr, Err};
 ghost use Rattle.der_core_octets.specs.CoreHead.Shapes.{leaf, tagged};

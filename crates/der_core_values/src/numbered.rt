@@ -1,4 +1,4 @@
-//! Types of named numbers, as an enumeration has (X.680 19.5, 20.1).
+//! Types with named numbers: enumerations and INTEGERs with a list of names (X.680 19.5, 20.1).
 
 ghost use Rattle.std.specs.Prelude.{◌≡◌, ◌≢◌, ◌==◌, ℕ, List, true, pos, IfSome, IfNone, refl};
 ghost use Rattle.std.specs.List.{AllByRecursion, list_any};
@@ -17,10 +17,10 @@ use der_core_octets::{Header, Reader, Writer, unsigned_of};
 use std::alloc::Global;
 use std::marker::PhantomData;
 
-/// A type each of whose values has a number of eight bits. It is coded by `AsNumbered`: any other
-/// number is rejected as `Value`.
+/// A type whose values have numbers of eight bits. `AsNumbered` describes it, and rejects any other
+/// number with the error `Value`.
 pub trait Numbered: Drop {
-    /// The numbers that values have.
+    /// The numbers of the type's values.
     ghost known_numbers: { List ℕ };
 
     /// The number of a value.
@@ -38,11 +38,11 @@ pub trait Numbered: Drop {
         ensures value { result ≡ known_number self.now }
         ensures named { list_any (λ m. m == result) known_numbers ≡ true };
 
-    /// The numbers are of eight bits.
+    /// The numbers have at most eight bits.
     ghost few: { are_octets known_numbers ≡ true };
 }
 
-// A value, as the whole number that it has.
+// A value, which is encoded as its number.
 #[derive(Drop)]
 struct NumberOf<T: Numbered> {
     value: T,
@@ -98,12 +98,13 @@ impl FixedTag for EnumeratedTag {
     }
 }
 
-/// The way of an INTEGER with named numbers, or, with the tag of `K`, of an ENUMERATED.
+/// Describes a type as an INTEGER with named numbers, or, with another `K`, as a type with the tag
+/// of `K`.
 pub struct AsNumbered<K = IntegerTag> {
     tag: PhantomData<K>,
 }
 
-/// As an ENUMERATED (X.690 8.4).
+/// Describes a type as an ENUMERATED (X.690 8.4).
 pub type AsEnumerated = AsNumbered<EnumeratedTag>;
 
 impl<T: Numbered, K> Way<T> for AsNumbered<K> {
@@ -147,6 +148,7 @@ impl<'a, R: Reader<'a>, T: Numbered, K> DecodeWay<'a, R, T> for AsNumbered<K> {
 impl<T: Numbered, K> RangeWay<T> for AsNumbered<K> {
     #[tactic(auto, using(crate::proofs::Cited::listed))]
     fn range_by(value: &T) {
+        // `to_number` states that the number is one of the type's.
         let _number = value.to_number();
     }
 }

@@ -31,11 +31,12 @@ impl<const MAX_SIZE: usize> Primitive for ObjectIdentifier<MAX_SIZE> {
     ghost leaf_plain = { λ oid. oid };
 }
 
-/// The content is the encoding of the arcs (X.690 8.19), which must not exceed the capacity.
+/// The content is the encoding of the arcs (X.690 8.19). An encoding that exceeds the capacity is
+/// rejected.
 impl<'a, const MAX_SIZE: usize> Leaf<'a> for ObjectIdentifier<MAX_SIZE> {
     ghost takes_memory = { false };
 
-    // Inlined, so that an identifier is moved less often.
+    // Inlined, so that the identifier is moved less often.
     #[inline(always)]
     fn from_content(
         _alloc: Global,

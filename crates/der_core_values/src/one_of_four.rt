@@ -1,4 +1,4 @@
-//! One of four alternatives, or of more.
+//! Choices of four to nine alternatives.
 
 ghost use Rattle.der_core_octets.specs.CoreHead.Shapes.{either};
 ghost use Rattle.der_core_values.specs.Both.{both_true};
@@ -15,8 +15,8 @@ use std::alloc::Global;
 
 /// A value of one of four types that begin with different tags (CHOICE, X.680 29).
 ///
-/// The first tag decides which type is decoded, as for a `OneOf2` of the first type and of the
-/// `OneOf3` of the others.
+/// The first tag decides which type is decoded, as in a `OneOf2` of the first type and a `OneOf3`
+/// of the others.
 #[derive(Debug, Drop)]
 pub enum OneOf4<A, B, C, D> {
     /// A value of the first type.
@@ -33,16 +33,16 @@ pub enum OneOf4<A, B, C, D> {
 /// `Fourth(First(d))`.
 pub type OneOf5<A, B, C, D, E> = OneOf4<A, B, C, OneOf2<D, E>>;
 
-/// A value of one of six types, the last as `Fourth(Second(Second(f)))`.
+/// A value of one of six types. The last one is `Fourth(Second(Second(f)))`.
 pub type OneOf6<A, B, C, D, E, F> = OneOf4<A, B, C, OneOf3<D, E, F>>;
 
-/// A value of one of seven types, the last as `Fourth(Fourth(g))`.
+/// A value of one of seven types. The last one is `Fourth(Fourth(g))`.
 pub type OneOf7<A, B, C, D, E, F, G> = OneOf4<A, B, C, OneOf4<D, E, F, G>>;
 
-/// A value of one of eight types, the last as `Fourth(Fourth(Second(h)))`.
+/// A value of one of eight types. The last one is `Fourth(Fourth(Second(h)))`.
 pub type OneOf8<A, B, C, D, E, F, G, H> = OneOf4<A, B, C, OneOf5<D, E, F, G, H>>;
 
-/// A value of one of nine types, the last as `Fourth(Fourth(Second(Second(i))))`.
+/// A value of one of nine types. The last one is `Fourth(Fourth(Second(Second(i))))`.
 pub type OneOf9<A, B, C, D, E, F, G, H, I> = OneOf4<A, B, C, OneOf6<D, E, F, G, H, I>>;
 
 impl<A: Shaped, B: Shaped, C: Shaped, D: Shaped> Shaped for OneOf4<A, B, C, D> {

@@ -1,4 +1,4 @@
-//! One of two alternatives, or of three.
+//! Choices of two or three alternatives.
 
 ghost use Rattle.der_core_octets.specs.CoreHead.Shapes.{either};
 ghost use Rattle.der_core_values.specs.Both.{both_true};
@@ -14,11 +14,11 @@ use std::alloc::Global;
 
 /// A value of one of two types that begin with different tags (CHOICE, X.680 29).
 ///
-/// The first tag decides which type is decoded: the first of the two whose values may begin with
-/// it. If neither may, the error is `TagUnexpected`.
+/// The first tag decides which type is decoded. It is the first type whose values may begin with
+/// this tag. If there is none, the error is `TagUnexpected`.
 ///
 /// An enum with names of its own gets its shape and its decoder from the `OneOf2` to `OneOf9` of
-/// its types. `Member` states that its first tags differ, which is computed.
+/// its types. Its impl of `Member` states that the first tags differ, which the checker computes.
 #[derive(Debug, Drop)]
 pub enum OneOf2<A, B> {
     /// A value of the first type.

@@ -1,4 +1,4 @@
-//! Fields in a row: `(A, (B, (C, ())))`.
+//! Rows of fields as nested pairs: `(A, (B, (C, ())))`.
 
 ghost use Rattle.der_core_octets.specs.CoreHead.Shapes.{field, done};
 

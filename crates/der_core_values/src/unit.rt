@@ -1,4 +1,4 @@
-//! A content of no bytes, as `()` (NULL, X.690 8.8).
+//! NULL as `()`, whose content is empty (X.690 8.8).
 
 ghost use Rattle.std.specs.Prelude.{false, Err, refl};
 ghost use Rattle.der_core_octets.specs.CoreHead.declared.tag.Tag.TheVariants.{Null};
@@ -28,7 +28,7 @@ impl Primitive for () {
     ghost leaf_plain = { λ x. x };
 }
 
-/// No bytes (X.690 8.8).
+/// The content is empty (X.690 8.8).
 impl<'a> Leaf<'a> for () {
     ghost takes_memory = { false };
 

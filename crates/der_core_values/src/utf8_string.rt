@@ -35,7 +35,7 @@ impl<'a> Primitive for &'a str {
     ghost leaf_plain = { λ text. text.now };
 }
 
-/// The content is the bytes of the text. Bytes that aren't UTF-8 are `Utf8`.
+/// The content is the bytes of the text. Bytes that aren't UTF-8 give the error `Utf8`.
 impl<'a> Leaf<'a> for &'a str {
     ghost takes_memory = { false };
 
@@ -70,7 +70,8 @@ impl Primitive for String {
     ghost leaf_plain = { string_bytes };
 }
 
-/// The content is the bytes of the text, which are copied. Bytes that aren't UTF-8 are `Utf8`.
+/// The content is the bytes of the text, which are copied. Bytes that aren't UTF-8 give the error
+/// `Utf8`.
 impl<'a> Leaf<'a> for String {
     #[tactic(auto, using(crate::proofs::Cited::utf8_reads))]
     fn from_content(alloc: Global, _tag: Tag, octets: &'a [u8]) -> Result<String, Error> {
@@ -96,7 +97,7 @@ impl<'a> Primitive for StringRef<'a> {
     ghost leaf_plain = { held_text };
 }
 
-/// The content is the bytes of the text. Bytes that aren't UTF-8 are `Utf8`.
+/// The content is the bytes of the text. Bytes that aren't UTF-8 give the error `Utf8`.
 impl<'a> Leaf<'a> for StringRef<'a> {
     ghost takes_memory = { false };
 
@@ -124,7 +125,8 @@ impl Primitive for StringOwned {
     ghost leaf_plain = { λ text. text };
 }
 
-/// The content is the bytes of the text, which are copied. Bytes that aren't UTF-8 are `Utf8`.
+/// The content is the bytes of the text, which are copied. Bytes that aren't UTF-8 give the error
+/// `Utf8`.
 impl<'a> Leaf<'a> for StringOwned {
     #[tactic(auto, using(crate::proofs::Cited::utf8_reads))]
     fn from_content(alloc: Global, _tag: Tag, octets: &'a [u8]) -> Result<StringOwned, Error> {

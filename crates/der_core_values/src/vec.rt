@@ -1,4 +1,4 @@
-//! SEQUENCE OF, as a list (X.690 8.10).
+//! SEQUENCE OF as a list (X.690 8.10).
 
 ghost use Rattle.der_core_octets.specs.CoreHead.declared.tag.Tag.TheVariants.{Sequence};
 ghost use Rattle.der_core_octets.specs.CoreHead.Shapes.{nested, many};
@@ -41,9 +41,10 @@ impl<T: Shaped> ShapedValue for Vec<T> {
     ghost value_written = { λ v. plain_list T.written v.items };
 }
 
-/// Returns for how many values to allocate before they are decoded: for those in the input, up to
-/// 64, as long as each has a tag of one byte and fewer than 128 content bytes. Memory for others is
-/// allocated as they are decoded.
+/// Returns the number of values for which memory is allocated before they are decoded.
+///
+/// It counts at most 64 values of the input, as long as each has a tag of one byte and fewer than
+/// 128 content bytes. Memory for further values is allocated as they are decoded.
 fn room_for(octets: &[u8]) -> usize {
     let mut left = octets;
     for count in 0..64 {
@@ -124,7 +125,7 @@ impl<T: AsRead> AsReadValue for Vec<T> {
     ghost as_read_value = { λ v. same_list T.as_read v.items };
 }
 
-/// The values of a list are in range.
+/// A list of values in range is in range.
 pub fn list_in_range<T: InRange>(values: &[T])
     ensures { AllByRecursion (IsInRange T.shape) (plain_list T.written values.now) }
 {

@@ -1,5 +1,5 @@
-//! Ways in which the values of types are coded: a type names its way, and one impl of each trait
-//! of values serves all types that do.
+//! Descriptions of types: a type names its description, and one impl of each trait serves all types
+//! with that description.
 
 ghost use Rattle.std.specs.Prelude.{◌≡◌, true};
 ghost use Rattle.der_core_octets.specs.CoreHead.declared.tag.Tag.{Tag};
@@ -19,14 +19,16 @@ use der_core_octets::core_head::{Error, Length, Tag};
 use der_core_octets::{Header, Reader, Writer};
 use std::alloc::Global;
 
-/// A way of describing a type: its abstract values, the encodings of their contents, and how they
-/// are encoded.
+/// A description of a type: its abstract values, the encodings of their contents, and functions
+/// that encode them.
 pub trait Way<T> {
+    /// The shape of a content.
     ghost content_by: { Content };
 
+    /// Maps a value to its abstract value.
     ghost plain_by: { T → ContentValue content_by };
 
-    /// The value that is encoded: itself, unless a profile re-encodes it.
+    /// The content that is encoded. It is the content itself, unless a profile re-encodes it.
     ghost written_by: { T → ContentValue content_by };
 
     /// Returns the result of `EncodeValue::value_len`.
@@ -38,11 +40,11 @@ pub trait Way<T> {
         ensures { GivesNow (λ l. l.value) result
             (size_content content_by (written_by value.now)) };
 
-    /// Does what `EncodeValue::encode_value` does.
+    /// Encodes a content, as `EncodeValue::encode_value` does.
     ///
     /// # Errors
     ///
-    /// - The errors of `EncodeValue::encode_value`.
+    /// The errors of `EncodeValue::encode_value`.
     fn encode_by<W: Writer>(value: &T, writer: &mut W) -> Result<(), Error>
         ensures exact { Writes W.takes_memory (W.out writer.old) (W.out writer.new) result
             (write_content content_by (written_by value.now)) }
@@ -50,21 +52,23 @@ pub trait Way<T> {
         ensures front { AddsFront (contents content_by (written_by value.now)) (W.out writer.old)
             (W.out writer.new) };
 
-    /// Contents are reported apart by the first tags in them, so that each value has one.
+    /// Contents have unambiguous first tags, so that each has one encoding.
     ghost apart_by: { is_content_apart content_by ≡ true };
 }
 
-/// A type that names the way in which its values are encoded (`AsRecord`, `AsField`, `AsOctets`,
-/// `AsLeaf` or `AsInteger`).
+/// A type that names its description, which is `AsRecord`, `AsField`, `AsOctets`, `AsLeaf`,
+/// `AsInteger` or another `Way`.
 ///
-/// The type implements itself what its way doesn't give, such as the tag of a primitive type. It is
-/// decoded if it is `Drop`.
+/// The type itself implements what the description doesn't give, such as the tag of a primitive
+/// type. It can be decoded if it is `Drop`.
 pub trait Described: Sized {
+    /// The description.
     type By: Way<Self>;
 }
 
-/// A way whose types have one tag.
+/// A description of types with one tag.
 pub trait TagWay<T> {
+    /// The tag.
     ghost tag_by: { Tag };
 
     /// Returns the tag.
@@ -72,25 +76,26 @@ pub trait TagWay<T> {
         ensures { result ≡ tag_by };
 }
 
-/// Contents are written as they are read.
+/// A description of types whose contents are encoded as they are decoded.
 pub trait AsReadWay<T>: Way<T> {
+    /// The content that is encoded is the content that was decoded.
     ghost as_read_by: { (v : T) → Self.written_by v ≡ Self.plain_by v };
 }
 
-/// A way that decodes contents.
+/// A description of types whose contents can be decoded.
 pub trait DecodeWay<'a, R: Reader<'a>, T>: Way<T> {
-    /// Returns the result of `DecodeValue::decode_value`.
+    /// Decodes a content, as `DecodeValue::decode_value` does.
     ///
     /// # Errors
     ///
-    /// - The errors of `DecodeValue::decode_value`.
+    /// The errors of `DecodeValue::decode_value`.
     fn decode_by(alloc: Global, reader: &mut R, header: Header) -> Result<T, Error>
         ensures { Reads Self.plain_by (R.state reader.old) (R.state reader.new) result
             (value_at (read_content_at (R.state reader.old) Self.content_by header.tag)
             header.length.value) };
 }
 
-/// Contents are in range.
+/// A description of types whose contents are in range.
 pub trait RangeWay<T>: Way<T> {
     /// The content that is encoded is in range.
     fn range_by(value: &T)

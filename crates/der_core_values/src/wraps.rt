@@ -1,4 +1,4 @@
-//! Types of one field, coded as that field.
+//! Types of one field, which are encoded as that field.
 
 ghost use Rattle.std.specs.Prelude.{◌≡◌};
 
@@ -14,24 +14,25 @@ use std::marker::PhantomData;
 
 /// A type of one field, which is made from a value of that field.
 pub trait Wraps<F>: From<F> {
+    /// Maps a value to its field.
     ghost inner: { Self → F };
 
     /// Returns the field.
     fn inner(&self) -> &F
         ensures { result.now ≡ inner self.now };
 
-    /// A value that is made from a field has that field.
+    /// A value that is made from a field has this field.
     ghost made: { (field : F) (value : Self) → Self.from_gives field value → inner value ≡ field };
 }
 
-/// Returns the value whose field it is.
+/// Returns the value with this field.
 fn wrapped<F, T: Wraps<F>>(field: F) -> T
     ensures { T.inner result ≡ field }
 {
     T::from(field)
 }
 
-/// The way of a type of one field of type `F`: it has the tag, the content, the range and the order
+/// Describes a type of one field of type `F`. It has the tag, the content, the range and the order
 /// of its field.
 pub struct AsField<F> {
     of: PhantomData<F>,

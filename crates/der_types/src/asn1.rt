@@ -1,4 +1,4 @@
-//! Values of the types of ASN.1 (X.680, X.690).
+//! The types of ASN.1 (X.680) by the names that the Rust crate `der` has for them.
 
 pub use der_types_any::types_numbers::{
     AsIntRef, AsUintRef, GeneralizedTime, Int, IntRef, Uint, UintRef, UtcTime,

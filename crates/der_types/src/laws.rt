@@ -1,6 +1,8 @@
-//! Laws of typed values: a borrowed value and its owned form agree, dates are in the order of their
-//! seconds, a set's bytes don't depend on the order of insertions, what is written after a tag is
-//! read back. Each is a function with nothing to run, and its contract is the law.
+//! Laws about the types: a borrowed value and its owned form agree, dates are ordered by their
+//! seconds, the encoding of a set doesn't depend on the order of insertions, and the encoding of a
+//! tagged field decodes to it.
+//!
+//! Each law is the contract of a function that does nothing.
 
 ghost use Rattle.std.specs.Prelude.{ℕ};
 ghost use Rattle.der_types_tagged.specs.Fields.{explicit_field};
@@ -20,8 +22,9 @@ pub use der_types_sets::laws::{borrowed_and_owned_agree, order_of_insertions};
 use der_types_tagged::der::{Shaped, StrictSetOf};
 pub use der_types_tagged::laws::{others_are_absent, written_is_read_back};
 
-/// How many levels of values within values the types need: none, or where they hold others, one
-/// more than those. So each nests no deeper than a reader allows where its members do.
+/// The numbers of nested levels that the types need. A type without members needs none, and a type
+/// with members needs one more than they do. So such a type can be decoded if its members need
+/// fewer levels than the reader may open.
 pub fn levels_of_types<'a, T: Shaped + 'a, F: NamedBits, const N: usize>()
     ensures numbers { NeedsNone ⟦<bool as Shaped>⟧.shape
         × NeedsNone ⟦<u8 as Shaped>⟧.shape

@@ -1,4 +1,28 @@
-//! Typed values of DER.
+//! The types of ASN.1 (X.680) as Rust types: numbers, strings, times, bit strings, lists, sets,
+//! tagged values, and values of any type.
+//!
+//! They are decoded and encoded with the traits of `der_core`. Most types have an owned form, such
+//! as `OctetString`, and a borrowed one, such as `OctetStringRef`. `asn1` has the names that the
+//! Rust crate `der` has in its module of that name, and `laws` has the laws that are proved for the
+//! types.
+//!
+//! # Examples
+//!
+//! As in `tools/guide/facades.rt.txt`:
+//!
+//! ```rust
+//! /// Decodes a BIT STRING and returns its number of bits.
+//! fn bit_count(alloc: Global, octets: &[u8]) -> Result<usize> {
+//!     let bits = BitString::from_der(alloc, octets)?;
+//!     Ok(bits.bit_len())
+//! }
+//! ```
+//!
+//! # Dependencies
+//!
+//! This crate re-exports `der_types_numbers`, `der_types_values`, `der_types_text`,
+//! `der_types_sets`, `der_types_tagged` and `der_types_any`. These depend on `der_core`, on
+//! `arrayvec`, `bitflags` and `jiff_core` of the kit, and on the standard library.
 #![tactic(auto)]
 
 pub mod asn1;

@@ -1,4 +1,4 @@
--- A content that is read as a value of a type.
+-- Lemmas about decoding a content as a value of a type.
 use Rattle.std.proofs.Common.{◌≡◌, ℕ, List, [], length, true, false, Result, Ok, Err, refl, sym, ap, ◌∙◌, arith, le-ltb, Bool, nat_eq, ◌&&◌}
 use Rattle.std.proofs.lemmas.List.{take_all, drop_all}
 use Rattle.der_types_text.specs.Der.ErrorTypes.ErrorKind.{ErrorKind}
@@ -48,7 +48,7 @@ pub as_err : (rules : EncodingRules) (t : Tag) (c : Content) (a : AnyValue) (k :
     → Fails k (value_at (read_content_by rules c a.tag 64) (length a.contents) a.contents) → Fails k (content_by rules t c a)
 as_err rules t c a k e h = λ memory. as_is rules t c a e ∙ ap alone (h memory)
 
--- what a reader of the content, after its header, reads is what any value is read as
+-- The result of a reader of the content, after its header, is the result for the value of any type.
 pub read_ok : (rules : EncodingRules) (t : Tag) (c : Content) (a : AnyValue) (v : ContentValue c) (r : List ℕ) (by : EncodingRules) (tag : Tag) (n room : ℕ) (w : List ℕ)
     → by ≡ rules → tag ≡ a.tag → n ≡ length a.contents → room ≡ 64 → w ≡ a.contents
     → same_tag a.tag t ≡ true → value_at (read_content_by by c tag room) n w ≡ Ok (v, r) → content_by rules t c a ≡ Ok v
@@ -59,7 +59,7 @@ pub read_err : (rules : EncodingRules) (t : Tag) (c : Content) (a : AnyValue) (k
     → same_tag a.tag t ≡ true → Fails k (value_at (read_content_by by c tag room) n w) → Fails k (content_by rules t c a)
 read_err rules t c a k by tag n room w o p q s u e h = as_err rules t c a k e (λ memory. rw (o, p, q, s, u) at (h memory))
 
--- A content that a length can count is read as a text as bytes are.
+-- A content of at most 2^32 - 1 bytes is decoded as a text from its bytes
 
 pub text_from-short : (r : Repertoire) (t : Tag) (w : List ℕ) → Fits w → text_from r t w ≡ text_read r t w
 text_from-short r t w few = rw (le-ltb length_max (length w) (omega arith)) refl
@@ -69,7 +69,7 @@ utf8_from-short w few = rw (le-ltb length_max (length w) (omega arith)) refl
 
 pub ruleset text_contents = (text_from-short, utf8_from-short, any_read)
 
--- `==` of any values is of tag and content.
+-- `==` compares the tags and the contents
 
 both_alike : (t : Tag) → (nat_eq (leading_octet t) (leading_octet t) && nat_eq (number_of t) (number_of t)) ≡ true
 both_alike t i = nat_eq_equiv.refl (leading_octet t) i && nat_eq_equiv.refl (number_of t) i
@@ -77,7 +77,7 @@ both_alike t i = nat_eq_equiv.refl (leading_octet t) i && nat_eq_equiv.refl (num
 abbrev pub same_values : AnyValue → AnyValue → Bool
 same_values x y = pointwise nat_eq (any_key x) (any_key y)
 
--- values of one key are one value
+-- Two values with the same list of tag and content are equal.
 pub one_value : (x y : AnyValue) → same_values x y ≡ true → x ≡ y
 one_value x y e =
     let keys : any_key x ≡ any_key y = (bytes_decides (any_key x) (any_key y)).0 e in

@@ -1,4 +1,4 @@
-//! Any value.
+//! ANY: a value of any type.
 
 ghost use Rattle.std.specs.Prelude.{◌≡◌, ◌<◌, ◌↔◌, [], length, vec_len, nat_eq, true, false, Some};
 ghost use Rattle.std.specs.Prelude.{None, Ok, IsTrue, IfOk, IfErr, IsErrAnd, refl};
@@ -31,10 +31,10 @@ use std::cmp::Ordering;
 use std::hash::{Hash, Hasher};
 use std::marker::Model;
 
-/// Any value (X.680 3.8.1), as it is: its tag, and the bytes of its content, fewer than 2^32, which
-/// aren't looked into.
+/// A value of any type (X.680 3.8.1): its tag, and its content of fewer than 2^32 bytes, which
+/// isn't decoded.
 ///
-/// Contracts see the tag and the bytes.
+/// In contracts, its value is the tag and the content bytes.
 #[derive(Debug, Drop)]
 pub struct Any {
     tag: Tag,
@@ -53,7 +53,7 @@ impl Model for Any {
     ghost invariant = { IsAny };
 }
 
-/// Returns the bytes that writing the content of a value gives.
+/// Returns the encoded content of a value.
 fn content_octets<T: EncodeValue>(alloc: Global, value: &T) -> Result<Vec<u8>, Error>
     ensures { Gives (λ v. record { written = v.items; room = None; failed = false }) result
         (write_content T.content (T.value_written value.now)
@@ -65,11 +65,11 @@ fn content_octets<T: EncodeValue>(alloc: Global, value: &T) -> Result<Vec<u8>, E
 }
 
 impl Any {
-    /// Returns the value of a tag and a content.
+    /// Returns the value with this tag and this content.
     ///
     /// # Errors
     ///
-    /// - `Overflow`: 2^32 bytes or more.
+    /// - `Overflow`: the content has 2^32 bytes or more.
     pub fn new(tag: Tag, bytes: Vec<u8>) -> Result<Any, Error>
         ensures ok { IfOk result (λ a. IsLength (vec_len bytes)
             × (a ≡ record { tag = tag; contents = bytes.items })) }
@@ -83,7 +83,7 @@ impl Any {
         Ok(Any { tag, bytes })
     }
 
-    /// NULL.
+    /// Returns NULL.
     pub fn null(alloc: Global) -> Any
         ensures { result ≡ record { tag = Tag.Null; contents = [] } }
     {
@@ -93,7 +93,7 @@ impl Any {
         }
     }
 
-    /// Returns the tag and the content of a value.
+    /// Encodes a value, and returns its tag and its content.
     ///
     /// # Errors
     ///
@@ -108,8 +108,8 @@ impl Any {
         Ok(Any::new(T::tag(), bytes)?)
     }
 
-    /// The value of a borrowed one.
-    // Inlined, so that the value is made where it is kept.
+    /// Returns an owned copy of a borrowed value.
+    // Inlined, so that the value is made where the caller stores it.
     #[inline(always)]
     pub(crate) fn copy_of(alloc: Global, lent: &AnyRef<'_>) -> Result<Any, AllocError>
         ensures { IfOk result (λ a. a ≡ any_lent lent.now) }
@@ -125,7 +125,7 @@ impl Any {
     ///
     /// # Errors
     ///
-    /// Fails if memory runs out.
+    /// - `AllocError`: memory runs out.
     pub fn clone(&self, alloc: Global) -> Result<Any, AllocError>
         ensures { IfOk result (λ a. a ≡ self.now) }
     {
@@ -154,47 +154,46 @@ impl Any {
         self.to_ref().header()
     }
 
-    /// Returns whether it is NULL.
+    /// Returns whether the value is NULL.
     pub fn is_null(&self) -> bool
         ensures { IsTrue result ↔ (self.now ≡ record { tag = Tag.Null; contents = [] }) }
     {
         self.to_ref().is_null()
     }
 
-    /// Returns the value of a type that has this tag and this content.
+    /// Decodes the content as a value of a type that has this tag.
     ///
     /// # Errors
     ///
-    /// - `TagUnexpected`: another tag than the type's.
+    /// - `TagUnexpected`: the tag isn't that of the type.
     /// - The first error of the content.
     /// - `OutOfMemory`: memory runs out.
     pub fn decode_as<'a, T: DecodeValue<'a, SliceReader<'a>> + FixedTag>(
         &'a self,
         alloc: Global,
     ) -> Result<T, Error>
-        // What is read is spelled by the whole encoding, if there is one.
+        // If the value is valid, its encoding is that of the result.
         ensures spelled { IsValid any self.now → is_apart (tagged T.fixed_tag T.content) ≡ true
             → IfOk result
             (λ v. Spells (tagged T.fixed_tag T.content) (T.value_plain v)
             (octets_of any self.now)) }
-        // What is spelled by it is read, unless memory runs out.
+        // If the encoding is that of a value of the type, it is decoded, unless memory runs out.
         ensures only { (v : ContentValue T.content) → IsValid any self.now
             → is_apart (tagged T.fixed_tag T.content) ≡ true
             → are_enough (tagged T.fixed_tag T.content) levels_max ≡ true
             → Spells (tagged T.fixed_tag T.content) v (octets_of any self.now)
             → Gives T.value_plain result (Ok v) }
-        // The error is exact.
+        // The result is that of the definition, including the kind of the error.
         ensures exact { Gives T.value_plain result (content_as T.fixed_tag T.content self.now) }
     {
         Ok(self.to_ref().decode_as(alloc)?)
     }
 
-    /// Returns the value of a type that has this tag and this content, in which headers are read by
-    /// these rules.
+    /// Decodes the content as a value of a type that has this tag, under these encoding rules.
     ///
     /// # Errors
     ///
-    /// - `TagUnexpected`: another tag than the type's.
+    /// - `TagUnexpected`: the tag isn't that of the type.
     /// - The first error of the content.
     /// - `OutOfMemory`: memory runs out.
     pub fn decode_as_encoding<'a, T: DecodeValue<'a, SliceReader<'a>> + FixedTag>(
@@ -208,32 +207,32 @@ impl Any {
         Ok(self.to_ref().decode_as_encoding(alloc, encoding_rules)?)
     }
 
-    /// Calls `f` on a reader of the content of this SEQUENCE, and wants all of it read.
+    /// Calls `f` on a reader of the content of this SEQUENCE. `f` must read all of it.
     ///
     /// # Errors
     ///
-    /// - `TagUnexpected`: it isn't SEQUENCE.
+    /// - `TagUnexpected`: the value isn't a SEQUENCE.
     /// - The error of `f`.
-    /// - `TrailingData`: `f` leaves bytes.
+    /// - `TrailingData`: `f` left bytes unread.
     pub fn sequence<'a, T: Drop, F: FnOnce(&mut SliceReader<'a>) -> Result<T, Error>>(
         &'a self,
         f: F,
     ) -> Result<T, Error>
         requires callable { F.IsAlwaysCallable f }
-        // The closure gives back the same reader, with the same end, and further on.
+        // The closure must leave the reader with the same end, at the same or a later position.
         requires hands_back { HandsBack (λ s. s) F.FnOnce f }
-        // The answer is that of the closure, which left nothing.
+        // The result is that of the closure, which read all of the content.
         ensures ran { IfOk result
             (λ x. Answered (λ s. s) F.FnOnce f (length self.now.contents)
             (unread EncodingRules.Der self.now.contents) x) }
         ensures tag { same_tag self.now.tag Tag.Sequence ≡ false
             → IsErrAnd result (λ e. e.kind ≡ ErrorKind.TagUnexpected) }
-        // Why a SEQUENCE is rejected: what the closure returns, or that it left bytes.
+        // For a SEQUENCE, the error is that of the closure, or the closure left bytes unread.
         ensures refused { same_tag self.now.tag Tag.Sequence ≡ true
             → IfErr result
             (RefusesNested (λ s. s) F.FnOnce f (length self.now.contents)
             (unread EncodingRules.Der self.now.contents)) }
-        // What the closure reads of a body, this reads of the content.
+        // If the closure decodes a body, this call decodes the content.
         ensures reads { (b : Body) (view : T → BodyValue b)
             → ClosureReads (λ s. s) F.FnOnce f b view
             → Gives view result (content_as Tag.Sequence (nested b) self.now) }
@@ -242,21 +241,21 @@ impl Any {
         Ok(value)
     }
 
-    /// Returns the order of two contents as lists of bytes, whatever the tags. It always succeeds.
+    /// Compares two contents as lists of bytes, whatever the tags are. It always succeeds.
     pub fn value_cmp(&self, other: &Any) -> Result<Ordering, Error>
         ensures { result ≡ Ok (octets_cmp self.now.contents other.now.contents) }
     {
         self.to_ref().value_cmp(&other.to_ref())
     }
 
-    /// Returns the value, borrowed.
+    /// Returns the borrowed form of the value.
     pub fn to_ref(&self) -> AnyRef<'_>
         ensures { any_lent result ≡ self.now }
     {
         AnyRef::trusted(self.tag, self.bytes.as_slice())
     }
 
-    /// Returns the value, borrowed.
+    /// Returns the borrowed form of the value.
     pub fn owned_to_ref(&self) -> AnyRef<'_>
         ensures { any_lent result ≡ self.now }
     {
@@ -273,7 +272,7 @@ impl Clone for Any {
     }
 }
 
-/// Whether tag and content are equal.
+/// Compares the tags and the contents.
 impl PartialEq for Any {
     ghost use Rattle.der_types_any.specs.AnyOrders.{any_key};
 
@@ -283,7 +282,7 @@ impl PartialEq for Any {
 
     fn eq(&self, other: &Self) -> bool {
         match (self.tag, other.tag) {
-            // Those of most names.
+            // Most attribute values of names have this tag.
             (Tag::Utf8String, Tag::Utf8String) => self.bytes == other.bytes,
             (Tag::PrintableString, Tag::PrintableString) => self.bytes == other.bytes,
             _ => is_same_tag(self.tag, other.tag) && self.bytes == other.bytes,
@@ -297,7 +296,7 @@ impl Eq for Any {
     ghost laws = { on_equiv any_key nat_list_eq_equiv };
 }
 
-/// The order of the tags' leading bytes, then of their numbers, then of the contents.
+/// Compares the first bytes of the tags, then their numbers, and then the contents.
 impl PartialOrd for Any {
     ghost partial_cmp = { λ a b. Some (any_cmp a b) };
 
@@ -322,7 +321,7 @@ impl Ord for Any {
     }
 }
 
-/// The leading byte of the tag, its number, and the content.
+/// Hashes the first byte of the tag, its number, and the content.
 impl Hash for Any {
     ghost hash_input = { any_fed };
 
@@ -376,7 +375,7 @@ impl Encode for Any {
     }
 }
 
-/// The tags, then the lengths, then the contents, byte by byte.
+/// Compares the tags, then the lengths, and then the contents.
 impl DerOrd for Any {
     fn der_cmp(&self, other: &Self) -> Result<Ordering, Error> {
         self.to_ref().der_cmp(&other.to_ref())

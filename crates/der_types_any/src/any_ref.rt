@@ -1,4 +1,4 @@
-//! Any value, borrowed.
+//! ANY, borrowed.
 
 ghost use Rattle.std.specs.Prelude.{◌≡◌, ◌<◌, ◌↔◌, [], length, nat_eq, true, false, Some, Ok};
 ghost use Rattle.std.specs.Prelude.{IsTrue, IfOk, IfErr, IsErrAnd, refl};
@@ -31,8 +31,8 @@ use std::alloc::{AllocError, Global};
 use std::cmp::Ordering;
 use std::hash::{Hash, Hasher};
 
-/// Any value (X.680 3.8.1), as it is: its tag, and the bytes of its content, fewer than 2^32, which
-/// aren't looked into; borrowed.
+/// A borrowed value of any type (X.680 3.8.1): its tag, and its content of fewer than 2^32 bytes,
+/// which isn't decoded.
 #[derive(Clone, Copy, Debug)]
 pub struct AnyRef<'a> {
     tag: Tag,
@@ -49,11 +49,11 @@ impl<'a> AnyRef<'a> {
         bytes: &[],
     };
 
-    /// Returns the value of a tag and a content.
+    /// Returns the value with this tag and this content.
     ///
     /// # Errors
     ///
-    /// - `Overflow`: 2^32 bytes or more.
+    /// - `Overflow`: the content has 2^32 bytes or more.
     pub fn new(tag: Tag, bytes: &'a [u8]) -> Result<AnyRef<'a>, Error>
         ensures ok { IfOk result
             (λ a. Fits bytes.now × (any_lent a ≡ record { tag = tag; contents = bytes.now })) }
@@ -66,7 +66,7 @@ impl<'a> AnyRef<'a> {
         Ok(AnyRef { tag, bytes })
     }
 
-    /// Bytes that are known to be few enough, after a tag.
+    /// Wraps a content that is known to have fewer than 2^32 bytes, with this tag.
     pub(crate) fn trusted(tag: Tag, bytes: &'a [u8]) -> AnyRef<'a>
         requires { Fits bytes.now }
         ensures { any_lent result ≡ record { tag = tag; contents = bytes.now } }
@@ -100,49 +100,48 @@ impl<'a> AnyRef<'a> {
         }
     }
 
-    /// Returns whether it is NULL.
+    /// Returns whether the value is NULL.
     pub fn is_null(&self) -> bool
         ensures { IsTrue result ↔ (any_lent self.now ≡ record { tag = Tag.Null; contents = [] }) }
     {
         matches!(self.tag, Tag::Null) && self.bytes.is_empty()
     }
 
-    /// Returns the value of a type that has this tag and this content.
+    /// Decodes the content as a value of a type that has this tag.
     ///
     /// # Errors
     ///
-    /// - `TagUnexpected`: another tag than the type's.
+    /// - `TagUnexpected`: the tag isn't that of the type.
     /// - The first error of the content.
     /// - `OutOfMemory`: memory runs out.
     pub fn decode_as<T: DecodeValue<'a, SliceReader<'a>> + FixedTag>(
         &self,
         alloc: Global,
     ) -> Result<T, Error>
-        // What is read is spelled by the whole encoding, if there is one.
+        // If the value is valid, its encoding is that of the result.
         ensures spelled { IsValid any (any_lent self.now) → is_apart (tagged T.fixed_tag T.content)
             ≡ true
             → IfOk result
             (λ v. Spells (tagged T.fixed_tag T.content) (T.value_plain v)
             (octets_of any (any_lent self.now))) }
-        // What is spelled by it is read, unless memory runs out.
+        // If the encoding is that of a value of the type, it is decoded, unless memory runs out.
         ensures only { (v : ContentValue T.content) → IsValid any (any_lent self.now)
             → is_apart (tagged T.fixed_tag T.content) ≡ true
             → are_enough (tagged T.fixed_tag T.content) levels_max ≡ true
             → Spells (tagged T.fixed_tag T.content) v (octets_of any (any_lent self.now))
             → Gives T.value_plain result (Ok v) }
-        // The error is exact.
+        // The result is that of the definition, including the kind of the error.
         ensures exact { Gives T.value_plain result
             (content_as T.fixed_tag T.content (any_lent self.now)) }
     {
         self.decode_as_encoding(alloc, EncodingRules::Der)
     }
 
-    /// Returns the value of a type that has this tag and this content, in which headers are read by
-    /// these rules.
+    /// Decodes the content as a value of a type that has this tag, under these encoding rules.
     ///
     /// # Errors
     ///
-    /// - `TagUnexpected`: another tag than the type's.
+    /// - `TagUnexpected`: the tag isn't that of the type.
     /// - The first error of the content.
     /// - `OutOfMemory`: memory runs out.
     #[tactic(auto, unfolding(crate::specs::Contents::content_by))]
@@ -162,32 +161,32 @@ impl<'a> AnyRef<'a> {
         Ok(value)
     }
 
-    /// Calls `f` on a reader of the content of this SEQUENCE, and wants all of it read.
+    /// Calls `f` on a reader of the content of this SEQUENCE. `f` must read all of it.
     ///
     /// # Errors
     ///
-    /// - `TagUnexpected`: it isn't SEQUENCE.
+    /// - `TagUnexpected`: the value isn't a SEQUENCE.
     /// - The error of `f`.
-    /// - `TrailingData`: `f` leaves bytes.
+    /// - `TrailingData`: `f` left bytes unread.
     pub fn sequence<T: Drop, F: FnOnce(&mut SliceReader<'a>) -> Result<T, Error>>(
         &self,
         f: F,
     ) -> Result<T, Error>
         requires callable { F.IsAlwaysCallable f }
-        // The closure gives back the same reader, with the same end, and further on.
+        // The closure must leave the reader with the same end, at the same or a later position.
         requires hands_back { HandsBack (λ s. s) F.FnOnce f }
-        // The answer is that of the closure, which left nothing.
+        // The result is that of the closure, which read all of the content.
         ensures ran { IfOk result
             (λ x. Answered (λ s. s) F.FnOnce f (length (any_lent self.now).contents)
             (unread EncodingRules.Der (any_lent self.now).contents) x) }
         ensures tag { same_tag (any_lent self.now).tag Tag.Sequence ≡ false
             → IsErrAnd result (λ e. e.kind ≡ ErrorKind.TagUnexpected) }
-        // Why a SEQUENCE is rejected: what the closure returns, or that it left bytes.
+        // For a SEQUENCE, the error is that of the closure, or the closure left bytes unread.
         ensures refused { same_tag (any_lent self.now).tag Tag.Sequence ≡ true
             → IfErr result
             (RefusesNested (λ s. s) F.FnOnce f (length (any_lent self.now).contents)
             (unread EncodingRules.Der (any_lent self.now).contents)) }
-        // What the closure reads of a body, this reads of the content.
+        // If the closure decodes a body, this call decodes the content.
         ensures reads { (b : Body) (view : T → BodyValue b)
             → ClosureReads (λ s. s) F.FnOnce f b view
             → Gives view result (content_as Tag.Sequence (nested b) (any_lent self.now)) }
@@ -200,7 +199,7 @@ impl<'a> AnyRef<'a> {
         Ok(value)
     }
 
-    /// Returns the order of two contents as lists of bytes, whatever the tags. It always succeeds.
+    /// Compares two contents as lists of bytes, whatever the tags are. It always succeeds.
     pub fn value_cmp(&self, other: &AnyRef<'_>) -> Result<Ordering, Error>
         ensures { result
             ≡ Ok (octets_cmp (any_lent self.now).contents (any_lent other.now).contents) }
@@ -209,12 +208,12 @@ impl<'a> AnyRef<'a> {
         Ok(order)
     }
 
-    /// A copy of the value that owns its bytes.
+    /// Returns an owned copy of the value.
     ///
     /// # Errors
     ///
-    /// Fails if memory runs out.
-    // Inlined, so that the value is made where it is kept.
+    /// - `AllocError`: memory runs out.
+    // Inlined, so that the value is made where the caller stores it.
     #[inline(always)]
     pub fn ref_to_owned(&self, alloc: Global) -> Result<Any, AllocError>
         ensures { IfOk result (λ a. a ≡ any_lent self.now) }
@@ -223,7 +222,7 @@ impl<'a> AnyRef<'a> {
     }
 }
 
-/// The value, borrowed.
+/// Borrows the value.
 impl<'a> From<&'a Any> for AnyRef<'a> {
     ghost use Rattle.der_types_any.specs.Anys.{any_lent};
 
@@ -234,7 +233,7 @@ impl<'a> From<&'a Any> for AnyRef<'a> {
     }
 }
 
-/// Whether tag and content are equal.
+/// Compares the tags and the contents.
 impl<'a> PartialEq for AnyRef<'a> {
     ghost use Rattle.der_types_any.specs.Anys.{key_lent};
 
@@ -253,7 +252,7 @@ impl<'a> Eq for AnyRef<'a> {
     ghost laws = { on_equiv key_lent nat_list_eq_equiv };
 }
 
-/// The order of the tags' leading bytes, then of their numbers, then of the contents.
+/// Compares the first bytes of the tags, then their numbers, and then the contents.
 impl<'a> PartialOrd for AnyRef<'a> {
     ghost use Rattle.der_types_any.specs.Anys.{any_lent};
 
@@ -285,7 +284,7 @@ impl<'a> Ord for AnyRef<'a> {
     }
 }
 
-/// The leading byte of the tag, its number, and the content.
+/// Hashes the first byte of the tag, its number, and the content.
 impl<'a> Hash for AnyRef<'a> {
     ghost use Rattle.der_types_any.specs.Anys.{any_lent};
 
@@ -351,7 +350,7 @@ impl<'a> Encode for AnyRef<'a> {
     }
 }
 
-/// The tags, then the lengths, then the contents, byte by byte.
+/// Compares the tags, then the lengths, and then the contents.
 impl<'a> DerOrd for AnyRef<'a> {
     fn der_cmp(&self, other: &Self) -> Result<Ordering, Error> {
         let content = OctetStringRef::of_content(self.bytes);
@@ -362,6 +361,7 @@ impl<'a> DerOrd for AnyRef<'a> {
 
 impl<'a> FirstTag for AnyRef<'a> {
     fn first_tag(&self) -> Option<Tag> {
+        // Only for the proof: `number_of` returns a `u32`, so the tag number fits 32 bits.
         let _number = number_of(self.tag);
         Some(self.tag)
     }

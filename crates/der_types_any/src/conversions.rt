@@ -1,4 +1,4 @@
-//! What conversions of any values share.
+//! A function that the conversions of `AnyRef` share.
 
 ghost use Rattle.std.specs.Prelude.{◌≡◌, ◌↔◌, true, IsOk, IfErr, OnOk};
 ghost use Rattle.der_types_text.specs.Der.Tags.{same_tag};
@@ -6,11 +6,11 @@ ghost use Rattle.der_types_text.specs.Der.Tags.{same_tag};
 use der_types_text::der::making::is_same_tag;
 use der_types_text::der::{Error, ErrorKind, Tag};
 
-/// That a tag is the one that is required.
+/// Checks that a tag is the expected one.
 ///
 /// # Errors
 ///
-/// - `TagUnexpected`.
+/// - `TagUnexpected`: it is another tag.
 #[tactic(auto, using(crate::proofs::Cited::same_tags))]
 pub fn check_tag(actual: Tag, expected: Tag) -> Result<(), Error>
     ensures same { IsOk result ↔ (same_tag actual expected ≡ true) }

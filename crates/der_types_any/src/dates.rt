@@ -1,4 +1,4 @@
-//! Any value as a time. An owned value is decoded as an `AnyRef` to it is.
+//! Conversions from `AnyRef` and `Any` to times. An `Any` is converted as its borrowed form is.
 
 ghost use Rattle.der_types_text.specs.Der.TagTypes.Tag.TheVariants as tags;
 ghost use Rattle.der_types_text.specs.Der.Leaves.{utc_time, generalized_time};
@@ -12,7 +12,7 @@ use crate::conversions::check_tag;
 use der_types_numbers::{DateTime, GeneralizedTime, UtcTime};
 use der_types_text::der::{Error, Tag};
 
-/// The time of a UTCTime.
+/// Converts a UTCTime.
 impl<'a> TryFrom<AnyRef<'a>> for UtcTime {
     type Error = Error;
 
@@ -36,7 +36,7 @@ impl<'a> TryFrom<&'a Any> for UtcTime {
     }
 }
 
-/// The time of a GeneralizedTime.
+/// Converts a GeneralizedTime.
 impl<'a> TryFrom<AnyRef<'a>> for GeneralizedTime {
     type Error = Error;
 
@@ -61,7 +61,7 @@ impl<'a> TryFrom<&'a Any> for GeneralizedTime {
     }
 }
 
-/// The date of a GeneralizedTime.
+/// Converts a GeneralizedTime.
 impl<'a> TryFrom<AnyRef<'a>> for DateTime {
     type Error = Error;
 

@@ -1,5 +1,5 @@
-//! Any value can be a member: it has one spelling, begins with a header, and is written as it is
-//! read.
+//! Impls that state that a value of any type has one encoding, which begins with a header, and is
+//! encoded as it is decoded.
 
 ghost use Rattle.std.specs.Prelude.{refl};
 

@@ -1,7 +1,8 @@
-//! The law of any values: a borrowed one and the owned one of the same tag and content are alike.
+//! A law about values of any type: a borrowed value and the owned one with the same tag and content
+//! agree.
 //!
-//! It is the contract of a function that does nothing. What `tag`, `value`, `header`, `is_null`,
-//! `decode_as` and `sequence` answer is said at each in the same words.
+//! The law is the contract of a function that does nothing. The functions that both forms have are
+//! documented in the same words.
 
 ghost use Rattle.std.specs.Prelude.{◌≡◌};
 ghost use Rattle.der_types_text.specs.Der.Shapes.{octets_of};
@@ -14,9 +15,9 @@ use der_types_text::der::Shaped;
 use std::cmp::{Ord, PartialEq};
 use std::hash::Hash;
 
-/// Both forms are read and refused alike, for they have one shape; they have the same encoding, are
-/// equal to the same values, are hashed alike, and are in the same orders, their own and that of
-/// encodings.
+/// Both forms decode from the same bytes, because they have the same shape. They have the same
+/// encoding, are equal to the same values, are hashed alike, and are ordered alike, by their own
+/// order and by that of encodings.
 pub fn any_forms_agree()
     ensures read { ⟦<AnyRef<'static> as Shaped>⟧.shape ≡ ⟦<Any as Shaped>⟧.shape }
     ensures encoding { (a : AnyRef) → octets_of ⟦<AnyRef<'static> as Shaped>⟧.shape

@@ -1,4 +1,5 @@
-//! Any values, and their conversions with values of types.
+//! Values of any type (`Any`, `AnyRef`), and their conversions to and from other types. Users
+//! import the items of this crate from `der_types`.
 #![tactic(auto)]
 
 mod any;
@@ -40,5 +41,3 @@ pub mod types_values {
         NamedBits, Null, OctetString, OctetStringRef, Sequence, SequenceRef, laws,
     };
 }
-
-// What they are converted with.

@@ -1,5 +1,5 @@
-//! Any value as a number, that of an INTEGER, and back. An owned value is decoded as an `AnyRef` to
-//! it is.
+//! Conversions from `AnyRef` and `Any` to integers, and back. An `Any` is converted as its borrowed
+//! form is.
 
 ghost use Rattle.std.specs.Prelude.{◌≡◌, pos};
 ghost use Rattle.der_types_text.specs.Der.TagTypes.Tag.TheVariants as tags;
@@ -17,7 +17,7 @@ use crate::conversions::check_tag;
 use der_types_numbers::{IntRef, UintRef};
 use der_types_text::der::{Error, Integer, Tag};
 
-/// Returns the number of an INTEGER.
+/// Converts an INTEGER.
 #[tactic(auto, unfolding(crate::specs::Contents::leaf_as))]
 fn integer_from<T: Integer>(any: &AnyRef<'_>) -> Result<T, Error>
     ensures { IntegerGives T.numbers T.number (any_lent any.now) result }
@@ -284,8 +284,8 @@ impl<'a> TryFrom<&'a Any> for UintRef<'a> {
     }
 }
 
-/// The value as one of any type. A `UintRef` isn't borrowed so, since the zero before its digits
-/// may be in no slice: `Any::encode_from` copies it.
+/// Borrows the content of the integer. There is no such impl for `UintRef`, because the zero byte
+/// before its digits may not be in a slice. `Any::encode_from` copies it.
 impl<'a> From<IntRef<'a>> for AnyRef<'a> {
     ghost from_gives = { λ n a. any_lent a
         ≡ record { tag = tags.Integer; contents = integer_octets (integer_lent n) } };

@@ -1,4 +1,5 @@
-//! Any value as a text, and back. An owned value is decoded as an `AnyRef` to it is.
+//! Conversions from `AnyRef` and `Any` to texts, and back. An `Any` is converted as its borrowed
+//! form is.
 
 ghost use Rattle.std.specs.Prelude.{◌≡◌};
 ghost use Rattle.der_types_text.specs.Der.TagTypes.Tag.TheVariants as tags;
@@ -14,7 +15,7 @@ use crate::conversions::check_tag;
 use der_types_text::der::{Error, Tag};
 use der_types_text::{AsciiStringRef, AsciiType, GeneralStringRef, Utf8StringRef};
 
-/// The text of a character string type whose characters are ASCII.
+/// Converts a character string whose characters are ASCII.
 impl<'a, T: AsciiType> TryFrom<AnyRef<'a>> for AsciiStringRef<'a, T> {
     type Error = Error;
 
@@ -39,7 +40,7 @@ impl<'a, T: AsciiType> TryFrom<&'a Any> for AsciiStringRef<'a, T> {
     }
 }
 
-/// The text of a UTF8String.
+/// Converts a UTF8String.
 impl<'a> TryFrom<AnyRef<'a>> for Utf8StringRef<'a> {
     type Error = Error;
 
@@ -64,7 +65,7 @@ impl<'a> TryFrom<&'a Any> for Utf8StringRef<'a> {
     }
 }
 
-/// The text of a UTF8String.
+/// Converts a UTF8String.
 impl<'a> TryFrom<AnyRef<'a>> for &'a str {
     type Error = Error;
 
@@ -87,7 +88,7 @@ impl<'a> TryFrom<&'a Any> for &'a str {
     }
 }
 
-/// The bytes of a GeneralString.
+/// Converts a GeneralString.
 impl<'a> TryFrom<AnyRef<'a>> for GeneralStringRef<'a> {
     type Error = Error;
 
@@ -112,7 +113,7 @@ impl<'a> TryFrom<&'a Any> for GeneralStringRef<'a> {
     }
 }
 
-/// The value as one of any type.
+/// Borrows the bytes of the text.
 impl<'a, T: AsciiType> From<AsciiStringRef<'a, T>> for AnyRef<'a> {
     ghost from_gives = { λ text a. any_lent a
         ≡ record { tag = T.string_tag; contents = text.text.now } };
@@ -122,7 +123,7 @@ impl<'a, T: AsciiType> From<AsciiStringRef<'a, T>> for AnyRef<'a> {
     }
 }
 
-/// The value as one of any type.
+/// Borrows the bytes of the text.
 impl<'a> From<Utf8StringRef<'a>> for AnyRef<'a> {
     ghost from_gives = { λ text a. any_lent a
         ≡ record { tag = tags.Utf8String; contents = text.text.now } };
@@ -132,7 +133,7 @@ impl<'a> From<Utf8StringRef<'a>> for AnyRef<'a> {
     }
 }
 
-/// The value as one of any type.
+/// Borrows the bytes of the string.
 impl<'a> From<GeneralStringRef<'a>> for AnyRef<'a> {
     ghost from_gives = { λ text a. any_lent a
         ≡ record { tag = tags.GeneralString; contents = text.bytes.now } };
@@ -142,7 +143,7 @@ impl<'a> From<GeneralStringRef<'a>> for AnyRef<'a> {
     }
 }
 
-/// The value as one of any type, where a length can count its bytes.
+/// Borrows the bytes of the text. The error is `Overflow` if there are 2^32 bytes or more.
 impl<'a> TryFrom<&'a str> for AnyRef<'a> {
     type Error = Error;
 

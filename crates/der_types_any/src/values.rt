@@ -1,5 +1,5 @@
-//! Any value as a truth value, NULL, an identifier, a string of bits or bytes or a SEQUENCE, and
-//! back. An owned value is decoded as an `AnyRef` to it is.
+//! Conversions from `AnyRef` and `Any` to BOOLEAN, NULL, OBJECT IDENTIFIER, BIT STRING, OCTET
+//! STRING and SEQUENCE, and back. An `Any` is converted as its borrowed form is.
 
 ghost use Rattle.std.specs.Prelude.{◌≡◌, []};
 ghost use Rattle.der_types_text.specs.Oid.Bound.{Bound};
@@ -19,7 +19,7 @@ use der_types_text::der::{Error, ErrorKind, Tag};
 use der_types_text::oid::ObjectIdentifier;
 use der_types_values::{BitStringRef, Null, OctetStringRef, SequenceRef};
 
-/// The truth value of a BOOLEAN.
+/// Converts a BOOLEAN.
 impl<'a> TryFrom<AnyRef<'a>> for bool {
     type Error = Error;
 
@@ -48,7 +48,7 @@ impl<'a> TryFrom<&'a Any> for bool {
     }
 }
 
-/// The value of NULL.
+/// Converts NULL.
 impl<'a> TryFrom<AnyRef<'a>> for () {
     type Error = Error;
 
@@ -76,7 +76,7 @@ impl<'a> TryFrom<&'a Any> for () {
     }
 }
 
-/// The value of NULL.
+/// Converts NULL.
 impl<'a> TryFrom<AnyRef<'a>> for Null {
     type Error = Error;
 
@@ -98,7 +98,7 @@ impl<'a> TryFrom<&'a Any> for Null {
     }
 }
 
-/// The value as one of any type.
+/// Returns NULL.
 impl<'a> From<Null> for AnyRef<'a> {
     ghost from_gives = { λ _ a. any_lent a ≡ record { tag = tags.Null; contents = [] } };
 
@@ -107,7 +107,7 @@ impl<'a> From<Null> for AnyRef<'a> {
     }
 }
 
-/// The identifier of an OBJECT IDENTIFIER, whose bytes are no more than the capacity.
+/// Converts an OBJECT IDENTIFIER, whose encoding must not exceed the capacity.
 impl<'a, const MAX_SIZE: usize> TryFrom<AnyRef<'a>> for ObjectIdentifier<MAX_SIZE> {
     type Error = Error;
 
@@ -132,7 +132,7 @@ impl<'a, const MAX_SIZE: usize> TryFrom<&'a Any> for ObjectIdentifier<MAX_SIZE> 
     }
 }
 
-/// The bits of a BIT STRING.
+/// Converts a BIT STRING.
 impl<'a> TryFrom<AnyRef<'a>> for BitStringRef<'a> {
     type Error = Error;
 
@@ -156,7 +156,7 @@ impl<'a> TryFrom<&'a Any> for BitStringRef<'a> {
     }
 }
 
-/// The bytes of an OCTET STRING.
+/// Converts an OCTET STRING.
 impl<'a> TryFrom<AnyRef<'a>> for OctetStringRef<'a> {
     type Error = Error;
 
@@ -181,8 +181,8 @@ impl<'a> TryFrom<&'a Any> for OctetStringRef<'a> {
     }
 }
 
-/// The value as one of any type. A `BitStringRef` isn't borrowed so, since its number of unused
-/// bits is in no slice: `Any::encode_from` copies it.
+/// Borrows the bytes. There is no such impl for `BitStringRef`, because its number of unused bits
+/// isn't in a slice. `Any::encode_from` copies it.
 impl<'a> From<OctetStringRef<'a>> for AnyRef<'a> {
     ghost from_gives = { λ x a. any_lent a
         ≡ record { tag = tags.OctetString; contents = octets_lent x } };
@@ -192,7 +192,7 @@ impl<'a> From<OctetStringRef<'a>> for AnyRef<'a> {
     }
 }
 
-/// The content of a SEQUENCE.
+/// Converts a SEQUENCE, whose content isn't decoded.
 impl<'a> TryFrom<AnyRef<'a>> for SequenceRef<'a> {
     type Error = Error;
 
@@ -216,7 +216,7 @@ impl<'a> TryFrom<&'a Any> for SequenceRef<'a> {
     }
 }
 
-/// The value as one of any type.
+/// Borrows the content.
 impl<'a> From<SequenceRef<'a>> for AnyRef<'a> {
     ghost from_gives = { λ x a. any_lent a
         ≡ record { tag = tags.Sequence; contents = fields_lent x } };

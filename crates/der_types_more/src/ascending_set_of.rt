@@ -1,4 +1,4 @@
-//! SET OF whose members ascend, with equal members allowed (X.690 8.12, 11.6).
+//! SET OF whose members are in ascending order, with equal members allowed (X.690 8.12, 11.6).
 
 ghost use Rattle.std.specs.Prelude.{◌≡◌, ◌==◌, length};
 ghost use Rattle.der_core.specs.Grammar.{plain_list};
@@ -14,10 +14,11 @@ use der_core::{
 use std::alloc::Global;
 use std::cmp::Ordering;
 
-/// Values whose encodings ascend. Equal ones are allowed.
+/// SET OF in which equal members are allowed. It is encoded only if the encodings of its members
+/// are in ascending order.
 #[derive(Clone, Debug, Drop, PartialEq, Eq)]
 pub struct AscendingSetOf<T> {
-    /// The values, which are encoded only if their encodings ascend.
+    /// The members. Encoding fails if their encodings aren't in ascending order.
     pub values: Vec<T>,
 }
 
@@ -29,7 +30,7 @@ impl<T> AscendingSetOf<T> {
         self.values.as_slice()
     }
 
-    /// Returns whether there is no member.
+    /// Returns whether there are no members.
     pub fn is_empty(&self) -> bool
         ensures { result ≡ (length self.now.values.items == 0) }
     {
@@ -85,9 +86,10 @@ impl<'a, R: Reader<'a>, T: Decode<'a, R> + Member> DecodeValue<'a, R> for Ascend
     }
 }
 
-/// Writes the members, none of which is below the one before.
+/// The content is the members, none of which may be less than the one before it.
 ///
-/// The members are written first, so their bytes can be counted and compared.
+/// The members are encoded before their order is checked, because then their lengths are known to
+/// be valid.
 impl<T: Encode + DerOrd + Member> EncodeValue for AscendingSetOf<T> {
     fn value_len(&self) -> Result<Length, Error> {
         self.values.value_len()
@@ -96,7 +98,7 @@ impl<T: Encode + DerOrd + Member> EncodeValue for AscendingSetOf<T> {
     /// # Errors
     ///
     /// - The errors of the members and of the writer.
-    /// - `SetOrdering`: an encoding is below the one before (X.690 11.6).
+    /// - `SetOrdering`: an encoding is less than the one before it (X.690 11.6).
     #[tactic(auto, unfolding(crate::specs::Opened::contents))]
     fn encode_value<W: Writer>(&self, writer: &mut W) -> Result<(), Error> {
         self.values.encode_value(writer)?;
@@ -122,7 +124,7 @@ impl<T: InRange> InRangeValue for AscendingSetOf<T> {
     }
 }
 
-/// Compares the members one after another.
+/// Compares the concatenated encodings of the members.
 impl<T: DerOrd> ValueOrd for AscendingSetOf<T> {
     #[tactic(auto, unfolding(crate::specs::Opened::contents, crate::specs::Opened::IsContent, crate::specs::Opened::body_octets, crate::specs::Opened::IsBody))]
     fn value_cmp(&self, other: &Self) -> Result<Ordering, Error> {

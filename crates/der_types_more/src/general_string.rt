@@ -13,10 +13,10 @@ use std::alloc::{AllocError, Global};
 use std::convert::AsSlice;
 use std::marker::Model;
 
-/// An owned GeneralString (X.680 41, X.690 8.23.5): any bytes, fewer than 2^32, whose character
-/// sets are left to the reader.
+/// An owned GeneralString (X.680 41, X.690 8.23.5): any bytes, fewer than 2^32. Their character
+/// sets aren't interpreted.
 ///
-/// Contracts see the bytes.
+/// In contracts, its value is the bytes.
 #[derive(Debug, Drop, PartialEq, Eq, PartialOrd, Ord, Hash)]
 pub struct GeneralString {
     bytes: BytesOwned,
@@ -37,7 +37,7 @@ impl GeneralString {
     ///
     /// # Errors
     ///
-    /// - `Overflow`: 2^32 bytes or more.
+    /// - `Overflow`: there are 2^32 bytes or more.
     pub fn new(bytes: Vec<u8>) -> Result<GeneralString, Error>
         ensures ok { IfOk result (λ s. IsLength (vec_len bytes) × (s ≡ bytes.items)) }
         ensures err { IfErr result (λ e. (length_max < vec_len bytes)
@@ -51,7 +51,7 @@ impl GeneralString {
     ///
     /// # Errors
     ///
-    /// Fails if memory runs out.
+    /// - `AllocError`: memory runs out.
     pub fn clone(&self, alloc: Global) -> Result<GeneralString, AllocError>
         ensures { IfOk result (λ s. s ≡ self.now) }
     {
@@ -66,7 +66,7 @@ impl GeneralString {
         self.bytes.as_slice()
     }
 
-    /// Returns the bytes and consumes the string.
+    /// Returns the bytes, and consumes the string.
     pub fn into_bytes(self) -> Vec<u8>
         ensures { result.items ≡ self }
     {
@@ -88,7 +88,7 @@ impl GeneralString {
     }
 }
 
-/// The bytes.
+/// Returns the bytes.
 impl AsSlice<u8> for GeneralString {
     ghost items = { λ s. s };
 
@@ -97,7 +97,7 @@ impl AsSlice<u8> for GeneralString {
     }
 }
 
-/// Copies into memory of the same allocator.
+/// Copies the value with its own allocator.
 impl Clone for GeneralString {
     ghost is_clone = { λ x y. y ≡ x };
 
@@ -125,7 +125,7 @@ impl Primitive for GeneralString {
     ghost leaf_plain = { λ s. s };
 }
 
-/// Any bytes.
+/// The content is the bytes.
 impl<'a> Leaf<'a> for GeneralString {
     #[tactic(auto, using(crate::proofs::Cited::any_read))]
     fn from_content(alloc: Global, tag: Tag, octets: &'a [u8]) -> Result<GeneralString, Error> {
@@ -142,5 +142,5 @@ impl Octets for GeneralString {
     }
 }
 
-/// The bytes (X.690 8.23.5).
+/// Compares the bytes (X.690 8.23.5).
 impl Ordered for GeneralString {}

@@ -37,7 +37,7 @@ impl Wraps<bool> for OrTrue {
 /// Compares the values.
 impl Ordered for OrTrue {}
 
-/// True.
+/// The default is true.
 impl DefaultContent for OrTrue {
     ghost content_octets = { 255 ∷ [] };
 

@@ -14,10 +14,10 @@ use std::alloc::{AllocError, Global};
 use std::convert::AsSlice;
 use std::marker::Model;
 
-/// An owned SEQUENCE (X.690 8.9): the bytes of its content, fewer than 2^32, which aren't decoded.
-/// Use it for an alternative of a choice, or a field, that your program doesn't read.
+/// An owned SEQUENCE (X.690 8.9) whose content of fewer than 2^32 bytes isn't decoded. Use it for
+/// an alternative of a choice, or a field, that your program doesn't need.
 ///
-/// Contracts see the bytes of the content.
+/// In contracts, its value is the bytes of the content.
 #[derive(Debug, Drop, PartialEq, Eq, PartialOrd, Ord, Hash)]
 pub struct SequenceOwned {
     bytes: BytesOwned,
@@ -38,7 +38,7 @@ impl SequenceOwned {
     ///
     /// # Errors
     ///
-    /// - `Overflow`: 2^32 bytes or more.
+    /// - `Overflow`: there are 2^32 bytes or more.
     pub fn new(bytes: Vec<u8>) -> Result<SequenceOwned, Error>
         ensures ok { IfOk result (λ s. IsLength (vec_len bytes) × (s ≡ bytes.items)) }
         ensures err { IfErr result (λ e. (length_max < vec_len bytes)
@@ -52,7 +52,7 @@ impl SequenceOwned {
     ///
     /// # Errors
     ///
-    /// Fails if memory runs out.
+    /// - `AllocError`: memory runs out.
     pub fn clone(&self, alloc: Global) -> Result<SequenceOwned, AllocError>
         ensures { IfOk result (λ s. s ≡ self.now) }
     {
@@ -68,7 +68,7 @@ impl SequenceOwned {
         self.bytes.as_slice()
     }
 
-    /// Returns the bytes of the content and consumes the SEQUENCE.
+    /// Returns the bytes of the content, and consumes the SEQUENCE.
     pub fn into_bytes(self) -> Vec<u8>
         ensures { result.items ≡ self }
     {
@@ -83,7 +83,7 @@ impl SequenceOwned {
     }
 }
 
-/// The bytes of the content.
+/// Returns the bytes of the content.
 impl AsSlice<u8> for SequenceOwned {
     ghost items = { λ s. s };
 
@@ -92,7 +92,7 @@ impl AsSlice<u8> for SequenceOwned {
     }
 }
 
-/// Copies into memory of the same allocator.
+/// Copies the value with its own allocator.
 impl Clone for SequenceOwned {
     ghost is_clone = { λ x y. y ≡ x };
 
@@ -126,7 +126,7 @@ impl Primitive for SequenceOwned {
     ghost leaf_plain = { λ s. s };
 }
 
-/// The content as it is.
+/// The content is the bytes, which aren't decoded.
 impl<'a> Leaf<'a> for SequenceOwned {
     fn from_content(alloc: Global, tag: Tag, octets: &'a [u8]) -> Result<SequenceOwned, Error> {
         let bytes = BytesOwned::from_content(alloc, tag, octets)?;
@@ -140,5 +140,5 @@ impl Octets for SequenceOwned {
     }
 }
 
-/// The content as it is.
+/// Compares the content bytes.
 impl Ordered for SequenceOwned {}

@@ -1,5 +1,5 @@
--- The contents of numbers that aren't negative: their digits, after a zero where the first bit
--- would be one.
+-- Lemmas about the contents of integers that aren't negative: their digits, after a zero if the
+-- first bit would be one.
 use Rattle.std.proofs.Common.{◌≡◌, ℕ, ◌<◌, ◌≤◌, true, false, List, [], ◌∷◌, length, Ok, Err, refl, sym, ap, ◌∙◌, arith, pos, nat_lt, inl, inr, drop, ◌==◌, ◌&&◌, not}
 use Rattle.std.specs.Int.Digits.{number_from_digits}
 use Rattle.std.proofs.lemmas.Bool.{not-true, not-false, eqb-true, eqb-false, or_cases, and_parts}
@@ -22,7 +22,7 @@ positive-clear : (w : List ℕ) → is_first_bit_set w ≡ false → positive w 
 positive-clear [] e = refl
 positive-clear (d ∷ ds) e = rw (not-false (nat_lt d 128) e) refl
 
--- the content of a number, from its digits
+-- The content of a number, from its digits.
 pub content-set : (w : List ℕ) → w ≡ digits 256 (number_from_digits 256 w) → is_first_bit_set w ≡ true → integer_octets (pos (number_from_digits 256 w)) ≡ 0 ∷ w
 unfolding integer_octets
 content-set w e s = ap positive (sym e) ∙ positive-set w s
@@ -31,7 +31,7 @@ pub content-clear : (w : List ℕ) → w ≡ digits 256 (number_from_digits 256 
 unfolding integer_octets
 content-clear w e s = ap positive (sym e) ∙ positive-clear w s
 
--- what bytes are read as
+-- The result of decoding bytes.
 pub natural_empty : (t : Tag) (w : List ℕ) → w ≡ [] → integer_read natural t w ≡ Err (kinds.Length t)
 unfolding shortest_integer
 natural_empty t w e = rw e refl
@@ -59,7 +59,7 @@ integer_of-clear (d ∷ ds) some s = rw (not-false (nat_lt d 128) s) refl
 pub natural_content : (w : List ℕ) → IsBytes w → 0 < length w → is_redundant w ≡ false → is_first_bit_set w ≡ false → integer_octets (pos (number_from_digits 256 w)) ≡ w
 natural_content w h some e s = ap integer_octets (sym (integer_of-clear w some s)) ∙ integer_octets-of w h some e
 
--- no more digits than bytes of the content
+-- There are no more digits than content bytes.
 pub natural_few : (w : List ℕ) → w ≡ digits 256 (number_from_digits 256 w) → length w ≤ length (integer_octets (pos (number_from_digits 256 w)))
 natural_few w e = grind (arith, nat_tests, content-set w e, content-clear w e)
 
@@ -69,7 +69,7 @@ pub ruleset natural_reads = (natural_empty, natural_redundant, natural_negative,
 
 pub ruleset contents = (integer_octets-some, integer_octets-not_redundant, integer_of-octets, number-content)
 
--- A number stays the same where bytes that count for nothing are left out.
+-- Redundant leading bytes don't change the integer
 
 pub redundant_some : (w : List ℕ) → is_redundant w ≡ true → 1 < length w
 redundant_some (a ∷ b ∷ w) e = omega arith

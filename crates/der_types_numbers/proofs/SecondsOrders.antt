@@ -1,4 +1,5 @@
--- Dates are in the order of their seconds, and of one number of seconds there is one date.
+-- Lemmas about dates: they are ordered by their numbers of seconds, and dates with the same number
+-- of seconds are equal.
 use Rattle.std.proofs.Common.{◌≡◌, ◌<◌, ◌≤◌, ◌-◌, ℕ, zero, suc, ◌+◌, ◌*◌, ◌/◌, ◌%◌, ℤ, pos, ◌≤ℤ◌, ◌<ℤ◌, refl, ap, subst, ◌∙◌, arith, unsigned_abs, sym, Bool, true, false, int_lt, inl, inr, ◌==◌, ◌||◌, if◌then◌else◌, List, [], ◌∷◌, Some, eqb-true, Equal}
 use Rattle.std.proofs.lemmas.Bool.{cases_lt}
 use Rattle.std.proofs.lemmas.Bool.Decides.{nat_tests}
@@ -14,7 +15,7 @@ use Rattle.std.specs.Ordering.{nat_cmp, ordering_then}
 use Rattle.der_core.proofs.Oid.OrderLaws.{nat_cmp-same}
 use Rattle.der_types_numbers.specs.DateOrders.{civil_cmp}
 
--- The days of the calendar, as jiff counts them.
+-- The days of the calendar in the crate `jiff_core`
 
 same_month : (y m : ℕ) → jiff_month (pos y) m ≡ days_in_month y m
 same_month y m = go (m == 2) (m == 4) (m == 6) (m == 9) (m == 11) (if is_leap y then 29 else 28)
@@ -50,14 +51,14 @@ day_count_is y m d low day =
     let months = months_agree y (m - 1) in
     omega arith
 
--- the day number of a date from 1970 on
+-- The day number of a date from 1970 on.
 pub day_number : (y m d : ℕ) → 1970 ≤ y → 1 ≤ d → days_from_civil (pos y) m d ≡ pos (days_of_years (y - 1970) + days_of_months y (m - 1) + (d - 1))
 day_number y m d low day =
     let parts = days_from_civil-day_count (pos y) m d in
     let count = day_count_is y m d low day in
     omega (arith, signed_arith)
 
--- a day from 1970 on is one of a year from 1970 on
+-- A day after 1970-01-01 is in a year from 1970 on.
 pub year_is : (y : ℤ) (m d : ℕ) → IsCivilDate y m d → pos 0 ≤ℤ days_from_civil y m d → pos 1970 ≤ℤ y
 year_is y m d civil day = go (int_lt y (pos 1970)) refl
   where
@@ -86,7 +87,7 @@ civil_is c date year hour minute second =
     let day = date.2.0 in
     grind (arith, nat_tests, month.0, month.1)
 
--- the days of a civil date are its day number
+-- The day number of a date is its number of days.
 pub unix_day_number : (c : Civil) → is_civil c ≡ true → days_from_civil (pos c.year) c.month c.day ≡ pos (unix_days c)
 unfolding unix_days
 unix_day_number c h =
@@ -94,7 +95,7 @@ unix_day_number c h =
     let d = date_is c h in
     day_number c.year c.month c.day r.from_year d.2.0
 
--- the seconds of a civil date whose day number and time of day are known
+-- The number of seconds of a date with a known day number and time of day.
 pub seconds_are : (c : Civil) (n : ℕ) → is_civil c ≡ true → days_from_civil (pos c.year) c.month c.day ≡ pos (n / 86400) → 3600 * c.hour + 60 * c.minute + c.second ≡ n % 86400 → unix_seconds c ≡ n
 unfolding unix_seconds
 seconds_are c n h day rest =
@@ -112,7 +113,7 @@ years_grow n (suc k) =
     more : days_of_years n ≤ days_of_years (k + n) → days_of_years n ≤ days_of_years (suc (k + n))
     more h = omega (arith, h)
 
--- the seconds of the years through 2049
+-- The number of seconds of a date through 2049.
 pub utc_seconds : (c : Civil) → is_civil c ≡ true → (c.year ≤ 2049 → unix_seconds c < 2_524_608_000) × (unix_seconds c < 2_524_608_000 → c.year ≤ 2049)
 unfolding unix_seconds unix_days
 utc_seconds c h = (early, late)
@@ -137,7 +138,7 @@ utc_seconds c h = (early, late)
           absurd (omega (arith, small))
     ]
 
--- The text of a date is of one date, and is read as it.
+-- A text is that of at most one date, and parses to it
 
 mark_at-sound : (m : ℕ) (w r : List ℕ) → behind_mark m w ≡ Some r → w ≡ m ∷ r
 mark_at-sound m [] r e = absurd cc
@@ -208,7 +209,7 @@ counted_before c d h k l =
     let b = day_count_is d.year d.month d.day (civil_ranges d k).from_year (date_is d k).2.0 in
     omega arith
 
--- a day before
+-- The first date is on an earlier day.
 day_before : (c d : Civil) → is_civil c ≡ true → unix_days c < unix_days d → unix_seconds c < unix_seconds d
 unfolding unix_seconds
 day_before c d h l =
@@ -238,7 +239,7 @@ same_days : (c d : Civil) → c.year ≡ d.year → c.month ≡ d.month → c.da
 unfolding unix_days
 same_days c d y m e = λ i. days_of_years (y i - 1970) + days_of_months (y i) (m i - 1) + (e i - 1)
 
--- of the same day, its hours, minutes and seconds
+-- Both dates are on the same day, and their hours, minutes and seconds decide.
 time_cmp : (c d : Civil) → is_civil c ≡ true → is_civil d ≡ true → unix_days c ≡ unix_days d
     → nat_cmp (unix_seconds c) (unix_seconds d) ≡ ordering_then (nat_cmp c.hour d.hour) (ordering_then (nat_cmp c.minute d.minute) (nat_cmp c.second d.second))
 unfolding unix_seconds

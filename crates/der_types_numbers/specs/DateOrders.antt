@@ -1,4 +1,4 @@
--- The order of dates: that of years, then of months, days, hours, minutes and seconds.
+-- The order of dates: by year, month, day, hour, minute and second.
 use Rattle.std.specs.Prelude.{◌≡◌, ℕ, ◌+◌, ◌/◌, ◌%◌, List, [], ◌∷◌, ◌++◌, length}
 use Rattle.std.proofs.Common.{ap, sym, ◌∙◌, arith}
 use Rattle.std.proofs.lemmas.Bool.Decides.{nat_tests}
@@ -12,6 +12,7 @@ use Rattle.der_core.specs.Orders.{contents_cmp}
 use Rattle.der_core.proofs.OrderLaws.{split_cmp}
 use Rattle.der_core.proofs.OrderLaws.{then_assoc, then_equal}
 
+-- The order of dates.
 abbrev pub civil_cmp : Civil → Civil → Ordering
 civil_cmp c d =
     ordering_then (nat_cmp c.year d.year)
@@ -32,7 +33,7 @@ two_digits_cmp m n v w =
     (then_assoc (nat_cmp (m / 10) (n / 10)) (nat_cmp (m % 10) (n % 10)) (slice_cmp nat_cmp v w))
     ∙ ap (λ o. ordering_then o (slice_cmp nat_cmp v w)) (split_cmp 10 m n (omega arith))
 
--- what stands from the second on, from the minute on, ..
+-- The text from the second on, and from the minute, the hour and the day on.
 abbrev from_second : Civil → List ℕ
 from_second c = two_digits c.second ++ (90 ∷ [])
 
@@ -62,7 +63,7 @@ after_year_cmp c d =
     two_digits_cmp c.second d.second (90 ∷ []) (90 ∷ [])
     ∙ then_equal (nat_cmp c.second d.second)))))
 
--- the bytes of a GeneralizedTime are in the order of its date
+-- The contents of GeneralizedTime values are ordered by time.
 pub generalized_octets_cmp : (c d : Civil)
     → slice_cmp nat_cmp (generalized_octets c) (generalized_octets d) ≡ civil_cmp c d
 unfolding generalized_octets

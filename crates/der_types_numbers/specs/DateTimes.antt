@@ -1,8 +1,9 @@
--- What contracts see of a `DateTime`: a civil date to the second.
+-- The abstract value of a `DateTime`: a date and a time to the second.
 use Rattle.std.specs.Prelude.{◌≡◌, true}
 use Rattle.der_core.specs.Dates.{Civil, is_civil}
 use Rattle.der_types_numbers.specs.declared.date_time.DateTime.TheInside.{Inside}
 
+-- The abstract value.
 abbrev pub civil_of : Inside → Civil
 civil_of d =
     record {
@@ -14,6 +15,7 @@ civil_of d =
       second = d.seconds;
     }
 
+-- The fields are a date and a time that exist.
 abbrev pub IsDate : Inside → Type 0
 IsDate d = is_civil (civil_of d) ≡ true
 

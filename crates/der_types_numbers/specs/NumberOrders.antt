@@ -1,5 +1,5 @@
--- The orders of whole numbers: by the number of content bytes and then by the bytes; those that
--- aren't negative are in the order of the numbers.
+-- The orders of integers: by the length of the content, and then by its bytes. For integers that
+-- aren't negative, this is the order of the numbers.
 use Rattle.std.specs.Prelude.{◌≡◌, ℕ, ℤ, pos, ◌/◌, ◌%◌, ◌<◌, ◌≤◌, zero, suc, List}
 use Rattle.std.specs.Prelude.{[], ◌∷◌, ◌++◌, length, nat_eq}
 use Rattle.std.proofs.Common.{refl, sym, ap, ◌∙◌, arith, inl, inr}
@@ -23,18 +23,20 @@ use Rattle.der_core.specs.Orders.{contents_cmp}
 use Rattle.der_core.proofs.OrderLaws.{split_cmp, after_cmp}
 use Rattle.der_core.proofs.OrderLaws.{then_equal, octets_cmp-append, splits_lengths}
 
--- The order of whole numbers of either sign: the number of content bytes, and then the bytes.
+-- The order of integers of either sign: by the length of the content, and then by its bytes.
 abbrev pub integer_cmp : ℤ → ℤ → Ordering
 integer_cmp a b = sized_cmp (integer_octets a) (integer_octets b)
 
+-- The order of integers is total.
 pub integer_cmp_total : IsTotalOrder integer_cmp
 integer_cmp_total = on_total integer_octets sized_cmp_total
 
+-- Integers are equal exactly if the order is `Equal`.
 pub integer_cmp_ties : (a b : ℤ) → pointwise nat_eq (integer_octets a) (integer_octets b)
     ≡ eq_by_cmp integer_cmp a b
 integer_cmp_ties a b = sized_cmp_ties (integer_octets a) (integer_octets b)
 
--- of equal length it is that of the contents
+-- For contents of equal length, this is the order of the contents.
 pub integer_order : (v w : ℤ) → IsContent (leaf (integer every)) v
     → IsContent (leaf (integer every)) w
     → length (contents (leaf (integer every)) v) ≡ length (contents (leaf (integer every)) w)
@@ -45,7 +47,7 @@ integer_order v w p q e =
     (ap (nat_cmp (length (integer_octets v))) (sym e)
     ∙ tied_itself nat_cmp_total (length (integer_octets v)))
 
--- one more digit on both sides
+-- Appending a digit to both lists.
 sized_push : (a b : List ℕ) (x y : ℕ) → sized_cmp (a ++ x ∷ []) (b ++ y ∷ [])
     ≡ ordering_then (sized_cmp a b) (nat_cmp x y)
 sized_push a b x y =
@@ -54,7 +56,7 @@ sized_push a b x y =
     ∙ ap (ordering_then (slice_cmp nat_cmp a b)) (then_equal (nat_cmp x y)) in
     grind (arith, nat_tests, same, length-append a (x ∷ []), length-append b (y ∷ []))
 
--- one digit is fewer than more
+-- One digit is fewer than several.
 one_or_more : (m n : ℕ) → m < 256 → 256 ≤ n → length (digits 256 m) < length (digits 256 n)
 one_or_more m n l k =
     let some = (digits-Digits 256 (n / 256) (omega arith)).some in
@@ -91,24 +93,24 @@ digits_within_cmp (suc room) m n small =
       ]
     ]
 
--- the number of digits and then the digits are in the order of the numbers
+-- The order by the number of digits, and then by the digits, is that of the numbers.
 pub digits_cmp : (m n : ℕ) → sized_cmp (digits 256 m) (digits 256 n) ≡ nat_cmp m n
 digits_cmp m n = digits_within_cmp m m n (omega arith)
 
 pub digits_ties : (m n : ℕ) → pointwise nat_eq (digits 256 m) (digits 256 n) ≡ eq_by_cmp nat_cmp m n
 digits_ties m n = sized_cmp_ties (digits 256 m) (digits 256 n) ∙ ap is_eq (digits_cmp m n)
 
--- a zero in front doesn't count
+-- A leading zero doesn't change the value.
 positive-number : (w : List ℕ) → number_from_digits 256 (positive w) ≡ number_from_digits 256 w
 positive-number [] = refl
 positive-number (d ∷ ds) = grind (arith, nat_tests)
 
--- the number of a content
+-- The value of a content.
 pub number-content : (n : ℕ) → number_from_digits 256 (integer_octets (pos n)) ≡ n
 unfolding integer_octets
 number-content n = positive-number (digits 256 n) ∙ number_from_digits-digits 256 n (omega arith)
 
--- contents of equal length are in the order of their numbers, where none is negative
+-- Contents of equal length are ordered as their numbers are, if these aren't negative.
 pub natural_order : (v w : ℕ) → IsContent (leaf (integer natural)) (pos v)
     → IsContent (leaf (integer natural)) (pos w)
     → length (contents (leaf (integer natural)) (pos v))

@@ -1,4 +1,4 @@
--- What contracts see of `UtcTime` and `GeneralizedTime`: civil dates.
+-- The abstract values of `UtcTime` and `GeneralizedTime`, which are dates.
 use Rattle.std.specs.Prelude.{◌≡◌, ◌<◌, ◌≤◌, Result, Ok, Err}
 use Rattle.der_core.specs.ErrorTypes.Error.{Error}
 use Rattle.der_core.specs.ErrorTypes.ErrorKind.TheVariants as kinds
@@ -10,6 +10,7 @@ use Rattle.der_types_numbers.specs.declared.generalized_time.GeneralizedTime.The
 abbrev pub utc_civil : UtcInside → Civil
 utc_civil t = t.date_time
 
+-- The date is one that UTCTime can represent.
 abbrev pub IsUtcTime : UtcInside → Type 0
 IsUtcTime t = t.date_time.year ≤ 2049
 
@@ -22,7 +23,7 @@ generalized_civil t = t.date_time
 abbrev pub generalized_of : Civil → GeneralizedInside
 generalized_of c = record { date_time = c }
 
--- what UTCTime has of a date: itself through 2049, and no time after
+-- The UTCTime of a date, or the error `Value` if the year is after 2049.
 abbrev pub MakesUtcTime : Civil → Result Civil Error → Type 0
 MakesUtcTime date (Ok t) = (t ≡ date) × (date.year ≤ 2049)
 MakesUtcTime date (Err e) = (e.kind ≡ kinds.Value tags.UtcTime) × (2049 < date.year)

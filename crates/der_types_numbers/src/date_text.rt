@@ -1,4 +1,4 @@
-//! The digits of dates (X.690 11.7, 11.8).
+//! Dates as text, and their digits in encodings (X.690 11.7, 11.8).
 
 ghost use Rattle.std.specs.Prelude.{◌≡◌, ◌<◌, ◌≤◌, ◌↔◌, IsTrue, IfSome, option_map};
 ghost use Rattle.der_core.specs.Dates.{digit_at, two_at, civil_at, two_digits};
@@ -69,7 +69,7 @@ pub(crate) fn two_digits(number: u8) -> [u8; 2]
     [b'0' + number / 10, b'0' + number % 10]
 }
 
-/// Returns the bytes after a mark.
+/// Returns the bytes after a separator, if they begin with it.
 fn behind(octets: &[u8], mark: u8) -> Option<&[u8]>
     ensures { option_map (λ rest. rest.now) result ≡ behind_mark mark octets.now }
 {
@@ -95,7 +95,7 @@ pub(crate) fn date_of_text(text: &[u8]) -> Option<DateTime>
     time_of_text(year, month, day, rest)
 }
 
-/// Returns the date with this day, and a time of the form `HH:MM:SSZ`.
+/// Returns the date with this day and with a time of the form `HH:MM:SSZ`.
 fn time_of_text(year: u16, month: u8, day: u8, text: &[u8]) -> Option<DateTime>
     ensures { result ≡ time_at year month day text.now }
 {

@@ -1,4 +1,4 @@
-//! Civil dates.
+//! Dates and times in UTC.
 
 ghost use Rattle.std.specs.Prelude.{◌≡◌, ◌↔◌, ◌*◌, ◌/◌, ◌≤◌, ◌<◌, true, IsTrue, IsOk, IfOk, IfErr};
 ghost use Rattle.std.specs.Prelude.{pos, ◌+◌, ◌≤ℤ◌};
@@ -18,10 +18,10 @@ use std::time::Duration;
 /// The last second of the year 9999, counted from 1970-01-01T00:00:00Z.
 const LAST_SECOND: u64 = 253_402_300_799;
 
-/// A date to the second in universal time, from 1970-01-01T00:00:00Z to 9999-12-31T23:59:59Z.
+/// A date and a time in UTC, to the second, from 1970-01-01T00:00:00Z to 9999-12-31T23:59:59Z.
 ///
-/// Contracts see its year, month, day, hour, minute and second. Dates are in the order of time. As
-/// a value of DER a date is a GeneralizedTime (X.690 11.7).
+/// In contracts, its value is the year, month, day, hour, minute and second. Values are ordered by
+/// time. The encoding of a `DateTime` is a GeneralizedTime (X.690 11.7).
 #[derive(Clone, Copy, Debug, PartialEq, Eq, PartialOrd, Ord, Hash)]
 pub struct DateTime {
     year: u16,
@@ -82,8 +82,8 @@ impl DateTime {
     ///
     /// # Errors
     ///
-    /// - `DateTime`: there is no such date, or it is outside of these years. A second 60 is an
-    ///   error.
+    /// - `DateTime`: there is no such date or time, or the year is before 1970 or after 9999. Leap
+    ///   seconds, such as second 60, are rejected.
     pub fn new(
         year: u16,
         month: u8,
@@ -194,7 +194,7 @@ impl DateTime {
         }
     }
 
-    /// Returns whether the date is in the years of UTCTime, which end with 2049.
+    /// Returns whether UTCTime can represent the date, which holds through 2049.
     pub(crate) fn is_before_2050(&self) -> bool
         ensures year { IsTrue result ↔ (self.now.year ≤ 2049) }
         ensures seconds { IsTrue result ↔ (unix_seconds self.now < 2_524_608_000) }
@@ -202,7 +202,7 @@ impl DateTime {
         self.year < 2050
     }
 
-    /// Returns the seconds since 1970-01-01T00:00:00Z, leap seconds left out, from 0 to
+    /// Returns the number of seconds since 1970-01-01T00:00:00Z, without leap seconds, from 0 to
     /// 253402300799.
     #[tactic(auto, unfolding(crate::specs::Seconds::unix_seconds))]
     pub fn unix_seconds(&self) -> u64
@@ -216,7 +216,7 @@ impl DateTime {
             + u64::from(self.seconds)
     }
 
-    /// Returns the time since 1970-01-01T00:00:00Z, leap seconds left out.
+    /// Returns the time since 1970-01-01T00:00:00Z, without leap seconds.
     pub fn unix_duration(&self) -> Duration
         ensures { as_nanos result ≡ unix_seconds self.now * 1_000_000_000 }
     {
@@ -227,7 +227,8 @@ impl DateTime {
     ///
     /// # Errors
     ///
-    /// - `DateTime`: more than 253402300799 seconds, which is 9999-12-31T23:59:59Z.
+    /// - `DateTime`: there are more than 253402300799 seconds, so the date is after
+    ///   9999-12-31T23:59:59Z.
     pub fn from_unix_seconds(seconds: u64) -> Result<DateTime, Error>
         ensures range { IsOk result ↔ (seconds ≤ last_second) }
         ensures ok { IfOk result (λ d. unix_seconds d ≡ seconds) }
@@ -250,8 +251,8 @@ impl DateTime {
         )
     }
 
-    /// Returns the date this long after 1970-01-01T00:00:00Z, without leap seconds and fractions of
-    /// a second.
+    /// Returns the date this long after 1970-01-01T00:00:00Z, without leap seconds. A fraction of a
+    /// second is dropped.
     ///
     /// # Errors
     ///
@@ -265,7 +266,8 @@ impl DateTime {
     }
 }
 
-/// Reads a text `YYYY-MM-DDTHH:MM:SSZ`, exactly (RFC 3339 5.6, without fractions and other zones).
+/// Parses a text of exactly the form `YYYY-MM-DDTHH:MM:SSZ` (RFC 3339 5.6, without fractions and
+/// other time zones).
 impl FromStr for DateTime {
     ghost use Rattle.der_types_numbers.specs.DateTexts.{ReadsDate};
 
@@ -281,7 +283,7 @@ impl FromStr for DateTime {
     }
 }
 
-/// Writes the text `YYYY-MM-DDTHH:MM:SSZ`.
+/// Prints the text `YYYY-MM-DDTHH:MM:SSZ`.
 impl fmt::Display for DateTime {
     ghost use Rattle.std.specs.Prelude.{Some};
     ghost use Rattle.der_types_numbers.specs.DateTexts.{date_text};

@@ -1,4 +1,5 @@
-//! The values of each type are in range: each is a date of the calendar, up to 2049 for UTCTime.
+//! Impls that state that dates are in range: each is a date of the calendar, and through 2049 for
+//! UTCTime.
 
 use crate::date_time::DateTime;
 use crate::generalized_time::GeneralizedTime;

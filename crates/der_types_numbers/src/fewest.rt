@@ -31,7 +31,7 @@ pub fn fewest_signed(octets: &[u8]) -> &[u8]
     rest
 }
 
-/// Returns whether the first of two bytes or more is zero.
+/// Returns whether there are at least two bytes and the first is zero.
 fn begins_with_zero(octets: &[u8]) -> bool
     ensures { result ≡ has_leading_zero octets.now }
 {
@@ -41,7 +41,8 @@ fn begins_with_zero(octets: &[u8]) -> bool
     }
 }
 
-/// Returns the digits of the same number in base 256, without leading zeros; zero is one digit.
+/// Returns the digits of the same number in base 256, without leading zeros. The number 0 has one
+/// digit.
 pub fn fewest_unsigned(octets: &[u8]) -> &[u8]
     requires { 0 < length octets.now }
     ensures digits { result.now ≡ digits 256 (number_from_digits 256 octets.now) }
@@ -55,8 +56,8 @@ pub fn fewest_unsigned(octets: &[u8]) -> &[u8]
     rest
 }
 
-/// Returns whether the first bit of bytes is one: as two's complement they would be a negative
-/// number.
+/// Returns whether the first bit is one, so that the bytes would be a negative number in two's
+/// complement.
 pub fn begins_with_one_bit(octets: &[u8]) -> bool
     ensures { result ≡ is_first_bit_set octets.now }
 {
@@ -79,8 +80,8 @@ pub fn content_len(octets: &[u8]) -> usize
     }
 }
 
-/// Returns the byte that comes before the digits of a number in base 256, if there is one: a zero,
-/// if their first bit is one.
+/// Returns the byte before the digits of a number in base 256 in its content, if there is one. It
+/// is a zero, which is there if the first bit is one.
 #[tactic(auto, using(crate::proofs::Naturals::natural_contents))]
 pub fn lead_of(octets: &[u8]) -> Option<u8>
     requires { octets.now ≡ digits 256 (number_from_digits 256 octets.now) }
@@ -98,7 +99,7 @@ pub fn lead_of(octets: &[u8]) -> Option<u8>
 ///
 /// # Errors
 ///
-/// Fails if memory runs out.
+/// - `AllocError`: memory runs out.
 #[tactic(auto, using(crate::proofs::Naturals::natural_contents))]
 pub fn content_of(alloc: Global, octets: &[u8]) -> Result<Vec<u8>, AllocError>
     requires { octets.now ≡ digits 256 (number_from_digits 256 octets.now) }

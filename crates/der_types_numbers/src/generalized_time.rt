@@ -21,6 +21,8 @@ use std::marker::Model;
 use std::time::Duration;
 
 /// GeneralizedTime (X.690 11.7, RFC 5280 4.1.2.5.2): `YYYYMMDDHHMMSSZ`, from 1970 to 9999.
+///
+/// Values are ordered by time.
 #[derive(Clone, Copy, Debug, PartialEq, Eq, PartialOrd, Ord, Hash)]
 pub struct GeneralizedTime {
     date_time: DateTime,
@@ -62,7 +64,7 @@ impl GeneralizedTime {
         self.date_time
     }
 
-    /// Returns the time this long after 1970-01-01T00:00:00Z. A fraction of a second is left out.
+    /// Returns the time this long after 1970-01-01T00:00:00Z. A fraction of a second is dropped.
     ///
     /// # Errors
     ///
@@ -76,7 +78,7 @@ impl GeneralizedTime {
         Ok(GeneralizedTime { date_time })
     }
 
-    /// Returns the time since 1970-01-01T00:00:00Z, leap seconds left out.
+    /// Returns the time since 1970-01-01T00:00:00Z, without leap seconds.
     pub fn to_unix_duration(&self) -> Duration
         ensures { as_nanos result ≡ unix_seconds self.now * 1_000_000_000 }
     {
@@ -139,7 +141,7 @@ impl Primitive for GeneralizedTime {
     ghost leaf_plain = { λ x. x };
 }
 
-/// `YYYYMMDDHHMMSSZ`.
+/// The content is `YYYYMMDDHHMMSSZ`.
 impl<'a> Leaf<'a> for GeneralizedTime {
     ghost takes_memory = { false };
 
@@ -200,7 +202,7 @@ impl From<&GeneralizedTime> for DateTime {
     }
 }
 
-/// `YYYYMMDDHHMMSSZ`, which is in the order of time.
+/// Compares the contents, `YYYYMMDDHHMMSSZ`, which are ordered by time.
 impl ValueOrd for GeneralizedTime {
     #[tactic(auto, using(der_core::proofs::OrderLaws::leaf_contents))]
     fn value_cmp(&self, other: &Self) -> Result<Ordering, Error> {
@@ -214,7 +216,7 @@ impl OrdIsValueOrd for GeneralizedTime {
     ghost order = { generalized_order };
 }
 
-/// A GeneralizedTime.
+/// The encoding of a `DateTime` is a GeneralizedTime.
 impl FixedTag for DateTime {
     ghost fixed_tag = { GeneralizedTimeTag };
 
@@ -233,7 +235,7 @@ impl Primitive for DateTime {
     ghost leaf_plain = { λ x. x };
 }
 
-/// `YYYYMMDDHHMMSSZ`.
+/// The content is `YYYYMMDDHHMMSSZ`.
 impl<'a> Leaf<'a> for DateTime {
     ghost takes_memory = { false };
 
@@ -253,7 +255,7 @@ impl EncodeLeaf for DateTime {
     }
 }
 
-/// `YYYYMMDDHHMMSSZ`, which is in the order of time.
+/// Compares the contents, `YYYYMMDDHHMMSSZ`, which are ordered by time.
 impl ValueOrd for DateTime {
     fn value_cmp(&self, other: &Self) -> Result<Ordering, Error> {
         GeneralizedTime::from_date_time(*self).value_cmp(&GeneralizedTime::from_date_time(*other))

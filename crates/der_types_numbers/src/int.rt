@@ -26,9 +26,9 @@ use std::cmp::Ordering;
 use std::hash::{Hash, Hasher};
 use std::marker::Model;
 
-/// INTEGER of any size (X.690 8.3): two's complement in the fewest bytes, fewer than 2^32.
+/// INTEGER of any size (X.690 8.3), as two's complement in the fewest bytes, fewer than 2^32.
 ///
-/// Contracts see the number.
+/// In contracts, its value is the integer.
 #[derive(Debug, Drop)]
 pub struct Int {
     bytes: KeptOctets,
@@ -47,12 +47,12 @@ impl Model for Int {
 }
 
 impl Int {
-    /// Returns the number that bytes encode in two's complement, the most significant byte first.
-    /// The bytes that count for nothing are left out.
+    /// Returns the integer that bytes are in two's complement, the most significant byte first.
+    /// Redundant leading bytes are dropped.
     ///
     /// # Errors
     ///
-    /// - `Length`: no bytes.
+    /// - `Length`: there are no bytes.
     /// - `Overflow`: 2^32 bytes or more are left.
     /// - `OutOfMemory`: memory runs out.
     pub fn new(alloc: Global, bytes: &[u8]) -> Result<Int, Error>
@@ -74,7 +74,7 @@ impl Int {
     ///
     /// # Errors
     ///
-    /// Fails if memory runs out.
+    /// - `AllocError`: memory runs out.
     pub fn clone(&self, alloc: Global) -> Result<Int, AllocError>
         ensures { IfOk result (λ n. n ≡ self.now) }
     {
@@ -96,14 +96,14 @@ impl Int {
         self.owned_to_ref().len()
     }
 
-    /// Returns whether there aren't a content bytes, which never is.
+    /// Returns whether there are no content bytes, which is never the case.
     pub fn is_empty(&self) -> bool
         ensures { result ≡ false }
     {
         self.bytes.as_slice().is_empty()
     }
 
-    /// Returns the number, borrowed.
+    /// Returns the borrowed form of the integer.
     pub fn owned_to_ref(&self) -> IntRef<'_>
         ensures { integer_lent result ≡ self.now }
     {
@@ -131,7 +131,7 @@ impl AsIntRef for Int {
     }
 }
 
-/// The number, which stays as it is.
+/// Converts an integer that isn't negative, without changing it.
 impl From<Uint> for Int {
     ghost from_gives = { λ n z. z ≡ pos n };
 
@@ -190,7 +190,7 @@ impl Ord for Int {
     }
 }
 
-/// The content bytes.
+/// Hashes the content bytes.
 impl Hash for Int {
     ghost hash_input = { λ n. fed.slice fed.u8 (integer_octets n) };
 
@@ -220,7 +220,7 @@ impl Primitive for Int {
     ghost leaf_plain = { λ x. x };
 }
 
-/// Two's complement in the fewest bytes.
+/// The content is two's complement in the fewest bytes.
 impl<'a> Leaf<'a> for Int {
     fn from_content(alloc: Global, tag: Tag, octets: &'a [u8]) -> Result<Int, Error> {
         let lent = IntRef::from_content(alloc, tag, octets)?;

@@ -24,7 +24,7 @@ use std::alloc::{AllocError, Global};
 use std::cmp::Ordering;
 use std::hash::{Hash, Hasher};
 
-/// A borrowed INTEGER of any size (X.690 8.3): two's complement in the fewest bytes, fewer than
+/// A borrowed INTEGER of any size (X.690 8.3), as two's complement in the fewest bytes, fewer than
 /// 2^32.
 #[derive(Clone, Copy, Debug)]
 pub struct IntRef<'a> {
@@ -38,12 +38,12 @@ pub struct IntRef<'a> {
 impl<'a> IntRef<'a> {
     ghost use Rattle.der_types_numbers.specs.Ints.{integer_lent};
 
-    /// Returns the number that bytes encode in two's complement, the most significant byte first.
-    /// The bytes that count for nothing are left out.
+    /// Returns the integer that bytes are in two's complement, the most significant byte first.
+    /// Redundant leading bytes are dropped.
     ///
     /// # Errors
     ///
-    /// - `Length`: no bytes.
+    /// - `Length`: there are no bytes.
     /// - `Overflow`: 2^32 bytes or more are left.
     #[tactic(auto, unfolding(crate::specs::Numbers::signed_number, crate::specs::Numbers::if_countable))]
     pub fn new(bytes: &'a [u8]) -> Result<IntRef<'a>, Error>
@@ -77,7 +77,7 @@ impl<'a> IntRef<'a> {
         Length::new(self.as_bytes().len() as u32)
     }
 
-    /// Returns whether there aren't a content bytes, which never is.
+    /// Returns whether there are no content bytes, which is never the case.
     pub fn is_empty(&self) -> bool
         ensures { result ≡ false }
     {
@@ -88,7 +88,7 @@ impl<'a> IntRef<'a> {
     ///
     /// # Errors
     ///
-    /// Fails if memory runs out.
+    /// - `AllocError`: memory runs out.
     pub fn ref_to_owned(&self, alloc: Global) -> Result<Int, AllocError>
         ensures { IfOk result (λ n. n ≡ integer_lent self.now) }
     {
@@ -129,11 +129,12 @@ impl<'a> IntRef<'a> {
 
 /// A type that can be borrowed as an integer.
 pub trait AsIntRef {
+    /// Maps a value to its integer.
     ghost as_integer: { Self → ℤ };
 
     ghost use Rattle.der_types_numbers.specs.Ints.{integer_lent};
 
-    /// Returns the number.
+    /// Returns the borrowed integer.
     fn as_int_ref(&self) -> IntRef<'_>
         ensures { integer_lent result ≡ as_integer self.now };
 }
@@ -197,7 +198,7 @@ impl<'a> Ord for IntRef<'a> {
     }
 }
 
-/// The content bytes.
+/// Hashes the content bytes.
 impl<'a> Hash for IntRef<'a> {
     ghost use Rattle.der_types_numbers.specs.Ints.{content_lent};
 
@@ -233,7 +234,7 @@ impl<'a> Primitive for IntRef<'a> {
     ghost leaf_plain = { integer_lent };
 }
 
-/// Two's complement in the fewest bytes.
+/// The content is two's complement in the fewest bytes.
 impl<'a> Leaf<'a> for IntRef<'a> {
     ghost takes_memory = { false };
 
@@ -248,5 +249,6 @@ impl<'a> Octets for IntRef<'a> {
     }
 }
 
-/// Two's complement in the fewest bytes (X.690 8.3), as bytes: 128, `00 80`, is below 127, `7F`.
+/// Compares the contents, two's complement in the fewest bytes (X.690 8.3), as lists of bytes. For
+/// example, 128 (`00 80`) is less than 127 (`7F`).
 impl<'a> Ordered for IntRef<'a> {}

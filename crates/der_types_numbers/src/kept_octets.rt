@@ -1,4 +1,4 @@
-//! Lists of bytes, of which short ones are kept in place.
+//! Lists of bytes, of which short ones are stored inline.
 
 ghost use Rattle.std.specs.Prelude.{◌≡◌, ◌≤◌, length, nat_eq, IfOk};
 ghost use Rattle.std.specs.Cmp.{partial_equiv_from_equiv};
@@ -8,16 +8,16 @@ use std::alloc::{AllocError, Global};
 use std::fmt;
 use std::marker::Model;
 
-/// A list of bytes. A copy of up to 32 of them needs no memory.
+/// A list of bytes. Up to 32 bytes can be copied without an allocation.
 ///
-/// Contracts see the list.
+/// In contracts, its value is the list.
 #[derive(Drop)]
 pub struct KeptOctets {
     store: Store,
     alloc: Global,
 }
 
-/// The storage of the bytes: in place, or in memory of their own.
+/// The storage of the bytes, which is inline or in a vector.
 #[derive(Drop)]
 enum Store {
     Few(InPlace),
@@ -28,7 +28,7 @@ enum Store {
 #[derive(Drop)]
 struct InPlace {
     bytes: [u8; 32],
-    // Empty; it aligns the bytes to words, so that they are moved in few of them.
+    // Empty. It aligns the bytes to words, so that they are moved word by word.
     words: [u64; 0],
     len: usize,
 }
@@ -45,7 +45,7 @@ impl Model for KeptOctets {
 }
 
 impl KeptOctets {
-    /// Returns the bytes of a list, which keeps its memory.
+    /// Returns the bytes of a vector, whose memory is kept.
     pub fn of(bytes: Vec<u8>) -> KeptOctets
         ensures { result ≡ bytes.items }
     {
@@ -59,7 +59,7 @@ impl KeptOctets {
     ///
     /// # Errors
     ///
-    /// Fails if memory runs out, for more than 32 bytes.
+    /// - `AllocError`: there are more than 32 bytes, and memory runs out.
     pub fn copy_of(alloc: Global, octets: &[u8]) -> Result<KeptOctets, AllocError>
         ensures { IfOk result (λ o. o ≡ octets.now) }
     {
@@ -70,7 +70,7 @@ impl KeptOctets {
         Ok(KeptOctets::of(bytes))
     }
 
-    /// Returns a copy of up to 32 bytes, in place.
+    /// Returns a copy of up to 32 bytes, which is stored inline.
     fn few(alloc: Global, octets: &[u8]) -> KeptOctets
         requires { length octets.now ≤ 32 }
         ensures { result ≡ octets.now }
@@ -98,13 +98,13 @@ impl KeptOctets {
         }
     }
 
-    /// Returns the allocator for copies.
+    /// Returns the allocator that copies use.
     pub fn allocator(&self) -> &Global {
         &self.alloc
     }
 }
 
-/// Compares the bytes. Up to eight of them in place are compared at once.
+/// Compares the bytes. Up to eight inline bytes are compared at once.
 impl PartialEq for KeptOctets {
     ghost eq = { pointwise nat_eq };
 
@@ -126,7 +126,7 @@ impl PartialEq for KeptOctets {
     }
 }
 
-/// The bytes, as a slice of them is shown.
+/// Prints the bytes as a slice of them.
 impl fmt::Debug for KeptOctets {
     fn fmt<W: fmt::Write>(&self, f: &mut fmt::Formatter<W>) -> fmt::Result {
         fmt::Debug::fmt(self.as_slice(), f)

@@ -1,6 +1,6 @@
 //! Laws about integers: a borrowed integer and its owned form agree.
 //!
-//! The comments of the calls that both have say the same in the same words.
+//! The functions that both forms have are documented in the same words.
 
 ghost use Rattle.std.specs.Prelude.{◌≡◌};
 ghost use Rattle.der_core.specs.Shapes.{contents};
@@ -13,8 +13,8 @@ use crate::uint_ref::UintRef;
 use der_core::ShapedValue;
 use std::hash::Hash;
 
-/// A borrowed whole number and its owned form have the same content, are equal to the same numbers,
-/// are in the same order and are hashed alike. Nothing is done.
+/// A borrowed integer and its owned form have the same content, are equal to the same integers, are
+/// in the same order and are hashed alike. The function does nothing.
 pub fn integer_forms_agree()
     ensures contents { (n : IntRef) → contents ⟦<IntRef<'static> as ShapedValue>⟧.content
         (⟦<IntRef<'static> as ShapedValue>⟧.value_plain n)
@@ -28,8 +28,8 @@ pub fn integer_forms_agree()
         ≡ ⟦<Int as Hash>⟧.hash_input (integer_lent n) }
 {}
 
-/// A borrowed number that isn't negative and its owned form have the same content, are equal to the
-/// same numbers, are in the same order and are hashed alike. Nothing is done.
+/// A borrowed integer that isn't negative and its owned form have the same content, are equal to
+/// the same integers, are in the same order and are hashed alike. The function does nothing.
 pub fn natural_forms_agree()
     ensures contents { (n : UintRef) → contents ⟦<UintRef<'static> as ShapedValue>⟧.content
         (⟦<UintRef<'static> as ShapedValue>⟧.value_plain n)

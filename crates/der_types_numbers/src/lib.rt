@@ -1,4 +1,5 @@
-//! Whole numbers of any size.
+//! INTEGER of any size, UTCTime and GeneralizedTime. Users import the items of this crate from
+//! `der_types`.
 #![tactic(auto)]
 
 mod date_text;

@@ -1,4 +1,5 @@
-//! The values of each type are in range: these have every number, or every one that isn't negative.
+//! Impls that state that integers are in range: the types have every integer, or every one that
+//! isn't negative.
 
 use crate::int::Int;
 use crate::uint_ref::UintRef;

@@ -17,7 +17,8 @@ impl<'a> OrdIsValueOrd for IntRef<'a> {
     ghost order = { λ v w. integer_order (integer_lent v) (integer_lent w) };
 }
 
-/// Two's complement in the fewest bytes (X.690 8.3), as bytes: 128, `00 80`, is below 127, `7F`.
+/// Compares the contents, two's complement in the fewest bytes (X.690 8.3), as lists of bytes. For
+/// example, 128 (`00 80`) is less than 127 (`7F`).
 impl ValueOrd for Int {
     #[tactic(auto, using(der_core::proofs::OrderLaws::leaf_contents))]
     fn value_cmp(&self, other: &Self) -> Result<Ordering, Error> {
@@ -29,7 +30,7 @@ impl OrdIsValueOrd for Int {
     ghost order = { integer_order };
 }
 
-/// Compares the digits, after a zero if their first bit is one (X.690 8.3).
+/// Compares the contents, which are the digits, after a zero if their first bit is one (X.690 8.3).
 impl<'a> ValueOrd for UintRef<'a> {
     #[tactic(auto, using(der_core::proofs::OrderLaws::leaf_contents))]
     fn value_cmp(&self, other: &Self) -> Result<Ordering, Error> {

@@ -1,4 +1,4 @@
-//! The laws of dates.
+//! Laws about dates.
 //!
 //! Each law is the contract of a function that does nothing.
 
@@ -13,7 +13,8 @@ use crate::generalized_time::GeneralizedTime;
 use crate::utc_time::UtcTime;
 use std::cmp::Ord;
 
-/// Dates are in the order of their seconds, by `cmp`, and so are the times of either type.
+/// Dates are ordered by their numbers of seconds, and so are the values of UTCTime and
+/// GeneralizedTime.
 #[tactic(auto, using(crate::proofs::SecondsOrders::seconds_cmp))]
 pub fn order_is_that_of_seconds()
     ensures dates { (c d : Civil) → is_civil c ≡ true → is_civil d ≡ true
@@ -24,7 +25,7 @@ pub fn order_is_that_of_seconds()
         → ⟦<GeneralizedTime as Ord>⟧.cmp c d ≡ nat_cmp (unix_seconds c) (unix_seconds d) }
 {}
 
-/// Of one number of seconds there is one date, and of one text.
+/// Two dates with the same number of seconds, or the same text, are equal.
 pub fn one_date()
     ensures by_seconds { (c d : Civil) → is_civil c ≡ true → is_civil d ≡ true
         → unix_seconds c ≡ unix_seconds d → c ≡ d }

@@ -25,10 +25,10 @@ use std::cmp::Ordering;
 use std::hash::{Hash, Hasher};
 use std::marker::Model;
 
-/// INTEGER of any size that isn't negative (X.690 8.3): two's complement in the fewest bytes, fewer
-/// than 2^32.
+/// INTEGER of any size that isn't negative (X.690 8.3), as two's complement in the fewest bytes,
+/// fewer than 2^32.
 ///
-/// Contracts see the number.
+/// In contracts, its value is the number.
 #[derive(Debug, Drop)]
 pub struct Uint {
     bytes: Vec<u8>,
@@ -47,12 +47,12 @@ impl Model for Uint {
 }
 
 impl Uint {
-    /// Returns the number of these digits in base 256, the most significant first. Leading zeros
-    /// are left out.
+    /// Returns the number with these digits in base 256, the most significant first. Leading zeros
+    /// are dropped.
     ///
     /// # Errors
     ///
-    /// - `Length`: no bytes.
+    /// - `Length`: there are no bytes.
     /// - `Overflow`: the content would have 2^32 bytes or more.
     /// - `OutOfMemory`: memory runs out.
     pub fn new(alloc: Global, bytes: &[u8]) -> Result<Uint, Error>
@@ -75,7 +75,7 @@ impl Uint {
     ///
     /// # Errors
     ///
-    /// Fails if memory runs out.
+    /// - `AllocError`: memory runs out.
     pub fn clone(&self, alloc: Global) -> Result<Uint, AllocError>
         ensures { IfOk result (λ n. n ≡ self.now) }
     {
@@ -89,21 +89,21 @@ impl Uint {
         self.owned_to_ref().as_bytes()
     }
 
-    /// Returns the number of those digits.
+    /// Returns the number of these digits.
     pub fn len(&self) -> Length
         ensures { result.value ≡ length (digits 256 self.now) }
     {
         self.owned_to_ref().len()
     }
 
-    /// Returns whether there aren't digits, which never is.
+    /// Returns whether there are no digits, which is never the case.
     pub fn is_empty(&self) -> bool
         ensures { result ≡ false }
     {
         self.bytes.is_empty()
     }
 
-    /// Returns the number, borrowed.
+    /// Returns the borrowed form of the number.
     pub fn owned_to_ref(&self) -> UintRef<'_>
         ensures { natural_lent result ≡ self.now }
     {
@@ -178,7 +178,7 @@ impl Ord for Uint {
     }
 }
 
-/// The digits in base 256.
+/// Hashes the digits in base 256.
 impl Hash for Uint {
     ghost hash_input = { λ n. fed.slice fed.u8 (digits 256 n) };
 
@@ -222,5 +222,5 @@ impl Octets for Uint {
     }
 }
 
-/// Compares the digits, after a zero if their first bit is one (X.690 8.3).
+/// Compares the contents, which are the digits, after a zero if their first bit is one (X.690 8.3).
 impl Ordered for Uint {}

@@ -41,12 +41,12 @@ pub struct UintRef<'a> {
 impl<'a> UintRef<'a> {
     ghost use Rattle.der_types_numbers.specs.Ints.{natural_lent};
 
-    /// Returns the number of these digits in base 256, the most significant first. Leading zeros
-    /// are left out.
+    /// Returns the number with these digits in base 256, the most significant first. Leading zeros
+    /// are dropped.
     ///
     /// # Errors
     ///
-    /// - `Length`: no bytes.
+    /// - `Length`: there are no bytes.
     /// - `Overflow`: the content would have 2^32 bytes or more.
     #[tactic(auto, unfolding(crate::specs::Numbers::unsigned_number, crate::specs::Numbers::if_countable))]
     pub fn new(bytes: &'a [u8]) -> Result<UintRef<'a>, Error>
@@ -72,14 +72,14 @@ impl<'a> UintRef<'a> {
         self.bytes
     }
 
-    /// Returns the number of those digits.
+    /// Returns the number of these digits.
     pub fn len(&self) -> Length
         ensures { result.value ≡ length (digits 256 (natural_lent self.now)) }
     {
         Length::new(self.bytes.len() as u32)
     }
 
-    /// Returns whether there aren't digits, which never is.
+    /// Returns whether there are no digits, which is never the case.
     pub fn is_empty(&self) -> bool
         ensures { result ≡ false }
     {
@@ -90,7 +90,7 @@ impl<'a> UintRef<'a> {
     ///
     /// # Errors
     ///
-    /// Fails if memory runs out.
+    /// - `AllocError`: memory runs out.
     pub fn ref_to_owned(&self, alloc: Global) -> Result<Uint, AllocError>
         ensures { IfOk result (λ n. n ≡ natural_lent self.now) }
     {
@@ -135,11 +135,12 @@ impl<'a> UintRef<'a> {
 
 /// A type that can be borrowed as an integer that isn't negative.
 pub trait AsUintRef {
+    /// Maps a value to its number.
     ghost as_natural: { Self → ℕ };
 
     ghost use Rattle.der_types_numbers.specs.Ints.{natural_lent};
 
-    /// Returns the number.
+    /// Returns the borrowed number.
     fn as_uint_ref(&self) -> UintRef<'_>
         ensures { natural_lent result ≡ as_natural self.now };
 }
@@ -204,7 +205,7 @@ impl<'a> Ord for UintRef<'a> {
     }
 }
 
-/// The digits in base 256.
+/// Hashes the digits in base 256.
 impl<'a> Hash for UintRef<'a> {
     ghost use Rattle.der_types_numbers.specs.Ints.{digits_lent};
 

@@ -20,10 +20,11 @@ use std::time::Duration;
 
 /// UTCTime (X.690 11.8, RFC 5280 4.1.2.5.1): `YYMMDDHHMMSSZ`, from 1970 to 2049.
 ///
-/// The years 00 to 49 mean 2000 to 2049, and 70 to 99 mean 1970 to 1999; 50 to 69 are rejected.
+/// The years 00 to 49 mean 2000 to 2049, and 70 to 99 mean 1970 to 1999. The years 50 to 69, which
+/// would mean 1950 to 1969, are rejected.
 ///
-/// Values are ordered by time. The order of their contents is another one: `00` for 2000 is below
-/// `99` for 1999.
+/// Values are ordered by time. Their contents are ordered otherwise, because `00` for 2000 is less
+/// than `99` for 1999.
 #[derive(Clone, Copy, Debug, PartialEq, Eq, PartialOrd, Ord, Hash)]
 pub struct UtcTime {
     date_time: DateTime,
@@ -67,7 +68,7 @@ impl UtcTime {
         Ok(UtcTime { date_time })
     }
 
-    /// Returns the date, to 2049.
+    /// Returns the date.
     pub fn to_date_time(&self) -> DateTime
         ensures date { result ≡ self.now }
         ensures years { result.year ≤ 2049 }
@@ -75,12 +76,12 @@ impl UtcTime {
         self.date_time
     }
 
-    /// Returns the time this long after 1970-01-01T00:00:00Z. A fraction of a second is left out.
+    /// Returns the time this long after 1970-01-01T00:00:00Z. A fraction of a second is dropped.
     ///
     /// # Errors
     ///
     /// - `DateTime`: the time is after 9999-12-31T23:59:59Z.
-    /// - `Value`: the year is after 2049.
+    /// - `Value`: the year is from 2050 to 9999.
     pub fn from_unix_duration(duration: Duration) -> Result<UtcTime, Error>
         ensures range { IsOk result ↔ (as_nanos duration < 2_524_608_000_000_000_000) }
         ensures ok { IfOk result (λ t. unix_seconds t ≡ as_nanos duration / 1_000_000_000) }
@@ -93,7 +94,7 @@ impl UtcTime {
         UtcTime::from_date_time(date_time)
     }
 
-    /// Returns the time since 1970-01-01T00:00:00Z, leap seconds left out.
+    /// Returns the time since 1970-01-01T00:00:00Z, without leap seconds.
     pub fn to_unix_duration(&self) -> Duration
         ensures { as_nanos result ≡ unix_seconds self.now * 1_000_000_000 }
     {
@@ -153,7 +154,7 @@ impl Primitive for UtcTime {
     ghost leaf_plain = { λ x. x };
 }
 
-/// `YYMMDDHHMMSSZ`.
+/// The content is `YYMMDDHHMMSSZ`.
 impl<'a> Leaf<'a> for UtcTime {
     ghost takes_memory = { false };
 
@@ -222,8 +223,8 @@ impl From<&UtcTime> for DateTime {
     }
 }
 
-/// Compares the contents, `YYMMDDHHMMSSZ`. This isn't the order of time: the years from 2000 on
-/// come before those of the century before.
+/// Compares the contents, `YYMMDDHHMMSSZ`, as lists of bytes. This isn't the order of time: the
+/// years from 2000 on come before those from 1970 to 1999.
 impl ValueOrd for UtcTime {
     #[tactic(auto, using(der_core::proofs::OrderLaws::leaf_contents))]
     fn value_cmp(&self, other: &Self) -> Result<Ordering, Error> {

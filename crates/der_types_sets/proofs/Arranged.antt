@@ -1,4 +1,4 @@
--- Members in another order, in which equal ones keep theirs.
+-- Lemmas about members in another order, in which equal members keep their order.
 use Rattle.std.proofs.Common.{◌≡◌, ℕ, ◌+◌, cond, List, [], ◌∷◌, ◌++◌, refl, ap, sym, ◌∙◌, arith, IsPermutation, Ordering, Less, Equal, Greater, ◌-◌, ◌*◌, ◌<◌, ◌≤◌, zero, suc, Option, Some, None, Bool, true, false, length, get_or, set, take, drop, subst, ◌⊎◌, inl, inr, map, bytes_eq, not, ◌&&◌}
 use Rattle.std.specs.Prelude.{◌≢◌, ⊤, flat_map, sum_by}
 use Rattle.std.specs.Ordering.{is_eq, ordering_reverse, is_lt}
@@ -29,7 +29,7 @@ use Rattle.der_core.proofs.BoundLaws.{front_all, back_all}
 use Rattle.der_types_sets.specs.Rearranged.{member_at, members_at, AscendsAt, member_encoding, KeepsPlaces}
 use Rattle.der_types_sets.proofs.SetSteps.{last_is, valid_at}
 
--- Members have one arrangement in ascending order, up to their encodings.
+-- Members have one ascending order, up to their encodings
 
 pub turned : (a b : List ℕ) (r : Ordering) → octets_cmp a b ≡ r → octets_cmp b a ≡ ordering_reverse r
 turned a b r e = nat_list_cmp_total.antisymm b a ∙ ap ordering_reverse e
@@ -48,7 +48,7 @@ rest_rises : {A : Type 0} (o : A → List ℕ) (x : A) (xs : List A) → Rises o
 rest_rises o x [] h = tt
 rest_rises o x (y ∷ xs) h = h.1
 
--- how many have that encoding
+-- One for an encoding that is equal, and zero otherwise.
 abbrev one_if : Ordering → ℕ
 one_if r = cond (is_eq r) 1 0
 
@@ -88,7 +88,7 @@ rises s [] all asc = tt
 rises s (x ∷ []) all asc = tt
 rises s (x ∷ y ∷ xs) all asc = (asc.0 all.0 all.1.0, rises s (y ∷ xs) all.1 asc.1)
 
--- members in ascending order join to the same bytes, however they were put in order
+-- Members in ascending order have the same concatenated encodings, however they were put in order.
 pub one_arrangement : (s : Shape) (xs ys : List (Value s)) → AllValid s (λ v. v) xs → AllValid s (λ v. v) ys → Ascends s (λ v. v) xs → Ascends s (λ v. v) ys → IsPermutation xs ys
     → flat_map (octets_of s) xs ≡ flat_map (octets_of s) ys
 one_arrangement s xs ys all same_all asc same_asc moved =
@@ -116,7 +116,7 @@ module _ {A : Type 0} (s : Shape) (f : A → Value s) where
         filter-append (is_of b) ys rest ∙ ap (λ (u : List A). u ++ filter (is_of b) rest) (p.equals (front_all (λ x. IsValid s (f x)) xs rest all) b) ∙ sym (filter-append (is_of b) xs rest);
   }
 
-  -- One more item, after its equals
+  -- Inserting an item after its equals
 
   differs : (b : List ℕ) (y z : A) → octets_of s (f y) ≡ b → octets_cmp (octets_of s (f y)) (octets_of s (f z)) ≡ Less → is_of b z ≡ false
   differs b y z e less = grind (arith, nat_tests, (bytes_eq-Decides (octets_of s (f z)) b).0, tied_itself nat_list_cmp_total (octets_of s (f y)))
@@ -127,7 +127,7 @@ module _ {A : Type 0} (s : Shape) (f : A → Value s) where
       let next = less_on (octets_of s (f y)) (octets_of s (f z)) (octets_of s (f w)) (octets_cmp (octets_of s (f z)) (octets_of s (f w))) less refl (asc.0 all.0 all.1.0) in
       rw (differs b y z e less, none_equal b y w ws e next all.1 asc.1) refl
 
-  -- what follows the place of an item
+  -- The members after the position of an item.
   behind_it : (b : List ℕ) (y : A) (zs : List A) → IsValid s (f y) → AllValid s f zs → Ascends s f zs → ((z : A) → 0 < length zs → z ≡ get_or zs 0 z → octets_cmp (octets_of s (f y)) (octets_of s (f z)) ≡ Less)
       → filter (is_of b) (y ∷ zs) ≡ filter (is_of b) (zs ++ y ∷ [])
   behind_it b y [] v all asc less = refl
@@ -161,7 +161,7 @@ module _ {A : Type 0} (s : Shape) (f : A → Value s) where
         ∙ sym (filter-append (is_of b) a (c ++ y ∷ [])) ∙ ap (filter (is_of b)) (sym (append_assoc a c (y ∷ [])) ∙ ap (λ (u : List A). u ++ y ∷ []) parts);
   }
 
-  -- The last of the first members moved to its place, as a loop moves it
+  -- Moving the last of the first members to its position, as a loop does
 
   same_at : (old xs : List A) (end : ℕ) (y : A) → drop end xs ≡ drop end old → y ≡ get_or xs end y → y ≡ get_or old end y
   same_at old xs end y behind here = here ∙ sym (first_of end xs y) ∙ ap (λ (u : List A). get_or u 0 y) behind ∙ first_of end old y
@@ -234,7 +234,7 @@ module _ {A : Type 0} (s : Shape) (f : A → Value s) where
         why = inr (h.1.why x (get_or_default items k y x within ∙ sym (get_or-append_right old items (length old) count x refl h.1.least)));
       }
 
-  -- for out of memory the first one is rejected
+  -- If memory runs out at once, the first item is rejected.
   pub stops_at_once : (old items : List A) (e : Error) → 0 < length items → e.kind ≡ kinds.OutOfMemory → StopsIn s f old items old e
   stops_at_once old [] e some none = absurd (omega arith)
   stops_at_once old (y ∷ ys) e some none = record {
@@ -246,18 +246,18 @@ module _ {A : Type 0} (s : Shape) (f : A → Value s) where
     why = inl none;
   }
 
-  -- no member is rejected where there is none
+  -- If a member was rejected, there are members.
   pub some_members : (xs : List A) (e : Error) → IsOutOfOrder s f xs e ⊎ TooLong s f xs e → 0 < length xs
   some_members [] e h = elim h [ inl o ↦ absurd (o.falls tt tt) | inr t ↦ absurd (t.some tt) ]
   some_members (x ∷ xs) e h = omega arith
 
--- By places
+-- Sorting by indexes
 
 kept_map : {P X : Type 0} (g : P → X) (test : X → Bool) (ps : List P) → filter test (map g ps) ≡ map g (filter (λ p. test (g p)) ps)
 kept_map g test [] = refl
 kept_map g test (p ∷ ps) = grind (arith, nat_tests, kept_map g test ps)
 
--- one that passes, or none does
+-- One of the elements passes the test, or none does.
 found : (test : ℕ → Bool) (ps : List ℕ) → ((p : ℕ) × (test p ≡ true)) ⊎ (filter test ps ≡ [])
 found test [] = inr refl
 found test (p ∷ ps) = go (found test ps) (test p) refl
@@ -269,7 +269,7 @@ found test (p ∷ ps) = go (found test ps) (test p) refl
 tie_is : (r t : Ordering) → t ≡ ordering_reverse r → is_eq r ≡ (not (is_lt t) && not (is_lt r))
 tie_is r t e = grind (arith, nat_tests)
 
--- a place whose encoding is b ties with the places whose encoding is b
+-- An index with the encoding `b` is equal, in the order, to exactly the indexes with this encoding.
 tied_places : (enc : ℕ → List ℕ) (b : List ℕ) (p : ℕ) → bytes_eq (enc p) b ≡ true → (q : ℕ) → bytes_eq (enc q) b ≡ ties (λ p q. is_lt (octets_cmp (enc p) (enc q))) p q
 tied_places enc b p h q =
     let here : b ≡ enc p = sym ((bytes_eq-Decides (enc p) b).0 h) in
@@ -287,7 +287,7 @@ module _ {A : Type 0} (s : Shape) (f : A → Value s) where
   in_turn : (x : A) (xs : List A) → x ∷ xs ≡ members_at (x ∷ xs) x (range_with_len 0 (length (x ∷ xs)))
   in_turn x xs = fill_by_all (member_at (x ∷ xs) x) (x ∷ xs) (length (x ∷ xs)) x refl (λ k lt. refl)
 
-  -- members at places that were sorted
+  -- The members at sorted indexes.
   pub sorted_places : (xs : List A) (places : List ℕ) (ys : List A) → 0 < length xs → IsPermutation (range_with_len 0 (length xs)) places → (AllValid s f xs → KeepsPlaces s f xs places) → ((d : A) → ys ≡ members_at xs d places)
       → IsArranged s f xs ys
   sorted_places [] places ys some same stable are = absurd (omega arith)
@@ -325,7 +325,7 @@ module _ {A : Type 0} (s : Shape) (f : A → Value s) where
   places_ascend [] places ys some asc are = absurd (omega arith)
   places_ascend (x ∷ xs) places ys some asc are = subst (Ascends s f) (sym (are x)) (ascends_from places (x ∷ xs) x asc)
 
-  -- what a sort of places gives, of members that are reported apart by paths
+  -- The result of sorting by indexes, from the values along each path.
   pub sorted_from : (xs us : List A) (places ps : List ℕ) (ys : List A) → us ≡ xs → ps ≡ places → 0 < length xs → IsPermutation (range_with_len 0 (length us)) places → (AllValid s f us → KeepsPlaces s f us places) → AscendsAt s f us places (length places)
       → ((d : A) → ys ≡ members_at xs d ps) → IsArranged s f xs ys × Ascends s f ys
   sorted_from xs us places ps ys same order some moved stable asc are =
@@ -334,9 +334,10 @@ module _ {A : Type 0} (s : Shape) (f : A → Value s) where
         places_ascend xs places ys some (subst (λ (u : List A). AscendsAt s f u places (length places)) same asc) E,
       )
 
--- Members that are taken one by one from where they stand
+-- Taking members separately
 
--- those whose places aren't among the first of these still are there
+-- The members that weren't taken are still there: those whose index isn't among the first `count`
+-- ones.
 abbrev pub Untaken : {A : Type 0} → List A → List ℕ → ℕ → List (Option A) → Type 0
 Untaken {A} xs places count apart = (q : ℕ) (d : A) → q < length xs → ((j : ℕ) → j < count → get_or places j 0 ≢ q) → get_or apart q None ≡ Some (get_or xs q d)
 
@@ -345,11 +346,11 @@ places_below n places same = All-permutation (λ p. p < n) (range_with_len 0 n) 
     let long = length-range_with_len 0 n in
     omega (arith, get_or-range_with_len 0 n k d (omega (arith, long)), long))
 
--- no place twice
+-- No index occurs twice.
 abbrev Differ : List ℕ → Type 0
 Differ l = (j k d : ℕ) → j < length l → k < length l → get_or l j d ≡ get_or l k d → j ≡ k
 
--- where what is at k stood before two were exchanged
+-- The element at `k` after two elements were exchanged, and its index before.
 source : (f g : ℕ → ℕ) (a b k : ℕ) → Swapped f g a b → (m : ℕ) × (g k ≡ f m) × (((k ≡ a) × (m ≡ b)) ⊎ (((k ≡ b) × (m ≡ a)) ⊎ ((k ≡ a → ⊥) × (k ≡ b → ⊥) × (m ≡ k))))
 source f g a b k w =
     elim (cases_eq k a) [
@@ -375,7 +376,7 @@ places_differ n places same =
     omega (arith, e, get_or-range_with_len 0 n j d (omega (arith, long)), get_or-range_with_len 0 n k d (omega (arith, long)))) differ_swapped places same
 
 module _ {A : Type 0} (xs : List A) (places : List ℕ) (count : ℕ) (apart : List (Option A)) where
-  -- the next one is there
+  -- The next member is still there.
   pub untaken_here : IsPermutation (range_with_len 0 (length xs)) places → count < length places → Untaken xs places count apart → (d : A) → get_or apart (get_or places count 0) None ≡ Some (get_or xs (get_or places count 0) d)
   untaken_here same lt left d = left (get_or places count 0) d (places_below (length xs) places same count 0 lt) (λ j before e.
       let k = places_differ (length xs) places same j count 0 (omega arith) lt e in
@@ -389,7 +390,7 @@ module _ {A : Type 0} (xs : List A) (places : List ℕ) (count : ℕ) (apart : L
   taken_more taken d x lt here so_far =
       ap (λ (u : List A). u ++ x ∷ []) so_far ∙ ap (λ (z : A). members_at xs d (take count places) ++ z ∷ []) here ∙ sym (map-append (member_at xs d) (take count places) (get_or places count 0 ∷ [])) ∙ ap (members_at xs d) (sym (take_more places count 0 lt))
 
--- before any was taken
+-- At the beginning, no member was taken.
 pub all_apart : {A : Type 0} (xs : List A) (places : List ℕ) (apart : List (Option A)) → apart ≡ map (λ x. Some x) xs → Untaken xs places 0 apart
 all_apart {A} xs places apart is q d lt other = ap (λ (u : List (Option A)). get_or u q None) is ∙ get_or-map (λ x. Some x) xs q d None lt
 

@@ -1,5 +1,5 @@
--- Members read one after another: those that ascend, those that rise, no more than so many, and in
--- whichever order.
+-- Lemmas about decoding the members of sets, one after another: in ascending order, in strictly
+-- ascending order, at most a number of them, or in any order.
 use Rattle.std.proofs.Common.{◌≡◌, ◌≤◌, ℕ, zero, suc, true, List, [], ◌∷◌, length, take, drop, Result, Ok, inr, ◌⊎◌, refl, sym, ap, subst, ◌∙◌, flat_map, IsPermutation, le-ltb, append-nil, take-append-drop, arith, ◌+◌, ◌<◌, ◌++◌, Option, Some, None, ◌≢◌, length-append}
 use Rattle.std.specs.List.{AllByRecursion}
 use Rattle.std.proofs.lemmas.List.Sorted.{IsPermutation-sym, IsPermutation-trans, length_permutation}
@@ -28,9 +28,9 @@ use Rattle.der_core.specs.Limits.{levels_max}
 use Rattle.der_core.proofs.Lists.{InTurn, all_in_turn, none_in_turn, on_in_turn, done_in_turn}
 use Rattle.der_types_sets.specs.Ascending.{JoinsAscending, IsCount, first_of, values_at}
 
--- Members that are in any order.
+-- Members in any order
 
--- At plain values
+-- Abstract values
 
 pub ascends-plain : {A : Type 0} (s : Shape) (f : A → Value s) (xs : List A) → Ascends s f xs → Ascends s (λ v. v) (plain_list f xs)
 ascends-plain s f [] h = tt
@@ -41,16 +41,16 @@ pub valid-plain : {A : Type 0} (s : Shape) (f : A → Value s) (xs : List A) →
 valid-plain s f [] h = tt
 valid-plain s f (x ∷ xs) h = (h.0, valid-plain s f xs h.1)
 
--- What was read
+-- Decoded members
 
--- the body of a content, where so many levels are left
+-- The body of a content, with the levels that are left.
 pub inner : (rules : EncodingRules) (b : Body) (t : Tag) (room n : ℕ) (w : List ℕ) (v : BodyValue b) (r : List ℕ) → value_at (read_content_by rules (nested b) t room) n w ≡ Ok (v, r) → (m : ℕ) × (read_body_by rules b m (take n w) ≡ Ok (v, []))
 inner rules b t zero n w v r e = let h = (value_sound (read_content_by rules (nested b) t zero) n w v r e).1 in absurd cc
 inner rules b t (suc m) n w v r e =
     let q = bind_ok (read_body_by rules b m (take n w)) whole (v, []) (value_sound (read_content_by rules (nested b) t (suc m)) n w v r e).1 in
     (m, q.1 ∙ ap (λ (p : BodyValue b × List ℕ). Ok p) (whole_ok q.0 (v, []) q.2).0)
 
--- The bytes join the encodings of the members.
+-- The bytes are the concatenated encodings of the members.
 pub record Joins (s : Shape) (v : List (Value s)) (w : List ℕ) : Type 0 where
   pub valid : AllValid s (λ x. x) v
   pub octets_are : w ≡ flat_map (octets_of s) v
@@ -63,7 +63,7 @@ joins k s room n w v apart bytes fits e =
 pub fits_take : (n : ℕ) (w : List ℕ) → Fits w → Fits (take n w)
 fits_take n w fits = fits_front (take n w) (drop n w) w (sym (take-append-drop n w)) fits
 
--- a content is read by DER where DER rules
+-- If the reader's encoding rules are DER, a content is decoded under DER.
 pub as_der : (b : Body) (t : Tag) (old : State) (n : ℕ) → IsDer old → value_at (read_content (nested b) t old.room) n old.rest ≡ value_at (read_content_at old (nested b) t) n old.rest
 as_der b t old n der = ap (λ r. value_at (read_content_by r (nested b) t old.room) n old.rest) (sym der)
 
@@ -72,7 +72,7 @@ many_joins s t old n v r apart bytes fits der e =
     let i = inner encodings.Der (many s) t old.room n old.rest v r (as_der (many s) t old n der ∙ e) in
     joins kinds.TrailingData s i.0 (length (take n old.rest)) (take n old.rest) v apart (bytes_take n old.rest bytes) (fits_take n old.rest fits) i.1
 
--- What is spelled so is read, as it is
+-- Encodings are decoded
 
 pub value_is : {P : Type 0} (F : Readings P) (n : ℕ) (w : List ℕ) (v : P) → n ≤ length w → F (take n w) ≡ Ok (v, []) → value_at F n w ≡ Ok (v, drop n w)
 unfolding value_at
@@ -86,24 +86,24 @@ many_again s t old n v element apart enough der le loose =
     sym (as_der (many s) t old n der)
     ∙ value_is F n old.rest loose.spelled le (ap F loose.octets_are ∙ complete_content (nested (many s)) t old.room loose.spelled (both_true element apart) enough loose.valid)
 
--- a list of values has one ascending arrangement
+-- A list of values has one ascending order.
 pub one_set : (s : Shape) (v w : List (Value s)) → is_element s ≡ true → is_apart s ≡ true → AllValid s (λ x. x) v → Ascends s (λ x. x) v → Ascends s (λ x. x) w → IsPermutation v w → v ≡ w
 unfolding IsBody body_octets
 one_set s v w element apart valid asc other same =
     let valid' = valid_moved s (λ x. x) v w same valid in
     one_body (many s) v w (both_true element apart) valid valid' (one_arrangement s v w valid valid' asc other same)
 
--- Of a type that is written as it is read
+-- Types that are encoded as they are decoded
 
 module _ {A : Type 0} (s : Shape) (written plain : A → Value s) (agree : (x : A) → written x ≡ plain x) where
   pub views : written ≡ plain
   views = λ i x. agree x i
 
-  -- what was read has encodings
+  -- The decoded members are valid, so none is too long.
   pub not_too_long : (read : List A) (e : Error) → TooLong s written read e → AllValid s (λ v. v) (plain_list plain read) → ⊥
   not_too_long read e long valid = long.some (subst (λ (f : A → Value s). AllValid s f read) (sym views) (valid-plain s plain read valid))
 
-  -- a set with a member that is too long is rejected by BER alone
+  -- A set with a member that is too long is only rejected under BER.
   pub by_ber : (old : State) (read : List A) (e : Error) (r : Result (List (Value s) × List ℕ) ErrorKind) → TooLong s written read e → (IsDer old → AllValid s (λ v. v) (plain_list plain read)) → Fails e.kind r ⊎ (IsBer old × TooLong s written read e)
   by_ber old read e r long valid = go old.source.encoding refl
     where
@@ -114,14 +114,14 @@ module _ {A : Type 0} (s : Shape) (written plain : A → Value s) (agree : (x : 
   set_ascends : (set : List A) → Ascends s written set → Ascends s (λ v. v) (plain_list plain set)
   set_ascends set asc = ascends-plain s plain set (subst (λ (f : A → Value s). Ascends s f set) views asc)
 
-  -- what was read is an arrangement of what is there
+  -- The set is an arrangement of the decoded members.
   pub loose : (w : List ℕ) (read set : List A) → Joins s (plain_list plain read) w → IsPermutation read set → Ascends s written set → Loose s (plain_list plain set) w
   loose w read set h same asc = record { spelled = plain_list plain read; valid = h.valid; octets_are = h.octets_are; same = plain_permutation plain read set same; ascend = set_ascends set asc }
 
   pub spells_loosely : (b : List ℕ) (read set : List A) → Spells (tagged tags.Set (nested (many s))) (plain_list plain read) b → IsPermutation read set → Ascends s written set → SpellsLoosely s (plain_list plain set) b
   spells_loosely b read set h same asc = record { spelled = plain_list plain read; spells = h; same = plain_permutation plain read set same; ascend = set_ascends set asc }
 
-  -- no other list of members is spelled by the bytes
+  -- The bytes aren't the encodings of any other members.
   pub only_set : (spelled v : List (Value s)) (read set : List A) → is_element s ≡ true → is_apart s ≡ true → AllValid s (λ x. x) spelled → IsPermutation spelled v → Ascends s (λ x. x) v
       → spelled ≡ plain_list plain read → IsPermutation read set → Ascends s written set → v ≡ plain_list plain set
   only_set spelled v read set element apart valid moved asc is same ascend =
@@ -140,12 +140,12 @@ module _ {A : Type 0} (s : Shape) (written plain : A → Value s) (agree : (x : 
   unfolding IsValid IsContent IsBody
   only_whole b v read set element apart loose is same asc = only_set loose.spelled v read set element apart loose.spells.valid.0 loose.same loose.ascend is same asc
 
--- the members of a whole encoding
+-- The members of a valid encoding are valid.
 pub members_valid : (s : Shape) (v : List (Value s)) (b : List ℕ) → Spells (tagged tags.Set (nested (many s))) v b → AllValid s (λ x. x) v
 unfolding IsValid IsContent IsBody
 members_valid s v b h = h.valid.0
 
--- Members that are in any order, no more than so many.
+-- At most a number of members, in any order
 
 pub length_plain_list : {A P : Type 0} (f : A → P) (xs : List A) → length (plain_list f xs) ≡ length xs
 length_plain_list f [] = refl
@@ -165,7 +165,7 @@ few_again k s t old n v element apart enough der le most loose =
     sym (as_der (few k s) t old n der)
     ∙ value_is F n old.rest loose.spelled le (ap F loose.octets_are ∙ complete_content (nested (few k s)) t old.room loose.spelled (both_true element apart) enough (loose.valid, within))
 
--- Whole encodings
+-- Encodings with a header
 
 pub few_many : (k : ℕ) (s : Shape) (v : List (Value s)) (b : List ℕ) → Spells (tagged tags.Set (nested (few k s))) v b → Spells (tagged tags.Set (nested (many s))) v b
 unfolding IsValid IsContent IsBody octets_of contents body_octets
@@ -177,9 +177,9 @@ many_few k s v b most loose =
     let h = loose.spells in
     record { valid = ((h.valid.0, omega (arith, length_permutation loose.spelled v loose.same, most)), h.valid.1, h.valid.2); octets = h.octets }
 
--- As a loop reads them
+-- Decoding in a loop
 
--- so many values were read since a start, the last of these bytes
+-- This many members were decoded since the start, and the last one has these bytes.
 pub record Counted (s : Shape) (start : State) (last : Option (List ℕ)) (now : State) (count : ℕ) : Type 0 where
   pub values : List (Value s)
   pub long : length values ≡ count
@@ -201,9 +201,9 @@ counted_done der h none is =
     let values = plain_list (λ v. v) h.values in
     (values, done_in_turn h.turn der none ∙ ap (λ (r : List ℕ). Ok (values, r)) none, length_plain_list (λ v. v) h.values ∙ h.long ∙ is)
 
--- What was read
+-- Decoded members
 
--- in order, the same again one by one, and as members in any order
+-- The members are in order, decode again one after another, and decode as members in any order.
 record Ordered {P : Type 0} (how : Step) (o : P → List ℕ) (F : Readings P) (last : Option (List ℕ)) (n : ℕ) (w : List ℕ) (v : List P) (r : List ℕ) : Type 0 where
   pub ordered : OrderedFrom how o last v
   pub again : values_at F (length v) w ≡ v
@@ -231,9 +231,9 @@ ordered_read {P} how o F last (suc n) (b ∷ w) v r e =
       all = ap (λ q. q >>= λ x. read_many kinds.TrailingData F n x.1 >>= λ y. Ok (x.0 ∷ y.0, y.1)) x.1 ∙ ap (λ q. q >>= λ y. Ok (x.0.0 ∷ y.0, y.1)) m.all;
     })
 
--- Members that ascend
+-- Ascending order
 
--- a content whose members ascend is read, whole
+-- A content whose members are in ascending order is decoded to its end.
 pub content_ascends : (s : Shape) (room : ℕ) (v : List (Value s)) (w : List ℕ) → is_element s ≡ true → is_apart s ≡ true → are_enough s room ≡ true → JoinsAscending s v w → read_body (ascending s) room w ≡ Ok (v, [])
 unfolding body_octets IsBody
 content_ascends s room v w element apart enough h =
@@ -265,7 +265,7 @@ counts s room w n apart most bytes fits h =
       all = h.1 ∙ ap (λ (t : List (Value s)). Ok (t, [])) same;
     }
 
--- Members that rise
+-- Strictly ascending order
 
 pub rising-ascends : {A : Type 0} (s : Shape) (f : A → Value s) (xs : List A) → AllRising (octets_of s) (plain_list f xs) → Ascends s f xs
 rising-ascends s f [] h = tt

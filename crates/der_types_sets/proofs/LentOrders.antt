@@ -1,5 +1,5 @@
--- A set that is borrowed: what it writes and how it is compared, its members in a list, their
--- range.
+-- Lemmas about borrowed sets: their encoding, their comparison, their members as an owned list, and
+-- their range.
 use Rattle.std.proofs.Common.{◌≡◌, ℕ, zero, suc, ◌<◌, eqb, Bool, false, List, [], ◌∷◌, ◌++◌, length, None, Result, Ok, Err, refl, sym, ap, subst, ◌∙◌, arith, ◌+◌, ◌≤◌, true, get_or, take, drop, drop-cons, Some, ◌⊎◌, inl, inr, ◌≢◌, flat_map, slice_get, Ordering, Less, Bor, Option, bytes_eq, nat_cmp, Equal, Greater, append_assoc}
 use Rattle.std.specs.List.{AllByRecursion}
 use Rattle.std.proofs.lemmas.Bool.Decides.{nat_tests, Decides-eqb}
@@ -33,12 +33,12 @@ use Rattle.der_core.specs.ErrorTypes.ErrorKind.TheVariants as kinds
 use Rattle.std.proofs.lemmas.Bool.{cases_lt}
 use Rattle.der_core.proofs.BoundLaws.{both_all}
 
--- What a borrowed set writes: its bytes, where it has any, and else the encodings of its values.
+-- The content of a borrowed set is its bytes, or the encodings of its values
 
 pub some_at : (n : ℕ) → eqb n 0 ≡ false → 0 < n
 some_at n e = grind (arith, nat_tests)
 
--- The members are those of the values, or those that bytes encode
+-- The members are those of the values, or those of the bytes
 
 pub of_values : {A : Type 0} (s : Shape) (f : A → Value s) (l : Lent A) → IsLent s f l → length l.octets ≡ 0 → members_lent s f l ≡ plain_list f l.values
 of_values s f l h none =
@@ -54,12 +54,12 @@ of_octets {A} s f l h some =
     let none : l.values ≡ [] = nil_from_length l.values (h.has.one (some_spelled s l.count l.octets h.joined some)) in
     ap (λ (v : List A). plain_list f v ++ members_spelled s l) none
 
--- what these join to
+-- Their concatenated encodings are the content.
 pub spelled_contents : {A : Type 0} (s : Shape) (f : A → Value s) (l : Lent A) → IsLent s f l → contents (nested (many s)) (members_spelled s l) ≡ l.octets
 unfolding contents body_octets
 spelled_contents s f l h = sym h.joined.octets_are
 
--- As calls answer them
+-- The results of the functions
 
 pub values_sized : {A X : Type 0} (s : Shape) (f : A → Value s) (l : Lent A) (view : X → ℕ) (r : Result X Error) → IsLent s f l → length l.octets ≡ 0
     → GivesNow view r (size_body (many s) (plain_list f l.values)) → GivesNow view r (size_body (many s) (members_lent s f l))
@@ -104,20 +104,20 @@ octets_written memory s f l old new r h some writes =
     subst (λ (v : List (Value s)). Writes memory old new r (write_in_order not_below (write s) (octets_of s) v)) (sym (of_octets s f l h some))
     (writes_ordered memory s v old new r (λ _. h.joined.ascend) (writes_same memory old new r (write_many (write s) v) (put l.octets) same writes))
 
--- the bytes are those of the content
+-- The bytes are the content.
 pub octets_lent : {A : Type 0} (s : Shape) (f : A → Value s) (l : Lent A) → IsLent s f l → 0 < length l.octets → l.octets ≡ contents (nested (in_order not_below s)) (members_lent s f l)
 unfolding contents
 octets_lent s f l h some = h.joined.octets_are ∙ ap (body_octets (many s)) (sym (of_octets s f l h some))
 
--- The order of contents, whichever way sets are borrowed.
+-- The order of contents, however the sets are borrowed
 
--- Into memory a value is written, or its encoding passes what a length can count, or a strict set in it doesn't rise.
--- what was written into memory, or that something is out of order
+-- Writing a value to a vector succeeds, or its encoding exceeds `length_max`, or a strict set in it
+-- isn't in ascending order.
 abbrev IsPlaced : Result Out ErrorKind → Type 0
 IsPlaced (Ok x) = (w : List ℕ) × (x ≡ out w)
 IsPlaced (Err k) = IsMisplaced k
 
--- no other error, where the length can be counted
+-- There is no other error, if the length is valid.
 abbrev Places : Result ℕ ErrorKind → (Out → Result Out ErrorKind) → Type 0
 Places r f = (n : ℕ) → r ≡ Ok n → (w : List ℕ) → IsPlaced (f (out w))
 
@@ -201,7 +201,7 @@ mutual
   body_placed (few n s) v = many_placed (write s) (size s) (λ x. write_placed s x) v 0
   body_placed (in_order how s) v = in_order_placed how (write s) (octets_of s) v (many_len (size s) v 0) (many_placed (write s) (size s) (λ x. write_placed s x) v 0)
 
--- which error it is, where nothing was written before
+-- The error of a value that is written to an empty vector.
 write_faults : (s : Shape) (v : Value s) (k : ErrorKind) → write s v (out []) ≡ Err k → IsMisplaced k ⊎ ((k ≡ kinds.Overflow) × (size s v ≡ Err kinds.Overflow))
 write_faults s v k e = go (size s v) refl
   where
@@ -217,7 +217,7 @@ write_faults s v k e = go (size s v) refl
 cmp-behind : (a r t : List ℕ) → octets_cmp (a ++ r) (a ++ t) ≡ octets_cmp r t
 cmp-behind a r t = octets_cmp-append a a r t (splits_lengths a a refl) ∙ ap (λ o. ordering_then o (octets_cmp r t)) (octets_cmp-self a)
 
--- what does not begin with some bytes is ordered by these alone
+-- A list that doesn't begin with some bytes is ordered by these bytes alone.
 cmp-unlike : (a r b : List ℕ) → ((rest : List ℕ) → b ≢ a ++ rest) → octets_cmp (a ++ r) b ≡ octets_cmp a b
 cmp-unlike [] r b unlike = absurd (unlike b refl)
 cmp-unlike (x ∷ a) r [] unlike = refl
@@ -229,9 +229,9 @@ starts_with w items behind h = strip_prefix_is Decides-eqb w items (Some behind)
 pub starts_otherwise : (w items : List ℕ) → pointwise eqb (take (length items) w) items ≡ false → (rest : List ℕ) → w ≢ items ++ rest
 starts_otherwise w items h = strip_prefix_is Decides-eqb w items None h
 
--- One encoding after another against bytes
+-- Comparing one encoding after another with bytes
 
--- the order of all is that of what is left
+-- The order of the whole is that of the remaining parts.
 pub record Remains {A : Type 0} (s : Shape) (f : A → Value s) (v : List A) (b : List ℕ) (i : ℕ) (w : List ℕ) : Type 0 where
   pub order : octets_cmp (flat_map (octets_of s) (plain_list f v)) b ≡ octets_cmp (flat_map (octets_of s) (plain_list f (drop i v))) w
 
@@ -264,18 +264,18 @@ pub less_than_some : (w : List ℕ) → 0 < length w → octets_cmp [] w ≡ Les
 less_than_some [] some = absurd (omega arith)
 less_than_some (x ∷ w) some = refl
 
--- the answer of a comparison, unless memory ran out
+-- The result of a comparison, unless memory ran out.
 pub answered : (r : Result Ordering Error) (o : Ordering) → r ≡ Ok o → Gives (λ x. x) r (Ok o)
 answered r o e = subst (λ (q : Result Ordering Error). Gives (λ x. x) q (Ok o)) (sym e) refl
 
--- The refusals
+-- Errors
 
 pub plain-at : {A P : Type 0} (f : A → P) (v : List A) (i : ℕ) (x : A) → i < length v → x ≡ get_or v i x → slice_get (plain_list f v) i ≡ Some (f x)
 plain-at f [] i x lt here = absurd (omega arith)
 plain-at {A} f (y ∷ v) zero x lt here = ap (λ (z : A). Some (f z)) (sym here)
 plain-at f (y ∷ v) (suc i) x lt here = plain-at f v i x (omega arith) here
 
--- one of the values was refused
+-- One of the values couldn't be encoded.
 pub unwritten : {A : Type 0} (s : Shape) (f : A → Value s) (v : List A) (i : ℕ) (x : A) (e : Error) → i < length v → x ≡ get_or v i x → (e.kind ≢ kinds.OutOfMemory → write s (f x) (out []) ≡ Err e.kind) → IsUnwritten s (plain_list f v) e
 unwritten s f v i x e lt is refused = go (or_memory e.kind refused)
   where
@@ -304,7 +304,7 @@ pub inside_long : (P : Error → Type 0) (t : Tag) (c : Content) (v w : ContentV
 inside_long P t c v w e (inl other) = inl other
 inside_long P t c v w e (inr over) = inr (long_inside t t c v w e over)
 
--- What is borrowed and what is owned
+-- Borrowed and owned sets
 
 pub lent_content : {A : Type 0} (s : Shape) (f : A → Value s) (l : Lent A) (xs : List A) → IsLent s f l → members_lent s f l ≡ plain_list f xs → 0 < length l.octets → l.octets ≡ body_octets (many s) (plain_list f xs)
 unfolding body_octets
@@ -321,7 +321,7 @@ same_number f xs v e = ap (λ (u : List _). length u) e ∙ length_plain_list f 
 pub same_member : {A P : Type 0} (f : A → P) (xs : List A) (v : List P) (i : ℕ) → v ≡ plain_list f xs → slice_get v i ≡ plain_option f (slice_get xs i)
 same_member f xs v i e = ap (λ (u : List _). slice_get u i) e ∙ plain-get f xs i
 
--- The members of a borrowed set, in a list of their own.
+-- The members of a borrowed set as an owned list
 
 plain-ascends : {A : Type 0} (s : Shape) (f : A → Value s) (xs : List A) → Ascends s (λ v. v) (plain_list f xs) → Ascends s f xs
 plain-ascends s f [] h = tt
@@ -339,7 +339,7 @@ lent-ascends s f l h = elim (cases_lt 0 (length l.octets)) [
   | inr none ↦ subst (Ascends s (λ x. x)) (sym (of_values s f l h (omega arith))) (ascends-plain s f l.values h.ascend)
 ]
 
--- a copy of each member, so far
+-- Each of the members so far was copied.
 pub taken_on : {A P : Type 0} (f : A → P) (xs : List A) (x : A) (left more wanted : List P) → plain_list f xs ++ left ≡ wanted → left ≡ f x ∷ more → plain_list f (xs ++ x ∷ []) ++ more ≡ wanted
 taken_on f xs x left more wanted so_far next =
     ap (λ (u : List _). u ++ more) (plain-append f xs (x ∷ [])) ∙ append_assoc (plain_list f xs) (f x ∷ []) more ∙ ap (λ (u : List _). plain_list f xs ++ u) (sym next) ∙ so_far
@@ -352,8 +352,7 @@ taken_ascend {A} s written plain agree l xs h same =
     let P : (A → Value s) → Type 0 = λ f. plain_list f xs ≡ members_lent s f l in
     plain-ascends s written xs (subst (Ascends s (λ x. x)) (sym (subst P (sym (views s written plain agree)) same)) (lent-ascends s written l h))
 
--- The members of a borrowed set are in range: values by their type, and what bytes encode since it
--- was read.
+-- The members of a borrowed set are in range
 
 pub lent_in_range : {A : Type 0} (s : Shape) (f : A → Value s) (l : Lent A) → IsLent s f l → AllByRecursion (IsInRange s) (plain_list f l.values) → AllByRecursion (IsInRange s) (members_lent s f l)
 lent_in_range s f l h values = both_all (IsInRange s) (plain_list f l.values) (members_spelled s l) values (list_in_range s (members_spelled s l) h.joined.valid)

@@ -1,4 +1,4 @@
--- Members in ascending order, one more at a time, and in turn those of a set that is borrowed.
+-- Lemmas about members in ascending order: inserting one, and going over those of a borrowed set.
 use Rattle.std.proofs.Common.{◌≡◌, ℕ, zero, suc, ◌+◌, ◌-◌, ◌<◌, ◌≤◌, List, [], ◌∷◌, ◌++◌, length, get_or, take, drop, refl, ap, sym, subst, ◌∙◌, arith, Result, Ok, ◌≢◌, Ordering, Greater, IsPermutation, true, Err, slice_get, Some, None, le-ltb}
 use Rattle.std.specs.List.{AllZip, insert}
 use Rattle.std.specs.Ordering.{ordering_reverse}
@@ -46,7 +46,7 @@ before_here {A} s f xs x y m here ok = λ w lt h.
     let P : A → Type 0 = λ v. IsBelow s f x v in
     subst P z ok
 
--- what a comparison tells
+-- The result of a comparison.
 pub told : {A : Type 0} (s : Shape) (f : A → Value s) (x y : A) (r : Result Ordering Error) (o : Ordering) → r ≡ Ok o → o ≢ Greater
     → (IsValid s (f x) → IsValid s (f y) → r ≡ Ok (encodings_cmp s (f x) (f y))) → NotAbove s f x y
 told s f x y r o e not h = λ v w greater. not (cc (e, h v w, greater))
@@ -62,7 +62,7 @@ valid_at s f [] m y lt here all = absurd (omega arith)
 valid_at {A} s f (x ∷ xs) zero y lt here all = let P : A → Type 0 = λ v. IsValid s (f v) in subst P (sym here) all.0
 valid_at s f (x ∷ xs) (suc m) y lt here all = valid_at s f xs m y (omega arith) here all.1
 
--- The last of the first members moved to its place
+-- Moving the last of the first members to its position
 
 pub moved_up : {A : Type 0} (xs : List A) (end place : ℕ) (y : A) → end < length xs → y ≡ get_or xs end y → IsPermutation xs (insert (take end xs) place y ++ drop (end + 1) xs)
 moved_up {A} xs end place y lt here =
@@ -95,7 +95,7 @@ too_long_part {A} s f old xs end y e same lt here t =
           t.some (valid_at s f xs end y lt here now, recursion_from_All V (take end xs) (All-take V end xs (All-from_recursion V xs now)));
     }
 
--- Members of which one is below the one before it
+-- Members of which one is less than the one before it
 
 ascends-at : {A : Type 0} (s : Shape) (f : A → Value s) (xs : List A) (k : ℕ) (x y : A) → suc k < length xs → x ≡ get_or xs k x → y ≡ get_or xs (suc k) y → Ascends s f xs → NotAbove s f x y
 ascends-at s f [] k x y lt here next asc = absurd (omega arith)
@@ -119,14 +119,14 @@ falls_at {A} s f xs end y lt here below all asc =
     let step = ascends-at s f xs k x y (omega arith) at (here ∙ ap (λ i. get_or xs i y) (sym next)) asc in
     step (valid_at s f xs k x (omega arith) at all) (valid_at s f xs end y lt here all) (below.1 x within (valid_at s f xs k x (omega arith) at all) (valid_at s f xs end y lt here all))
 
--- One more at the end
+-- Appending a member
 
 pub ascends-last : {A : Type 0} (s : Shape) (f : A → Value s) (xs : List A) (x : A) → Ascends s f xs → IsPlace s f xs x (length xs) → Ascends s f (xs ++ x ∷ [])
 ascends-last {A} s f xs x asc p =
     let same : insert xs (length xs) x ≡ xs ++ x ∷ [] = ap (λ (u : List A). u ++ x ∷ drop (length xs) xs) (take_all (length xs) xs (omega arith)) ∙ ap (λ (u : List A). xs ++ x ∷ u) (drop_all (length xs) xs (omega arith)) in
     subst (Ascends s f) same (placed s f xs (length xs) x asc p)
 
--- As a set takes an item
+-- Inserting an item into a set
 
 pub put_ascends : {A : Type 0} (s : Shape) (f : A → Value s) (xs ys : List A) (i : ℕ) (x : A) → IsPlace s f xs x i → Ascends s f xs → ys ≡ insert xs i x → Ascends s f ys
 put_ascends s f xs ys i x p asc is = subst (Ascends s f) (sym is) (placed s f xs i x asc p)
@@ -144,11 +144,11 @@ same_copies C [] [] h same = refl
 same_copies {A} C (x ∷ xs) (y ∷ ys) h same = cc (same x y h.0, same_copies C xs ys h.1 same)
 same_copies C xs ys h same = absurd h
 
--- Contents whose members ascend, as a reader and an iterator go over them.
+-- Contents in ascending order, as a reader and an iterator go over them
 
--- One member of those that bytes encode
+-- The first member of encoded ones
 
--- the first value, and those after it
+-- The first value, and the values after it.
 pub record FirstSpelled (s : Shape) (n : ℕ) (w : List ℕ) (v : Value s) (r : List ℕ) : Type 0 where
   pub all : values_at (read s levels_max) n w ≡ v ∷ values_at (read s levels_max) (n - 1) r
   pub left : IsSpelled s (n - 1) r

@@ -1,11 +1,11 @@
-//! Members of a SET OF as they are.
+//! Members of a SET OF in the order of the input.
 
 ghost use Rattle.der_core.specs.TagTypes.Tag.TheVariants.{Set};
 
 use der_core::{DecodeValue, Error, FixedTag, Header, Reader, ShapedValue, Tag};
 use std::alloc::Global;
 
-/// The members of a SET OF, as a list of the order in which they stand, whatever it is.
+/// The members of a SET OF as a list, in the order in which they were decoded, whatever that is.
 #[derive(Drop)]
 pub(crate) struct AnyOrder<L> {
     pub(crate) list: L,

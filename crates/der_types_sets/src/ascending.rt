@@ -1,4 +1,4 @@
-//! Reading of members that ascend, equal ones among them.
+//! Checking that the members of a content are in ascending order.
 
 ghost use Rattle.std.specs.Prelude.{◌≤◌, IfOk, IfErr};
 ghost use Rattle.der_core.specs.Limits.{levels_max};
@@ -14,11 +14,11 @@ use der_core::{Decode, Error, ErrorKind, Length, Member, Reader, SliceReader};
 use std::alloc::Global;
 use std::cmp::Ordering;
 
-/// Whether bytes that are at a place may follow those before them.
+/// Checks that an encoding may follow the one before it. `place` is the position for an error.
 ///
 /// # Errors
 ///
-/// - `SetOrdering`: lower ones.
+/// - `SetOrdering`: the encoding is less than the one before it.
 fn check_behind(last: Option<&[u8]>, octets: &[u8], place: Length) -> Result<(), Error>
     ensures { GivesNow (λ x. x) result (follows_last not_below (octets_at last.entry) octets.now) }
 {
@@ -31,12 +31,14 @@ fn check_behind(last: Option<&[u8]>, octets: &[u8], place: Length) -> Result<(),
     }
 }
 
-/// Returns how many members bytes have by DER, of which none is below the one before it, where so
-/// many levels can be opened in them.
+/// Decodes the members of a content under DER, and returns their number. No encoding may be less
+/// than the one before it. `levels` is the number of levels that may be opened in them.
 ///
 /// # Errors
 ///
-/// The first error of a member, `SetOrdering` if it stands wrong, or `OutOfMemory`.
+/// - The first error of a member.
+/// - `SetOrdering`: an encoding is less than the one before it.
+/// - `OutOfMemory`: memory runs out.
 pub(crate) fn count_ascending<'a, T: Decode<'a, SliceReader<'a>> + Member>(
     alloc: Global,
     octets: &'a [u8],

@@ -1,4 +1,4 @@
-//! The order of values one after another, and of bytes.
+//! Comparison of the encodings of values with bytes.
 
 ghost use Rattle.std.specs.Prelude.{◌≡◌, Ok, Err, IfErr};
 ghost use Rattle.der_core.specs.Shapes.{many, IsBody, body_octets};
@@ -11,19 +11,20 @@ use der_core::{Encode, Error, ToDer};
 use std::alloc::Global;
 use std::cmp::Ordering;
 
-/// Returns the order of the joined encodings of values, and of bytes. One encoding at a time is in
+/// Compares the concatenated encodings of values with bytes. Only one encoding at a time is in
 /// memory.
 ///
 /// # Errors
 ///
-/// `Overflow` if an encoding has 2^32 bytes or more, `SetOrdering` or `SetDuplicate` if a strict
-/// set in a value doesn't rise, or `OutOfMemory`.
+/// - `Overflow`: an encoding has 2^32 bytes or more.
+/// - `SetOrdering`, `SetDuplicate`: a strict set in a value isn't in ascending order.
+/// - `OutOfMemory`: memory runs out.
 pub(crate) fn joined_cmp<T: Encode>(
     alloc: Global,
     values: &[T],
     octets: &[u8],
 ) -> Result<Ordering, Error>
-    // An answer comes wherever the values have encodings, unless memory runs out.
+    // If all values are valid, there is a result, unless memory runs out.
     ensures order { IsBody (many T.shape) (plain_list T.written values.now)
         → Gives (λ o. o) result (Ok (octets_cmp
         (body_octets (many T.shape) (plain_list T.written values.now)) octets.now)) }

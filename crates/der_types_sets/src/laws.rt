@@ -1,4 +1,4 @@
-//! The laws of sets.
+//! Laws about sets.
 //!
 //! Each law is the contract of a function that does nothing.
 
@@ -13,7 +13,7 @@ ghost use Rattle.der_types_sets.specs.Sets.{Ascends};
 use der_core::Shaped;
 
 /// The encoding of a set doesn't depend on the order in which its members were inserted: two lists
-/// in ascending order that have the same members join to the same bytes (X.690 11.6).
+/// in ascending order with the same members have the same concatenated encodings (X.690 11.6).
 #[tactic(auto, using(crate::proofs::Arranged::one_arrangement), unfolding(crate::specs::Opened::body_octets))]
 pub fn order_of_insertions()
     ensures { (s : Shape) (v w : List (Value s)) → AllValid s (λ x. x) v → AllValid s (λ x. x) w
@@ -21,11 +21,11 @@ pub fn order_of_insertions()
         → body_octets (many s) v ≡ body_octets (many s) w }
 {}
 
-/// A borrowed set and an owned one that have the same members agree in contents, order and returns.
-/// These are the members that `owned_to_ref` and `ref_to_owned` keep.
+/// A borrowed set and an owned one with the same members have the same content and order, and
+/// return the same members. These are the members that `owned_to_ref` and `ref_to_owned` keep.
 #[tactic(auto, using(crate::proofs::LentOrders::lent_content, crate::proofs::LentOrders::same_number, crate::proofs::LentOrders::same_member))]
 pub fn borrowed_and_owned_agree<T: Shaped>()
-    // The bytes that are borrowed, if any, are the content of the owned set.
+    // If the set borrows bytes, they are the content of the owned set.
     ensures contents { (lent : Lent T) (set : List T) → IsLent T.shape T.written lent
         → members_lent T.shape T.written lent ≡ plain_list T.written set
         → 0 < length lent.octets → lent.octets

@@ -1,4 +1,5 @@
-//! Lists of bounded room, and sets.
+//! SEQUENCE OF with a fixed capacity, and SET OF. Users import the items of this crate from
+//! `der_types`.
 #![tactic(auto)]
 
 mod any_order;

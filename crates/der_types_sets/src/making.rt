@@ -1,3 +1,3 @@
-//! What the makers of types use that keep members in order.
+//! Functions for types that keep their members in order.
 
 pub use crate::places::place_of;

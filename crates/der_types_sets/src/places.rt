@@ -1,4 +1,4 @@
-//! Places in a list whose members ascend by their encodings.
+//! Positions in a list whose members are in ascending order of their encodings.
 
 ghost use Rattle.std.specs.Prelude.{◌≡◌, ◌⊎◌, ◌<◌, ◌≤◌, [], ◌∷◌, ◌++◌, List, length, take, IfOk};
 ghost use Rattle.std.specs.Prelude.{OnOk, IfErr, insert, IsPermutation};
@@ -8,11 +8,12 @@ ghost use Rattle.der_types_sets.specs.Sets.{IsArranged, StopsBehind};
 use der_core::{DerOrd, Error, ErrorKind, Member};
 use std::cmp::Ordering;
 
-/// Returns the place of an item among members that ascend, after those that are not above it.
+/// Returns the position at which an item would be inserted among members in ascending order: after
+/// those that aren't greater.
 ///
 /// # Errors
 ///
-/// - `Overflow`: an encoding has 2^32 bytes or more.
+/// - `Overflow`: a member has no encoding, for example because its length exceeds 2^32 - 1.
 pub fn place_of<T: DerOrd + Member>(members: &[T], item: &T) -> Result<usize, Error>
     ensures place { IfOk result (IsPlace T.shape T.written members.now item.now) }
     ensures refused { IfErr result (TooLong T.shape T.written (item.now ∷ members.now)) }
@@ -20,7 +21,7 @@ pub fn place_of<T: DerOrd + Member>(members: &[T], item: &T) -> Result<usize, Er
     let mut low = 0;
     let mut high = members.len();
     while low < high {
-        // The last member comes first: most items stand after it.
+        // The last member is compared first, because most items come after it.
         let middle = if high == members.len() {
             high - 1
         } else {
@@ -34,12 +35,12 @@ pub fn place_of<T: DerOrd + Member>(members: &[T], item: &T) -> Result<usize, Er
     Ok(low)
 }
 
-/// Whether an item may follow members that ascend.
+/// Checks that an item may follow members in ascending order.
 ///
 /// # Errors
 ///
-/// - `SetOrdering`: an item below the last member.
-/// - `Overflow`: an encoding has 2^32 bytes or more.
+/// - `SetOrdering`: the item is less than the last member.
+/// - `Overflow`: a member has no encoding, for example because its length exceeds 2^32 - 1.
 pub(crate) fn check_last<T: DerOrd + Member>(members: &[T], item: &T) -> Result<(), Error>
     ensures ok { OnOk result (IsPlace T.shape T.written members.now item.now (length members.now)) }
     ensures refused { IfErr result
@@ -55,12 +56,12 @@ pub(crate) fn check_last<T: DerOrd + Member>(members: &[T], item: &T) -> Result<
     }
 }
 
-/// Whether no member is below the one before it. It doesn't allocate.
+/// Checks that no member is less than the one before it. It doesn't allocate.
 ///
 /// # Errors
 ///
-/// - `SetOrdering`: one is.
-/// - `Overflow`: an encoding has 2^32 bytes or more.
+/// - `SetOrdering`: a member is less than the one before it.
+/// - `Overflow`: a member has no encoding, for example because its length exceeds 2^32 - 1.
 pub(crate) fn check_ascending<T: DerOrd + Member>(members: &[T]) -> Result<(), Error>
     ensures ok { OnOk result (Ascends T.shape T.written members.now) }
     ensures refused { IfErr result (λ e. IsOutOfOrder T.shape T.written members.now e
@@ -72,7 +73,7 @@ pub(crate) fn check_ascending<T: DerOrd + Member>(members: &[T]) -> Result<(), E
     Ok(())
 }
 
-/// Moves the last item to a place, and the items from there on up.
+/// Moves the last item to a position, and the items from there on up by one.
 fn last_to<T>(items: &mut [T], place: usize)
     requires { place < length items.old }
     ensures { (front : List T) (last : T) → items.old ≡ front ++ last ∷ []
@@ -81,15 +82,14 @@ fn last_to<T>(items: &mut [T], place: usize)
     items[place..].rotate_right(1);
 }
 
-/// Brings members into ascending order, of which the first ones are in order, equal ones as they
-/// are. It doesn't allocate.
+/// Brings members into ascending order, of which the first ones are already in order. Equal members
+/// keep their order. It doesn't allocate.
 ///
 /// # Errors
 ///
-/// - `Overflow`: an encoding has 2^32 bytes or more, with the number of members before the one that
-///   is rejected.
-///
-/// These are in order then, and the others where they were.
+/// - `Overflow`: a member has no encoding, for example because its length exceeds 2^32 - 1. The
+///   number of members before the rejected one is returned as well. These are in order, and the
+///   others haven't moved.
 pub(crate) fn arrange_from<T: DerOrd + Member>(
     members: &mut [T],
     first: usize,
@@ -114,11 +114,11 @@ pub(crate) fn arrange_from<T: DerOrd + Member>(
     Ok(())
 }
 
-/// Brings members into ascending order. It doesn't allocate.
+/// Brings members into ascending order. Equal members keep their order. It doesn't allocate.
 ///
 /// # Errors
 ///
-/// - `Overflow`: an encoding has 2^32 bytes or more.
+/// - `Overflow`: a member has no encoding, for example because its length exceeds 2^32 - 1.
 pub(crate) fn arrange<T: DerOrd + Member>(members: &mut [T]) -> Result<(), Error>
     ensures same { IsPermutation members.old members.new }
     ensures ok { OnOk result (Ascends T.shape T.written members.new) }

@@ -1,4 +1,4 @@
-//! SEQUENCE OF with room for so many members.
+//! SEQUENCE OF with a fixed capacity.
 
 ghost use Rattle.std.specs.Prelude.{ℕ, ◌≡◌, ◌==◌, ◌↔◌, ◌<◌, [], ◌∷◌, ◌++◌, length, slice_get};
 ghost use Rattle.std.specs.Prelude.{slice_index_or, IsOk, OnOk, OnErr, IfErr, option_copied};
@@ -25,9 +25,9 @@ use std::convert::AsSlice;
 use std::hash::{Hash, Hasher};
 use std::marker::Model;
 
-/// SEQUENCE OF (X.690 8.10) with at most `N` members.
+/// SEQUENCE OF (X.690 8.10) with at most `N` members, which are stored inline.
 ///
-/// Contracts see the list of the members.
+/// In contracts, its value is the list of the members.
 #[derive(Debug, Drop)]
 pub struct SequenceOf<T, const N: usize> {
     pub(crate) members: ArrayVec<T, N>,
@@ -45,7 +45,7 @@ impl<T, const N: usize> Model for SequenceOf<T, N> {
 }
 
 impl<T: Default, const N: usize> SequenceOf<T, N> {
-    /// Returns the list without members.
+    /// Returns the empty list.
     pub fn new() -> SequenceOf<T, N>
         ensures { result ≡ [] }
     {
@@ -59,7 +59,7 @@ impl<T, const N: usize> SequenceOf<T, N> {
     ghost use Rattle.std.specs.Borrow.{sem};
     ghost use Rattle.der_types_sets.specs.Lends.{lends_members};
 
-    /// Returns the members, for writing.
+    /// Returns the members as a mutable slice.
     pub fn as_mut_slice(&mut self) -> &mut [T]
         ensures* writes_back { sem 𝓛 (lends_members T.row N.row self.entry result) }
         ensures members { result.now ≡ self.old }
@@ -74,14 +74,14 @@ impl<T, const N: usize> SequenceOf<T, N> {
         self.members.as_slice()
     }
 
-    /// Returns the member at an index, if there is one.
+    /// Returns the member at an index, or `None` if there are fewer members.
     pub fn get(&self, index: usize) -> Option<&T>
         ensures { option_copied result ≡ slice_get self.now index }
     {
         self.members.as_slice().get(index)
     }
 
-    /// Returns the members, as a vector of bounded room.
+    /// Returns the members, and consumes the value.
     pub fn into_inner(self) -> ArrayVec<T, N>
         ensures { result.items ≡ self }
     {
@@ -89,14 +89,14 @@ impl<T, const N: usize> SequenceOf<T, N> {
         members
     }
 
-    /// Returns the members, borrowed one after another.
+    /// Returns an iterator over the members.
     pub fn iter(&self) -> SequenceOfIter<'_, T>
         ensures { iter_rest result ≡ self.now }
     {
         self.members.as_slice().iter()
     }
 
-    /// Returns whether there isn't a member.
+    /// Returns whether there are no members.
     pub fn is_empty(&self) -> bool
         ensures { result ≡ (length self.now == 0) }
     {
@@ -112,13 +112,11 @@ impl<T, const N: usize> SequenceOf<T, N> {
 }
 
 impl<T: Drop, const N: usize> SequenceOf<T, N> {
-    /// Appends an item.
+    /// Appends an item. After an error the list is unchanged.
     ///
     /// # Errors
     ///
-    /// - `Overlength`: there are `N` members.
-    ///
-    /// The list stays then.
+    /// - `Overlength`: there are already `N` members.
     pub fn add(&mut self, item: T) -> Result<(), Error>
         ensures room { IsOk result ↔ (length self.old < N) }
         ensures ok { OnOk result (self.new ≡ self.old ++ item ∷ []) }
@@ -157,12 +155,12 @@ impl<T: Shaped, const N: usize> ShapedValue for SequenceOf<T, N> {
     ghost value_written = { plain_list T.written };
 }
 
-/// No more than `N` values.
+/// The content is at most `N` values.
 impl<'a, R: Reader<'a>, T: Decode<'a, R> + Default, const N: usize> DecodeFields<'a, R>
     for SequenceOf<T, N> {
     /// # Errors
     ///
-    /// - `Overlength`: more than `N` values stand: the next one isn't looked at.
+    /// - `Overlength`: there are more than `N` values. The next one isn't decoded.
     fn decode_fields(alloc: Global, reader: &mut R) -> Result<SequenceOf<T, N>, Error> {
         if reader.is_failed() {
             return Err(Error::from(ErrorKind::Failed));
@@ -226,7 +224,7 @@ impl<T: Encode, const N: usize> EncodeValue for SequenceOf<T, N> {
     }
 }
 
-/// The encodings of the members, one after another.
+/// Compares the concatenated encodings of the members.
 impl<T: DerOrd, const N: usize> ValueOrd for SequenceOf<T, N> {
     #[tactic(auto, unfolding(crate::specs::Opened::contents, crate::specs::Opened::IsContent, crate::specs::Opened::body_octets, crate::specs::Opened::IsBody))]
     fn value_cmp(&self, other: &Self) -> Result<Ordering, Error> {
@@ -234,7 +232,7 @@ impl<T: DerOrd, const N: usize> ValueOrd for SequenceOf<T, N> {
     }
 }
 
-/// The list without members.
+/// The default is the empty list.
 impl<T: Default, const N: usize> Default for SequenceOf<T, N> {
     ghost is_default = { λ s. s ≡ [] };
 
@@ -251,7 +249,7 @@ impl<T, const N: usize> AsSlice<T> for SequenceOf<T, N> {
     }
 }
 
-/// A copy of each member.
+/// Clones each member.
 impl<T: Clone + Default, const N: usize> Clone for SequenceOf<T, N> {
     ghost is_clone = { AllZip T.is_clone };
 
@@ -264,7 +262,7 @@ impl<T: Clone + Default, const N: usize> Clone for SequenceOf<T, N> {
     }
 }
 
-/// Whether the members are equal, one by one.
+/// Compares the members, one after another.
 impl<T: PartialEq, const N: usize> PartialEq for SequenceOf<T, N> {
     ghost eq = { pointwise T.eq };
 
@@ -279,7 +277,7 @@ impl<T: Eq, const N: usize> Eq for SequenceOf<T, N> {
     ghost laws = { lists_equiv T.Eq.laws };
 }
 
-/// How many members there are, and each of them.
+/// Hashes the number of members, and then each member.
 impl<T: Hash, const N: usize> Hash for SequenceOf<T, N> {
     ghost hash_input = { fed.slice T.hash_input };
 

@@ -1,4 +1,4 @@
-//! SET OF with room for so many members.
+//! SET OF with a fixed capacity.
 
 ghost use Rattle.std.specs.Prelude.{◌≡◌, ◌⊎◌, ◌≤◌, List, take, true, false, Ok, MatchResult, ◌==◌};
 ghost use Rattle.std.specs.Prelude.{[], ◌∷◌, ◌++◌, length, slice_get, IfOk, OnOk, OnErr, IfErr};
@@ -36,10 +36,10 @@ use std::convert::AsSlice;
 use std::hash::{Hash, Hasher};
 use std::marker::Model;
 
-/// SET OF (X.690 8.12) with at most `N` members, in ascending order of their encodings, equal ones
-/// kept.
+/// SET OF (X.690 8.12) with at most `N` members, which are stored inline in ascending order of
+/// their encodings. Equal members are allowed.
 ///
-/// Contracts see the list of the members.
+/// In contracts, its value is the list of the members.
 #[derive(Debug, Drop)]
 pub struct SetOf<T: Shaped, const N: usize> {
     pub(crate) members: ArrayVec<T, N>,
@@ -79,14 +79,14 @@ impl<T: Shaped, const N: usize> SetOf<T, N> {
         self.members.as_slice()
     }
 
-    /// Returns the member at an index, if there is one.
+    /// Returns the member at an index, or `None` if there are fewer members.
     pub fn get(&self, index: usize) -> Option<&T>
         ensures { option_copied result ≡ slice_get self.now index }
     {
         self.members.as_slice().get(index)
     }
 
-    /// Returns the members, in ascending order of their encodings.
+    /// Returns the members, in ascending order of their encodings, and consumes the value.
     pub fn into_inner(self) -> ArrayVec<T, N>
         ensures members { result.items ≡ self }
         ensures ascend { Ascends T.shape T.written result.items }
@@ -95,14 +95,14 @@ impl<T: Shaped, const N: usize> SetOf<T, N> {
         members
     }
 
-    /// Returns the members, borrowed one after another.
+    /// Returns an iterator over the members.
     pub fn iter(&self) -> SetOfIter<'_, T>
         ensures { iter_rest result ≡ self.now }
     {
         self.members.as_slice().iter()
     }
 
-    /// Returns the set, borrowed.
+    /// Returns the borrowed form of the set.
     pub fn owned_to_ref(&self) -> SetOfRef<'_, T>
         ensures members { members_lent T.shape T.plain result ≡ plain_list T.plain self.now }
         ensures written { members_lent T.shape T.written result ≡ plain_list T.written self.now }
@@ -110,7 +110,7 @@ impl<T: Shaped, const N: usize> SetOf<T, N> {
         SetOfRef::of_values(self.members.as_slice())
     }
 
-    /// Returns whether there isn't a member.
+    /// Returns whether there are no members.
     pub fn is_empty(&self) -> bool
         ensures { result ≡ (length self.now == 0) }
     {
@@ -126,11 +126,12 @@ impl<T: Shaped, const N: usize> SetOf<T, N> {
 }
 
 impl<T: Shaped + Clone + Drop + Default, const N: usize> SetOf<T, N> {
-    /// Returns a copy, of a type whose copies are the same. The set itself owns no memory.
+    /// Returns a copy. The caller proves that copies of members equal them. The set itself doesn't
+    /// allocate, but copying a member may.
     ///
     /// # Errors
     ///
-    /// Out of memory, for the members.
+    /// - `AllocError`: memory runs out.
     #[tactic(auto, using(crate::proofs::SetSteps::same_copies))]
     pub fn clone(&self) -> Result<SetOf<T, N>, AllocError>
         requires { (x y : T) → T.is_clone x y → y ≡ x }
@@ -142,14 +143,13 @@ impl<T: Shaped + Clone + Drop + Default, const N: usize> SetOf<T, N> {
 }
 
 impl<T: DerOrd + Member + Drop, const N: usize> SetOf<T, N> {
-    /// Places an item in order, after members that equal it.
+    /// Inserts an item in order, after the members that equal it. After an error the set is
+    /// unchanged.
     ///
     /// # Errors
     ///
-    /// - `Overlength`: there are `N` members.
-    /// - `Overflow`: an encoding has 2^32 bytes or more.
-    ///
-    /// The set stays then.
+    /// - `Overlength`: there are already `N` members.
+    /// - `Overflow`: a member has no encoding, for example because its length exceeds 2^32 - 1.
     #[tactic(auto, using(crate::proofs::SetSteps::put_ascends, crate::proofs::SetSteps::put_same))]
     pub fn insert(&mut self, item: T) -> Result<(), Error>
         ensures ok { OnOk result (IsPermutation (item ∷ self.old) self.new) }
@@ -168,15 +168,14 @@ impl<T: DerOrd + Member + Drop, const N: usize> SetOf<T, N> {
         Ok(())
     }
 
-    /// Appends an item that isn't below the last member.
+    /// Appends an item, which must not be less than the last member. After an error the set is
+    /// unchanged.
     ///
     /// # Errors
     ///
-    /// - `Overlength`: there are `N` members.
-    /// - `SetOrdering`: an item below the last member.
-    /// - `Overflow`: an encoding has 2^32 bytes or more.
-    ///
-    /// The set stays then.
+    /// - `Overlength`: there are already `N` members.
+    /// - `SetOrdering`: the item is less than the last member.
+    /// - `Overflow`: a member has no encoding, for example because its length exceeds 2^32 - 1.
     #[tactic(auto, using(crate::proofs::SetSteps::last_ascends))]
     pub fn insert_ordered(&mut self, item: T) -> Result<(), Error>
         ensures ok { OnOk result (self.new ≡ self.old ++ item ∷ []) }
@@ -197,14 +196,17 @@ impl<T: DerOrd + Member + Drop, const N: usize> SetOf<T, N> {
 }
 
 impl<T: DerOrd + Member + Default + Drop, const N: usize> SetOf<T, N> {
-    /// Returns the members of a content, which are there in any order. Members past the `N`th
-    /// aren't looked at.
+    /// Decodes the members of a content, which may be in any order. Members after the first `N`
+    /// aren't decoded.
     ///
     /// # Errors
     ///
-    /// The first error of the members, `Overlength` for more than `N`, or `OutOfMemory`; `Failed`
-    /// if the reader failed before; by BER `Overflow` too, where an encoding has 2^32 bytes or
-    /// more.
+    /// - The first error of a member.
+    /// - `Overlength`: there are more than `N` members.
+    /// - `Overflow`: under BER, a member has no encoding, for example because its length exceeds
+    ///   2^32 - 1.
+    /// - `OutOfMemory`: memory runs out.
+    /// - `Failed`: the reader failed before.
     pub fn decode_value<'a, R: Reader<'a>>(
         alloc: Global,
         reader: &mut R,
@@ -212,18 +214,18 @@ impl<T: DerOrd + Member + Default + Drop, const N: usize> SetOf<T, N> {
     ) -> Result<SetOf<T, N>, Error>
     where
         T: Decode<'a, R> + AsRead,
-        // The members that were read, in the order in which they are there, are those of the set.
+        // The decoded members, in the order of the input, are those of the set.
         ensures reads { (read : List T)
             × ReadsArranged T.shape T.plain T.written (R.state reader.old)
             (R.state reader.new) result
             (value_at (read_content_at (R.state reader.old) (nested (few N T.shape)) header.tag)
             header.length.value) read }
-        // What is read is spelled so, in any order.
+        // The content is the encodings of the members, in any order.
         ensures spelled { is_element T.shape ≡ true → IsDer (R.state reader.old)
             → IfOk result
             (λ set. Loose T.shape (plain_list T.plain set)
             (take header.length.value (R.state reader.old).rest)) }
-        // What is spelled so is read, if there is room, unless memory runs out.
+        // The encodings of at most `N` members are accepted in any order, unless memory runs out.
         ensures only { (v : List (Value T.shape)) → is_element T.shape ≡ true
             → are_content_enough (nested (few N T.shape)) (R.state reader.old).room ≡ true
             → IsDer (R.state reader.old) → (R.state reader.old).failed ≡ false
@@ -231,7 +233,7 @@ impl<T: DerOrd + Member + Default + Drop, const N: usize> SetOf<T, N> {
             → Loose T.shape v (take header.length.value (R.state reader.old).rest) → length v ≤ N
             → Gives (plain_list T.plain) result (Ok v) }
     {
-        // What is read from bytes by DER has an encoding.
+        // Only for the proof: slices consist of bytes, so members that decode under DER are valid.
         let before = reader.remaining();
         let _octets = &before[..];
         let read = SequenceOf::<T, N>::decode_value(alloc, reader, header)?;
@@ -244,27 +246,28 @@ impl<T: DerOrd + Member + Default + Drop, const N: usize> SetOf<T, N> {
         }
     }
 
-    /// Returns the set that bytes encode by DER, all of the bytes, whose members are in any order.
-    /// Members past the `N`th aren't looked at.
+    /// Decodes a set from all bytes, under DER except that its members may be in any order. Members
+    /// after the first `N` aren't decoded.
     ///
     /// # Errors
     ///
-    /// - `Overflow`: 2^32 bytes or more.
-    /// - The first error that decoding meets, among them `Overlength` for more than `N` members.
+    /// - `Overflow`: there are 2^32 bytes or more.
+    /// - The first error that decoding meets. This is `Overlength` if there are more than `N`
+    ///   members.
     /// - `TrailingData`: bytes are left after the set.
     /// - `OutOfMemory`: memory runs out.
     pub fn from_der<'a>(alloc: Global, bytes: &'a [u8]) -> Result<SetOf<T, N>, Error>
     where
         T: Decode<'a, SliceReader<'a>> + AsRead,
-        // What is accepted is an encoding.
+        // Accepted bytes are an encoding of the set, with its members in any order.
         ensures spelled { is_element T.shape ≡ true
             → IfOk result (λ set. SpellsLoosely T.shape (plain_list T.plain set) bytes.now) }
-        // What is spelled so is read, if there is room, unless memory runs out.
+        // An encoding of at most `N` members in any order is accepted, unless memory runs out.
         ensures only { (v : List (Value T.shape)) → is_element T.shape ≡ true
             → are_enough (tagged Set (nested (few N T.shape))) levels_max ≡ true
             → SpellsLoosely T.shape v bytes.now → length v ≤ N
             → Gives (plain_list T.plain) result (Ok v) }
-        // The error is exact.
+        // The error is that of decoding a list of at most `N` members.
         ensures refused { is_element T.shape ≡ true
             → IfErr result
             (λ e. Fails e.kind (read_whole (tagged Set (nested (few N T.shape))) bytes.now)) }
@@ -274,11 +277,11 @@ impl<T: DerOrd + Member + Default + Drop, const N: usize> SetOf<T, N> {
         Ok(set)
     }
 
-    /// Returns the set of the members of a list. It doesn't allocate.
+    /// Brings the members of a list into order. It doesn't allocate.
     ///
     /// # Errors
     ///
-    /// - `Overflow`: an encoding has 2^32 bytes or more.
+    /// - `Overflow`: a member has no encoding, for example because its length exceeds 2^32 - 1.
     fn arranged(list: SequenceOf<T, N>) -> Result<SetOf<T, N>, Error>
         ensures ok { IfOk result (IsPermutation list) }
         ensures ascend { IfOk result (Ascends T.shape T.written) }
@@ -298,7 +301,7 @@ impl<T: Shaped, const N: usize> FixedTag for SetOf<T, N> {
     }
 }
 
-/// The encodings of the members, in ascending order.
+/// The content is the encodings of the members, in ascending order.
 impl<T: Shaped, const N: usize> ShapedValue for SetOf<T, N> {
     ghost content = { nested (few N T.shape) };
 
@@ -318,7 +321,7 @@ impl<T: Encode, const N: usize> EncodeValue for SetOf<T, N> {
     }
 }
 
-/// The encodings of the members, one after another.
+/// Compares the concatenated encodings of the members.
 impl<T: DerOrd, const N: usize> ValueOrd for SetOf<T, N> {
     #[tactic(auto, unfolding(crate::specs::Opened::contents, crate::specs::Opened::IsContent, crate::specs::Opened::body_octets, crate::specs::Opened::IsBody))]
     fn value_cmp(&self, other: &Self) -> Result<Ordering, Error> {
@@ -326,7 +329,7 @@ impl<T: DerOrd, const N: usize> ValueOrd for SetOf<T, N> {
     }
 }
 
-/// The empty set.
+/// The default is the empty set.
 impl<T: Shaped + Default, const N: usize> Default for SetOf<T, N> {
     ghost is_default = { λ s. s ≡ [] };
 
@@ -343,7 +346,7 @@ impl<T: Shaped, const N: usize> AsSlice<T> for SetOf<T, N> {
     }
 }
 
-/// Whether the members are equal, one by one.
+/// Compares the members, one after another.
 impl<T: Shaped + PartialEq, const N: usize> PartialEq for SetOf<T, N> {
     ghost eq = { pointwise T.eq };
 
@@ -358,7 +361,8 @@ impl<T: Shaped + Eq, const N: usize> Eq for SetOf<T, N> {
     ghost laws = { lists_equiv T.Eq.laws };
 }
 
-/// The first members that differ decide, by their own order, and else how many there are.
+/// Compares the members by their own order. The first members that differ decide, and then the
+/// numbers of members.
 impl<T: Shaped + PartialOrd, const N: usize> PartialOrd for SetOf<T, N> {
     ghost partial_cmp = { slice_partial_cmp T.partial_cmp };
 
@@ -383,7 +387,7 @@ impl<T: Shaped + Ord, const N: usize> Ord for SetOf<T, N> {
     }
 }
 
-/// How many members there are, and each of them.
+/// Hashes the number of members, and then each member.
 impl<T: Shaped + Hash, const N: usize> Hash for SetOf<T, N> {
     ghost hash_input = { fed.slice T.hash_input };
 
@@ -394,11 +398,11 @@ impl<T: Shaped + Hash, const N: usize> Hash for SetOf<T, N> {
     }
 }
 
-/// These members, in ascending order. It doesn't allocate.
+/// Brings these members into ascending order. It doesn't allocate.
 ///
 /// # Errors
 ///
-/// - `Overflow`: an encoding has 2^32 bytes or more.
+/// - `Overflow`: a member has no encoding, for example because its length exceeds 2^32 - 1.
 impl<T: DerOrd + Member + Drop, const N: usize> TryFrom<[T; N]> for SetOf<T, N> {
     type Error = Error;
 

@@ -30,10 +30,10 @@ use std::alloc::{AllocError, Global};
 use std::cmp::Ordering;
 use std::marker::Model;
 
-/// SET OF (X.690 8.12), borrowed: members of which no encoding is below the one before it (X.690
-/// 11.6), equal ones kept; borrowed as values, or as the bytes of a content.
+/// A borrowed SET OF (X.690 8.12), which borrows its members either as values or as the bytes of a
+/// content. No encoding is less than the one before it (X.690 11.6), and equal members are allowed.
 ///
-/// Contracts see the values, the bytes, and how many members these spell.
+/// In contracts, its value is the values, the bytes, and the number of members in the bytes.
 #[derive(Debug, Drop)]
 pub struct SetOfRef<'a, T: Shaped> {
     values: &'a [T],
@@ -55,7 +55,7 @@ impl<'a, T: Shaped> Model for SetOfRef<'a, T> {
 }
 
 impl<'a, T: Shaped> SetOfRef<'a, T> {
-    /// Returns the set of values in ascending order.
+    /// Returns the set of values that are in ascending order.
     pub(crate) fn of_values(values: &'a [T]) -> SetOfRef<'a, T>
         requires { Ascends T.shape T.written values.now }
         ensures members { members_lent T.shape T.plain result ≡ plain_list T.plain values.now }
@@ -68,14 +68,14 @@ impl<'a, T: Shaped> SetOfRef<'a, T> {
         }
     }
 
-    /// Returns the members, read or copied one after another.
+    /// Returns an iterator over the members, which are decoded from the bytes or cloned.
     pub fn iter(&self, alloc: Global) -> SetOfRefIter<'a, T>
         ensures { result ≡ self.now }
     {
         SetOfRefIter::of(alloc, self.values, self.octets, self.count)
     }
 
-    /// Returns whether there isn't a member.
+    /// Returns whether there are no members.
     pub fn is_empty(&self) -> bool
         ensures { result ≡ (length (members_lent T.shape T.plain self.now) == 0) }
     {
@@ -94,7 +94,8 @@ impl<'a, T: Shaped> SetOfRef<'a, T> {
     }
 }
 
-/// Returns an error in bytes that are at a place of the input: its own place counts from there.
+/// Returns an error of bytes that begin at a position of the input. The position of the error is
+/// counted from there.
 pub(crate) fn further_on(error: Error, place: Length) -> Error
     ensures { result.kind ≡ error.kind }
 {
@@ -106,16 +107,18 @@ pub(crate) fn further_on(error: Error, place: Length) -> Error
 }
 
 impl<'a, T: Decode<'a, SliceReader<'a>> + Member> SetOfRef<'a, T> {
-    /// Returns the set of the members that stand up to the end in force, which ascend, equal ones
-    /// among them.
+    /// Decodes the members up to the end of the reader. No encoding may be less than the one before
+    /// it.
     ///
-    /// The bytes are read by DER, also where the reader reads by BER, since they are kept as they
-    /// are; the levels that the reader has left can be opened in them.
+    /// The bytes are kept, so they are decoded under DER, even if the reader's encoding rules are
+    /// BER. The members may open as many levels as the reader may.
     ///
     /// # Errors
     ///
-    /// The first error of the members, `SetOrdering` if one is below the one before it, or
-    /// `OutOfMemory`; `Failed` if the reader failed before.
+    /// - The first error of a member.
+    /// - `SetOrdering`: an encoding is less than the one before it.
+    /// - `OutOfMemory`: memory runs out.
+    /// - `Failed`: the reader failed before.
     pub fn decode_members<R: Reader<'a>>(
         alloc: Global,
         reader: &mut R,
@@ -123,7 +126,7 @@ impl<'a, T: Decode<'a, SliceReader<'a>> + Member> SetOfRef<'a, T> {
         ensures reads { Reads (members_lent T.shape T.plain) (R.state reader.old)
             (R.state reader.new) result
             (read_body_at (R.state reader.old) (ascending T.shape)) }
-        // What is accepted is an encoding.
+        // Accepted bytes are the concatenated encodings of the members.
         ensures spelled { IfOk result
             (λ set. JoinsAscending T.shape (members_lent T.shape T.plain set)
             (R.state reader.old).rest) }
@@ -138,7 +141,7 @@ impl<'a, T: Decode<'a, SliceReader<'a>> + Member> SetOfRef<'a, T> {
             return Err(Error::from(ErrorKind::Failed));
         }
         let place = reader.position();
-        // What is read from bytes has an encoding.
+        // Only for the proof: slices consist of bytes, so members that decode are valid.
         let octets = reader.remaining();
         let _octets = &octets[..];
         match count_ascending::<T>(alloc, octets, reader.levels_left()) {
@@ -159,8 +162,8 @@ impl<'a, T: Decode<'a, SliceReader<'a>> + Member> SetOfRef<'a, T> {
 }
 
 impl<'a, T: Decode<'a, SliceReader<'a>> + Member + Clone> SetOfRef<'a, T> {
-    /// Returns the member at an index, if there is one, read or copied. A copy has the plain value
-    /// of what it is a copy of. Of the members before it none is copied.
+    /// Returns the member at an index, decoded or cloned, or `None` if there are fewer members. The
+    /// caller proves that clones have the same abstract value. No member before it is cloned.
     ///
     /// # Errors
     ///
@@ -192,8 +195,8 @@ impl<'a, T: Decode<'a, SliceReader<'a>> + Member + Clone> SetOfRef<'a, T> {
         Ok(Some(member))
     }
 
-    /// Returns the set of the same members, read or copied. A copy has the plain value of what it
-    /// is a copy of.
+    /// Returns an owned set of the same members, decoded or cloned. The caller proves that clones
+    /// have the same abstract value.
     ///
     /// # Errors
     ///
@@ -215,7 +218,7 @@ impl<'a, T: Decode<'a, SliceReader<'a>> + Member + Clone> SetOfRef<'a, T> {
     }
 }
 
-/// A second holder of the loans. It doesn't allocate.
+/// Copies the references. It doesn't allocate.
 impl<'a, T: Shaped> Clone for SetOfRef<'a, T> {
     ghost is_clone = { λ x y. y ≡ x };
 
@@ -226,7 +229,7 @@ impl<'a, T: Shaped> Clone for SetOfRef<'a, T> {
     }
 }
 
-/// The set, borrowed once more.
+/// Copies the references.
 impl<'a, 'b, T: Shaped> From<&'b SetOfRef<'a, T>> for SetOfRef<'a, T> {
     ghost from_gives = { λ set same. same ≡ set.now };
 
@@ -239,12 +242,12 @@ impl<'a, 'b, T: Shaped> From<&'b SetOfRef<'a, T>> for SetOfRef<'a, T> {
     }
 }
 
-/// Values in ascending order, equal ones kept. It doesn't allocate.
+/// Borrows values that are in ascending order. Equal values are allowed. It doesn't allocate.
 ///
 /// # Errors
 ///
-/// - `SetOrdering`: one is below the one before it.
-/// - `Overflow`: an encoding has 2^32 bytes or more.
+/// - `SetOrdering`: a value is less than the one before it.
+/// - `Overflow`: a member has no encoding, for example because its length exceeds 2^32 - 1.
 impl<'a, T: DerOrd + Member> TryFrom<&'a [T]> for SetOfRef<'a, T> {
     type Error = Error;
 
@@ -268,7 +271,7 @@ impl<'a, T: Shaped> FixedTag for SetOfRef<'a, T> {
     }
 }
 
-/// The encodings of the members, none of which is below the one before it.
+/// The content is the encodings of the members, none of which is less than the one before it.
 impl<'a, T: Shaped> ShapedValue for SetOfRef<'a, T> {
     ghost content = { nested (ascending T.shape) };
 
@@ -292,7 +295,7 @@ impl<'a, R: Reader<'a>, T: Decode<'a, SliceReader<'a>> + Member> DecodeFields<'a
     }
 }
 
-/// The content is one of the 64 levels.
+/// The content opens one of the 64 levels.
 impl<'a, R: Reader<'a>, T: Decode<'a, SliceReader<'a>> + Member> DecodeValue<'a, R>
     for SetOfRef<'a, T> {
     fn decode_value(
@@ -335,9 +338,9 @@ impl<'a, T: Encode> SetOfRef<'a, T> {
     }
 }
 
-/// The bytes of a content are written as they are.
+/// Bytes are written as they are.
 ///
-/// Values ascend since they were compared, and so their order isn't looked at again.
+/// The order of values was checked when the set was made, so it isn't checked again.
 impl<'a, T: Encode + InRange> EncodeValue for SetOfRef<'a, T> {
     fn value_len(&self) -> Result<Length, Error> {
         self.content_len()
@@ -360,22 +363,23 @@ impl<'a, T: InRange> InRangeValue for SetOfRef<'a, T> {
 }
 
 impl<'a, T: DerOrd + Encode> SetOfRef<'a, T> {
-    /// Returns the order of the contents of two sets, as lists of bytes, whatever their lengths.
-    /// Memory is taken where one lends values and the other bytes.
+    /// Compares the contents of two sets, as lists of bytes, whatever their lengths are. It
+    /// allocates only if one set borrows values and the other bytes.
     ///
     /// # Errors
     ///
-    /// `Overflow` if the content of one of the two has 2^32 bytes or more, `SetOrdering` or
-    /// `SetDuplicate` if a strict set in a value doesn't rise, or `OutOfMemory`.
+    /// - `Overflow`: the content of one of the two has 2^32 bytes or more.
+    /// - `SetOrdering`, `SetDuplicate`: a strict set in a value isn't in ascending order.
+    /// - `OutOfMemory`: memory runs out.
     pub fn value_cmp(&self, alloc: Global, other: &SetOfRef<'a, T>) -> Result<Ordering, Error>
-        // An answer comes wherever both sets have a content, unless memory runs out.
+        // If both contents are valid, there is a result, unless memory runs out.
         ensures order { is_body_apart (many T.shape) ≡ true
             → IsContent (nested (many T.shape)) (members_lent T.shape T.written self.now)
             → IsContent (nested (many T.shape)) (members_lent T.shape T.written other.now)
             → Gives (λ o. o) result
             (Ok (contents_cmp (nested (many T.shape)) (members_lent T.shape T.written self.now)
             (members_lent T.shape T.written other.now))) }
-        // Where both lend values, or both bytes, nothing but a length is rejected.
+        // If both sets borrow values, or both borrow bytes, the only error is that of a length.
         ensures refused { IfErr result
             (λ e. (AreLentApart self.now other.now
             × IsUncompared T.shape (members_lent T.shape T.written self.now)
@@ -396,16 +400,16 @@ impl<'a, T: DerOrd + Encode> SetOfRef<'a, T> {
         Ok(self.octets.cmp(other.octets))
     }
 
-    /// Returns the order of the encodings of two sets, as lists of bytes: that of the lengths, then
-    /// that of the contents (X.690 11.6). Memory is taken where one lends values and the other
-    /// bytes.
+    /// Compares the encodings of two sets, as lists of bytes: first the lengths, and then the
+    /// contents (X.690 11.6). It allocates only if one set borrows values and the other bytes.
     ///
     /// # Errors
     ///
-    /// `Overflow` if the encoding of one of the two has 2^32 bytes or more, `SetOrdering` or
-    /// `SetDuplicate` if a strict set in a value doesn't rise, or `OutOfMemory`.
+    /// - `Overflow`: the encoding of one of the two has 2^32 bytes or more.
+    /// - `SetOrdering`, `SetDuplicate`: a strict set in a value isn't in ascending order.
+    /// - `OutOfMemory`: memory runs out.
     pub fn der_cmp(&self, alloc: Global, other: &SetOfRef<'a, T>) -> Result<Ordering, Error>
-        // An answer comes wherever both sets have an encoding, unless memory runs out.
+        // If both values are valid, there is a result, unless memory runs out.
         ensures order { is_body_apart (many T.shape) ≡ true
             → IsValid (tagged Set (nested (many T.shape))) (members_lent T.shape T.written self.now)
             → IsValid (tagged Set (nested (many T.shape)))
@@ -415,7 +419,7 @@ impl<'a, T: DerOrd + Encode> SetOfRef<'a, T> {
             (encodings_cmp (tagged Set (nested (many T.shape)))
             (members_lent T.shape T.written self.now)
             (members_lent T.shape T.written other.now))) }
-        // Where both lend values, or both bytes, nothing but a length is rejected.
+        // If both sets borrow values, or both borrow bytes, the only error is that of a length.
         ensures refused { IfErr result
             (λ e. (AreLentApart self.now other.now
             × IsUncompared T.shape (members_lent T.shape T.written self.now)

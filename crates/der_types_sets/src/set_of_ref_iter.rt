@@ -1,4 +1,4 @@
-//! The members of a borrowed set, one after another.
+//! Iterating over the members of a borrowed set.
 
 ghost use Rattle.std.specs.Prelude.{◌≡◌, ◌<◌, ◌-◌, [], ◌∷◌, IfOk, IfErr};
 ghost use Rattle.der_core.specs.Limits.{levels_max};
@@ -11,8 +11,8 @@ use std::alloc::Global;
 use std::fmt;
 use std::marker::Model;
 
-/// The members of a `SetOfRef`, in order. Where memory runs out for one, the error is the last
-/// item.
+/// An iterator over the members of a `SetOfRef`, in order. If memory runs out for a member, the
+/// error is the last item.
 #[derive(Drop)]
 pub struct SetOfRefIter<'a, T: Shaped> {
     alloc: Global,
@@ -35,7 +35,8 @@ impl<'a, T: Shaped> Model for SetOfRefIter<'a, T> {
 }
 
 impl<'a, T: Shaped> SetOfRefIter<'a, T> {
-    /// Over values, and then over so many members that bytes encode.
+    /// Returns an iterator over values, and then over this many members that are decoded from
+    /// bytes.
     pub(crate) fn of(
         alloc: Global,
         values: &'a [T],
@@ -54,7 +55,7 @@ impl<'a, T: Shaped> SetOfRefIter<'a, T> {
         }
     }
 
-    /// Nothing is left.
+    /// Drops all remaining members.
     fn stop(&mut self)
         ensures { self.new ≡ record { values = []; octets = []; count = 0 } }
     {
@@ -64,7 +65,7 @@ impl<'a, T: Shaped> SetOfRefIter<'a, T> {
     }
 }
 
-/// Returns the first of so many members that bytes encode, and the bytes after it.
+/// Decodes the first of this many members, and returns it with the bytes after it.
 ///
 /// # Errors
 ///
@@ -94,7 +95,7 @@ impl<'a, T: Decode<'a, SliceReader<'a>> + Member + Clone> Iterator for SetOfRefI
 
     type Item = Result<T, Error>;
 
-    // A copy has the plain value of what it is a copy of.
+    // Clones must have the same abstract value.
     ghost can_next = { λ _. (x y : T) → T.is_clone x y → T.plain y ≡ T.plain x };
 
     ghost next_gives = { YieldsMember T.shape T.plain };
@@ -142,7 +143,7 @@ impl<'a, T: Decode<'a, SliceReader<'a>> + Member + Clone> Iterator for SetOfRefI
 
 impl<'a, T: Decode<'a, SliceReader<'a>> + Member + Clone> ExactSizeIterator
     for SetOfRefIter<'a, T> {
-    /// Returns the number of members that are yet to come, where there is memory for each.
+    /// Returns the number of remaining members, which are all returned if memory doesn't run out.
     fn len(&self) -> usize {
         if self.count == 0 {
             self.values.len()
@@ -152,7 +153,7 @@ impl<'a, T: Decode<'a, SliceReader<'a>> + Member + Clone> ExactSizeIterator
     }
 }
 
-/// The values, the bytes and the number of members that are left.
+/// Prints the values, the bytes and the number of members that are left.
 impl<'a, T: Shaped + fmt::Debug> fmt::Debug for SetOfRefIter<'a, T> {
     fn fmt<W: fmt::Write>(&self, f: &mut fmt::Formatter<W>) -> fmt::Result {
         f.debug_struct("SetOfRefIter")

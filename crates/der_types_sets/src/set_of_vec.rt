@@ -40,9 +40,10 @@ use std::convert::AsSlice;
 use std::hash::{Hash, Hasher};
 use std::marker::Model;
 
-/// SET OF (X.690 8.12): members in ascending order of their encodings, equal ones kept.
+/// SET OF (X.690 8.12), with its members in ascending order of their encodings. Equal members are
+/// allowed.
 ///
-/// Contracts see the list of the members.
+/// In contracts, its value is the list of the members.
 #[derive(Debug, Drop)]
 pub struct SetOfVec<T: Shaped> {
     members: Vec<T>,
@@ -63,7 +64,7 @@ impl<T: Shaped> Model for SetOfVec<T> {
 }
 
 impl<T: Shaped> SetOfVec<T> {
-    /// Returns the set of members in ascending order.
+    /// Returns the set of members that are in ascending order.
     pub(crate) fn of_members(members: Vec<T>) -> SetOfVec<T>
         requires { Ascends T.shape T.written members.items }
         ensures { result ≡ members.items }
@@ -88,14 +89,14 @@ impl<T: Shaped> SetOfVec<T> {
         self.members.as_slice()
     }
 
-    /// Returns the member at an index, if there is one.
+    /// Returns the member at an index, or `None` if there are fewer members.
     pub fn get(&self, index: usize) -> Option<&T>
         ensures { option_copied result ≡ slice_get self.now index }
     {
         self.members.as_slice().get(index)
     }
 
-    /// Returns the members, in ascending order of their encodings.
+    /// Returns the members, in ascending order of their encodings, and consumes the value.
     pub fn into_vec(self) -> Vec<T>
         ensures members { result.items ≡ self }
         ensures ascend { Ascends T.shape T.written result.items }
@@ -104,14 +105,14 @@ impl<T: Shaped> SetOfVec<T> {
         members
     }
 
-    /// Returns the members, borrowed one after another.
+    /// Returns an iterator over the members.
     pub fn iter(&self) -> SetOfIter<'_, T>
         ensures { iter_rest result ≡ self.now }
     {
         self.members.as_slice().iter()
     }
 
-    /// Returns the set, borrowed.
+    /// Returns the borrowed form of the set.
     pub fn owned_to_ref(&self) -> SetOfRef<'_, T>
         ensures members { members_lent T.shape T.plain result ≡ plain_list T.plain self.now }
         ensures written { members_lent T.shape T.written result ≡ plain_list T.written self.now }
@@ -126,7 +127,7 @@ impl<T: Shaped> SetOfVec<T> {
         SetOfVec::new(alloc)
     }
 
-    /// Returns whether there isn't a member.
+    /// Returns whether there are no members.
     pub fn is_empty(&self) -> bool
         ensures { result ≡ (length self.now == 0) }
     {
@@ -142,11 +143,11 @@ impl<T: Shaped> SetOfVec<T> {
 }
 
 impl<T: Shaped + Clone + Drop> SetOfVec<T> {
-    /// Returns a copy, of a type whose copies are the same.
+    /// Returns a copy. The caller proves that copies of members equal them.
     ///
     /// # Errors
     ///
-    /// Fails if memory runs out.
+    /// - `AllocError`: memory runs out.
     pub fn clone(&self, alloc: Global) -> Result<SetOfVec<T>, AllocError>
         requires { (x y : T) → T.is_clone x y → y ≡ x }
         ensures { IfOk result (λ set. set ≡ self.now) }
@@ -157,14 +158,13 @@ impl<T: Shaped + Clone + Drop> SetOfVec<T> {
 }
 
 impl<T: DerOrd + Member + Drop> SetOfVec<T> {
-    /// Places an item in order, after members that equal it.
+    /// Inserts an item in order, after the members that equal it. After an error the set is
+    /// unchanged.
     ///
     /// # Errors
     ///
-    /// - `Overflow`: an encoding has 2^32 bytes or more.
+    /// - `Overflow`: a member has no encoding, for example because its length exceeds 2^32 - 1.
     /// - `OutOfMemory`: memory runs out.
-    ///
-    /// The set stays then.
     #[tactic(auto, using(crate::proofs::SetSteps::put_ascends, crate::proofs::SetSteps::put_same))]
     pub fn insert(&mut self, item: T) -> Result<(), Error>
         ensures ok { OnOk result (IsPermutation (item ∷ self.old) self.new) }
@@ -178,15 +178,14 @@ impl<T: DerOrd + Member + Drop> SetOfVec<T> {
         Ok(())
     }
 
-    /// Appends an item that isn't below the last member.
+    /// Appends an item, which must not be less than the last member. After an error the set is
+    /// unchanged.
     ///
     /// # Errors
     ///
-    /// - `SetOrdering`: an item below the last member.
-    /// - `Overflow`: an encoding has 2^32 bytes or more.
+    /// - `SetOrdering`: the item is less than the last member.
+    /// - `Overflow`: a member has no encoding, for example because its length exceeds 2^32 - 1.
     /// - `OutOfMemory`: memory runs out.
-    ///
-    /// The set stays then.
     #[tactic(auto, using(crate::proofs::SetSteps::last_ascends))]
     pub fn insert_ordered(&mut self, item: T) -> Result<(), Error>
         ensures ok { OnOk result (self.new ≡ self.old ++ item ∷ []) }
@@ -201,14 +200,15 @@ impl<T: DerOrd + Member + Drop> SetOfVec<T> {
         Ok(())
     }
 
-    /// Returns the set of these members, in ascending order, equal ones in the order in which they
-    /// stand.
+    /// Returns the set of these members. Equal members keep their order.
     ///
-    /// It takes n log n comparisons, and as many moves where there is memory for a sort.
+    /// It makes O(n log n) comparisons. If there is memory for a sort, it also makes O(n log n)
+    /// moves.
     ///
     /// # Errors
     ///
-    /// - `Overflow`: an encoding has 2^32 bytes or more; never `OutOfMemory`.
+    /// - `Overflow`: a member has no encoding, for example because its length exceeds 2^32 - 1.
+    ///   `OutOfMemory` is never returned.
     pub fn from_vec(members: Vec<T>) -> Result<SetOfVec<T>, Error>
         ensures ok { IfOk result (IsPermutation members.items) }
         ensures equals { IfOk result (λ set. AllValid T.shape T.written members.items
@@ -221,16 +221,18 @@ impl<T: DerOrd + Member + Drop> SetOfVec<T> {
         Ok(SetOfVec { members })
     }
 
-    /// Places each of the items in order, after members that equal it.
+    /// Inserts each of the items in order, after the members that equal it.
     ///
-    /// It takes n log n comparisons, and as many moves where there is memory for a sort.
+    /// It makes O(n log n) comparisons. If there is memory for a sort, it also makes O(n log n)
+    /// moves.
+    ///
+    /// After an error, the items before the rejected one have been inserted, and no others.
     ///
     /// # Errors
     ///
-    /// - `Overflow`: the encoding of an item or of a member has 2^32 bytes or more.
+    /// - `Overflow`: an item or a member has no encoding, for example because its length exceeds
+    ///   2^32 - 1.
     /// - `OutOfMemory`: memory runs out.
-    ///
-    /// The items before the refused one have been placed then, and no other.
     pub fn extend<I: IntoIterator<Item = T>>(&mut self, items: I) -> Result<(), Error>
         requires { (it : I.IntoIter) → I.into_iter_gives items it → I.IntoIter.can_next it
             × IsFinite (I.IntoIter.remaining it) }
@@ -255,10 +257,11 @@ impl<T: DerOrd + Member + Drop> SetOfVec<T> {
         self.gain(came)
     }
 
-    /// Places each of these items in order, after members that equal it.
+    /// Inserts each of these items in order, after the members that equal it.
     ///
     /// # Errors
-    /// As `extend`.
+    ///
+    /// The errors of `extend`.
     fn gain(&mut self, items: Vec<T>) -> Result<(), Error>
         ensures ok { OnOk result (Gains T.shape T.written self.old items.items self.new) }
         ensures refused { IfErr result (StopsIn T.shape T.written self.old items.items self.new) }
@@ -269,11 +272,11 @@ impl<T: DerOrd + Member + Drop> SetOfVec<T> {
         arrange_behind_first(&mut self.members, first)
     }
 
-    /// Returns the set of the items, equal ones in the order in which they come.
+    /// Returns the set of the items. Equal items keep their order.
     ///
     /// # Errors
     ///
-    /// - `Overflow`: an encoding has 2^32 bytes or more.
+    /// - `Overflow`: a member has no encoding, for example because its length exceeds 2^32 - 1.
     /// - `OutOfMemory`: memory runs out.
     pub fn from_iter<I: IntoIterator<Item = T>>(
         alloc: Global,
@@ -293,12 +296,15 @@ impl<T: DerOrd + Member + Drop> SetOfVec<T> {
         Ok(set)
     }
 
-    /// Returns the members of a content, which are there in any order.
+    /// Decodes the members of a content, which may be in any order.
     ///
     /// # Errors
     ///
-    /// The first error of the members, or `OutOfMemory`; `Failed` if the reader failed before; by
-    /// BER `Overflow` too, where an encoding has 2^32 bytes or more.
+    /// - The first error of a member.
+    /// - `Overflow`: under BER, a member has no encoding and so can't be compared, for example
+    ///   because its length exceeds 2^32 - 1.
+    /// - `OutOfMemory`: memory runs out.
+    /// - `Failed`: the reader failed before.
     pub fn decode_value<'a, R: Reader<'a>>(
         alloc: Global,
         reader: &mut R,
@@ -306,18 +312,18 @@ impl<T: DerOrd + Member + Drop> SetOfVec<T> {
     ) -> Result<SetOfVec<T>, Error>
     where
         T: Decode<'a, R> + AsRead,
-        // The members that were read, in the order in which they are there, are those of the set.
+        // The decoded members, in the order of the input, are those of the set.
         ensures reads { (read : List T)
             × ReadsArranged T.shape T.plain T.written (R.state reader.old)
             (R.state reader.new) result
             (value_at (read_content_at (R.state reader.old) (nested (many T.shape)) header.tag)
             header.length.value) read }
-        // What is read is spelled so, in any order.
+        // The content is the encodings of the members, in any order.
         ensures spelled { is_element T.shape ≡ true → IsDer (R.state reader.old)
             → IfOk result
             (λ set. Loose T.shape (plain_list T.plain set)
             (take header.length.value (R.state reader.old).rest)) }
-        // An encoding is accepted, unless memory runs out.
+        // The encodings of members are accepted in any order, unless memory runs out.
         ensures only { (v : List (Value T.shape)) → is_element T.shape ≡ true
             → are_content_enough (nested (many T.shape)) (R.state reader.old).room ≡ true
             → IsDer (R.state reader.old) → (R.state reader.old).failed ≡ false
@@ -325,7 +331,7 @@ impl<T: DerOrd + Member + Drop> SetOfVec<T> {
             → Loose T.shape v (take header.length.value (R.state reader.old).rest)
             → Gives (plain_list T.plain) result (Ok v) }
     {
-        // What is read from bytes by DER has an encoding.
+        // Only for the proof: slices consist of bytes, so members that decode under DER are valid.
         let before = reader.remaining();
         let _octets = &before[..];
         let members = Vec::<T>::decode_value(alloc, reader, header)?;
@@ -338,25 +344,25 @@ impl<T: DerOrd + Member + Drop> SetOfVec<T> {
         }
     }
 
-    /// Returns the set that bytes encode by DER, all of the bytes, whose members are in any order.
+    /// Decodes a set from all bytes, under DER except that its members may be in any order.
     ///
     /// # Errors
     ///
-    /// - `Overflow`: 2^32 bytes or more.
+    /// - `Overflow`: there are 2^32 bytes or more.
     /// - The first error that decoding meets.
     /// - `TrailingData`: bytes are left after the set.
     /// - `OutOfMemory`: memory runs out.
     pub fn from_der<'a>(alloc: Global, bytes: &'a [u8]) -> Result<SetOfVec<T>, Error>
     where
         T: Decode<'a, SliceReader<'a>> + AsRead,
-        // What is accepted is an encoding.
+        // Accepted bytes are an encoding of the set, with its members in any order.
         ensures spelled { is_element T.shape ≡ true
             → IfOk result (λ set. SpellsLoosely T.shape (plain_list T.plain set) bytes.now) }
-        // An encoding is accepted, unless memory runs out.
+        // An encoding of members in any order is accepted, unless memory runs out.
         ensures only { (v : List (Value T.shape)) → is_element T.shape ≡ true
             → are_enough (tagged Set (nested (many T.shape))) levels_max ≡ true
             → SpellsLoosely T.shape v bytes.now → Gives (plain_list T.plain) result (Ok v) }
-        // The error is exact.
+        // The error is that of decoding a list of members.
         ensures refused { is_element T.shape ≡ true
             → IfErr result
             (λ e. Fails e.kind (read_whole (tagged Set (nested (many T.shape))) bytes.now)) }
@@ -366,13 +372,18 @@ impl<T: DerOrd + Member + Drop> SetOfVec<T> {
         Ok(set)
     }
 
-    /// Returns the members of a content in which each encoding is above the one before (X.690
-    /// 11.6), which is a rule of DER: they are read by DER, whatever the rules of the reader.
+    /// Decodes the members of a content in which each encoding is greater than the one before it
+    /// (X.690 11.6).
+    ///
+    /// The order is a rule of DER, so the members are decoded under DER, whatever the reader's
+    /// encoding rules are.
     ///
     /// # Errors
     ///
-    /// The first error of the members, `SetDuplicate` or `SetOrdering` if one stands wrong, or
-    /// `OutOfMemory`; `Failed` if the reader failed before.
+    /// - The first error of a member.
+    /// - `SetDuplicate`, `SetOrdering`: an encoding isn't greater than the one before it.
+    /// - `OutOfMemory`: memory runs out.
+    /// - `Failed`: the reader failed before.
     pub fn decode_value_strict<'a, R: Reader<'a>>(
         alloc: Global,
         reader: &mut R,
@@ -400,7 +411,7 @@ impl<T: Shaped> FixedTag for SetOfVec<T> {
     }
 }
 
-/// The encodings of the members, in ascending order.
+/// The content is the encodings of the members, in ascending order.
 impl<T: Shaped> ShapedValue for SetOfVec<T> {
     ghost content = { nested (many T.shape) };
 
@@ -420,7 +431,7 @@ impl<T: Encode> EncodeValue for SetOfVec<T> {
     }
 }
 
-/// The encodings of the members, one after another.
+/// Compares the concatenated encodings of the members.
 impl<T: DerOrd> ValueOrd for SetOfVec<T> {
     #[tactic(auto, unfolding(crate::specs::Opened::contents, crate::specs::Opened::IsContent))]
     fn value_cmp(&self, other: &Self) -> Result<Ordering, Error> {
@@ -436,7 +447,7 @@ impl<T: Shaped> AsSlice<T> for SetOfVec<T> {
     }
 }
 
-/// Whether the members are equal, one by one.
+/// Compares the members, one after another.
 impl<T: Shaped + PartialEq> PartialEq for SetOfVec<T> {
     ghost eq = { pointwise T.eq };
 
@@ -451,7 +462,8 @@ impl<T: Shaped + Eq> Eq for SetOfVec<T> {
     ghost laws = { lists_equiv T.Eq.laws };
 }
 
-/// The first members that differ decide, by their own order, and else how many there are.
+/// Compares the members by their own order. The first members that differ decide, and then the
+/// numbers of members.
 impl<T: Shaped + PartialOrd> PartialOrd for SetOfVec<T> {
     ghost partial_cmp = { slice_partial_cmp T.partial_cmp };
 
@@ -476,7 +488,7 @@ impl<T: Shaped + Ord> Ord for SetOfVec<T> {
     }
 }
 
-/// How many members there are, and each of them.
+/// Hashes the number of members, and then each member.
 impl<T: Shaped + Hash> Hash for SetOfVec<T> {
     ghost hash_input = { fed.slice T.hash_input };
 
@@ -487,11 +499,11 @@ impl<T: Shaped + Hash> Hash for SetOfVec<T> {
     }
 }
 
-/// These members, in ascending order, as `from_vec` answers.
+/// Brings these members into ascending order, as `from_vec` does.
 ///
 /// # Errors
 ///
-/// - `Overflow`: an encoding has 2^32 bytes or more.
+/// - `Overflow`: a member has no encoding, for example because its length exceeds 2^32 - 1.
 impl<T: DerOrd + Member + Drop> TryFrom<Vec<T>> for SetOfVec<T> {
     type Error = Error;
 
@@ -503,7 +515,7 @@ impl<T: DerOrd + Member + Drop> TryFrom<Vec<T>> for SetOfVec<T> {
     }
 }
 
-/// The members, in ascending order of their encodings.
+/// Returns the members, in ascending order of their encodings.
 impl<T: Shaped> From<SetOfVec<T>> for Vec<T> {
     ghost from_gives = { λ set members. members.items ≡ set };
 

@@ -1,4 +1,4 @@
-//! The values of each set are in range, as its members are.
+//! Impls that state that sets are in range if their members are.
 
 use crate::set_of::SetOf;
 use crate::set_of_vec::SetOfVec;

@@ -1,4 +1,4 @@
-//! Sorting of members by the places at which they stand, so that none moves before their order is
+//! Sorting members by way of their indexes, so that no member moves before the order of all is
 //! known.
 
 ghost use Rattle.std.specs.Prelude.{◌≡◌, ℕ, ◌≤◌, ◌<◌, ◌+◌, List, [], ◌++◌, IsTrue, not, length};
@@ -18,7 +18,7 @@ use std::alloc::{AllocError, Global};
 use std::cmp::Ordering;
 use std::mem;
 
-/// Returns the order of the encodings of two members, where they have one.
+/// Compares the encodings of two members, if both are valid.
 fn order_of<T: DerOrd + Member>(member: &T, other: &T) -> Ordering
     ensures { IsValid T.shape (T.written member.now) → IsValid T.shape (T.written other.now)
         → result ≡ encodings_cmp T.shape (T.written member.now) (T.written other.now) }
@@ -26,15 +26,15 @@ fn order_of<T: DerOrd + Member>(member: &T, other: &T) -> Ordering
     member.der_cmp(other).unwrap_or(Ordering::Equal)
 }
 
-/// Returns the member at a place, and another one where there is none.
+/// Returns the member at an index, or another one if there are fewer members.
 fn at<'m, T>(members: &'m [T], place: usize, other: &'m T) -> &'m T
     ensures { result.now ≡ member_at members.now other.now place }
 {
     members.get(place).unwrap_or(other)
 }
 
-/// Returns the order of the encodings of the members at two places, where they have one. For a
-/// place at which none stands it is that of the first member.
+/// Compares the encodings of the members at two indexes, if they are valid. If there is no member
+/// at an index, the first one is taken.
 fn order_at<T: DerOrd + Member>(members: &[T], place: usize, other: usize) -> Ordering
     ensures { AllValid T.shape T.written members.now
         → result ≡ octets_cmp (member_encoding T.shape T.written members.now place)
@@ -46,8 +46,8 @@ fn order_at<T: DerOrd + Member>(members: &[T], place: usize, other: usize) -> Or
     order_of(at(members, place, first), at(members, other, first))
 }
 
-/// Returns whether no member at a place is above that at the next place, where each can be
-/// compared.
+/// Returns whether no member at one of the indexes is greater than the member at the next one. If
+/// two members can't be compared, it returns false.
 fn ascend_at<T: DerOrd + Member>(members: &[T], places: &[usize]) -> bool
     ensures { IsTrue result → AscendsAt T.shape T.written members.now places.now
         (length places.now) }
@@ -65,15 +65,15 @@ fn ascend_at<T: DerOrd + Member>(members: &[T], places: &[usize]) -> bool
     true
 }
 
-/// Returns the places of so many members, as they are.
+/// Returns the indexes from 0 to `count - 1`.
 fn places(alloc: Global, count: usize) -> Result<Vec<usize>, AllocError>
     ensures { IfOk result (λ places. places.items ≡ range_with_len 0 count) }
 {
     (0..count).collect::<Vec<usize>>(alloc)
 }
 
-/// Returns the places of members in ascending order of their encodings, those of equal ones as they
-/// are. There are none if memory runs out for them, or where members can't be compared.
+/// Returns the indexes of members in ascending order of their encodings, in which equal members
+/// keep their order. Returns `None` if memory runs out, or if members can't be compared.
 fn ascending_places<T: DerOrd + Member>(alloc: Global, members: &[T]) -> Option<Vec<usize>>
     ensures same { IfSome result
         (λ places. IsPermutation (range_with_len 0 (length members.now)) places.items) }
@@ -93,7 +93,7 @@ fn ascending_places<T: DerOrd + Member>(alloc: Global, members: &[T]) -> Option<
     }
 }
 
-/// Puts members where they can be taken one by one.
+/// Moves members into options, from which they can be taken separately.
 fn put_apart<T: Drop>(members: Vec<T>, apart: &mut Vec<Option<T>>)
     requires { vec_len apart.old + length members.items ≤ vec_capacity apart.old }
     ensures { apart.new.items ≡ apart.old.items ++ map (λ x. Some x) members.items }
@@ -103,7 +103,7 @@ fn put_apart<T: Drop>(members: Vec<T>, apart: &mut Vec<Option<T>>)
     }
 }
 
-/// Takes the members at places, in turn.
+/// Takes the members at these indexes, one after another.
 fn take_at<T: Drop>(apart: &mut [Option<T>], places: &[usize], taken: &mut Vec<T>)
     requires places { IsPermutation (range_with_len 0 (length apart.old)) places.now }
     requires none { taken.old.items ≡ [] }
@@ -112,7 +112,7 @@ fn take_at<T: Drop>(apart: &mut [Option<T>], places: &[usize], taken: &mut Vec<T
         ≡ members_at xs d places.now }
 {
     for count in 0..places.len() {
-        // No place comes twice, so a member still is there.
+        // No index occurs twice, so the member is still there.
         let Some(member) = apart[places[count]].take() else {
             return;
         };
@@ -120,7 +120,7 @@ fn take_at<T: Drop>(apart: &mut [Option<T>], places: &[usize], taken: &mut Vec<T
     }
 }
 
-/// Brings members into the order of places, if there is memory.
+/// Brings members into the order of the indexes, if there is memory.
 fn rearrange<T: Drop>(
     alloc: Global,
     members: &mut Vec<T>,
@@ -138,8 +138,8 @@ fn rearrange<T: Drop>(
     Ok(())
 }
 
-/// Sorts members by their encodings, equal ones as they are, if there is memory and each can be
-/// compared. Else none moves.
+/// Sorts members by their encodings, if there is memory and all can be compared. Equal members keep
+/// their order. Returns false if no member was moved.
 fn sort<T: DerOrd + Member + Drop>(members: &mut Vec<T>) -> bool
     requires { 0 < length members.old.items }
     ensures arranged { IsTrue result → IsArranged T.shape T.written members.old.items
@@ -157,18 +157,17 @@ fn sort<T: DerOrd + Member + Drop>(members: &mut Vec<T>) -> bool
     }
 }
 
-/// Brings members into ascending order, of which the first ones are in order, equal ones as they
-/// are.
+/// Brings members into ascending order, of which the first ones are already in order. Equal members
+/// keep their order.
 ///
-/// It takes n log n comparisons, and as many moves where there is memory for a sort. Where there is
-/// none, or where members can't be compared, they are placed one by one.
+/// It makes O(n log n) comparisons. If there is memory for a sort, it also makes O(n log n) moves.
+/// Without memory, or if members can't be compared, each member is inserted by itself.
 ///
 /// # Errors
 ///
-/// - `Overflow`: an encoding has 2^32 bytes or more.
-///
-/// The members before the one that is rejected are in order then, and it and those after it are
-/// gone.
+/// - `Overflow`: a member has no encoding, for example because its length exceeds 2^32 - 1. The
+///   members before the rejected one are in order then, and the rejected one and those after it
+///   were dropped.
 pub(crate) fn arrange_behind_first<T: DerOrd + Member + Drop>(
     members: &mut Vec<T>,
     first: usize,

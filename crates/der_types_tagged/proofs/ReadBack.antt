@@ -1,4 +1,4 @@
--- What fields write is read back.
+-- Lemmas: the encoding of a field decodes to the field.
 use Rattle.std.proofs.Common.{◌≡◌, ◌/◌, ℕ, true, false, List, [], ◌∷◌, ◌++◌, length, Some, None, Ok, refl, ap, sym, subst, ◌∙◌, append_assoc, arith}
 use Rattle.std.proofs.lemmas.Bool.Decides.{nat_tests}
 use Rattle.der_core.specs.EncodingRulesTypes.EncodingRules.TheVariants as encodings
@@ -12,7 +12,7 @@ use Rattle.der_core.proofs.HeadLaws.{head_again, fits_contents}
 use Rattle.der_core.proofs.Complete.{element_first, peek_again, complete_element}
 use Rattle.der_types_tagged.specs.Fields.{explicit_field, numbered_at}
 
--- a value that may be absent is read where it stands, whatever follows
+-- An optional value that is there is decoded, whatever follows it.
 pub optional_again : (s : Shape) (room : ℕ) (v : Value s) (r : List ℕ) → is_element s ≡ true → is_apart s ≡ true → are_enough s room ≡ true → IsValid s v
     → read (optional s) room (octets_of s v ++ r) ≡ Ok (Some v, r)
 unfolding opt_at
@@ -31,13 +31,13 @@ unfolding octets_of tlv IsValid
 header_again t c v r h =
     ap head_at (append_assoc (head_octets t (length (contents c v))) (contents c v) r) ∙ head_again t (length (contents c v)) (contents c v ++ r) h.1 (fits_contents t (contents c v) h.2)
 
--- a header of the class, and what follows it
+-- A header of the class, and the bytes after it.
 number_is : (class room : ℕ) (s : Shape) (v : Value s) (w q r : List ℕ) (h : Head) → head_at w ≡ Ok (h, q)
     → read (explicit_field class (number_of h.tag) s) room w ≡ Ok (v, r) → numbered_at encodings.Der class s room w ≡ Ok ((number_of h.tag, v), r)
 unfolding numbered_at
 number_is class room s v w q r h stands reads = rw (stands, reads) refl
 
--- the number is read, too
+-- The number is decoded, too.
 pub numbered_again : (class n room : ℕ) (s : Shape) (v : Value s) (r : List ℕ) → is_apart (explicit_field class n s) ≡ true → are_enough (explicit_field class n s) room ≡ true
     → IsValid (explicit_field class n s) v → numbered_at encodings.Der class s room (octets_of (explicit_field class n s) v ++ r) ≡ Ok ((n, v), r)
 numbered_again class n room s v r a e h =
@@ -49,13 +49,13 @@ numbered_again class n room s v r a e h =
     (subst Q (sym number) (complete_element (explicit_field class n s) room v r refl a e h))
     ∙ ap (λ m. Ok ((m, v), r)) number
 
--- where another tag stands
+-- The field is absent if another tag is next.
 pub other_absent : (t u : Tag) (c : Content) (room : ℕ) (w r : List ℕ) → tag_at w ≡ Ok (u, r) → same_tag t u ≡ false → read (optional (tagged t c)) room w ≡ Ok (None, w)
 unfolding opt_at tag_at
 other_absent t u c room [] r e other = absurd cc
 other_absent t u c room (b ∷ w) r e other = rw (e, other) refl
 
--- an optional field is absent where nothing stands
+-- An optional field is absent at the end.
 pub end_absent : (t : Tag) (c : Content) (room : ℕ) → read (optional (tagged t c)) room [] ≡ Ok (None, [])
 unfolding opt_at
 end_absent t c room = refl

@@ -1,4 +1,4 @@
-//! Values after tags of one class.
+//! Values with a tag of a class.
 
 ghost use Rattle.std.specs.Prelude.{◌≡◌, ◌↔◌, ◌/◌, [], Ok, None, false, true, IsTrue, IfOk, IfSome};
 ghost use Rattle.std.specs.Prelude.{IfErr};
@@ -30,22 +30,22 @@ use der_core::{
 use std::alloc::{AllocError, Global};
 use std::cmp::Ordering;
 
-/// A value after a tag of a class, which `CLASS` tells by its bits in the first byte of a tag
-/// (X.690 8.1.2.2): `CLASS_APPLICATION`, `CLASS_CONTEXT_SPECIFIC` or `CLASS_PRIVATE`.
+/// A value with a tag of a class. `CLASS` is the class bits of the first byte of a tag (X.690
+/// 8.1.2.2): `CLASS_APPLICATION`, `CLASS_CONTEXT_SPECIFIC` or `CLASS_PRIVATE`.
 ///
-/// The tag comes before the value's own tag or in its place (X.680 31, X.690 8.14).
+/// The tag is either before the value's own tag or in its place (X.680 31, X.690 8.14).
 #[derive(Debug, Drop, PartialEq, Eq)]
 pub struct ClassField<T, const CLASS: u8> {
     /// The number of the tag.
     pub tag_number: TagNumber,
-    /// Where the tag stands.
+    /// The mode of the tag: explicit or implicit.
     pub tag_mode: TagMode,
     /// The value.
     pub value: T,
     ghost class: { IsClass CLASS },
 }
 
-/// A copy, with a copy of the value.
+/// Clones the value.
 impl<T: Clone, const CLASS: u8> Clone for ClassField<T, CLASS> {
     ghost is_clone = { λ x y. (y.tag_number ≡ x.tag_number)
         × ((y.tag_mode ≡ x.tag_mode) × T.is_clone x.value y.value) };
@@ -64,8 +64,8 @@ impl<T: Clone, const CLASS: u8> Clone for ClassField<T, CLASS> {
 }
 
 impl<T, const CLASS: u8> ClassField<T, CLASS> {
-    /// Returns the value after a tag of that number before its own, if that tag stands next (X.690
-    /// 8.14.2). Where another tag or the end stands nothing is read.
+    /// Decodes a value with an explicit tag with this number, if that tag is next (X.690 8.14.2).
+    /// If another tag or the end is next, it returns `None` and consumes nothing.
     ///
     /// # Errors
     ///
@@ -100,9 +100,9 @@ impl<T, const CLASS: u8> ClassField<T, CLASS> {
         }))
     }
 
-    /// Returns the value after a tag of that number in place of its own, if that tag stands next,
-    /// in the form of the value's own tag (X.690 8.14.3). Where another tag or the end stands
-    /// nothing is read.
+    /// Decodes a value with an implicit tag with this number, if that tag is next in the form of
+    /// the value's own tag (X.690 8.14.3). If another tag or the end is next, it returns `None` and
+    /// consumes nothing.
     ///
     /// # Errors
     ///
@@ -136,13 +136,14 @@ impl<T, const CLASS: u8> ClassField<T, CLASS> {
         }))
     }
 
-    /// Returns the value after a tag of the class, whatever its number, before its own (X.690
-    /// 8.14.2).
+    /// Decodes a value with an explicit tag of the class, whatever its number is (X.690 8.14.2).
     ///
     /// # Errors
     ///
-    /// `TagUnexpected` after a tag of another class, or of a primitive value; else the first error
-    /// that decoding meets, or `OutOfMemory`; `Failed` if the reader failed before.
+    /// - `TagUnexpected`: the next tag is of another class, or primitive.
+    /// - The first error that decoding meets.
+    /// - `OutOfMemory`: memory runs out.
+    /// - `Failed`: the reader failed before.
     #[tactic(auto, unfolding(crate::specs::Fields::numbered_at))]
     pub fn decode<'a, R: Reader<'a>>(
         alloc: Global,
@@ -183,7 +184,7 @@ impl<T, const CLASS: u8> ClassField<T, CLASS> {
         leading_octet_of(tag) / 64 == CLASS / 64
     }
 
-    /// Returns the field, borrowed.
+    /// Returns the borrowed form of the field.
     pub fn owned_to_ref(&self) -> ClassFieldRef<'_, T, CLASS>
         ensures number { result.tag_number ≡ self.now.tag_number }
         ensures mode { result.tag_mode ≡ self.now.tag_mode }
@@ -197,7 +198,7 @@ impl<T, const CLASS: u8> ClassField<T, CLASS> {
     }
 }
 
-/// The tag of the class, in the form that its mode asks for.
+/// The tag is of the class, in the form that the mode requires.
 impl<T: Tagged, const CLASS: u8> Tagged for ClassField<T, CLASS> {
     ghost own_tag = { λ f. field_tag CLASS f.tag_mode f.tag_number.value (T.own_tag f.value) };
 
@@ -207,7 +208,7 @@ impl<T: Tagged, const CLASS: u8> Tagged for ClassField<T, CLASS> {
 }
 
 impl<T: EncodeValue + FixedTag, const CLASS: u8> ClassField<T, CLASS> {
-    /// Returns the number of content bytes.
+    /// Returns the length of the content.
     ///
     /// # Errors
     ///
@@ -224,7 +225,7 @@ impl<T: EncodeValue + FixedTag, const CLASS: u8> ClassField<T, CLASS> {
         value_len_of_field(self.tag_mode, &self.value)
     }
 
-    /// Writes the content.
+    /// Encodes the content.
     ///
     /// # Errors
     ///
@@ -250,7 +251,7 @@ impl<T: EncodeValue + FixedTag, const CLASS: u8> ClassField<T, CLASS> {
         encode_value_of_field(writer, self.tag_mode, &self.value)
     }
 
-    /// Returns the number of bytes, header and content.
+    /// Returns the length of the encoding, which is the header and the content.
     ///
     /// # Errors
     ///
@@ -268,7 +269,7 @@ impl<T: EncodeValue + FixedTag, const CLASS: u8> ClassField<T, CLASS> {
         len_of_field(CLASS, self.tag_mode, self.tag_number, &self.value)
     }
 
-    /// Writes header and content.
+    /// Encodes the header and the content.
     ///
     /// # Errors
     ///
@@ -295,14 +296,14 @@ impl<T: EncodeValue + FixedTag, const CLASS: u8> ClassField<T, CLASS> {
         encode_field(writer, CLASS, self.tag_mode, self.tag_number, &self.value)
     }
 
-    /// Returns the bytes of header and content.
+    /// Returns the encoding, which is the header and the content.
     ///
     /// # Errors
     ///
     /// - `Overflow`: a length exceeds 2^32 - 1.
     /// - `OutOfMemory`: memory runs out.
     pub fn to_der(&self, alloc: Global) -> Result<Vec<u8>, Error>
-        // The encoding of a valid value is the result, unless memory runs out.
+        // A valid value is encoded, unless memory runs out.
         ensures explicit { self.now.tag_mode ≡ TagMode.Explicit
             → IsValid
             (explicit_field CLASS self.now.tag_number.value (tagged T.fixed_tag T.content))
@@ -319,7 +320,7 @@ impl<T: EncodeValue + FixedTag, const CLASS: u8> ClassField<T, CLASS> {
             (Ok
             (octets_of (implicit_field CLASS self.now.tag_number.value T.fixed_tag T.content)
             (T.value_written self.now.value))) }
-        // The error is exact.
+        // The result is that of the definition, including the kind of the error.
         ensures exact_explicit { self.now.tag_mode ≡ TagMode.Explicit
             → Gives (λ v. record { written = v.items; room = None; failed = false }) result
             (write (explicit_field CLASS self.now.tag_number.value (tagged T.fixed_tag T.content))
@@ -335,17 +336,18 @@ impl<T: EncodeValue + FixedTag, const CLASS: u8> ClassField<T, CLASS> {
     }
 }
 
-/// Fields of one mode are compared; another mode would put another content after the tag.
+/// Only fields with the same mode are compared, because the contents of fields with different modes
+/// differ in kind.
 impl<T: ValueOrd + EncodeValue + FixedTag, const CLASS: u8> ClassField<T, CLASS> {
-    /// Returns the order of the contents of two fields of one mode, as lists of bytes, whatever
-    /// their lengths.
+    /// Compares the contents of two fields with the same mode, as lists of bytes, whatever their
+    /// lengths are.
     ///
     /// # Errors
     ///
     /// - `Overflow`: the content of one of the two has 2^32 bytes or more.
     pub fn value_cmp(&self, other: &ClassField<T, CLASS>) -> Result<Ordering, Error>
         requires { self.now.tag_mode ≡ other.now.tag_mode }
-        // An answer comes wherever both values have a content.
+        // If both contents are valid, there is a result.
         ensures explicit { self.now.tag_mode ≡ TagMode.Explicit → is_content_apart T.content ≡ true
             → IsContent (nested (only (tagged T.fixed_tag T.content)))
             (T.value_written self.now.value)
@@ -376,15 +378,15 @@ impl<T: ValueOrd + EncodeValue + FixedTag, const CLASS: u8> ClassField<T, CLASS>
         value_cmp_of_fields(self.tag_mode, &self.value, &other.value)
     }
 
-    /// Returns the order of the encodings of two fields of one mode, as lists of bytes: that of the
-    /// tags, then that of the lengths, then that of the contents (X.690 11.6). It doesn't allocate.
+    /// Compares the encodings of two fields with the same mode, as lists of bytes: first the tags,
+    /// then the lengths, and then the contents (X.690 11.6). It doesn't allocate.
     ///
     /// # Errors
     ///
     /// - `Overflow`: the encoding of one of the two has 2^32 bytes or more.
     pub fn der_cmp(&self, other: &ClassField<T, CLASS>) -> Result<Ordering, Error>
         requires { self.now.tag_mode ≡ other.now.tag_mode }
-        // An answer comes wherever both values have an encoding.
+        // If both values are valid, there is a result.
         ensures explicit { self.now.tag_mode ≡ TagMode.Explicit → is_content_apart T.content ≡ true
             → IsValid
             (explicit_field CLASS self.now.tag_number.value (tagged T.fixed_tag T.content))

@@ -1,4 +1,4 @@
-//! Borrowed values after tags of one class.
+//! Borrowed values with a tag of a class.
 
 ghost use Rattle.std.specs.Prelude.{◌≡◌, [], Ok, None, false, IsOk, IfOk, ⊤};
 ghost use Rattle.der_core.specs.Shapes.{nested, only, tagged, IsValid, contents, octets_of};
@@ -15,15 +15,15 @@ use crate::fields::{
 use der_core::{EncodeValue, Error, FixedTag, Length, Tag, TagMode, TagNumber, Tagged, Writer};
 use std::alloc::{AllocError, Global};
 
-/// A borrowed value after a tag of a class, which `CLASS` tells by its bits in the first byte of a
-/// tag (X.690 8.1.2.2): `CLASS_APPLICATION`, `CLASS_CONTEXT_SPECIFIC` or `CLASS_PRIVATE`.
+/// A borrowed value with a tag of a class. `CLASS` is the class bits of the first byte of a tag
+/// (X.690 8.1.2.2): `CLASS_APPLICATION`, `CLASS_CONTEXT_SPECIFIC` or `CLASS_PRIVATE`.
 ///
-/// The tag comes before the value's own tag or in its place (X.680 31, X.690 8.14).
+/// The tag is either before the value's own tag or in its place (X.680 31, X.690 8.14).
 #[derive(Debug, PartialEq, Eq)]
 pub struct ClassFieldRef<'a, T, const CLASS: u8> {
     /// The number of the tag.
     pub tag_number: TagNumber,
-    /// Where the tag stands.
+    /// The mode of the tag: explicit or implicit.
     pub tag_mode: TagMode,
     /// The value.
     pub value: &'a T,
@@ -42,7 +42,7 @@ impl<'a, T, const CLASS: u8> Clone for ClassFieldRef<'a, T, CLASS> {
 
 impl<'a, T, const CLASS: u8> Copy for ClassFieldRef<'a, T, CLASS> {}
 
-/// The tag of the class, in the form that its mode asks for.
+/// The tag is of the class, in the form that the mode requires.
 impl<'a, T: Tagged, const CLASS: u8> Tagged for ClassFieldRef<'a, T, CLASS> {
     ghost own_tag = { λ f. field_tag CLASS f.tag_mode f.tag_number.value (T.own_tag f.value.now) };
 
@@ -52,11 +52,11 @@ impl<'a, T: Tagged, const CLASS: u8> Tagged for ClassFieldRef<'a, T, CLASS> {
 }
 
 impl<'a, T: Clone, const CLASS: u8> ClassFieldRef<'a, T, CLASS> {
-    /// Returns the field, owned, with a clone of its value.
+    /// Returns an owned field with a clone of the value.
     ///
     /// # Errors
     ///
-    /// Where the clone finds no memory.
+    /// - `AllocError`: memory runs out when the value is cloned.
     pub fn ref_to_owned(&self) -> Result<ClassField<T, CLASS>, AllocError>
         ensures number { IfOk result (λ f. f.tag_number ≡ self.now.tag_number) }
         ensures mode { IfOk result (λ f. f.tag_mode ≡ self.now.tag_mode) }
@@ -73,7 +73,7 @@ impl<'a, T: Clone, const CLASS: u8> ClassFieldRef<'a, T, CLASS> {
 }
 
 impl<'a, T: EncodeValue + FixedTag, const CLASS: u8> ClassFieldRef<'a, T, CLASS> {
-    /// Returns the number of content bytes.
+    /// Returns the length of the content.
     ///
     /// # Errors
     ///
@@ -90,7 +90,7 @@ impl<'a, T: EncodeValue + FixedTag, const CLASS: u8> ClassFieldRef<'a, T, CLASS>
         value_len_of_field(self.tag_mode, self.value)
     }
 
-    /// Writes the content.
+    /// Encodes the content.
     ///
     /// # Errors
     ///
@@ -116,7 +116,7 @@ impl<'a, T: EncodeValue + FixedTag, const CLASS: u8> ClassFieldRef<'a, T, CLASS>
         encode_value_of_field(writer, self.tag_mode, self.value)
     }
 
-    /// Returns the number of bytes, header and content.
+    /// Returns the length of the encoding, which is the header and the content.
     ///
     /// # Errors
     ///
@@ -134,7 +134,7 @@ impl<'a, T: EncodeValue + FixedTag, const CLASS: u8> ClassFieldRef<'a, T, CLASS>
         len_of_field(CLASS, self.tag_mode, self.tag_number, self.value)
     }
 
-    /// Writes header and content.
+    /// Encodes the header and the content.
     ///
     /// # Errors
     ///
@@ -161,14 +161,14 @@ impl<'a, T: EncodeValue + FixedTag, const CLASS: u8> ClassFieldRef<'a, T, CLASS>
         encode_field(writer, CLASS, self.tag_mode, self.tag_number, self.value)
     }
 
-    /// Returns the bytes of header and content.
+    /// Returns the encoding, which is the header and the content.
     ///
     /// # Errors
     ///
     /// - `Overflow`: a length exceeds 2^32 - 1.
     /// - `OutOfMemory`: memory runs out.
     pub fn to_der(&self, alloc: Global) -> Result<Vec<u8>, Error>
-        // The encoding of a valid value is the result, unless memory runs out.
+        // A valid value is encoded, unless memory runs out.
         ensures explicit { self.now.tag_mode ≡ TagMode.Explicit
             → IsValid
             (explicit_field CLASS self.now.tag_number.value (tagged T.fixed_tag T.content))
@@ -185,7 +185,7 @@ impl<'a, T: EncodeValue + FixedTag, const CLASS: u8> ClassFieldRef<'a, T, CLASS>
             (Ok
             (octets_of (implicit_field CLASS self.now.tag_number.value T.fixed_tag T.content)
             (T.value_written self.now.value.now))) }
-        // The error is exact.
+        // The result is that of the definition, including the kind of the error.
         ensures exact_explicit { self.now.tag_mode ≡ TagMode.Explicit
             → Gives (λ v. record { written = v.items; room = None; failed = false }) result
             (write (explicit_field CLASS self.now.tag_number.value (tagged T.fixed_tag T.content))

@@ -1,4 +1,4 @@
-//! Fields after tags of a class and a number, by their mode.
+//! Fields with a tag of a class, by mode.
 
 ghost use Rattle.std.specs.Prelude.{◌≡◌, [], Ok, None, false, true, IfErr};
 ghost use Rattle.der_core.specs.Shapes.{nested, only, tagged, IsContent, IsValid, contents};
@@ -18,7 +18,7 @@ use der_core::{
 use std::alloc::Global;
 use std::cmp::Ordering;
 
-/// Returns the tag of a field with a value of that tag.
+/// Returns the tag of a field, given the value's own tag.
 pub fn tag_of_field(class: u8, mode: TagMode, number: TagNumber, own: Tag) -> Tag
     ensures { result ≡ field_tag class mode number.value own }
 {
@@ -28,7 +28,7 @@ pub fn tag_of_field(class: u8, mode: TagMode, number: TagNumber, own: Tag) -> Ta
     }
 }
 
-/// Returns the number of content bytes.
+/// Returns the length of a field's content.
 pub fn value_len_of_field<T: EncodeValue + FixedTag>(
     mode: TagMode,
     value: &T,
@@ -45,7 +45,7 @@ pub fn value_len_of_field<T: EncodeValue + FixedTag>(
     }
 }
 
-/// Writes the content.
+/// Encodes a field's content.
 #[tactic(auto, unfolding(crate::specs::Opened::contents))]
 pub fn encode_value_of_field<W: Writer, T: EncodeValue + FixedTag>(
     writer: &mut W,
@@ -71,7 +71,7 @@ pub fn encode_value_of_field<W: Writer, T: EncodeValue + FixedTag>(
     }
 }
 
-/// Returns the number of bytes.
+/// Returns the length of a field's encoding.
 pub fn len_of_field<T: EncodeValue + FixedTag>(
     class: u8,
     mode: TagMode,
@@ -94,7 +94,7 @@ pub fn len_of_field<T: EncodeValue + FixedTag>(
     }
 }
 
-/// Writes a field.
+/// Encodes a field.
 pub fn encode_field<W: Writer, T: EncodeValue + FixedTag>(
     writer: &mut W,
     class: u8,
@@ -125,7 +125,7 @@ pub fn encode_field<W: Writer, T: EncodeValue + FixedTag>(
     }
 }
 
-/// Returns the bytes of a field.
+/// Returns the encoding of a field.
 pub fn der_of_field<T: EncodeValue + FixedTag>(
     alloc: Global,
     class: u8,
@@ -161,7 +161,7 @@ pub fn der_of_field<T: EncodeValue + FixedTag>(
     }
 }
 
-/// Returns the order of the contents of two fields of one mode.
+/// Compares the contents of two fields with the same mode.
 pub fn value_cmp_of_fields<T: ValueOrd + EncodeValue + FixedTag>(
     mode: TagMode,
     value: &T,
@@ -193,7 +193,7 @@ pub fn value_cmp_of_fields<T: ValueOrd + EncodeValue + FixedTag>(
     }
 }
 
-/// Returns the order of two fields of one class and mode.
+/// Compares two fields with the same class and mode.
 pub fn der_cmp_of_fields<T: ValueOrd + EncodeValue + FixedTag>(
     class: u8,
     mode: TagMode,
@@ -246,7 +246,7 @@ pub fn der_cmp_of_fields<T: ValueOrd + EncodeValue + FixedTag>(
     }
 }
 
-/// A value whose whole encoding is a content (X.690 8.14.2).
+/// A value whose encoding is the content of an explicit tag (X.690 8.14.2).
 #[derive(Drop)]
 pub struct Whole<'a, T>(pub &'a T);
 
@@ -276,7 +276,7 @@ impl<'a, T: DerOrd> ValueOrd for Whole<'a, T> {
     }
 }
 
-/// Returns the number of bytes of a content and its header.
+/// Returns the length of a content and its header.
 #[tactic(auto, unfolding(crate::specs::Opened::tlv_len, crate::specs::Opened::head_len))]
 pub fn len_behind<T: EncodeValue>(tag: Tag, value: &T) -> Result<Length, Error>
     ensures { GivesNow (λ l. l.value) result
@@ -286,7 +286,7 @@ pub fn len_behind<T: EncodeValue>(tag: Tag, value: &T) -> Result<Length, Error>
     len.for_tlv(tag)
 }
 
-/// Returns the bytes that writing a header and a content gives.
+/// Returns the bytes of a header and a content, which are written to an empty vector.
 fn written_behind<T: EncodeValue>(alloc: Global, tag: Tag, value: &T) -> Result<Vec<u8>, Error>
     ensures { Gives (λ v. record { written = v.items; room = None; failed = false }) result
         (write (tagged tag T.content) (T.value_written value.now)
@@ -297,7 +297,7 @@ fn written_behind<T: EncodeValue>(alloc: Global, tag: Tag, value: &T) -> Result<
     Ok(out)
 }
 
-/// Returns a header and a content.
+/// Returns the encoding of a content with a header.
 pub fn der_behind<T: EncodeValue>(alloc: Global, tag: Tag, value: &T) -> Result<Vec<u8>, Error>
     ensures spelled { IsValid (tagged tag T.content) (T.value_written value.now)
         → Gives (λ v. v.items) result

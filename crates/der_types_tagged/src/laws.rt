@@ -1,4 +1,4 @@
-//! The laws of fields after tags.
+//! Laws about fields with a tag of a class.
 //!
 //! Each law is the contract of a function that does nothing.
 
@@ -14,8 +14,8 @@ ghost use Rattle.der_core.specs.EncodingRulesTypes.EncodingRules.TheVariants.{De
 ghost use Rattle.der_core.specs.Grammar.{read};
 ghost use Rattle.der_types_tagged.specs.Fields.{explicit_field, implicit_field, numbered_at};
 
-/// What a field of a class writes is read back with its number, whatever follows: by
-/// `decode_explicit` and by `decode` where it is explicit, by `decode_implicit` where it is
+/// The encoding of a field decodes to its value and number, whatever follows it: by
+/// `decode_explicit` and `decode` if the field is explicit, and by `decode_implicit` if it is
 /// implicit.
 pub fn written_is_read_back()
     ensures explicit { (class n room : ℕ) (s : Shape) (v : Value s) (rest : List ℕ)
@@ -36,7 +36,7 @@ pub fn written_is_read_back()
         ≡ Ok ((n, v), rest) }
 {}
 
-/// Where another tag stands, or the end, a field is absent and nothing is read.
+/// If another tag or the end is next, the field is absent and nothing is consumed.
 #[tactic(auto, using(crate::proofs::ReadBack::other_absent, crate::proofs::ReadBack::end_absent))]
 pub fn others_are_absent()
     ensures tag { (field other : Tag) (c : Content) (room : ℕ) (w rest : List ℕ)

@@ -1,4 +1,5 @@
-//! Values after tags of the application, context-specific and private classes (X.690 8.14).
+//! Values with tags of the application, context-specific and private classes (X.690 8.14). Users
+//! import the items of this crate from `der_types`.
 #![tactic(auto)]
 
 mod application;

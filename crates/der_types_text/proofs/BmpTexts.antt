@@ -1,4 +1,4 @@
--- Texts that any bytes encode, pairs of bytes, and the characters that they spell.
+-- Lemmas about texts of any bytes, pairs of bytes, and the characters of a BMPString.
 use Rattle.std.proofs.Common.{◌≡◌, ℕ, zero, suc, ◌<◌, ◌%◌, Bool, true, false, List, [], ◌∷◌, ◌++◌, length, get_or, Ok, Err, refl, ap, sym, ◌∙◌, arith, nat_eq, encode_utf8_all, chars, IsUtf8}
 use Rattle.std.specs.Cmp.Lexicographic.{pointwise}
 use Rattle.std.specs.List.{list_all}
@@ -19,7 +19,7 @@ use Rattle.der_core.specs.Octets.{IsOctets}
 use Rattle.der_core.specs.TagTypes.Tag.{Tag}
 use Rattle.der_core.specs.Texts.{any_octet, is_within, text_read}
 
--- pairs are an even number of bytes
+-- Pairs are an even number of bytes.
 pub are_pairs-even : (w : List ℕ) → are_pairs w ≡ nat_eq (length w % 2) 0
 are_pairs-even [] = refl
 are_pairs-even (a ∷ []) = refl
@@ -27,11 +27,11 @@ are_pairs-even (a ∷ b ∷ w) =
     let e : length (a ∷ b ∷ w) % 2 ≡ length w % 2 = omega arith in
     rw e (are_pairs-even w)
 
--- bytes that are pairs are those of their characters
+-- Bytes that are pairs are the encoding of their characters.
 pub are_bmp-spelled : (w : List ℕ) → IsBytes w → are_bmp w ≡ true → w ≡ bmp_octets (units w)
 are_bmp-spelled w h e = sym (bmp_octets-units w (octets_are w h) (and_parts (are_pairs w) (list_all is_unit (units w)) e).0)
 
--- one character more
+-- Appending a character.
 pub bmp_octets-push : (us : List ℕ) (u : ℕ) → bmp_octets (us ++ u ∷ []) ≡ bmp_octets us ++ unit_octets u
 unfolding bmp_octets
 bmp_octets-push us u = flat_map-append unit_octets us (u ∷ [])
@@ -39,7 +39,7 @@ bmp_octets-push us u = flat_map-append unit_octets us (u ∷ [])
 pub list_all-push : (p : ℕ → Bool) (us : List ℕ) (u : ℕ) → list_all p us ≡ true → p u ≡ true → list_all p (us ++ u ∷ []) ≡ true
 list_all-push p us u h e = list_all-append p us (u ∷ []) ∙ rw (h, e) refl
 
--- one that is rejected
+-- A list with a character that isn't accepted.
 pub list_all-refused : (p : ℕ → Bool) (xs : List ℕ) (i c : ℕ) → i < length xs → c ≡ get_or xs i c → p c ≡ false → list_all p xs ≡ false
 list_all-refused p [] i c h at e = absurd (omega arith)
 list_all-refused p (x ∷ xs) zero c h at e = rw (ap p (sym at) ∙ e) refl
@@ -47,7 +47,7 @@ list_all-refused p (x ∷ xs) (suc i) c h at e =
     let more = list_all-refused p xs i c (omega arith) at e in
     grind (arith, nat_tests)
 
--- equal bytes, equal characters
+-- Strings are equal exactly if their bytes are.
 pub pointwise-bmp_octets : (us vs : List ℕ) → pointwise nat_eq (bmp_octets us) (bmp_octets vs) ≡ pointwise nat_eq us vs
 pointwise-bmp_octets us vs =
     let octets = slice_eq-Decides Decides-eqb (bmp_octets us) (bmp_octets vs) (pointwise nat_eq (bmp_octets us) (bmp_octets vs)) refl in
@@ -63,9 +63,9 @@ bmp_from-refused cs h = cond-false (list_all is_unit cs) (fine cs) (Err (kinds.V
 
 pub ruleset pairs = (are_pairs-even, are_bmp-spelled)
 
--- The characters of a BMPString are characters of a text.
+-- The characters of a BMPString are characters of a text
 
--- bytes are of one list of characters
+-- Strings with the same bytes have the same characters.
 pub one_string : (us vs : List ℕ) → bmp_octets us ≡ bmp_octets vs → us ≡ vs
 one_string us vs e = sym (units-octets us) ∙ ap units e ∙ units-octets vs
 
@@ -78,19 +78,19 @@ bmp_scalars (u ∷ us) h =
     let parts = and_parts (is_unit u) (list_all is_unit us) h in
     and_from (scalar u) (scalars us) (unit_scalar u parts.0) (bmp_scalars us parts.1)
 
--- what a string prints is read as it
+-- The text that a string prints gives the same string.
 pub printed_read : (us : List ℕ) → IsBmp us → bmp_from (chars (encode_utf8_all us)) ≡ Ok us
 printed_read us h =
     let same : chars (encode_utf8_all us) ≡ us = chars-encodes us (bmp_scalars us h) in
     rw same (bmp_from-ok us h)
 
--- what is read of a text prints it
+-- A string that was made from a text prints that text.
 pub read_printed : (text us : List ℕ) → IsUtf8 text → bmp_from (chars text) ≡ Ok us → encode_utf8_all us ≡ text
 read_printed text us utf8 e =
     let parts = if_ok (list_all is_unit (chars text)) (kinds.Value tags.BmpString) (fine (chars text)) us e in
     ap encode_utf8_all (sym (ok_is (chars text) us parts.1)) ∙ encodes-chars text utf8
 
--- Texts of ASCII characters are UTF-8.
+-- Texts of ASCII characters are UTF-8
 
 pub ascii_is_utf8 : (p : ℕ → Bool) (w : List ℕ) → ((b : ℕ) → p b ≡ true → b < 128) → list_all p w ≡ true → IsUtf8 w
 ascii_is_utf8 p w below e = IsUtf8-from_ascii w (all_ascii p w below e)
@@ -102,7 +102,7 @@ ascii_octets p (b ∷ w) below e =
     let small = below b parts.0 in
     (omega arith, ascii_octets p w below parts.1)
 
--- Any bytes are a text of any bytes.
+-- Any bytes are a text of the repertoire of all bytes
 
 pub all_within : (w : List ℕ) → list_all (is_within any_octet) w ≡ true
 all_within [] = refl

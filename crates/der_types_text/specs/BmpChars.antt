@@ -1,4 +1,4 @@
--- What contracts see of the iterators over a `BmpString`: the characters that are left.
+-- The abstract values of the iterators over a `BmpString`: the characters that are left.
 use Rattle.std.specs.Prelude.{ℕ, List}
 use Rattle.der_core.specs.BmpStrings.{IsBmp, units}
 use Rattle.der_types_text.specs.declared.bmp_chars.BmpCodepoints.TheInside.{Inside as CodepointsInside}

@@ -1,4 +1,4 @@
--- The order of texts is that of their contents, whatever their lengths.
+-- The order of BMPStrings, which is that of their contents, whatever their lengths are.
 use Rattle.std.specs.Prelude.{◌≡◌, ℕ, ◌/◌, ◌%◌, List, [], ◌∷◌, length}
 use Rattle.std.proofs.Common.{refl, sym, ◌∙◌, arith}
 use Rattle.std.specs.Cmp.Lexicographic.{slice_cmp}
@@ -11,7 +11,7 @@ use Rattle.der_core.specs.OrdLaws.{octets_order}
 use Rattle.der_core.proofs.OrderLaws.{split_cmp}
 use Rattle.der_core.proofs.OrderLaws.{then_assoc}
 
--- characters are in the order of their bytes, of which the higher stands first
+-- Characters are ordered as their bytes are, because the more significant byte comes first.
 pub bmp_octets_cmp : (us vs : List ℕ) → slice_cmp nat_cmp (bmp_octets us) (bmp_octets vs)
     ≡ slice_cmp nat_cmp us vs
 unfolding bmp_octets

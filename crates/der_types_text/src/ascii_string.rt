@@ -19,7 +19,7 @@ use std::marker::{Model, PhantomData};
 
 /// A text of a string type whose characters are ASCII, of fewer than 2^32 bytes (X.680 41).
 ///
-/// Contracts see the list of its bytes. Texts are compared by their bytes.
+/// In contracts, its value is the list of its bytes. Texts are compared by their bytes.
 #[derive(Drop)]
 #[derive_where(PartialEq, Eq, PartialOrd, Ord, Hash)]
 pub struct AsciiString<T: AsciiType> {
@@ -75,7 +75,7 @@ impl<T: AsciiType> AsciiString<T> {
     ///
     /// # Errors
     ///
-    /// Fails if memory runs out.
+    /// - `AllocError`: memory runs out.
     pub fn clone(&self, alloc: Global) -> Result<AsciiString<T>, AllocError>
         ensures { IfOk result (λ t. t ≡ self.now) }
     {
@@ -105,21 +105,21 @@ impl<T: AsciiType> AsciiString<T> {
         self.text.as_bytes().len()
     }
 
-    /// Returns whether there isn't a character.
+    /// Returns whether there are no characters.
     pub fn is_empty(&self) -> bool
         ensures { IsTrue result ↔ (self.now ≡ []) }
     {
         self.text.is_empty()
     }
 
-    /// Returns the text itself.
+    /// Returns the text, and consumes the value.
     pub fn into_string(self) -> String
         ensures { string_bytes result ≡ self }
     {
         self.text.into_string()
     }
 
-    /// Returns the text, borrowed.
+    /// Returns the borrowed form of the text.
     pub fn owned_to_ref(&self) -> AsciiStringRef<'_, T>
         ensures { result.text.now ≡ self.now }
     {
@@ -130,7 +130,8 @@ impl<T: AsciiType> AsciiString<T> {
     }
 }
 
-/// Wraps a text whose bytes are characters of the type, and fewer than 2^32.
+/// Wraps a text. The error is `Overflow` if it has 2^32 bytes or more, and `Value` if a byte isn't
+/// a character of the type.
 impl<T: AsciiType> TryFrom<String> for AsciiString<T> {
     type Error = Error;
 
@@ -138,6 +139,7 @@ impl<T: AsciiType> TryFrom<String> for AsciiString<T> {
         (text_from T.repertoire T.string_tag (string_bytes s)) };
 
     fn try_from(text: String) -> Result<AsciiString<T>, Error> {
+        // Checks that each byte is a character of the type.
         let _ = AsciiStringRef::<T>::new(text.as_bytes())?;
         Ok(AsciiString {
             text: StringOwned::new(text)?,
@@ -190,6 +192,7 @@ impl<'a, T: AsciiType> Leaf<'a> for AsciiString<T> {
 
 impl<T: AsciiType> Octets for AsciiString<T> {
     fn content(&self) -> &[u8] {
+        // Only for the proof: `as_str` states that the characters are those of the type.
         let _text = self.as_str();
         self.as_bytes()
     }

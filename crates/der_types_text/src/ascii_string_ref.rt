@@ -57,7 +57,7 @@ impl<'a, T: AsciiType> AsciiStringRef<'a, T> {
     ///
     /// # Errors
     ///
-    /// - `Value` with the tag: a byte isn't a character of the type.
+    /// - `Value`: a byte isn't a character of the type. The error has the tag.
     #[tactic(auto, unfolding(crate::specs::Opened::text_read))]
     pub(crate) fn spelled_by(tag: Tag, octets: &'a [u8]) -> Result<AsciiStringRef<'a, T>, Error>
         requires { Fits octets.now }
@@ -113,7 +113,7 @@ impl<'a, T: AsciiType> AsciiStringRef<'a, T> {
         self.text.len()
     }
 
-    /// Returns whether there isn't a character.
+    /// Returns whether there are no characters.
     pub fn is_empty(&self) -> bool
         ensures { IsTrue result ↔ (self.now.text.now ≡ []) }
     {
@@ -124,7 +124,7 @@ impl<'a, T: AsciiType> AsciiStringRef<'a, T> {
     ///
     /// # Errors
     ///
-    /// Fails if memory runs out.
+    /// - `AllocError`: memory runs out.
     pub fn ref_to_owned(&self, alloc: Global) -> Result<AsciiString<T>, AllocError>
         ensures { IfOk result (λ t. t ≡ self.now.text.now) }
     {
@@ -148,7 +148,7 @@ impl<'a, T: AsciiType> From<&AsciiStringRef<'a, T>> for AsciiStringRef<'a, T> {
     }
 }
 
-/// The bytes of the text.
+/// Returns the bytes of the text.
 impl<'a, T: AsciiType> From<AsciiStringRef<'a, T>> for &'a [u8] {
     ghost from_gives = { λ t s. s.now ≡ t.text.now };
 
@@ -207,6 +207,7 @@ impl<'a, T: AsciiType> Leaf<'a> for AsciiStringRef<'a, T> {
 
 impl<'a, T: AsciiType> Octets for AsciiStringRef<'a, T> {
     fn content(&self) -> &[u8] {
+        // Only for the proof: `as_str` states that the characters are those of the type.
         let _text = self.as_str();
         self.as_bytes()
     }

@@ -6,9 +6,10 @@ ghost use Rattle.der_core.specs.Texts.{Repertoire, is_within};
 
 use der_core::Tag;
 
-/// A character string type whose characters are ASCII, one byte each (X.680 41, X.690 8.23): its
-/// tag, and which characters it has.
+/// A character string type whose characters are ASCII, one byte each (X.680 41, X.690 8.23). It
+/// states its tag and its characters.
 pub trait AsciiType {
+    /// The tag of the type.
     ghost string_tag: { Tag };
 
     /// The bytes of its characters.
@@ -18,13 +19,13 @@ pub trait AsciiType {
     fn tag() -> Tag
         ensures { result ≡ string_tag };
 
-    /// Returns the name of the type, with which its `Debug` text begins.
+    /// Returns the name of the type, with which the `Debug` text of its values begins.
     fn name() -> &'static str;
 
     /// Returns whether a byte is a character of the type.
     fn has_character(octet: u8) -> bool
         ensures { result ≡ is_within repertoire octet };
 
-    /// The characters are ASCII.
+    /// All characters are ASCII.
     ghost is_ascii: { (b : ℕ) → is_within repertoire b ≡ true → b < 128 };
 }

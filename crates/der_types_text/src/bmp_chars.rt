@@ -1,4 +1,4 @@
-//! Iterating over the characters of a BMPString.
+//! Iterators over the code units and the characters of a BMPString (X.680 41.15).
 
 ghost use Rattle.std.specs.Prelude.{◌≡◌, ◌<◌, true, MatchOption};
 ghost use Rattle.std.specs.Iterator.{YieldsFirst, item_count};
@@ -6,7 +6,7 @@ ghost use Rattle.der_core.specs.BmpStrings.{IsBmp, is_unit, units};
 
 use std::marker::Model;
 
-/// An iterator over the characters of a BMPString, as numbers.
+/// An iterator over the code units of a BMPString, as numbers.
 #[derive(Debug, Drop)]
 pub struct BmpCodepoints<'a> {
     octets: &'a [u8],
@@ -23,7 +23,8 @@ impl<'a> Model for BmpCodepoints<'a> {
 }
 
 impl<'a> BmpCodepoints<'a> {
-    /// Returns the code units of pairs of bytes, the higher first.
+    /// Returns an iterator over the code units of a content. Each has two bytes, the more
+    /// significant one first.
     pub(crate) fn of(octets: &'a [u8]) -> BmpCodepoints<'a>
         ensures { result ≡ units octets.now }
     {
@@ -65,17 +66,17 @@ impl<'a> Model for BmpChars<'a> {
     ghost invariant = { AreChars };
 }
 
-/// Returns the character with a number that isn't half of a surrogate pair.
+/// Returns the character with the number of this code unit, which isn't a surrogate.
 fn char_of(unit: u16) -> char
     requires { is_unit unit ≡ true }
     ensures { result ≡ unit }
 {
-    // SAFETY: a unit is below 2^16 and isn't half of a surrogate pair, so it is a scalar value.
+    // SAFETY: a unit is below 2^16 and isn't a surrogate, so it is a scalar value.
     unsafe { char::from_u32_unchecked(u32::from(unit)) }
 }
 
 impl<'a> BmpChars<'a> {
-    /// Returns the code units of pairs of bytes, the higher first.
+    /// Returns an iterator over the characters of a content, whose code units aren't surrogates.
     pub(crate) fn of(octets: &'a [u8]) -> BmpChars<'a>
         requires { IsBmp (units octets.now) }
         ensures { result ≡ units octets.now }

@@ -27,10 +27,10 @@ use std::fmt;
 use std::hash::{Hash, Hasher};
 use std::marker::Model;
 
-/// An owned BMPString (X.680 41, X.690 8.23.8): characters below 10000 hex, in two bytes each, the
-/// higher byte first. None is half of a surrogate pair.
+/// An owned BMPString (X.680 41, X.690 8.23.8): characters below U+10000, in two bytes each, the
+/// more significant byte first. None is a surrogate.
 ///
-/// Contracts see the list of its characters.
+/// In contracts, its value is the list of its characters.
 #[derive(Drop)]
 pub struct BmpString {
     bytes: Vec<u8>,
@@ -48,7 +48,7 @@ impl Model for BmpString {
     ghost invariant = { IsBmpString };
 }
 
-/// Returns whether no pair of bytes is half of a surrogate pair.
+/// Returns whether no pair of bytes is a surrogate.
 fn has_no_half(octets: &[u8]) -> bool
     ensures { result ≡ list_all is_unit (units octets.now) }
 {
@@ -60,7 +60,7 @@ fn has_no_half(octets: &[u8]) -> bool
     true
 }
 
-/// Returns whether bytes are pairs, each a character.
+/// Returns whether the bytes are pairs, each of which is a character.
 #[tactic(auto, using(crate::proofs::BmpTexts::pairs))]
 fn are_characters(octets: &[u8]) -> bool
     ensures exact { result ≡ are_bmp octets.now }
@@ -70,7 +70,7 @@ fn are_characters(octets: &[u8]) -> bool
     octets.len() % 2 == 0 && has_no_half(octets)
 }
 
-/// Returns a character as a number, if it fits two bytes.
+/// Returns the number of a character, or `None` if it doesn't fit two bytes.
 fn unit_of(character: char) -> Option<u16>
     ensures { MatchOption result (is_unit character ≡ false) (λ unit. (unit ≡ character)
         × (is_unit character ≡ true)) }
@@ -90,7 +90,7 @@ fn push_unit(octets: &mut Vec<u8>, unit: u16) -> Result<(), AllocError>
 ///
 /// # Errors
 ///
-/// - `Value`: a character is 10000 hex or above.
+/// - `Value`: a character is U+10000 or above.
 /// - `OutOfMemory`: memory runs out.
 fn octets_of(alloc: Global, text: &str) -> Result<Vec<u8>, Error>
     ensures ok { IfOk result (λ v. v.items ≡ bmp_octets (chars text.now)) }
@@ -114,7 +114,7 @@ impl BmpString {
     /// # Errors
     ///
     /// - `Overflow`: there are 2^32 bytes or more.
-    /// - `Value`: the number of bytes is odd, or a pair is half of a surrogate pair.
+    /// - `Value`: the number of bytes is odd, or a pair is a surrogate.
     #[tactic(auto, unfolding(crate::specs::Opened::bmp_read))]
     pub fn from_ucs2(bytes: Vec<u8>) -> Result<BmpString, Error>
         ensures { GivesNow (λ s. s) result (ucs2_from bytes.items) }
@@ -135,7 +135,7 @@ impl BmpString {
     ///
     /// # Errors
     ///
-    /// - `Value`: a character is 10000 hex or above.
+    /// - `Value`: a character is U+10000 or above.
     /// - `OutOfMemory`: memory runs out.
     pub fn from_utf8(alloc: Global, text: &str) -> Result<BmpString, Error>
         ensures { Gives (λ s. s) result (bmp_from (chars text.now)) }
@@ -148,7 +148,7 @@ impl BmpString {
     ///
     /// # Errors
     ///
-    /// - `Value`: a character is 10000 hex or above.
+    /// - `Value`: a character is U+10000 or above.
     /// - `OutOfMemory`: memory runs out.
     pub fn from_str(alloc: Global, text: &str) -> Result<BmpString, Error>
         ensures { Gives (λ s. s) result (bmp_from (chars text.now)) }
@@ -160,7 +160,7 @@ impl BmpString {
     ///
     /// # Errors
     ///
-    /// Fails if memory runs out.
+    /// - `AllocError`: memory runs out.
     pub fn clone(&self, alloc: Global) -> Result<BmpString, AllocError>
         ensures { IfOk result (λ s. s ≡ self.now) }
     {
@@ -168,28 +168,28 @@ impl BmpString {
         Ok(BmpString { bytes })
     }
 
-    /// Returns the content bytes: the characters, two bytes each, the higher first.
+    /// Returns the content bytes, two for each character, the more significant one first.
     pub fn as_bytes(&self) -> &[u8]
         ensures { result.now ≡ bmp_octets self.now }
     {
         self.bytes.as_slice()
     }
 
-    /// Returns the content bytes themselves.
+    /// Returns the content bytes, and consumes the value.
     pub fn into_bytes(self) -> Vec<u8>
         ensures { result.items ≡ bmp_octets self }
     {
         self.bytes
     }
 
-    /// Returns the characters, in order.
+    /// Returns an iterator over the characters, in order.
     pub fn chars(&self) -> BmpChars<'_>
         ensures { result ≡ self.now }
     {
         BmpChars::of(self.bytes.as_slice())
     }
 
-    /// Returns the characters as numbers, in order.
+    /// Returns an iterator over the characters as numbers, in order.
     pub fn codepoints(&self) -> BmpCodepoints<'_>
         ensures { result ≡ self.now }
     {
@@ -223,7 +223,7 @@ impl Primitive for BmpString {
     ghost leaf_plain = { λ s. s };
 }
 
-/// The characters, two bytes each.
+/// The content is the characters, two bytes each.
 impl<'a> Leaf<'a> for BmpString {
     #[tactic(auto, unfolding(crate::specs::Opened::bmp_read))]
     fn from_content(alloc: Global, tag: Tag, octets: &'a [u8]) -> Result<BmpString, Error> {
@@ -237,6 +237,7 @@ impl<'a> Leaf<'a> for BmpString {
 
 impl Octets for BmpString {
     fn content(&self) -> &[u8] {
+        // Only for the proof: `BmpChars` only has characters that BMPString has.
         let _characters = self.chars();
         self.as_bytes()
     }
@@ -270,7 +271,7 @@ impl Eq for BmpString {
     ghost laws = { nat_list_eq_equiv };
 }
 
-/// The order of their characters, which is that of their bytes.
+/// Compares the characters, which are ordered as their bytes are.
 impl PartialOrd for BmpString {
     ghost partial_cmp = { λ a b. Some (slice_cmp nat_cmp a b) };
 
@@ -311,7 +312,7 @@ impl OrdIsValueOrd for BmpString {
     ghost order = { bmp_order };
 }
 
-/// Writes the characters.
+/// Prints the characters.
 impl fmt::Display for BmpString {
     ghost output = { λ s. Some (encode_utf8_all s) };
 

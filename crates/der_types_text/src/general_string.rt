@@ -15,8 +15,8 @@ use der_core::{Error, FixedTag, Leaf, OrdIsValueOrd, Tag};
 use std::alloc::Global;
 use std::convert::AsSlice;
 
-/// A borrowed GeneralString (X.680 41, X.690 8.23.5): any bytes, fewer than 2^32, whose character
-/// sets are left to the reader.
+/// A borrowed GeneralString (X.680 41, X.690 8.23.5): any bytes, fewer than 2^32. Their character
+/// sets aren't interpreted.
 #[derive(Clone, Copy, Debug, PartialEq, Eq, PartialOrd, Ord, Hash)]
 pub struct GeneralStringRef<'a> {
     /// The bytes.
@@ -29,7 +29,7 @@ impl<'a> GeneralStringRef<'a> {
     ///
     /// # Errors
     ///
-    /// - `Overflow`: 2^32 bytes or more.
+    /// - `Overflow`: there are 2^32 bytes or more.
     pub fn new(bytes: &'a [u8]) -> Result<GeneralStringRef<'a>, Error>
         ensures ok { IfOk result (λ s. s.bytes.now ≡ bytes.now) }
         ensures exact { GivesNow (λ s. s.bytes.now) result (counted bytes.now) }
@@ -52,7 +52,7 @@ impl<'a> GeneralStringRef<'a> {
         self.bytes.len()
     }
 
-    /// Returns whether there isn't a byte.
+    /// Returns whether there are no bytes.
     pub fn is_empty(&self) -> bool
         ensures { IsTrue result ↔ (self.now.bytes.now ≡ []) }
     {
@@ -96,7 +96,7 @@ impl<'a> Primitive for GeneralStringRef<'a> {
     ghost leaf_plain = { λ s. s.bytes.now };
 }
 
-/// Any bytes.
+/// The content is the bytes.
 impl<'a> Leaf<'a> for GeneralStringRef<'a> {
     ghost takes_memory = { false };
 
@@ -117,7 +117,7 @@ impl<'a> Octets for GeneralStringRef<'a> {
     }
 }
 
-/// The bytes (X.690 8.23.5).
+/// Compares the bytes (X.690 8.23.5).
 impl<'a> Ordered for GeneralStringRef<'a> {}
 
 impl<'a> OrdIsValueOrd for GeneralStringRef<'a> {

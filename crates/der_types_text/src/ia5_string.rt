@@ -9,7 +9,7 @@ use crate::ascii_string_ref::AsciiStringRef;
 use crate::ascii_type::AsciiType;
 use der_core::Tag;
 
-/// The characters of IA5String (X.680 41): the bytes below 80 hex.
+/// The characters of IA5String (X.680 41): the bytes below `0x80`.
 #[derive(Clone, Copy, Debug, PartialEq, Eq)]
 pub struct Ia5;
 

@@ -1,8 +1,8 @@
-//! The laws of texts: a borrowed text and the owned one of the same bytes are alike. The owned form
-//! of a `Utf8StringRef` is a `String`. What BMPStrings print is read back.
+//! Laws about texts: a borrowed text and the owned one with the same bytes agree. The owned form of
+//! a `Utf8StringRef` is a `String`.
 //!
-//! Each law is the contract of a function that does nothing. What `new`, `as_str`, `as_bytes`,
-//! `len` and `is_empty` answer is said at each in the same words.
+//! Each law is the contract of a function that does nothing. The functions that both forms have are
+//! documented in the same words.
 
 ghost use Rattle.std.specs.Prelude.{◌≡◌, string_bytes, ℕ, List, Ok, encode_utf8_all, chars, IsUtf8};
 ghost use Rattle.der_core.specs.Shapes.{contents, octets_of};
@@ -22,13 +22,13 @@ use std::convert::{AsSlice, AsStr};
 use std::fmt::Display;
 use std::hash::Hash;
 
-/// The same bytes decode in both forms, or are rejected in both: the forms have one shape.
+/// Both forms decode from the same bytes, because they have the same shape.
 pub fn forms_read_alike<T: AsciiType>()
     ensures { ⟦<AsciiStringRef<'static, T> as Shaped>⟧.shape ≡ ⟦<AsciiString<T> as Shaped>⟧.shape }
 {}
 
-/// Both forms have the same content and the same encoding, print alike, and give the same bytes and
-/// the same text.
+/// Both forms have the same content and the same encoding, print alike, and return the same bytes
+/// and the same text.
 pub fn forms_answer_alike<T: AsciiType>(borrowed: &AsciiStringRef<'_, T>, owned: &AsciiString<T>)
     requires { borrowed.now.text.now ≡ owned.now }
     ensures contents { contents ⟦<AsciiStringRef<'static, T> as ShapedValue>⟧.content
@@ -47,7 +47,7 @@ pub fn forms_answer_alike<T: AsciiType>(borrowed: &AsciiStringRef<'_, T>, owned:
         ≡ ⟦<AsciiString<T> as AsStr>⟧.text owned.now }
 {}
 
-/// Two texts are equal, hash, and are in each order alike in both forms: by `cmp`, `partial_cmp`,
+/// Two texts are equal, are hashed, and are ordered alike in both forms, by `cmp`, `partial_cmp`,
 /// `value_cmp` and `der_cmp`.
 pub fn forms_compare_alike<T: AsciiType>(
     a: &AsciiStringRef<'_, T>,
@@ -79,13 +79,13 @@ pub fn forms_compare_alike<T: AsciiType>(
         (⟦<AsciiString<T> as Shaped>⟧.plain owned_b.now) }
 {}
 
-/// The same bytes decode as a `Utf8StringRef` and as a `String`, or are rejected as both.
+/// `Utf8StringRef` and `String` decode from the same bytes.
 pub fn utf8_forms_read_alike()
     ensures { ⟦<Utf8StringRef<'static> as Shaped>⟧.shape ≡ ⟦<String as Shaped>⟧.shape }
 {}
 
 /// A `Utf8StringRef` and its `String` have the same content and the same encoding, print alike, and
-/// give the same text.
+/// return the same text.
 pub fn utf8_forms_answer_alike(borrowed: &Utf8StringRef<'_>, owned: &String)
     requires { borrowed.now.text.now ≡ string_bytes owned.now }
     ensures contents { contents ⟦<Utf8StringRef<'static> as ShapedValue>⟧.content
@@ -101,7 +101,7 @@ pub fn utf8_forms_answer_alike(borrowed: &Utf8StringRef<'_>, owned: &String)
         ≡ ⟦<String as AsStr>⟧.text owned.now }
 {}
 
-/// Two `Utf8StringRef`s are equal, hash, and are in each order as their `String`s do.
+/// Two `Utf8StringRef` values are equal, are hashed, and are ordered as their `String` values are.
 pub fn utf8_forms_compare_alike(
     a: &Utf8StringRef<'_>,
     b: &Utf8StringRef<'_>,
@@ -137,15 +137,15 @@ pub fn octets_identify()
     ensures { (us vs : List ℕ) → bmp_octets us ≡ bmp_octets vs → us ≡ vs }
 {}
 
-/// Characters are in the order of their bytes.
+/// BMPStrings are ordered by their characters, which are ordered as their bytes are.
 #[tactic(auto, using(crate::specs::BmpOrders::bmp_octets_cmp))]
 pub fn order_is_that_of_octets()
     ensures { (us vs : List ℕ) → slice_cmp nat_cmp us vs
         ≡ octets_cmp (bmp_octets us) (bmp_octets vs) }
 {}
 
-/// `from_utf8` makes the same string from what a string prints, and the string that it makes from a
-/// text prints that text.
+/// `from_utf8` of the text that a BMPString prints gives the same string, and a string that
+/// `from_utf8` made from a text prints that text.
 #[tactic(auto, using(crate::proofs::BmpTexts::printed_read, crate::proofs::BmpTexts::read_printed))]
 pub fn printed_strings_are_read_back()
     ensures read { (us : List ℕ) → IsBmp us → bmp_from (chars (encode_utf8_all us)) ≡ Ok us }

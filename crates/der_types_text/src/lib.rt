@@ -1,4 +1,4 @@
-//! Character strings of ASN.1 in DER.
+//! The character string types of ASN.1. Users import the items of this crate from `der_types`.
 #![tactic(auto)]
 
 mod ascii_string;

@@ -28,11 +28,11 @@ pub struct Utf8StringRef<'a> {
     ghost short: { Fits text.now },
 }
 
-/// Returns the text whose UTF-8 the bytes are.
+/// Returns the text of UTF-8 bytes.
 ///
 /// # Errors
 ///
-/// - `Utf8`: they are none.
+/// - `Utf8`: the bytes aren't UTF-8.
 #[tactic(auto, using(crate::proofs::Cited::utf8_reads))]
 fn utf8_of(octets: &[u8]) -> Result<&str, Error>
     ensures same { IfOk result (λ s. s.now ≡ octets.now) }
@@ -46,8 +46,8 @@ impl<'a> Utf8StringRef<'a> {
     ///
     /// # Errors
     ///
-    /// - `Overflow`: 2^32 bytes or more.
-    /// - `Utf8`: they aren't UTF-8.
+    /// - `Overflow`: there are 2^32 bytes or more.
+    /// - `Utf8`: the bytes aren't UTF-8.
     pub fn new(input: &'a [u8]) -> Result<Utf8StringRef<'a>, Error>
         ensures ok { IfOk result (λ t. t.text.now ≡ input.now) }
         ensures exact { GivesNow (λ t. t.text.now) result (utf8_from input.now) }
@@ -78,7 +78,7 @@ impl<'a> Utf8StringRef<'a> {
         self.text.len()
     }
 
-    /// Returns whether there isn't a character.
+    /// Returns whether there are no characters.
     pub fn is_empty(&self) -> bool
         ensures { IsTrue result ↔ (self.now.text.now ≡ []) }
     {
@@ -89,7 +89,7 @@ impl<'a> Utf8StringRef<'a> {
     ///
     /// # Errors
     ///
-    /// Fails if memory runs out.
+    /// - `AllocError`: memory runs out.
     pub fn ref_to_owned(&self, alloc: Global) -> Result<String, AllocError>
         ensures { IfOk result (λ s. string_bytes s ≡ self.now.text.now) }
     {
@@ -97,7 +97,7 @@ impl<'a> Utf8StringRef<'a> {
     }
 }
 
-/// Wraps a text whose length a `Length` can count.
+/// Wraps a text. The error is `Overflow` if it has 2^32 bytes or more.
 impl<'a> TryFrom<&'a str> for Utf8StringRef<'a> {
     type Error = Error;
 
@@ -109,7 +109,7 @@ impl<'a> TryFrom<&'a str> for Utf8StringRef<'a> {
     }
 }
 
-/// Wraps a text whose length a `Length` can count.
+/// Wraps a text. The error is `Overflow` if it has 2^32 bytes or more.
 impl<'a> TryFrom<&'a String> for Utf8StringRef<'a> {
     type Error = Error;
 

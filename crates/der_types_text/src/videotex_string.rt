@@ -8,7 +8,7 @@ use crate::ascii_string_ref::AsciiStringRef;
 use crate::ascii_type::AsciiType;
 use der_core::Tag;
 
-/// The characters of VideotexString (X.680 41). Of its code pages, only the bytes below 80 hex are
+/// The characters of VideotexString (X.680 41). Of its code pages, only the bytes below `0x80` are
 /// accepted, as ASCII.
 #[derive(Clone, Copy, Debug, PartialEq, Eq)]
 pub struct Videotex;

@@ -1,4 +1,4 @@
--- Sets of named bits, byte by byte.
+-- Lemmas about sets of named bits, byte by byte.
 use Rattle.std.proofs.Common.{◌≡◌, ℕ, ◌*◌, ◌%◌, ◌≤◌, true, List, [], ◌∷◌, length, arith, suc, ◌-◌, get_or, refl, sym, ◌∙◌, ap, Bool, map, zero, ◌+◌, ◌/◌, ◌<◌, ◌^◌, false, ◌++◌, take, drop, inl, inr, Ok, Err, nat_lt, ◌==◌, ◌&&◌, not, slice_set, append-nil, pow_mono, drop-cons}
 use Rattle.std.proofs.lemmas.Bool.{and_parts, ltb-true, eqb-true, eq-eqb, cases_eq}
 use Rattle.der_core.specs.BitStrings.{are_bits, last_octet}
@@ -15,13 +15,13 @@ use Rattle.der_core.specs.NamedBits.{set_octets, spelled_set, unused_bits, named
 use Rattle.der_core.proofs.Results.{IsBytes}
 use Rattle.der_core.proofs.IntegerLaws.{set_octets-zero, set_octets-step, named_sound}
 
--- Bit strings whose bits all count, and how many bits of others don't.
+-- Bit strings without unused bits, and the number of unused bits of others
 
--- How many bits there are.
+-- The number of bits.
 pub runs : (f : ℕ → Bool) (p n : ℕ) → length (map f (range_with_len p n)) ≡ n
 runs f p n = length-map (range_with_len p n) f ∙ length-range_with_len p n
 
--- The last byte is the one at the last place.
+-- The last byte is the one at the last index.
 pub last_place : (xs : List ℕ) → last_octet xs ≡ get_or xs (length xs - 1) 0
 last_place [] = refl
 last_place (x ∷ []) = refl
@@ -33,7 +33,7 @@ pub all_bits : (w : List ℕ) → are_bits 0 w ≡ true
 all_bits [] = eq-eqb 0 0 (omega arith)
 all_bits (b ∷ w) = eq-eqb (last_octet (b ∷ w) % 1) 0 (omega arith)
 
--- no more than there are
+-- There are no more unused bits than bits.
 pub few_unused : (u : ℕ) (w : List ℕ) → are_bits u w ≡ true → u ≤ 8 * length w
 few_unused u [] e = let n = eqb-true u 0 e in omega arith
 few_unused u (b ∷ w) e = let n = ltb-true u 8 (and_parts _ _ e).0 in omega arith
@@ -41,7 +41,7 @@ few_unused u (b ∷ w) e = let n = ltb-true u 8 (and_parts _ _ e).0 in omega ari
 none_of : (n : ℕ) → n ≡ 0 → length (set_octets n) ≡ 0
 none_of n e = ap (λ m. length (set_octets m)) e ∙ ap (λ (w : List ℕ). length w) set_octets-zero
 
--- a number below 256 to the k has at most k bytes
+-- A number below 256 ^ k has at most k bytes.
 pub set_octets-short : (k n : ℕ) → n < 256 ^ k → length (set_octets n) ≤ k
 set_octets-short zero n h = omega (arith, none_of n (omega arith))
 set_octets-short (suc k) n h = elim (cases_eq n 0) [
@@ -49,13 +49,13 @@ set_octets-short (suc k) n h = elim (cases_eq n 0) [
   | inr some ↦ omega (arith, ap (λ (w : List ℕ). length w) (set_octets-step n (omega arith)), set_octets-short k (n / 256) (div_below n 256 (256 ^ k) (omega arith) (rw pow-suc at h)))
 ]
 
--- Reading
+-- Decoding
 
 pub ends : (u : ℕ) (w : List ℕ) → 0 < length w → ends_in_one u w ≡ (not (get_or w (length w - 1) 0 == 0) && (u == trailing_zeros w8 (get_or w (length w - 1) 0)))
 ends u [] h = absurd (omega arith)
 ends u (b ∷ w) h = ap (λ o. not (o == 0) && (u == trailing_zeros w8 o)) (last_place (b ∷ w))
 
--- the byte before those that were read
+-- The set of a suffix that begins one byte earlier.
 pub spelled_set-before : (w : List ℕ) (i : ℕ) → i < length w → spelled_set (drop i w) ≡ spelled_set (drop (i + 1) w) * 256 + reverse_bits w8 (get_or w i 0)
 unfolding spelled_set
 spelled_set-before w i h =
@@ -70,7 +70,7 @@ contents : (u : ℕ) (w : List ℕ) (n : ℕ) → u ∷ w ≡ named_octets n →
 unfolding named_octets
 contents u w n e = cc
 
--- more bytes than the names have
+-- There are more bytes than the names need.
 pub named_long : (names : ℕ) (t : Tag) (u : ℕ) (w : List ℕ) → names ≤ 64 → IsBytes (u ∷ w) → 8 < length w → ends_in_one u w ≡ true → named_read names t (u ∷ w) ≡ Err (kinds.Value t)
 unfolding named_read
 named_long names t u w few bytes long ends = by (nat_lt (spelled_set w) (2 ^ names)) refl
@@ -84,7 +84,7 @@ named_long names t u w few bytes long ends = by (nat_lt (spelled_set w) (2 ^ nam
         let short = set_octets-short 8 (spelled_set w) (omega arith) in
         absurd (omega (arith, ap (λ (x : List ℕ). length x) same))
 
--- a content of more than eight bytes isn't a set of up to 64 names
+-- A content with more than eight bytes isn't a set of at most 64 names.
 pub content_long : (names : ℕ) (t : Tag) (w : List ℕ) → 0 < length w → names ≤ 64 → IsBytes w → 8 < length (take (length w - 1) (drop 1 w))
     → ends_in_one (get_or w 0 0) (take (length w - 1) (drop 1 w)) ≡ true → named_read names t w ≡ Err (kinds.Value t)
 content_long names t [] some few bytes long ends = absurd (omega arith)
@@ -107,7 +107,7 @@ number_more n o count h l =
     let next : 256 ^ (count + 1) ≡ 256 ^ count * 256 = pow_more 256 count in
     omega arith
 
--- Writing
+-- Encoding
 
 pub left_some : (left k : ℕ) → 0 < left → left < 256 ^ k → 0 < k
 left_some left zero some h = absurd (omega arith)

@@ -1,4 +1,4 @@
--- What contracts see of an `OctetString` and of an `OctetStringRef`: the bytes.
+-- The abstract values of `OctetString` and `OctetStringRef`: the bytes.
 use Rattle.std.specs.Prelude.{ℕ, List}
 use Rattle.der_types_values.specs.declared.octet_string.OctetString.TheInside.{Inside}
 use Rattle.der_types_values.specs.declared.octet_string_ref.OctetStringRef.{OctetStringRef}

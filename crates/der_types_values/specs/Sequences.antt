@@ -1,4 +1,4 @@
--- What contracts see of a `SequenceRef`: the bytes of its content.
+-- The abstract value of a `SequenceRef`: the bytes of its content.
 use Rattle.std.specs.Prelude.{ℕ, List}
 use Rattle.der_types_values.specs.declared.sequence_ref.SequenceRef.{SequenceRef}
 

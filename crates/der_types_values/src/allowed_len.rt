@@ -1,18 +1,18 @@
-//! Bit strings whose length is restricted.
+//! Bit strings with a restricted number of bits.
 
 ghost use Rattle.std.specs.Prelude.{◌≡◌, ◌≤◌, ◌↔◌, ℕ, IsOk, IfErr};
 
 use der_core::{Error, ErrorKind, Tag};
 
-/// A BIT STRING whose number of bits is bounded (X.680 51.5).
+/// A BIT STRING type with a restricted number of bits (X.680 51.5).
 pub trait AllowedLenBitString {
-    /// The least number of bits.
+    /// The smallest number of bits.
     ghost least: { ℕ };
 
     /// The greatest number of bits.
     ghost greatest: { ℕ };
 
-    /// Returns the least number of bits.
+    /// Returns the smallest number of bits.
     fn min_bit_len() -> u16
         ensures { result ≡ least };
 
@@ -24,7 +24,7 @@ pub trait AllowedLenBitString {
     ///
     /// # Errors
     ///
-    /// - `Length`: it isn't.
+    /// - `Length`: it is outside of the bounds.
     fn check_bit_len(bit_len: u16) -> Result<(), Error>
         ensures within { IsOk result ↔ ((least ≤ bit_len) × (bit_len ≤ greatest)) }
         ensures refused { IfErr result (λ e. e.kind ≡ ErrorKind.Length Tag.BitString) }

@@ -17,10 +17,10 @@ use der_core::{BytesOwned, EncodeValue, Error, ErrorKind, FixedTag, Leaf, Length
 use std::alloc::{AllocError, Global};
 use std::marker::Model;
 
-/// BIT STRING (X.690 8.6, 11.2): bytes, fewer than 2^32, of whose last one up to seven bits are
-/// unused and zero.
+/// BIT STRING (X.690 8.6, 11.2): fewer than 2^32 bytes. Up to seven bits of the last one are
+/// unused, and these are zero.
 ///
-/// Contracts see the number of unused bits and the bytes.
+/// In contracts, its value is the number of unused bits and the bytes.
 #[derive(Debug, Drop, PartialEq, Eq, PartialOrd, Ord, Hash)]
 pub struct BitString {
     unused_bits: u8,
@@ -45,12 +45,12 @@ impl BitString {
     /// The greatest number of unused bits.
     pub const MAX_UNUSED_BITS: u8 = BitStringRef::MAX_UNUSED_BITS;
 
-    /// Returns the bits of these bytes, except for the unused ones at the end.
+    /// Returns the bit string of these bytes, without the unused bits at the end.
     ///
     /// # Errors
     ///
-    /// - `Value`: there are more than seven unused bits, or unused bits of no byte, or an unused
-    ///   bit isn't zero.
+    /// - `Value`: more than seven bits are unused, or some are although there are no bytes, or an
+    ///   unused bit isn't zero.
     /// - `Overflow`: there are 2^32 bytes or more.
     pub fn new(unused_bits: u8, bytes: Vec<u8>) -> Result<BitString, Error>
         ensures bits { IsOk result
@@ -66,11 +66,11 @@ impl BitString {
         Ok(BitString { unused_bits, bytes })
     }
 
-    /// All bits of these bytes.
+    /// Returns the bit string of all bits of these bytes.
     ///
     /// # Errors
     ///
-    /// - `Overflow`: 2^32 bytes or more.
+    /// - `Overflow`: there are 2^32 bytes or more.
     #[tactic(auto, using(crate::proofs::NamedSteps::all_bits))]
     pub fn from_bytes(bytes: Vec<u8>) -> Result<BitString, Error>
         ensures ok { IfOk result (λ b. IsLength (vec_len bytes)
@@ -100,7 +100,7 @@ impl BitString {
     ///
     /// # Errors
     ///
-    /// Fails if memory runs out.
+    /// - `AllocError`: memory runs out.
     pub fn clone(&self, alloc: Global) -> Result<BitString, AllocError>
         ensures { IfOk result (λ b. b ≡ self.now) }
     {
@@ -114,28 +114,28 @@ impl BitString {
         self.unused_bits
     }
 
-    /// Returns whether a bit is unused.
+    /// Returns whether any bit is unused.
     pub fn has_unused_bits(&self) -> bool
         ensures { IsTrue result ↔ (self.now.unused ≢ 0) }
     {
         self.owned_to_ref().has_unused_bits()
     }
 
-    /// Returns the number of bits, the unused ones left out.
+    /// Returns the number of bits, without the unused ones.
     pub fn bit_len(&self) -> usize
         ensures { result ≡ bit_count self.now }
     {
         self.owned_to_ref().bit_len()
     }
 
-    /// Returns whether there aren't bits.
+    /// Returns whether there are no bits.
     pub fn is_empty(&self) -> bool
         ensures { IsTrue result ↔ (self.now.octets ≡ []) }
     {
         self.bytes.is_empty()
     }
 
-    /// Returns the bytes, if no bit is unused.
+    /// Returns the bytes, or `None` if any bit is unused.
     pub fn as_bytes(&self) -> Option<&[u8]>
         ensures some { IfSome result (λ w. (self.now.unused ≡ 0) × (w.now ≡ self.now.octets)) }
         ensures none { IfNone result (self.now.unused ≢ 0) }
@@ -150,14 +150,14 @@ impl BitString {
         self.bytes.as_slice()
     }
 
-    /// Returns the bits, in order.
+    /// Returns an iterator over the bits, in order.
     pub fn bits(&self) -> BitStringIter<'_>
         ensures { bits_left result ≡ bit_list self.now }
     {
         self.owned_to_ref().bits()
     }
 
-    /// Returns the bit at an index, if there is one.
+    /// Returns the bit at an index, or `None` if there are fewer bits.
     pub fn get(&self, index: usize) -> Option<bool>
         ensures inside { index < bit_count self.now → result ≡ Some (bit_at self.now.octets index) }
         ensures outside { bit_count self.now ≤ index → result ≡ None }
@@ -165,7 +165,7 @@ impl BitString {
         self.owned_to_ref().get(index)
     }
 
-    /// Returns the bits, borrowed.
+    /// Returns the borrowed form of the bit string.
     pub fn owned_to_ref(&self) -> BitStringRef<'_>
         ensures { bits_lent result ≡ self.now }
     {
@@ -204,7 +204,7 @@ impl Primitive for BitString {
     ghost leaf_plain = { λ x. x };
 }
 
-/// The number of unused bits, and the bytes.
+/// The content is the number of unused bits, followed by the bytes.
 impl<'a> Leaf<'a> for BitString {
     fn from_content(alloc: Global, tag: Tag, octets: &'a [u8]) -> Result<BitString, Error> {
         let lent = BitStringRef::from_content(alloc, tag, octets)?;

@@ -18,8 +18,8 @@ use der_core::making::{encode_behind, len_behind};
 use der_core::{Error, ErrorKind, FixedTag, Leaf, Length, Tag, Writer};
 use std::alloc::{AllocError, Global};
 
-/// A borrowed BIT STRING (X.690 8.6, 11.2): fewer than 2^32 bytes, of which up to seven bits of the
-/// last one are unused and zero.
+/// A borrowed BIT STRING (X.690 8.6, 11.2): fewer than 2^32 bytes. Up to seven bits of the last one
+/// are unused, and these are zero.
 #[derive(Clone, Copy, Debug, PartialEq, Eq, PartialOrd, Ord, Hash)]
 pub struct BitStringRef<'a> {
     unused_bits: u8,
@@ -34,12 +34,12 @@ impl<'a> BitStringRef<'a> {
     /// The greatest number of unused bits.
     pub const MAX_UNUSED_BITS: u8 = 7;
 
-    /// Returns the bits of these bytes, except for the unused ones at the end.
+    /// Returns the bit string of these bytes, without the unused bits at the end.
     ///
     /// # Errors
     ///
-    /// - `Value`: there are more than seven unused bits, or unused bits of no byte, or an unused
-    ///   bit isn't zero.
+    /// - `Value`: more than seven bits are unused, or some are although there are no bytes, or an
+    ///   unused bit isn't zero.
     /// - `Overflow`: there are 2^32 bytes or more.
     pub fn new(unused_bits: u8, bytes: &'a [u8]) -> Result<BitStringRef<'a>, Error>
         ensures bits { IsOk result ↔ ((are_bits unused_bits bytes.now ≡ true) × (Fits bytes.now)) }
@@ -54,11 +54,11 @@ impl<'a> BitStringRef<'a> {
         Ok(BitStringRef { unused_bits, bytes })
     }
 
-    /// All bits of these bytes.
+    /// Returns the bit string of all bits of these bytes.
     ///
     /// # Errors
     ///
-    /// - `Overflow`: 2^32 bytes or more.
+    /// - `Overflow`: there are 2^32 bytes or more.
     #[tactic(auto, using(crate::proofs::NamedSteps::all_bits))]
     pub fn from_bytes(bytes: &'a [u8]) -> Result<BitStringRef<'a>, Error>
         ensures ok { IfOk result
@@ -82,14 +82,14 @@ impl<'a> BitStringRef<'a> {
         self.unused_bits
     }
 
-    /// Returns whether a bit is unused.
+    /// Returns whether any bit is unused.
     pub fn has_unused_bits(&self) -> bool
         ensures { IsTrue result ↔ ((bits_lent self.now).unused ≢ 0) }
     {
         self.unused_bits != 0
     }
 
-    /// Returns the number of bits, the unused ones left out.
+    /// Returns the number of bits, without the unused ones.
     #[tactic(auto, using(crate::proofs::NamedSteps::few_unused))]
     pub fn bit_len(&self) -> usize
         ensures { result ≡ bit_count (bits_lent self.now) }
@@ -104,14 +104,14 @@ impl<'a> BitStringRef<'a> {
         Length::new(self.bytes.len() as u32)
     }
 
-    /// Returns whether there aren't bits.
+    /// Returns whether there are no bits.
     pub fn is_empty(&self) -> bool
         ensures { IsTrue result ↔ ((bits_lent self.now).octets ≡ []) }
     {
         self.bytes.is_empty()
     }
 
-    /// Returns the bytes, if no bit is unused.
+    /// Returns the bytes, or `None` if any bit is unused.
     pub fn as_bytes(&self) -> Option<&'a [u8]>
         ensures some { IfSome result (λ w. ((bits_lent self.now).unused ≡ 0)
             × (w.now ≡ (bits_lent self.now).octets)) }
@@ -133,14 +133,14 @@ impl<'a> BitStringRef<'a> {
         self.bytes
     }
 
-    /// Returns the bits, in order.
+    /// Returns an iterator over the bits, in order.
     pub fn bits(&self) -> BitStringIter<'a>
         ensures { bits_left result ≡ bit_list (bits_lent self.now) }
     {
         BitStringIter::of(self.bytes, self.bit_len())
     }
 
-    /// Returns the bit at an index, if there is one.
+    /// Returns the bit at an index, or `None` if there are fewer bits.
     pub fn get(&self, index: usize) -> Option<bool>
         ensures inside { index < bit_count (bits_lent self.now)
             → result ≡ Some (bit_at (bits_lent self.now).octets index) }
@@ -157,7 +157,7 @@ impl<'a> BitStringRef<'a> {
     ///
     /// # Errors
     ///
-    /// Fails if memory runs out.
+    /// - `AllocError`: memory runs out.
     pub fn ref_to_owned(&self, alloc: Global) -> Result<BitString, AllocError>
         ensures { IfOk result (λ b. b ≡ bits_lent self.now) }
     {
@@ -185,7 +185,7 @@ impl<'a> BitStringRef<'a> {
         Ok(BitStringRef { unused_bits, bytes })
     }
 
-    /// Bytes whose unused bits are known to be zero.
+    /// Wraps bytes whose unused bits are known to be zero.
     pub(crate) fn trusted(unused_bits: u8, bytes: &'a [u8]) -> BitStringRef<'a>
         requires unused { are_bits unused_bits bytes.now ≡ true }
         requires short { Fits bytes.now }
@@ -235,7 +235,7 @@ impl<'a> Primitive for BitStringRef<'a> {
     ghost leaf_plain = { bits_lent };
 }
 
-/// The number of unused bits, and the bytes.
+/// The content is the number of unused bits, followed by the bytes.
 impl<'a> Leaf<'a> for BitStringRef<'a> {
     ghost takes_memory = { false };
 
@@ -257,11 +257,12 @@ impl<'a> EncodeLeaf for BitStringRef<'a> {
 
 /// A type that can be borrowed as a bit string.
 pub trait AsBitStringRef {
+    /// Maps a value to its bit string.
     ghost as_bits: { Self → Bits };
 
     ghost use Rattle.der_types_values.specs.BitStrings.{bits_lent};
 
-    /// Returns the bits.
+    /// Returns the borrowed bit string.
     fn as_bit_string_ref(&self) -> BitStringRef<'_>
         ensures { bits_lent result ≡ as_bits self.now };
 }

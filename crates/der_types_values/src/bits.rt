@@ -1,4 +1,4 @@
-//! Bytes as bits, the most significant one of each first (X.690 8.6.2).
+//! The bits of bytes. The most significant bit of each byte comes first (X.690 8.6.2).
 
 ghost use Rattle.std.specs.Prelude.{◌≡◌, ◌<◌, ◌*◌, ◌↔◌, length, true, false, IsOk, IfErr};
 ghost use Rattle.der_core.specs.Limits.{length_max};
@@ -20,8 +20,8 @@ fn last_of(octets: &[u8]) -> u8
     }
 }
 
-/// Returns whether this many bits of the bytes can be unused: at most seven, none if there is no
-/// byte, and all of them zero.
+/// Returns whether this many bits of the bytes can be unused: at most seven, none if there are no
+/// bytes, and only zero bits.
 pub fn may_be_unused(unused_bits: u8, octets: &[u8]) -> bool
     ensures { result ≡ are_bits unused_bits octets.now }
 {
@@ -31,12 +31,12 @@ pub fn may_be_unused(unused_bits: u8, octets: &[u8]) -> bool
     unused_bits <= BitStringRef::MAX_UNUSED_BITS && last_of(octets) % (1u8 << unused_bits) == 0
 }
 
-/// Checks that this many bits of the bytes can be unused, and that there aren't too many bytes.
+/// Checks that this many bits of the bytes can be unused, and that there are fewer than 2^32 bytes.
 ///
 /// # Errors
 ///
-/// - `Value`: there are more than seven unused bits, or unused bits of no byte, or an unused bit
-///   isn't zero.
+/// - `Value`: more than seven bits are unused, or some are although there are no bytes, or an
+///   unused bit isn't zero.
 /// - `Overflow`: there are 2^32 bytes or more.
 pub fn check_bits(unused_bits: u8, octets: &[u8]) -> Result<(), Error>
     ensures bits { IsOk result ↔ ((are_bits unused_bits octets.now ≡ true) × (Fits octets.now)) }

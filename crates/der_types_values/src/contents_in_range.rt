@@ -1,4 +1,5 @@
-//! The values of each type are in range: contents are bytes, unused bits zero, and set bits named.
+//! Impls that state that values are in range: contents are bytes, unused bits are zero, and set
+//! bits have names.
 
 use crate::bit_string::BitString;
 use crate::bit_string_ref::{AsBitStringRef, BitStringRef};

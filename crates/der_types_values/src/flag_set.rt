@@ -1,4 +1,4 @@
-//! Named bits.
+//! Sets of named bits.
 
 ghost use Rattle.std.specs.Prelude.{⊤, nat_eq, ◌≡◌, ◌==◌, ◌<◌, ◌≤◌, ◌-◌, ◌^◌, ℕ, length, take};
 ghost use Rattle.std.specs.Prelude.{IfOk, false, bit_and, bit_or};
@@ -15,7 +15,8 @@ use der_core::{Error, ErrorKind, FixedTag, Leaf, Length, Tag, ValueOrd, Writer};
 use std::alloc::{AllocError, Global};
 use std::cmp::Ordering;
 
-/// A type of sets of named bits (X.680 22.2): its first bits have a name each, at most 64 of them.
+/// A type of sets of named bits (X.680 22.2). The first bits have a name each, and there are at
+/// most 64 names.
 pub trait NamedBits: Flags + Copy {
     /// The number of names.
     ghost names: { ℕ };
@@ -25,24 +26,26 @@ pub trait NamedBits: Flags + Copy {
         ensures value { result ≡ names }
         ensures few { result ≤ 64 };
 
-    /// Returns the number whose bit i says whether name i is in the set.
+    /// Returns the number of which bit `i` says whether name `i` is in the set.
     fn to_number(&self) -> u64
         ensures { result ≡ Self.set_of self.now };
 
-    /// Returns the set of a number.
+    /// Returns the set of a number. Bit `i` says whether name `i` is in the set.
     fn from_number(number: u64) -> Self
         requires { number < 2 ^ names }
         ensures { Self.set_of result ≡ number };
 
+    /// The contracts of `Flags` are exact for the type.
     ghost stated: { Self.exact };
 
+    /// The bits of the flags in the table are exactly those with a name.
     ghost known: { known_bits Self.table ≡ 2 ^ names - 1 };
 }
 
-/// A set of named bits: a BIT STRING whose last bit is one (X.680 22.7; X.690 11.2.2).
+/// A set of named bits: a BIT STRING without trailing zero bits (X.680 22.7; X.690 11.2.2).
 #[derive(Debug)]
 pub struct FlagSet<F: NamedBits> {
-    /// The bits, of which each has a name.
+    /// The bits, each of which has a name.
     flags: F,
     ghost named: { F.set_of flags < 2 ^ F.names },
 }
@@ -75,7 +78,7 @@ impl<F: NamedBits> Eq for FlagSet<F> {
     ghost laws = { on_equiv (λ x. F.set_of x.flags) nat_eq_equiv };
 }
 
-/// Returns whether the last bit that counts is one, and of no bytes none is unused.
+/// Returns whether the last used bit is one. If there are no bytes, no bit may be unused.
 #[tactic(auto, using(crate::proofs::NamedSteps::ends))]
 fn ends_in_one(unused: u8, octets: &[u8]) -> bool
     ensures { result ≡ ends_in_one unused octets.now }
@@ -86,7 +89,7 @@ fn ends_in_one(unused: u8, octets: &[u8]) -> bool
     }
 }
 
-/// Returns the number of a set whose first name is the highest bit of the first byte.
+/// Returns the number of a set. Name 0 is the highest bit of the first byte.
 fn number_of(octets: &[u8]) -> u64
     requires { length octets.now ≤ 8 }
     ensures { result ≡ spelled_set octets.now }
@@ -147,21 +150,21 @@ fn named_octets_of(number: u64) -> ([u8; 9], usize)
 }
 
 impl<F: NamedBits> FlagSet<F> {
-    /// No name.
+    /// Returns the set without names.
     pub fn empty() -> FlagSet<F>
         ensures { F.set_of result.flags ≡ 0 }
     {
         FlagSet { flags: F::empty() }
     }
 
-    /// Every name.
+    /// Returns the set of all names.
     pub fn full() -> FlagSet<F>
         ensures { F.set_of result.flags ≡ 2 ^ F.names - 1 }
     {
         FlagSet { flags: F::all() }
     }
 
-    /// Returns the set of the names of a flag. Each of its bits has a name.
+    /// Returns the set of the names of a flag, whose bits all have names.
     pub fn from_flag(flag: F) -> FlagSet<F>
         requires { F.set_of flag < 2 ^ F.names }
         ensures { result.flags ≡ flag }
@@ -176,7 +179,7 @@ impl<F: NamedBits> FlagSet<F> {
         self.flags.contains(flag)
     }
 
-    /// Returns the names that either has.
+    /// Returns the set of the names that are in either set.
     pub fn union(self, other: FlagSet<F>) -> FlagSet<F>
         ensures { F.set_of result.flags ≡ bit_or (F.set_of self.flags) (F.set_of other.flags) }
     {
@@ -204,7 +207,8 @@ impl<F: NamedBits> Primitive for FlagSet<F> {
     ghost leaf_plain = { λ s. F.set_of s.flags };
 }
 
-/// The content is the bits up to the last one, after the number of unused bits of the last byte.
+/// The content is the number of unused bits of the last byte, followed by the bits up to the last
+/// one bit.
 impl<'a, F: NamedBits> Leaf<'a> for FlagSet<F> {
     ghost takes_memory = { false };
 
@@ -229,7 +233,7 @@ impl<F: NamedBits> EncodeLeaf for FlagSet<F> {
     }
 }
 
-/// The count of unused bits, and then the bits.
+/// Compares the numbers of unused bits, and then the bytes.
 impl<F: NamedBits> ValueOrd for FlagSet<F> {
     #[tactic(auto, using(der_core::proofs::OrderLaws::leaf_contents))]
     fn value_cmp(&self, other: &Self) -> Result<Ordering, Error> {

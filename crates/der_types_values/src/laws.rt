@@ -1,6 +1,6 @@
 //! Laws about octet strings and bit strings: a borrowed value and its owned form agree.
 //!
-//! The comments of the calls that both have say the same in the same words.
+//! The functions that both forms have are documented in the same words.
 
 ghost use Rattle.std.specs.Prelude.{◌≡◌};
 ghost use Rattle.der_core.specs.Shapes.{contents};
@@ -15,7 +15,7 @@ use der_core::ShapedValue;
 use std::hash::Hash;
 
 /// A borrowed octet string and its owned form have the same content, are equal to the same octet
-/// strings, are in the same order and are hashed alike. Nothing is done.
+/// strings, are in the same order and are hashed alike. The function does nothing.
 pub fn octet_forms_agree()
     ensures contents { (o : OctetStringRef)
         → contents ⟦<OctetStringRef<'static> as ShapedValue>⟧.content
@@ -31,7 +31,7 @@ pub fn octet_forms_agree()
 {}
 
 /// A borrowed bit string and its owned form have the same content, are equal to the same bit
-/// strings, are in the same order and are hashed alike. Nothing is done.
+/// strings, are in the same order and are hashed alike. The function does nothing.
 pub fn bit_forms_agree()
     ensures contents { (b : BitStringRef)
         → contents ⟦<BitStringRef<'static> as ShapedValue>⟧.content

@@ -1,4 +1,5 @@
-//! Octet strings, bit strings, named bits, NULL and raw sequences.
+//! OCTET STRING, BIT STRING, sets of named bits, NULL, and SEQUENCE without decoding. Users import
+//! the items of this crate from `der_types`.
 #![tactic(auto)]
 
 mod allowed_len;

@@ -8,7 +8,7 @@ use der_core::describing::{AsLeaf, Described, EncodeLeaf, Primitive};
 use der_core::{EncodeValue, Error, FixedTag, Leaf, Length, Tag, Writer};
 use std::alloc::Global;
 
-/// NULL (X.690 8.8): no bytes.
+/// NULL, whose content is empty (X.690 8.8).
 #[derive(Clone, Copy, Debug, PartialEq, Eq, PartialOrd, Ord, Hash)]
 pub struct Null;
 
@@ -30,7 +30,7 @@ impl Primitive for Null {
     ghost leaf_plain = { λ _. tt };
 }
 
-/// No bytes.
+/// The content is empty.
 impl<'a> Leaf<'a> for Null {
     ghost takes_memory = { false };
 

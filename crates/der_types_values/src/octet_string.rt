@@ -15,7 +15,7 @@ use std::marker::Model;
 
 /// OCTET STRING (X.690 8.7): any bytes, fewer than 2^32.
 ///
-/// Contracts see the bytes.
+/// In contracts, its value is the bytes.
 #[derive(Debug, Drop, PartialEq, Eq, PartialOrd, Ord, Hash)]
 pub struct OctetString {
     bytes: BytesOwned,
@@ -34,11 +34,11 @@ impl Model for OctetString {
 }
 
 impl OctetString {
-    /// These bytes.
+    /// Returns the octet string of these bytes.
     ///
     /// # Errors
     ///
-    /// - `Overflow`: 2^32 bytes or more.
+    /// - `Overflow`: there are 2^32 bytes or more.
     pub fn new(bytes: Vec<u8>) -> Result<OctetString, Error>
         ensures ok { IfOk result (λ o. IsLength (vec_len bytes) × (o ≡ bytes.items)) }
         ensures err { IfErr result (λ e. (length_max < vec_len bytes)
@@ -63,7 +63,7 @@ impl OctetString {
     ///
     /// # Errors
     ///
-    /// Fails if memory runs out.
+    /// - `AllocError`: memory runs out.
     pub fn clone(&self, alloc: Global) -> Result<OctetString, AllocError>
         ensures { IfOk result (λ o. o ≡ self.now) }
     {
@@ -92,14 +92,14 @@ impl OctetString {
         self.bytes.len()
     }
 
-    /// Returns whether there aren't bytes.
+    /// Returns whether there are no bytes.
     pub fn is_empty(&self) -> bool
         ensures { IsTrue result ↔ (self.now ≡ []) }
     {
         self.bytes.is_empty()
     }
 
-    /// Returns the bytes, borrowed.
+    /// Returns the borrowed form of the octet string.
     pub fn owned_to_ref(&self) -> OctetStringRef<'_>
         ensures { octets_lent result ≡ self.now }
     {
@@ -107,7 +107,7 @@ impl OctetString {
     }
 }
 
-/// The bytes.
+/// Returns the bytes.
 impl AsSlice<u8> for OctetString {
     ghost items = { λ o. o };
 
@@ -153,7 +153,7 @@ impl Primitive for OctetString {
     ghost leaf_plain = { λ x. x };
 }
 
-/// The bytes.
+/// The content is the bytes.
 impl<'a> Leaf<'a> for OctetString {
     fn from_content(alloc: Global, tag: Tag, octets: &'a [u8]) -> Result<OctetString, Error> {
         let bytes = BytesOwned::from_content(alloc, tag, octets)?;
@@ -167,5 +167,5 @@ impl Octets for OctetString {
     }
 }
 
-/// The bytes themselves (X.690 8.7).
+/// Compares the bytes (X.690 8.7).
 impl Ordered for OctetString {}

@@ -18,7 +18,7 @@ use der_core::{Decode, Error, ErrorKind, FixedTag, FromDer, Leaf, Length, SliceR
 use std::alloc::{AllocError, Global};
 use std::convert::AsSlice;
 
-/// OCTET STRING (X.690 8.7): any bytes, fewer than 2^32, borrowed.
+/// A borrowed OCTET STRING (X.690 8.7): any bytes, fewer than 2^32.
 #[derive(Clone, Copy, Debug, PartialEq, Eq, PartialOrd, Ord, Hash)]
 pub struct OctetStringRef<'a> {
     bytes: &'a [u8],
@@ -28,11 +28,11 @@ pub struct OctetStringRef<'a> {
 impl<'a> OctetStringRef<'a> {
     ghost use Rattle.der_types_values.specs.OctetStrings.{octets_lent};
 
-    /// These bytes.
+    /// Returns the octet string of these bytes.
     ///
     /// # Errors
     ///
-    /// - `Overflow`: 2^32 bytes or more.
+    /// - `Overflow`: there are 2^32 bytes or more.
     pub fn new(bytes: &'a [u8]) -> Result<OctetStringRef<'a>, Error>
         ensures ok { IfOk result (λ o. Fits bytes.now × (octets_lent o ≡ bytes.now)) }
         ensures err { IfErr result (λ e. (length_max < length bytes.now)
@@ -44,7 +44,7 @@ impl<'a> OctetStringRef<'a> {
         Ok(OctetStringRef { bytes })
     }
 
-    /// Wraps a content, whose length a `Length` can count.
+    /// Wraps a content, which the caller proves to have fewer than 2^32 bytes.
     pub fn of_content(bytes: &'a [u8]) -> OctetStringRef<'a>
         requires { Fits bytes.now }
         ensures { octets_lent result ≡ bytes.now }
@@ -67,28 +67,29 @@ impl<'a> OctetStringRef<'a> {
         Length::new(self.bytes.len() as u32)
     }
 
-    /// Returns whether there aren't bytes.
+    /// Returns whether there are no bytes.
     pub fn is_empty(&self) -> bool
         ensures { IsTrue result ↔ (octets_lent self.now ≡ []) }
     {
         self.bytes.is_empty()
     }
 
-    /// Returns the value that the bytes encode. All bytes are used.
+    /// Decodes a value from all bytes of the octet string.
     ///
     /// # Errors
     ///
-    /// The first error that decoding meets, `TrailingData` if bytes are left after the value, or
-    /// `OutOfMemory`.
+    /// - The first error that decoding meets.
+    /// - `TrailingData`: bytes are left after the value.
+    /// - `OutOfMemory`: memory runs out.
     pub fn decode_into<T: Decode<'a, SliceReader<'a>>>(&self, alloc: Global) -> Result<T, Error>
-        // What is accepted is an encoding.
+        // Accepted bytes are the encoding of the result.
         ensures spelled { is_apart T.shape ≡ true
             → IfOk result (λ v. Spells T.shape (T.plain v) (octets_lent self.now)) }
         // An encoding is accepted, unless memory runs out.
         ensures only { (v : Value T.shape) → is_apart T.shape ≡ true → are_enough T.shape levels_max
             ≡ true
             → Spells T.shape v (octets_lent self.now) → Gives T.plain result (Ok v) }
-        // The error is exact.
+        // The result is that of the definition, including the kind of the error.
         ensures exact { Gives (λ v. (T.plain v, [])) result
             (read_whole T.shape (octets_lent self.now)) }
     {
@@ -99,7 +100,7 @@ impl<'a> OctetStringRef<'a> {
     ///
     /// # Errors
     ///
-    /// Fails if memory runs out.
+    /// - `AllocError`: memory runs out.
     pub fn ref_to_owned(&self, alloc: Global) -> Result<OctetString, AllocError>
         ensures { IfOk result (λ o. o ≡ octets_lent self.now) }
     {
@@ -107,7 +108,7 @@ impl<'a> OctetStringRef<'a> {
     }
 }
 
-/// The bytes.
+/// Returns the bytes.
 impl<'a> AsSlice<u8> for OctetStringRef<'a> {
     ghost use Rattle.der_types_values.specs.OctetStrings.{octets_lent};
 
@@ -157,7 +158,7 @@ impl<'a> Primitive for OctetStringRef<'a> {
     ghost leaf_plain = { octets_lent };
 }
 
-/// The bytes.
+/// The content is the bytes.
 impl<'a> Leaf<'a> for OctetStringRef<'a> {
     ghost takes_memory = { false };
 
@@ -177,5 +178,5 @@ impl<'a> Octets for OctetStringRef<'a> {
     }
 }
 
-/// The bytes themselves (X.690 8.7).
+/// Compares the bytes (X.690 8.7).
 impl<'a> Ordered for OctetStringRef<'a> {}

@@ -23,7 +23,7 @@ impl OrdIsValueOrd for OctetString {
     ghost order = { octets_order octets };
 }
 
-/// There is one content, of no bytes.
+/// All values have the same content, which is empty.
 impl ValueOrd for Null {
     #[tactic(auto, using(der_core::proofs::OrderLaws::null_contents))]
     fn value_cmp(&self, _other: &Self) -> Result<Ordering, Error> {
@@ -39,7 +39,7 @@ impl<'a> OrdIsValueOrd for SequenceRef<'a> {
     ghost order = { λ v w. octets_order octets (fields_lent v) (fields_lent w) };
 }
 
-/// The number of unused bits, then the bytes (X.690 8.6.2).
+/// Compares the numbers of unused bits, and then the bytes (X.690 8.6.2).
 impl<'a> ValueOrd for BitStringRef<'a> {
     #[tactic(auto, using(der_core::proofs::OrderLaws::leaf_contents))]
     fn value_cmp(&self, other: &Self) -> Result<Ordering, Error> {
@@ -52,7 +52,7 @@ impl<'a> ValueOrd for BitStringRef<'a> {
     }
 }
 
-/// The number of unused bits, then the bytes (X.690 8.6.2).
+/// Compares the numbers of unused bits, and then the bytes (X.690 8.6.2).
 impl ValueOrd for BitString {
     fn value_cmp(&self, other: &Self) -> Result<Ordering, Error> {
         self.owned_to_ref().value_cmp(&other.owned_to_ref())

@@ -1,4 +1,4 @@
-//! SEQUENCE, as it is, borrowed.
+//! SEQUENCE without decoding, borrowed.
 
 ghost use Rattle.std.specs.Prelude.{◌≡◌, ◌<◌, length, IfOk, IfErr, false};
 ghost use Rattle.der_core.specs.Limits.{length_max};
@@ -12,12 +12,13 @@ use der_core::{Error, ErrorKind, FixedTag, Leaf, Length, Tag};
 use std::alloc::Global;
 use std::convert::AsSlice;
 
-/// A type of SEQUENCEs (X.690 8.9, 8.10).
+/// A type whose values are SEQUENCEs (X.690 8.9, 8.10).
 pub trait Sequence: FixedTag {
+    /// The tag of the type is that of SEQUENCE.
     ghost is_sequence: { Self.fixed_tag ≡ SequenceTag };
 }
 
-/// A borrowed SEQUENCE (X.690 8.9): its content, fewer than 2^32 bytes, which isn't decoded.
+/// A borrowed SEQUENCE (X.690 8.9) whose content of fewer than 2^32 bytes isn't decoded.
 #[derive(Clone, Copy, Debug, PartialEq, Eq, PartialOrd, Ord, Hash)]
 pub struct SequenceRef<'a> {
     bytes: &'a [u8],
@@ -27,11 +28,11 @@ pub struct SequenceRef<'a> {
 impl<'a> SequenceRef<'a> {
     ghost use Rattle.der_types_values.specs.Sequences.{fields_lent};
 
-    /// Returns the SEQUENCE of this content.
+    /// Returns the SEQUENCE with this content.
     ///
     /// # Errors
     ///
-    /// - `Overflow`: 2^32 bytes or more.
+    /// - `Overflow`: there are 2^32 bytes or more.
     pub fn new(bytes: &'a [u8]) -> Result<SequenceRef<'a>, Error>
         ensures ok { IfOk result (λ s. Fits bytes.now × (fields_lent s ≡ bytes.now)) }
         ensures err { IfErr result (λ e. (length_max < length bytes.now)
@@ -43,7 +44,7 @@ impl<'a> SequenceRef<'a> {
         Ok(SequenceRef { bytes })
     }
 
-    /// Wraps a content, whose length a `Length` can count.
+    /// Wraps a content, which the caller proves to have fewer than 2^32 bytes.
     pub fn of_content(bytes: &'a [u8]) -> SequenceRef<'a>
         requires { Fits bytes.now }
         ensures { fields_lent result ≡ bytes.now }
@@ -60,7 +61,7 @@ impl<'a> SequenceRef<'a> {
     }
 }
 
-/// The content bytes.
+/// Returns the content bytes.
 impl<'a> AsSlice<u8> for SequenceRef<'a> {
     ghost use Rattle.der_types_values.specs.Sequences.{fields_lent};
 
@@ -99,7 +100,7 @@ impl<'a> Primitive for SequenceRef<'a> {
     ghost leaf_plain = { fields_lent };
 }
 
-/// The content, as it is.
+/// The content is the bytes, which aren't decoded.
 impl<'a> Leaf<'a> for SequenceRef<'a> {
     ghost takes_memory = { false };
 
@@ -115,5 +116,5 @@ impl<'a> Octets for SequenceRef<'a> {
     }
 }
 
-/// The content, as it is.
+/// Compares the content bytes.
 impl<'a> Ordered for SequenceRef<'a> {}

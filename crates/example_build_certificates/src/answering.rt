@@ -1,4 +1,4 @@
-//! Certificates for requests that came.
+//! Issues certificates for CSRs.
 
 use crate::digest_signer::DigestSigner;
 use crate::{builder_for, profile_of_server};
@@ -9,7 +9,8 @@ use x509_cert::{
     Any, Attribute, CertReq, Certificate, Extension, ExtensionReq, Name, SubjectAltName,
 };
 
-/// The alternative names among the extensions that a value of an attribute asks for.
+/// Returns the subjectAltName among the extensions that a value of an extensionRequest attribute
+/// requests.
 fn names_in(alloc: Global, value: &Any) -> Result<Option<Extension>, Error> {
     let asked: ExtensionReq = value.decode_as(alloc)?;
     for extension in asked.0.as_slice() {
@@ -21,7 +22,7 @@ fn names_in(alloc: Global, value: &Any) -> Result<Option<Extension>, Error> {
     Ok(None)
 }
 
-/// The alternative names that a request asks for, if it does.
+/// Returns the subjectAltName that a CSR requests, if it does.
 fn names_asked(alloc: Global, attributes: &[Attribute]) -> Result<Option<Extension>, Error> {
     for attribute in attributes {
         let [value] = attribute.values.values.as_slice() else {
@@ -34,7 +35,7 @@ fn names_asked(alloc: Global, attributes: &[Attribute]) -> Result<Option<Extensi
     Ok(None)
 }
 
-/// Adds the alternative names that a request asks for, if it does.
+/// Adds the subjectAltName that a CSR requests, if it does.
 fn add_names(
     alloc: Global,
     builder: &mut CertificateBuilder<Subscriber>,
@@ -46,7 +47,7 @@ fn add_names(
     Ok(())
 }
 
-/// The builder of the certificate of a server for its request, below this issuer.
+/// Returns the builder of the certificate of a server for its CSR, below this issuer.
 fn builder_asked(
     alloc: Global,
     request: &CertReq,
@@ -58,10 +59,11 @@ fn builder_asked(
     Ok(builder)
 }
 
-/// The certificate of a server for its request (RFC 2986), below an authority: with its subject and
-/// its key, and of the extensions that it asks for with the alternative names; the profile adds all
-/// others. That the request bears a signature under its own key, and that the names are the
-/// server's, was judged before.
+/// Issues the certificate of a server for its CSR (RFC 2986), below a CA. It has the CSR's subject
+/// and key, and of the requested extensions only the subjectAltName. The profile adds all others.
+///
+/// The caller has verified that the CSR is signed with its own key, and that the names are the
+/// server's.
 pub fn issued(
     alloc: Global,
     request: &CertReq,

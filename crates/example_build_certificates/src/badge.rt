@@ -1,4 +1,4 @@
-//! A profile of certificates that are built.
+//! A user-defined profile of certificates that are built.
 
 use crate::clearance::Clearance;
 use const_oid::AssociatedOid;
@@ -9,14 +9,14 @@ use x509_cert::certificate::TbsCertificate;
 use x509_cert::ext::{Criticality, Extensions, ToExtension};
 use x509_cert::{Name, SubjectPublicKeyInfoRef};
 
-/// The certificate of who bears a badge: one extension says what it opens.
+/// The profile of a badge's certificate. One extension contains its clearance.
 #[derive(Drop)]
 pub struct Badge {
-    /// Who signs it.
+    /// The issuer of the badge.
     pub issuer: Name,
-    /// Who bears it.
+    /// The holder of the badge.
     pub subject: Name,
-    /// What it opens.
+    /// The clearance of the badge.
     pub clearance: Clearance,
 }
 
@@ -35,7 +35,7 @@ impl BuilderProfile for Badge {
         (⟦<Clearance as Criticality>⟧.is_critical badge.clearance (tbs_subject tbs) [])
         ⟦<Clearance as Shaped>⟧.shape (⟦<Clearance as Shaped>⟧.written badge.clearance) ∷ [] };
 
-    // Out of memory alone: a number has an encoding.
+    // Only memory can run out, because a number always has an encoding.
     ghost refuses = { λ badge e. IsUnwritten ⟦<Clearance as Shaped>⟧.shape
         (⟦<Clearance as Shaped>⟧.written badge.clearance) e };
 

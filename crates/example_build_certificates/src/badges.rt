@@ -1,4 +1,4 @@
-//! Certificates of badges: one profile makes them, another one reads them.
+//! Certificates of badges. One profile builds them, and another one decodes them.
 
 use crate::badge::Badge;
 use crate::clearance::Clearance;
@@ -11,13 +11,13 @@ use x509_cert::builder::{Builder, CertificateBuilder, Error};
 use x509_cert::certificate::CertificateInner;
 use x509_cert::{Name, SerialNumber, Time, Validity};
 
-/// The line of what is to be signed of the certificate of a badge.
+/// Returns the line with the signed bytes of a badge's certificate.
 pub fn answer(alloc: Global, level: &str) -> Option<Result<String, Error>> {
     let level: u8 = level.parse().ok()?;
     Some(signed_part(alloc, level))
 }
 
-/// The profile of a badge of this clearance.
+/// Returns the profile of a badge with this clearance.
 fn profile(alloc: Global, level: u8) -> Result<Badge, Error> {
     Ok(Badge {
         issuer: Name::from_str(alloc, "CN=Desk,O=Example,C=US")?,
@@ -26,7 +26,7 @@ fn profile(alloc: Global, level: u8) -> Result<Badge, Error> {
     })
 }
 
-/// The builder of its certificate.
+/// Returns the builder of its certificate.
 fn builder(alloc: Global, level: u8) -> Result<CertificateBuilder<Badge>, Error> {
     let from = Time::from_str("2026-01-01T00:00:00Z")?;
     let until = Time::from_str("2027-01-01T00:00:00Z")?;
@@ -37,26 +37,26 @@ fn builder(alloc: Global, level: u8) -> Result<CertificateBuilder<Badge>, Error>
     Ok(builder)
 }
 
-/// What is to be signed.
+/// Returns the bytes to be signed.
 fn signed_part(alloc: Global, level: u8) -> Result<String, Error> {
     let mut builder = builder(alloc, level)?;
     part_of(alloc, &mut builder)
 }
 
-/// What a builder has signed by the certified key.
+/// Returns the bytes of a builder that the certified key has to sign.
 fn part_of(alloc: Global, builder: &mut CertificateBuilder<Badge>) -> Result<String, Error> {
     let key = OutsideKey::new(alloc, Scheme::P256, key_of(alloc, ROOT)?)?;
     let part = builder.finalize(alloc, &key)?;
     line_in_hex(alloc, part.as_slice())
 }
 
-/// The line of the serial number of a certificate.
+/// Returns the line with the serial number of a certificate.
 pub fn serial_number(alloc: Global, digits: &str) -> Option<der_core::Result<String>> {
     let octets = hex::decode(alloc, digits).ok()?;
     Some(serial_in(alloc, octets.as_slice()))
 }
 
-/// The serial number of the certificate that octets spell.
+/// Decodes a certificate and returns its serial number.
 fn serial_in(alloc: Global, octets: &[u8]) -> der_core::Result<String> {
     let certificate = CertificateInner::<ShortSerials>::from_der(alloc, octets)?;
     let serial = certificate.tbs_certificate().serial_number();

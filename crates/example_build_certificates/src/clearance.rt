@@ -1,4 +1,4 @@
-//! An extension, and whether it is critical.
+//! A user-defined extension, which may be critical.
 
 ghost use Rattle.std.specs.Prelude.{[], ◌∷◌};
 
@@ -7,7 +7,7 @@ use der_core::describing::{AsField, Described, Wraps};
 use x509_cert::ext::{Criticality, Extension};
 use x509_cert::name::Name;
 
-/// How far a badge opens doors, of an identifier under the arc for examples (RFC 5612).
+/// The clearance of a badge. Its OID is under the arc for examples (RFC 5612).
 ///
 /// ```text
 /// Clearance ::= INTEGER (0..255)
@@ -23,7 +23,7 @@ impl AssociatedOid for Clearance {
     }
 }
 
-/// From 3 on nobody may pass it over.
+/// The extension is critical from level 3 on.
 impl Criticality for Clearance {
     ghost use Rattle.std.specs.Prelude.{nat_le};
 

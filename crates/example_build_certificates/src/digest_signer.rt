@@ -9,9 +9,9 @@ use std::cell::RefCell;
 use x509_cert::builder::{SignError, Signer};
 use x509_cert::{AlgorithmIdentifier, BitString, SubjectPublicKeyInfo};
 
-/// A signer whose bits are the SHA-256 digest of its key's octets and the signed ones. It protects
-/// nothing: it stands where a key in memory or in a device stands. The hasher is changed by each
-/// call, as the handle of a device is.
+/// A signer that returns the SHA-256 digest of its key's bytes and the signed bytes. It protects
+/// nothing, and takes the place of a key in memory or in a device. Each call changes the hasher, as
+/// it would change the handle of a device.
 #[derive(Drop)]
 pub struct DigestSigner {
     key: SubjectPublicKeyInfo,
@@ -20,7 +20,7 @@ pub struct DigestSigner {
 }
 
 impl DigestSigner {
-    /// The signer of this key, by an algorithm under the arc for examples (RFC 5612).
+    /// Returns a signer with this key. Its algorithm is under the arc for examples (RFC 5612).
     pub fn new(key: SubjectPublicKeyInfo) -> Result<DigestSigner, Error> {
         let oid = ObjectIdentifier::new("1.3.6.1.4.1.32473.2")?;
         let algorithm = AlgorithmIdentifier {
@@ -44,7 +44,7 @@ impl Signer for DigestSigner {
 
     ghost signs_by = { λ s. algorithm_plain s.algorithm };
 
-    // Whole octets, as many as a digest has.
+    // Whole bytes, as many as a digest has.
     ghost signs = { λ _ _ b. (b.unused ≡ 0) × IsOctets b.octets × (length b.octets ≡ 32) };
 
     // The hasher may be in use.
@@ -68,7 +68,7 @@ impl Signer for DigestSigner {
         octets_in_range(digest.as_slice());
         match BitString::from_bytes(digest) {
             Ok(bits) => Ok(bits),
-            // A digest has 32 octets.
+            // A digest has 32 bytes.
             Err(_) => unreachable!(),
         }
     }

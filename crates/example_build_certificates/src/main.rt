@@ -1,19 +1,19 @@
-//! Makes and reads certificates. A line of standard input each, a line of standard output for each,
-//! but for `chain`, which has six.
+//! Builds and decodes certificates. Each line of standard input is a question, and each line of
+//! standard output is its answer. The answer to `chain` has six lines.
 //!
 //! | Question | Answer |
 //! |---|---|
-//! | `serial HEX` | the serial number of a certificate, as a profile of one's own reads it |
-//! | `badge LEVEL` | the octets to be signed of the certificate of a badge, by a profile of one's own, in hex |
-//! | `chain` | a root, an authority below it, a server's certificate, a list of what the authority revoked, a request of the server and the certificate that is issued for it, in hex |
-//! | `WHAT KIND ROOT_KEY SERVER_KEY` | the octets that the root's key has to sign outside, in another program or in a device, in hex |
-//! | `WHAT KIND ROOT_KEY SERVER_KEY BITS` | the certificate with this signature, in hex |
-//! | any other | `?` |
+//! | `serial HEX` | the serial number of a certificate, decoded with a user-defined profile |
+//! | `badge LEVEL` | the bytes to be signed of a badge's certificate, with a user-defined profile, in base 16 |
+//! | `chain` | a root, a CA below it, a server's certificate, a CRL of the CA, a CSR of the server, and the certificate that is issued for it, in base 16 |
+//! | `WHAT KIND ROOT_KEY SERVER_KEY` | the bytes that the root's key has to sign elsewhere, in another program or in a device, in base 16 |
+//! | `WHAT KIND ROOT_KEY SERVER_KEY BITS` | the certificate with this signature, in base 16 |
+//! | any other line | `?` |
 //!
-//! `WHAT` is `root` or `server`, `KIND` that of the root's key: `rsa`, `p256`, `ed25519`, or
-//! `p256-numbers` where the signature is told by its two numbers. The others name files: with the
-//! encodings of both keys, and with the octets of a signature. What is refused is answered
-//! `refused: WHY`.
+//! `WHAT` is `root` or `server`. `KIND` is the kind of the root's key: `rsa`, `p256`, `ed25519`, or
+//! `p256-numbers` if the signature is given by its two numbers. The other words name files with the
+//! encodings of both keys, and with the bytes of a signature. The answer is `refused: WHY` if the
+//! question fails.
 #![tactic(auto)]
 
 mod answering;
@@ -41,7 +41,7 @@ use x509_cert::{
     SerialNumber, SubjectAltName, SubjectPublicKeyInfo, Time, Validity,
 };
 
-/// The key of the root, on P-256: the encoding of its `SubjectPublicKeyInfo`.
+/// The encoding of the root's `SubjectPublicKeyInfo`, a key on P-256.
 pub(crate) const ROOT: &[u8] =
     b"\x30\x59\x30\x13\x06\x07\x2a\x86\x48\xce\x3d\x02\x01\x06\x08\x2a\x86\x48\xce\x3d\x03\x01\
     \x07\x03\x42\x00\x04\x8a\x10\x7c\x7d\xbd\x6a\x77\x06\xcf\x1e\xfa\x09\x7e\xe9\x97\xa4\x21\
@@ -49,7 +49,7 @@ pub(crate) const ROOT: &[u8] =
     \x4a\x81\x3a\xda\xd1\xad\x8e\xbe\x81\xfe\xc8\xc2\x39\x89\x25\x75\xff\x4a\x9a\x65\xd6\x9e\
     \xb1\x0a\xdd";
 
-/// The key of the authority, on P-256: the encoding of its `SubjectPublicKeyInfo`.
+/// The encoding of the CA's `SubjectPublicKeyInfo`, a key on P-256.
 const AUTHORITY: &[u8] =
     b"\x30\x59\x30\x13\x06\x07\x2a\x86\x48\xce\x3d\x02\x01\x06\x08\x2a\x86\x48\xce\x3d\x03\x01\
     \x07\x03\x42\x00\x04\xbc\x85\x32\xa8\xef\x90\xbb\xe3\x14\xcb\x49\xe9\xb6\x9a\xd4\x49\x2e\
@@ -57,7 +57,7 @@ const AUTHORITY: &[u8] =
     \x3d\x61\x8c\x5d\xd1\xc6\x83\xd0\x1a\x7c\xdc\x98\x76\x3f\x8d\x0f\xbd\x59\x59\x25\xab\x66\
     \xda\xfe\xd7";
 
-/// The key of the server, on P-256: the encoding of its `SubjectPublicKeyInfo`.
+/// The encoding of the server's `SubjectPublicKeyInfo`, a key on P-256.
 const SERVER: &[u8] =
     b"\x30\x59\x30\x13\x06\x07\x2a\x86\x48\xce\x3d\x02\x01\x06\x08\x2a\x86\x48\xce\x3d\x03\x01\
     \x07\x03\x42\x00\x04\x31\x23\xa4\x3e\x90\x10\xf3\x81\x63\xb5\x0c\xa4\xdc\xd6\x4e\xc2\x70\
@@ -92,20 +92,20 @@ fn tell<E: Display + Drop>(rt: &HostRuntime, answer: Option<Result<String, E>>) 
     }
 }
 
-/// The key that is the encoding of these octets.
+/// Decodes a key.
 pub(crate) fn key_of(alloc: Global, octets: &[u8]) -> Result<SubjectPublicKeyInfo, Error> {
     let key = SubjectPublicKeyInfo::from_der(alloc, octets)?;
     Ok(key)
 }
 
-/// From when until when all of them are valid.
+/// Returns the validity period of all certificates.
 fn validity() -> Result<Validity, Error> {
     let from = Time::from_str("2026-01-01T00:00:00Z")?;
     let until = Time::from_str("2036-01-01T00:00:00Z")?;
     Ok(Validity::new(from, until))
 }
 
-/// The builder of a certificate of this profile, number and key.
+/// Returns the builder of a certificate with this profile, serial number and key.
 pub(crate) fn builder_for<P: BuilderProfile + Drop>(
     alloc: Global,
     profile: P,
@@ -117,8 +117,7 @@ pub(crate) fn builder_for<P: BuilderProfile + Drop>(
     Ok(builder)
 }
 
-/// The builder of a certificate of this profile and number, and of the key that is the encoding of
-/// these octets.
+/// Returns the builder of a certificate with this profile, serial number and encoded key.
 pub(crate) fn builder_of<P: BuilderProfile + Drop>(
     alloc: Global,
     profile: P,
@@ -129,14 +128,14 @@ pub(crate) fn builder_of<P: BuilderProfile + Drop>(
     builder_for(alloc, profile, number, key)
 }
 
-/// The name of the root.
+/// Returns the name of the root.
 pub(crate) fn name_of_root(alloc: Global) -> Result<Name, Error> {
     let subject = Name::from_str(alloc, "CN=Example Root,O=Example,C=US")?;
     Ok(subject)
 }
 
-/// The builder of a root (CA/Browser Forum, Baseline Requirements 7.1.2.1) of this key. Its issuer
-/// is itself.
+/// Returns the builder of a root (CA/Browser Forum, Baseline Requirements 7.1.2.1) with this key.
+/// The root is its own issuer.
 pub(crate) fn builder_of_root(
     alloc: Global,
     key: &[u8],
@@ -145,13 +144,14 @@ pub(crate) fn builder_of_root(
     builder_of(alloc, profile, 1, key)
 }
 
-/// A root.
+/// Returns the certificate of a root.
 fn root(alloc: Global, signer: &DigestSigner) -> Result<Certificate, Error> {
     let builder = builder_of_root(alloc, ROOT)?;
     builder.build(alloc, signer)
 }
 
-/// An authority below it (7.1.2.6), below which no other may stand. The signer is the root's.
+/// Returns the certificate of a CA below the root (CA/Browser Forum, Baseline Requirements
+/// 7.1.2.6), which allows no further CA below it. The root's signer signs it.
 fn authority(
     alloc: Global,
     root: &Certificate,
@@ -170,7 +170,7 @@ fn authority(
     builder.build(alloc, signer)
 }
 
-/// The server's one domain.
+/// Returns a subjectAltName with the server's domain.
 fn domain(alloc: Global) -> Result<SubjectAltName, Error> {
     let name = Ia5String::new(alloc, b"server.example")?;
     let mut names = Vec::new(alloc);
@@ -184,7 +184,7 @@ fn add_domain(alloc: Global, builder: &mut CertificateBuilder<Subscriber>) -> Re
     Ok(())
 }
 
-/// The profile of a server of this name, below this issuer, whose domain was validated.
+/// Returns the profile of a server with this name, below this issuer, for a validated domain.
 pub(crate) fn profile_of_server(
     alloc: Global,
     subject: Name,
@@ -201,8 +201,9 @@ pub(crate) fn profile_of_server(
     })
 }
 
-/// The builder of a server with one domain (7.1.2.7), of this number and key. Alternative names are
-/// added to the builder; the profile adds the rest after them.
+/// Returns the builder of the certificate of a server with one domain (CA/Browser Forum, Baseline
+/// Requirements 7.1.2.7), with this serial number and key. The subjectAltName is added to the
+/// builder, and the profile adds the other extensions after it.
 pub(crate) fn builder_of_server(
     alloc: Global,
     issuer: &Name,
@@ -216,7 +217,7 @@ pub(crate) fn builder_of_server(
     Ok(builder)
 }
 
-/// A server.
+/// Returns the certificate of a server.
 fn server(
     alloc: Global,
     authority: &Certificate,
@@ -227,7 +228,7 @@ fn server(
     builder.build(alloc, signer)
 }
 
-/// What a list says of the server's certificate.
+/// Returns the CRL entry of the server's certificate.
 fn entry(alloc: Global) -> Result<RevokedCert, Error> {
     let revocation_date = Time::from_str("2026-01-15T12:00:00Z")?;
     let serial_number = SerialNumber::new(alloc, &[3])?;
@@ -238,14 +239,14 @@ fn entry(alloc: Global) -> Result<RevokedCert, Error> {
     })
 }
 
-/// The entries of its list: one.
+/// Returns the entries of the CRL, of which there is one.
 fn revoked(alloc: Global) -> Result<Vec<RevokedCert>, Error> {
     let mut revoked = Vec::new(alloc);
     revoked.push(entry(alloc)?)?;
     Ok(revoked)
 }
 
-/// The first list of an authority, by which the server's certificate is revoked (RFC 5280 5.1).
+/// Returns the first CRL of a CA, which revokes the server's certificate (RFC 5280 5.1).
 fn list(
     alloc: Global,
     authority: &Certificate,
@@ -261,7 +262,7 @@ fn list(
     Ok(list)
 }
 
-/// A request of a server for a certificate of one domain (RFC 2986).
+/// Returns a CSR of a server for a certificate with one domain (RFC 2986).
 fn request(alloc: Global, signer: &DigestSigner) -> Result<CertReq, Error> {
     let subject = Name::from_str(alloc, "CN=server.example")?;
     let mut builder = RequestBuilder::new(alloc, subject)?;
@@ -269,40 +270,40 @@ fn request(alloc: Global, signer: &DigestSigner) -> Result<CertReq, Error> {
     builder.build(alloc, signer)
 }
 
-/// The request of the server, which its own key signs.
+/// Returns the CSR of the server, which its own key signs.
 fn request_of_server(alloc: Global) -> Result<CertReq, Error> {
     let signer = signer_of(alloc, SERVER)?;
     request(alloc, &signer)
 }
 
-/// The signer of the key that is the encoding of these octets.
+/// Returns a signer with this encoded key.
 fn signer_of(alloc: Global, key: &[u8]) -> Result<DigestSigner, Error> {
     let key = key_of(alloc, key)?;
     let signer = DigestSigner::new(key)?;
     Ok(signer)
 }
 
-/// Octets, as a line of hex.
+/// Returns bytes as a line in base 16.
 pub(crate) fn line_in_hex(alloc: Global, octets: &[u8]) -> Result<String, Error> {
     let mut line = hex::encode(alloc, octets)?;
     line.push_str("\n")?;
     Ok(line)
 }
 
-/// What was made, as a line of hex.
+/// Returns the encoding of a value as a line in base 16.
 pub(crate) fn line_of<T: Encode>(alloc: Global, made: &T) -> Result<String, Error> {
     let octets = made.to_der(alloc)?;
     line_in_hex(alloc, octets.as_slice())
 }
 
-/// Adds the line of what was made.
+/// Appends the line of a value.
 fn add_line<T: Encode>(alloc: Global, text: &mut String, made: &T) -> Result<(), Error> {
     let line = line_of(alloc, made)?;
     text.push_str(line.as_str())?;
     Ok(())
 }
 
-/// Adds a certificate.
+/// Appends a certificate.
 fn add_certificate(
     alloc: Global,
     text: &mut String,
@@ -311,7 +312,7 @@ fn add_certificate(
     add_line(alloc, text, certificate)
 }
 
-/// Adds the certificate that was made.
+/// Appends the certificate of a result.
 fn add_made(
     alloc: Global,
     text: &mut String,
@@ -320,19 +321,19 @@ fn add_made(
     add_certificate(alloc, text, &made?)
 }
 
-/// Adds the root, and what stands below it.
+/// Appends the root, and everything below it.
 fn add_root(alloc: Global, text: &mut String) -> Result<(), Error> {
     let signer = signer_of(alloc, ROOT)?;
     add_root_of(alloc, text, &signer)
 }
 
-/// Adds the root of a signer, and what stands below it.
+/// Appends the root of a signer, and everything below it.
 fn add_root_of(alloc: Global, text: &mut String, signer: &DigestSigner) -> Result<(), Error> {
     let root = root(alloc, signer)?;
     add_chain(alloc, text, &root, signer)
 }
 
-/// Adds a root and the authority that it certifies, and what stands below that.
+/// Appends a root, the CA below it, and everything below that.
 fn add_chain(
     alloc: Global,
     text: &mut String,
@@ -344,14 +345,14 @@ fn add_chain(
     add_authority(alloc, text, &authority)
 }
 
-/// Adds an authority, and what it signs.
+/// Appends a CA, and everything that it signs.
 fn add_authority(alloc: Global, text: &mut String, authority: &Certificate) -> Result<(), Error> {
     add_certificate(alloc, text, authority)?;
     let signer = signer_of(alloc, AUTHORITY)?;
     add_signed(alloc, text, authority, &signer)
 }
 
-/// Adds the server that an authority certifies, its list, and what it answers to a request.
+/// Appends the server's certificate that a CA signs, its CRL, and the certificate for a CSR.
 fn add_signed(
     alloc: Global,
     text: &mut String,
@@ -363,7 +364,7 @@ fn add_signed(
     add_request(alloc, text, authority, signer)
 }
 
-/// Adds an authority's list.
+/// Appends a CA's CRL.
 fn add_list(
     alloc: Global,
     text: &mut String,
@@ -374,7 +375,7 @@ fn add_list(
     add_line(alloc, text, &list)
 }
 
-/// Adds the server's request, and the certificate that an authority issues for it.
+/// Appends the server's CSR, and the certificate that a CA issues for it.
 fn add_request(
     alloc: Global,
     text: &mut String,
@@ -386,7 +387,7 @@ fn add_request(
     add_made(alloc, text, issued(alloc, &request, authority, signer))
 }
 
-/// All of them, each a line.
+/// Returns all of them, one on each line.
 fn chain(alloc: Global) -> Result<String, Error> {
     let mut text = String::new(alloc);
     add_root(alloc, &mut text)?;

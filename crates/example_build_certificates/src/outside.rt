@@ -1,4 +1,4 @@
-//! A root and a server below it whose signatures are made outside: by another program, or by a
+//! A root and a server below it, whose signatures are made elsewhere, by another program or by a
 //! device.
 
 use crate::outside_key::{OutsideKey, Scheme};
@@ -7,7 +7,7 @@ use std::alloc::Global;
 use std::fs;
 use x509_cert::builder::{Builder, BuilderProfile, CertificateBuilder, Error, Subscriber};
 
-/// What a line tells: how the root signs, and what stands in the files that it names.
+/// The words of a line: the way in which the root signs, and the contents of the files.
 #[derive(Drop)]
 struct Told {
     scheme: Scheme,
@@ -16,7 +16,7 @@ struct Told {
     bits: Option<Vec<u8>>,
 }
 
-/// The answer of a question about one of them, if it is one.
+/// Returns the answer to a question about the root or the server, or `None` for any other question.
 pub fn answer(rt: &HostRuntime, line: &str) -> Option<Result<String, Error>> {
     let (what, words) = line.split_once(' ')?;
     let told = told_by(rt, words)?;
@@ -27,7 +27,7 @@ pub fn answer(rt: &HostRuntime, line: &str) -> Option<Result<String, Error>> {
     }
 }
 
-/// What the words `KIND ROOT_KEY SERVER_KEY [BITS]` tell.
+/// Parses the words `KIND ROOT_KEY SERVER_KEY [BITS]` and reads the files.
 fn told_by(rt: &HostRuntime, words: &str) -> Option<Told> {
     let (kind, files) = words.split_once(' ')?;
     let (root_key, files) = files.split_once(' ')?;
@@ -43,33 +43,33 @@ fn told_by(rt: &HostRuntime, words: &str) -> Option<Told> {
     })
 }
 
-/// The root's line. A later run makes the same builder again, so that the part which was signed is
-/// the one that is assembled.
+/// Returns the line about the root: the bytes that it has to sign, or its certificate. A later run
+/// makes the same builder again, so it assembles the part that was signed.
 fn root_line(alloc: Global, told: &Told) -> Result<String, Error> {
     let builder = builder_of_root(alloc, told.root_key.as_slice())?;
     made(alloc, builder, told)
 }
 
-/// The builder of the server.
+/// Returns the builder of the server.
 fn builder_below(alloc: Global, key: &[u8]) -> Result<CertificateBuilder<Subscriber>, Error> {
     let issuer = name_of_root(alloc)?;
     builder_of_server(alloc, &issuer, 2, key)
 }
 
-/// The server's line.
+/// Returns the line about the server: the bytes that the root has to sign, or the certificate.
 fn server_line(alloc: Global, told: &Told) -> Result<String, Error> {
     let builder = builder_below(alloc, told.server_key.as_slice())?;
     made(alloc, builder, told)
 }
 
-/// The key that is the encoding of these octets, and signs so.
+/// Returns the key with this encoding, which signs in this way.
 fn key_by(alloc: Global, scheme: Scheme, octets: &[u8]) -> Result<OutsideKey, Error> {
     let info = key_of(alloc, octets)?;
     let key = OutsideKey::new(alloc, scheme, info)?;
     Ok(key)
 }
 
-/// What the root is to sign, or the certificate with the signature that stands in a file.
+/// Returns the bytes that the root has to sign, or the certificate with the signature from a file.
 fn made<P: BuilderProfile + Drop>(
     alloc: Global,
     builder: CertificateBuilder<P>,
@@ -82,7 +82,7 @@ fn made<P: BuilderProfile + Drop>(
     }
 }
 
-/// What this key is to sign.
+/// Returns the bytes that this key has to sign.
 fn finalized<P: BuilderProfile + Drop>(
     alloc: Global,
     mut builder: CertificateBuilder<P>,
@@ -92,7 +92,7 @@ fn finalized<P: BuilderProfile + Drop>(
     line_in_hex(alloc, part.as_slice())
 }
 
-/// The certificate with this signature of what the key was to sign.
+/// Returns the certificate with this signature over the bytes that the key had to sign.
 fn assembled<P: BuilderProfile + Drop>(
     alloc: Global,
     mut builder: CertificateBuilder<P>,

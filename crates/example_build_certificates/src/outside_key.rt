@@ -6,8 +6,8 @@ use std::alloc::Global;
 use x509_cert::builder::{SignError, Signer};
 use x509_cert::{AlgorithmIdentifier, Any, BitString, SubjectPublicKeyInfo, Uint};
 
-/// A key that signs in another program or in a device. A builder is told the key and its algorithm;
-/// no bits are asked of it here.
+/// A key that signs in another program or in a device. A builder needs the key and its algorithm.
+/// The key makes no signature here.
 #[derive(Drop)]
 pub struct OutsideKey {
     scheme: Scheme,
@@ -16,7 +16,7 @@ pub struct OutsideKey {
 }
 
 impl OutsideKey {
-    /// The key that signs so.
+    /// Returns a key with this scheme.
     pub fn new(
         alloc: Global,
         scheme: Scheme,
@@ -30,7 +30,7 @@ impl OutsideKey {
         })
     }
 
-    /// The signature that is told by these octets.
+    /// Returns the signature with these bytes.
     pub fn signature(&self, alloc: Global, octets: &[u8]) -> Result<BitString, Error> {
         match self.scheme {
             Scheme::P256Numbers => of_numbers(alloc, octets),
@@ -39,8 +39,8 @@ impl OutsideKey {
     }
 }
 
-/// A signature by ECDSA (RFC 3279 2.2.3) of which both numbers are told, one after the other in as
-/// many octets.
+/// Returns an ECDSA signature (RFC 3279 2.2.3) from its two numbers, which have the same number of
+/// bytes.
 fn of_numbers(alloc: Global, numbers: &[u8]) -> Result<BitString, Error> {
     let (r, s) = numbers.split_at(numbers.len() / 2);
     let mut both = Vec::new(alloc);
@@ -49,21 +49,21 @@ fn of_numbers(alloc: Global, numbers: &[u8]) -> Result<BitString, Error> {
     BitString::from_bytes(both.to_der(alloc)?)
 }
 
-/// How a key signs.
+/// A signature scheme.
 #[derive(Clone, Copy)]
 pub enum Scheme {
-    /// RSA by PKCS #1 1.5, of a SHA-256 digest.
+    /// RSA with PKCS #1 v1.5 and SHA-256.
     Rsa,
-    /// ECDSA on P-256, of a SHA-256 digest.
+    /// ECDSA on P-256 with SHA-256.
     P256,
-    /// ECDSA on P-256, of which a device answers the two numbers.
+    /// ECDSA on P-256 with SHA-256, where a device returns the two numbers of the signature.
     P256Numbers,
     /// Ed25519.
     Ed25519,
 }
 
 impl Scheme {
-    /// The scheme of a kind of keys.
+    /// Returns the scheme for a kind of key.
     pub fn parse(kind: &str) -> Option<Scheme> {
         match kind {
             "rsa" => Some(Scheme::Rsa),
@@ -74,7 +74,7 @@ impl Scheme {
         }
     }
 
-    /// The identifier of the algorithm.
+    /// Returns the identifier of the algorithm.
     fn algorithm(self, alloc: Global) -> Result<AlgorithmIdentifier, Error> {
         match self {
             Scheme::Rsa => rsa(alloc),
@@ -84,7 +84,7 @@ impl Scheme {
     }
 }
 
-/// `sha256WithRSAEncryption`, whose parameters are NULL (RFC 4055 5).
+/// Returns `sha256WithRSAEncryption`, whose parameters are NULL (RFC 4055 5).
 fn rsa(alloc: Global) -> Result<AlgorithmIdentifier, Error> {
     let oid = ObjectIdentifier::new("1.2.840.113549.1.1.11")?;
     Ok(AlgorithmIdentifier {
@@ -93,8 +93,8 @@ fn rsa(alloc: Global) -> Result<AlgorithmIdentifier, Error> {
     })
 }
 
-/// An algorithm without parameters: `1.2.840.10045.4.3.2` is `ecdsa-with-SHA256` (RFC 5758 3.2),
-/// `1.3.101.112` Ed25519 (RFC 8410 3).
+/// Returns an algorithm without parameters. `1.2.840.10045.4.3.2` is `ecdsa-with-SHA256` (RFC 5758
+/// 3.2), and `1.3.101.112` is Ed25519 (RFC 8410 3).
 fn plain(dotted: &str) -> Result<AlgorithmIdentifier, Error> {
     let oid = ObjectIdentifier::new(dotted)?;
     Ok(AlgorithmIdentifier {

@@ -1,4 +1,4 @@
-//! A profile of certificates that are read.
+//! A user-defined profile of certificates that are decoded.
 
 ghost use Rattle.std.specs.Prelude.{Some, false};
 
@@ -6,8 +6,8 @@ use der_core::{Error, ErrorKind, Tag};
 use x509_cert::certificate::Profile;
 use x509_cert::{SerialNumber, Time};
 
-/// Serial numbers of at most 20 content octets are read (RFC 5280 4.1.2.2), and dates are written
-/// as they were read.
+/// Accepts serial numbers of at most 20 content bytes (RFC 5280 4.1.2.2), and encodes dates in the
+/// form in which they were decoded.
 #[derive(Clone, Copy, Debug)]
 pub struct ShortSerials;
 

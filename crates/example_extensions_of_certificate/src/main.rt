@@ -1,5 +1,5 @@
-//! Prints the DNS names of the certificate on standard input (DER), what its key may sign, and how
-//! long paths below it may be.
+//! Prints three facts about the certificate on standard input (DER): its DNS names, whether its key
+//! may sign certificates, and its path length.
 #![tactic(auto)]
 
 use der_core::Result;
@@ -19,13 +19,13 @@ fn main(rt: HostRuntime) -> io::Result<()> {
     }
 }
 
-/// What a certificate's extensions say, a line each.
+/// Returns the facts about a certificate, one on each line.
 fn described(alloc: Global, octets: &[u8]) -> Result<String> {
     let certificate = CertificateInner::<Raw>::from_der(alloc, octets)?;
     lines_of(alloc, certificate.tbs_certificate())
 }
 
-/// What the extensions of a signed part say.
+/// Returns the facts about the extensions of a TBSCertificate.
 fn lines_of(alloc: Global, certificate: &TbsCertificateInner<Raw>) -> Result<String> {
     let names = dns_names(alloc, certificate)?;
     let is_signer = signs_certificates(alloc, certificate)?;
@@ -35,7 +35,7 @@ fn lines_of(alloc: Global, certificate: &TbsCertificateInner<Raw>) -> Result<Str
     )?)
 }
 
-/// The DNS names of the subject, a blank in front of each.
+/// Returns the DNS names of the subject, with a space before each.
 fn dns_names(alloc: Global, certificate: &TbsCertificateInner<Raw>) -> Result<String> {
     let mut text = String::new(alloc);
     if let Some((_, names)) = certificate.get_extension::<SubjectAltName>(alloc)? {
@@ -49,13 +49,14 @@ fn dns_names(alloc: Global, certificate: &TbsCertificateInner<Raw>) -> Result<St
     Ok(text)
 }
 
-/// Whether the key is for signatures of certificates. Without the extension it is for any use.
+/// Returns whether the key may sign certificates. Without a keyUsage, it may be used for
+/// everything.
 fn signs_certificates(alloc: Global, certificate: &TbsCertificateInner<Raw>) -> Result<bool> {
     let usage = certificate.get_extension::<KeyUsage>(alloc)?;
     Ok(usage.map_or(true, |(_, usage)| usage.key_cert_sign()))
 }
 
-/// How many certificates of authorities may stand below this one, if that is bounded.
+/// Returns the largest number of CA certificates that may be below this one, if there is a limit.
 fn path_len(alloc: Global, certificate: &TbsCertificateInner<Raw>) -> Result<Option<u8>> {
     match certificate.get_extension::<BasicConstraints>(alloc)? {
         Some((_, constraints)) => Ok(constraints.path_len_constraint),

@@ -1,4 +1,4 @@
-//! A record of fields with defaults, an optional field and a set.
+//! A record with default fields, an optional field and a set.
 
 ghost use Rattle.std.specs.Prelude.{refl};
 ghost use Rattle.der_core.specs.Grammar.{plain_option};

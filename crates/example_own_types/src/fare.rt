@@ -43,7 +43,7 @@ impl Numbered for Fare {
 
 impl Ordered for Fare {}
 
-/// A field with a default has `Full` as its default.
+/// The default of a field of this type is `Full`.
 impl DefaultNumber for Fare {
     ghost default_number = { 0 };
 

@@ -86,7 +86,7 @@ impl Member for Holder {
     ghost apart = { refl };
 }
 
-/// The tags, then the contents.
+/// Compares the tags first, and then the contents.
 impl DerOrd for Holder {
     fn der_cmp(&self, other: &Self) -> Result<Ordering, Error> {
         cases_cmp(&self.cases(), &other.cases())

@@ -1,5 +1,5 @@
-//! Types of your own: reads a ticket or a booking from each line of standard input (DER, in hex),
-//! and prints what it says and how it is encoded again.
+//! User-defined types. Decodes a ticket or a booking from each line of standard input (DER in base
+//! 16), and prints its contents and its encoding.
 #![tactic(auto)]
 
 mod booking;
@@ -24,26 +24,26 @@ fn main(rt: HostRuntime) -> io::Result<()> {
     Ok(())
 }
 
-/// Returns the ticket or the booking of a line, and its bytes.
+/// Decodes the ticket or the booking on a line. Returns its text and its encoding.
 fn answer(alloc: Global, line: &str) -> Result<String, Error> {
     let Ok(octets) = hex::decode(alloc, line) else {
         return Ok(format!(in alloc; "?")?);
     };
-    // A ticket begins with its seat, an INTEGER.
+    // A ticket begins with its seat, which is an INTEGER.
     if matches!(octets.as_slice(), [_, _, 2, ..]) {
         return of_ticket(alloc, octets.as_slice());
     }
     of_booking(alloc, octets.as_slice())
 }
 
-/// Returns the text of a ticket, and its bytes.
+/// Decodes a ticket. Returns its text and its encoding.
 fn of_ticket(alloc: Global, octets: &[u8]) -> Result<String, Error> {
     let ticket = Ticket::from_der(alloc, octets)?;
     let written = hex::encode(alloc, ticket.to_der(alloc)?)?;
     Ok(format!(in alloc; "{ticket:?} {written}")?)
 }
 
-/// Returns the text of a booking, and its bytes.
+/// Decodes a booking. Returns its text and its encoding.
 fn of_booking(alloc: Global, octets: &[u8]) -> Result<String, Error> {
     let booking = Booking::from_der(alloc, octets)?;
     let written = hex::encode(alloc, booking.to_der(alloc)?)?;

@@ -1,4 +1,4 @@
-//! A type of one field.
+//! A type with one field.
 
 use der_core::describing::{AsField, Described, Ordered, Wraps};
 

@@ -1,4 +1,4 @@
--- Fronts that are tried, and chains that grow by one.
+-- Laws about prefixes that are tried, and about chains that grow by one certificate.
 use Rattle.std.proofs.Common.{◌≡◌, ℕ, ◌+◌, ◌^◌, ◌<◌, ◌≤◌, List, [], ◌∷◌, ◌++◌, length, take, drop, refl, sym, ap, ◌∙◌, arith, append_assoc, length-append}
 use Rattle.std.proofs.lemmas.List.{take-append-drop, length-take-le, length-drop, take_at, drop-drop}
 use Rattle.der_core.specs.Shapes.{Spells}
@@ -11,17 +11,18 @@ use Rattle.cert_desk_checking.proofs.DeskBundle.Readings.{joined-more, Chain-mor
 use Rattle.cert_desk_checking.proofs.DeskBundle.SeriesLaws.{each-last}
 use Rattle.test_cert_rows.specs.SplitFronts.{Front, NoFront}
 
--- a certificate has octets
+-- The encoding of a certificate isn't empty.
 octets-some : (bound : ℕ) (c : PlainCertificate) → 0 < length (certificate_octets bound c)
 octets-some bound c = let f = certificate_octets-first bound c in omega (arith, ap length f.1)
 
--- a front that spells a certificate
+-- A prefix that encodes a certificate.
 pub front_of : (bound limit : ℕ) (octets : List ℕ) (c : PlainCertificate) (n : ℕ) → n ≤ limit → n ≤ length octets → Spells (raw_certificate bound) c (take n octets) → Front bound limit octets c n
 front_of bound limit octets c n w t s =
     let some = octets-some bound c in
     record { some = omega (arith, ap length s.octets, length-take-le n octets t); within = w; there = t; spelled = s }
 
--- where no front within the limit spells a certificate, none that could stand begins the octets
+-- If no prefix within the limit encodes a certificate, the bytes don't begin with one that may be
+-- in a chain.
 pub no_front : (bound limit : ℕ) (octets : List ℕ)
     → ((k : ℕ) → k ≤ limit → k ≤ length octets → (c : PlainCertificate) → Spells (raw_certificate bound) c (take k octets) → ⊥)
     → NoFront bound limit octets
@@ -30,7 +31,7 @@ no_front bound limit octets none c more stands e =
     let there : n ≤ length octets = omega (arith, ap length e, length-append (certificate_octets bound c) more) in
     none n stands.within there c (record { valid = stands.valid; octets = ap (take n) e ∙ take_at (certificate_octets bound c) more n refl })
 
--- the certificates so far, and what is left
+-- The certificates so far, and the remaining bytes.
 pub record SoFar (bound limit : ℕ) (stream : List ℕ) (cs : List PlainCertificate) (start : ℕ) : Type 0 where
   pub within : start ≤ length stream
   pub front : Chain bound limit cs (joined bound cs)

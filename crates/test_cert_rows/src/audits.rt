@@ -1,4 +1,4 @@
-//! Chains that are issued by signers of many kinds, and what their audit says.
+//! Chains that several kinds of signers issue, and their audits.
 
 ghost use Rattle.std.specs.Prelude.{◌≤◌};
 
@@ -13,22 +13,22 @@ use cert_desk::{
 use const_oid::ObjectIdentifier;
 use std::alloc::Global;
 
-/// The key of a stranger: a bit string of no octets.
+/// A key that no order has: its bit string has no bytes.
 const STRANGER: &str = "3008300306012A030100";
 
 /// The signers of a question.
 #[derive(Drop)]
 struct Signers {
-    /// What they do.
+    /// The way in which they differ from good signers.
     oddity: Oddity,
-    /// The place of the one that has a stranger's key.
+    /// The index of the signer with another key.
     stranger: Option<usize>,
-    /// How many they are, where not as many as are needed.
+    /// The number of signers, if it isn't the required one.
     count: Option<usize>,
 }
 
 impl Signers {
-    /// The signers that a word tells.
+    /// Parses the signers of a question.
     fn parse(alloc: Global, word: &str) -> Result<Signers, Refusal> {
         let (word, more) = word.split_once(':').unwrap_or((word, "-"));
         let (stranger, count) = match word {
@@ -43,7 +43,7 @@ impl Signers {
         })
     }
 
-    /// The key of the signer at a place.
+    /// Returns the key of the signer at an index.
     fn key_at(
         &self,
         alloc: Global,
@@ -56,7 +56,7 @@ impl Signers {
         }
     }
 
-    /// The signers for these orders.
+    /// Returns the signers for these orders.
     fn for_orders(&self, alloc: Global, orders: &[Order]) -> Result<Vec<OddSigner<'_>>, Refusal> {
         let needed = orders.len().saturating_sub(1).max(1);
         let mut signers = Vec::new(alloc);
@@ -71,7 +71,7 @@ impl Signers {
     }
 }
 
-/// What signers do that are told by these words.
+/// Returns the way in which signers with these words differ from good ones.
 fn oddity_of(alloc: Global, word: &str, more: &str) -> Result<Oddity, Refusal> {
     match word {
         "digest" | "stranger" | "count" => Ok(Oddity::None),
@@ -82,7 +82,7 @@ fn oddity_of(alloc: Global, word: &str, more: &str) -> Result<Oddity, Refusal> {
     }
 }
 
-/// The verdict on the chain of a file's orders, or why there is none.
+/// Returns the verdict on the chain of a file's orders, or why there is none.
 pub fn answer(alloc: Global, rest: &str) -> Result<String, Refusal> {
     let (signer, rest) = rest.split_once(' ').ok_or(Refusal::Unread)?;
     let (limit, rest) = rest.split_once(' ').ok_or(Refusal::Unread)?;
@@ -93,7 +93,7 @@ pub fn answer(alloc: Global, rest: &str) -> Result<String, Refusal> {
     audit_of(alloc, signer, file, limit, moment, &purpose_of(purpose)?)
 }
 
-/// The verdict on the chain of a file's orders by these signers, or why there is none.
+/// Returns the verdict on the chain of a file's orders with these signers, or why there is none.
 fn audit_of(
     alloc: Global,
     signers: &str,
@@ -111,7 +111,8 @@ fn audit_of(
     }
 }
 
-/// The octets of the chain of a file's orders. Where there is no memory for it, it is issued again.
+/// Returns the bytes of the chain of a file's orders. If memory runs out, the chain is issued
+/// again.
 pub fn answer_again(alloc: Global, rest: &str) -> Result<String, Refusal> {
     let (signer, file) = rest.split_once(' ').ok_or(Refusal::Unread)?;
     let mut issued = chain_of(alloc, signer, file)?;
@@ -125,7 +126,7 @@ pub fn answer_again(alloc: Global, rest: &str) -> Result<String, Refusal> {
     }
 }
 
-/// The chain of a file's orders by these signers.
+/// Issues the chain of a file's orders with these signers.
 fn chain_of(
     alloc: Global,
     signers: &str,
@@ -137,7 +138,7 @@ fn chain_of(
     chain_by(alloc, &signers, orders.as_slice())
 }
 
-/// The chain of these orders by these signers.
+/// Issues the chain of these orders with these signers.
 fn chain_by(
     alloc: Global,
     signers: &Signers,
@@ -147,7 +148,7 @@ fn chain_by(
     Ok(issue(alloc, orders, signers.as_slice()))
 }
 
-/// What an audit says, by the judge of digests.
+/// Returns the verdict of an audit, with the digest verifier.
 fn audit(
     alloc: Global,
     issued: &Issued,

@@ -10,7 +10,7 @@ use cert_desk::{Bundle, DigestJudge, MemoryInput, ObjectIdentifier, Rule, reason
 use std::alloc::Global;
 use std::fmt::Write;
 
-/// The rules that leave a reason open.
+/// The rules that can be broken in several ways.
 const EXPLAINED: &[Rule] = &[
     Rule::DuplicateExtension,
     Rule::MalformedExtension,
@@ -20,7 +20,7 @@ const EXPLAINED: &[Rule] = &[
     Rule::PathTooLong,
 ];
 
-/// The limit that a word states.
+/// Parses a size limit.
 pub fn limit_of(word: &str) -> Result<u32, Refusal>
     ensures { IfOk result (λ limit. 6 ≤ limit) }
 {
@@ -31,7 +31,7 @@ pub fn limit_of(word: &str) -> Result<u32, Refusal>
     Ok(limit)
 }
 
-/// The answers to calls, and how the bundle and its input stand then.
+/// Returns the results of the calls, and the state of the bundle and of its input.
 pub fn answer(alloc: Global, rest: &str) -> Result<String, Refusal> {
     let (limit, rest) = rest.split_once(' ').ok_or(Refusal::Unread)?;
     let (schedule, rest) = rest.split_once(' ').ok_or(Refusal::Unread)?;
@@ -42,7 +42,7 @@ pub fn answer(alloc: Global, rest: &str) -> Result<String, Refusal> {
     answers_of(alloc, limit, &mut schedule.input(octets.as_slice()), calls)
 }
 
-/// The answers to calls of a bundle over this input, and how both stand then.
+/// Returns the results of the calls of a bundle over this input, and the state of both.
 fn answers_of(
     alloc: Global,
     limit: u32,
@@ -60,7 +60,7 @@ fn answers_of(
     Ok(text)
 }
 
-/// Writes how a bundle and its input stand.
+/// Writes the state of a bundle and of its input.
 fn write_end(text: &mut String, bundle: &Bundle, input: &MemoryInput<'_>) -> Result<(), Refusal> {
     write_standing(text, bundle)?;
     let (left, failures) = (input.left().len(), input.failures());
@@ -68,7 +68,7 @@ fn write_end(text: &mut String, bundle: &Bundle, input: &MemoryInput<'_>) -> Res
     Ok(())
 }
 
-/// Writes what the bundle answers to a call.
+/// Writes the result of a call.
 fn write_call(
     alloc: Global,
     text: &mut String,
@@ -93,7 +93,7 @@ fn write_call(
     Ok(())
 }
 
-/// Writes why each place breaks each rule, for a purpose.
+/// Writes the reasons why each certificate breaks each rule, for a key purpose.
 fn write_reasons(
     alloc: Global,
     text: &mut String,
@@ -110,7 +110,8 @@ fn write_reasons(
     Ok(())
 }
 
-/// Writes how a bundle stands, and its certificates: offset, octets, signed octets.
+/// Writes the state of a bundle, and its certificates: the offset, the bytes and the signed bytes
+/// of each.
 pub fn write_standing(text: &mut String, bundle: &Bundle) -> Result<(), Refusal> {
     let (len, end) = (bundle.len(), bundle.end_offset());
     write!(text, "{:?} len={len} end={end}; ", bundle.standing())?;

@@ -7,14 +7,14 @@ use std::alloc::{AllocError, Global};
 use std::fmt;
 use std::fmt::Write;
 
-/// Parts of a certificate, in the order in which they stand: those that have no lists inside.
+/// Decodes a certificate and returns its parts without lists in them, in their order.
 pub fn answer(alloc: Global, word: &str) -> Result<String, Refusal> {
     let octets = octets_of(alloc, word)?;
     let certificate = CertificateInner::<Raw>::from_der(alloc, octets.as_slice())?;
     parts_of(alloc, &certificate)
 }
 
-/// The parts of a certificate.
+/// Returns the parts of a certificate.
 fn parts_of(alloc: Global, certificate: &CertificateInner<Raw>) -> Result<String, Refusal> {
     let mut text = String::new(alloc);
     write_signed(&mut text, certificate)?;
@@ -22,7 +22,7 @@ fn parts_of(alloc: Global, certificate: &CertificateInner<Raw>) -> Result<String
     Ok(text)
 }
 
-/// Writes parts of what is signed.
+/// Writes parts of the TBSCertificate.
 fn write_signed(text: &mut String, certificate: &CertificateInner<Raw>) -> Result<(), AllocError> {
     let signed = certificate.tbs_certificate();
     let serial = Word(signed.serial_number().as_bytes());
@@ -46,12 +46,12 @@ fn write_signature(
     write!(text, " algorithm={outer} signature={bits}")
 }
 
-/// The seconds since 1970-01-01T00:00:00Z.
+/// Returns the seconds since 1970-01-01T00:00:00Z.
 fn seconds(time: &Time) -> u64 {
     time.to_unix_duration().as_secs()
 }
 
-/// The octets of a bit string, and how many bits of the last one are unused.
+/// The bytes of a bit string, and the number of unused bits in the last one.
 #[derive(Clone, Copy)]
 struct Bits<'a>(&'a BitString);
 

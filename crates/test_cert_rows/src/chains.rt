@@ -1,4 +1,4 @@
-//! What other runs tell of a chain that a run of `issue` wrote.
+//! Other runs over a chain that a run of `issue` wrote.
 
 ghost use Rattle.std.specs.Prelude.{◌≤◌};
 
@@ -10,7 +10,7 @@ use crate::{checks, issues, listings};
 use cert_desk::{Bundle, DigestJudge, FileKind};
 use std::alloc::Global;
 
-/// The stream that a run writes for a file, where it does.
+/// Returns the chain that a run writes for a file, if it succeeds.
 fn stream_of(alloc: Global, file: &str) -> Result<Vec<u8>, Refusal> {
     let file = file_of(alloc, file)?;
     let told = issues::run(alloc, "-/-/-", file.as_slice())?;
@@ -21,7 +21,7 @@ fn stream_of(alloc: Global, file: &str) -> Result<Vec<u8>, Refusal> {
     }
 }
 
-/// The octets of the certificate at a place of a stream.
+/// Returns the bytes of the certificate at an index of a chain.
 fn certificate_of(alloc: Global, stream: &[u8], place: usize) -> Result<Vec<u8>, Refusal> {
     let mut bundle = Bundle::new(alloc, u32::MAX);
     bundle.feed(stream)?;
@@ -29,7 +29,7 @@ fn certificate_of(alloc: Global, stream: &[u8], place: usize) -> Result<Vec<u8>,
     Ok(entry.octets.to_vec(alloc)?)
 }
 
-/// What a run of `check` tells.
+/// Returns the output of a run of `check`.
 pub fn answer_of_check(alloc: Global, rest: &str) -> Result<String, Refusal> {
     let (limit, rest) = rest.split_once(' ').ok_or(Refusal::Unread)?;
     let (moment, rest) = rest.split_once(' ').ok_or(Refusal::Unread)?;
@@ -48,7 +48,7 @@ pub fn answer_of_check(alloc: Global, rest: &str) -> Result<String, Refusal> {
     check_under_root(alloc, &asked)
 }
 
-/// What a run of `check` tells of a stream, under its first certificate.
+/// Returns the output of a run of `check` over a chain, under its first certificate.
 fn check_under_root(alloc: Global, asked: &checks::Asked<'_>) -> Result<String, Refusal>
     requires { 6 ≤ asked.now.limit }
 {
@@ -63,7 +63,7 @@ fn check_under_root(alloc: Global, asked: &checks::Asked<'_>) -> Result<String, 
     checks::run(alloc, "-/-/-/-", &asked, &mut DigestJudge::new())
 }
 
-/// What a run of `show` tells.
+/// Returns the output of a run of `show`.
 pub fn answer_of_show(alloc: Global, rest: &str) -> Result<String, Refusal> {
     let (place, file) = rest.split_once(' ').ok_or(Refusal::Unread)?;
     let place = number_of(place)? as usize;

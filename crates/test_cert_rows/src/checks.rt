@@ -1,4 +1,4 @@
-//! Runs of `check` over devices in memory.
+//! Runs of `check` over inputs and outputs in memory.
 
 ghost use Rattle.std.specs.Prelude.{◌≤◌};
 
@@ -11,7 +11,7 @@ use cert_desk::{Arguments, DigestJudge, ExitStatus, SignatureJudge, USAGE, run_c
 use const_oid::ObjectIdentifier;
 use std::alloc::Global;
 
-/// What a run is asked, where octets stand for the files.
+/// The arguments of a run, with bytes in place of the files.
 #[derive(Clone, Copy)]
 pub struct Asked<'a> {
     pub anchors: &'a [u8],
@@ -21,16 +21,16 @@ pub struct Asked<'a> {
     pub limit: u32,
 }
 
-/// How a stream comes.
+/// The way in which a chain is read.
 #[derive(Clone, Copy)]
 pub enum How<'a> {
-    /// Four devices move octets by these schedules.
+    /// Two inputs and two outputs move bytes by these schedules.
     Moved(&'a str),
-    /// Cut at each place in turn, and octet by octet.
+    /// The chain is cut at each position, one after another, and byte by byte.
     Cut,
 }
 
-/// What a run tells, where four devices move octets by these schedules.
+/// Returns the output of a run whose two inputs and two outputs move bytes by these schedules.
 pub fn run<J: SignatureJudge>(
     alloc: Global,
     schedules: &str,
@@ -64,8 +64,8 @@ pub fn run<J: SignatureJudge>(
     told(alloc, status.code(), out.written(), err.written())
 }
 
-/// The answer to the words of a line, of which the first, where the program's name would stand,
-/// names the judge. Behind that of a judge of this crate stands how often it was asked.
+/// Answers the words of a line. The first, in place of the program's name, names the verifier. For
+/// a verifier of this crate, the number of questions follows the answer.
 pub fn answer(alloc: Global, schedules: &str, line: &str) -> Result<String, Refusal> {
     let (name, _) = line.split_once(' ').ok_or(Refusal::Unread)?;
     let words: Vec<String> = line
@@ -87,7 +87,7 @@ pub fn answer(alloc: Global, schedules: &str, line: &str) -> Result<String, Refu
     judged(alloc, How::Moved(schedules), name, &asked)
 }
 
-/// What is told of a stream that comes so.
+/// Returns the result for a chain that is read in this way.
 fn told_of<J: SignatureJudge>(
     alloc: Global,
     how: How<'_>,
@@ -102,7 +102,7 @@ fn told_of<J: SignatureJudge>(
     }
 }
 
-/// The answer by a judge.
+/// Returns the answer with a verifier.
 pub fn judged(alloc: Global, how: How<'_>, name: &str, asked: &Asked<'_>) -> Result<String, Refusal>
     requires { 6 ≤ asked.now.limit }
 {
@@ -139,7 +139,7 @@ pub fn judged(alloc: Global, how: How<'_>, name: &str, asked: &Asked<'_>) -> Res
     }
 }
 
-/// What is told, and how often a judge was asked for it.
+/// Returns the result, and the number of questions to the verifier.
 fn counted(
     alloc: Global,
     text: Result<String, Refusal>,

@@ -1,4 +1,4 @@
-//! Streams that are cut, and fronts of streams.
+//! Chains that are cut, and prefixes of chains.
 
 ghost use Rattle.std.specs.Prelude.{◌<◌, ◌≤◌, length};
 
@@ -11,18 +11,18 @@ use der_core::FromDer;
 use std::alloc::Global;
 use std::fmt::Write;
 
-/// The anchor's name, of no attributes, and its key.
+/// The trust anchor's name, which has no attributes, and its key.
 const NAME: &[u8] = b"\x30\x00";
 
 const KEY: &str = "3009300306012a03020000";
 
-/// 2002-01-01T12:01:00Z, the first second of the certificates in the table.
+/// 2002-01-01T12:01:00Z, the first second in which the certificates of the table are valid.
 const MOMENT: u64 = 1_009_886_460;
 
-/// The purpose of servers.
+/// The key purpose of servers.
 pub const SERVERS: &str = "1.3.6.1.5.5.7.3.1";
 
-/// The verdict on a stream in one piece, and how many cuts leave all as it is.
+/// Returns the verdict on a chain in one piece, and the number of cuts that change nothing.
 pub fn answer(alloc: Global, rest: &str) -> Result<String, Refusal> {
     let (limit, rest) = rest.split_once(' ').ok_or(Refusal::Unread)?;
     let (judge, octets) = rest.split_once(' ').ok_or(Refusal::Unread)?;
@@ -38,8 +38,8 @@ pub fn answer(alloc: Global, rest: &str) -> Result<String, Refusal> {
     judged(alloc, How::Cut, judge, &asked)
 }
 
-/// The verdict on a stream in one piece; and how many cuts leave the same certificates and the same
-/// verdict: in two at each place, and octet by octet.
+/// Returns the verdict on a chain in one piece, and the number of cuts that give the same
+/// certificates and the same verdict. The chain is cut in two at each position, and byte by byte.
 pub fn told<J: SignatureJudge>(
     alloc: Global,
     asked: &Asked<'_>,
@@ -58,8 +58,8 @@ pub fn told<J: SignatureJudge>(
     Ok(format!(in alloc; "{verdict} cuts={len}")?)
 }
 
-/// Whether a stream that is cut in two at a place, at the first one octet by octet, gives the same
-/// certificates and the same verdict.
+/// Returns whether a chain that is cut in two at a position, and byte by byte at the first one,
+/// gives the same certificates and the same verdict.
 fn is_same_cut<J: SignatureJudge>(
     alloc: Global,
     asked: &Asked<'_>,
@@ -76,7 +76,8 @@ fn is_same_cut<J: SignatureJudge>(
     Ok(verdict_on(alloc, &cut, judge)?.as_str() == verdict && are_alike(&cut, whole))
 }
 
-/// The bundle of a stream of which so many octets come first, and the others in pieces of a size.
+/// Returns the bundle that has read that many bytes of a chain first, and the others in pieces of a
+/// size.
 fn in_pieces(alloc: Global, asked: &Asked<'_>, front: usize, size: usize) -> Bundle
     requires limit { 6 ≤ asked.now.limit }
     requires front { front ≤ length asked.now.stream.now }
@@ -91,12 +92,12 @@ fn in_pieces(alloc: Global, asked: &Asked<'_>, front: usize, size: usize) -> Bun
     bundle
 }
 
-/// Whether two bundles stand alike and lend the same certificates.
+/// Returns whether two bundles have the same state and the same certificates.
 fn are_alike(one: &Bundle, other: &Bundle) -> bool {
     one.standing() == other.standing() && one.len() == other.len() && is_front(one, other)
 }
 
-/// Whether the certificates of a bundle stand in another, at the same places.
+/// Returns whether the certificates of a bundle are in another one, at the same indexes.
 fn is_front(one: &Bundle, other: &Bundle) -> bool {
     for place in 0..one.len() {
         let (Some(one), Some(other)) = (one.get(place), other.get(place)) else {
@@ -109,8 +110,9 @@ fn is_front(one: &Bundle, other: &Bundle) -> bool {
     true
 }
 
-/// What a bundle keeps of a stream, and the verdict on it. Where it finds no memory another is fed
-/// the stream, and where the verdict does, it is asked for again.
+/// Returns the state of a bundle that has read a chain, and the verdict on it. If memory runs out
+/// for the bundle, another one reads the chain. If it runs out for the verdict, the chain is
+/// validated again.
 pub fn answer_again(alloc: Global, rest: &str) -> Result<String, Refusal> {
     let (limit, octets) = rest.split_once(' ').ok_or(Refusal::Unread)?;
     let limit = limit_of(limit)?;
@@ -122,7 +124,8 @@ pub fn answer_again(alloc: Global, rest: &str) -> Result<String, Refusal> {
     Ok(text)
 }
 
-/// The bundle of a stream that has ended: another one where the first finds no memory.
+/// Returns a bundle that has read a chain to its end. It is a second one if memory runs out for the
+/// first.
 fn fed_again(alloc: Global, limit: u32, stream: &[u8]) -> Result<Bundle, Refusal>
     requires { 6 ≤ limit }
 {
@@ -139,7 +142,7 @@ fn fed_again(alloc: Global, limit: u32, stream: &[u8]) -> Result<Bundle, Refusal
     Ok(bundle)
 }
 
-/// The verdict on a bundle, asked for again where it finds no memory.
+/// Returns the verdict on a bundle, which is validated again if memory runs out.
 fn verdict_again(alloc: Global, bundle: &Bundle) -> Result<String, Refusal> {
     let judge = &mut DigestJudge::new();
     match verdict_on(alloc, bundle, judge) {
@@ -148,8 +151,8 @@ fn verdict_again(alloc: Global, bundle: &Bundle) -> Result<String, Refusal> {
     }
 }
 
-/// Whether a bundle that found no memory keeps the certificates that it had read, and takes and
-/// says no more.
+/// Returns whether a bundle that ran out of memory keeps the certificates that it had read, and
+/// rejects all further calls.
 fn is_kept(alloc: Global, failed: &mut Bundle, whole: &Bundle) -> bool {
     let refused = Err(BundleError::Failed);
     let takes_nothing = failed.feed(&[]) == refused && failed.finish() == refused;
@@ -157,7 +160,7 @@ fn is_kept(alloc: Global, failed: &mut Bundle, whole: &Bundle) -> bool {
     takes_nothing && is_front(failed, whole) && matches!(verdict, Err(Refusal::Memory))
 }
 
-/// The number of certificates, and what `check` says of them under the anchor.
+/// Returns the number of certificates, and the verdict of `check` on them under the trust anchor.
 pub fn verdict_on<J: SignatureJudge>(
     alloc: Global,
     bundle: &Bundle,
@@ -175,7 +178,7 @@ pub fn verdict_on<J: SignatureJudge>(
     }
 }
 
-/// What ends each front of a stream, where neighbours that end alike stand together.
+/// Returns the end of each prefix of a chain. Consecutive prefixes with the same end are combined.
 pub fn answer_of_fronts(alloc: Global, rest: &str) -> Result<String, Refusal> {
     let (limit, octets) = rest.split_once(' ').ok_or(Refusal::Unread)?;
     let limit = limit_of(limit)?;
@@ -183,7 +186,7 @@ pub fn answer_of_fronts(alloc: Global, rest: &str) -> Result<String, Refusal> {
     ends_of(alloc, limit, stream.as_slice())
 }
 
-/// What ends each front of these octets.
+/// Returns the end of each prefix of these bytes.
 fn ends_of(alloc: Global, limit: u32, stream: &[u8]) -> Result<String, Refusal>
     requires { 6 ≤ limit }
 {
@@ -202,7 +205,7 @@ fn ends_of(alloc: Global, limit: u32, stream: &[u8]) -> Result<String, Refusal>
     Ok(text)
 }
 
-/// What a stream in one piece ends with.
+/// Returns the result of reading a chain in one piece.
 fn end_of(alloc: Global, limit: u32, stream: &[u8]) -> Result<Result<(), BundleError>, Refusal>
     requires { 6 ≤ limit }
 {

@@ -1,4 +1,4 @@
-//! Devices in memory, call by call.
+//! Inputs and outputs in memory, call by call.
 
 use crate::refusal::Refusal;
 use crate::schedules::Schedule;
@@ -7,7 +7,7 @@ use cert_desk::{Input, MemoryOutput, write_all};
 use std::alloc::{AllocError, Global};
 use std::fmt::Write;
 
-/// What each of six reads gives into room for 4 octets.
+/// Returns the result of each of six reads into a buffer of 4 bytes.
 pub fn answer_of_input(alloc: Global, rest: &str) -> Result<String, Refusal> {
     let (schedule, octets) = rest.split_once(' ').ok_or(Refusal::Unread)?;
     let schedule = Schedule::parse(alloc, schedule)?;
@@ -26,7 +26,8 @@ pub fn answer_of_input(alloc: Global, rest: &str) -> Result<String, Refusal> {
     Ok(text)
 }
 
-/// Whether an output with room for 64 octets takes each text, and what it took.
+/// Returns whether an output with a capacity of 64 bytes accepts each text, and the bytes that it
+/// accepted.
 pub fn answer_of_output(alloc: Global, rest: &str) -> Result<String, Refusal> {
     let (schedule, texts) = rest.split_once(' ').ok_or(Refusal::Unread)?;
     let schedule = Schedule::parse(alloc, schedule)?;
@@ -35,7 +36,7 @@ pub fn answer_of_output(alloc: Global, rest: &str) -> Result<String, Refusal> {
     taken_by(alloc, &mut output, texts)
 }
 
-/// Whether an output takes each text, and what it took.
+/// Returns whether an output accepts each text, and the bytes that it accepted.
 fn taken_by(alloc: Global, output: &mut MemoryOutput<'_>, texts: &str) -> Result<String, Refusal> {
     let mut text = String::new(alloc);
     for octets in texts.split(' ') {
@@ -46,7 +47,7 @@ fn taken_by(alloc: Global, output: &mut MemoryOutput<'_>, texts: &str) -> Result
     Ok(text)
 }
 
-/// Writes whether an output takes the octets of a word.
+/// Writes whether an output accepts the bytes of a word.
 fn write_taken(
     alloc: Global,
     text: &mut String,
@@ -61,7 +62,7 @@ fn write_taken(
     Ok(())
 }
 
-/// Writes the word that spells these octets.
+/// Writes the word for these bytes.
 fn write_word(text: &mut String, octets: &[u8]) -> Result<(), AllocError> {
     write!(text, "{}", Word(octets))
 }

@@ -1,4 +1,4 @@
-//! Bits of signers of digests, and digests of certificates.
+//! The signatures of signers of digests, and the digests of certificates.
 
 use crate::refusal::Refusal;
 use crate::words::{key_of, octets_of};
@@ -8,7 +8,7 @@ use rand_chacha::ChaCha20Rng;
 use rand_core::SeedableRng;
 use std::alloc::Global;
 
-/// The bits over these octets, by the signer of a key.
+/// Returns the signature over these bytes by the signer with a key.
 pub fn answer(alloc: Global, rest: &str) -> Result<String, Refusal> {
     let (key, octets) = rest.split_once(' ').ok_or(Refusal::Unread)?;
     let signer = DigestSigner::new(key_of(alloc, key)?);
@@ -16,13 +16,13 @@ pub fn answer(alloc: Global, rest: &str) -> Result<String, Refusal> {
     bits_of(alloc, &signer, octets.as_slice())
 }
 
-/// The bits of a signer over octets.
+/// Returns the signature of a signer over bytes.
 fn bits_of(alloc: Global, signer: &DigestSigner, octets: &[u8]) -> Result<String, Refusal> {
     let bits = signer.sign(alloc, octets)?;
     drawn_alike(alloc, signer, octets, bits.raw_bytes())
 }
 
-/// These bits, if the signer signs so with random octets, too.
+/// Returns this signature, if the signer returns the same one when it is given random bytes.
 fn drawn_alike(
     alloc: Global,
     signer: &DigestSigner,
@@ -37,14 +37,14 @@ fn drawn_alike(
     Ok(hex::encode(alloc, bits)?)
 }
 
-/// The digest by which the certificate is named that these octets spell.
+/// Decodes a certificate and returns its digest.
 pub fn answer_of_certificate(alloc: Global, word: &str) -> Result<String, Refusal> {
     let octets = octets_of(alloc, word)?;
     let certificate = CertificateInner::<Raw>::from_der(alloc, octets.as_slice())?;
     hex_in(alloc, certificate.hash::<Sha256Digest>(alloc))
 }
 
-/// The octets of an outcome, in base 16.
+/// Returns the bytes of a result in base 16.
 fn hex_in(alloc: Global, outcome: Result<Vec<u8>, Error>) -> Result<String, Refusal> {
     Ok(hex::encode(alloc, outcome?.as_slice())?)
 }

@@ -7,8 +7,8 @@ use cert_desk::{
 use std::alloc::{AllocError, Global};
 use std::fmt::Write;
 
-/// What each error prints: of a bundle, of its reading, of a check, of a device, of an
-/// anchor, of an input that is read whole.
+/// Returns the text of each error: of a bundle, of reading, of a check, of inputs and outputs, of
+/// trust anchors, and of reading a whole input.
 pub fn answer(alloc: Global) -> Result<String, Refusal> {
     let mut text = String::new(alloc);
     write_bundles(&mut text)?;

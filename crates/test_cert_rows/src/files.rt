@@ -3,7 +3,7 @@
 use crate::refusal::Refusal;
 use std::alloc::Global;
 
-/// The octets of a file: `0x` and base 16, or its lines, with a bar for each LF.
+/// Returns the bytes of a file. It is `0x` and base 16, or its lines with a bar for each LF.
 pub fn file_of(alloc: Global, text: &str) -> Result<Vec<u8>, Refusal> {
     if let Some(octets) = text.strip_prefix("0x") {
         return Ok(hex::decode(alloc, octets)?);

@@ -1,4 +1,4 @@
-//! Runs of `issue` over devices in memory.
+//! Runs of `issue` over inputs and outputs in memory.
 
 use crate::files::file_of;
 use crate::refusal::Refusal;
@@ -7,7 +7,7 @@ use cert_desk::{Order, orders_in, run_issue, run_orders};
 use std::alloc::Global;
 use std::str;
 
-/// What a run tells.
+/// The output of a run.
 #[derive(Drop)]
 pub struct Told {
     pub status: u8,
@@ -15,7 +15,8 @@ pub struct Told {
     pub err: Vec<u8>,
 }
 
-/// What a run on this file tells, where three devices move octets by these schedules.
+/// Returns the output of a run on this file, whose input and two outputs move bytes by these
+/// schedules.
 pub fn run(alloc: Global, schedules: &str, file: &[u8]) -> Result<Told, Refusal> {
     let Devices {
         input,
@@ -33,8 +34,8 @@ pub fn run(alloc: Global, schedules: &str, file: &[u8]) -> Result<Told, Refusal>
     Ok(Told { status, out, err })
 }
 
-/// What the call for the orders of a file tells, its output in base 16, where two devices move
-/// octets by these schedules.
+/// Returns the output of the call for the orders of a file, in base 16. The two outputs move bytes
+/// by these schedules.
 pub fn answer_of_call(alloc: Global, schedules: &str, file: &str) -> Result<String, Refusal> {
     let (output, errors) = schedules.split_once('/').ok_or(Refusal::Unread)?;
     let output = Schedule::parse(alloc, output)?;
@@ -42,7 +43,7 @@ pub fn answer_of_call(alloc: Global, schedules: &str, file: &str) -> Result<Stri
     called(alloc, file, &output, &errors)
 }
 
-/// What the call for the orders of a file tells.
+/// Returns the output of the call for the orders of a file.
 fn called(
     alloc: Global,
     file: &str,
@@ -54,7 +55,7 @@ fn called(
     issued(alloc, orders.as_slice(), output, errors)
 }
 
-/// What the call for these orders tells.
+/// Returns the output of the call for these orders.
 fn issued(
     alloc: Global,
     orders: &[Order],
@@ -69,14 +70,14 @@ fn issued(
     outputs_told(alloc, status, out.written(), err.written())
 }
 
-/// The status, the output in base 16, and the text on the error output.
+/// Returns the status, the output in base 16, and the text on the error output.
 fn outputs_told(alloc: Global, status: u8, out: &[u8], err: &[u8]) -> Result<String, Refusal> {
     let issued = hex::encode(alloc, out)?;
     let complained = str::from_utf8(err)?;
     Ok(format!(in alloc; "{status} {issued:?} {complained:?}")?)
 }
 
-/// What a run tells, its output in base 16.
+/// Returns the output of a run, in base 16.
 pub fn answer(alloc: Global, schedules: &str, file: &str) -> Result<String, Refusal> {
     let file = file_of(alloc, file)?;
     let Told { status, out, err } = run(alloc, schedules, file.as_slice())?;

@@ -1,4 +1,4 @@
-//! Judges beside the program's.
+//! Signature verifiers other than the program's.
 
 ghost use Rattle.std.specs.Prelude.{bytes_eq};
 ghost use Rattle.std.specs.List.{list_any};
@@ -6,7 +6,7 @@ ghost use Rattle.cert_desk_checking.specs.CertParts.Grammar.{key_bits};
 
 use cert_desk::{AlgorithmIdentifier, BitString, SignatureJudge, SubjectPublicKeyInfo};
 
-/// A judge that always says the same.
+/// A verifier that always gives the same answer.
 #[derive(Drop)]
 pub struct FixedJudge {
     pub answer: bool,
@@ -30,7 +30,7 @@ impl SignatureJudge for FixedJudge {
     }
 }
 
-/// A judge that says yes where the signed octets stand in this list.
+/// A verifier that accepts a signature if the signed bytes are in this list.
 #[derive(Drop)]
 pub struct OctetsJudge<'a> {
     pub list: &'a [Vec<u8>],
@@ -55,7 +55,7 @@ impl SignatureJudge for OctetsJudge<'_> {
     }
 }
 
-/// A judge that says yes where the key's octets are these.
+/// A verifier that accepts a signature if the key has these bytes.
 #[derive(Drop)]
 pub struct KeyJudge<'a> {
     pub octets: &'a [u8],

@@ -1,4 +1,4 @@
-//! A line that asks, and its answer.
+//! Answers the questions on lines.
 
 use crate::refusal::Refusal;
 use crate::{
@@ -20,7 +20,7 @@ pub fn answer<W: Write>(alloc: Global, line: &str, out: &mut W) -> io::Result<()
     }
 }
 
-/// What is answered to a question, by its first word.
+/// Returns the answer to a question, whose first word says what it is about.
 fn answer_of(alloc: Global, line: &str) -> Result<String, Refusal> {
     if line == "errors" {
         return errors::answer(alloc);
@@ -46,7 +46,7 @@ fn answer_of(alloc: Global, line: &str) -> Result<String, Refusal> {
     }
 }
 
-/// What is answered to a question about listings.
+/// Answers a question about listings.
 fn answer_of_listing(alloc: Global, line: &str) -> Result<String, Refusal> {
     let (word, rest) = line.split_once(' ').ok_or(Refusal::Unread)?;
     match word {
@@ -63,7 +63,7 @@ fn answer_of_listing(alloc: Global, line: &str) -> Result<String, Refusal> {
     }
 }
 
-/// What is answered to a question about orders and what is issued.
+/// Answers a question about orders and issued chains.
 fn answer_of_issue(alloc: Global, line: &str) -> Result<String, Refusal> {
     let (word, rest) = line.split_once(' ').ok_or(Refusal::Unread)?;
     match word {

@@ -10,8 +10,8 @@ use cert_desk::{
 use std::alloc::Global;
 use std::str;
 
-/// What a run tells, where octets stand for the file and three devices move octets by these
-/// schedules.
+/// Returns the output of a run, with bytes in place of the file. Its input and two outputs move
+/// bytes by these schedules.
 pub fn run(
     alloc: Global,
     schedules: &str,
@@ -32,7 +32,7 @@ pub fn run(
     told(alloc, status.code(), out.written(), err.written())
 }
 
-/// What a run tells of a kind and octets.
+/// Returns the output of a run on bytes of a kind.
 pub fn answer(alloc: Global, schedules: &str, rest: &str) -> Result<String, Refusal> {
     let (kind, octets) = rest.split_once(' ').ok_or(Refusal::Unread)?;
     let kind = kind_of(kind)?;
@@ -40,7 +40,8 @@ pub fn answer(alloc: Global, schedules: &str, rest: &str) -> Result<String, Refu
     run(alloc, schedules, kind, octets.as_slice())
 }
 
-/// What the call for a value answers, and what an output has that moves octets by this schedule.
+/// Returns the result of the call for a value, and the content of its output, which moves bytes by
+/// this schedule.
 pub fn answer_of_call(alloc: Global, schedule: &str, rest: &str) -> Result<String, Refusal> {
     let schedule = Schedule::parse(alloc, schedule)?;
     let (kind, octets) = rest.split_once(' ').ok_or(Refusal::Unread)?;
@@ -49,7 +50,7 @@ pub fn answer_of_call(alloc: Global, schedule: &str, rest: &str) -> Result<Strin
     call_told(alloc, &schedule, kind, octets.as_slice())
 }
 
-/// What the call for a value answers, and what an output of this schedule has then.
+/// Returns the result of the call for a value, and the content of its output.
 fn call_told(
     alloc: Global,
     schedule: &Schedule,
@@ -66,7 +67,7 @@ fn call_told(
     }
 }
 
-// Writes the listing of the value of this kind that the octets spell.
+// Writes the listing of the value of this kind that the bytes encode.
 fn call(
     alloc: Global,
     kind: FileKind,
@@ -90,7 +91,7 @@ fn call_for_certificate(
     Ok(show_certificate(alloc, &certificate, output))
 }
 
-// Writes the listing of a list.
+// Writes the listing of a CRL.
 fn call_for_list(
     alloc: Global,
     octets: &[u8],
@@ -100,7 +101,7 @@ fn call_for_list(
     Ok(show_list(alloc, &list, output))
 }
 
-// Writes the listing of a request.
+// Writes the listing of a CSR.
 fn call_for_request(
     alloc: Global,
     octets: &[u8],

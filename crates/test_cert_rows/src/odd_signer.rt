@@ -1,4 +1,4 @@
-//! Signers that do other than they should.
+//! Signers that don't behave as they should.
 
 use cert_desk::{
     AlgorithmIdentifier, BitString, DigestSigner, SignError, Signer, SubjectPublicKeyInfo,
@@ -6,27 +6,27 @@ use cert_desk::{
 use rand_core::CryptoRng;
 use std::alloc::Global;
 
-/// What a signer does.
+/// The behaviour of a signer.
 #[derive(Drop)]
 pub enum Oddity {
-    /// What it should.
+    /// The signer behaves as it should.
     None,
-    /// The signer refuses what has these octets.
+    /// The signer rejects everything that contains these bytes.
     Refuses(Vec<u8>),
-    /// The signer has no memory for what has these octets.
+    /// The signer runs out of memory for anything that contains these bytes.
     Forgets(Vec<u8>),
-    /// The bits are none.
+    /// The signature is empty.
     IsEmpty,
 }
 
-/// A signer of digests that may do otherwise.
+/// A signer of digests that may not behave as it should.
 #[derive(Drop)]
 pub struct OddSigner<'a> {
     pub signer: DigestSigner,
     pub oddity: &'a Oddity,
 }
 
-/// Whether octets have others within them.
+/// Returns whether bytes contain others.
 fn has(octets: &[u8], others: &[u8]) -> bool {
     for start in 0..octets.len() {
         if octets[start..].starts_with(others) {

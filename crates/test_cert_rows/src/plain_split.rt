@@ -1,6 +1,6 @@
-//! How a stream splits into certificates, by trying each front.
+//! Splits a chain into certificates by trying each prefix.
 //!
-//! It is slow, and says what a reader of streams has to find.
+//! This is slow. It shows what a reader of chains has to find.
 
 ghost use Rattle.std.specs.Prelude.{◌≤◌, map, drop, length, IfOk};
 ghost use Rattle.const_oid.specs.Bound.{Bound};
@@ -10,17 +10,16 @@ ghost use Rattle.cert_desk_checking.specs.DeskBundle.Faults.{Split};
 ghost use Rattle.test_cert_rows.specs.SplitFronts.{IsFirst};
 
 use cert_desk::{CertificateInner, Raw};
-use der_core::making::is_want_of_memory;
+use der_core::making::is_out_of_memory;
 use std::alloc::{AllocError, Global};
 
-/// The certificate that begins the octets and has at most `limit` of them, with its number of
-/// octets.
+/// Returns the certificate with which the bytes begin, with at most `limit` bytes, and its length.
 ///
-/// Each front is tried, from the shortest.
+/// Tries each prefix, the shortest first.
 ///
 /// # Errors
 ///
-/// Where a growth was refused.
+/// Fails if memory runs out.
 pub(crate) fn first_certificate(
     alloc: Global,
     octets: &[u8],
@@ -38,7 +37,7 @@ pub(crate) fn first_certificate(
         match CertificateInner::<Raw>::from_der(alloc, &octets[..len]) {
             Ok(certificate) => return Ok(Some((certificate, len))),
             Err(error) => {
-                if is_want_of_memory(&error) {
+                if is_out_of_memory(&error) {
                     return Err(AllocError);
                 }
             }
@@ -47,12 +46,11 @@ pub(crate) fn first_certificate(
     Ok(None)
 }
 
-/// The certificates with which the stream begins, as many as there are, and how many octets they
-/// have.
+/// Returns the certificates with which a chain begins, and their total length.
 ///
 /// # Errors
 ///
-/// Where a growth was refused.
+/// Fails if memory runs out.
 pub(crate) fn split(
     alloc: Global,
     stream: &[u8],

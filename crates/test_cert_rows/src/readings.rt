@@ -1,4 +1,4 @@
-//! What is read of orders files.
+//! Parsed orders files.
 
 use crate::files::file_of;
 use crate::refusal::Refusal;
@@ -7,7 +7,7 @@ use cert_desk::{Order, orders_in};
 use std::alloc::{AllocError, Global};
 use std::fmt::Write;
 
-/// How many orders a file has, and each of them; or why it has none.
+/// Returns the number of orders of a file, and each of them, or why the file can't be parsed.
 pub fn answer(alloc: Global, text: &str) -> Result<String, Refusal> {
     let file = file_of(alloc, text)?;
     let orders = match orders_in(alloc, file.as_slice()) {
@@ -21,7 +21,7 @@ pub fn answer(alloc: Global, text: &str) -> Result<String, Refusal> {
     Ok(answer)
 }
 
-/// Tells an order.
+/// Writes an order.
 fn tell(order: &Order, answer: &mut String) -> Result<(), AllocError> {
     let serial = Octets(order.serial.as_slice());
     let key = Octets(order.key.subject_public_key.raw_bytes());

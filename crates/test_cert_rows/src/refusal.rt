@@ -1,4 +1,4 @@
-//! Why a question has no other answer.
+//! The errors of questions.
 
 use cert_desk::{BundleError, OrdersError, SignError};
 use der_core::{Error, ErrorKind};
@@ -7,16 +7,16 @@ use std::alloc::{AllocError, AllocFailed};
 use std::fmt;
 use std::str::Utf8Error;
 
-/// Why a question has no other answer.
+/// The error with which a question is answered.
 #[derive(Clone, Copy)]
 pub enum Refusal {
-    /// The question is none.
+    /// The question has an unknown form.
     Unread,
-    /// Out of memory.
+    /// Memory ran out.
     Memory,
-    /// A call that found no memory changed something.
+    /// A call that ran out of memory changed something.
     Changed,
-    /// The octets spell no value of the kind.
+    /// The bytes don't encode a value of the kind.
     Der(ErrorKind),
 }
 

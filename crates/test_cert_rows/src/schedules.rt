@@ -1,4 +1,4 @@
-//! How much the calls to devices move, and which of them fail.
+//! The sizes of the pieces that inputs and outputs move, and the calls that fail.
 
 ghost use Rattle.std.specs.Prelude.{◌≡◌, nat_lt};
 ghost use Rattle.std.specs.List.{list_all};
@@ -9,7 +9,7 @@ use crate::words::number_of;
 use cert_desk::{MemoryInput, MemoryOutput};
 use std::alloc::Global;
 
-/// The sizes of the first pieces, and which call fails, 1 for the first.
+/// The sizes of the first pieces, and the number of the call that fails, with 1 for the first.
 #[derive(Drop)]
 pub struct Schedule {
     sizes: Vec<usize>,
@@ -18,7 +18,7 @@ pub struct Schedule {
 }
 
 impl Schedule {
-    /// The schedule that a word spells.
+    /// Parses a schedule.
     pub fn parse(alloc: Global, word: &str) -> Result<Schedule, Refusal> {
         let (pieces, failing) = match word.split_once('!') {
             Some((pieces, call)) => (pieces, Some(u64::from(number_of(call)?))),
@@ -31,18 +31,18 @@ impl Schedule {
         Ok(Schedule { sizes, failing })
     }
 
-    /// An input over these octets that moves them so.
+    /// Returns an input over these bytes that moves them by the schedule.
     pub fn input<'a>(&'a self, octets: &'a [u8]) -> MemoryInput<'a> {
         MemoryInput::new(octets, self.sizes.as_slice(), self.failing)
     }
 
-    /// An output into this room that moves octets so.
+    /// Returns an output into this memory that moves bytes by the schedule.
     pub fn output<'a>(&'a self, room: &'a mut [u8]) -> MemoryOutput<'a> {
         MemoryOutput::new(room, self.sizes.as_slice(), self.failing)
     }
 }
 
-/// How the three devices of a run move octets.
+/// The schedules of the input and the two outputs of a run.
 #[derive(Drop)]
 pub struct Devices {
     pub input: Schedule,
@@ -51,7 +51,7 @@ pub struct Devices {
 }
 
 impl Devices {
-    /// The schedules that a word spells, with slashes between them.
+    /// Parses the schedules of a word, which are separated by slashes.
     pub fn parse(alloc: Global, word: &str) -> Result<Devices, Refusal> {
         let (input, rest) = word.split_once('/').ok_or(Refusal::Unread)?;
         let (output, errors) = rest.split_once('/').ok_or(Refusal::Unread)?;
@@ -63,7 +63,7 @@ impl Devices {
     }
 }
 
-// The numbers of a word, joined by commas; `-` is none.
+// Parses numbers that are separated by commas; `-` means none.
 fn numbers(alloc: Global, word: &str) -> Result<Vec<usize>, Refusal> {
     if word == "-" {
         return Ok(Vec::new(alloc));
@@ -73,7 +73,7 @@ fn numbers(alloc: Global, word: &str) -> Result<Vec<usize>, Refusal> {
         .try_collect(alloc)
 }
 
-// Whether each is 1 or more.
+// Returns whether each size is at least 1.
 fn are_sizes(sizes: &[usize]) -> bool
     ensures { result ≡ list_all (λ size. nat_lt 0 size) sizes.now }
 {

@@ -1,4 +1,4 @@
-//! How a stream splits, as two programs find it.
+//! The certificates of a chain, found by two programs.
 
 use crate::bundles::limit_of;
 use crate::plain_split::split;
@@ -7,7 +7,7 @@ use crate::words::octets_of;
 use cert_desk::{Bundle, BundleError};
 use std::alloc::Global;
 
-/// The number of certificates and of their octets, by the plain split and by a bundle.
+/// Returns the number of certificates and of their bytes, found by the plain split and by a bundle.
 pub fn answer(alloc: Global, rest: &str) -> Result<String, Refusal> {
     let (limit, octets) = rest.split_once(' ').ok_or(Refusal::Unread)?;
     let limit = limit_of(limit)?;

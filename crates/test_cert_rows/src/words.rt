@@ -1,4 +1,4 @@
-//! Octets, numbers, keys, purposes and kinds as words.
+//! Parses words: bytes, numbers, keys, key purposes and kinds.
 
 use crate::refusal::Refusal;
 use cert_desk::{Checked, FileKind, SubjectPublicKeyInfo, Verdict};
@@ -8,7 +8,7 @@ use der_core::{DecodeValue, Error, FixedTag, FromDer, SliceReader};
 use std::alloc::Global;
 use std::{fmt, str};
 
-/// The octets that a word spells in base 16; `-` is none, and `*N` after them repeats them.
+/// Decodes base 16; `-` means no bytes, and `*N` after them repeats them.
 pub fn octets_of(alloc: Global, word: &str) -> Result<Vec<u8>, Refusal> {
     if word == "-" {
         return Ok(Vec::new(alloc));
@@ -24,7 +24,7 @@ pub fn octets_of(alloc: Global, word: &str) -> Result<Vec<u8>, Refusal> {
     Ok(octets)
 }
 
-/// The octets that each of some words spells, with commas between the words.
+/// Decodes several words that are separated by commas.
 pub fn list_of(alloc: Global, words: &str) -> Result<Vec<Vec<u8>>, Refusal> {
     words
         .split(',')
@@ -32,7 +32,7 @@ pub fn list_of(alloc: Global, words: &str) -> Result<Vec<Vec<u8>>, Refusal> {
         .try_collect(alloc)
 }
 
-/// Octets in base 16.
+/// Bytes in base 16.
 #[derive(Clone, Copy)]
 pub struct Octets<'a>(pub &'a [u8]);
 
@@ -45,7 +45,7 @@ impl fmt::Display for Octets<'_> {
     }
 }
 
-/// The word that spells these octets; `-` for none.
+/// The word for these bytes, which is `-` for none.
 #[derive(Clone, Copy)]
 pub struct Word<'a>(pub &'a [u8]);
 
@@ -58,7 +58,7 @@ impl fmt::Display for Word<'_> {
     }
 }
 
-/// A verdict, and how often the judge was asked for it.
+/// A verdict, and the number of questions to the verifier.
 #[derive(Clone, Copy)]
 pub struct Judged(pub Checked);
 
@@ -72,13 +72,13 @@ impl fmt::Display for Judged {
     }
 }
 
-/// The number that a word spells in decimal.
+/// Parses a decimal number.
 pub fn number_of(word: &str) -> Result<u32, Refusal> {
     word.parse().ok().ok_or(Refusal::Unread)
 }
 
-/// The value of a type that names its way, which octets spell. What the way gives is then checked
-/// here, and not where the type is named.
+/// Decodes a value of a `Described` type. This function is generic, so that the decoder is checked
+/// once, and not at each place that names a type.
 pub fn read<'a, T: Described + FixedTag + Drop>(alloc: Global, octets: &'a [u8]) -> Result<T, Error>
 where
     T::By: DecodeWay<'a, SliceReader<'a>, T>,
@@ -86,7 +86,7 @@ where
     value_in(alloc, octets)
 }
 
-/// The value of a type with one tag, which octets spell.
+/// Decodes a value with one tag.
 fn value_in<'a, T: DecodeValue<'a, SliceReader<'a>> + FixedTag>(
     alloc: Global,
     octets: &'a [u8],
@@ -94,18 +94,18 @@ fn value_in<'a, T: DecodeValue<'a, SliceReader<'a>> + FixedTag>(
     T::from_der(alloc, octets)
 }
 
-/// The key whose encoding a word spells in base 16.
+/// Decodes a key from its encoding in base 16.
 pub fn key_of(alloc: Global, word: &str) -> Result<SubjectPublicKeyInfo, Refusal> {
     let octets = octets_of(alloc, word)?;
     Ok(read(alloc, octets.as_slice())?)
 }
 
-/// The purpose that a word spells, as dotted arcs.
+/// Parses a key purpose, as an OID in dotted form.
 pub fn purpose_of(word: &str) -> Result<ObjectIdentifier<39>, Refusal> {
     ObjectIdentifier::new(word).ok().ok_or(Refusal::Unread)
 }
 
-/// The kind that a word names.
+/// Returns the kind with this name.
 pub fn kind_of(word: &str) -> Result<FileKind, Refusal> {
     match word {
         "certificate" => Ok(FileKind::Certificate),
@@ -115,7 +115,7 @@ pub fn kind_of(word: &str) -> Result<FileKind, Refusal> {
     }
 }
 
-/// What a run tells: its status, and the texts on both outputs.
+/// Returns the output of a run: its status, and the texts on both outputs.
 pub fn told(alloc: Global, status: u8, out: &[u8], err: &[u8]) -> Result<String, Refusal> {
     let out = str::from_utf8(out)?;
     let err = str::from_utf8(err)?;

@@ -1,2 +1,2 @@
--- Definitions of other crates that attributes of this one unfold.
+-- Definitions of other crates that the attributes of this crate unfold.
 unfoldable pub use Rattle.der_core.specs.Shapes.{IsContent, contents, octets_of}

@@ -1,4 +1,5 @@
-//! Calls that are made again where they find no memory. What they were to change has to stay then.
+//! Calls that are repeated after memory runs out. The value that such a call would change must be
+//! as before.
 
 use crate::lists::list_of;
 use crate::refusals::Refusal;
@@ -8,7 +9,8 @@ use der_core::{Error, ErrorKind};
 use der_types::SetOfVec;
 use std::alloc::Global;
 
-/// Returns what is written of the set that these members fill, as the word asks.
+/// Returns the encoding of the set of these members, which is filled with the calls that the word
+/// names.
 pub fn answer(alloc: Global, word: &str, octets: &[u8]) -> Result<String, Refusal> {
     let members: Vec<Small> = list_of(alloc, octets)?;
     let members = members.as_slice();
@@ -19,7 +21,7 @@ pub fn answer(alloc: Global, word: &str, octets: &[u8]) -> Result<String, Refusa
     }
 }
 
-/// Returns what is written of the set that was filled.
+/// Returns the encoding of a set.
 fn set_written(
     alloc: Global,
     outcome: Result<SetOfVec<Small>, Refusal>,
@@ -27,7 +29,7 @@ fn set_written(
     written(alloc, &outcome?)
 }
 
-/// Returns whether a call found no memory.
+/// Returns whether a call failed because memory ran out.
 fn found_no_memory(outcome: Result<(), Error>) -> Result<bool, Refusal> {
     match outcome {
         Ok(()) => Ok(false),
@@ -38,7 +40,7 @@ fn found_no_memory(outcome: Result<(), Error>) -> Result<bool, Refusal> {
     }
 }
 
-/// Places a member by the call that the word names.
+/// Adds a member with the call that the word names.
 fn place(set: &mut SetOfVec<Small>, word: &str, member: Small) -> Result<(), Error> {
     if word == "insert" {
         set.insert(member)
@@ -47,7 +49,7 @@ fn place(set: &mut SetOfVec<Small>, word: &str, member: Small) -> Result<(), Err
     }
 }
 
-/// Returns the set into which the members are placed one by one.
+/// Returns the set to which the members are added one at a time.
 fn placed(alloc: Global, word: &str, members: &[Small]) -> Result<SetOfVec<Small>, Refusal> {
     let mut set = SetOfVec::new(alloc);
     for member in members {
@@ -56,7 +58,7 @@ fn placed(alloc: Global, word: &str, members: &[Small]) -> Result<SetOfVec<Small
     Ok(set)
 }
 
-/// Places a member, at the second call where the first finds no memory.
+/// Adds a member, with a second call if memory runs out in the first.
 fn place_again(
     alloc: Global,
     set: &mut SetOfVec<Small>,
@@ -73,8 +75,8 @@ fn place_again(
     Ok(place(set, word, member)?)
 }
 
-/// Returns the set that is extended by the members: if memory runs out, by those after the ones
-/// that were placed.
+/// Returns a set that is extended by the members. If memory runs out, it is extended again by those
+/// that weren't added.
 fn extended(alloc: Global, members: &[Small]) -> Result<SetOfVec<Small>, Refusal> {
     let mut set = SetOfVec::new(alloc);
     if found_no_memory(set.extend(members.iter().copied()))? {

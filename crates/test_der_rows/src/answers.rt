@@ -1,4 +1,4 @@
-//! Questions and their answers.
+//! Answers questions.
 
 use crate::refusals::Refusal;
 use crate::shown::front_of;
@@ -19,8 +19,8 @@ pub fn answer<W: Write>(alloc: Global, line: &str, out: &mut W) -> io::Result<()
     }
 }
 
-/// Returns what is returned after `ok`: of `why` and `place`, what the refusal of the question
-/// after them tells.
+/// Returns the text after `ok`. For `why` and `place`, it is about the error of the question after
+/// them.
 fn answer_of(alloc: Global, line: &str) -> Result<String, Refusal> {
     match line.split_once(' ') {
         Some(("why", question)) => refusal_of(alloc, question)?.reason(alloc),
@@ -29,7 +29,7 @@ fn answer_of(alloc: Global, line: &str) -> Result<String, Refusal> {
     }
 }
 
-/// Returns why a question is rejected.
+/// Returns why a question fails.
 fn refusal_of(alloc: Global, question: &str) -> Result<Refusal, Refusal> {
     match answer_of_words(alloc, question) {
         Ok(_) => Err(Refusal::Unread),
@@ -37,7 +37,7 @@ fn refusal_of(alloc: Global, question: &str) -> Result<Refusal, Refusal> {
     }
 }
 
-/// Returns the answer by the first page of words that knows the first word.
+/// Returns the answer of the first module that knows the first word.
 fn answer_of_words(alloc: Global, line: &str) -> Result<String, Refusal> {
     let (word, rest) = front_of(line);
     match word {

@@ -1,4 +1,4 @@
-//! Any values, and what they are read as.
+//! Values of any type, and the values that they are converted to.
 
 use crate::leaves;
 use crate::questions::{Asked, Question, answer_as};
@@ -12,7 +12,7 @@ use der_types::{
 };
 use std::alloc::Global;
 
-/// Returns the answer of a type that this page names.
+/// Returns the answer for a type that this module names.
 pub fn answer(alloc: Global, kind: &str, question: &Question<'_>) -> Result<String, Refusal> {
     match kind {
         "Any" => answer_of_any(alloc, question),
@@ -21,7 +21,7 @@ pub fn answer(alloc: Global, kind: &str, question: &Question<'_>) -> Result<Stri
     }
 }
 
-/// Returns the answer of any values, whose contents are compared whatever their tags.
+/// Returns the answer for values of any type. Their contents are compared, whatever their tags.
 fn answer_of_any(alloc: Global, question: &Question<'_>) -> Result<String, Refusal> {
     match question.asked {
         Asked::Contents => {
@@ -33,18 +33,18 @@ fn answer_of_any(alloc: Global, question: &Question<'_>) -> Result<String, Refus
     }
 }
 
-/// A call that converts any value.
+/// A call that converts a value of any type.
 #[derive(Clone, Copy)]
 pub enum Conversion {
-    /// That of a value that is owned.
+    /// Converts an owned value.
     Owned,
-    /// That of a value that is borrowed.
+    /// Converts a borrowed value.
     Lent,
-    /// The first, and then that which makes any value of what it gave.
+    /// Converts an owned value, and converts the result back.
     Again,
 }
 
-/// Returns the answer to a question about what any value is read as, or is made of.
+/// Answers a question about converting a value of any type, or about converting to one.
 pub fn answer_of_conversions(
     alloc: Global,
     word: &str,
@@ -57,7 +57,7 @@ pub fn answer_of_conversions(
     answer_of_conversion(alloc, word, kind, &FromDer::from_der(alloc, octets)?)
 }
 
-/// Returns the answer to a question about what any value is read as, or is converted to.
+/// Answers a question about decoding or converting a value of any type.
 fn answer_of_conversion(
     alloc: Global,
     word: &str,
@@ -80,7 +80,7 @@ fn answer_of_conversion(
     leaves::answer(alloc, kind, &question)
 }
 
-/// Returns what is written of the value that any value is converted to.
+/// Returns the encoding of the value that a value of any type is converted to.
 pub fn converted<
     'a,
     T: TryFrom<&'a Any, Error = Error>
@@ -96,7 +96,7 @@ pub fn converted<
     }
 }
 
-/// Any value that is made of the value that another was converted to.
+/// Converts a value of any type to `T`, and the result back.
 fn again<'a, T: TryFrom<&'a Any, Error = Error> + EncodeValue + FixedTag + Drop>(
     alloc: Global,
     any: &'a Any,
@@ -104,8 +104,7 @@ fn again<'a, T: TryFrom<&'a Any, Error = Error> + EncodeValue + FixedTag + Drop>
     Any::encode_from(alloc, &T::try_from(any)?)
 }
 
-/// Returns what is written of any value that is made of the value that bytes encode, and lends what
-/// that lends.
+/// Returns the encoding of the value of any type that borrows from the decoded value.
 fn lent_from(alloc: Global, kind: &str, octets: &[u8]) -> Result<String, Refusal> {
     match kind {
         "IntRef" => lent_from_value::<IntRef>(alloc, octets),
@@ -120,7 +119,7 @@ fn lent_from(alloc: Global, kind: &str, octets: &[u8]) -> Result<String, Refusal
     }
 }
 
-/// Returns what is written of any value that is made of a value.
+/// Returns the encoding of the value of any type that a value is converted to.
 fn lent_from_value<'a, T: Described + FixedTag + Into<AnyRef<'a>> + Drop>(
     alloc: Global,
     octets: &'a [u8],
@@ -133,7 +132,7 @@ where
     written_in(alloc, Ok(any))
 }
 
-/// Returns what is written of any value that is made of a text.
+/// Returns the encoding of the value of any type that a text is converted to.
 fn lent_from_text(alloc: Global, octets: &[u8]) -> Result<String, Refusal> {
     let text: &str = read(alloc, octets)?;
     written_in(alloc, AnyRef::try_from(text))

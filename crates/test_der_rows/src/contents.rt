@@ -10,7 +10,7 @@ use der_core::{
 };
 use std::alloc::{AllocError, Global};
 
-/// Returns the answer to a question about the contents of a type without a tag of its own.
+/// Answers a question about the contents of a type without a tag of its own.
 pub fn answer(alloc: Global, kind: &str, first: &[u8], second: &[u8]) -> Result<String, Refusal> {
     match kind {
         "BytesRef" => answer_as::<BytesRef>(alloc, first, second),
@@ -21,7 +21,7 @@ pub fn answer(alloc: Global, kind: &str, first: &[u8], second: &[u8]) -> Result<
     }
 }
 
-/// Returns what is written of two contents, and their order.
+/// Decodes two contents, and returns their encodings and their order.
 fn answer_as<'a, T: DecodeValue<'a, SliceReader<'a>> + EncodeValue + ValueOrd>(
     alloc: Global,
     first: &'a [u8],
@@ -32,7 +32,7 @@ fn answer_as<'a, T: DecodeValue<'a, SliceReader<'a>> + EncodeValue + ValueOrd>(
     both_written(alloc, &first, &second)
 }
 
-/// Returns what is written of two contents, and their order.
+/// Returns the encodings of two contents, and their order.
 fn both_written<T: EncodeValue + ValueOrd>(
     alloc: Global,
     first: &T,
@@ -46,7 +46,7 @@ fn both_written<T: EncodeValue + ValueOrd>(
     joined(orders, " ", content_of(alloc, second))
 }
 
-/// Returns the value of a content that is all of the bytes.
+/// Decodes a content from all of the bytes.
 fn value_of<'a, T: DecodeValue<'a, SliceReader<'a>>>(
     alloc: Global,
     octets: &'a [u8],
@@ -56,26 +56,26 @@ fn value_of<'a, T: DecodeValue<'a, SliceReader<'a>>>(
     Ok(T::decode_value(alloc, &mut reader, header)?)
 }
 
-/// Returns the bytes of the content of a value.
+/// Returns the encoding of the content of a value.
 fn content_of<T: EncodeValue>(alloc: Global, value: &T) -> Result<String, Refusal> {
     let mut octets = Vec::new(alloc);
     value.encode_value(&mut octets)?;
     hex_of(alloc, octets.as_slice())
 }
 
-/// Returns what is written of a copy of bytes that are held.
+/// Returns a copy of owned bytes.
 pub fn copy_of_octets(alloc: Global, octets: &[u8]) -> Result<String, Refusal> {
     let held: BytesOwned = value_of(alloc, octets)?;
     copy_written(alloc, held.clone(alloc))
 }
 
-/// Returns what is written of a copy of a text that is held.
+/// Returns a copy of an owned text.
 pub fn copy_of_text(alloc: Global, octets: &[u8]) -> Result<String, Refusal> {
     let held = StringOwned::from_bytes(alloc, octets)?;
     copy_written(alloc, held.clone(alloc))
 }
 
-/// Returns what is written of a copy without a tag.
+/// Returns the encoding of a copy without a tag.
 fn copy_written<T: EncodeValue + Drop>(
     alloc: Global,
     copy: Result<T, AllocError>,
@@ -83,7 +83,7 @@ fn copy_written<T: EncodeValue + Drop>(
     content_of(alloc, &copy?)
 }
 
-/// Returns the first bytes of bytes that are held.
+/// Returns the first bytes of owned bytes.
 pub fn answer_of_prefixes(alloc: Global, rest: &str) -> Result<String, Refusal> {
     let (octets, len) = rest.split_once(' ').ok_or(Refusal::Unread)?;
     let len = Length::new(len.parse::<u32>()?);
@@ -92,7 +92,7 @@ pub fn answer_of_prefixes(alloc: Global, rest: &str) -> Result<String, Refusal> 
     hex_of(alloc, prefix.as_slice())
 }
 
-/// Returns the orders of two values: by `Ord`, of the contents and of the encodings.
+/// Returns three orders of two values: by `Ord`, of their contents and of their encodings.
 pub fn answer_by_ord(
     alloc: Global,
     kind: &str,
@@ -108,7 +108,7 @@ pub fn answer_by_ord(
     }
 }
 
-/// Returns the orders by `Ord` of two values that bytes encode by DER.
+/// Decodes two values by DER, and returns their orders by `Ord`.
 fn orders_by_ord<
     'a,
     T: DecodeValue<'a, SliceReader<'a>> + EncodeValue + FixedTag + OrdIsValueOrd + ValueOrd,
@@ -118,7 +118,7 @@ fn orders_by_ord<
     orders_of(alloc, &first, &second)
 }
 
-/// Returns the orders of two values: by `Ord`, of the contents and of the encodings.
+/// Returns three orders of two values: by `Ord`, of their contents and of their encodings.
 fn orders_of<T: EncodeValue + FixedTag + OrdIsValueOrd + ValueOrd>(
     alloc: Global,
     first: &T,

@@ -15,7 +15,7 @@ use der_types::{
 };
 use std::alloc::{AllocError, Global};
 
-/// A value of which a copy is made that owns its bytes.
+/// A value that can be copied into one that owns its bytes.
 trait Copied<O> {
     /// Returns the copy.
     fn copied(&self, alloc: Global) -> Result<O, AllocError>;
@@ -124,7 +124,7 @@ impl Copied<SequenceOf<Small, 2>> for SequenceOf<Small, 2> {
     }
 }
 
-/// Returns what is written of the copies of the value that bytes encode by DER.
+/// Decodes a value by DER, and returns the encodings of its copies.
 pub fn answer(alloc: Global, kind: &str, octets: &[u8]) -> Result<String, Refusal> {
     match kind {
         "Any" => copies::<Any, Any>(alloc, octets),
@@ -142,7 +142,7 @@ pub fn answer(alloc: Global, kind: &str, octets: &[u8]) -> Result<String, Refusa
     }
 }
 
-/// Returns the copies of a text, of a list, of a set, or of a field.
+/// Returns the copies of a text, a list, a set, or a field.
 fn answer_of_texts(alloc: Global, kind: &str, octets: &[u8]) -> Result<String, Refusal> {
     match kind {
         "PrintableString" => copies_of_leaf::<PrintableString, PrintableString>(alloc, octets),
@@ -166,8 +166,7 @@ fn answer_of_texts(alloc: Global, kind: &str, octets: &[u8]) -> Result<String, R
     }
 }
 
-/// Returns what is written of a copy of a value whose type names its way, and of a copy of that
-/// copy.
+/// Returns the encodings of a copy of a value of a `Described` type, and of a copy of that copy.
 fn copies_of_leaf<
     'a,
     T: Described + FixedTag + Copied<O> + Drop,
@@ -179,7 +178,7 @@ where
     copies::<T, O>(alloc, octets)
 }
 
-/// Returns what is written of the copy of a value, and of the copy of that copy.
+/// Returns the encodings of a copy of a value, and of a copy of that copy.
 fn copies<'a, T: Decode<'a, SliceReader<'a>> + Copied<O>, O: Clone + Encode + Drop>(
     alloc: Global,
     octets: &'a [u8],
@@ -188,7 +187,7 @@ fn copies<'a, T: Decode<'a, SliceReader<'a>> + Copied<O>, O: Clone + Encode + Dr
     both_written(alloc, value.copied(alloc))
 }
 
-/// Returns what is written of a copy, and of a copy of it.
+/// Returns the encodings of a copy, and of a copy of it.
 fn both_written<O: Clone + Encode + Drop>(
     alloc: Global,
     copy: Result<O, AllocError>,
@@ -201,7 +200,7 @@ fn both_written<O: Clone + Encode + Drop>(
     )
 }
 
-/// Returns what is written of a copy.
+/// Returns the encoding of a copy.
 fn copy_written<T: Encode + Drop>(
     alloc: Global,
     copy: Result<T, AllocError>,
@@ -209,7 +208,7 @@ fn copy_written<T: Encode + Drop>(
     written(alloc, &copy?)
 }
 
-/// Returns what is written of a copy of a set, and of the set of its members.
+/// Returns the encodings of a copy of a set, and of the set of its members.
 fn copies_of_set(alloc: Global, octets: &[u8]) -> Result<String, Refusal> {
     let set = SetOfVec::<Small>::from_der(alloc, octets)?;
     let first = copy_written(alloc, set.clone(alloc));
@@ -220,20 +219,20 @@ fn copies_of_set(alloc: Global, octets: &[u8]) -> Result<String, Refusal> {
     )
 }
 
-/// Returns what is written of a copy of a set of bounded room.
+/// Returns the encoding of a copy of a set with bounded capacity.
 fn copies_of_few(alloc: Global, octets: &[u8]) -> Result<String, Refusal> {
     let set = SetOf::<Small, 2>::from_der(alloc, octets)?;
     copy_written(alloc, set.clone())
 }
 
-/// Returns what is written of a copy of a set that is borrowed, and of the set of its members.
+/// Returns the encodings of a copy of a borrowed set, and of the set of its members.
 fn copies_of_lent(alloc: Global, octets: &[u8]) -> Result<String, Refusal> {
     let set: SetOfRef<Small> = read_lent(alloc, octets, EncodingRules::Der)?;
     let first = copy_written(alloc, set.clone());
     joined(first, " ", written_in(alloc, set.ref_to_owned(alloc)))
 }
 
-/// Returns the member at a place of a set that is borrowed.
+/// Returns the member of a borrowed set at an index.
 pub fn answer_of_member(alloc: Global, place: &str, octets: &[u8]) -> Result<String, Refusal> {
     let place = usize::from(place.parse::<u8>()?);
     let set: SetOfRef<Small> = read_lent(alloc, octets, EncodingRules::Der)?;

@@ -1,4 +1,4 @@
-//! A record with an optional field, one after a tag, and a set.
+//! A record with an optional field, a field with a tag, and a set.
 
 ghost use Rattle.std.specs.Prelude.{refl};
 

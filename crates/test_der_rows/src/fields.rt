@@ -1,4 +1,4 @@
-//! Fields of sequences, and values after tags of other classes.
+//! Fields of sequences, and values with tags of other classes.
 
 ghost use Rattle.std.specs.Prelude.{◌≡◌, IfOk, IfSome};
 ghost use Rattle.der_core.specs.TagModeTypes.TagMode.TheVariants as modes;
@@ -19,7 +19,7 @@ use der_types::{
 };
 use std::alloc::{AllocError, Global};
 
-/// Returns the answer of a type that this page names, or one after it.
+/// Returns the answer for a type that this module names, or that a later module names.
 pub fn answer(alloc: Global, kind: &str, question: &Question<'_>) -> Result<String, Refusal> {
     match kind {
         "EachKind" => answer_of_six::<
@@ -38,7 +38,7 @@ pub fn answer(alloc: Global, kind: &str, question: &Question<'_>) -> Result<Stri
     }
 }
 
-/// Returns the answer of a record of six fields, of any types.
+/// Returns the answer for a record of six fields, of any types.
 fn answer_of_six<
     'a,
     A: Decode<'a, SliceReader<'a>> + Encode,
@@ -51,7 +51,7 @@ fn answer_of_six<
     record::answer::<(A, (B, (C, (D, (E, (F, ()))))))>(alloc, question)
 }
 
-/// Returns the answer of a field of any number, whose tag comes before the value's own.
+/// Returns the answer for a field with any tag number, whose tag comes before the value's own.
 fn answer_of_class<const CLASS: u8>(
     alloc: Global,
     question: &Question<'_>,
@@ -72,7 +72,7 @@ fn answer_of_class<const CLASS: u8>(
     }
 }
 
-/// Returns the field of any number that bytes encode, all of them.
+/// Decodes a field with any tag number from all of the bytes.
 fn of_any_number<'a, T: DecodeValue<'a, SliceReader<'a>> + FixedTag + Drop, const CLASS: u8>(
     alloc: Global,
     octets: &'a [u8],
@@ -86,7 +86,7 @@ fn of_any_number<'a, T: DecodeValue<'a, SliceReader<'a>> + FixedTag + Drop, cons
     Ok(field)
 }
 
-/// A mode and a number, and bytes at whose front a field of these may be.
+/// A tagging mode, a tag number, and bytes that may begin with such a field.
 #[derive(Clone, Copy)]
 struct Numbered<'a> {
     mode: TagMode,
@@ -94,7 +94,7 @@ struct Numbered<'a> {
     octets: &'a [u8],
 }
 
-/// Returns the answer to a question about fields of a number.
+/// Answers a question about fields with a tag number.
 pub fn answer_of_number(alloc: Global, word: &str, rest: &str) -> Result<String, Refusal> {
     let (kind, rest) = rest.split_once(' ').ok_or(Refusal::Unread)?;
     let (number, rest) = front_of(rest);
@@ -120,7 +120,7 @@ pub fn answer_of_number(alloc: Global, word: &str, rest: &str) -> Result<String,
     }
 }
 
-/// Returns what is written of the field, by the name of its type.
+/// Returns the encoding of the field, by the name of its type.
 fn written_of(alloc: Global, kind: &str, field: &Numbered<'_>) -> Result<String, Refusal> {
     match kind {
         "ContextSpecific<u8>" => owned(alloc, read_field::<u8, CONTEXT>(alloc, field)),
@@ -138,10 +138,10 @@ fn written_of(alloc: Global, kind: &str, field: &Numbered<'_>) -> Result<String,
     }
 }
 
-/// A field, if one is at the beginning of bytes, and how many bytes are left.
+/// A field, if the bytes begin with one, and the number of bytes after it.
 type Front<T, const CLASS: u8> = (Option<ClassField<T, CLASS>>, u32);
 
-/// Returns the field that may be at the beginning of bytes.
+/// Decodes the field with which the bytes may begin.
 fn read_field<'a, T: DecodeValue<'a, SliceReader<'a>> + FixedTag + Drop, const CLASS: u8>(
     alloc: Global,
     field: &Numbered<'a>,
@@ -157,7 +157,7 @@ fn read_field<'a, T: DecodeValue<'a, SliceReader<'a>> + FixedTag + Drop, const C
     Ok((read, reader.remaining_len().value))
 }
 
-/// Returns what is written of the field that was read, if one is there.
+/// Returns the encoding of the field, if there is one.
 fn owned<T: EncodeValue + FixedTag + Drop, const CLASS: u8>(
     alloc: Global,
     outcome: Result<Front<T, CLASS>, Error>,
@@ -169,7 +169,7 @@ fn owned<T: EncodeValue + FixedTag + Drop, const CLASS: u8>(
     }
 }
 
-/// Returns the field of a number, borrowed, as it is shown.
+/// Returns the borrowed field with a tag number, as it is printed.
 fn lent<const CLASS: u8>(alloc: Global, field: &Numbered<'_>) -> Result<String, Refusal>
     requires { IsClass CLASS }
 {
@@ -180,21 +180,21 @@ fn lent<const CLASS: u8>(alloc: Global, field: &Numbered<'_>) -> Result<String, 
     }
 }
 
-/// Returns what is written of the field of any number, copied from where it was borrowed.
+/// Returns the encoding of a copy of a borrowed field with any tag number.
 pub fn copy_of(alloc: Global, octets: &[u8]) -> Result<String, Refusal> {
     let field = of_any_number::<u8, CONTEXT>(alloc, octets)?;
     let copy = field.owned_to_ref().ref_to_owned()?;
     hex_in(alloc, copy.to_der(alloc))
 }
 
-/// Returns what is written of a copy of the field of any number, and of a copy of what it lends.
+/// Returns the encodings of a copy of a field with any tag number, and of a copy of a borrow of it.
 pub fn copies_of(alloc: Global, octets: &[u8]) -> Result<String, Refusal> {
     let field = of_any_number::<BitString, CONTEXT>(alloc, octets)?;
     let copy = copy_written(alloc, field.clone());
     joined(copy, " ", lent_copy_written(alloc, &field.owned_to_ref()))
 }
 
-/// Returns what is written of a field that was copied.
+/// Returns the encoding of a copied field.
 fn copy_written(
     alloc: Global,
     copy: Result<ContextSpecific<BitString>, AllocError>,
@@ -203,7 +203,7 @@ fn copy_written(
     hex_in(alloc, copy.to_der(alloc))
 }
 
-/// Returns what is written of the field that a copy of a borrowed one is turned to.
+/// Returns the encoding of the owned field that a copy of a borrowed one is converted to.
 fn lent_copy_written(
     alloc: Global,
     lent: &ContextSpecificRef<'_, BitString>,
@@ -214,18 +214,19 @@ fn lent_copy_written(
     }
 }
 
-/// Returns the answer of a field that was read, with that many bytes left.
+/// Returns the answer for a field and the number of bytes after it.
 fn found(alloc: Global, octets: Result<Vec<u8>, Error>, left: u32) -> Result<String, Refusal> {
     let octets = hex_in(alloc, octets)?;
     Ok(format!(in alloc; "{octets}, {left} left")?)
 }
 
-/// Returns the answer where another tag stands.
+/// Returns the answer if the bytes begin with another tag.
 fn absent(alloc: Global, left: u32) -> Result<String, Refusal> {
     Ok(format!(in alloc; "absent, {left} left")?)
 }
 
-/// Returns the order of two fields of one mode and number, and after it that of their contents.
+/// Returns the order of two fields with the same mode and tag number, and the order of their
+/// contents.
 fn order_of(
     alloc: Global,
     kind: &str,

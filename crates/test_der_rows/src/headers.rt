@@ -10,7 +10,7 @@ use der_core::{
 };
 use std::alloc::Global;
 
-/// Returns the answer to a question of these words.
+/// Answers a question with one of these words.
 pub fn answer(alloc: Global, word: &str, rest: &str) -> Result<String, Refusal> {
     let (first, second) = front_of(rest);
     match word {
@@ -28,7 +28,7 @@ pub fn answer(alloc: Global, word: &str, rest: &str) -> Result<String, Refusal> 
     }
 }
 
-/// Returns the answer to a question about what is at the beginning of bytes, and of others.
+/// Answers a question about the beginning of bytes, and of a second byte string.
 fn answer_of_octets(
     alloc: Global,
     word: &str,
@@ -51,7 +51,7 @@ fn answer_of_octets(
     }
 }
 
-/// Returns the answer to a question about a tag, and another one or a length.
+/// Answers a question about a tag, and another tag or a length.
 fn answer_of_tag(alloc: Global, word: &str, tag: Tag, second: &str) -> Result<String, Refusal> {
     match word {
         "tag" => of_tag(alloc, tag),
@@ -62,7 +62,7 @@ fn answer_of_tag(alloc: Global, word: &str, tag: Tag, second: &str) -> Result<St
     }
 }
 
-/// Returns the order of two tags, or whether one is expected where the other stands.
+/// Returns the order of two tags, or whether one matches the expected one.
 fn of_tags(alloc: Global, word: &str, tag: Tag, second: &str) -> Result<String, Refusal> {
     let other = tag_in(alloc, second)?;
     match word {
@@ -71,12 +71,12 @@ fn of_tags(alloc: Global, word: &str, tag: Tag, second: &str) -> Result<String, 
     }
 }
 
-/// Returns the length of an encoding with a tag, and that many bytes of content.
+/// Returns the length of an encoding with a tag and that many bytes of content.
 fn of_encoding(alloc: Global, tag: Tag, text: &str) -> Result<String, Refusal> {
     printed(alloc, length_in(text)?.for_tlv(tag))
 }
 
-/// Returns what a header says that is read by those rules, and what is written for it.
+/// Returns the header that is decoded by these rules, and its encoding.
 fn of_header(alloc: Global, rules: EncodingRules, octets: &[u8]) -> Result<String, Refusal> {
     let (header, position) = header_by(rules, octets)?;
     let Header { tag, length } = header;
@@ -84,8 +84,8 @@ fn of_header(alloc: Global, rules: EncodingRules, octets: &[u8]) -> Result<Strin
     Ok(format!(in alloc; "{position} {length} {written} {tag}")?)
 }
 
-/// Returns the header at the beginning of bytes, and its length, if it is also the one that is
-/// there before it is read.
+/// Decodes the header with which the bytes begin, and returns it with its length. Fails if peeking
+/// at it returns another header.
 fn header_by(rules: EncodingRules, octets: &[u8]) -> Result<(Header, Length), Refusal> {
     let mut reader = SliceReader::new_with_encoding_rules(octets, rules)?;
     let peeked = reader.peek_header();
@@ -96,7 +96,7 @@ fn header_by(rules: EncodingRules, octets: &[u8]) -> Result<(Header, Length), Re
     Ok((read?, reader.position()))
 }
 
-/// Returns what is written for a header.
+/// Returns the encoding of a header.
 fn header_written(alloc: Global, header: Header) -> Result<String, Refusal> {
     let mut out = Vec::new(alloc);
     encode_tag(&mut out, header.tag)?;
@@ -104,14 +104,14 @@ fn header_written(alloc: Global, header: Header) -> Result<String, Refusal> {
     hex_of(alloc, out.as_slice())
 }
 
-/// Returns what is written before that many bytes of content, after this tag.
+/// Returns the encoding of the header for that many bytes of content, with this tag.
 fn front_written(alloc: Global, tag: Tag, text: &str) -> Result<String, Refusal> {
     let mut out = Vec::new(alloc);
     encode_header(&mut out, tag, length_in(text)?)?;
     hex_of(alloc, out.as_slice())
 }
 
-/// Returns what is scanned of each prefix of bytes, the shortest first.
+/// Returns the result of the scan of each prefix of the bytes, the shortest first.
 fn of_fronts(alloc: Global, octets: &[u8]) -> Result<String, Refusal> {
     let mut answers = String::new(alloc);
     for count in 0..octets.len() + 1 {
@@ -120,8 +120,8 @@ fn of_fronts(alloc: Global, octets: &[u8]) -> Result<String, Refusal> {
     Ok(answers)
 }
 
-/// Returns what is returned of a scan: the header's bytes, length and tag, that there is none yet,
-/// or why it is rejected.
+/// Returns the result of a scan: the length, the content length and the tag of the header, that it
+/// is incomplete, or why it is rejected.
 fn scanned(
     alloc: Global,
     outcome: Result<Option<(Header, usize)>, Error>,
@@ -135,42 +135,40 @@ fn scanned(
     }
 }
 
-/// Returns the length that stands alone at the beginning of bytes, how many bytes it takes, and
-/// what is written for it.
+/// Returns the length with which the bytes begin, without a tag, its own length, and its encoding.
 fn of_lone_length(alloc: Global, octets: &[u8]) -> Result<String, Refusal> {
     let (length, count) = lone_length_of(octets)?;
     let written = length_written(alloc, length)?;
     Ok(format!(in alloc; "{count} {length} {written}")?)
 }
 
-/// Returns what is written for a length, without a tag before it.
+/// Returns the encoding of a length, without a tag before it.
 fn of_length(alloc: Global, text: &str) -> Result<String, Refusal> {
     length_written(alloc, length_in(text)?)
 }
 
-/// Returns what is written for a length.
+/// Returns the encoding of a length.
 fn length_written(alloc: Global, length: Length) -> Result<String, Refusal> {
     let mut out = Vec::new(alloc);
     encode_length(&mut out, length)?;
     hex_of(alloc, out.as_slice())
 }
 
-/// Returns the tag that stands alone at the beginning of bytes, how many bytes it takes, and what
-/// is written for it.
+/// Returns the tag with which the bytes begin, its length, and its encoding.
 fn of_lone_tag(alloc: Global, octets: &[u8]) -> Result<String, Refusal> {
     let (tag, count) = tag_of(octets)?;
     let written = tag_written(alloc, tag)?;
     Ok(format!(in alloc; "{count} {written} {tag}")?)
 }
 
-/// Returns what is written for a tag.
+/// Returns the encoding of a tag.
 fn tag_written(alloc: Global, tag: Tag) -> Result<String, Refusal> {
     let mut out = Vec::new(alloc);
     encode_tag(&mut out, tag)?;
     hex_of(alloc, out.as_slice())
 }
 
-/// Returns whether the private tag of the number 4 is at the beginning of bytes.
+/// Returns whether the bytes begin with the private tag with the number 4.
 fn matches_private_4(alloc: Global, octets: &[u8]) -> Result<String, Refusal> {
     let number = TagNumber::new(4);
     printed(alloc, Tag::peek_matches(octets, Class::Private, number))
@@ -182,24 +180,24 @@ fn order_of_headers(alloc: Global, octets: &[u8], second: &str) -> Result<String
     shown(alloc, name_of(order))
 }
 
-/// Returns the header at the beginning of bytes.
+/// Decodes the header with which the bytes begin.
 fn header_in(alloc: Global, digits: &str) -> Result<Header, Refusal> {
     let octets = octets_of(alloc, digits)?;
     Ok(Header::peek(octets.as_slice())?)
 }
 
-/// Returns the tag at the beginning of bytes.
+/// Decodes the tag with which the bytes begin.
 fn tag_in(alloc: Global, digits: &str) -> Result<Tag, Refusal> {
     let octets = octets_of(alloc, digits)?;
     Ok(Tag::peek(octets.as_slice())?)
 }
 
-/// Returns the length that a text counts.
+/// Parses a length.
 fn length_in(text: &str) -> Result<Length, Refusal> {
     Ok(Length::try_from(text.parse::<usize>()?)?)
 }
 
-/// Returns the class, the number and the form of a tag, and what it prints.
+/// Returns the class, the number and the form of a tag, and its text.
 fn of_tag(alloc: Global, tag: Tag) -> Result<String, Refusal> {
     let class = tag.class();
     let number = tag.number();
@@ -211,7 +209,7 @@ fn of_tag(alloc: Global, tag: Tag) -> Result<String, Refusal> {
     Ok(format!(in alloc; "{class} {number} {form} {tag}")?)
 }
 
-/// Returns the errors of values of a tag.
+/// Returns the errors for values of a tag.
 fn of_errors(alloc: Global, tag: Tag) -> Result<String, Refusal> {
     let (length, form, value) = (
         tag.length_error(),
@@ -222,8 +220,8 @@ fn of_errors(alloc: Global, tag: Tag) -> Result<String, Refusal> {
     Ok(format!(in alloc; "{length:?}; {form:?}; {value:?}; {unexpected:?}")?)
 }
 
-/// Returns the tags of a number in the classes that have all numbers, each with whether it is of
-/// that class.
+/// Returns the tags with a number in the classes that have all numbers, each with the result of the
+/// test for its class.
 fn of_number(alloc: Global, text: &str) -> Result<String, Refusal> {
     let number = TagNumber::from(text.parse::<u32>()?);
     let tags = [
@@ -240,7 +238,7 @@ fn of_number(alloc: Global, text: &str) -> Result<String, Refusal> {
     )?)
 }
 
-/// Returns the class of a tag with that first byte, and its bits.
+/// Returns the class of a tag with that first byte, and the bits of the class.
 fn of_class(alloc: Global, octets: &[u8]) -> Result<String, Refusal> {
     let [octet] = octets else {
         return Err(Refusal::Unread);
@@ -250,21 +248,21 @@ fn of_class(alloc: Global, octets: &[u8]) -> Result<String, Refusal> {
     Ok(format!(in alloc; "{class} {bits:02x}")?)
 }
 
-/// Returns what a mode of tags prints, and whether it is the default.
+/// Returns the text of a tagging mode, and whether it is the default.
 fn of_mode(alloc: Global, text: &str) -> Result<String, Refusal> {
     let mode = text.parse::<TagMode>()?;
     let is_default = mode == TagMode::default();
     Ok(format!(in alloc; "{mode} {is_default}")?)
 }
 
-/// Returns what encoding rules print, and whether they are the default.
+/// Returns the text of encoding rules, and whether they are the default.
 fn of_rules(alloc: Global, text: &str) -> Result<String, Refusal> {
     let rules = text.parse::<EncodingRules>()?;
     let is_default = rules == EncodingRules::default();
     Ok(format!(in alloc; "{rules} {is_default}")?)
 }
 
-/// Returns the answer to a question about two lengths.
+/// Answers a question about two lengths.
 fn of_lengths(alloc: Global, word: &str, first: &str, second: &str) -> Result<String, Refusal> {
     let first = length_in(first)?;
     match word {
@@ -277,7 +275,7 @@ fn of_lengths(alloc: Global, word: &str, first: &str, second: &str) -> Result<St
     }
 }
 
-/// Returns the order of two lengths, or the length nearest to their sum or difference.
+/// Returns the order of two lengths, or their saturating sum or difference.
 fn of_both_lengths(
     alloc: Global,
     word: &str,
@@ -291,7 +289,7 @@ fn of_both_lengths(
     }
 }
 
-/// Returns the sum of a length and a number, of the least type that holds it.
+/// Returns the sum of a length and a number, in the smallest type that holds the number.
 fn sum(length: Length, number: usize) -> Result<Length, Error> {
     if let Ok(number) = u8::try_from(number) {
         length + number
@@ -304,7 +302,7 @@ fn sum(length: Length, number: usize) -> Result<Length, Error> {
     }
 }
 
-/// Returns the difference of a length and a number, of the least type that holds it.
+/// Returns the difference of a length and a number, in the smallest type that holds the number.
 fn difference(length: Length, number: usize) -> Result<Length, Error> {
     if let Ok(number) = u8::try_from(number) {
         length - number

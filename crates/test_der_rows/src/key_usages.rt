@@ -10,7 +10,7 @@ use bitflags::{Flag, Flags};
 use der_types::{FlagSet, NamedBits};
 use std::alloc::{AllocError, Global};
 
-/// Key usages, the first in the lowest bit.
+/// Key usages, with the first one in the lowest bit.
 #[derive(Clone, Copy)]
 pub struct KeyUsages(u16);
 
@@ -118,7 +118,7 @@ impl NamedBits for KeyUsages {
     ghost known = { unfold known_from in refl };
 }
 
-/// Returns the answer of sets of key usages, whose text is their names.
+/// Returns the answer for sets of key usages, whose text is their names.
 pub fn answer(alloc: Global, question: &Question<'_>) -> Result<String, Refusal> {
     match question.asked {
         Asked::Text => Ok(names_of(alloc, read(alloc, question.first)?)?),
@@ -140,7 +140,7 @@ fn names_of(alloc: Global, usages: FlagSet<KeyUsages>) -> Result<String, AllocEr
     Ok(names)
 }
 
-/// Returns the set of the names in a text, of which `ALL` is each of them.
+/// Parses the names of a set. `ALL` means all of them.
 pub fn named(names: &str) -> Result<FlagSet<KeyUsages>, Refusal> {
     let mut usages = FlagSet::empty();
     for name in names.split_whitespace() {
@@ -149,7 +149,7 @@ pub fn named(names: &str) -> Result<FlagSet<KeyUsages>, Refusal> {
     Ok(usages)
 }
 
-/// Returns the set of one name, or of all.
+/// Returns the set with one name, or with all.
 fn usage(name: &str) -> Result<FlagSet<KeyUsages>, Refusal> {
     let usage = match name {
         "ALL" => return Ok(FlagSet::full()),

@@ -1,4 +1,4 @@
-//! Types by their names.
+//! Finds types by their names.
 
 use crate::questions::{Question, asked_by};
 use crate::refusals::Refusal;
@@ -6,8 +6,8 @@ use crate::shown::{front_of, octets_of};
 use crate::{again, any_values, contents, copies, leaves, lists};
 use std::alloc::Global;
 
-/// Returns the answer to a question about a type, whose bytes stand after its name. They are held
-/// here, and borrowed to all pages.
+/// Answers a question about a type, whose bytes follow its name. This function owns the bytes and
+/// all modules borrow them.
 pub fn answer(alloc: Global, word: &str, rest: &str) -> Result<String, Refusal> {
     let (kind, rest) = front_of(rest);
     let (first, second) = front_of(rest);
@@ -16,8 +16,8 @@ pub fn answer(alloc: Global, word: &str, rest: &str) -> Result<String, Refusal> 
     answer_of(alloc, word, kind, first.as_slice(), second.as_slice())
 }
 
-/// Returns the answer to a question about a type and bytes: of `member` the type is a place, of
-/// `again` a word.
+/// Answers a question about a type and bytes. For `member`, the type's name is an index, and for
+/// `again` it is a word.
 fn answer_of(
     alloc: Global,
     word: &str,

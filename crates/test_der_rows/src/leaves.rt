@@ -1,4 +1,4 @@
-//! Values without others inside.
+//! Values that contain no other values.
 
 use crate::questions::{
     Asked, Question, answer_of_converted, answer_of_lent, answer_of_number, answer_of_ordered,
@@ -17,7 +17,7 @@ use der_types::{
 };
 use std::alloc::Global;
 
-/// Returns the answer of a type that this page names, or one after it.
+/// Returns the answer for a type that this module names, or that a later module names.
 pub fn answer(alloc: Global, kind: &str, question: &Question<'_>) -> Result<String, Refusal> {
     match kind {
         "()" => answer_of_converted::<()>(alloc, question),
@@ -30,7 +30,7 @@ pub fn answer(alloc: Global, kind: &str, question: &Question<'_>) -> Result<Stri
     }
 }
 
-/// Returns the answer of a whole number of the language.
+/// Returns the answer for an integer of the language.
 fn answer_of_integers(
     alloc: Global,
     kind: &str,
@@ -51,7 +51,7 @@ fn answer_of_integers(
     }
 }
 
-/// Returns the answer of a number of any size.
+/// Returns the answer for an integer of any size.
 fn answer_of_numbers(
     alloc: Global,
     kind: &str,
@@ -67,7 +67,7 @@ fn answer_of_numbers(
     }
 }
 
-/// Returns the answer of a string of bytes or bits.
+/// Returns the answer for a string of bytes or bits.
 fn answer_of_strings(
     alloc: Global,
     kind: &str,
@@ -86,7 +86,7 @@ fn answer_of_strings(
     }
 }
 
-/// Returns the answer of bit strings, whose text is their bits.
+/// Returns the answer for bit strings, whose text is their bits.
 fn answer_of_bits(alloc: Global, question: &Question<'_>) -> Result<String, Refusal> {
     match question.asked {
         Asked::Text => bits_of(alloc, question.first),
@@ -94,7 +94,7 @@ fn answer_of_bits(alloc: Global, question: &Question<'_>) -> Result<String, Refu
     }
 }
 
-/// Returns the bits of the string that bytes encode.
+/// Decodes a bit string and returns its bits as text.
 fn bits_of(alloc: Global, octets: &[u8]) -> Result<String, Refusal> {
     let string: BitString = read(alloc, octets)?;
     let mut text = String::new(alloc);
@@ -104,7 +104,7 @@ fn bits_of(alloc: Global, octets: &[u8]) -> Result<String, Refusal> {
     Ok(text)
 }
 
-/// Returns the answer of a value that is read as one without others inside.
+/// Returns the answer for a value that is decoded as one without other values in it.
 pub fn answer_of_leaves(alloc: Global, kind: &str, octets: &[u8]) -> Result<String, Refusal> {
     match kind {
         "bool" => leaf_written::<bool>(alloc, octets),
@@ -116,7 +116,7 @@ pub fn answer_of_leaves(alloc: Global, kind: &str, octets: &[u8]) -> Result<Stri
     }
 }
 
-/// Returns what is written of the leaf that bytes encode.
+/// Decodes a value without others in it, and returns its encoding.
 fn leaf_written<'a, T: Leaf<'a> + EncodeValue + FixedTag + Drop>(
     alloc: Global,
     octets: &'a [u8],

@@ -15,7 +15,7 @@ use der_types::{FlagSet, OctetStringRef, SequenceOf, SetOf, SetOfRef, SetOfVec};
 use std::alloc::Global;
 use std::hash::Hash;
 
-/// Returns the answer of a type that this page names, or one after it.
+/// Returns the answer for a type that this module names, or that a later module names.
 pub fn answer(alloc: Global, kind: &str, question: &Question<'_>) -> Result<String, Refusal> {
     match kind {
         "Small" => answer_with_contents::<Small>(alloc, question),
@@ -36,8 +36,9 @@ pub fn answer(alloc: Global, kind: &str, question: &Question<'_>) -> Result<Stri
     }
 }
 
-/// Returns the answer of a set or of sets that are borrowed, or of a type after them. The members
-/// are any here: what is asked of them is checked once, at the call, and not for each set of them.
+/// Returns the answer for a set or for borrowed sets, or for a type of a later module. It is
+/// generic, so that the requirements on members are checked once, at the call, and not for each set
+/// of them.
 fn answer_around<
     'a,
     T: AsRead
@@ -63,9 +64,9 @@ fn answer_around<
     }
 }
 
-/// A set or a list that has its own functions for reading.
+/// A set or a list with its own decoding functions.
 trait Members<'a>: Sized {
-    /// Returns the value that bytes encode by these rules, all of the bytes.
+    /// Decodes the value by these rules from all of the bytes.
     fn read(alloc: Global, octets: &'a [u8], rules: EncodingRules) -> Result<Self, Error>;
 }
 
@@ -95,7 +96,7 @@ impl<
     }
 }
 
-/// Returns a reader after the header of a value of this tag, and that header.
+/// Returns a reader after the header of a value with this tag, and that header.
 fn opened(
     octets: &[u8],
     rules: EncodingRules,
@@ -107,7 +108,7 @@ fn opened(
     Ok((reader, header))
 }
 
-/// Returns the answer of a set or a list that is read and written.
+/// Returns the answer for a set or a list that is decoded and encoded.
 fn answer_of_members_read<'a, T: Members<'a> + Encode + Drop>(
     alloc: Global,
     question: &Question<'a>,
@@ -120,7 +121,7 @@ fn answer_of_members_read<'a, T: Members<'a> + Encode + Drop>(
     written_in(alloc, T::read(alloc, question.first, rules))
 }
 
-/// Returns the answer of a set, which is compared, and has an order of its own.
+/// Returns the answer for a set that is also compared and has an order of its own.
 fn answer_of_set<'a, T: Members<'a> + EncodeValue + FixedTag + Hash + Ord + ValueOrd + Drop>(
     alloc: Global,
     question: &Question<'a>,
@@ -150,8 +151,8 @@ fn order_of_sets<T: EncodeValue + FixedTag + Hash + Ord + ValueOrd>(
     }
 }
 
-/// Returns the answer of a borrowed set of members of a type. A function that names a borrowed set
-/// of borrowed sets gets no proof, and so the set is named here, as one of any members.
+/// Returns the answer for a borrowed set of members of a type. A function that names a borrowed set
+/// of borrowed sets can't be proved, so this one is generic in the members.
 fn answer_of_lent_members<'a, T: Decode<'a, SliceReader<'a>> + Encode + InRange + Member + 'a>(
     alloc: Global,
     question: &Question<'a>,
@@ -159,7 +160,7 @@ fn answer_of_lent_members<'a, T: Decode<'a, SliceReader<'a>> + Encode + InRange 
     answer_of_value::<SetOfRef<T>>(alloc, question)
 }
 
-/// Returns the answer of a borrowed set: of the bytes of a SET OF, or of the values of a SEQUENCE
+/// Returns the answer for a borrowed set, of the bytes of a SET OF or of the values of a SEQUENCE
 /// OF.
 fn answer_of_lent(alloc: Global, question: &Question<'_>) -> Result<String, Refusal> {
     let first_values = values_of(alloc, question.first)?;
@@ -192,7 +193,7 @@ fn order_of_lent(
     }
 }
 
-/// Returns the values of a SEQUENCE OF; none if other bytes stand.
+/// Decodes the values of a SEQUENCE OF, or returns none if the bytes begin with another tag.
 fn values_of(alloc: Global, octets: &[u8]) -> Result<Vec<Small>, Error> {
     if octets.starts_with(b"\x30") {
         list_of(alloc, octets)
@@ -201,7 +202,7 @@ fn values_of(alloc: Global, octets: &[u8]) -> Result<Vec<Small>, Error> {
     }
 }
 
-/// Returns the values of the list that bytes encode. They are any here, as for `answer_around`.
+/// Decodes the values of a list. It is generic, as `answer_around` is.
 pub fn list_of<'a, T: Decode<'a, SliceReader<'a>>>(
     alloc: Global,
     octets: &'a [u8],
@@ -209,7 +210,7 @@ pub fn list_of<'a, T: Decode<'a, SliceReader<'a>>>(
     Vec::from_der(alloc, octets)
 }
 
-/// Returns the borrowed set of these bytes, or of the values that they spell as a SEQUENCE OF.
+/// Returns the borrowed set of these bytes, or of their values if they are a SEQUENCE OF.
 fn lent<'a>(
     alloc: Global,
     octets: &'a [u8],
@@ -222,7 +223,7 @@ fn lent<'a>(
     read_lent(alloc, octets, rules)
 }
 
-/// Returns the borrowed set that bytes encode by these rules.
+/// Decodes a borrowed set by these rules.
 pub fn read_lent<'a, T: Decode<'a, SliceReader<'a>> + Member>(
     alloc: Global,
     octets: &'a [u8],
@@ -234,7 +235,7 @@ pub fn read_lent<'a, T: Decode<'a, SliceReader<'a>> + Member>(
     SetOfRef::from_ber(alloc, octets)
 }
 
-/// Returns the answer to a question about members of a set that are read or placed.
+/// Answers a question about members of a set that are decoded or added.
 pub fn answer_of_members(
     alloc: Global,
     word: &str,
@@ -250,8 +251,7 @@ pub fn answer_of_members(
     }
 }
 
-/// Returns what is written of the set of members with one tag, or of the list that it is converted
-/// to.
+/// Returns the encoding of the set of members with one tag, or of the list that it is converted to.
 fn written_set<
     'a,
     T: DecodeValue<'a, SliceReader<'a>>
@@ -276,7 +276,7 @@ fn written_set<
     }
 }
 
-/// Returns what is written of the list that a set is converted to.
+/// Returns the encoding of the list that a set is converted to.
 fn listed<T: Encode + Member + Drop>(
     alloc: Global,
     outcome: Result<SetOfVec<T>, Error>,
@@ -284,7 +284,7 @@ fn listed<T: Encode + Member + Drop>(
     written(alloc, &Vec::from(outcome?))
 }
 
-/// Returns the set that is filled as the word asks.
+/// Returns the set that is filled as the word says.
 fn gathered<T: DerOrd + Member + Drop>(
     alloc: Global,
     word: &str,
@@ -297,7 +297,7 @@ fn gathered<T: DerOrd + Member + Drop>(
     }
 }
 
-/// Returns the set of a content in which the members are in any order.
+/// Decodes a set whose members may be in any order.
 fn loose<'a, T: AsRead + Decode<'a, SliceReader<'a>> + DerOrd + Member + Drop>(
     alloc: Global,
     octets: &'a [u8],
@@ -309,7 +309,7 @@ fn loose<'a, T: AsRead + Decode<'a, SliceReader<'a>> + DerOrd + Member + Drop>(
     Ok(set)
 }
 
-/// Returns the set of a content in which the members rise.
+/// Decodes a set whose members have to be in ascending order.
 fn strict<'a, T: AsRead + Decode<'a, SliceReader<'a>> + DerOrd + Member + Drop>(
     alloc: Global,
     octets: &'a [u8],
@@ -321,7 +321,7 @@ fn strict<'a, T: AsRead + Decode<'a, SliceReader<'a>> + DerOrd + Member + Drop>(
     Ok(set)
 }
 
-/// Returns the set into which the members were inserted, one after another.
+/// Returns the set into which the members are inserted, one after another.
 fn inserted<T: DerOrd + Member + Drop>(
     alloc: Global,
     members: Vec<T>,
@@ -333,7 +333,7 @@ fn inserted<T: DerOrd + Member + Drop>(
     Ok(set)
 }
 
-/// Returns the set to which the members were appended, one after another.
+/// Returns the set to which the members are appended, one after another.
 fn appended<T: DerOrd + Member + Drop>(
     alloc: Global,
     members: Vec<T>,

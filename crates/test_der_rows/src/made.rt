@@ -1,4 +1,4 @@
-//! Values that are made, and not read.
+//! Values that are built without decoding.
 
 use crate::key_usages;
 use crate::refusals::Refusal;
@@ -14,7 +14,7 @@ use der_types::{
 use std::alloc::Global;
 use std::time::Duration;
 
-/// Returns what is written of the value that a type makes of bytes.
+/// Returns the encoding of the value that a type makes of bytes.
 pub fn of_octets(alloc: Global, rest: &str) -> Result<String, Refusal> {
     let (kind, octets) = front_of(rest);
     let octets = octets_of(alloc, octets)?;
@@ -27,13 +27,13 @@ pub fn of_octets(alloc: Global, rest: &str) -> Result<String, Refusal> {
     }
 }
 
-/// Returns the string of the bytes that a string of these gives back.
+/// Returns the octet string of the bytes that an octet string of these returns.
 fn given_back(octets: Vec<u8>) -> Result<OctetString, Error> {
     let string = OctetString::new(octets)?;
     OctetString::new(Vec::from(string))
 }
 
-/// Returns what is written of the number that bytes encode, with those that count for nothing.
+/// Returns the encoding of the number with these bytes, of which leading ones may be redundant.
 fn number_of(alloc: Global, kind: &str, octets: &[u8]) -> Result<String, Refusal> {
     match kind {
         "Int" => outcome_written(alloc, Int::new(alloc, octets)),
@@ -44,7 +44,7 @@ fn number_of(alloc: Global, kind: &str, octets: &[u8]) -> Result<String, Refusal
     }
 }
 
-/// Returns what is written of the string of bytes, or of the number that they spell inside of one.
+/// Returns the encoding of the string of bytes, or of the number that is encoded in one.
 fn string_of(alloc: Global, kind: &str, octets: &[u8]) -> Result<String, Refusal> {
     match kind {
         "BitStringRef" => outcome_written(alloc, BitStringRef::from_bytes(octets)),
@@ -55,12 +55,12 @@ fn string_of(alloc: Global, kind: &str, octets: &[u8]) -> Result<String, Refusal
     }
 }
 
-/// Returns the number that bytes encode inside of a string of bytes.
+/// Decodes the number that is encoded in an octet string.
 fn number_inside(alloc: Global, octets: &[u8]) -> Result<u8, Error> {
     OctetStringRef::new(octets)?.decode_into(alloc)
 }
 
-/// Returns what is written of the text of bytes.
+/// Returns the encoding of the text of bytes.
 fn text_of(alloc: Global, kind: &str, octets: &[u8]) -> Result<String, Refusal> {
     match kind {
         "PrintableString" => outcome_written(alloc, PrintableString::new(alloc, octets)),
@@ -73,7 +73,7 @@ fn text_of(alloc: Global, kind: &str, octets: &[u8]) -> Result<String, Refusal> 
     }
 }
 
-/// Returns what is written of the value that a type makes of a text, of names, or of seconds since
+/// Returns the encoding of the value that a type makes of a text, of names, or of seconds since
 /// 1970.
 pub fn of_text(alloc: Global, rest: &str) -> Result<String, Refusal> {
     let (kind, text) = front_of(rest);
@@ -89,7 +89,7 @@ pub fn of_text(alloc: Global, rest: &str) -> Result<String, Refusal> {
     }
 }
 
-/// Returns what is written of the time so many seconds after 1970.
+/// Returns the encoding of the time that many seconds after 1970.
 fn time_of(alloc: Global, kind: &str, seconds: &str) -> Result<String, Refusal> {
     let since_1970 = Duration::from_secs(seconds_of(seconds)?);
     match kind {
@@ -103,7 +103,7 @@ fn time_of(alloc: Global, kind: &str, seconds: &str) -> Result<String, Refusal> 
     }
 }
 
-/// Returns what is written of the value of an outcome, of a type that names its way.
+/// Returns the encoding of a value of a `Described` type.
 fn outcome_written<T: Described + FixedTag + Drop>(
     alloc: Global,
     outcome: Result<T, Error>,

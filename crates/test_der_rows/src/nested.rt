@@ -15,10 +15,10 @@ use der_types::OctetStringRef;
 use std::alloc::Global;
 use std::marker::PhantomData;
 
-/// A row of a number, of a flag that may be absent, and of a text.
+/// A row of a number, an optional flag, and a text.
 type Flagged<'a> = (u8, (Option<bool>, (&'a str, ())));
 
-/// Returns the answer of a type that this page names, or one after it.
+/// Returns the answer for a type that this module names, or that a later module names.
 pub fn answer(alloc: Global, kind: &str, question: &Question<'_>) -> Result<String, Refusal> {
     match kind {
         "Option<bool>" => answer_as_with_debug::<Option<bool>>(alloc, question),
@@ -34,7 +34,7 @@ pub fn answer(alloc: Global, kind: &str, question: &Question<'_>) -> Result<Stri
     }
 }
 
-/// Returns the answer of a list or an array.
+/// Returns the answer for a list or an array.
 fn answer_of_lists(alloc: Global, kind: &str, question: &Question<'_>) -> Result<String, Refusal> {
     match kind {
         "Vec<bool>" => answer_of_value::<Vec<bool>>(alloc, question),
@@ -47,7 +47,7 @@ fn answer_of_lists(alloc: Global, kind: &str, question: &Question<'_>) -> Result
     }
 }
 
-/// Returns the answer of a set whose members are in order, by the name of its members.
+/// Returns the answer for a set whose members are in order, by the name of its members.
 fn answer_of_sets(alloc: Global, kind: &str, question: &Question<'_>) -> Result<String, Refusal> {
     match kind {
         "StrictSetOf<()>" => answer_of_set::<()>(alloc, question),
@@ -68,7 +68,7 @@ fn answer_of_sets(alloc: Global, kind: &str, question: &Question<'_>) -> Result<
     }
 }
 
-/// Returns the answer of a set of members of a type with one tag, which are in order.
+/// Returns the answer for a set whose members have one tag and are in order.
 fn answer_of_set<
     'a,
     T: DecodeValue<'a, SliceReader<'a>>

@@ -9,7 +9,7 @@ use std::num::ParseIntError;
 
 type Identifier = ObjectIdentifier<39>;
 
-/// Returns the answer to a question of these words.
+/// Answers a question with one of these words.
 pub fn answer(alloc: Global, word: &str, rest: &str) -> Result<String, Refusal> {
     match word {
         "oid" => octets_in(alloc, rest.parse()),
@@ -22,24 +22,24 @@ pub fn answer(alloc: Global, word: &str, rest: &str) -> Result<String, Refusal> 
     }
 }
 
-/// Returns the bytes of the identifier of an outcome.
+/// Returns the content bytes of an OID.
 fn octets_in(alloc: Global, outcome: const_oid::Result<Identifier>) -> Result<String, Refusal> {
     hex_of(alloc, outcome?.as_bytes())
 }
 
-/// Returns the identifier of bytes.
+/// Returns the OID with these content bytes.
 fn of_octets(alloc: Global, digits: &str) -> Result<String, Refusal> {
     let octets = octets_of(alloc, digits)?;
     shown(alloc, Identifier::try_from(octets.as_slice())?)
 }
 
-/// Returns what the identifier prints for debugging that bytes lend.
+/// Returns the `Debug` output of the borrowed OID with these content bytes.
 fn debug_of(alloc: Global, digits: &str) -> Result<String, Refusal> {
     let octets = octets_of(alloc, digits)?;
     debugged(alloc, Ok(ObjectIdentifierRef::try_from(octets.as_slice())?))
 }
 
-/// Returns the bytes of the identifier of arcs with spaces between them.
+/// Returns the content bytes of the OID with these arcs, which are separated by spaces.
 fn of_arcs(alloc: Global, text: &str) -> Result<String, Refusal> {
     let mut arcs = Vec::new(alloc);
     for arc in text.split_whitespace() {
@@ -48,8 +48,7 @@ fn of_arcs(alloc: Global, text: &str) -> Result<String, Refusal> {
     octets_in(alloc, Identifier::from_arcs(arcs.iter().copied()))
 }
 
-/// Returns the answer to a question about the identifier of a text, and about what follows the
-/// text.
+/// Answers a question about the OID with a text, and about the rest of the question.
 fn of_text(alloc: Global, word: &str, rest: &str) -> Result<String, Refusal> {
     let (text, other) = rest.split_once(' ').unwrap_or((rest, ""));
     let identifier = Identifier::new(text)?;
@@ -65,7 +64,7 @@ fn of_text(alloc: Global, word: &str, rest: &str) -> Result<String, Refusal> {
     }
 }
 
-/// Returns the arc at a place.
+/// Returns the arc at an index.
 fn arc_of(
     alloc: Global,
     identifier: &Identifier,
@@ -74,7 +73,7 @@ fn arc_of(
     or_none(alloc, identifier.arc(place?))
 }
 
-/// Returns the identifier of one more arc.
+/// Returns the OID with one more arc.
 fn child_of(
     alloc: Global,
     identifier: &Identifier,
@@ -83,7 +82,7 @@ fn child_of(
     shown(alloc, identifier.push_arc(arc?)?)
 }
 
-/// Returns the order of two identifiers.
+/// Returns the order of two OIDs.
 fn order_with(
     alloc: Global,
     identifier: &Identifier,
@@ -92,7 +91,7 @@ fn order_with(
     shown(alloc, name_of(identifier.cmp(&other?)))
 }
 
-/// Returns whether an identifier starts with another.
+/// Returns whether an OID starts with another one.
 fn starts_with(
     alloc: Global,
     identifier: &Identifier,
@@ -101,8 +100,8 @@ fn starts_with(
     shown(alloc, identifier.starts_with(other?))
 }
 
-/// Returns the parent and how many arcs it has, and whether no more than that many bytes were
-/// tested for it.
+/// Returns the parent, the number of its arcs, and whether at most that many bytes were tested for
+/// it.
 fn counted(
     alloc: Global,
     identifier: &Identifier,
@@ -117,7 +116,7 @@ fn counted(
     Ok(format!(in alloc; "{parent} {len} {within}")?)
 }
 
-/// Returns the order of two identifiers that are borrowed as bytes.
+/// Returns the order of two OIDs that are borrowed as bytes.
 fn order_of_refs(alloc: Global, rest: &str) -> Result<String, Refusal> {
     let (first, second) = rest.split_once(' ').ok_or(Refusal::Unread)?;
     let first = octets_of(alloc, first)?;
@@ -125,14 +124,14 @@ fn order_of_refs(alloc: Global, rest: &str) -> Result<String, Refusal> {
     order_of_octets(alloc, first.as_slice(), second.as_slice())
 }
 
-/// Returns the order of the identifiers that bytes lend.
+/// Returns the order of the borrowed OIDs with these content bytes.
 fn order_of_octets(alloc: Global, first: &[u8], second: &[u8]) -> Result<String, Refusal> {
     let first = ObjectIdentifierRef::from_bytes(first)?;
     let second = ObjectIdentifierRef::from_bytes(second)?;
     shown(alloc, name_of(first.cmp(&second)))
 }
 
-/// Returns what a database of three entries tells.
+/// Returns the answer of a database with three entries.
 fn named(alloc: Global, word: &str, text: &str) -> Result<String, Refusal> {
     let common_name = Identifier::from_bytes_unwrap(&[0x55, 4, 3]);
     let country_name = Identifier::from_bytes_unwrap(&[0x55, 4, 6]);
@@ -144,7 +143,7 @@ fn named(alloc: Global, word: &str, text: &str) -> Result<String, Refusal> {
     told(alloc, word, text, &Database::new(&entries))
 }
 
-/// Returns what a database tells.
+/// Returns the answer of a database.
 fn told(alloc: Global, word: &str, text: &str, database: &Database<'_>) -> Result<String, Refusal> {
     match word {
         "oid-name" => or_none(alloc, database.by_oid(&Identifier::new(text)?)),
@@ -154,7 +153,7 @@ fn told(alloc: Global, word: &str, text: &str, database: &Database<'_>) -> Resul
     }
 }
 
-/// Returns the names of an identifier, with blanks between them.
+/// Returns the names of an OID, separated by spaces.
 fn names_of(
     alloc: Global,
     identifier: &Identifier,
@@ -170,7 +169,7 @@ fn names_of(
     Ok(names)
 }
 
-/// Returns what stands, or `none`.
+/// Returns the text of a value, or `none`.
 fn or_none<T: Display + Drop>(alloc: Global, value: Option<T>) -> Result<String, Refusal> {
     match value {
         Some(value) => shown(alloc, value),

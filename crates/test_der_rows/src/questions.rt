@@ -1,4 +1,4 @@
-//! What is asked of the values of a type.
+//! Questions about the values of a type.
 
 use crate::any_values::{Conversion, converted};
 use crate::refusals::Refusal;
@@ -15,33 +15,34 @@ use std::alloc::Global;
 use std::fmt::{Debug, Display};
 use std::hash::{DefaultHasher, Hash, Hasher};
 
-/// What is asked of values.
+/// A question about values.
 #[derive(Clone, Copy)]
 pub enum Asked<'a> {
-    /// What is written of the value that bytes encode by DER.
+    /// The encoding of the value that is decoded by DER.
     Der,
-    /// What is written of the value that bytes encode by BER.
+    /// The encoding of the value that is decoded by BER.
     Ber,
-    /// The order of the values that bytes encode by DER, as that of their encodings.
+    /// The order of two values by their encodings.
     Order,
-    /// The order of the values that bytes encode by DER, as that of their contents.
+    /// The order of two values by their contents.
     Contents,
-    /// The order of the values that bytes encode by DER, as that of their type, and their hashes.
+    /// The order of two values by their type's `Ord`, and their hashes.
     Compare,
-    /// What the value prints that bytes encode by DER.
+    /// The text that a value prints.
     Text,
-    /// What is written of the value that bytes begin with by DER, and the bytes after it.
+    /// The encoding of the value with which the bytes begin, and the bytes after it.
     Front,
-    /// What a reader of the bytes answers to a first call, and to a second one.
+    /// The results of two calls of one reader.
     Twice,
-    /// What is written of the value that has the tag and the content of any value, by these rules.
+    /// The encoding of the value with the tag and content of a value of any type, decoded by these
+    /// rules.
     As(&'a Any, EncodingRules),
-    /// What is written of the value that any value is converted to, by this call.
+    /// The encoding of the value that a value of any type is converted to, with this call.
     Converted(&'a Any, Conversion),
 }
 
-/// A question about the values that bytes encode: the second are none if one value is asked about,
-/// and both where it is any value.
+/// A question about encoded values. `second` is empty if the question is about one value. Both are
+/// empty if it is about a value of any type.
 #[derive(Clone, Copy)]
 pub struct Question<'a> {
     pub asked: Asked<'a>,
@@ -50,13 +51,13 @@ pub struct Question<'a> {
 }
 
 impl Question<'_> {
-    /// Returns whether what is asked about is any value, and no bytes.
+    /// Returns whether the question is about a value of any type, and not about bytes.
     pub fn is_of_any(&self) -> bool {
         matches!(self.asked, Asked::As(_, _) | Asked::Converted(_, _))
     }
 }
 
-/// Returns what a word asks of values.
+/// Returns the question for a word.
 pub fn asked_by(word: &str) -> Result<Asked<'_>, Refusal> {
     match word {
         "der" => Ok(Asked::Der),
@@ -71,7 +72,7 @@ pub fn asked_by(word: &str) -> Result<Asked<'_>, Refusal> {
     }
 }
 
-/// Returns the two values that the bytes of a question spell by DER.
+/// Decodes the two values of a question by DER.
 fn values_of<'a, T: Decode<'a, SliceReader<'a>> + Drop>(
     alloc: Global,
     question: &Question<'a>,
@@ -81,7 +82,7 @@ fn values_of<'a, T: Decode<'a, SliceReader<'a>> + Drop>(
     Ok((first, second))
 }
 
-/// Returns the answer of a type that is read and written.
+/// Returns the answer for a type that is decoded and encoded.
 pub fn answer_of<'a, T: Decode<'a, SliceReader<'a>> + Encode>(
     alloc: Global,
     question: &Question<'a>,
@@ -95,7 +96,7 @@ pub fn answer_of<'a, T: Decode<'a, SliceReader<'a>> + Encode>(
     }
 }
 
-/// Returns what is written of the value at the beginning of bytes, and the bytes after it.
+/// Returns the encoding of the value with which the bytes begin, and the bytes after it.
 fn front_written<T: Encode + Drop>(
     alloc: Global,
     front: Result<(T, &[u8]), Error>,
@@ -104,8 +105,7 @@ fn front_written<T: Encode + Drop>(
     joined(written(alloc, &value), " ", hex_of(alloc, behind))
 }
 
-/// Returns what is written of the two values that one reader of the bytes reads, or why it reads
-/// none.
+/// Returns the encodings of the two values that one reader reads, or why it reads none.
 fn read_twice<'a, T: Decode<'a, SliceReader<'a>> + Encode + Drop>(
     alloc: Global,
     octets: &'a [u8],
@@ -116,7 +116,7 @@ fn read_twice<'a, T: Decode<'a, SliceReader<'a>> + Encode + Drop>(
     joined(first, "; ", second)
 }
 
-/// Returns the answer of a type that is compared, too.
+/// Returns the answer for a type that is also compared.
 pub fn answer_as<'a, T: Decode<'a, SliceReader<'a>> + DerOrd + Encode>(
     alloc: Global,
     question: &Question<'a>,
@@ -130,7 +130,7 @@ pub fn answer_as<'a, T: Decode<'a, SliceReader<'a>> + DerOrd + Encode>(
     }
 }
 
-/// Returns the answer of a type that is compared, and prints for debugging.
+/// Returns the answer for a type that is compared and has `Debug` output.
 pub fn answer_as_with_debug<'a, T: Decode<'a, SliceReader<'a>> + DerOrd + Encode + Debug>(
     alloc: Global,
     question: &Question<'a>,
@@ -141,8 +141,8 @@ pub fn answer_as_with_debug<'a, T: Decode<'a, SliceReader<'a>> + DerOrd + Encode
     }
 }
 
-/// Returns the answer of a type with one tag. Of such a type the traits of its contents are asked
-/// for, since each that is asked for costs the check of every type that is named.
+/// Returns the answer for a type with one tag. It only requires the traits of the contents, because
+/// each required trait costs the check of every type that is named.
 pub fn answer_of_value<'a, T: DecodeValue<'a, SliceReader<'a>> + EncodeValue + FixedTag>(
     alloc: Global,
     question: &Question<'a>,
@@ -154,7 +154,7 @@ pub fn answer_of_value<'a, T: DecodeValue<'a, SliceReader<'a>> + EncodeValue + F
     }
 }
 
-/// Returns the answer of a type with one tag that prints for debugging, too.
+/// Returns the answer for a type with one tag that also has `Debug` output.
 pub fn answer_with_debug<'a, T: DecodeValue<'a, SliceReader<'a>> + EncodeValue + FixedTag + Debug>(
     alloc: Global,
     question: &Question<'a>,
@@ -165,7 +165,7 @@ pub fn answer_with_debug<'a, T: DecodeValue<'a, SliceReader<'a>> + EncodeValue +
     }
 }
 
-/// Returns the answer of a type with one tag whose contents are compared too.
+/// Returns the answer for a type with one tag whose contents are also compared.
 pub fn answer_with_contents<
     'a,
     T: DecodeValue<'a, SliceReader<'a>> + EncodeValue + FixedTag + ValueOrd,
@@ -180,7 +180,7 @@ pub fn answer_with_contents<
     }
 }
 
-/// Returns the answer of a type with one tag that is compared, and prints for debugging.
+/// Returns the answer for a type with one tag that is compared and has `Debug` output.
 pub fn answer_of_plain<
     'a,
     T: DecodeValue<'a, SliceReader<'a>> + EncodeValue + FixedTag + ValueOrd + Debug,
@@ -191,7 +191,7 @@ pub fn answer_of_plain<
     }
 }
 
-/// Returns the answer of such a type that any value is converted to.
+/// Returns the answer for such a type that values of any type can be converted to.
 pub fn answer_of_converted<
     'a,
     T: DecodeValue<'a, SliceReader<'a>>
@@ -208,8 +208,9 @@ pub fn answer_of_converted<
     }
 }
 
-/// Returns the answer of such a type that names the way in which its values are coded. Of these the
-/// way is asked for, since all that the way gives is then checked once, and not for each type.
+/// Returns the answer for such a type that is `Described`. The bounds are on the way (`T::By`) in
+/// which it is encoded, so that everything that follows from them is checked once, and not for each
+/// type.
 pub fn answer_of_number<
     'a,
     T: Ordered
@@ -225,7 +226,7 @@ where
     answer_of_converted::<T>(alloc, question)
 }
 
-/// Returns the answer of a type with one tag that has an order of its own, too.
+/// Returns the answer for a type with one tag that also has an order of its own.
 pub fn answer_with_order<
     'a,
     T: DecodeValue<'a, SliceReader<'a>> + EncodeValue + FixedTag + Hash + Ord + ValueOrd,
@@ -239,7 +240,7 @@ pub fn answer_with_order<
     }
 }
 
-/// Returns the answer of such a type that any value is converted to.
+/// Returns the answer for such a type that values of any type can be converted to.
 pub fn answer_of_lent<
     'a,
     T: DecodeValue<'a, SliceReader<'a>>
@@ -257,7 +258,7 @@ pub fn answer_of_lent<
     }
 }
 
-/// Returns the answer of a type with an order of its own that names its way.
+/// Returns the answer for a `Described` type with an order of its own.
 pub fn answer_of_ordered<'a, T: Ordered + FixedTag + Hash + Ord + Drop>(
     alloc: Global,
     question: &Question<'a>,
@@ -268,7 +269,7 @@ where
     answer_with_order::<T>(alloc, question)
 }
 
-/// Returns the answer of such a type that any value is converted to.
+/// Returns the answer for such a type that values of any type can be converted to.
 pub fn answer_of_ordered_lent<
     'a,
     T: Ordered
@@ -285,7 +286,7 @@ where
     answer_of_lent::<T>(alloc, question)
 }
 
-/// Returns the answer of such a type that prints, and names its way.
+/// Returns the answer for such a type that also prints a text.
 pub fn answer_with_text<'a, T: Ordered + FixedTag + Hash + Ord + Display + Drop>(
     alloc: Global,
     question: &Question<'a>,
@@ -299,7 +300,7 @@ where
     }
 }
 
-/// Returns the answer of such a type that any value is converted to.
+/// Returns the answer for such a type that values of any type can be converted to.
 pub fn answer_of_lent_text<
     'a,
     T: Ordered
@@ -320,7 +321,7 @@ where
     }
 }
 
-/// Returns the order of two values by their type, and whether their hashes are the same.
+/// Returns the order of two values by their type's `Ord`, and whether their hashes are equal.
 pub fn compared<T: Hash + Ord>(alloc: Global, first: &T, second: &T) -> Result<String, Refusal> {
     let order = name_of(first.cmp(second));
     let hashes = if hash_of(first) == hash_of(second) {
@@ -331,7 +332,7 @@ pub fn compared<T: Hash + Ord>(alloc: Global, first: &T, second: &T) -> Result<S
     Ok(format!(in alloc; "{order} {hashes}")?)
 }
 
-/// Returns what a hasher makes of a value.
+/// Returns the hash of a value.
 fn hash_of<T: Hash>(value: &T) -> u64 {
     let mut state = DefaultHasher::new();
     value.hash(&mut state);

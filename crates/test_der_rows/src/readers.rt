@@ -1,4 +1,4 @@
-//! Readers that take steps: what one answers after what the steps before it left.
+//! Readers that make several calls: the result of each after those before it.
 
 use crate::refusals::Refusal;
 use crate::shown::{debugged, done, hex_in, hex_of, octets_of, or_refusal, printed, shown};
@@ -12,14 +12,14 @@ use der_types::SetOfRef;
 use std::alloc::Global;
 use std::marker::PhantomData;
 
-/// Returns what the steps answer that a reader of bytes takes.
+/// Returns the results of the calls of a reader of bytes.
 pub fn answer(alloc: Global, rest: &str) -> Result<String, Refusal> {
     let (octets, steps) = rest.split_once(' ').ok_or(Refusal::Unread)?;
     let octets = octets_of(alloc, octets)?;
     answers_of(alloc, octets.as_slice(), steps)
 }
 
-/// Returns what the steps answer, one after another.
+/// Returns the results of the calls, one after another.
 fn answers_of(alloc: Global, octets: &[u8], steps: &str) -> Result<String, Refusal> {
     let mut reader = SliceReader::new(octets)?;
     let mut answers = String::new(alloc);
@@ -30,7 +30,7 @@ fn answers_of(alloc: Global, octets: &[u8], steps: &str) -> Result<String, Refus
     Ok(answers)
 }
 
-/// Adds an answer after those before it.
+/// Appends a result.
 pub fn add(answers: &mut String, answer: Result<String, Refusal>) -> Result<(), Refusal> {
     let answer = answer?;
     if !answers.is_empty() {
@@ -39,7 +39,7 @@ pub fn add(answers: &mut String, answer: Result<String, Refusal>) -> Result<(), 
     Ok(answers.push_str(answer.as_str())?)
 }
 
-/// Returns what a step answers: a name, and after a colon how many bytes it is about.
+/// Returns the result of a call, which is a name and, after a colon, a number of bytes.
 fn answer_of_step(
     alloc: Global,
     reader: &mut SliceReader<'_>,
@@ -51,7 +51,7 @@ fn answer_of_step(
     }
 }
 
-/// Returns what a step answers that is about that many bytes.
+/// Returns the result of a call with a number of bytes.
 fn answer_of_count(
     alloc: Global,
     reader: &mut SliceReader<'_>,
@@ -70,7 +70,7 @@ fn answer_of_count(
     }
 }
 
-/// Fills bytes with those that stand next.
+/// Fills a buffer with the next bytes.
 fn fill(reader: &mut SliceReader<'_>, name: &str, octets: &mut [u8]) -> Result<(), Refusal> {
     match name {
         "peek-into" => Ok(reader.peek_into(octets)?),
@@ -79,7 +79,7 @@ fn fill(reader: &mut SliceReader<'_>, name: &str, octets: &mut [u8]) -> Result<(
     }
 }
 
-/// Returns what a step answers that is about the reader as it is.
+/// Returns the result of a call on the state of the reader.
 fn answer_of_name(
     alloc: Global,
     reader: &mut SliceReader<'_>,
@@ -99,7 +99,7 @@ fn answer_of_name(
     }
 }
 
-/// Returns what a step answers that is about the bytes that stand next.
+/// Returns the result of a call on the next bytes.
 fn answer_of_octets(
     alloc: Global,
     reader: &mut SliceReader<'_>,
@@ -120,7 +120,7 @@ fn answer_of_octets(
     }
 }
 
-/// Returns the value that a step reads.
+/// Returns the value that a call decodes.
 fn answer_of_values<'a>(
     alloc: Global,
     reader: &mut SliceReader<'a>,
@@ -140,7 +140,8 @@ fn answer_of_values<'a>(
     }
 }
 
-/// Returns the number of members of the set that is next, and is borrowed: values, or sets of them.
+/// Returns the number of members of the next set, which is borrowed. Its members are values, or
+/// sets of them.
 fn answer_of_sets<'a, T: Decode<'a, SliceReader<'a>> + Element + Member + 'a>(
     alloc: Global,
     reader: &mut SliceReader<'a>,
@@ -152,7 +153,7 @@ fn answer_of_sets<'a, T: Decode<'a, SliceReader<'a>> + Element + Member + 'a>(
     }
 }
 
-/// Returns the number of members of the set that is next, and is borrowed.
+/// Returns the number of members of the next set, which is borrowed.
 fn answer_of_lent<'a, T: Decode<'a, SliceReader<'a>> + Member + 'a>(
     alloc: Global,
     reader: &mut SliceReader<'a>,
@@ -161,19 +162,19 @@ fn answer_of_lent<'a, T: Decode<'a, SliceReader<'a>> + Member + 'a>(
     shown(alloc, set.len())
 }
 
-/// Returns the value that has no bytes.
+/// Decodes the value that has no bytes.
 fn nothing(alloc: Global, reader: &mut SliceReader<'_>) -> Result<String, Refusal> {
     let PhantomData = PhantomData::<u8>::decode(alloc, reader)?;
     done(alloc, Ok(()))
 }
 
-/// Returns the flag that is next.
+/// Decodes the next flag.
 fn flag_of(alloc: Global, reader: &mut SliceReader<'_>) -> Result<String, Refusal> {
     let flag = reader.decode::<bool>(alloc)?;
     shown(alloc, flag)
 }
 
-/// Returns the number that stands between fields of no bytes.
+/// Decodes the number between two fields of no bytes.
 fn fields_of(alloc: Global, reader: &mut SliceReader<'_>) -> Result<String, Refusal> {
     let (PhantomData, (number, PhantomData)) = <(
         PhantomData<bool>,
@@ -188,26 +189,26 @@ fn byte_of_copy(alloc: Global, reader: &SliceReader<'_>) -> Result<String, Refus
     printed(alloc, copy.read_byte())
 }
 
-/// Returns the bytes of the content that is next, as they are.
+/// Returns the bytes of the next content.
 fn content_of(alloc: Global, reader: &mut SliceReader<'_>) -> Result<String, Refusal> {
     let header = reader.read_header()?;
     let octets = decode_octets(alloc, reader, header)?;
     hex_of(alloc, octets.as_slice())
 }
 
-/// Returns the bytes of the string that is next, put together of its parts.
+/// Returns the bytes of the next string, concatenated from its parts.
 fn parts_of(alloc: Global, reader: &mut SliceReader<'_>) -> Result<String, Refusal> {
     let header = reader.read_header()?;
     let octets = BytesOwned::decode_value_parts(alloc, reader, header, Tag::OctetString)?;
     hex_of(alloc, octets.as_slice())
 }
 
-/// Returns whether the tag of this class stands next that has the number 4.
+/// Returns whether the next tag is that of this class with the number 4.
 fn matches(alloc: Global, reader: &mut SliceReader<'_>, class: Class) -> Result<String, Refusal> {
     printed(alloc, peek_matches(reader, class, TagNumber::new(4)))
 }
 
-/// Returns the number after the context-specific tag 0, if that is next.
+/// Decodes the number with the context-specific tag 0, if that is next.
 fn answer_of_tagged(
     alloc: Global,
     reader: &mut SliceReader<'_>,
@@ -217,7 +218,7 @@ fn answer_of_tagged(
     debugged(alloc, Ok(number))
 }
 
-/// Returns the two bytes of a SEQUENCE of 2 bytes.
+/// Decodes the two bytes of a SEQUENCE of 2 bytes.
 fn two_octets(reader: &mut SliceReader<'_>) -> Result<(u8, u8), Error> {
     reader.sequence(|inner| {
         let first = inner.read_byte()?;

@@ -15,7 +15,7 @@ use std::alloc::Global;
 use std::cmp::Ordering;
 use std::fmt::Debug;
 
-/// A SEQUENCE of the fields of a row, as `(A, (B, ()))`.
+/// A SEQUENCE whose fields are a row, as `(A, (B, ()))`.
 #[derive(Debug, Drop)]
 pub struct Record<F> {
     fields: F,
@@ -76,8 +76,8 @@ impl<F: FieldsOrd> ValueOrd for Record<F> {
     }
 }
 
-/// Returns the answer of a record. Of a row the traits of its fields are asked for, since each that
-/// is asked of a record costs the check of every row that is named.
+/// Returns the answer for a record. It only requires the traits of the fields, because each trait
+/// that is required of a record costs the check of every row that is named.
 pub fn answer<'a, F: DecodeRow<'a, SliceReader<'a>> + EncodeFields + Drop>(
     alloc: Global,
     question: &Question<'a>,
@@ -85,8 +85,8 @@ pub fn answer<'a, F: DecodeRow<'a, SliceReader<'a>> + EncodeFields + Drop>(
     answer_of_value::<Record<F>>(alloc, question)
 }
 
-/// Returns the answer of a record of three fields. They are any here: what is asked of each is
-/// checked once, at the call, and not for each row of them.
+/// Returns the answer for a record of three fields. It is generic, so that the requirements on
+/// fields are checked once, at the call, and not for each row of them.
 pub fn answer_of_three<
     'a,
     A: Decode<'a, SliceReader<'a>> + Encode,
@@ -96,7 +96,7 @@ pub fn answer_of_three<
     answer::<(A, (B, (C, ())))>(alloc, question)
 }
 
-/// Returns the answer of a record that prints for debugging, too.
+/// Returns the answer for a record that also has `Debug` output.
 pub fn answer_and_debug<'a, F: DecodeRow<'a, SliceReader<'a>> + EncodeFields + Debug + Drop>(
     alloc: Global,
     question: &Question<'a>,
@@ -104,7 +104,7 @@ pub fn answer_and_debug<'a, F: DecodeRow<'a, SliceReader<'a>> + EncodeFields + D
     answer_with_debug::<Record<F>>(alloc, question)
 }
 
-/// Returns the answer of a record that is compared, and prints for debugging.
+/// Returns the answer for a record that is compared and has `Debug` output.
 pub fn answer_and_order<
     'a,
     F: DecodeRow<'a, SliceReader<'a>> + EncodeFields + FieldsOrd + Debug + Drop,

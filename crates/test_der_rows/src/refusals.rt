@@ -1,4 +1,4 @@
-//! Why a question has no other answer.
+//! The errors of questions.
 
 use crate::shown::shown;
 use der_core::{Error, ErrorKind};
@@ -7,23 +7,23 @@ use std::alloc::{AllocError, AllocFailed, Global};
 use std::fmt;
 use std::num::ParseIntError;
 
-/// Why a question has no other answer.
+/// The error with which a question is answered.
 #[derive(Clone, Copy)]
 pub enum Refusal {
-    /// The question is none, or of no type that is known.
+    /// The question has an unknown form, or its type is unknown.
     Unread,
     /// Memory ran out.
     Memory,
-    /// A call that found no memory changed something.
+    /// A call that ran out of memory changed something.
     Changed,
-    /// The bytes encode no value of the type, or its values aren't written.
+    /// The bytes don't encode a value of the type, or its values can't be encoded.
     Der(Error),
-    /// The text, bytes or arcs spell no identifier.
+    /// The text, the bytes or the arcs aren't an OID.
     Identifier(const_oid::Error),
 }
 
 impl Refusal {
-    /// Returns what the kind of the error after it prints.
+    /// Returns the text of the kind of error.
     pub fn reason(self, alloc: Global) -> Result<String, Refusal> {
         match self {
             Refusal::Der(error) => shown(alloc, error.kind),
@@ -32,7 +32,7 @@ impl Refusal {
         }
     }
 
-    /// Returns where in the input the error after it was found.
+    /// Returns the position in the input at which the error was found.
     pub fn place(self, alloc: Global) -> Result<String, Refusal> {
         match self {
             Refusal::Der(

@@ -1,7 +1,7 @@
-//! What is returned of values, and of outcomes that may be refusals.
+//! The texts of answers.
 //!
-//! Each answer is one call. A `?` costs the check more than a call, and most where a value is held
-//! that has to be dropped.
+//! Each answer is one call, because a `?` costs the check more than a call, and most if a value
+//! that needs to be dropped is owned there.
 
 use crate::refusals::Refusal;
 use der_core::describing::{DecodeWay, Described};
@@ -10,12 +10,12 @@ use std::alloc::Global;
 use std::cmp::Ordering;
 use std::fmt::{Debug, Display};
 
-/// Returns what a value prints.
+/// Returns the text of a value.
 pub fn shown<T: Display + Drop>(alloc: Global, value: T) -> Result<String, Refusal> {
     Ok(value.to_string(alloc)?)
 }
 
-/// Returns what the value of an outcome prints.
+/// Returns the text of the value of a result.
 pub fn printed<T: Display + Drop>(
     alloc: Global,
     outcome: Result<T, Error>,
@@ -23,7 +23,7 @@ pub fn printed<T: Display + Drop>(
     shown(alloc, outcome?)
 }
 
-/// Returns what the value of an outcome prints for debugging.
+/// Returns the `Debug` output of the value of a result.
 pub fn debugged<T: Debug + Drop>(
     alloc: Global,
     outcome: Result<T, Error>,
@@ -32,22 +32,22 @@ pub fn debugged<T: Debug + Drop>(
     Ok(format!(in alloc; "{value:?}")?)
 }
 
-/// Bytes, in hex.
+/// Returns bytes in base 16.
 pub fn hex_of(alloc: Global, octets: &[u8]) -> Result<String, Refusal> {
     Ok(hex::encode(alloc, octets)?)
 }
 
-/// Returns the bytes of an outcome, in hex.
+/// Returns the bytes of a result in base 16.
 pub fn hex_in(alloc: Global, outcome: Result<Vec<u8>, Error>) -> Result<String, Refusal> {
     hex_of(alloc, outcome?.as_slice())
 }
 
-/// Returns the bytes of a value, in hex.
+/// Returns the encoding of a value in base 16.
 pub fn written<T: Encode>(alloc: Global, value: &T) -> Result<String, Refusal> {
     hex_in(alloc, value.to_der(alloc))
 }
 
-/// Returns the bytes of the value of an outcome, in hex.
+/// Returns the encoding of the value of a result in base 16.
 pub fn written_in<T: Encode + Drop>(
     alloc: Global,
     outcome: Result<T, Error>,
@@ -55,8 +55,8 @@ pub fn written_in<T: Encode + Drop>(
     written(alloc, &outcome?)
 }
 
-/// Returns the value of a type that names its way, which bytes encode by DER. What the way gives is
-/// then checked here, and not for each type.
+/// Decodes a value of a `Described` type by DER. This function is generic, so that the decoder is
+/// checked once, and not for each type.
 pub fn read<'a, T: Described + FixedTag + Drop>(alloc: Global, octets: &'a [u8]) -> Result<T, Error>
 where
     T::By: DecodeWay<'a, SliceReader<'a>, T>,
@@ -64,7 +64,7 @@ where
     value_in(alloc, octets)
 }
 
-/// Returns the value of a type with one tag, which bytes encode by DER.
+/// Decodes a value with one tag by DER.
 fn value_in<'a, T: DecodeValue<'a, SliceReader<'a>> + FixedTag>(
     alloc: Global,
     octets: &'a [u8],
@@ -72,7 +72,7 @@ fn value_in<'a, T: DecodeValue<'a, SliceReader<'a>> + FixedTag>(
     T::from_der(alloc, octets)
 }
 
-/// Returns what is returned, or why nothing is.
+/// Returns the text of a result, or of its error.
 pub fn or_refusal(alloc: Global, answer: Result<String, Refusal>) -> Result<String, Refusal> {
     match answer {
         Err(refusal) => shown(alloc, refusal),
@@ -80,8 +80,7 @@ pub fn or_refusal(alloc: Global, answer: Result<String, Refusal>) -> Result<Stri
     }
 }
 
-/// Two answers, and what stands between them. Each is held here alone, and the first refusal is
-/// reported.
+/// Returns two answers and the text between them, or the first error. Only this function owns them.
 pub fn joined(
     first: Result<String, Refusal>,
     between: &str,
@@ -93,13 +92,13 @@ pub fn joined(
     Ok(text)
 }
 
-/// Returns what is returned of an outcome that gives nothing.
+/// Returns the answer for a result without a value.
 pub fn done(alloc: Global, outcome: Result<(), Error>) -> Result<String, Refusal> {
     outcome?;
     shown(alloc, "done")
 }
 
-/// Returns the name of the order of an outcome.
+/// Returns the name of the order in a result.
 pub fn named(alloc: Global, outcome: Result<Ordering, Error>) -> Result<String, Refusal> {
     shown(alloc, name_of(outcome?))
 }
@@ -113,12 +112,12 @@ pub fn name_of(order: Ordering) -> &'static str {
     }
 }
 
-/// Returns the bytes that hexadecimal digits spell.
+/// Decodes base 16.
 pub fn octets_of(alloc: Global, digits: &str) -> Result<Vec<u8>, Refusal> {
     Ok(hex::decode(alloc, digits.as_bytes())?)
 }
 
-/// Returns a text up to its first blank, and what follows that.
+/// Splits a text at its first space.
 pub fn front_of(text: &str) -> (&str, &str) {
     text.split_once(' ').unwrap_or((text, ""))
 }

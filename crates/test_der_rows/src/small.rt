@@ -1,4 +1,4 @@
-//! A type of whole numbers from 0 to 255, of your own.
+//! A user-defined type of integers from 0 to 255.
 
 ghost use Rattle.std.specs.Prelude.{pos};
 ghost use Rattle.der_types.specs.Integers.{unsigned};
@@ -7,7 +7,7 @@ use der_core::describing::{AsInteger, Described, Ordered};
 use der_core::making::unsigned_of;
 use der_core::{Error, Integer, Tag};
 
-/// A whole number from 0 to 255.
+/// An integer from 0 to 255.
 #[derive(Clone, Copy, Default, PartialEq, Eq, PartialOrd, Ord, Hash)]
 pub struct Small(u8);
 

@@ -1,4 +1,4 @@
-//! A record of ten fields, of all that a field can be.
+//! A record of ten fields, with every kind of field.
 
 ghost use Rattle.std.proofs.Common.{inl, inr};
 ghost use Rattle.test_der_rows.specs.declared.ten_fields.NumberOrText.TheVariants as choices;
@@ -90,8 +90,8 @@ type TenFields = (
     (String, (ObjectIdentifier<39>, (WithDefault<bool>, Behind))),
 );
 
-/// The fields from the fifth on, a type of their own: what is checked of a row of ten at once
-/// takes more steps than a check may.
+/// The fields from the fifth on, as a type of their own, because checking a row of ten fields at
+/// once takes more steps than allowed.
 #[derive(Drop)]
 struct Behind(BehindRow);
 
@@ -134,12 +134,12 @@ impl Debug for Behind {
     }
 }
 
-/// Returns the answer of the record, which isn't compared.
+/// Returns the answer for the record, which isn't compared.
 pub fn answer(alloc: Global, question: &Question<'_>) -> Result<String, Refusal> {
     record::answer_and_debug::<TenFields>(alloc, question)
 }
 
-/// Returns a choice as one that is compared.
+/// Returns a choice in a form that is compared.
 fn alternatives(choice: &NumberOrText) -> OneOf2<EncodeRef<'_, u8>, EncodeRef<'_, String>> {
     match choice {
         NumberOrText::Number(number) => OneOf2::First(EncodeRef(number)),
@@ -147,7 +147,7 @@ fn alternatives(choice: &NumberOrText) -> OneOf2<EncodeRef<'_, u8>, EncodeRef<'_
     }
 }
 
-/// Returns the answer of the choice, which is compared alone.
+/// Returns the answer for the choice, which is only compared.
 pub fn answer_of_choice(alloc: Global, question: &Question<'_>) -> Result<String, Refusal> {
     match question.asked {
         Asked::Order => {

@@ -9,7 +9,7 @@ use der_types::{
 };
 use std::alloc::Global;
 
-/// Returns the answer of a type that this page names, or one after it.
+/// Returns the answer for a type that this module names, or that a later module names.
 pub fn answer(alloc: Global, kind: &str, question: &Question<'_>) -> Result<String, Refusal> {
     match kind {
         "PrintableString" => answer_with_text::<PrintableString>(alloc, question),

@@ -9,7 +9,7 @@ use der_core::{Error, FixedTag, SliceReader};
 use der_types::{DateTime, GeneralizedTime, UtcTime};
 use std::alloc::Global;
 
-/// Returns the answer of a type that this page names, or one after it.
+/// Returns the answer for a type that this module names, or that a later module names.
 pub fn answer(alloc: Global, kind: &str, question: &Question<'_>) -> Result<String, Refusal> {
     match kind {
         "UtcTime" | "GeneralizedTime" | "DateTime" => answer_of_time(alloc, kind, question),
@@ -17,7 +17,7 @@ pub fn answer(alloc: Global, kind: &str, question: &Question<'_>) -> Result<Stri
     }
 }
 
-/// Returns the answer of a time, whose text is that of its date.
+/// Returns the answer for a time, whose text is that of its date.
 fn answer_of_time(alloc: Global, kind: &str, question: &Question<'_>) -> Result<String, Refusal> {
     match question.asked {
         Asked::Text => printed(alloc, date_of(alloc, kind, question.first)),
@@ -25,7 +25,7 @@ fn answer_of_time(alloc: Global, kind: &str, question: &Question<'_>) -> Result<
     }
 }
 
-/// Returns the answer of a type of times to a question about anything else.
+/// Answers any other question about a type of times.
 fn answer_of_type(alloc: Global, kind: &str, question: &Question<'_>) -> Result<String, Refusal> {
     match kind {
         "UtcTime" => answer_of_lent::<UtcTime>(alloc, question),
@@ -34,7 +34,7 @@ fn answer_of_type(alloc: Global, kind: &str, question: &Question<'_>) -> Result<
     }
 }
 
-/// Returns the date of the time that bytes encode.
+/// Decodes a time and returns its date.
 fn date_of(alloc: Global, kind: &str, octets: &[u8]) -> Result<DateTime, Error> {
     match kind {
         "UtcTime" => date_in::<UtcTime>(alloc, octets),
@@ -43,7 +43,7 @@ fn date_of(alloc: Global, kind: &str, octets: &[u8]) -> Result<DateTime, Error> 
     }
 }
 
-/// Returns the date of the time of a type that bytes encode.
+/// Decodes a time of a type and returns its date.
 fn date_in<'a, T: Described + FixedTag + Into<DateTime> + Drop>(
     alloc: Global,
     octets: &'a [u8],
@@ -55,8 +55,8 @@ where
     Ok(time.into())
 }
 
-/// Returns the answer to a question about dates: `date` asks for the seconds since 1970, `seconds`
-/// for the date.
+/// Answers a question about dates: `date` returns the seconds since 1970, and `seconds` returns the
+/// date.
 pub fn answer_of_dates(alloc: Global, word: &str, rest: &str) -> Result<String, Refusal> {
     match word {
         "date" => {
@@ -68,7 +68,7 @@ pub fn answer_of_dates(alloc: Global, word: &str, rest: &str) -> Result<String, 
     }
 }
 
-/// Returns the number of seconds that a text spells.
+/// Parses a number of seconds.
 pub fn seconds_of(text: &str) -> Result<u64, Refusal> {
     text.parse().ok().ok_or(Refusal::Unread)
 }

@@ -1,4 +1,4 @@
-//! Writers that take steps, and values that are written to slices.
+//! Writers that make several calls, and values that are encoded into slices.
 
 use crate::readers::add;
 use crate::refusals::Refusal;
@@ -9,8 +9,8 @@ use der_core::{
 };
 use std::alloc::Global;
 
-/// Returns what the steps answer that a writer to that many bytes takes, then what it wrote, and
-/// then what is in the slice.
+/// Returns the results of the calls of a writer with that many bytes of capacity, the bytes that it
+/// wrote, and the content of its slice.
 pub fn answer(alloc: Global, rest: &str) -> Result<String, Refusal> {
     let (room, steps) = rest.split_once(' ').ok_or(Refusal::Unread)?;
     let mut octets = vec![in alloc; 0u8; room.parse::<usize>()?]?;
@@ -18,7 +18,7 @@ pub fn answer(alloc: Global, rest: &str) -> Result<String, Refusal> {
     joined(answers, "; ", hex_of(alloc, octets.as_slice()))
 }
 
-/// Returns what the steps answer, one after another, and then what was written.
+/// Returns the results of the calls, one after another, and then the bytes that were written.
 fn answers_of(alloc: Global, octets: &mut [u8], steps: &str) -> Result<String, Refusal> {
     let mut writer = SliceWriter::new(octets);
     let mut answers = String::new(alloc);
@@ -29,7 +29,7 @@ fn answers_of(alloc: Global, octets: &mut [u8], steps: &str) -> Result<String, R
     Ok(answers)
 }
 
-/// Returns what was written, or why there is nothing.
+/// Returns the bytes that were written, or the error.
 fn octets_written(alloc: Global, outcome: Result<&[u8], Error>) -> Result<String, Refusal> {
     match outcome {
         Ok(written) => hex_of(alloc, written),
@@ -37,7 +37,7 @@ fn octets_written(alloc: Global, outcome: Result<&[u8], Error>) -> Result<String
     }
 }
 
-/// Returns what a step answers, or why it is rejected.
+/// Returns the result of a call, or the error.
 fn answer_or_refusal(
     alloc: Global,
     writer: &mut SliceWriter<'_>,
@@ -50,7 +50,7 @@ fn answer_or_refusal(
     }
 }
 
-/// Returns what a step answers that is about these bytes, or why it is rejected.
+/// Returns the result of a call with these bytes, or the error.
 fn taken(
     alloc: Global,
     writer: &mut SliceWriter<'_>,
@@ -63,7 +63,7 @@ fn taken(
     }
 }
 
-/// Returns what a step answers: a name, and the bytes that it is about.
+/// Returns the result of a call, which is a name and bytes.
 fn answer_of_step(
     writer: &mut SliceWriter<'_>,
     name: &str,
@@ -80,13 +80,13 @@ fn answer_of_step(
     }
 }
 
-/// Returns what a step answers that gives nothing.
+/// Returns the answer for a call without a value.
 fn done(outcome: Result<(), Error>) -> Result<&'static str, Refusal> {
     outcome?;
     Ok("done")
 }
 
-/// Returns what a step answers that has no bytes.
+/// Returns the result of a call without bytes.
 fn answer_of_name(writer: &mut SliceWriter<'_>, name: &str) -> Result<&'static str, Refusal> {
     match name {
         "true" => done(writer.encode(&true)),
@@ -99,7 +99,7 @@ fn answer_of_name(writer: &mut SliceWriter<'_>, name: &str) -> Result<&'static s
     }
 }
 
-/// Returns what a step answers that is about a number.
+/// Returns the result of a call with a number.
 fn answer_of_number(
     writer: &mut SliceWriter<'_>,
     name: &str,
@@ -116,8 +116,7 @@ fn answer_of_number(
     }
 }
 
-/// Returns what the step answers that writes a SEQUENCE whose length is the first byte, and whose
-/// content the others are.
+/// Writes a SEQUENCE. The first byte is its length, and the others are its content.
 fn sequence_of(writer: &mut SliceWriter<'_>, octets: &[u8]) -> Result<&'static str, Refusal> {
     let [len, content @ ..] = octets else {
         return Err(Refusal::Unread);
@@ -125,8 +124,8 @@ fn sequence_of(writer: &mut SliceWriter<'_>, octets: &[u8]) -> Result<&'static s
     done(writer.sequence(Length::from(*len), |inner| inner.write(content)))
 }
 
-/// Returns what of a number is written to a slice of that many bytes, which are 09 before, and what
-/// then is there.
+/// Encodes a number into a slice of that many bytes, which are 09 before. Returns the encoding and
+/// then the content of the slice.
 pub fn answer_of_slices(alloc: Global, word: &str, rest: &str) -> Result<String, Refusal> {
     let (room, octets) = rest.split_once(' ').ok_or(Refusal::Unread)?;
     let number = number_of(alloc, octets)?;
@@ -135,18 +134,18 @@ pub fn answer_of_slices(alloc: Global, word: &str, rest: &str) -> Result<String,
     joined(written, " ", hex_of(alloc, room.as_slice()))
 }
 
-/// Returns what is written of a number to the prefix of a slice, in hex.
+/// Encodes a number at the beginning of a slice, and returns the encoding in base 16.
 fn written_hex(alloc: Global, word: &str, number: u8, room: &mut [u8]) -> Result<String, Refusal> {
     hex_of(alloc, written_to(word, number, room)?)
 }
 
-/// Returns the number that bytes encode.
+/// Decodes a number.
 fn number_of(alloc: Global, octets: &str) -> Result<u8, Refusal> {
     let octets = octets_of(alloc, octets)?;
     Ok(read(alloc, octets.as_slice())?)
 }
 
-/// Returns what is written of a number to the prefix of a slice, with its header or without.
+/// Encodes a number at the beginning of a slice, with or without its header.
 fn written_to<'a>(word: &str, number: u8, room: &'a mut [u8]) -> Result<&'a [u8], Refusal> {
     match word {
         "slice" => Ok(number.encode_to_slice(room)?),
@@ -155,8 +154,8 @@ fn written_to<'a>(word: &str, number: u8, room: &'a mut [u8]) -> Result<&'a [u8]
     }
 }
 
-/// Returns what is in a vector of bytes when a number was written after them, and how many bytes
-/// that has.
+/// Appends the encoding of a number to a vector of bytes. Returns the content of the vector, and
+/// the length of the encoding.
 pub fn answer_of_vectors(alloc: Global, rest: &str) -> Result<String, Refusal> {
     let (octets, number) = rest.split_once(' ').ok_or(Refusal::Unread)?;
     let number = number_of(alloc, number)?;
@@ -169,7 +168,7 @@ pub fn answer_of_vectors(alloc: Global, rest: &str) -> Result<String, Refusal> {
     )
 }
 
-/// Returns how many bytes were written of a number, and the tag and the length of its header.
+/// Returns the length of the encoding of a number, and the tag and the length of its header.
 fn lengths_of(alloc: Global, len: Result<Length, Error>, number: u8) -> Result<String, Refusal> {
     let len = len?;
     let header = value_header(&EncodeValueRef(&number))?;

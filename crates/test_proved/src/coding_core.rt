@@ -1,5 +1,5 @@
-//! Tests of identifiers and of the coding core: capacities, types that have an identifier, orders
-//! of iterators.
+//! Tests of OIDs and of the coding core: capacities, types that have an OID, and comparisons of
+//! iterators.
 
 mod coding;
 mod constants;

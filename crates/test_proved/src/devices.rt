@@ -1,5 +1,5 @@
-//! Readers and writers that fail, as devices; inputs that are read whole; and room that is lent to
-//! an output.
+//! Tests of readers and writers that fail, of inputs that are read to their end, and of outputs
+//! into borrowed memory.
 ghost use Rattle.std.specs.Prelude.{◌≡◌, take, IfSome};
 
 use cert_desk_io::{
@@ -11,8 +11,8 @@ use std::io;
 use std::io::{Cursor, ErrorKind, Read, Write};
 use std::test::Fail;
 
-/// A reader or a writer that is interrupted at its second call and moves nothing at its third. It
-/// writes at most 4 octets at a time.
+/// A reader or writer whose second call is interrupted and whose third call moves no bytes. It
+/// writes at most 4 bytes at a time.
 #[derive(Drop)]
 struct Faulty<T> {
     inner: T,
@@ -45,7 +45,7 @@ impl<W: Write> Write for Faulty<W> {
     }
 }
 
-/// Whether a read into room for 4 octets gives these, or fails.
+/// Returns whether a read into a buffer of 4 bytes gives these bytes, or fails.
 fn gives<I: Input>(input: &mut I, octets: Result<&str, DeviceError>) -> bool {
     let mut buffer = [0; 4];
     match (input.read(&mut buffer), octets) {
@@ -55,7 +55,7 @@ fn gives<I: Input>(input: &mut I, octets: Result<&str, DeviceError>) -> bool {
     }
 }
 
-/// No read is tried again, and after an error or an end the next one goes on.
+/// A failed read isn't tried again, and the next read after an error or the end continues.
 #[test]
 fn counts_the_errors_of_a_reader(rt: HostRuntime) {
     let inner = Cursor::new(b"certificate".as_slice());
@@ -77,7 +77,7 @@ fn counts_the_errors_of_a_reader(rt: HostRuntime) {
     assert_eq!(rt; reader.calls, 6);
 }
 
-/// A write of no octets is an error too, and what went out before an error stays.
+/// A write of no bytes is an error, too, and the bytes written before an error stay.
 #[test]
 fn counts_the_errors_of_a_writer(rt: HostRuntime) -> Result<(), Fail> {
     let inner = Vec::new(rt.alloc());
@@ -95,7 +95,7 @@ fn counts_the_errors_of_a_writer(rt: HostRuntime) -> Result<(), Fail> {
     Ok(())
 }
 
-/// Why an input isn't read to its end.
+/// Returns why an input can't be read to its end.
 fn refusal_of(alloc: Global, input: &mut MemoryInput<'_>, most: u32) -> Option<ReadAllError> {
     match read_all(alloc, input, most) {
         Ok(_) => None,
@@ -103,7 +103,7 @@ fn refusal_of(alloc: Global, input: &mut MemoryInput<'_>, most: u32) -> Option<R
     }
 }
 
-/// An input that fails is read no further, and one that gives more than the most is refused.
+/// Reading stops at the first error, and an input with more bytes than the limit is rejected.
 #[test]
 fn inputs_that_are_not_read_to_their_end(rt: HostRuntime) {
     let alloc = rt.alloc();
@@ -120,8 +120,8 @@ fn inputs_that_are_not_read_to_their_end(rt: HostRuntime) {
     );
 }
 
-// How many octets of a text went out into a room, in whose front they stand; none where it is too
-// small.
+// Writes a text into a slice. Returns the number of bytes written, which are at the beginning of
+// the slice, or `None` if it is too small.
 fn put_into(room: &mut [u8], text: &[u8]) -> Option<usize>
     ensures { IfSome result (λ count. take count room.new ≡ text.now) }
 {

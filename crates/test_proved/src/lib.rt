@@ -1,6 +1,6 @@
-//! Tests that need code: of identifiers, of the coding core and of typed values (states after
-//! refusals, closures and iterators), and of readers and writers that fail. What is a table, and
-//! out of memory, stands in `test_der_rows` and `test_cert_rows`.
+//! Tests that need code: of OIDs, of the coding core and of typed values (states after errors,
+//! closures and iterators), and of readers and writers that fail. Tests that are tables, and those
+//! of memory that runs out, are in `test_der_rows` and `test_cert_rows`.
 #![tactic(auto)]
 
 #[cfg(test)]

@@ -1,5 +1,5 @@
-//! Types as members of sets. Those of the coding core, and what is made of others, are asked by
-//! `test_der_rows`.
+//! Types as members of sets. `test_der_rows` tests those of the coding core, and types that are
+//! built from others.
 
 use der_core::{
     ApartValue, AsRead, AsReadValue, Decode, DecodeValue, DerOrd, Encode, EncodeValue, Error,
@@ -13,8 +13,8 @@ use der_types::{
 use std::alloc::Global;
 use std::test::Fail;
 
-/// Whether the members that octets spell go into a set, one by one, that is written as these
-/// octets, and as a strict set too.
+/// Returns whether the members that the bytes encode can be added to a set one at a time, and the
+/// set is encoded as these bytes, also as a strict set.
 fn go_into_a_set<'a, T>(alloc: Global, octets: &'a [u8]) -> Result<bool, Error>
 where
     T: Decode<'a, SliceReader<'a>> + AsRead + DerOrd + Encode + Member + InRange,
@@ -32,9 +32,8 @@ where
     Ok(written.as_slice() == octets && strictly.as_slice() == octets)
 }
 
-/// Whether the members that octets spell go into a set, of a type with one tag. Of such a type the
-/// traits of its contents are asked for, since each that is asked for costs the check of every type
-/// that is named.
+/// Does the same as `go_into_a_set` for a type with one tag. Requires only the traits of the
+/// contents, because each required trait costs the check of every type that is named.
 fn goes_into_a_set<'a, T>(alloc: Global, octets: &'a [u8]) -> Result<bool, Error>
 where
     T: DecodeValue<'a, SliceReader<'a>>
@@ -48,7 +47,7 @@ where
     go_into_a_set::<T>(alloc, octets)
 }
 
-/// 127 and 128.
+/// The numbers 127 and 128.
 #[test]
 fn numbers(rt: HostRuntime) -> Result<(), Fail> {
     let alloc = rt.alloc();
@@ -60,7 +59,7 @@ fn numbers(rt: HostRuntime) -> Result<(), Fail> {
     Ok(())
 }
 
-/// One octet, ten bits, NULL, and an empty SEQUENCE.
+/// One byte, ten bits, NULL, and an empty SEQUENCE.
 #[test]
 fn values(rt: HostRuntime) -> Result<(), Fail> {
     let alloc = rt.alloc();
@@ -72,7 +71,7 @@ fn values(rt: HostRuntime) -> Result<(), Fail> {
     Ok(())
 }
 
-/// The letter a: in types of one octet a character, owned and lent, and in the others.
+/// The letter `a` in each string type, owned and borrowed.
 #[test]
 fn texts(rt: HostRuntime) -> Result<(), Fail> {
     let alloc = rt.alloc();
@@ -95,7 +94,7 @@ fn dates(rt: HostRuntime) -> Result<(), Fail> {
     Ok(())
 }
 
-/// TRUE, and a value behind a context-specific tag.
+/// TRUE, and a value with a context-specific tag.
 #[test]
 fn any_values(rt: HostRuntime) -> Result<(), Fail> {
     let alloc = rt.alloc();

@@ -1,8 +1,9 @@
-//! Sets and lists of bounded room: states after refusals, and iterators.
+//! Sets and lists of bounded capacity: states after errors, and iterators.
 //!
-//! A test calls functions that borrow its values, so that a value that has to be dropped is held by
-//! a function that seldom returns early. The rows `again`, `copy` and `member` of `test_der_rows`
-//! run out of memory: `tests/rows/memory.py` lets each of their allocations fail in turn.
+//! A test calls functions that borrow its values, so that a value that needs to be dropped is owned
+//! by a function that rarely returns early. The test vectors `again`, `copy` and `member` of
+//! `test_der_rows` run out of memory: `tests/rows/memory.py` lets each of their allocations fail,
+//! one after another.
 
 use der_core::{Decode, Encode, EncodeValue, Error, ErrorKind, FromDer, Member, SliceReader};
 use der_types::{SequenceOf, SetOf, SetOfRef, SetOfVec};
@@ -12,7 +13,7 @@ use std::convert::AsSlice;
 use std::hash::{DefaultHasher, Hash, Hasher};
 use std::test::Fail;
 
-/// Whether an answer is a refusal of this kind.
+/// Returns whether a result is an error of this kind.
 fn is_refused<T: Drop>(answer: Result<T, Error>, kind: ErrorKind) -> bool {
     match answer {
         Ok(_) => false,
@@ -20,14 +21,14 @@ fn is_refused<T: Drop>(answer: Result<T, Error>, kind: ErrorKind) -> bool {
     }
 }
 
-/// What a hasher makes of a value.
+/// Returns the hash of a value.
 fn hash_of<T: Hash>(value: &T) -> u64 {
     let mut state = DefaultHasher::new();
     value.hash(&mut state);
     state.finish()
 }
 
-/// The set that octets spell, kept as they stand.
+/// Returns a set that borrows the bytes of its encoding.
 fn lent<'a, T: Decode<'a, SliceReader<'a>> + Member>(
     alloc: Global,
     octets: &'a [u8],
@@ -35,10 +36,10 @@ fn lent<'a, T: Decode<'a, SliceReader<'a>> + Member>(
     SetOfRef::from_der(alloc, octets)
 }
 
-/// A list with room for two.
+/// A list with a capacity of two.
 type Few = SequenceOf<u8, 2>;
 
-/// Whether a list takes 7 and 5, and a refused `add` leaves it.
+/// Returns whether a list accepts 7 and 5, and doesn't change when `add` fails.
 fn is_filled(list: &mut Few) -> Result<bool, Error> {
     let was_empty = list.is_empty();
     list.add(7)?;
@@ -48,7 +49,7 @@ fn is_filled(list: &mut Few) -> Result<bool, Error> {
     Ok(was_empty && refused && members && list.len() == 2)
 }
 
-/// Whether a list equals its copy, and no longer once it is turned.
+/// Returns whether a list equals its copy, and no longer does after it is reversed.
 fn is_turned(list: &mut Few) -> Result<bool, Error> {
     let copy = list.clone()?;
     let same = *list == copy && hash_of(list) == hash_of(&copy);
@@ -56,7 +57,7 @@ fn is_turned(list: &mut Few) -> Result<bool, Error> {
     Ok(same && *list != copy && hash_of(list) != hash_of(&copy))
 }
 
-/// Whether the iterator of a list gives 5 and 7.
+/// Returns whether the iterator of a list yields 5 and 7.
 fn gives_members(list: &Few) -> bool {
     let mut members = list.iter();
     let first = members.next().copied();
@@ -77,8 +78,8 @@ fn lists(rt: HostRuntime) -> Result<(), Fail> {
     Ok(())
 }
 
-/// Whether a set takes members in any order, and a refused one leaves it; 200 has two octets of
-/// content, and stands after 5.
+/// Returns whether a set accepts members in any order, and doesn't change when one is rejected. 200
+/// has two bytes of content, so it comes after 5.
 fn is_extended(set: &mut SetOfVec<u8>) -> Result<bool, Error> {
     let was_empty = set.is_empty();
     set.extend([5, 200])?;
@@ -90,7 +91,7 @@ fn is_extended(set: &mut SetOfVec<u8>) -> Result<bool, Error> {
     Ok(was_empty && refused && members && last && set.len() == 5)
 }
 
-/// Whether two sets are the same, by each comparison.
+/// Returns whether two sets are equal, by each comparison.
 fn are_same(set: &SetOfVec<u8>, same: &SetOfVec<u8>) -> bool {
     let order = set.partial_cmp(same) == Some(Ordering::Equal);
     set == same && order && AsSlice::as_slice(set) == same.as_slice()
@@ -106,10 +107,11 @@ fn sets(rt: HostRuntime) -> Result<(), Fail> {
     Ok(())
 }
 
-/// A set with room for three.
+/// A set with a capacity of three.
 type Three = SetOf<u8, 3>;
 
-/// Whether a set of bounded room takes 5, 1 and 5, and refused members leave it.
+/// Returns whether a set of bounded capacity accepts 5, 1 and 5, and doesn't change when members
+/// are rejected.
 fn is_inserted(set: &mut Three) -> Result<bool, Error> {
     let was_empty = set.is_empty();
     set.insert(5)?;
@@ -122,13 +124,13 @@ fn is_inserted(set: &mut Three) -> Result<bool, Error> {
     Ok(was_empty && falls && full && full_behind && first && set.len() == 3)
 }
 
-/// Whether the iterator of a set gives 1, and has two more.
+/// Returns whether the iterator of a set yields 1, and has two more members.
 fn gives_first(set: &Three) -> bool {
     let mut members = set.iter();
     members.next().copied() == Some(1) && members.size_hint() == (2, Some(2))
 }
 
-/// Whether a set equals the one that is made of its members, and its copy.
+/// Returns whether a set equals the set made of its members, and its copy.
 fn is_same(set: &Three) -> Result<bool, Error> {
     let same = SetOf::try_from([5, 1, 5])?;
     let order = set.partial_cmp(&same) == Some(Ordering::Equal);
@@ -146,7 +148,7 @@ fn sets_of_bounded_room(rt: HostRuntime) -> Result<(), Fail> {
     Ok(())
 }
 
-/// Whether the iterator of a borrowed set gives these, and has no more.
+/// Returns whether the iterator of a borrowed set yields these numbers, and no more.
 fn gives(alloc: Global, set: &SetOfRef<'_, u8>, numbers: &[u8]) -> Result<bool, Error> {
     let mut members = set.iter(alloc);
     let mut are_these = members.size_hint() == (numbers.len(), Some(numbers.len()));
@@ -156,14 +158,14 @@ fn gives(alloc: Global, set: &SetOfRef<'_, u8>, numbers: &[u8]) -> Result<bool, 
     Ok(are_these && members.next().is_none() && members.len() == 0)
 }
 
-/// Whether a borrowed set has 1, 1 and 2: equal members are kept.
+/// Returns whether a borrowed set has 1, 1 and 2, because equal members are kept.
 fn has_three(alloc: Global, set: &SetOfRef<'_, u8>) -> Result<bool, Error> {
     let lens = set.len() == 3 && set.value_len()?.value == 9 && set.encoded_len()?.value == 11;
     let last = set.get(alloc, 2)? == Some(2) && set.get(alloc, 3)?.is_none();
     Ok(lens && last && gives(alloc, set, &[1, 1, 2])?)
 }
 
-/// A set that lends octets, and one that lends values.
+/// A set that borrows bytes, and one that borrows values.
 #[test]
 fn borrowed_sets(rt: HostRuntime) -> Result<(), Fail> {
     let alloc = rt.alloc();
@@ -176,7 +178,7 @@ fn borrowed_sets(rt: HostRuntime) -> Result<(), Fail> {
     Ok(())
 }
 
-/// A set of no members, and the first of a set of bounded room.
+/// The first member of an empty borrowed set, and of a borrowed set of bounded capacity.
 #[test]
 fn members_of_borrowed_sets(rt: HostRuntime) -> Result<(), Fail> {
     let alloc = rt.alloc();

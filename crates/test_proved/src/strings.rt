@@ -1,4 +1,4 @@
-//! Character strings and dates: their forms, and what they print.
+//! Character strings and dates: their forms, and the texts that they print.
 
 use der_core::Error;
 use der_types::{
@@ -10,12 +10,12 @@ use std::convert::{AsSlice, AsStr};
 use std::test::Fail;
 use std::time::Duration;
 
-/// The number of octets of what lends a text.
+/// Returns the length of a text in bytes.
 fn text_len(text: &impl AsStr) -> usize {
     text.as_str().len()
 }
 
-/// Whether both forms of a text of seven signs tell the same.
+/// Returns whether both forms of a text of seven characters agree.
 fn are_alike(alloc: Global, lent: Ia5StringRef<'_>, owned: &Ia5String) -> Result<bool, Error> {
     let copy = owned.clone(alloc)?;
     let same = Ia5StringRef::from(owned) == lent && Ia5StringRef::from(&lent) == lent;
@@ -37,7 +37,7 @@ fn ascii_forms(rt: HostRuntime) -> Result<(), Fail> {
     Ok(())
 }
 
-/// Whether a text lends what it is a copy of.
+/// Returns whether a text borrows the text of which another one is a copy.
 fn lends(lent: Utf8StringRef<'_>, owned: &String) -> Result<bool, Error> {
     let same = Utf8StringRef::try_from(owned)? == lent && Utf8StringRef::from(&lent) == lent;
     let lens = lent.len() == 7 && text_len(&lent) == 7 && !lent.is_empty();
@@ -61,13 +61,13 @@ fn general_forms(rt: HostRuntime) -> Result<(), Fail> {
     Ok(())
 }
 
-/// Whether a text has these codepoints, and equals its copy.
+/// Returns whether a text has these code points, and equals its copy.
 fn has_codepoints(alloc: Global, text: &BmpString, expected: &[u16]) -> Result<bool, Error> {
     let codepoints = text.codepoints().collect::<Vec<u16>>(alloc)?;
     Ok(codepoints.as_slice() == expected && text.clone(alloc)? == *text)
 }
 
-/// `A`, `é`, `€` and U+FFFF.
+/// The characters `A`, `é`, `€` and U+FFFF.
 #[test]
 fn characters(rt: HostRuntime) -> Result<(), Fail> {
     let alloc = rt.alloc();
@@ -79,7 +79,7 @@ fn characters(rt: HostRuntime) -> Result<(), Fail> {
     Ok(())
 }
 
-/// What both forms of a text print.
+/// Returns the texts that both forms print.
 fn ascii_printed(
     alloc: Global,
     lent: Ia5StringRef<'_>,
@@ -88,7 +88,7 @@ fn ascii_printed(
     format!(in alloc; "{lent:>4} {owned:>4} {lent:?} {owned:?}")
 }
 
-/// What two texts print for debugging.
+/// Returns the `Debug` output of two texts.
 fn texts_printed(
     alloc: Global,
     utf8: Utf8StringRef<'_>,
@@ -111,7 +111,7 @@ fn printed(rt: HostRuntime) -> Result<(), Fail> {
     Ok(())
 }
 
-/// A date of six numbers and of a duration, the fraction of whose second is left out.
+/// A date from six numbers, and one from a duration, whose fraction of a second is dropped.
 #[test]
 fn dates(rt: HostRuntime) -> Result<(), Fail> {
     let date = DateTime::new(2000, 2, 29, 23, 59, 58)?;

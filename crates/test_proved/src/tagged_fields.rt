@@ -1,4 +1,4 @@
-//! Fields after tags of other classes, and any values: tags, lengths, loans and closures.
+//! Fields with tags of other classes, and values of any type: tags, lengths, borrows and closures.
 
 ghost use Rattle.der_types.specs.ClassFields.{IsClass};
 
@@ -9,7 +9,7 @@ use der_types::{
 use std::alloc::Global;
 use std::test::Fail;
 
-/// A field of a class.
+/// Returns a field of a tag class.
 fn field<const CLASS: u8>(tag_mode: TagMode, value: u32, content: u8) -> ClassField<u8, CLASS>
     requires { IsClass CLASS }
 {
@@ -20,7 +20,7 @@ fn field<const CLASS: u8>(tag_mode: TagMode, value: u32, content: u8) -> ClassFi
     }
 }
 
-/// The tags of both modes, and the tags of which each class is.
+/// The tags of both modes, and the class of each tag.
 #[test]
 fn tags_of_fields(rt: HostRuntime) {
     let number = TagNumber { value: 31 };
@@ -38,7 +38,7 @@ fn tags_of_fields(rt: HostRuntime) {
     assert!(rt; !Private::<u8>::can_decode(context.tag()));
 }
 
-/// The tags of fields that are lent, and copies.
+/// The tags of borrowed fields, and copies.
 #[test]
 fn tags_of_lent_fields(rt: HostRuntime) -> Result<(), Fail> {
     let owned: Private<u8> = field(TagMode::Implicit, 3, 2);
@@ -51,13 +51,13 @@ fn tags_of_lent_fields(rt: HostRuntime) -> Result<(), Fail> {
     Ok(())
 }
 
-/// Whether a number is as any value what a lent one of these octets is.
+/// Returns whether a number as a value of any type equals the borrowed value with these bytes.
 fn are_alike(alloc: Global, number: &Any, octets: &[u8]) -> Result<bool, Error> {
     let lent = AnyRef::new(Tag::Integer, octets)?;
     are_both(alloc, number, lent)
 }
 
-/// Whether both forms of a number tell the same.
+/// Returns whether both forms of a number agree.
 fn are_both(alloc: Global, number: &Any, lent: AnyRef<'_>) -> Result<bool, Error> {
     let same = number.to_ref() == lent && AnyRef::from(number) == lent;
     let copies = lent.ref_to_owned(alloc)? == *number && number.clone(alloc)? == *number;
@@ -74,7 +74,7 @@ fn any_values(rt: HostRuntime) -> Result<(), Fail> {
     Ok(())
 }
 
-/// Whether any value is NULL, and lends it.
+/// Returns whether the value is NULL, and can be borrowed as such.
 fn is_null(any: &Any) -> bool {
     any.is_null() && any.owned_to_ref() == AnyRef::NULL
 }
@@ -85,7 +85,7 @@ fn nulls(rt: HostRuntime) {
     assert!(rt; AnyRef::NULL.is_null());
 }
 
-/// Two octets of a content.
+/// Decodes two bytes from a content.
 fn two_octets(any: &Any) -> Result<(u8, u8), Error> {
     any.sequence(|reader| {
         let first = reader.read_byte()?;
@@ -94,7 +94,7 @@ fn two_octets(any: &Any) -> Result<(u8, u8), Error> {
     })
 }
 
-/// Two octets of a content, lent.
+/// Decodes two bytes from a borrowed content.
 fn two_lent_octets(any: AnyRef) -> Result<(u8, u8), Error> {
     any.sequence(|reader| {
         let first = reader.read_byte()?;
@@ -103,7 +103,7 @@ fn two_lent_octets(any: AnyRef) -> Result<(u8, u8), Error> {
     })
 }
 
-/// Whether both forms of any value give the octets 7 and 8.
+/// Returns whether both forms of a value decode to the bytes 7 and 8.
 fn are_given(fields: &Any) -> Result<bool, Error> {
     let owned = two_octets(fields)?;
     let lent = two_lent_octets(fields.to_ref())?;
@@ -117,7 +117,7 @@ fn closures(rt: HostRuntime) -> Result<(), Fail> {
     Ok(())
 }
 
-/// Whether two octets of a content behind this tag are refused so.
+/// Returns whether decoding two bytes from a content with this tag fails with this kind of error.
 fn are_refused(tag: Tag, octets: &[u8], kind: ErrorKind) -> Result<bool, Error> {
     match two_lent_octets(AnyRef::new(tag, octets)?) {
         Ok(_) => Ok(false),

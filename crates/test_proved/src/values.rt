@@ -1,4 +1,4 @@
-//! Numbers, octet strings and bit strings: both forms of each, and bits in turn.
+//! Numbers, octet strings and bit strings: both forms of each, and the bits in order.
 
 use der_core::{Error, Tag};
 use der_types::{
@@ -8,13 +8,13 @@ use der_types::{
 use std::alloc::Global;
 use std::test::Fail;
 
-/// Whether the owned form of a number lends it, and equals its copy.
+/// Returns whether the owned form of a number can be borrowed as this one, and equals its copy.
 fn lends_integer(alloc: Global, owned: &Int, lent: IntRef<'_>) -> Result<bool, Error> {
     let same = owned.as_int_ref() == lent && owned.clone(alloc)? == *owned;
     Ok(same && owned.as_bytes() == [0, 128].as_slice() && owned.len().value == 2)
 }
 
-/// 128 in both forms, and as a number that isn't negative.
+/// 128 in both forms, and as a nonnegative number.
 #[test]
 fn integers(rt: HostRuntime) -> Result<(), Fail> {
     let alloc = rt.alloc();
@@ -25,7 +25,8 @@ fn integers(rt: HostRuntime) -> Result<(), Fail> {
     Ok(())
 }
 
-/// Whether the owned form of a number that isn't negative lends it, and equals its copy.
+/// Returns whether the owned form of a nonnegative number can be borrowed as this one, and equals
+/// its copy.
 fn lends_natural(alloc: Global, owned: &Uint, lent: UintRef<'_>) -> Result<bool, Error> {
     let same = owned.as_uint_ref() == lent && owned.clone(alloc)? == *owned;
     Ok(same && owned.as_bytes() == [128].as_slice() && owned.len().value == 1)
@@ -40,7 +41,8 @@ fn naturals(rt: HostRuntime) -> Result<(), Fail> {
     Ok(())
 }
 
-/// Whether the owned form of a string lends what this one lends, and equals its copy.
+/// Returns whether the owned form of an octet string can be borrowed as this one, and equals its
+/// copy.
 fn lends_octets(
     alloc: Global,
     owned: &OctetString,
@@ -62,7 +64,7 @@ fn octets(rt: HostRuntime) -> Result<(), Fail> {
     Ok(())
 }
 
-/// Whether both forms of a string of ten bits tell the same.
+/// Returns whether both forms of a string of ten bits agree.
 fn has_ten_bits(alloc: Global, owned: &BitString, lent: BitStringRef<'_>) -> Result<bool, Error> {
     let same = owned.as_bit_string_ref() == lent && owned.clone(alloc)? == *owned;
     let lens = owned.bit_len() == 10 && lent.byte_len().value == 2 && owned.as_bytes().is_none();
@@ -71,7 +73,7 @@ fn has_ten_bits(alloc: Global, owned: &BitString, lent: BitStringRef<'_>) -> Res
     Ok(same && lens && bits && unused && lent.ref_to_owned(alloc)? == *owned)
 }
 
-/// `10100000 01`.
+/// The bit string `10100000 01`.
 #[test]
 fn bits(rt: HostRuntime) -> Result<(), Fail> {
     let alloc = rt.alloc();

@@ -1,4 +1,4 @@
-//! Questions and their answers.
+//! Answers questions.
 
 use crate::drawn::{drawn, generated};
 use crate::made::{digest_of, made_of};
@@ -37,7 +37,7 @@ pub fn answer<W: Write>(alloc: Global, line: &str, out: &mut W) -> io::Result<()
     }
 }
 
-/// What is answered after `ok`.
+/// Returns the text after `ok`.
 fn answer_to(alloc: Global, word: &str, rest: &str) -> Result<String, Refusal> {
     match word {
         "usages" => usages_of(alloc, rest),
@@ -45,13 +45,13 @@ fn answer_to(alloc: Global, word: &str, rest: &str) -> Result<String, Refusal> {
     }
 }
 
-/// What is answered to a question whose words are a type's name and what stands after it.
+/// Answers a question whose words are a type's name and the text after it.
 pub fn answer_of_type(alloc: Global, word: &str, rest: &str) -> Result<String, Refusal> {
     let (kind, values) = rest.split_once(' ').unwrap_or((rest, ""));
     answer_about(alloc, word, kind, values)
 }
 
-/// What is answered to a question about a type.
+/// Answers a question about a type.
 fn answer_about(alloc: Global, word: &str, kind: &str, values: &str) -> Result<String, Refusal> {
     match word {
         "text" => name_texts::printed(alloc, kind, values),
@@ -70,7 +70,7 @@ fn answer_about(alloc: Global, word: &str, kind: &str, values: &str) -> Result<S
     }
 }
 
-/// What is answered to a question about the values that octets spell.
+/// Answers a question about encoded values.
 fn answer_of_values(
     alloc: Global,
     asked: Asked<'_>,
@@ -93,7 +93,7 @@ fn answer_of_values(
     answer_of_parts(alloc, kind, &question)
 }
 
-/// What a certificate has once of a type.
+/// Returns the single value of a type among the extensions of a certificate.
 fn got_of(alloc: Global, kind: &str, octets: &str) -> Result<String, Refusal> {
     let certificate = certificate_of(alloc, octets)?;
     let question = Question {
@@ -104,7 +104,7 @@ fn got_of(alloc: Global, kind: &str, octets: &str) -> Result<String, Refusal> {
     answer_of_parts(alloc, kind, &question)
 }
 
-/// The answer of a part of a certificate, or of a type after it.
+/// Returns the answer for a part of a certificate, or for a type of a later module.
 fn answer_of_parts(alloc: Global, kind: &str, question: &Question<'_>) -> Result<String, Refusal> {
     match kind {
         "AlgorithmIdentifier" => answer_of_ordered::<AlgorithmIdentifier>(alloc, question),

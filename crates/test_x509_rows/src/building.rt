@@ -1,4 +1,4 @@
-//! Questions about builders, and their answers.
+//! Answers questions about builders.
 
 mod builders;
 mod certificates;
@@ -16,8 +16,8 @@ use std::alloc::Global;
 use std::io;
 use std::io::Write;
 
-/// Whether a question is about builders. `names`, `list` and `again` ask about other things where
-/// no name, no manner and no profile stands after them.
+/// Returns whether a question is about builders. `names`, `list` and `again` are only about
+/// builders if a name, a way or a profile follows.
 pub fn is_asked(word: &str, rest: &str) -> bool {
     let (second, _) = rest.split_once(' ').unwrap_or((rest, ""));
     match word {
@@ -37,7 +37,7 @@ pub fn answer<W: Write>(alloc: Global, word: &str, rest: &str, out: &mut W) -> i
     }
 }
 
-/// What is answered to a question, by its first word.
+/// Returns the answer to a question, whose first word says what it is about.
 fn answer_of(alloc: Global, word: &str, rest: &str) -> Result<String, Refusal> {
     let octets = match word {
         "names" => return names::answer(alloc, false, rest),

@@ -1,4 +1,4 @@
-//! Copies of values, and fields that values lend for writing.
+//! Copies of values, and values whose fields are exchanged.
 
 use crate::refusals::Refusal;
 use crate::shown::{joined, written};
@@ -6,7 +6,7 @@ use der_core::{Encode, Error};
 use std::alloc::{AllocError, Global};
 use std::mem;
 
-/// What is written of a copy of a value, if it is equal to the value.
+/// Returns the encoding of a copy of a value, if the copy is equal to the value.
 pub fn copied<T: Encode + PartialEq + Drop, C: FnOnce(&T, Global) -> Result<T, AllocError>>(
     alloc: Global,
     value: Result<T, Error>,
@@ -22,7 +22,7 @@ pub fn copied<T: Encode + PartialEq + Drop, C: FnOnce(&T, Global) -> Result<T, A
     written(alloc, &copy)
 }
 
-/// What is written of two values, once each has the other's field.
+/// Exchanges the fields of two values and returns their encodings.
 pub fn exchanged<T: Encode + AsMut<F> + Drop, F>(
     alloc: Global,
     first: T,

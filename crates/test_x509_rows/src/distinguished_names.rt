@@ -1,4 +1,4 @@
-//! Questions about what a name has.
+//! Answers questions about the content of a name.
 
 use crate::refusals::Refusal;
 use crate::shown::{any_written, octets_of, written};
@@ -17,7 +17,7 @@ use x509_cert::{
     UtcTime,
 };
 
-/// The answer to a question about names and RDNs, or to one that another page knows.
+/// Answers a question about names and RDNs, or one that another module knows.
 pub fn answer(alloc: Global, word: &str, rest: &str) -> Result<String, Refusal> {
     match word {
         "attributes" => attributes(alloc, rest),
@@ -32,24 +32,24 @@ pub fn answer(alloc: Global, word: &str, rest: &str) -> Result<String, Refusal> 
     }
 }
 
-/// The name that hex octets spell.
+/// Decodes a name from base 16.
 fn name_of(alloc: Global, octets: &str) -> Result<Name, Refusal> {
     let octets = octets_of(alloc, octets)?;
     Ok(name_in(alloc, octets.as_slice())?)
 }
 
-/// The name that octets spell.
+/// Decodes a name.
 pub fn name_in(alloc: Global, octets: &[u8]) -> Result<Name, Error> {
     Name::from_der(alloc, octets)
 }
 
-/// The types and the values of a name's attributes.
+/// Returns the types and values of a name's attributes.
 fn attributes(alloc: Global, octets: &str) -> Result<String, Refusal> {
     let name = name_of(alloc, octets)?;
     attributes_in(alloc, &name)
 }
 
-/// The types and the values of these attributes.
+/// Returns the types and values of a decoded name's attributes.
 fn attributes_in(alloc: Global, name: &Name) -> Result<String, Refusal> {
     let mut text = String::new(alloc);
     for attribute in name.iter() {
@@ -61,7 +61,7 @@ fn attributes_in(alloc: Global, name: &Name) -> Result<String, Refusal> {
     Ok(text)
 }
 
-/// Adds the type and the value of an attribute.
+/// Appends the type and value of an attribute.
 fn add_attribute(
     alloc: Global,
     text: &mut String,
@@ -73,13 +73,13 @@ fn add_attribute(
     Ok(())
 }
 
-/// What a name has first of a type.
+/// Returns the first value of a kind in a name.
 pub fn first(alloc: Global, which: &str, octets: &str) -> Result<String, Refusal> {
     let name = name_of(alloc, octets)?;
     first_in(alloc, which, &name)
 }
 
-/// What this name has first of a type.
+/// Returns the first value of a kind in a decoded name.
 fn first_in(alloc: Global, which: &str, name: &Name) -> Result<String, Refusal> {
     match which {
         "common-name" => text_of(alloc, name.common_name(alloc)),
@@ -93,7 +93,7 @@ fn first_in(alloc: Global, which: &str, name: &Name) -> Result<String, Refusal> 
     }
 }
 
-/// The text of a DirectoryString, if there is one.
+/// Returns the text of a DirectoryString, if there is one.
 fn text_of(alloc: Global, text: Result<Option<DirectoryString>, Error>) -> Result<String, Refusal> {
     match text? {
         Some(text) => Ok(text.into_string(alloc)?),
@@ -101,7 +101,7 @@ fn text_of(alloc: Global, text: Result<Option<DirectoryString>, Error>) -> Resul
     }
 }
 
-/// The text that a name lends, if there is one.
+/// Returns the text that is borrowed from a name, if there is one.
 fn lent_text<T: AsStr + Drop>(
     alloc: Global,
     text: Result<Option<T>, Error>,
@@ -112,7 +112,7 @@ fn lent_text<T: AsStr + Drop>(
     }
 }
 
-/// What the first attribute of a type is read as.
+/// Returns the first value with an OID in a name, decoded as a type.
 pub fn by_oid(alloc: Global, kind: &str, rest: &str) -> Result<String, Refusal> {
     let (oid, octets) = rest.split_once(' ').ok_or(Refusal::Unread)?;
     let oid: ObjectIdentifier<39> = oid.parse().ok().ok_or(Refusal::Unread)?;
@@ -120,7 +120,7 @@ pub fn by_oid(alloc: Global, kind: &str, rest: &str) -> Result<String, Refusal> 
     by_oid_in(alloc, kind, &name, oid)
 }
 
-/// What the first attribute of a type of this name is read as.
+/// Returns the first value with an OID in a decoded name, decoded as the type with this name.
 fn by_oid_in(
     alloc: Global,
     kind: &str,
@@ -150,7 +150,7 @@ fn by_oid_in(
     }
 }
 
-/// What is written of the first attribute of a type, read as a type that names its way.
+/// Returns the encoding of the first value with an OID, decoded as a `Described` type.
 fn described_of<'a, T: FromAny<'a> + Described + FixedTag + Drop>(
     alloc: Global,
     name: &'a Name,
@@ -159,7 +159,7 @@ fn described_of<'a, T: FromAny<'a> + Described + FixedTag + Drop>(
     written_of::<T>(alloc, name, oid)
 }
 
-/// What is written of the first attribute of a type, read as a type of values.
+/// Returns the encoding of the first value with an OID, decoded as a type.
 fn written_of<'a, T: FromAny<'a> + Encode + Drop>(
     alloc: Global,
     name: &'a Name,
@@ -171,7 +171,7 @@ fn written_of<'a, T: FromAny<'a> + Encode + Drop>(
     }
 }
 
-/// A text, or the word for none.
+/// Returns a text, or `none`.
 fn or_none(alloc: Global, text: Option<&str>) -> Result<String, Refusal> {
     Ok(text.unwrap_or("none").to_string(alloc)?)
 }

@@ -1,4 +1,4 @@
-//! Questions about serial numbers with random octets.
+//! Answers questions about serial numbers with random bytes.
 
 use crate::given_words::GivenWords;
 use crate::refusals::Refusal;
@@ -8,7 +8,7 @@ use rand_core::SeedableRng;
 use std::alloc::Global;
 use x509_cert::{Rfc5280, SerialNumber};
 
-/// What is written of the serial number that a generator gives.
+/// Returns the encoding of the serial number that a generator returns.
 pub fn generated(alloc: Global, kind: &str, octets: &str) -> Result<String, Refusal> {
     let octets = octets_of(alloc, octets)?;
     match kind {
@@ -33,8 +33,8 @@ pub fn generated(alloc: Global, kind: &str, octets: &str) -> Result<String, Refu
     }
 }
 
-/// What is written of the serial number of a prefix, and of so many octets that a generator of
-/// given words gives.
+/// Returns the encoding of the serial number with a prefix and that many bytes of a generator of
+/// given words.
 pub fn drawn(alloc: Global, prefix: &str, values: &str) -> Result<String, Refusal> {
     let (count, octets) = values.split_once(' ').ok_or(Refusal::Unread)?;
     let count: usize = count.parse()?;

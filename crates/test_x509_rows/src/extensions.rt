@@ -1,4 +1,4 @@
-//! Questions about contents of extensions, and about what stands in them.
+//! Answers questions about the contents of extensions, and their parts.
 
 use crate::questions::{
     Asked, Question, answer_of_content, answer_of_copied, answer_of_described, answer_of_list,
@@ -24,7 +24,7 @@ use x509_cert::{
     Uint, UserNotice,
 };
 
-/// The answer of the content of an extension that is a list, of another one, or of a part.
+/// Returns the answer for the content of an extension that is a list, or for a later type.
 pub fn answer(alloc: Global, kind: &str, question: &Question<'_>) -> Result<String, Refusal> {
     match kind {
         "SubjectDirectoryAttributes" => answer_of_list(
@@ -73,8 +73,7 @@ pub fn answer(alloc: Global, kind: &str, question: &Question<'_>) -> Result<Stri
     }
 }
 
-/// The answer of the content of another extension that has one field, of one of the others, or of a
-/// part.
+/// Returns the answer for the content of an extension that has one field, or for a later type.
 fn answer_of_fields(alloc: Global, kind: &str, question: &Question<'_>) -> Result<String, Refusal> {
     match kind {
         "SubjectKeyIdentifier" => answer_with_field_and_copy::<_, OctetString, _>(
@@ -112,7 +111,8 @@ fn answer_of_fields(alloc: Global, kind: &str, question: &Question<'_>) -> Resul
     }
 }
 
-/// The answer of the content of an extension that is a record or a number, or of a part.
+/// Returns the answer for the content of an extension that is a record or a number, or for a part
+/// of a content.
 fn answer_of_records(
     alloc: Global,
     kind: &str,
@@ -138,7 +138,8 @@ fn answer_of_records(
     }
 }
 
-/// The answer of how many certificates may follow, which is 0 where nothing is said.
+/// Returns the answer for the number of certificates that may follow (inhibitAnyPolicy), whose
+/// default is 0.
 fn answer_of_inhibition(alloc: Global, question: &Question<'_>) -> Result<String, Refusal> {
     match question.asked {
         Asked::Default => described(alloc, &InhibitAnyPolicy::default()),
@@ -146,7 +147,7 @@ fn answer_of_inhibition(alloc: Global, question: &Question<'_>) -> Result<String
     }
 }
 
-/// The answer of a part.
+/// Returns the answer for a part of a content.
 fn answer_of_parts(alloc: Global, kind: &str, question: &Question<'_>) -> Result<String, Refusal> {
     match kind {
         "GeneralName" => answer_with_order::<GeneralName>(alloc, question),

@@ -7,10 +7,11 @@ use rand_core::utils::NextWord;
 use rand_core::{CryptoRng, Rng, utils};
 use std::marker::Model;
 
-/// Octets, each of which is a word of 32 bits four times; after them each word is 0.
+/// A generator whose words of 32 bits are each one of these bytes, four times. After them, each
+/// word is 0.
 #[derive(Drop)]
 pub struct GivenWords<'a> {
-    /// What is left.
+    /// The bytes that are left.
     pub left: &'a [u8],
 }
 

@@ -1,4 +1,4 @@
-//! Questions about values that are made of other values.
+//! Answers questions about values that are made of other values.
 
 use crate::name_texts::{spelled, text_in};
 use crate::refusals::Refusal;
@@ -16,7 +16,7 @@ use x509_cert::{
     SubjectPublicKeyInfoRef, Time, TryFromExtensionReq,
 };
 
-/// What is written of the value that a type makes of a text, or of octets.
+/// Returns the encoding of the value that a type makes of a text or of bytes.
 pub fn made_of(alloc: Global, kind: &str, text: &str) -> Result<String, Refusal> {
     match kind {
         "Time" => written_in(alloc, text.parse::<Time>()),
@@ -34,26 +34,26 @@ pub fn made_of(alloc: Global, kind: &str, text: &str) -> Result<String, Refusal>
     }
 }
 
-/// What is written of the general name of an address.
+/// Returns the encoding of the general name of an address.
 fn address_of(alloc: Global, text: &str) -> Result<String, Refusal> {
     let address: IpAddr = text.parse().map_err(|_| Refusal::Unread)?;
     written_in(alloc, GeneralName::from_ip(alloc, address))
 }
 
-/// What is written of the number of a list.
+/// Returns the encoding of the number of a CRL.
 fn number_of(alloc: Global, text: &str) -> Result<String, Refusal> {
     let number: u128 = text.parse()?;
     described_in(alloc, CrlNumber::try_from_u128(alloc, number))
 }
 
-/// What is written of the serial number of a number.
+/// Returns the encoding of the serial number with a number.
 fn serial_of(alloc: Global, text: &str) -> Result<String, Refusal> {
     let number: u64 = text.parse()?;
     serial_written_in(alloc, SerialNumber::<Rfc5280>::from_u64(alloc, number))
 }
 
-/// What is written of the value that a type makes of octets: those of a number, or those that spell
-/// another value.
+/// Returns the encoding of the value that a type makes of the bytes of a number, or of another
+/// encoded value.
 fn made_of_octets(alloc: Global, kind: &str, octets: &[u8]) -> Result<String, Refusal> {
     match kind {
         "SerialNumber" => serial_written_in(alloc, SerialNumber::<Rfc5280>::new(alloc, octets)),
@@ -66,7 +66,7 @@ fn made_of_octets(alloc: Global, kind: &str, octets: &[u8]) -> Result<String, Re
     }
 }
 
-/// What is written of the identifier of a key.
+/// Returns the encoding of the identifier of a key.
 fn identifier_of(alloc: Global, kind: &str, octets: &[u8]) -> Result<String, Refusal> {
     let key: SubjectPublicKeyInfo = read(alloc, octets)?;
     let algorithm: AlgorithmIdentifierRef<'_> = key.algorithm.owned_to_ref();
@@ -82,13 +82,13 @@ fn identifier_of(alloc: Global, kind: &str, octets: &[u8]) -> Result<String, Ref
     }
 }
 
-/// What is written of the name of a module.
+/// Returns the encoding of the name of a module.
 fn other_name_of(alloc: Global, octets: &[u8]) -> Result<String, Refusal> {
     let module: HardwareModuleName = read(alloc, octets)?;
     described_in(alloc, OtherName::try_from(alloc, &module))
 }
 
-/// What is written of the module that a name holds, if it holds one.
+/// Returns the encoding of the module that a name contains, if it contains one.
 fn module_of(alloc: Global, octets: &[u8]) -> Result<String, Refusal> {
     let name: OtherName = read(alloc, octets)?;
     match HardwareModuleName::from_other_name(alloc, &name)? {
@@ -97,19 +97,19 @@ fn module_of(alloc: Global, octets: &[u8]) -> Result<String, Refusal> {
     }
 }
 
-/// What is written of the attribute of a password.
+/// Returns the encoding of the attribute of a password.
 fn password_of(alloc: Global, octets: &[u8]) -> Result<String, Refusal> {
     let password = ChallengePassword(text_in(alloc, octets)?);
     described_in(alloc, password.to_attribute(alloc))
 }
 
-/// What is written of the attribute of requested extensions.
+/// Returns the encoding of the attribute of requested extensions.
 fn attribute_of(alloc: Global, octets: &[u8]) -> Result<String, Refusal> {
     let request = ExtensionReq(list_in::<Extension>(alloc, octets)?);
     described_in(alloc, Attribute::try_from_extension_req(alloc, request))
 }
 
-/// The SHA-1 digest of a certificate.
+/// Returns the SHA-1 digest of a certificate.
 pub fn digest_of(alloc: Global, kind: &str, octets: &str) -> Result<String, Refusal> {
     let octets = octets_of(alloc, octets)?;
     match kind {
@@ -119,13 +119,13 @@ pub fn digest_of(alloc: Global, kind: &str, octets: &str) -> Result<String, Refu
     }
 }
 
-/// The digest of a certificate that is read and written by a profile.
+/// Decodes a certificate with a profile, and returns its digest.
 fn digest_by<P: Profile>(alloc: Global, octets: &[u8]) -> Result<String, Refusal> {
     let certificate = CertificateInner::<P>::from_der(alloc, octets)?;
     digested(alloc, &certificate)
 }
 
-/// The digest of a certificate.
+/// Returns the digest of a certificate.
 fn digested<P: Profile>(
     alloc: Global,
     certificate: &CertificateInner<P>,

@@ -1,4 +1,4 @@
-//! Questions about texts: of names (RFC 4514), of dates and of serial numbers.
+//! Answers questions about the texts of names (RFC 4514), dates and serial numbers.
 
 use crate::refusals::Refusal;
 use crate::relative_names::rdn_written_in;
@@ -12,7 +12,7 @@ use x509_cert::{
     SerialNumber, Time,
 };
 
-/// The encoding of the name, or the part of one, that a text spells.
+/// Parses a text as a name, or as a part of one, and returns its encoding.
 pub fn spelled(alloc: Global, kind: &str, text: &str) -> Result<String, Refusal> {
     match kind {
         "Name" => name_written(alloc, Name::from_str(alloc, text)),
@@ -30,7 +30,7 @@ pub fn spelled(alloc: Global, kind: &str, text: &str) -> Result<String, Refusal>
     }
 }
 
-/// What the value prints that octets spell.
+/// Returns the text of an encoded value.
 pub fn printed(alloc: Global, kind: &str, octets: &str) -> Result<String, Refusal> {
     let octets = octets_of(alloc, octets)?;
     let octets = octets.as_slice();
@@ -46,7 +46,7 @@ pub fn printed(alloc: Global, kind: &str, octets: &str) -> Result<String, Refusa
     }
 }
 
-/// The text of the value that octets spell.
+/// Decodes a value and returns its text.
 fn text_of<'a, T: Decode<'a, SliceReader<'a>> + Display + Drop>(
     alloc: Global,
     octets: &'a [u8],
@@ -54,7 +54,7 @@ fn text_of<'a, T: Decode<'a, SliceReader<'a>> + Display + Drop>(
     printed_in(alloc, T::from_der(alloc, octets))
 }
 
-/// The text of the value of a type that names its way.
+/// Decodes a value of a `Described` type, and returns its text.
 fn described_text_of<'a, T: Described + FixedTag + Display + Drop>(
     alloc: Global,
     octets: &'a [u8],
@@ -65,24 +65,24 @@ where
     printed_in(alloc, read::<T>(alloc, octets))
 }
 
-/// The text of the DirectoryString that octets spell.
+/// Decodes a DirectoryString and returns its text.
 fn value_of(alloc: Global, octets: &[u8]) -> Result<String, Refusal> {
     let text = text_in(alloc, octets)?;
     let value = text.value(alloc)?;
     Ok(value.into_owned(alloc)?)
 }
 
-/// The DirectoryString that octets spell.
+/// Decodes a DirectoryString.
 pub fn text_in(alloc: Global, octets: &[u8]) -> Result<DirectoryString, Error> {
     DirectoryString::from_der(alloc, octets)
 }
 
-/// What is written of the name of an outcome.
+/// Returns the encoding of a parsed name.
 pub fn name_written(alloc: Global, name: Result<Name, Error>) -> Result<String, Refusal> {
     written_in(alloc, name)
 }
 
-/// What is printed of the name that a text spells.
+/// Parses the text of a name and prints the name.
 pub fn again(alloc: Global, text: &str) -> Result<String, Refusal> {
     printed_in(alloc, Name::from_str(alloc, text))
 }

@@ -1,11 +1,11 @@
-//! Questions about the usages of a key and the names of a subject.
+//! Answers questions about the usages of a key and the names of a subject.
 
 use crate::refusals::Refusal;
 use crate::shown::{list_in, octets_of, read};
 use std::alloc::{AllocError, Global};
 use x509_cert::{FlagSet, GeneralName, KeyUsage, KeyUsages, SubjectAltName};
 
-/// The usages of a key, or the names of a subject.
+/// Returns the usages of a key, or the names of a subject.
 pub fn names_of(alloc: Global, kind: &str, octets: &str) -> Result<String, Refusal> {
     let octets = octets_of(alloc, octets)?;
     match kind {
@@ -15,12 +15,12 @@ pub fn names_of(alloc: Global, kind: &str, octets: &str) -> Result<String, Refus
     }
 }
 
-/// What the key is used for whose usage octets spell.
+/// Decodes the usages of a key and returns their names.
 fn usages_in(alloc: Global, octets: &[u8]) -> Result<String, Refusal> {
     Ok(usages_of(alloc, KeyUsage(read::<FlagSet<KeyUsages>>(alloc, octets)?))?)
 }
 
-/// The names of the subject that octets spell.
+/// Decodes the names of a subject and returns them.
 fn subjects_in(alloc: Global, octets: &[u8]) -> Result<String, Refusal> {
     Ok(subjects_of(
         alloc,
@@ -28,7 +28,7 @@ fn subjects_in(alloc: Global, octets: &[u8]) -> Result<String, Refusal> {
     )?)
 }
 
-/// What a key is used for.
+/// Returns the names of the usages of a key.
 fn usages_of(alloc: Global, usage: KeyUsage) -> Result<String, AllocError> {
     let usages = [
         (usage.digital_signature(), "digital_signature"),
@@ -54,7 +54,7 @@ fn usages_of(alloc: Global, usage: KeyUsage) -> Result<String, AllocError> {
     Ok(text)
 }
 
-/// The names of a subject, after the words that OpenSSL has for their kinds.
+/// Returns the names of a subject, after the words that OpenSSL uses for their kinds.
 fn subjects_of(alloc: Global, names: &SubjectAltName) -> Result<String, AllocError> {
     let mut text = String::new(alloc);
     for name in &names.0 {
@@ -66,7 +66,7 @@ fn subjects_of(alloc: Global, names: &SubjectAltName) -> Result<String, AllocErr
     Ok(text)
 }
 
-/// The name of a subject, after the word that OpenSSL has for its kind.
+/// Returns a name of a subject, after the word that OpenSSL uses for its kind.
 fn subject_of(alloc: Global, name: &GeneralName) -> Result<String, AllocError> {
     match name {
         GeneralName::Rfc822Name(name) => format!(in alloc; "email:{}", name.as_str()),

@@ -11,7 +11,7 @@ use x509_cert::{
     SerialNumber, TbsCertList, TbsCertificateInner, TrustAnchorChoice, TrustAnchorInfo, Validity,
 };
 
-/// The answer of a type under the profile that stands after its name, or under `Raw`.
+/// Returns the answer for a type with the profile after its name, or with `Raw`.
 pub fn answer(alloc: Global, kind: &str, question: &Question<'_>) -> Result<String, Refusal> {
     match kind.strip_suffix("/Rfc5280") {
         Some(kind) => answer_under::<Rfc5280>(alloc, kind, question),
@@ -19,8 +19,8 @@ pub fn answer(alloc: Global, kind: &str, question: &Question<'_>) -> Result<Stri
     }
 }
 
-/// The answer of a type under a profile. The profile is any here, since each type is then checked
-/// once, and not for each profile.
+/// Returns the answer for a type with a profile. It is generic, so that each type is checked once,
+/// and not for each profile.
 fn answer_under<P: Profile>(
     alloc: Global,
     kind: &str,

@@ -1,7 +1,7 @@
-//! What is asked of the values of a type.
+//! Questions about the values of a type.
 //!
-//! That a type is read and written costs the check more than all else that is asked of it, at each
-//! place that names the type. So one place answers all questions about it.
+//! Decoding and encoding a type costs the check more than all other questions about it, at each
+//! place that names the type. So one place answers all questions about a type.
 
 use crate::copies::{copied, exchanged};
 use crate::distinguished_names::name_in;
@@ -19,34 +19,34 @@ use std::cmp::Ordering;
 use std::fmt::Debug;
 use x509_cert::{Criticality, Name, Raw, TbsCertificateInner, ToExtension};
 
-/// What is asked of values.
+/// A question about values.
 #[derive(Clone, Copy)]
 pub enum Asked<'a> {
-    /// What is written of the value that octets spell by DER.
+    /// The encoding of the value that is decoded by DER.
     Der,
-    /// What is written of the value that octets begin with, and the octets after it.
+    /// The encoding of the value with which the bytes begin, and the bytes after it.
     Front,
-    /// What a reader of the octets answers to a first call, and to a second one.
+    /// The results of two calls of one reader.
     Twice,
-    /// The order of the values that octets spell.
+    /// The order of two values.
     Order,
-    /// The value that octets spell, as `{:?}` prints it.
+    /// The value as `{:?}` prints it.
     Debug,
-    /// What is written of a copy of the value that octets spell, if it is equal to the value.
+    /// The encoding of a copy of a value, if the copy is equal to the value.
     Copy,
-    /// What is written of the two values that octets spell, once each has the other's field.
+    /// The encodings of two values after their fields were exchanged.
     Exchange,
-    /// What is written of the value that the type has where nothing is said.
+    /// The encoding of the type's default value.
     Default,
-    /// The extension that the value of the second octets gives the certificate of the subject whose
-    /// name the first spell.
+    /// The extension that the second value gives the certificate of the subject with the first as
+    /// its name.
     Extension,
-    /// The one value of the type among the extensions of a certificate.
+    /// The single value of the type among the extensions of a certificate.
     Get(&'a TbsCertificateInner<Raw>),
 }
 
-/// A question about the values that octets spell: the second are none where one value is asked
-/// about, and both where none is.
+/// A question about encoded values. `second` is empty if the question is about one value. Both are
+/// empty if it is about none.
 #[derive(Clone, Copy)]
 pub struct Question<'a> {
     pub asked: Asked<'a>,
@@ -54,7 +54,7 @@ pub struct Question<'a> {
     pub second: &'a [u8],
 }
 
-/// What a word asks of values.
+/// Returns the question for a word.
 pub fn asked_by(word: &str) -> Result<Asked<'_>, Refusal> {
     match word {
         "der" => Ok(Asked::Der),
@@ -70,7 +70,7 @@ pub fn asked_by(word: &str) -> Result<Asked<'_>, Refusal> {
     }
 }
 
-/// The answer of a type that is read and written.
+/// Returns the answer for a type that is decoded and encoded.
 pub fn answer_of<'a, T: Decode<'a, SliceReader<'a>> + Encode>(
     alloc: Global,
     question: &Question<'a>,
@@ -83,7 +83,7 @@ pub fn answer_of<'a, T: Decode<'a, SliceReader<'a>> + Encode>(
     }
 }
 
-/// What is written of the value at the front of octets, and the octets after it.
+/// Returns the encoding of the value with which the bytes begin, and the bytes after it.
 fn front_written<T: Encode + Drop>(
     alloc: Global,
     front: Result<(T, &[u8]), Error>,
@@ -92,7 +92,7 @@ fn front_written<T: Encode + Drop>(
     joined(written(alloc, &value), " ", hex_of(alloc, behind))
 }
 
-/// What is written of the two values that one reader of the octets reads, or why it reads none.
+/// Returns the encodings of the two values that one reader reads, or why it reads none.
 fn read_twice<'a, T: Decode<'a, SliceReader<'a>> + Encode + Drop>(
     alloc: Global,
     octets: &'a [u8],
@@ -103,7 +103,7 @@ fn read_twice<'a, T: Decode<'a, SliceReader<'a>> + Encode + Drop>(
     joined(first, "; ", second)
 }
 
-/// The answer of a type that is compared, too.
+/// Returns the answer for a type that is also compared.
 pub fn answer_with_order<'a, T: Decode<'a, SliceReader<'a>> + DerOrd + Encode>(
     alloc: Global,
     question: &Question<'a>,
@@ -114,7 +114,7 @@ pub fn answer_with_order<'a, T: Decode<'a, SliceReader<'a>> + DerOrd + Encode>(
     }
 }
 
-/// The answer of a type that is copied, too.
+/// Returns the answer for a type that is also copied.
 pub fn answer_with_copy<
     'a,
     T: Decode<'a, SliceReader<'a>> + Encode + PartialEq,
@@ -128,7 +128,7 @@ pub fn answer_with_copy<
     }
 }
 
-/// The answer of a type that is compared and copied, too.
+/// Returns the answer for a type that is also compared and copied.
 pub fn answer_with_order_and_copy<
     'a,
     T: Decode<'a, SliceReader<'a>> + DerOrd + Encode + PartialEq,
@@ -142,8 +142,8 @@ pub fn answer_with_order_and_copy<
     }
 }
 
-/// The answer of a type with one tag. Of such a type the traits of its contents are asked for,
-/// since each that is asked for costs the check of every type that is named.
+/// Returns the answer for a type with one tag. It only requires the traits of the contents, because
+/// each required trait costs the check of every type that is named.
 pub fn answer_of_value<'a, T: DecodeValue<'a, SliceReader<'a>> + EncodeValue + FixedTag>(
     alloc: Global,
     question: &Question<'a>,
@@ -151,7 +151,7 @@ pub fn answer_of_value<'a, T: DecodeValue<'a, SliceReader<'a>> + EncodeValue + F
     answer_of::<T>(alloc, question)
 }
 
-/// The answer of such a type that is compared, too.
+/// Returns the answer for such a type that is also compared.
 pub fn answer_of_value_with_order<
     'a,
     T: DecodeValue<'a, SliceReader<'a>> + EncodeValue + FixedTag + ValueOrd,
@@ -159,8 +159,8 @@ pub fn answer_of_value_with_order<
     answer_with_order::<T>(alloc, question)
 }
 
-/// The answer of a type that names the way in which its values are coded. Of such a type what the
-/// way does is asked for, since that costs the check less.
+/// Returns the answer for a `Described` type. The bounds are on the way (`T::By`) in which it is
+/// encoded, because that costs the check less.
 pub fn answer_of_described<'a, T: Described + Drop>(
     alloc: Global,
     question: &Question<'a>,
@@ -171,7 +171,7 @@ where
     answer_of_tagged::<T>(alloc, question)
 }
 
-/// The answer of such a type that says its tag itself.
+/// Returns the answer for such a type that states its tag itself.
 pub fn answer_of_tagged<'a, T: Described + FixedTag + Drop>(
     alloc: Global,
     question: &Question<'a>,
@@ -182,8 +182,8 @@ where
     answer_of_value::<T>(alloc, question)
 }
 
-/// The answer of a list of values of such a type. They are any here: what their way gives is then
-/// checked once, and not for each list.
+/// Returns the answer for a list of values of such a type. This function is generic, so that its
+/// bounds are checked once, and not for each list.
 pub fn answer_of_members<'a, T: Described + FixedTag + Drop>(
     alloc: Global,
     question: &Question<'a>,
@@ -194,7 +194,7 @@ where
     answer_of_value::<Vec<T>>(alloc, question)
 }
 
-/// The answer of such a type that is compared, too.
+/// Returns the answer for such a type that is also compared.
 pub fn answer_of_ordered<'a, T: Ordered + FixedTag + Drop>(
     alloc: Global,
     question: &Question<'a>,
@@ -205,7 +205,7 @@ where
     answer_of_value_with_order::<T>(alloc, question)
 }
 
-/// The answer of such a type that is copied, too.
+/// Returns the answer for such a type that is also copied.
 pub fn answer_of_copied<
     'a,
     T: Described + PartialEq + Drop,
@@ -221,7 +221,7 @@ where
     }
 }
 
-/// The answer of such a type that is compared and copied, too.
+/// Returns the answer for such a type that is also compared and copied.
 pub fn answer_of_ordered_and_copied<
     'a,
     T: Ordered + FixedTag + PartialEq + Drop,
@@ -237,7 +237,7 @@ where
     }
 }
 
-/// The answer of a type with one tag and one field, which is copied, too.
+/// Returns the answer for a type with one tag and one field, which is also copied.
 pub fn answer_of_field<
     'a,
     T: Described + PartialEq + AsMut<F> + Drop,
@@ -254,8 +254,7 @@ where
     }
 }
 
-/// The answer of such a type that is compared, and whose field is a list without members where
-/// nothing is said.
+/// Returns the answer for such a type that is also compared, and whose default is an empty list.
 pub fn answer_of_ordered_list<
     'a,
     T: Ordered + PartialEq + AsMut<Vec<M>> + Drop,
@@ -273,7 +272,7 @@ where
     }
 }
 
-/// The answer of a type that is the content of an extension.
+/// Returns the answer for a type that is the content of an extension.
 pub fn answer_of_content<'a, T: Described + FixedTag + AssociatedOid + Criticality + Drop>(
     alloc: Global,
     question: &Question<'a>,
@@ -291,7 +290,7 @@ where
     }
 }
 
-/// The answer of such a type of one field.
+/// Returns the answer for such a type with one field.
 pub fn answer_with_field<'a, T: Described + AssociatedOid + Criticality + AsMut<F> + Drop, F>(
     alloc: Global,
     question: &Question<'a>,
@@ -305,7 +304,7 @@ where
     }
 }
 
-/// The answer of such a type of one field that is copied, too.
+/// Returns the answer for such a type with one field that is also copied.
 pub fn answer_with_field_and_copy<
     'a,
     T: Described + PartialEq + AssociatedOid + Criticality + AsMut<F> + Drop,
@@ -322,7 +321,7 @@ where
     }
 }
 
-/// The answer of such a type whose field is a list, and which has no members where nothing is said.
+/// Returns the answer for such a type whose field is a list, and whose default is an empty list.
 pub fn answer_of_list<
     'a,
     T: Described + PartialEq + AssociatedOid + Criticality + AsMut<Vec<M>> + Drop,
@@ -339,7 +338,7 @@ where
     }
 }
 
-/// The answer of such a type that prints for debugging, too.
+/// Returns the answer for such a type that also has `Debug` output.
 pub fn answer_with_debug<'a, T: Described + FixedTag + AssociatedOid + Criticality + Debug + Drop>(
     alloc: Global,
     question: &Question<'a>,
@@ -356,7 +355,7 @@ where
     }
 }
 
-/// The answer of such a type that is compared, too.
+/// Returns the answer for such a type that is also compared and has `Debug` output.
 pub fn answer_with_both<'a, T: Ordered + FixedTag + AssociatedOid + Criticality + Debug + Drop>(
     alloc: Global,
     question: &Question<'a>,
@@ -370,7 +369,7 @@ where
     }
 }
 
-/// The answer of such a type that prints for debugging and is copied, too.
+/// Returns the answer for such a type that also has `Debug` output and is copied.
 pub fn answer_with_debug_and_copy<
     'a,
     T: Described + PartialEq + AssociatedOid + Criticality + Debug + Drop,
@@ -386,7 +385,7 @@ where
     }
 }
 
-/// The answer of such a type that has a value where nothing is said, too.
+/// Returns the answer for such a type that also has a default value.
 pub fn answer_with_default_and_copy<
     'a,
     T: Described + Default + PartialEq + AssociatedOid + Criticality + Debug + Drop,
@@ -402,12 +401,12 @@ where
     }
 }
 
-/// What is written of a value.
+/// Returns the encoding of a value.
 fn written_of<T: Encode + Drop>(alloc: Global, value: T) -> Result<String, Refusal> {
     written(alloc, &value)
 }
 
-/// What is written of the two values that octets spell, once each has the other's field.
+/// Exchanges the fields of two values and returns their encodings.
 fn exchange_of<'a, T: Described + FixedTag + AsMut<F> + Drop, F>(
     alloc: Global,
     question: &Question<'a>,
@@ -419,7 +418,7 @@ where
     exchanged(alloc, first, read::<T>(alloc, question.second)?)
 }
 
-/// The extension that a value gives.
+/// Returns the extension with a value.
 fn given<T: Encode + AssociatedOid + Criticality>(
     alloc: Global,
     subject: &Name,
@@ -428,7 +427,7 @@ fn given<T: Encode + AssociatedOid + Criticality>(
     written_in(alloc, value.to_extension(alloc, subject, &[]))
 }
 
-/// The order of the values that octets spell.
+/// Returns the order of two values.
 fn order_of<'a, T: Decode<'a, SliceReader<'a>> + DerOrd + Drop>(
     alloc: Global,
     question: &Question<'a>,
@@ -438,7 +437,7 @@ fn order_of<'a, T: Decode<'a, SliceReader<'a>> + DerOrd + Drop>(
     name_of(alloc, first.der_cmp(&second))
 }
 
-/// The name of the order of an outcome.
+/// Returns the name of the order in a result.
 fn name_of(alloc: Global, outcome: Result<Ordering, Error>) -> Result<String, Refusal> {
     let order = outcome?;
     Ok(format!(in alloc; "{order:?}")?)

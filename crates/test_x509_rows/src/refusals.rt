@@ -1,4 +1,4 @@
-//! Why a question has no other answer.
+//! The errors of questions.
 
 use der_core::{Error, ErrorKind};
 use hex::FromHexError;
@@ -8,20 +8,21 @@ use std::num::ParseIntError;
 use x509_cert::timestamps;
 use x509_cert::timestamps::TlsError;
 
-/// Why a question has no other answer.
+/// The error with which a question is answered.
 #[derive(Clone, Copy)]
 pub enum Refusal {
-    /// The question is none, or of no type that is known.
+    /// The question has an unknown form, or its type is unknown.
     Unread,
-    /// Out of memory.
+    /// Memory ran out.
     Memory,
-    /// A call that found no memory changed something.
+    /// A call that ran out of memory changed something.
     Changed,
-    /// A value writes another number of octets than it says.
+    /// The length of a value's encoding isn't the one that it reports.
     Length,
-    /// The octets spell no value of the type, or its values aren't written.
+    /// The bytes don't encode a value of the type, or its values can't be encoded.
     Der(Error),
-    /// The octets spell no value of the type in the language of TLS, or its values aren't written.
+    /// The bytes don't encode a value of the type in the presentation language of TLS, or its
+    /// values can't be encoded.
     Tls(TlsError),
 }
 

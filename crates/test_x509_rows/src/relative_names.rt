@@ -8,7 +8,7 @@ use std::alloc::{AllocError, Global};
 use x509_cert::name::AttributeSet;
 use x509_cert::{AttributeTypeAndValue, Name, RdnSequence, RelativeDistinguishedName, SetOfIter};
 
-/// What is answered where calls that find no memory are made again: insertions, or pushes.
+/// Returns the result of insertions or pushes, each of which is repeated if memory runs out.
 pub fn again(alloc: Global, rest: &str) -> Result<String, Refusal> {
     match rest.split_once(' ') {
         Some(("push", names)) => pushed_again(alloc, names),
@@ -16,13 +16,13 @@ pub fn again(alloc: Global, rest: &str) -> Result<String, Refusal> {
     }
 }
 
-/// The attribute that hex octets spell.
+/// Decodes an attribute from base 16.
 fn attribute_of(alloc: Global, word: &str) -> Result<AttributeTypeAndValue, Refusal> {
     let octets = octets_of(alloc, word)?;
     Ok(read(alloc, octets.as_slice())?)
 }
 
-/// The attributes that hex octets spell, separated by blanks.
+/// Decodes attributes from base 16, which are separated by spaces.
 fn attributes_of(alloc: Global, words: &str) -> Result<Vec<AttributeTypeAndValue>, Refusal> {
     let mut attributes = Vec::new(alloc);
     for word in words.split(' ') {
@@ -31,7 +31,7 @@ fn attributes_of(alloc: Global, words: &str) -> Result<Vec<AttributeTypeAndValue
     Ok(attributes)
 }
 
-/// The RDN into which attributes are inserted one by one.
+/// Returns the RDN into which the attributes are inserted one at a time.
 pub fn inserted(alloc: Global, words: &str) -> Result<String, Refusal> {
     let mut name = RelativeDistinguishedName::default(alloc);
     for attribute in attributes_of(alloc, words)? {
@@ -40,12 +40,12 @@ pub fn inserted(alloc: Global, words: &str) -> Result<String, Refusal> {
     rdn_written(alloc, &name)
 }
 
-/// What is written of an RDN.
+/// Returns the encoding of an RDN.
 fn rdn_written(alloc: Global, name: &RelativeDistinguishedName) -> Result<String, Refusal> {
     written(alloc, name)
 }
 
-/// What is written of the RDN of an outcome.
+/// Returns the encoding of the RDN of a result.
 pub fn rdn_written_in(
     alloc: Global,
     name: Result<RelativeDistinguishedName, Error>,
@@ -53,7 +53,8 @@ pub fn rdn_written_in(
     rdn_written(alloc, &name?)
 }
 
-/// As `inserted`, where an insertion that finds no memory has to leave the name, and is made again.
+/// Does the same as `inserted`. If memory runs out in an insertion, the name has to be as before,
+/// and the insertion is repeated.
 fn inserted_again(alloc: Global, words: &str) -> Result<String, Refusal> {
     let mut name = RelativeDistinguishedName::default(alloc);
     for word in words.split(' ') {
@@ -62,7 +63,7 @@ fn inserted_again(alloc: Global, words: &str) -> Result<String, Refusal> {
     rdn_written(alloc, &name)
 }
 
-/// Inserts an attribute, at the second call where the first finds no memory.
+/// Inserts an attribute, with a second call if memory runs out in the first.
 fn insert_again(
     alloc: Global,
     name: &mut RelativeDistinguishedName,
@@ -82,7 +83,7 @@ fn insert_again(
     Ok(())
 }
 
-/// The RDN of all attributes at once.
+/// Returns the RDN that is made of all attributes at once.
 pub fn made(alloc: Global, words: &str) -> Result<String, Refusal> {
     rdn_written_in(
         alloc,
@@ -90,14 +91,14 @@ pub fn made(alloc: Global, words: &str) -> Result<String, Refusal> {
     )
 }
 
-/// The RDN that hex octets spell.
+/// Decodes an RDN from base 16.
 fn relative_name_of(alloc: Global, word: &str) -> Result<RelativeDistinguishedName, Refusal> {
     let octets = octets_of(alloc, word)?;
     Ok(RelativeDistinguishedName::from_der(alloc, octets.as_slice())?)
 }
 
-/// The name of the sequence to which RDNs are pushed, where a push that finds no memory
-/// has to leave it, and is made again.
+/// Returns the sequence to which the RDNs are pushed. If memory runs out in a push, the sequence
+/// has to be as before, and the push is repeated.
 fn pushed_again(alloc: Global, words: &str) -> Result<String, Refusal> {
     let mut names = RdnSequence::default(alloc);
     for word in words.split(' ') {
@@ -106,7 +107,7 @@ fn pushed_again(alloc: Global, words: &str) -> Result<String, Refusal> {
     name_written(alloc, Ok(Name::hazmat_from_rdn_sequence(names)))
 }
 
-/// Pushes an RDN, at the second call where the first finds no memory.
+/// Pushes an RDN, with a second call if memory runs out in the first.
 fn push_again(alloc: Global, names: &mut RdnSequence, word: &str) -> Result<(), Refusal> {
     let before = described(alloc, names)?;
     let Err(AllocError) = names.push(relative_name_of(alloc, word)?) else {
@@ -119,7 +120,7 @@ fn push_again(alloc: Global, names: &mut RdnSequence, word: &str) -> Result<(), 
     Ok(())
 }
 
-/// What is written of a sequence whose RDNs are turned round in the list that it lends.
+/// Reverses the RDNs of a sequence, and returns the encoding of the sequence.
 pub fn turned(alloc: Global, octets: &str) -> Result<String, Refusal> {
     let octets = octets_of(alloc, octets)?;
     let mut sequence: RdnSequence = read(alloc, octets.as_slice())?;
@@ -127,20 +128,20 @@ pub fn turned(alloc: Global, octets: &str) -> Result<String, Refusal> {
     described(alloc, &sequence)
 }
 
-/// How many attributes an RDN has, and what is written of each.
+/// Returns the number of attributes of an RDN, and their encodings.
 pub fn members(alloc: Global, octets: &str) -> Result<String, Refusal> {
     let name = relative_name_of(alloc, octets)?;
     members_in(alloc, name.iter())
 }
 
-/// As `members`, of the list that the RDN becomes.
+/// Does the same as `members`, for the list that the RDN is converted to.
 pub fn listed(alloc: Global, octets: &str) -> Result<String, Refusal> {
     let set = AttributeSet::from(relative_name_of(alloc, octets)?);
     let attributes = set.into_vec()?;
     members_in(alloc, attributes.as_slice().iter())
 }
 
-/// How many attributes these are, and what is written of each.
+/// Returns the number of these attributes, and their encodings.
 fn members_in(
     alloc: Global,
     members: SetOfIter<'_, AttributeTypeAndValue>,

@@ -1,4 +1,4 @@
-//! Questions about CSRs, paths and names.
+//! Answers questions about CSRs, paths and names.
 
 use crate::profiles;
 use crate::questions::{
@@ -14,7 +14,7 @@ use x509_cert::{
     ExtensionReq, Name, RdnSequence, RelativeDistinguishedName,
 };
 
-/// The answer of a type that this page names, or one after it.
+/// Returns the answer for a type that this module names, or that a later module names.
 pub fn answer(alloc: Global, kind: &str, question: &Question<'_>) -> Result<String, Refusal> {
     match kind {
         "CertReq" => answer_of_copied(alloc, question, CertReq::clone),
@@ -30,7 +30,7 @@ pub fn answer(alloc: Global, kind: &str, question: &Question<'_>) -> Result<Stri
     }
 }
 
-/// The answer of a name or a part of one, or of a type after it.
+/// Returns the answer for a name or a part of one, or for a later type.
 fn answer_of_names(alloc: Global, kind: &str, question: &Question<'_>) -> Result<String, Refusal> {
     match kind {
         "Name" => answer_of_value::<Name>(alloc, question),
@@ -49,7 +49,7 @@ fn answer_of_names(alloc: Global, kind: &str, question: &Question<'_>) -> Result
     }
 }
 
-/// The values of an attribute: how many they are, each in turn, and the one at an index.
+/// Returns the number of values of an attribute, each of them, and the one at an index.
 pub fn values_of(alloc: Global, index: &str, octets: &str) -> Result<String, Refusal> {
     let index = index.parse::<usize>()?;
     let attribute = attribute_of(alloc, octets)?;
@@ -57,7 +57,7 @@ pub fn values_of(alloc: Global, index: &str, octets: &str) -> Result<String, Ref
     joined(listed(alloc, values), "; ", value_at(alloc, values, index))
 }
 
-/// What is written of an attribute once a value was placed among its own.
+/// Adds a value to an attribute and returns the encoding of the attribute.
 pub fn value_placed(alloc: Global, value: &str, octets: &str) -> Result<String, Refusal> {
     let value = octets_of(alloc, value)?;
     let mut attribute = attribute_of(alloc, octets)?;
@@ -67,13 +67,13 @@ pub fn value_placed(alloc: Global, value: &str, octets: &str) -> Result<String, 
     described(alloc, &attribute)
 }
 
-/// The attribute that hex octets spell.
+/// Decodes an attribute from base 16.
 fn attribute_of(alloc: Global, octets: &str) -> Result<Attribute, Refusal> {
     let octets = octets_of(alloc, octets)?;
     Ok(read(alloc, octets.as_slice())?)
 }
 
-/// How many values there are, and what is written of each.
+/// Returns the number of values, and their encodings.
 fn listed(alloc: Global, values: &StrictSetOf<AttributeValue>) -> Result<String, Refusal> {
     if values.is_empty() {
         return shown(alloc, "0");
@@ -86,7 +86,7 @@ fn listed(alloc: Global, values: &StrictSetOf<AttributeValue>) -> Result<String,
     Ok(text)
 }
 
-/// What is written of the value at an index, if there is one.
+/// Returns the encoding of the value at an index, if there is one.
 fn value_at(
     alloc: Global,
     values: &StrictSetOf<AttributeValue>,

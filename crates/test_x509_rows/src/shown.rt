@@ -1,7 +1,7 @@
-//! What is answered of values, and of outcomes that may be refusals.
+//! The texts of answers.
 //!
-//! Each answer is one call. A `?` costs the check more than a call, and most where a value is held
-//! that has to be dropped.
+//! Each answer is one call, because a `?` costs the check more than a call, and most if a value
+//! that needs to be dropped is owned there.
 
 use crate::refusals::Refusal;
 use der_core::describing::{DecodeWay, Described};
@@ -11,12 +11,12 @@ use std::fmt;
 use std::fmt::Display;
 use x509_cert::{Any, Rfc5280, SerialNumber};
 
-/// What a value prints.
+/// Returns the text of a value.
 pub fn shown<T: Display + Drop>(alloc: Global, value: T) -> Result<String, Refusal> {
     Ok(value.to_string(alloc)?)
 }
 
-/// What the value of an outcome prints.
+/// Returns the text of the value of a result.
 pub fn printed<T: Display + Drop>(
     alloc: Global,
     outcome: Result<T, Error>,
@@ -24,22 +24,22 @@ pub fn printed<T: Display + Drop>(
     shown(alloc, outcome?)
 }
 
-/// Octets, in hex.
+/// Returns bytes in base 16.
 pub fn hex_of(alloc: Global, octets: &[u8]) -> Result<String, Refusal> {
     Ok(hex::encode(alloc, octets)?)
 }
 
-/// The octets of an outcome, in hex.
+/// Returns the bytes of a result in base 16.
 pub fn hex_in(alloc: Global, outcome: Result<Vec<u8>, Error>) -> Result<String, Refusal> {
     hex_of(alloc, outcome?.as_slice())
 }
 
-/// The octets of a value, in hex.
+/// Returns the encoding of a value in base 16.
 pub fn written<T: Encode>(alloc: Global, value: &T) -> Result<String, Refusal> {
     hex_in(alloc, value.to_der(alloc))
 }
 
-/// The octets of the value of an outcome, in hex.
+/// Returns the encoding of the value of a result in base 16.
 pub fn written_in<T: Encode + Drop>(
     alloc: Global,
     outcome: Result<T, Error>,
@@ -47,8 +47,8 @@ pub fn written_in<T: Encode + Drop>(
     written(alloc, &outcome?)
 }
 
-/// The value of a type that names its way, which octets spell by DER. What the way gives is then
-/// checked here, and not where the type is named.
+/// Decodes a value of a `Described` type by DER. This function is generic, so that the decoder is
+/// checked once, and not at each place that names a type.
 pub fn read<'a, T: Described + FixedTag + Drop>(alloc: Global, octets: &'a [u8]) -> Result<T, Error>
 where
     T::By: DecodeWay<'a, SliceReader<'a>, T>,
@@ -56,7 +56,7 @@ where
     value_in(alloc, octets)
 }
 
-/// The value of a type with one tag, which octets spell by DER.
+/// Decodes a value with one tag by DER.
 fn value_in<'a, T: DecodeValue<'a, SliceReader<'a>> + FixedTag>(
     alloc: Global,
     octets: &'a [u8],
@@ -64,8 +64,7 @@ fn value_in<'a, T: DecodeValue<'a, SliceReader<'a>> + FixedTag>(
     T::from_der(alloc, octets)
 }
 
-/// The values of the list that octets spell by DER. They are any here, so that the list is checked
-/// here alone.
+/// Decodes the values of a list by DER. It is generic, so that the list is checked only here.
 pub fn list_in<'a, T: Decode<'a, SliceReader<'a>>>(
     alloc: Global,
     octets: &'a [u8],
@@ -73,12 +72,12 @@ pub fn list_in<'a, T: Decode<'a, SliceReader<'a>>>(
     Vec::from_der(alloc, octets)
 }
 
-/// As `written`, of such a type.
+/// Does the same as `written`, for a `Described` type.
 pub fn described<T: Described + FixedTag>(alloc: Global, value: &T) -> Result<String, Refusal> {
     written(alloc, value)
 }
 
-/// As `written_in`, of such a type.
+/// Does the same as `written_in`, for a `Described` type.
 pub fn described_in<T: Described + FixedTag + Drop>(
     alloc: Global,
     outcome: Result<T, Error>,
@@ -86,7 +85,7 @@ pub fn described_in<T: Described + FixedTag + Drop>(
     written(alloc, &outcome?)
 }
 
-/// As `written_in`, of a serial number.
+/// Does the same as `written_in`, for a serial number.
 pub fn serial_written_in(
     alloc: Global,
     outcome: Result<SerialNumber<Rfc5280>, Error>,
@@ -94,12 +93,12 @@ pub fn serial_written_in(
     described_in(alloc, outcome)
 }
 
-/// The octets of any value, in hex.
+/// Returns the encoding of a value of any type in base 16.
 pub fn any_written(alloc: Global, value: &Any) -> Result<String, Refusal> {
     written(alloc, value)
 }
 
-/// What is answered, or why nothing is.
+/// Returns the text of a result, or of its error.
 pub fn or_refusal(alloc: Global, answer: Result<String, Refusal>) -> Result<String, Refusal> {
     match answer {
         Err(refusal) => shown(alloc, refusal),
@@ -107,8 +106,7 @@ pub fn or_refusal(alloc: Global, answer: Result<String, Refusal>) -> Result<Stri
     }
 }
 
-/// Two answers, and what stands between them. Each is held here alone, and the first refusal is
-/// told.
+/// Returns two answers and the text between them, or the first error. Only this function owns them.
 pub fn joined(
     first: Result<String, Refusal>,
     between: &str,
@@ -120,12 +118,12 @@ pub fn joined(
     Ok(text)
 }
 
-/// The octets that hexadecimal digits spell.
+/// Decodes base 16.
 pub fn octets_of(alloc: Global, digits: &str) -> Result<Vec<u8>, Refusal> {
     Ok(hex::decode(alloc, digits.as_bytes())?)
 }
 
-/// The octets of a text: two hexadecimal digits for each, or a dash for none.
+/// Decodes base 16, where a dash means no bytes.
 pub fn dashed_octets_of(alloc: Global, text: &str) -> Result<Vec<u8>, Refusal> {
     match text {
         "" => Err(Refusal::Unread),
@@ -134,7 +132,7 @@ pub fn dashed_octets_of(alloc: Global, text: &str) -> Result<Vec<u8>, Refusal> {
     }
 }
 
-/// Octets, in hex; a dash for none.
+/// Bytes in base 16, with a dash for none.
 #[derive(Clone, Copy)]
 pub struct Dashed<'a>(pub &'a [u8]);
 

@@ -6,7 +6,7 @@ use std::alloc::Global;
 use std::fmt::Write;
 use x509_cert::timestamps::{SerializedSct, SignedCertificateTimestampList, TlsError, TlsValue};
 
-/// The octets of each timestamp of the list that octets spell.
+/// Decodes a list of timestamps and returns the bytes of each.
 pub fn members_of(alloc: Global, octets: &str) -> Result<String, Refusal> {
     let octets = dashed_octets_of(alloc, octets)?;
     let list: SignedCertificateTimestampList = read(alloc, octets.as_slice())?;
@@ -14,7 +14,7 @@ pub fn members_of(alloc: Global, octets: &str) -> Result<String, Refusal> {
     members_in(alloc, members.as_slice())
 }
 
-/// The octets of each of these timestamps.
+/// Returns the bytes of each of these timestamps.
 fn members_in(alloc: Global, members: &[SerializedSct]) -> Result<String, Refusal> {
     let mut text = String::new(alloc);
     for member in members {
@@ -26,7 +26,7 @@ fn members_in(alloc: Global, members: &[SerializedSct]) -> Result<String, Refusa
     Ok(text)
 }
 
-/// The octets of a member of a list, which stand after two octets that count them.
+/// Returns the bytes of a member of a list, which follow a length of two bytes.
 fn member_octets(alloc: Global, member: &SerializedSct) -> Result<Vec<u8>, Refusal> {
     let counted = member.tls_serialize(alloc)?;
     match counted.as_slice() {
@@ -35,7 +35,7 @@ fn member_octets(alloc: Global, member: &SerializedSct) -> Result<Vec<u8>, Refus
     }
 }
 
-/// The member of a list of these octets: they are read after two octets that count them.
+/// Returns the member of a list with these bytes, which are decoded after a length of two bytes.
 pub fn member_of(alloc: Global, octets: &str) -> Result<SerializedSct, Refusal> {
     let octets = dashed_octets_of(alloc, octets)?;
     let Ok(len) = u16::try_from(octets.len()) else {
@@ -47,8 +47,7 @@ pub fn member_of(alloc: Global, octets: &str) -> Result<SerializedSct, Refusal> 
     Ok(member)
 }
 
-/// What is written of the list of the timestamps that these octets spell, each read and written
-/// again.
+/// Decodes these timestamps, and returns the encoding of the list of their encodings.
 pub fn list_read(alloc: Global, members: &str) -> Result<String, Refusal> {
     let mut timestamps = Vec::new(alloc);
     for octets in members.split_whitespace() {
@@ -57,13 +56,13 @@ pub fn list_read(alloc: Global, members: &str) -> Result<String, Refusal> {
     list_written(alloc, timestamps.as_slice())
 }
 
-/// The timestamp that octets spell, read and written again.
+/// Decodes a timestamp and encodes it again.
 fn read_again(alloc: Global, octets: &str) -> Result<SerializedSct, Refusal> {
     let timestamp = member_of(alloc, octets)?.parse_timestamp(alloc)?;
     Ok(SerializedSct::new(alloc, timestamp)?)
 }
 
-/// What is written of the list of timestamps of these octets.
+/// Returns the encoding of the list of timestamps with these bytes.
 pub fn list_of(alloc: Global, members: &str) -> Result<String, Refusal> {
     let mut timestamps = Vec::new(alloc);
     for octets in members.split_whitespace() {
@@ -72,7 +71,7 @@ pub fn list_of(alloc: Global, members: &str) -> Result<String, Refusal> {
     list_written(alloc, timestamps.as_slice())
 }
 
-/// What is written of the list of these timestamps.
+/// Returns the encoding of the list of these timestamps.
 fn list_written(alloc: Global, timestamps: &[SerializedSct]) -> Result<String, Refusal> {
     let list = SignedCertificateTimestampList::new(alloc, timestamps)?;
     described(alloc, &list)

@@ -8,7 +8,7 @@ use crate::tls_values::{blank_timestamp, length_of, length_of_list};
 use std::alloc::Global;
 use x509_cert::timestamps::SignedCertificateTimestamp;
 
-/// The answer to a question about timestamps, or to one about a type.
+/// Answers a question about timestamps, or about a type.
 pub fn answer(alloc: Global, word: &str, rest: &str) -> Result<String, Refusal> {
     match word {
         "members" => members_of(alloc, rest),
@@ -22,13 +22,13 @@ pub fn answer(alloc: Global, word: &str, rest: &str) -> Result<String, Refusal> 
     }
 }
 
-/// The parts of the timestamp that octets spell.
+/// Decodes a timestamp and returns its parts.
 fn parts_of(alloc: Global, octets: &str) -> Result<String, Refusal> {
     let timestamp = member_of(alloc, octets)?.parse_timestamp(alloc)?;
     parts_in(alloc, &timestamp)
 }
 
-/// The parts of a timestamp.
+/// Returns the parts of a timestamp.
 fn parts_in(alloc: Global, timestamp: &SignedCertificateTimestamp) -> Result<String, Refusal> {
     let date = timestamp.timestamp()?;
     let version = &timestamp.version;
@@ -43,7 +43,7 @@ fn parts_in(alloc: Global, timestamp: &SignedCertificateTimestamp) -> Result<Str
     )?)
 }
 
-/// The date of a timestamp of so many milliseconds, which has nothing else in it.
+/// Returns the date of a timestamp with that many milliseconds, which is otherwise empty.
 fn date_of(alloc: Global, milliseconds: &str) -> Result<String, Refusal> {
     let timestamp = blank_timestamp(alloc, milliseconds.parse()?, Vec::new(alloc));
     shown(alloc, timestamp.timestamp()?)

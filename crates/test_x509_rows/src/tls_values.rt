@@ -11,7 +11,7 @@ use x509_cert::timestamps::{
     TlsValue, Version,
 };
 
-/// What is written of the value of a type that octets begin with, and the octets after it.
+/// Returns the encoding of the value of a type with which the bytes begin, and the bytes after it.
 pub fn rewritten(alloc: Global, kind: &str, octets: &str) -> Result<String, Refusal> {
     let octets = dashed_octets_of(alloc, octets)?;
     let octets = octets.as_slice();
@@ -28,7 +28,7 @@ pub fn rewritten(alloc: Global, kind: &str, octets: &str) -> Result<String, Refu
     }
 }
 
-/// What is written of the value that octets begin with, and the octets after it.
+/// Returns the encoding of the value with which the bytes begin, and the bytes after it.
 fn written<T: TlsValue>(alloc: Global, octets: &[u8]) -> Result<String, Refusal> {
     let (value, rest) = T::tls_deserialize_bytes(alloc, octets)?;
     let output = value.tls_serialize(alloc)?;
@@ -38,27 +38,28 @@ fn written<T: TlsValue>(alloc: Global, octets: &[u8]) -> Result<String, Refusal>
     Ok(format!(in alloc; "{} {}", Dashed(output.as_slice()), Dashed(rest))?)
 }
 
-/// How many octets spell the timestamp of so many octets.
+/// Returns the length of the encoding of a timestamp of that many bytes.
 pub fn length_of(alloc: Global, count: &str) -> Result<String, Refusal> {
     let octets = timestamp_of(alloc, count)?.tls_serialize(alloc)?;
     shown(alloc, octets.len())
 }
 
-/// How many octets spell the list of one timestamp of so many octets.
+/// Returns the length of the encoding of the list of one timestamp of that many bytes.
 pub fn length_of_list(alloc: Global, count: &str) -> Result<String, Refusal> {
     let timestamp = timestamp_of(alloc, count)?;
     let list = SignedCertificateTimestampList::new(alloc, slice::from_ref(&timestamp))?;
     shown(alloc, list.to_der(alloc)?.len())
 }
 
-/// A timestamp of so many octets, all zero, of which 47 stand beside its extensions.
+/// Returns a timestamp of that many bytes, all of them zero. All but 47 of them are in its
+/// extensions.
 fn timestamp_of(alloc: Global, count: &str) -> Result<SerializedSct, Refusal> {
     let count: usize = count.parse()?;
     let extensions = vec![in alloc; 0u8; count.saturating_sub(47)]?;
     Ok(SerializedSct::new(alloc, blank_timestamp(alloc, 0, extensions))?)
 }
 
-/// A timestamp of so many milliseconds with these extensions, and nothing else in it.
+/// Returns a timestamp with that many milliseconds and these extensions, which is otherwise empty.
 pub fn blank_timestamp(
     alloc: Global,
     timestamp: u64,

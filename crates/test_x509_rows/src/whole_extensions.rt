@@ -1,4 +1,4 @@
-//! Questions about the extensions that a certificate has.
+//! Answers questions about the extensions of a certificate.
 
 use crate::refusals::Refusal;
 use crate::shown::{octets_of, shown, written};
@@ -7,13 +7,13 @@ use der_core::{Decode, Encode, Error, SliceReader};
 use std::alloc::Global;
 use x509_cert::{CertificateInner, KeyUsage, Raw, TbsCertificateInner};
 
-/// The certificate that octets spell.
+/// Decodes a certificate.
 pub fn certificate_of(alloc: Global, digits: &str) -> Result<CertificateInner<Raw>, Refusal> {
     let octets = octets_of(alloc, digits)?;
     Ok(CertificateInner::<Raw>::from_der(alloc, octets.as_slice())?)
 }
 
-/// The one value of a type that a certificate has.
+/// Returns the single value of a type among the extensions of a certificate.
 pub fn got<'a, T: Decode<'a, SliceReader<'a>> + Encode + AssociatedOid + Drop>(
     alloc: Global,
     certificate: &'a TbsCertificateInner<Raw>,
@@ -24,20 +24,20 @@ pub fn got<'a, T: Decode<'a, SliceReader<'a>> + Encode + AssociatedOid + Drop>(
     }
 }
 
-/// Whether an extension is critical, and its content.
+/// Returns whether an extension is critical, and its content.
 fn content_of<T: Encode>(alloc: Global, is_critical: bool, value: &T) -> Result<String, Refusal> {
     let critical = if is_critical { "critical " } else { "" };
     let content = written(alloc, value)?;
     Ok(format!(in alloc; "{critical}{content}")?)
 }
 
-/// All key usages that a certificate has.
+/// Returns all key usages of a certificate.
 pub fn usages_of(alloc: Global, octets: &str) -> Result<String, Refusal> {
     let certificate = certificate_of(alloc, octets)?;
     all_of::<KeyUsage>(alloc, certificate.tbs_certificate())
 }
 
-/// All values of a type that the signed part of a certificate has.
+/// Returns all values of a type among the extensions of a TBSCertificate.
 fn all_of<'a, T: Decode<'a, SliceReader<'a>> + Encode + AssociatedOid>(
     alloc: Global,
     certificate: &'a TbsCertificateInner<Raw>,
@@ -53,7 +53,7 @@ fn all_of<'a, T: Decode<'a, SliceReader<'a>> + Encode + AssociatedOid>(
     Ok(text)
 }
 
-/// A value of a certificate, or why it is refused.
+/// Returns a value of a certificate, or why it is rejected.
 fn value_or_refusal<T: Encode + Drop>(
     alloc: Global,
     value: Result<(bool, T), Error>,

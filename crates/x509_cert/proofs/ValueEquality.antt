@@ -1,4 +1,5 @@
--- `==` of the choices in extensions and of trust anchors is of plain values.
+-- Lemmas about equality: `==` of the choices in extensions and of trust anchors compares their
+-- abstract values.
 use denote.RattleType.{RattleType}
 use Rattle.std.proofs.Common.{◌≡◌, ℕ, Bool, Option, pos, refl, ap, arith, nat_eq}
 use Rattle.std.specs.Cmp.Lexicographic.{pointwise, bytes_decides}

@@ -1,4 +1,4 @@
--- What a builder of CRLs signs (RFC 5280 5.1.2).
+-- The signed part of a CRL that a builder makes (RFC 5280 5.1.2).
 use Rattle.std.specs.Prelude.{◌≡◌, ◌⊎◌, ℕ, List, [], Bool, false, pos, Option, Some, None}
 use Rattle.std.specs.Prelude.{Result, Ok, Err}
 use Rattle.x509_cert_anchors.specs.Oid.Bound.{Bound}
@@ -21,69 +21,72 @@ use Rattle.x509_cert_anchors.specs.CertGeneralNames.GeneralNames.{authority_key_
 use Rattle.x509_cert_builders.specs.CertExtensions.Making.{extension_of}
 use Rattle.x509_cert_builders.specs.Refusals.{HasNoEncoding}
 
--- a certificate that was revoked (5.1.2.6)
+-- The abstract value of an entry: a revoked certificate (5.1.2.6).
 abbrev pub PlainEntry : Type 0
 PlainEntry = BodyValue (revoked_cert_fields 0 None)
 
--- the part of a list that is signed
+-- The abstract value of the signed part of a CRL.
 abbrev pub PlainList : Type 0
 PlainList = BodyValue (tbs_cert_list_fields 0 None)
 
--- TBSCertList, whose serial numbers have at most so many content bytes, if there is such a number
+-- TBSCertList (5.1.2), with at most `limit` content bytes in serial numbers, if they are limited.
 abbrev pub list_part : Option ℕ → Shape
 list_part limit = sequence (tbs_cert_list_fields Bound limit)
 
--- an entry, whatever serial numbers are read, and the field of entries
+-- An entry with a serial number of any length, and the field that contains the entries.
 abbrev pub raw_entry : Shape
 raw_entry = sequence (revoked_cert_fields Bound None)
 
 abbrev pub entries_field : Shape
 entries_field = optional (sequence_of raw_entry)
 
--- the field of extensions
+-- The field that contains the extensions of a CRL.
 abbrev pub extensions_field : Shape
 extensions_field = optional (explicit 0 (extensions Bound))
 
--- AuthorityKeyIdentifier (4.2.1.1)
+-- The abstract value of AuthorityKeyIdentifier (4.2.1.1).
 abbrev pub PlainAuthority : Type 0
 PlainAuthority = BodyValue (authority_key_identifier_fields 0)
 
+-- The shape of AuthorityKeyIdentifier (4.2.1.1).
 abbrev pub authority_key : Shape
 authority_key = sequence (authority_key_identifier_fields Bound)
 
--- the authority key identifier of a certificate, where it has one, or else the identifier of the
--- certified key alone: the SHA-1 digest of its bytes (4.2.1.2)
+-- The authority key identifier of a certificate or, if there is none, one with only the key
+-- identifier of the key: the SHA-1 digest of its bytes (4.2.1.2).
 abbrev pub given_or_made : PublicKey → Option (Bool × PlainAuthority) → PlainAuthority
 given_or_made k None = (Some (sha1 (key_bits k).octets), (None, (None, tt)))
 given_or_made k (Some found) = found.1
 
--- The key under which an issuer signs lists: its own authority key identifier. Two are rejected,
--- and one whose content isn't an encoding.
+-- The authority key identifier for the CRLs of an issuer: a copy of the one in its certificate. Two
+-- of them are rejected, and so is one whose content can't be decoded.
 abbrev pub issuing_key : Tbs → Result PlainAuthority ErrorKind
 issuing_key t =
     only_value authority_key (identifier_of types.authority_key_identifier)
     (extensions_in_field (tbs_extensions t))
     >>= λ (found : Option (Bool × PlainAuthority)). Ok (given_or_made (tbs_public_key t) found)
 
--- CRLNumber ::= INTEGER (0..MAX) (5.2.3)
+-- CRLNumber ::= INTEGER (0..MAX) (5.2.3).
 abbrev pub crl_number : Shape
 crl_number = tagged tags.Integer (leaf (integer natural))
 
+-- The extension CRLNumber of a CRL (5.2.3).
 abbrev pub number_extension : ℕ → PlainExtension
 number_extension n = extension_of (id_ce 20) false crl_number (pos n)
 
--- the key under which the list is signed (5.2.1)
+-- The extension AuthorityKeyIdentifier of a CRL (5.2.1).
 abbrev pub key_extension : PlainAuthority → PlainExtension
 key_extension a = extension_of (id_ce 35) false authority_key a
 
--- Why a list has no such extensions: its issuer has no such key, or one of the two has no encoding,
--- as where a length exceeds 2^32 - 1.
+-- The error if the extensions of a CRL can't be made: the issuer's authority key identifier is
+-- rejected, or one of the two extensions has no encoding, for example because a length exceeds 2^32
+-- - 1.
 abbrev pub HasNoExtensions : ℕ → Result PlainAuthority ErrorKind → ErrorKind → Type 0
 HasNoExtensions n (Err fault) kind = kind ≡ fault
 HasNoExtensions n (Ok key) kind =
     HasNoEncoding crl_number (pos n) kind ⊎ HasNoEncoding authority_key key kind
 
--- the certificates of a list; where the field is absent there are none
+-- The entries of a CRL: none if the field is absent.
 abbrev pub entries : Option (List PlainEntry) → List PlainEntry
 entries None = []
 entries (Some es) = es

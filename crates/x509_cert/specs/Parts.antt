@@ -1,4 +1,4 @@
--- What is said of names and of the parts of certificates, under one name.
+-- Definitions for names and for the parts of certificates, under one name.
 pub use Rattle.x509_cert_lists.specs.Types.Anys.{any_lent}
 pub use Rattle.x509_cert_lists.specs.Types.Contents.{content_as, written_as}
 pub use Rattle.x509_cert_lists.specs.CertNames.DirectoryStrings.{directory_plain}

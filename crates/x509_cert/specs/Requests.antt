@@ -1,4 +1,4 @@
--- What a builder of CSRs signs (RFC 2986 4.1).
+-- The signed part of a CSR that a builder makes (RFC 2986 4.1).
 use Rattle.std.specs.Prelude.{◌≡◌, ◌⊎◌, List, pos, true, Result, Ok, Err, IsOk}
 use Rattle.x509_cert_anchors.specs.Oid.Bound.{Bound}
 use Rattle.x509_cert_anchors.specs.Der.Placed.{placed, stands_among}
@@ -11,31 +11,31 @@ use Rattle.x509_cert_builders.specs.declared.build_error.Error.{Error}
 use Rattle.x509_cert_lists.specs.CertNames.Names.{PlainAttribute, PlainName, attribute}
 use Rattle.x509_cert_lists.specs.CertParts.Grammar.{PlainExtension, PublicKey}
 
--- the part of a request that is signed
+-- The abstract value of the signed part of a CSR.
 abbrev pub PlainInfo : Type 0
 PlainInfo = BodyValue (cert_req_info_fields 0)
 
--- CertificationRequestInfo
+-- CertificationRequestInfo (RFC 2986 4.1).
 abbrev pub request_part : Shape
 request_part = sequence (cert_req_info_fields Bound)
 
--- why an attribute isn't added: there is none, it has no encoding, as where it has 2^32 bytes or
--- more, or it stands among these
+-- The error if an attribute isn't added: it can't be made, it has no encoding, or the CSR already
+-- contains it.
 abbrev pub IsNotAdded : Result PlainAttribute ErrorKind → List PlainAttribute → Error → Type 0
 IsNotAdded (Err kind) others e = IsOfKind kind e
 IsNotAdded (Ok a) others e =
     IsUnwritten (attribute Bound) a e
     ⊎ (IsOfKind kinds.SetDuplicate e × (stands_among (attribute Bound) a others ≡ true))
 
--- the other attributes with the request for extensions among them, where a length can count its
--- bytes (RFC 2985 5.4.2)
+-- The other attributes and the attribute extensionRequest, if its encoding has fewer than 2^32
+-- bytes (RFC 2985 5.4.2).
 abbrev pub with_request : Result PlainAttribute ErrorKind → List PlainAttribute
     → List PlainAttribute
 with_request (Ok a) others = placed (attribute Bound) a others
 with_request (Err e) others = others
 
--- the part that a signer of a key signs: version 1, with the request for extensions among the
--- attributes
+-- The part that a signer with this key signs: version 1, with extensionRequest among the
+-- attributes.
 abbrev pub request_of : PlainName → List PlainExtension → List PlainAttribute → PublicKey
     → PlainInfo
 request_of subject extensions attributes key = (
@@ -43,12 +43,13 @@ request_of subject extensions attributes key = (
   (subject, (key, (with_request (extension_req_attribute Bound extensions) attributes, tt))),
 )
 
--- the request for extensions is made, and the part with it has an encoding
+-- The attribute extensionRequest can be made, and the part with it has an encoding.
 abbrev pub IsRequested : PlainName → List PlainExtension → List PlainAttribute → PublicKey → Type 0
 IsRequested subject extensions attributes key = IsOk (extension_req_attribute Bound extensions)
     × IsValid request_part (request_of subject extensions attributes key)
 
--- an attribute can't be made, or has no encoding, as where it has 2^32 bytes or more
+-- The error if an attribute can't be made or has no encoding, for example because it would have
+-- 2^32 bytes or more.
 abbrev pub HasNoAttribute : Result PlainAttribute ErrorKind → Error → Type 0
 HasNoAttribute (Err kind) e = IsOfKind kind e
 HasNoAttribute (Ok a) e = IsUnwritten (attribute Bound) a e

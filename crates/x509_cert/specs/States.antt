@@ -1,4 +1,4 @@
--- What contracts see of builders.
+-- The states of builders.
 use Rattle.std.specs.Prelude.{List, pos, Option, Some, None}
 use Rattle.x509_cert_anchors.specs.Der.Grammar.{plain_list, plain_option}
 use Rattle.x509_cert_lists.specs.CertParts.Grammar.{Algorithm, PlainExtension, PlainTime}
@@ -13,8 +13,8 @@ use Rattle.x509_cert.specs.declared.crl_builder.CrlBuilder.TheInside as lists
 use Rattle.x509_cert.specs.declared.request_builder.RequestBuilder.TheInside
     as requests
 
--- a builder of CRLs: who signs the list, its dates, the certificates that were revoked
--- if the field stands, the list's extensions, and the part that was made last, if there is one
+-- The state of a builder of CRLs: the issuer, the dates, the entries if the field is present, the
+-- extensions of the CRL, and the part of the last `finalize`, if any.
 pub record ListState : Type 0 where
   pub issuer : PlainName
   pub this_update : PlainTime
@@ -23,6 +23,7 @@ pub record ListState : Type 0 where
   pub extensions : List PlainExtension
   pub finalized : Option PlainList
 
+-- The state that the fields of a builder of CRLs represent.
 abbrev pub list_state : {P : Type 0} → lists.Inside P → ListState
 list_state b = record {
   issuer = name_plain b.issuer;
@@ -33,25 +34,26 @@ list_state b = record {
   finalized = plain_option tbs_cert_list_plain b.finalized;
 }
 
--- the part of the list that a signer of an algorithm signs: version 2, with its extensions (RFC
--- 5280 5.1.2.1, 5.1.2.7)
+-- The part that a signer with this algorithm signs: version 2, with the extensions (RFC 5280
+-- 5.1.2.1, 5.1.2.7).
 abbrev pub list_of : ListState → Algorithm → PlainList
 list_of b a =
     (pos 1, (a, (b.issuer, (b.this_update, (b.next_update, (b.revoked, (Some b.extensions, tt)))))))
 
--- the algorithm of the part that was made last, or where there is none this one
+-- The algorithm of the part of the last `finalize`, or `a` if there is none.
 abbrev pub list_algorithm_of_last : Option PlainList → Algorithm → Algorithm
 list_algorithm_of_last None a = a
 list_algorithm_of_last (Some t) a = t.1.0
 
--- a builder of requests: whose key it is, the extensions that are asked for, the other attributes
--- in ascending order, and the part that was made last, if there is one
+-- The state of a builder of CSRs: the subject, the extensions that the CSR asks for, the other
+-- attributes in ascending order of their encodings, and the part of the last `finalize`, if any.
 pub record RequestState : Type 0 where
   pub subject : PlainName
   pub extensions : List PlainExtension
   pub attributes : List PlainAttribute
   pub finalized : Option PlainInfo
 
+-- The state that the fields of a builder of CSRs represent.
 abbrev pub request_state : requests.Inside → RequestState
 request_state b = record {
   subject = name_plain b.subject;

@@ -1,5 +1,5 @@
-//! Builders for certificates, CRLs and CSRs. The bytes that a signer gets are those of the signed
-//! part of the result (RFC 5280 4, 5; RFC 2986 4).
+//! Builders of certificates, CRLs and CSRs (RFC 5280 4, 5; RFC 2986 4). The bytes that a signer
+//! receives are those of the signed part in the encoding of the result.
 
 pub mod profile;
 

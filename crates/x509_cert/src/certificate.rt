@@ -5,8 +5,8 @@ pub use x509_cert_builders::cert_certificates::{
 };
 pub use x509_cert_lists::cert_parts::{Profile, Raw, Rfc5280, Version};
 
-/// A list of certificates, meant as a path in which each one signs the next (X.509 7.7, RFC 6066
-/// 10.1). Nothing checks that: the type is decoded and encoded as any list of certificates.
+/// A list of certificates that is meant as a chain, in which each certificate signs the next (X.509
+/// 7.7, RFC 6066 10.1). Decoding doesn't check this.
 ///
 /// ```text
 /// PkiPath ::= SEQUENCE OF Certificate

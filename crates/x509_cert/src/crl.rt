@@ -1,3 +1,3 @@
-//! Lists of revoked certificates (RFC 5280 5.1).
+//! CRLs (RFC 5280 5.1).
 
 pub use x509_cert_lists::{CertificateList, RevokedCert, TbsCertList};

@@ -1,5 +1,3 @@
-//! Builders of CRLs.
-
 ghost use Rattle.std.specs.Prelude.{◌≡◌, ◌⊎◌, ◌++◌, ◌∷◌, [], Ok, Err, Some, None, IfOk, IfErr};
 ghost use Rattle.std.specs.Prelude.{OnOk, OnErr};
 ghost use Rattle.std.specs.Iterator.{IsFinite};
@@ -40,10 +38,11 @@ use x509_cert_lists::cert_parts::{
 use x509_cert_lists::types::BitString;
 use x509_cert_lists::{CertificateList, RevokedCert, TbsCertList};
 
-/// A builder for CRLs (RFC 5280 5.1). The CRL has version 2, a CRL number, and an authority key
+/// A builder of CRLs (RFC 5280 5.1). The CRL has version 2, a CRL number, and an authority key
 /// identifier.
 ///
-/// Contracts see the fields that are set, and the part that was made last.
+/// In contracts, its value is a `ListState`: the fields that are set, and the part of the last
+/// `finalize`.
 #[derive(Drop)]
 pub struct CrlBuilder<P = Rfc5280> {
     issuer: Name,
@@ -62,7 +61,11 @@ impl<P> Model for CrlBuilder<P> {
     ghost view = { list_state };
 }
 
-/// Returns an authority key identifier that has only the identifier of a key.
+/// Returns an authority key identifier with only the key identifier of this key.
+///
+/// # Errors
+///
+/// - `OutOfMemory`: memory runs out.
 fn authority_identifier_of(
     alloc: Global,
     key: &SubjectPublicKeyInfo,
@@ -78,8 +81,14 @@ fn authority_identifier_of(
     Ok(AuthorityKeyIdentifier::try_from_key(alloc, &key)?)
 }
 
-/// Returns the key under which an issuer signs: its own authority key identifier, or else one of
-/// its key.
+/// Returns the authority key identifier for the CRLs of this issuer: a copy of the one in its
+/// certificate or, if there is none, one with only the key identifier of its key.
+///
+/// # Errors
+///
+/// - `Failed`: the issuer has two authority key identifiers.
+/// - The first error of its authority key identifier.
+/// - `OutOfMemory`: memory runs out.
 fn issuing_key(
     alloc: Global,
     issuer: &TbsCertificate,
@@ -94,7 +103,13 @@ fn issuing_key(
     Ok(identifier)
 }
 
-/// Returns the extensions of an issuer's CRL: the CRL number and the authority key identifier.
+/// Returns the extensions of a CRL of this issuer: the CRL number and the authority key identifier.
+///
+/// # Errors
+///
+/// - The errors of `issuing_key`.
+/// - The error of encoding one of the two extensions: it has no encoding.
+/// - `OutOfMemory`: memory runs out.
 #[tactic(auto, using(crate::proofs::RequestParts::no_key, crate::proofs::RequestParts::no_number, crate::proofs::RequestParts::no_authority))]
 fn own_extensions(
     alloc: Global,
@@ -114,11 +129,14 @@ fn own_extensions(
 }
 
 impl<P: Profile> CrlBuilder<P> {
-    /// Returns a builder for a CRL of this issuer, with this date and this number, and without
+    /// Returns a builder of a CRL of this issuer, with this date and this number, and without
     /// entries.
     ///
-    /// The authority key identifier is copied from that of the issuer's certificate. If the
-    /// certificate has none, it is the digest of the issuer's key.
+    /// The authority key identifier is a copy of the one in the issuer's certificate. If the
+    /// certificate has none, it contains only the key identifier of the issuer's key: the SHA-1
+    /// digest of its bytes (RFC 5280 4.2.1.2).
+    ///
+    /// # Examples
     ///
     /// As in `crates/example_build_certificates/src/main.rt`:
     ///
@@ -175,12 +193,12 @@ impl<P: Profile> CrlBuilder<P> {
         self
     }
 
-    /// Adds entries for revoked certificates after the present ones, in their order. The CRL then
-    /// has the list of entries, even if it is empty.
+    /// Appends entries for revoked certificates, in their order. The CRL then has the list of
+    /// entries, even if it is empty.
     ///
     /// # Errors
     ///
-    /// Fails if memory runs out. The builder is then as it was.
+    /// - `Asn1` with `OutOfMemory`: memory runs out. The builder is unchanged.
     pub fn with_certificates<I: Iterator<Item = RevokedCert<P>>>(
         &mut self,
         alloc: Global,
@@ -201,7 +219,11 @@ impl<P: Profile> CrlBuilder<P> {
         Ok(())
     }
 
-    /// Appends entries to those of the CRL, which then has the list of entries.
+    /// Appends entries. The CRL then has the list of entries, even if it is empty.
+    ///
+    /// # Errors
+    ///
+    /// - `Asn1` with `OutOfMemory`: memory runs out.
     fn append(&mut self, mut more: Vec<RevokedCert<P>>) -> Result<(), Error>
         ensures added { OnOk result
             (self.new
@@ -218,7 +240,11 @@ impl<P: Profile> CrlBuilder<P> {
         Ok(())
     }
 
-    /// Returns the part that a signer of this algorithm signs.
+    /// Returns the part that a signer with this algorithm signs.
+    ///
+    /// # Errors
+    ///
+    /// - `Asn1` with `OutOfMemory`: memory runs out.
     fn part_for(
         &self,
         alloc: Global,
@@ -255,7 +281,7 @@ impl<P: Profile> Builder for CrlBuilder<P> {
 
     ghost to_sign = { λ b _ algorithm. list_of b algorithm };
 
-    // The part has an encoding, whatever serial numbers are read.
+    // The part has an encoding, for every limit on serial numbers.
     ghost is_valid = { λ b _ algorithm. IsValid (list_part None) (list_of b algorithm) };
 
     // The part has no encoding.
@@ -266,7 +292,7 @@ impl<P: Profile> Builder for CrlBuilder<P> {
 
     ghost is_same_otherwise = { λ b c. c ≡ record b { finalized = c.finalized } };
 
-    // A list bears the algorithm of its signed part (RFC 5280 5.1.1.2).
+    // The algorithm of a CRL is that of its signed part (RFC 5280 5.1.1.2).
     ghost algorithm_for = { λ b a. list_algorithm_of_last b.finalized a };
 
     ghost signed_part = { λ c. tbs_cert_list_plain c.tbs_cert_list };

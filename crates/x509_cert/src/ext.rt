@@ -1,4 +1,4 @@
-//! Extensions of certificates and of lists (RFC 5280 4.2, 5.2).
+//! Extensions of certificates and CRLs (RFC 5280 4.2, 5.2).
 
 pub mod pkix;
 

@@ -1,5 +1,5 @@
-//! Laws about certificates, their parts, names and their texts, CRLs, CSRs and trust anchors, for
-//! every bound of arcs and every profile, and about timestamps.
+//! Laws about certificates, their parts, names and their string form, CRLs, CSRs and trust anchors,
+//! for every bound on the arcs of OIDs and every profile, and about signed certificate timestamps.
 //!
 //! Each law is the contract of a function that does nothing.
 
@@ -55,8 +55,8 @@ pub use x509_cert_lists::cert_parts::laws::{
 };
 pub use x509_cert_lists::laws::{attributes_are_of_their_types, equality_of_lists_is_of_values};
 
-/// Bytes encode a CRL, a CSR or a trust anchor under a smaller bound of arcs exactly if they encode
-/// it under a larger bound and each arc of its identifiers is below the smaller one.
+/// Bytes encode a CRL, a CSR or a trust anchor under a smaller bound on arcs exactly if they encode
+/// it under a larger bound and each arc of its OIDs is below the smaller bound.
 pub fn wider_bounds_keep_types()
     ensures lists { (small large : ℕ) (limit : Option ℕ)
         (l : BodyValue (certificate_list_fields 0 None)) (w : List ℕ) → 40 ≤ small
@@ -133,7 +133,7 @@ pub fn equality_of_extensions_is_of_values()
         ⟦<BaseCrlNumber as PartialEq>⟧.eq (λ x. pos x.0) }
 {}
 
-/// `==` of trust anchors and of their parts is of their plain values, under every profile.
+/// `==` of trust anchors and of their parts compares their abstract values, under every profile.
 pub fn equality_of_anchors_is_of_values<P>()
     ensures versions { TellsValues grammar.anchor_version ⟦<AnchorVersion as PartialEq>⟧.eq
         (λ v. pos (anchor_views.anchor_number v)) }
@@ -150,8 +150,8 @@ pub fn equality_of_anchors_is_of_values<P>()
     equality_of_extensions_is_of_values();
 }
 
-/// First tags keep the parts of each type apart, and it nests no deeper than the 64 levels that a
-/// reader allows, under every profile.
+/// The tags of the fields of each type determine which field comes next, and each type has at most
+/// the 64 levels of nesting that a reader allows, under every profile.
 pub fn types_are_apart_within_levels<P: Profile>()
     ensures parts { IsApartWithinLevels ⟦<AlgorithmIdentifier as Shaped>⟧.shape
         × IsApartWithinLevels ⟦<AlgorithmIdentifierRef<'static> as Shaped>⟧.shape
@@ -207,7 +207,7 @@ pub fn types_are_apart_within_levels<P: Profile>()
         × IsApartWithinLevels ⟦<PolicyConstraints as Shaped>⟧.shape
         × IsApartWithinLevels ⟦<InhibitAnyPolicy as Shaped>⟧.shape
         × IsApartWithinLevels ⟦<PrivateKeyUsagePeriod as Shaped>⟧.shape }
-    // The types of extensions that hold a list, bytes, bits or a number, by their shapes.
+    // The types of extensions that contain a list, bytes, bits or a number, by their shapes.
     ensures extensions { IsApartWithinLevels
         (sequence_of (sequence (names.access_description_fields Bound)))
         × IsApartWithinLevels (sequence_of (sequence (names.distribution_point_fields Bound)))

@@ -1,9 +1,8 @@
-//! Encoding the signed parts of CRLs and CSRs. The bytes of an `Ok` are those of a value that has
-//! an encoding.
+//! Encoding the signed parts of CRLs and CSRs, and showing that they have an encoding.
 //!
-//! The parts of the signed part are in their ranges, so it can lack an encoding only because of its
-//! length. It may contain any serial number, whatever the profile accepts. Each of these is a law
-//! about the values of a type, stated as the contract of a function that does nothing.
+//! All parts of a signed part are in range, so that it can lack an encoding only because of its
+//! length. This holds for every serial number, whatever the profile accepts. The functions whose
+//! names end in `in_range` state such facts as their contracts and do nothing.
 
 ghost use Rattle.std.specs.Prelude.{◌≡◌, ◌⊎◌, None, IfOk, IfErr};
 ghost use Rattle.std.specs.List.{AllByRecursion};
@@ -22,7 +21,12 @@ use x509_cert_builders::Error;
 use x509_cert_lists::cert_parts::{Extensions, Profile};
 use x509_cert_lists::{RevokedCert, TbsCertList};
 
-/// Returns the bytes of a value.
+/// Encodes a value.
+///
+/// # Errors
+///
+/// - `Asn1` with the error of encoding the value: it has no encoding.
+/// - `Asn1` with `OutOfMemory`: memory runs out.
 pub(crate) fn written<T: Encode + InRange>(alloc: Global, value: &T) -> Result<Vec<u8>, Error>
     ensures octets { IfOk result (λ v. v.items ≡ octets_of T.shape (T.written value.now)) }
     ensures valid { IfOk result (λ _. IsValid T.shape (T.written value.now)) }
@@ -34,7 +38,13 @@ pub(crate) fn written<T: Encode + InRange>(alloc: Global, value: &T) -> Result<V
     Ok(octets)
 }
 
-/// Returns the bytes of a CRL, which has an encoding whatever serial numbers are accepted.
+/// Encodes the signed part of a CRL. If it succeeds, the part has an encoding for every limit on
+/// serial numbers.
+///
+/// # Errors
+///
+/// - `Asn1` with the error of encoding the part: it has no encoding.
+/// - `Asn1` with `OutOfMemory`: memory runs out.
 pub(crate) fn list_written<P: Profile>(
     alloc: Global,
     part: &TbsCertList<P>,
@@ -84,7 +94,7 @@ fn field_in_range(made: &Option<Extensions>)
     }
 }
 
-/// The parts of a CRL are in range.
+/// States that the signed part of a CRL is in range, for every limit on serial numbers.
 pub(crate) fn list_in_range<P: Profile>(part: &TbsCertList<P>)
     ensures { IsInRange (list_part None) (tbs_cert_list_plain part.now) }
 {

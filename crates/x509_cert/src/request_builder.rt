@@ -1,5 +1,3 @@
-//! Builders of CSRs.
-
 ghost use Rattle.std.specs.Prelude.{◌≡◌, ◌⊎◌, ◌++◌, ◌∷◌, [], false, Ok, Some, None, IfOk, IfErr};
 ghost use Rattle.std.specs.Prelude.{OnOk, OnErr, IsOk};
 ghost use Rattle.x509_cert_anchors.specs.Oid.Bound.{Bound};
@@ -31,11 +29,11 @@ use x509_cert_lists::request::Version;
 use x509_cert_lists::types::BitString;
 use x509_cert_lists::{AsAttribute, CertReq, CertReqInfo, ExtensionReq, TryFromExtensionReq};
 
-/// A builder of CSRs (RFC 2986). The extensions that are asked for are in one attribute, which is
-/// made at each `finalize`.
+/// A builder of CSRs (RFC 2986). The extensions that the CSR asks for are in one attribute, which
+/// each `finalize` builds.
 ///
-/// Contracts see whose key it is, the extensions that are asked for, the other attributes, and the
-/// part that was made last.
+/// In contracts, its value is a `RequestState`: the subject, the extensions that the CSR asks for,
+/// the other attributes, and the part of the last `finalize`.
 #[derive(Drop)]
 pub struct RequestBuilder {
     subject: Name,
@@ -58,7 +56,12 @@ impl Model for RequestBuilder {
     ghost invariant = { λ b. AllValid (attribute Bound) attribute_plain b.attributes.values.items };
 }
 
-/// Returns the attribute that asks for these extensions (RFC 2985 5.4.2), which has an encoding.
+/// Returns the attribute that asks for these extensions (RFC 2985 5.4.2), if it has an encoding.
+///
+/// # Errors
+///
+/// - `Asn1` with the error of encoding the attribute: it has no encoding.
+/// - `Asn1` with `OutOfMemory`: memory runs out.
 fn attribute_for(alloc: Global, extensions: Extensions) -> Result<Attribute, Error>
     ensures made { IfOk result
         (λ a. extension_req_attribute Bound (extensions_plain extensions.items)
@@ -73,7 +76,8 @@ fn attribute_for(alloc: Global, extensions: Extensions) -> Result<Attribute, Err
 }
 
 impl RequestBuilder {
-    /// Returns a builder for a CSR of this subject, without extensions. It never fails.
+    /// Returns a builder of a CSR of this subject, without extensions and other attributes. The
+    /// call always succeeds.
     pub fn new(alloc: Global, subject: Name) -> Result<RequestBuilder, Error>
         ensures made { IfOk result (λ b. b ≡ record {
           subject = name_plain subject;
@@ -95,9 +99,12 @@ impl RequestBuilder {
 
     /// Adds an extension to those that the CSR asks for.
     ///
+    /// If the call fails, the builder is unchanged.
+    ///
     /// # Errors
     ///
-    /// - The errors of the value, and out of memory. The builder is then as it was.
+    /// - The errors of `ToExtension::to_extension`.
+    /// - `OutOfMemory`, converted to `E::Error`: memory runs out.
     pub fn add_extension<E: ToExtension>(
         &mut self,
         alloc: Global,
@@ -120,15 +127,16 @@ impl RequestBuilder {
         }
     }
 
-    /// Adds an attribute at its position in the ascending order of encodings.
+    /// Adds an attribute at the position that its encoding requires.
+    ///
+    /// If the call fails, the builder is unchanged.
     ///
     /// # Errors
     ///
-    /// - `SetDuplicate`: the CSR has the attribute already.
-    /// - `Overflow`: the attribute has 2^32 bytes or more.
-    /// - `OutOfMemory`: memory runs out.
-    ///
-    /// The builder is then as it was.
+    /// - `Asn1` with `SetDuplicate`: the CSR already contains the attribute.
+    /// - `Asn1` with an error of `AsAttribute::to_attribute`, or of encoding the attribute: for
+    ///   example `Overflow` if the encoding has 2^32 bytes or more.
+    /// - `Asn1` with `OutOfMemory`: memory runs out.
     pub fn add_attribute<A: AsAttribute>(&mut self, alloc: Global, value: &A) -> Result<(), Error>
         ensures added { OnOk result
             ((a : PlainAttribute)
@@ -150,7 +158,12 @@ impl RequestBuilder {
         Ok(())
     }
 
-    /// Returns the part that a signer of this key signs.
+    /// Returns the part that a signer with this key signs.
+    ///
+    /// # Errors
+    ///
+    /// - `Asn1` with the error of encoding the attribute for the extensions: it has no encoding.
+    /// - `Asn1` with `OutOfMemory`: memory runs out.
     fn part_for(&self, alloc: Global, key: &SubjectPublicKeyInfo) -> Result<CertReqInfo, Error>
         ensures made { IfOk result (λ i. cert_req_info_plain i
             ≡ request_of self.now.subject self.now.extensions self.now.attributes
@@ -185,7 +198,7 @@ impl Builder for RequestBuilder {
 
     ghost is_valid = { λ b key _. IsRequested b.subject b.extensions b.attributes key };
 
-    // The attribute that asks for the extensions has no encoding, or the part has none.
+    // The attribute that asks for the extensions has no encoding, or the signed part has none.
     ghost faults = { λ b key _ e. HasNoAttribute (extension_req_attribute Bound b.extensions) e
         ⊎ IsUnwritten request_part (request_of b.subject b.extensions b.attributes key) e };
 
@@ -193,8 +206,8 @@ impl Builder for RequestBuilder {
 
     ghost is_same_otherwise = { λ b c. c ≡ record b { finalized = c.finalized } };
 
-    // The signed part of a CSR has no algorithm (RFC 2986 4.1), so the algorithm of the signature
-    // is that of its signer.
+    // The signed part of a CSR contains no algorithm (RFC 2986 4.1), so the signature algorithm of
+    // the CSR is that of its signer.
     ghost algorithm_for = { λ _ signer. signer };
 
     ghost signed_part = { λ r. cert_req_info_plain r.info };

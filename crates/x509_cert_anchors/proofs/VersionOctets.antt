@@ -1,4 +1,4 @@
--- The bytes of a version.
+-- A lemma about the encoding of a trust anchor's version.
 use Rattle.std.proofs.Common.{◌≡◌, [], ◌∷◌, refl, arith, pos}
 use Rattle.der_core.proofs.DigitLaws.{digits-one}
 use Rattle.der_core.specs.Heads.{tlv, head_octets, length_octets}

@@ -1,4 +1,4 @@
--- What contracts see of the types: the plain values of their shapes.
+-- The abstract value of each type of this crate, as a value of its shape in `Anchors`.
 use Rattle.std.specs.Prelude.{ℕ, pos, string_bytes}
 use Rattle.std.proofs.Common.{inl, inr}
 use Rattle.der_core.specs.Grammar.{plain_option, plain_list}
@@ -15,7 +15,7 @@ use Rattle.x509_cert_general_names.specs.CertNames.Views.{name_plain}
 use Rattle.x509_cert_policies.specs.CertParts.Views.{key_plain, extensions_plain}
 use Rattle.x509_cert_policies.specs.PolicyViews.{policy_information_plain}
 
--- the number of an anchor's version
+-- The number of a trust anchor's version.
 abbrev pub anchor_number : Version → ℕ
 anchor_number v = 1
 

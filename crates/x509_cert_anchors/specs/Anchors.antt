@@ -1,5 +1,5 @@
--- Trust anchors (RFC 5914 2). Each shape takes the bound of arcs and the greatest number of content
--- bytes of a serial number, if there is such a number.
+-- The grammar of trust anchors (RFC 5914 2). Each shape depends on a bound on the arcs of OIDs and
+-- on the greatest number of content bytes of a serial number, if it is limited.
 use Rattle.std.specs.Prelude.{ℕ, ◌^◌, List, [], ◌∷◌, Bool, Option, None, codes}
 use Rattle.std.proofs.Common.{inl, inr}
 use Rattle.der_core.specs.TagTypes.Tag.TheVariants as tags
@@ -17,10 +17,11 @@ use Rattle.x509_cert_policies.specs.CertParts.Grammar.{octet_string, public_key_
 use Rattle.x509_cert_policies.specs.Policies.{policy_information_fields}
 
 -- CertPolicyFlags ::= BIT STRING { inhibitPolicyMapping (0), requireExplicitPolicy (1),
---     inhibitAnyPolicy (2) } (2.5)
+-- inhibitAnyPolicy (2) } (2.5).
 abbrev pub flag_count : ℕ
 flag_count = 3
 
+-- Each flag with its name and its bit.
 abbrev pub policy_flags : List (List ℕ × ℕ)
 policy_flags =
     (codes "InhibitPolicyMapping", 2 ^ 0)
@@ -29,9 +30,9 @@ policy_flags =
     ∷ []
 
 -- CertPathControls ::= SEQUENCE { taName Name, certificate [0] Certificate OPTIONAL, policySet [1]
---     CertificatePolicies OPTIONAL,
---     policyFlags [2] CertPolicyFlags OPTIONAL, nameConstr [3] NameConstraints OPTIONAL,
---     pathLenConstraint [4] INTEGER (0..MAX) OPTIONAL } (2.5), each tag in place of the field's own
+-- CertificatePolicies OPTIONAL, policyFlags [2] CertPolicyFlags OPTIONAL, nameConstr [3]
+-- NameConstraints OPTIONAL, pathLenConstraint [4] INTEGER (0..2^32 - 1) OPTIONAL } (2.5), with
+-- implicit tags.
 abbrev pub constraint_fields : ℕ → Body
 constraint_fields bound =
     field (optional (inside 1 (many (sequence (policy_information_fields bound)))))
@@ -44,26 +45,24 @@ cert_path_controls_fields bound limit =
     field (name bound)
     (field (optional (inside 0 (certificate_fields bound limit))) (constraint_fields bound))
 
--- TrustAnchorInfoVersion ::= INTEGER { v1(1) } (2.1)
+-- TrustAnchorInfoVersion ::= INTEGER { v1(1) } (2.1).
 abbrev pub anchor_numbers : List ℕ
 anchor_numbers = 1 ∷ []
 
 abbrev pub anchor_version : Shape
 anchor_version = tagged tags.Integer (leaf (integer (among anchor_numbers)))
 
--- the bytes of v1, which never stand
+-- The encoding of v1, which is rejected because v1 is the default (X.690 11.5).
 abbrev pub first_anchor_version_octets : List ℕ
 first_anchor_version_octets = 2 ∷ 1 ∷ 1 ∷ []
 
--- UTF8String
+-- UTF8String.
 abbrev pub utf8_string : Shape
 utf8_string = tagged tags.Utf8String (leaf utf8)
 
 -- TrustAnchorInfo ::= SEQUENCE { version TrustAnchorInfoVersion DEFAULT v1, pubKey
---     SubjectPublicKeyInfo, keyId OCTET STRING,
---     taTitle UTF8String OPTIONAL, certPath CertPathControls OPTIONAL, exts [1] EXPLICIT Extensions
---     OPTIONAL,
---     taTitleLangTag [2] UTF8String OPTIONAL } (2)
+-- SubjectPublicKeyInfo, keyId OCTET STRING, taTitle UTF8String OPTIONAL, certPath CertPathControls
+-- OPTIONAL, exts [1] EXPLICIT Extensions OPTIONAL, taTitleLangTag [2] UTF8String OPTIONAL } (2).
 abbrev pub title_fields : ℕ → Option ℕ → Body
 title_fields bound limit =
     field (optional utf8_string)
@@ -77,14 +76,14 @@ trust_anchor_info_fields bound limit =
     (field (public_key_info bound) (field octet_string (title_fields bound limit)))
 
 -- TrustAnchorChoice ::= CHOICE { certificate Certificate, tbsCert [1] EXPLICIT TBSCertificate,
---     taInfo [2] EXPLICIT TrustAnchorInfo } (2)
+-- taInfo [2] EXPLICIT TrustAnchorInfo } (2).
 abbrev pub trust_anchor_choice : ℕ → Option ℕ → Shape
 trust_anchor_choice bound limit =
     either (certificate bound limit)
     (either (explicit 1 (tbs_certificate bound limit))
     (explicit 2 (sequence (trust_anchor_info_fields bound limit))))
 
--- Plain values. Neither the bound nor the profile changes what they are.
+-- The abstract values of these shapes. Neither the bound nor the profile changes their types.
 abbrev pub PlainControls : Type 0
 PlainControls = BodyValue (cert_path_controls_fields 0 None)
 
@@ -94,7 +93,7 @@ PlainInfo = BodyValue (trust_anchor_info_fields 0 None)
 abbrev pub PlainAnchor : Type 0
 PlainAnchor = Value (trust_anchor_choice 0 None)
 
--- where the dates of the certificate are re-encoded, or not
+-- A trust anchor with the dates of its certificates re-encoded or unchanged.
 abbrev pub cert_path_controls_by : Bool → PlainControls → PlainControls
 cert_path_controls_by r c = (c.0, (plain_option (λ x. certificate_by r x) c.1.0, c.1.1))
 

@@ -1,4 +1,4 @@
--- Definitions of other crates that attributes of this one unfold.
+-- Definitions of other crates that `unfolding` attributes in this crate name.
 unfoldable pub use Rattle.der_core.specs.Grammar.{tlv_at, value_at}
 unfoldable pub use Rattle.der_core.specs.Heads.{head_at, length_at}
 unfoldable pub use Rattle.der_core.specs.Integers.{integer_of, shortest_integer}

@@ -1,5 +1,3 @@
-//! The versions of trust anchors.
-
 ghost use Rattle.std.specs.Prelude.{◌≡◌, refl};
 ghost use Rattle.x509_cert_anchors.specs.Anchors.{anchor_numbers, first_anchor_version_octets};
 ghost use Rattle.x509_cert_anchors.specs.AnchorViews.{anchor_number};
@@ -7,14 +5,14 @@ ghost use Rattle.x509_cert_anchors.specs.AnchorViews.{anchor_number};
 use der_core::DefaultValue;
 use der_core::describing::{AsNumbered, Described, Numbered, Ordered};
 
-/// The version of a trust anchor (RFC 5914 2.1), which is absent where it is `V1`.
+/// The version of a trust anchor (RFC 5914 2.1). The encoding omits `V1`.
 ///
 /// ```text
 /// TrustAnchorInfoVersion ::= INTEGER { v1(1) }
 /// ```
 #[derive(Clone, Copy, Debug, Default, PartialEq, Eq)]
 pub enum Version {
-    /// The only one.
+    /// Version 1, the only one.
     #[default]
     V1 = 1,
 }
@@ -23,7 +21,7 @@ impl Described for Version {
     type By = AsNumbered;
 }
 
-/// Any other number is rejected as `Value`.
+/// Decoding rejects any other number with `Value`.
 impl Numbered for Version {
     ghost known_numbers = { anchor_numbers };
 
@@ -45,7 +43,7 @@ impl Numbered for Version {
 
 impl Ordered for Version {}
 
-/// `V1`.
+/// The default is `V1`.
 impl DefaultValue for Version {
     ghost default_octets = { first_anchor_version_octets };
 

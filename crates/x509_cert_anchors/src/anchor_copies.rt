@@ -1,5 +1,5 @@
-//! Copies of trust anchors. The largest field is copied last, so that little is
-//! dropped where memory ends.
+//! Copying trust anchors. The largest field is copied last, so that less has to be freed if memory
+//! runs out.
 
 ghost use Rattle.std.specs.Prelude.{◌≡◌, IfOk, string_bytes};
 ghost use Rattle.der_core.specs.Copies.{IsCopy};
@@ -16,6 +16,10 @@ use x509_cert_policies::CertificatePolicies;
 use x509_cert_policies::cert_parts::{Extension, Profile};
 
 /// Returns a copy of a text.
+///
+/// # Errors
+///
+/// - `AllocError`: memory runs out.
 fn copy_of_text(text: &String, alloc: Global) -> Result<String, AllocError>
     ensures { IfOk result (λ t. string_bytes t ≡ string_bytes text.now) }
 {
@@ -23,7 +27,11 @@ fn copy_of_text(text: &String, alloc: Global) -> Result<String, AllocError>
 }
 
 impl<P: Profile> CertPathControls<P> {
-    /// Returns a copy. The only error is that memory runs out.
+    /// Returns a copy.
+    ///
+    /// # Errors
+    ///
+    /// - `AllocError`: memory runs out.
     pub fn clone(&self, alloc: Global) -> Result<CertPathControls<P>, AllocError>
         ensures { IsCopy self.now result cert_path_controls_plain }
     {
@@ -39,7 +47,11 @@ impl<P: Profile> CertPathControls<P> {
 }
 
 impl<P: Profile> TrustAnchorInfo<P> {
-    /// Returns a copy. The only error is that memory runs out.
+    /// Returns a copy.
+    ///
+    /// # Errors
+    ///
+    /// - `AllocError`: memory runs out.
     pub fn clone(&self, alloc: Global) -> Result<TrustAnchorInfo<P>, AllocError>
         ensures { IsCopy self.now result trust_anchor_info_plain }
     {
@@ -56,7 +68,11 @@ impl<P: Profile> TrustAnchorInfo<P> {
 }
 
 impl<P: Profile> TrustAnchorChoice<P> {
-    /// Returns a copy. The only error is that memory runs out.
+    /// Returns a copy.
+    ///
+    /// # Errors
+    ///
+    /// - `AllocError`: memory runs out.
     pub fn clone(&self, alloc: Global) -> Result<TrustAnchorChoice<P>, AllocError>
         ensures { IsCopy self.now result trust_anchor_plain }
     {

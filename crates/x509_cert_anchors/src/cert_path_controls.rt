@@ -1,5 +1,3 @@
-//! What a path from a trust anchor must meet.
-
 ghost use Rattle.std.specs.Prelude.{pos, refl};
 ghost use Rattle.der_core.specs.Oid.Bound.{Bound};
 ghost use Rattle.der_core.specs.Grammar.{plain_list, plain_option};
@@ -20,7 +18,7 @@ use x509_cert_general_names::cert_names::Name;
 use x509_cert_policies::CertificatePolicies;
 use x509_cert_policies::cert_parts::{Profile, Rfc5280};
 
-/// The name of a trust anchor, and what a path from it must meet (RFC 5914 2.5).
+/// The name of a trust anchor, and the constraints on certificate chains from it (RFC 5914 2.5).
 ///
 /// ```text
 /// CertPathControls ::= SEQUENCE {
@@ -34,17 +32,18 @@ use x509_cert_policies::cert_parts::{Profile, Rfc5280};
 #[derive(Drop)]
 #[derive_where(Debug, PartialEq, Eq)]
 pub struct CertPathControls<P = Rfc5280> {
-    /// The name of the anchor.
+    /// The name of the trust anchor.
     pub ta_name: Name,
-    /// A certificate of its key.
+    /// A certificate for the key of the trust anchor.
     pub certificate: Option<CertificateInner<P>>,
     /// The policies that are allowed.
     pub policy_set: Option<CertificatePolicies>,
-    /// What is wanted of policies.
+    /// The requirements on policies.
     pub policy_flags: Option<CertPolicyFlags>,
-    /// The names that are allowed.
+    /// The names that are allowed and those that aren't.
     pub name_constr: Option<NameConstraints>,
-    /// How many authorities may follow at most.
+    /// The greatest number of intermediate certificates that may follow, if it is limited. A number
+    /// above 2^32 - 1 is rejected.
     pub path_len_constraint: Option<u32>,
 }
 
@@ -56,8 +55,8 @@ impl<P: Profile> Fields for CertPathControls<P> {
     ghost fields_written = { λ x. cert_path_controls_by P.respells (cert_path_controls_plain x) };
 }
 
-/// The fields after the certificate, which are read as a row of their own: what is checked of
-/// all six at once takes more steps than a check may.
+/// The fields after the certificate. They are decoded as a record of their own, since the proof for
+/// all six fields at once exceeds the checker's limit of steps.
 #[derive(Drop)]
 struct Constraints {
     policy_set: Option<CertificatePolicies>,

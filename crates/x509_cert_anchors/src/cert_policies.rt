@@ -1,4 +1,4 @@
-//! What a trust anchor wants of policies.
+//! The types `CertPolicies` and `CertPolicyFlags`.
 
 ghost use Rattle.std.specs.Prelude.{⊤, refl};
 ghost use Rattle.bitflags.specs.Sets.{known_from};
@@ -7,7 +7,8 @@ ghost use Rattle.x509_cert_anchors.specs.Anchors.{policy_flags};
 use bitflags::{Flag, Flags, bitflag_items};
 use x509_cert_policies::types::{FlagSet, NamedBits};
 
-/// What is wanted of policies on a path, the first bit the lowest (RFC 5914 2.5).
+/// A requirement on the policies in a certificate chain, as a bit (RFC 5914 2.5). The first bit of
+/// the BIT STRING is the least significant one.
 #[derive(Clone, Copy, Debug, PartialEq, Eq)]
 pub struct CertPolicies(u8);
 
@@ -61,7 +62,7 @@ impl NamedBits for CertPolicies {
     ghost known = { unfold known_from in refl };
 }
 
-/// What a trust anchor wants of policies on a path (RFC 5914 2.5).
+/// The requirements of a trust anchor on the policies in a certificate chain (RFC 5914 2.5).
 ///
 /// ```text
 /// CertPolicyFlags ::= BIT STRING {

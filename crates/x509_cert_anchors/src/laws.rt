@@ -1,13 +1,14 @@
-//! Laws of trust anchors, for every bound of arcs and every profile, beside those of certificates.
+//! A law about trust anchors, for every bound on the arcs of OIDs and every profile. It complements
+//! the laws about certificates.
 //!
-//! Each law is the contract of a function that does nothing.
+//! The law is the contract of a function that does nothing.
 
 ghost use Rattle.std.specs.Prelude.{ℕ, Option, Bool};
 ghost use Rattle.der_core.specs.Shapes.{IsValid};
 ghost use Rattle.x509_cert_anchors.specs.Anchors.{PlainAnchor, trust_anchor_choice};
 ghost use Rattle.x509_cert_anchors.specs.Anchors.{trust_anchor_by};
 
-/// A trust anchor that has an encoding has one where the dates of its certificates are re-encoded
+/// If a trust anchor has an encoding, it also has one with the dates of its certificates re-encoded
 /// (RFC 5280 4.1.2.5).
 pub fn respelled_anchors_are_spelled()
     ensures { (bound : ℕ) (limit : Option ℕ) (r : Bool) (a : PlainAnchor)

@@ -1,4 +1,4 @@
-//! Trust anchors (RFC 5914).
+//! Trust anchors (RFC 5914): decoding and encoding them.
 #![tactic(auto)]
 
 pub mod anchor;
@@ -14,12 +14,12 @@ pub use cert_policies::{CertPolicies, CertPolicyFlags};
 pub use trust_anchor_choice::TrustAnchorChoice;
 pub use trust_anchor_info::TrustAnchorInfo;
 
-/// The names of `x509_cert_certificates` that the crates above use.
+/// The items of `x509_cert_certificates` that the crates above use.
 pub mod cert_certificates {
     pub use x509_cert_certificates::CertificateInner;
 }
 
-/// The names of `x509_cert_general_names` that the crates above use.
+/// The items of `x509_cert_general_names` that the crates above use.
 pub mod cert_general_names {
     pub use x509_cert_general_names::{
         AccessDescription, AuthorityKeyIdentifier, DistributionPoint, DistributionPointName,
@@ -29,19 +29,19 @@ pub mod cert_general_names {
     };
 }
 
-/// The names of `x509_cert_names` that the crates above use.
+/// The items of `x509_cert_names` that the crates above use.
 pub mod cert_names {
     pub use x509_cert_general_names::cert_names::Name;
 }
 
-/// The names of `x509_cert_parts` that the crates above use.
+/// The items of `x509_cert_parts` that the crates above use.
 pub mod cert_parts {
     pub use x509_cert_policies::cert_parts::{
         AlgorithmIdentifier, Extension, Raw, SubjectPublicKeyInfo,
     };
 }
 
-/// The names of `der_core` that the crates above use.
+/// The items of `der_core` that the crates above use.
 pub mod der {
     pub use der_core::{
         Decode, Encode, Error, ErrorKind, FromDer, InRange, Shaped, SliceReader, StrictSetOf, Tag,
@@ -49,12 +49,12 @@ pub mod der {
     };
 }
 
-/// The names of `const_oid` that the crates above use.
+/// The items of `const_oid` that the crates above use.
 pub mod oid {
     pub use der_core::oid::ObjectIdentifier;
 }
 
-/// The names of `x509_cert_policies` that the crates above use.
+/// The items of `x509_cert_policies` that the crates above use.
 pub mod policy_types {
     pub use x509_cert_policies::{
         BasicConstraints, CertificatePolicies, CpsUri, DisplayText, InhibitAnyPolicy,
@@ -63,7 +63,7 @@ pub mod policy_types {
     };
 }
 
-/// The names of `der_types` that the crates above use.
+/// The items of `der_types` that the crates above use.
 pub mod types {
     pub use x509_cert_policies::types::BitString;
 }

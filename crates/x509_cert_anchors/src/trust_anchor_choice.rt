@@ -1,5 +1,3 @@
-//! Trust anchors.
-
 ghost use Rattle.std.specs.Prelude.{◌≡◌, refl};
 ghost use Rattle.der_core.specs.Oid.Bound.{Bound};
 ghost use Rattle.der_core.specs.Shapes.{Value};
@@ -29,11 +27,11 @@ use x509_cert_policies::cert_parts::{Profile, Rfc5280};
 #[derive(Drop)]
 #[derive_where(Debug, PartialEq, Eq)]
 pub enum TrustAnchorChoice<P = Rfc5280> {
-    /// By a certificate.
+    /// A trust anchor given by a certificate.
     Certificate(CertificateInner<P>),
-    /// By a certificate without a signature.
+    /// A trust anchor given by a certificate without its signature.
     TbsCertificate(TbsCertificateInner<P>),
-    /// By its key.
+    /// A trust anchor given by its key.
     TaInfo(TrustAnchorInfo<P>),
 }
 
@@ -50,7 +48,8 @@ type CasesRef<'a, P> = OneOf3<
 >;
 
 impl<P: Profile> TrustAnchorChoice<P> {
-    /// Returns a reference to the alternative.
+    /// Returns the value as a choice of references, which has the encoding and ordering of a
+    /// CHOICE.
     fn cases<'a>(&'a self) -> CasesRef<'a, P>
         ensures { ◌≡◌ {A = Value (trust_anchor_choice Bound P.serial_limit)}
             (⟦<CasesRef<'a, P> as LentField>⟧.written result)
@@ -108,7 +107,7 @@ impl<P: Profile> Member for TrustAnchorChoice<P> {
     ghost apart = { refl };
 }
 
-/// The tags, then the contents.
+/// Compares the tags first, then the contents.
 impl<P: Profile> DerOrd for TrustAnchorChoice<P> {
     fn der_cmp(&self, other: &Self) -> Result<Ordering, Error> {
         cases_cmp(&self.cases(), &other.cases())

@@ -1,5 +1,3 @@
-//! Trust anchors by their keys.
-
 ghost use Rattle.std.specs.Prelude.{◌≡◌, refl};
 ghost use Rattle.der_core.specs.Oid.Bound.{Bound};
 ghost use Rattle.x509_cert_anchors.specs.Anchors.{trust_anchor_info_fields, trust_anchor_info_by};
@@ -13,7 +11,7 @@ use std::alloc::Global;
 use x509_cert_policies::cert_parts::{Extensions, Profile, Rfc5280, SubjectPublicKeyInfo};
 use x509_cert_policies::types::OctetString;
 
-/// A trust anchor by its key (RFC 5914 2).
+/// A trust anchor given by its key (RFC 5914 2).
 ///
 /// ```text
 /// TrustAnchorInfo ::= SEQUENCE {
@@ -30,18 +28,18 @@ use x509_cert_policies::types::OctetString;
 pub struct TrustAnchorInfo<P = Rfc5280> {
     /// The version.
     pub version: Version,
-    /// The key.
+    /// The public key.
     pub pub_key: SubjectPublicKeyInfo,
-    /// The identifier of the key.
+    /// The key identifier of the key.
     pub key_id: OctetString,
-    /// A name of the anchor for people.
+    /// A title of the trust anchor, for display.
     pub ta_title: Option<String>,
-    /// The name of the anchor, and what a path from it must meet. Without it the key begins no
-    /// path.
+    /// The name of the trust anchor, and the constraints on certificate chains from it. If absent,
+    /// no chain can be validated with this anchor.
     pub cert_path: Option<CertPathControls<P>>,
-    /// The extensions of the anchor, in their order.
+    /// The extensions of the trust anchor, in their order.
     pub extensions: Option<Extensions>,
-    /// The language of the name for people.
+    /// The language of the title.
     pub ta_title_lang_tag: Option<String>,
 }
 

@@ -1,4 +1,5 @@
--- The contents that profiles put into extensions have encodings.
+-- Lemmas for encoding: the values of the extensions that profiles add have encodings, and so has a
+-- TBSCertificate that isn't too long.
 use Rattle.std.proofs.Common.{◌≡◌, ◌+◌, ◌++◌, ℕ, ◌<◌, ◌≤◌, ◌%◌, List, [], ◌∷◌, Bool, true, false, Option, Some, None, length, refl, sym, subst, arith, rules, lt-ltb, ap, inl, inr, lit<, nat_lt, ltb-false, Ok, ◌∙◌}
 use Rattle.std.specs.Prelude.{⊤, pos, reverse, if◌then◌else◌, bit_or}
 use Rattle.std.specs.Int.{reverse_bits, w8}
@@ -57,7 +58,7 @@ unfolding tlv head_octets length_octets
 short_tlv t c l =
     rw (lt-ltb (length c) 128 l) (omega (arith, length-append (tag_octets t) (length c ∷ []), length-append (tag_octets t ++ length c ∷ []) c))
 
--- a short content fits after its header
+-- A short content fits after its header.
 small : (t : Tag) (c : List ℕ) → length (tag_octets t) ≤ 5 → length c < 128 → Fits (tlv t c)
 small t c h l = omega (arith, h, l, short_tlv t c l)
 
@@ -109,7 +110,7 @@ unfolding IsValid IsContent contents tlv head_octets length_octets tag_octets
 bool_valid true = (tt, omega arith, omega arith)
 bool_valid false = (tt, omega arith, omega arith)
 
--- a path length is below 256
+-- The path length is below 256.
 abbrev IsPath : Option ℕ → Type 0
 IsPath None = ⊤
 IsPath (Some n) = n < 256
@@ -129,11 +130,11 @@ unfolding IsValid IsContent IsBody tlv head_octets length_octets tag_octets cont
 purposes_valid true = ((purpose false, (purpose true, tt)), omega arith, omega arith)
 purposes_valid false = ((purpose false, tt), omega arith, omega arith)
 
--- bytes that are a digest
+-- The bytes are a digest.
 abbrev pub IsDigest : List ℕ → Type 0
 IsDigest w = (m : List ℕ) × (w ≡ sha1 m)
 
--- what holds a digest, and nothing else
+-- Extensions that contain only a digest.
 pub authority_valid : (w : List ℕ) → IsDigest w → IsValid (sequence (authority_key_identifier_fields Bound)) (Some w, (None, (None, tt)))
 authority_valid w d =
     subst (λ v. IsValid (sequence (authority_key_identifier_fields Bound)) (Some v, (None, (None, tt)))) (sym d.1) (authority_fits (sha1 d.0) (digest_octets d.0) (digest_length d.0))
@@ -144,14 +145,14 @@ identifier_valid w d = subst (λ v. IsValid octet_string v) (sym d.1) (key_fits 
 pub is_digest : (m w : List ℕ) → w ≡ sha1 m → IsDigest w
 is_digest m w e = (m, e)
 
--- Signed parts: whether they have an encoding, and the bytes at their place.
+-- TBSCertificates: their encoding, and the bytes at their position in a certificate.
 
--- the bytes don't depend on the profile by which serial numbers are read
+-- The encoding doesn't depend on the limit for serial numbers.
 pub raw_octets : (t : Tbs) → octets_of (tbs_certificate Bound (Some 21)) t ≡ octets_of part_shape t
 unfolding octets_of body_octets contents
 raw_octets t = refl
 
--- the part that was made last is in a certificate into which it was put back
+-- Assembling a certificate uses the part of the last `finalize`.
 pub put_back : (o : Option Finalized) (f : PlainFields) (t : Tbs)
     → plain_option (λ l. signed_part f (algorithm_plain l.algorithm) (extensions_plain l.extensions.items)) o ≡ Some t
     → plain_option written_part (plain_option (finalized_plain f) o) ≡ Some (written_part t)
@@ -160,13 +161,13 @@ put_back (Some l) f t e =
     let whole : signed_part f (algorithm_plain l.algorithm) (extensions_plain l.extensions.items) ≡ t = cc in
     ap (λ (u : Tbs). Some (written_part u)) whole
 
--- a version
+-- The version is in range.
 version_in_range : (third : Bool) → IsInRange (defaulted (explicit 0 version) (160 ∷ 3 ∷ 2 ∷ 1 ∷ 0 ∷ [])) (version_of third)
 unfolding IsValid IsContent IsBody octets_of contents body_octets tlv head_octets length_octets tag_octets integer_octets digits digits_within
 version_in_range true = ((((2, lit< tt, refl), omega arith), omega arith), λ _. (((2, lit< tt, refl), omega arith, lit< tt), omega arith, lit< tt))
 version_in_range false = ((((0, lit< tt, refl), omega arith), omega arith), λ _. (((0, lit< tt, refl), omega arith, lit< tt), omega arith, lit< tt))
 
--- a date of a part, and the same as it is written
+-- The dates are in range, also after they are re-encoded.
 spelling_in_range : (c : Civil) (b : Bool) → nat_lt 2049 c.year ≡ b → is_civil c ≡ true → IsInRange time (if b then inr c else inl c)
 spelling_in_range c true e h = (h, omega arith)
 spelling_in_range c false e h = (record { civil = h; year = ltb-false 2049 c.year e }, omega arith)
@@ -175,7 +176,7 @@ respelled_in_range : (t : PlainTime) → IsInRange time t → IsInRange time (re
 respelled_in_range (inl c) h = h
 respelled_in_range (inr c) h = spelling_in_range c (nat_lt 2049 c.year) refl h.0
 
--- a part whose parts are in their ranges is so as it is written
+-- If the fields of a TBSCertificate are in range, they are in range after its dates are re-encoded.
 written_in_range : (f : PlainFields) (a : Algorithm) (es : List PlainExtension) → IsPartInRange (signed_part f a es) → IsInRange part_shape (written_part (signed_part f a es))
 written_in_range f a es h =
     let first = respelled_in_range f.validity.0 h.dates.0.0 in
@@ -187,14 +188,14 @@ written_in_range f a es h =
       omega arith,
     )
 
--- so it has an encoding where it was written
+-- So a TBSCertificate that was encoded has an encoding.
 pub made_valid : (f : PlainFields) (a : Algorithm) (es : List PlainExtension) (t : Tbs) → t ≡ signed_part f a es → IsPartInRange t
     → (IsInRange part_shape (written_part t) → IsValid part_shape (written_part t)) → IsValid part_shape (written_part (signed_part f a es))
 made_valid f a es t e h valid =
     let here : IsPartInRange (signed_part f a es) = subst IsPartInRange e h in
     subst (λ (u : Tbs). IsInRange part_shape (written_part u) → IsValid part_shape (written_part u)) e valid (written_in_range f a es here)
 
--- Identifiers each of whose arcs is one byte.
+-- OIDs whose arcs have one byte each.
 
 abbrev AreShort : List ℕ → Type 0
 AreShort arcs = AllByRecursion (λ n. n < 128) arcs
@@ -214,7 +215,7 @@ short_arcs arcs h = ap (λ w. read_arcs Bound 0 w) (sym (short_octets arcs h)) �
 pub read_x500 : (m n : ℕ) → m < 128 → n < 128 → read_identifier Bound 39 (85 ∷ m ∷ n ∷ []) ≡ Ok (2 ∷ 5 ∷ m ∷ n ∷ [])
 read_x500 m n g h = ap (λ r. with_arc 2 (with_arc 5 r)) (short_arcs (m ∷ n ∷ []) (g, (h, tt)))
 
--- The uses of a subscriber's key, one after another.
+-- The usages of a subscriber's key, one after another.
 
 abbrev with_use : Bool → ℕ → ℕ → ℕ
 with_use stands uses more = if stands then bit_or uses more else uses

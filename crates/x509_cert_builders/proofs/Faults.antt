@@ -1,4 +1,4 @@
--- Why a value isn't written.
+-- Lemmas about errors: the reasons for which values can't be encoded or decoded.
 use Rattle.std.proofs.Common.{◌≡◌, ◌≢◌, ◌⊎◌, ℕ, List, [], false, None, Ok, Err, inl, Result, ap, subst}
 use Rattle.x509_cert_certificates.specs.Der.ErrorTypes.ErrorKind.{ErrorKind}
 use Rattle.x509_cert_certificates.specs.Der.ErrorTypes.ErrorKind.TheVariants as kinds
@@ -20,20 +20,20 @@ pub or_unwritten : (s : Shape) (v : Value s) (w : List ℕ) (kind : ErrorKind)
     → (kind ≡ kinds.OutOfMemory) ⊎ HasNoEncoding s v kind
 or_unwritten s v w kind valid fault = or_memory {X = HasNoEncoding s v kind} kind (λ enough. record { invalid = λ h. (let e = valid h enough in absurd cc); fault = fault enough })
 
--- why no extension is made of a value
+-- The error of an extension that can't be made.
 pub not_made : (s : Shape) (v : Value s) (kind : ErrorKind) → IsNotMade s v kind → (kind ≡ kinds.OutOfMemory) ⊎ HasNoEncoding s v kind
 not_made s v kind h = or_memory kind (λ enough. record { invalid = λ valid. enough (h.valid valid); fault = h.fault enough })
 
--- The name of a module, as another name and as a general name, and why it is rejected.
+-- A hardware module name as an OtherName and as a general name, and the error if it is rejected.
 
 abbrev as_general : Result PlainOther ErrorKind → Result PlainGeneralName ErrorKind
 as_general r = r >>= λ n. Ok (inl n)
 
--- what holds a module, or why nothing does, as a general name
+-- The general name that contains a hardware module name, or the error if there is none.
 pub module_named : (arcs version serial : List ℕ) (r : Result PlainOther ErrorKind) → arcs ≡ version → module_held Bound (arcs, (serial, tt)) ≡ r → module_name version serial ≡ as_general r
 module_named arcs version serial r same e = ap as_general (subst (λ (a : List ℕ). module_held Bound (a, (serial, tt)) ≡ r) same e)
 
--- out of memory is among the reasons
+-- OutOfMemory is always a possible error.
 pub want_fails : {X : Type 0} (r : Result X ErrorKind) (e : Error) → IsWantOfMemory e → FailsAs r e
 want_fails r (errors.Asn1 e) h = λ other. absurd (other h)
 want_fails r _ h = absurd h

@@ -1,4 +1,4 @@
--- Subjects of subscribers, relative name by relative name.
+-- Lemmas for the subjects of domain-validated certificates and for the naming rules, RDN by RDN.
 use Rattle.std.proofs.Common.{◌≡◌, List, map, [], ◌∷◌, ◌++◌, refl, ap, ◌⊎◌, length, Bool, true, false, sym, ◌∙◌, subst, append_assoc, arith, inl, inr, if◌then◌else◌, ◌==◌, not, IsPermutation, append-nil, ℕ, ◌<◌, Ok, Err, None, length-append, get_or, IsOk, is_ok, ◌||◌, cond}
 use Rattle.std.specs.List.{AllByRecursion, IsDistinct, list_all}
 use Rattle.x509_cert_certificates.specs.Der.Grammar.{plain_list}
@@ -27,17 +27,17 @@ use Rattle.x509_cert_certificates.specs.Oid.Comparing.{owned_eq}
 use Rattle.x509_cert_certificates.specs.Oid.Orders.{owned_cmp, owned_cmp_ties}
 use Rattle.x509_cert_builders.specs.TypeSets.{HasTypes}
 
--- The plain values of lists, and lists that stand where they aren't empty.
+-- The abstract values of lists, and lists without their empty members.
 
 pub plain_pushed : {A B : Type 0} (f : A → B) → (xs : List A) (y : A) → plain_list f (xs ++ y ∷ []) ≡ plain_list f xs ++ f y ∷ []
 plain_pushed f xs y = plain-append f xs (y ∷ [])
 
--- what holds of the plain values of members holds so of the members
+-- A property of all abstract values is a property of all members.
 pub all_plain : {A P : Type 0} (f : A → P) (V : P → Type 0) (xs : List A) → AllByRecursion V (plain_list f xs) → AllByRecursion (λ x. V (f x)) xs
 all_plain f V [] h = tt
 all_plain f V (x ∷ xs) h = (h.0, all_plain f V xs h.1)
 
--- what holds of all members of two lists joined holds of those of each
+-- A property of all members of a joined list is one of the members of both parts.
 pub all_parts : {A : Type 0} (V : A → Type 0) (xs ys : List A) → AllByRecursion V (xs ++ ys) → AllByRecursion V xs × AllByRecursion V ys
 all_parts V [] ys h = (tt, h)
 all_parts V (x ∷ xs) ys h =
@@ -48,7 +48,7 @@ pub field_back : (es : List PlainExtension) → extensions_in_field (extensions_
 field_back [] = refl
 field_back (e ∷ more) = refl
 
--- so many attributes were looked at
+-- One more attribute was processed.
 pub left_more : (kept : List TypeAndValue) (a : TypeAndValue) (more whole : List TypeAndValue)
     → kept ++ left_of (a ∷ more) ≡ whole → may_stay a ≡ true → (kept ++ a ∷ []) ++ left_of more ≡ whole
 left_more kept a more whole e h =
@@ -58,7 +58,7 @@ pub left_same : (kept : List TypeAndValue) (a : TypeAndValue) (more whole : List
     → kept ++ left_of (a ∷ more) ≡ whole → may_stay a ≡ false → kept ++ left_of more ≡ whole
 left_same kept a more whole e h = ap (λ (b : Bool). kept ++ (if b then a ∷ left_of more else left_of more)) (sym h) ∙ e
 
--- no two of the attributes that were kept and of those that are left are the same
+-- The attributes that were kept and the remaining ones are distinct.
 all_without : {A : Type 0} (V : A → Type 0) (xs : List A) (a : A) (ys : List A) → AllByRecursion V (xs ++ a ∷ ys) → AllByRecursion V (xs ++ ys)
 all_without V [] a ys h = h.1
 all_without V (x ∷ xs) a ys h = (h.0, all_without V xs a ys h.1)
@@ -76,7 +76,7 @@ pub distinct_same : {A : Type 0} (whole kept : List A) (a : A) (more : List A)
     → KeepsDistinct whole (kept ++ a ∷ more) → KeepsDistinct whole (kept ++ more)
 distinct_same whole kept a more h = λ same d. distinct_without same kept a more (h same d)
 
--- a relative name all of which stays is left as it is
+-- An RDN whose attributes may all stay is unchanged.
 left_whole_same : (r : List TypeAndValue) → list_all may_stay r ≡ true → left_of r ≡ r
 left_whole_same [] e = refl
 left_whole_same (a ∷ r) e =
@@ -86,7 +86,7 @@ left_whole_same (a ∷ r) e =
 pub left_whole : (r s : List TypeAndValue) → list_all may_stay r ≡ true → s ≡ r → IsPermutation (left_of r) s
 left_whole r s e same = subst (λ w. IsPermutation w s) (same ∙ sym (left_whole_same r e)) (IsPermutation-refl s)
 
--- a relative name of which nothing is left, and one of which something is
+-- An RDN that becomes empty, and one that doesn't.
 nothing : (l : List TypeAndValue) (m : PlainName) → length l ≡ 0 → relative_in_front l m ≡ m
 nothing [] m e = refl
 nothing (a ∷ l) m e = absurd cc
@@ -95,7 +95,7 @@ something : (l s : List TypeAndValue) (m rest : PlainName) → IsPermutation l s
 something [] s m rest p e h = absurd (e refl)
 something (a ∷ l) s m rest p e h = (p, h)
 
--- whether there are members, and values of members
+-- A list of members is empty exactly if the list of their values is.
 pub no_values : {A B : Type 0} (f : A → B) (xs : List A) → (length xs == 0) ≡ true → length (plain_list f xs) ≡ 0
 no_values f [] e = refl
 no_values f (x ∷ xs) e = omega (arith, eqb-true (length (x ∷ xs)) 0 e)
@@ -104,13 +104,13 @@ pub some_values : {A B : Type 0} (f : A → B) (xs : List A) → (length xs == 0
 some_values f [] e l = absurd cc
 some_values f (x ∷ xs) e l = absurd cc
 
--- attributes of which no two are the same, that don't make a relative name: one of them is too long
+-- If distinct attributes don't make an RDN, one of them is too long.
 pub too_long : {A : Type 0} (f : A → TypeAndValue) (xs : List A) (r : List TypeAndValue) (e : DerError) (Apart Long : Type 0) → plain_list f xs ≡ r → Apart → ((e.kind ≡ kinds.SetDuplicate) × (Apart → ⊥)) ⊎ Long
     → (Long → (e.kind ≡ kinds.Overflow) × (AllByRecursion (λ x. IsValid (type_and_value Bound) (f x)) xs → ⊥)) → HasLongAttribute r (errors.Asn1 e)
 too_long f xs r e Apart Long same apart (inl twice) parts = absurd (twice.1 apart)
 too_long f xs r e Apart Long same apart (inr long) parts = ((parts long).0, λ all. (parts long).1 (all_plain f (IsValid (type_and_value Bound)) xs (subst AreShort (sym same) all)))
 
--- these relative names of a name are left, and this was kept of those before
+-- The state of the loop: the RDNs so far became `kept`, and `more` are the remaining ones.
 pub record IsLeft (n kept more : PlainName) : Type 0 where
   pub short : AreShort (attributes_left n) → AreShort (attributes_left more)
   pub same : (rest : PlainName) → SameAttributes (domain_subject more) rest → SameAttributes (domain_subject n) (kept ++ rest)
@@ -123,7 +123,7 @@ module _ (n kept ws more : PlainName) (r : List TypeAndValue) (next : ws ≡ r �
   here : IsLeft n kept (r ∷ more)
   here = subst (IsLeft n kept) next h
 
-  -- where all of the name stays, the next relative name does
+  -- If the whole name may stay, so may the next RDN.
   this_stays : all_stays n ≡ true → (not (length r == 0) ≡ true) × (list_all may_stay r ≡ true)
   this_stays all =
       let both = and_parts (all_stays kept) (all_stays (r ∷ more)) (sym (list_all-append stays kept (r ∷ more)) ∙ ap all_stays (here.stay all) ∙ all) in
@@ -132,7 +132,7 @@ module _ (n kept ws more : PlainName) (r : List TypeAndValue) (next : ws ≡ r �
   pub next_stays : all_stays n ≡ true → list_all may_stay r ≡ true
   next_stays all = (this_stays all).1
 
-  -- where all attributes that are left are short, the next relative name's are, and those after it
+  -- If all attributes that may stay are short, so are those of the next RDN and of the later ones.
   these_short : AreShort (attributes_left n) → AreShort (left_of r) × AreShort (attributes_left more)
   these_short all = all_parts (IsValid (type_and_value Bound)) (left_of r) (attributes_left more) (here.short all)
 
@@ -159,11 +159,11 @@ module _ (n kept ws more : PlainName) (r : List TypeAndValue) (next : ws ≡ r �
       stay = λ all. append_assoc kept (s ∷ []) more ∙ ap (λ x. kept ++ x ∷ more) (same (next_stays all)) ∙ here.stay all;
     }
 
--- all were looked at
+-- All RDNs were processed.
 pub left_all : (n kept : PlainName) → IsLeft n kept [] → SameAttributes (domain_subject n) kept × (all_stays n ≡ true → kept ≡ n)
 left_all n kept h = (subst (SameAttributes (domain_subject n)) (append-nil kept) (h.same [] tt), λ all. sym (append-nil kept) ∙ h.stay all)
 
--- The check of a name, relative name by relative name.
+-- Checking a name, RDN by RDN.
 
 chosen : (b c : Bool) (x t : List ℕ) (d e : Error) → (if b then Err d else if c then Ok x else Err e) ≡ Ok t → x ≡ t
 chosen b c x t d e h = grind (arith, nat_tests)
@@ -173,7 +173,8 @@ one_type repeats before [] t e = absurd cc
 one_type repeats before (a ∷ []) t e = ap (λ u. u ∷ []) (chosen _ _ _ t _ _ e)
 one_type repeats before (a ∷ b ∷ more) t e = absurd cc
 
--- these relative names were found right, with these types, and these are left
+-- The state of the loop: the RDNs so far are allowed and have the types `found`, and `more` are the
+-- remaining ones.
 pub record IsChecked (repeats : Bool) (n : PlainName) (found : List (List ℕ)) (more : PlainName) : Type 0 where
   pub seen : PlainName
   pub whole : n ≡ seen ++ more
@@ -183,7 +184,7 @@ pub record IsChecked (repeats : Bool) (n : PlainName) (found : List (List ℕ)) 
 pub checked_none : (repeats : Bool) (n : PlainName) → IsChecked repeats n [] n
 checked_none repeats n = record { seen = []; whole = refl; types = refl; right = λ j h. absurd (omega (arith, h)) }
 
--- what is said of the next one is said of its place
+-- A fact about the next RDN is a fact about the RDN at its index.
 next_at : (repeats : Bool) (n : PlainName) (types : List (List ℕ)) (r : List TypeAndValue) (left : PlainName) → (c : IsChecked repeats n types (r ∷ left))
     → type_at repeats n (length c.seen) ≡ type_behind repeats types r
 next_at repeats n types r left c =
@@ -214,11 +215,11 @@ checked_all repeats n types c =
     let end : n ≡ c.seen = c.whole ∙ append-nil c.seen in
     (λ i h. c.right i (subst (λ m. i < length m) end h), c.types ∙ ap name_types (sym end))
 
--- each type may be there, and one that must is missing
+-- Each type is allowed, and a required type is missing.
 pub lacking : (n : PlainName) → IsNamed false n → foreign_type (name_types n) ≡ None → has_required (name_types n) ≡ false → NamesAuthority {X = Unit {0}} n (Err errors.MissingAttributes)
 lacking n named none lacks = inr (inl (named, inr (none, lacks, refl)))
 
--- A set of the types of a name, type by type.
+-- The set of the types of a name, type by type.
 
 either : (b c : Bool) → cond b true c ≡ (c || (b || false))
 either b c = grind (arith, nat_tests)

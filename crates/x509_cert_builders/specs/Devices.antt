@@ -1,4 +1,4 @@
--- Devices that have an identity of their own (IEEE 802.1AR 8).
+-- Devices with a secure identity (IEEE 802.1AR 8).
 use Rattle.std.specs.Prelude.{⊤, ℕ, List, [], ◌∷◌, length, ◌==◌, Bool, false, Option, Some, None}
 use Rattle.std.specs.Prelude.{Result, Ok, Err, IsOk, if◌then◌else◌}
 use Rattle.std.proofs.Common.{inl, inr}
@@ -28,64 +28,67 @@ use Rattle.x509_cert_builders.specs.declared.dev_id.DevId.{DevId}
 use Rattle.x509_cert_builders.specs.declared.tpm_version.TpmVersion.{TpmVersion}
 use Rattle.x509_cert_builders.specs.declared.tpm_version.TpmVersion.TheVariants as versions
 
+-- The abstract value of a general name.
 abbrev pub PlainGeneralName : Type 0
 PlainGeneralName = Value (general_name 0)
 
--- whether a name is that of a module of hardware
+-- The general name is an otherName with the OID of hardware module names (RFC 4108 5).
 abbrev pub is_of_module : PlainGeneralName → Bool
 is_of_module (inl n) = owned_eq n.0 module_arcs
 is_of_module (inr n) = false
 
--- the module that a name of this kind holds, or its first error; other names hold none
+-- The result of decoding the hardware module name in a general name. Other kinds of names yield
+-- Failed.
 abbrev pub module_of : PlainGeneralName → Result PlainModule ErrorKind
 module_of (inl n) = content_as Sequence (nested (hardware_module_name_fields Bound)) n.1.0
 module_of (inr n) = Err kinds.Failed
 
--- the module that the first name of this kind holds, or its first error
+-- The result of decoding the first hardware module name in a list, or Failed if there is none.
 abbrev pub first_module : List PlainGeneralName → Result PlainModule ErrorKind
 first_module [] = Err kinds.Failed
 first_module (n ∷ more) = if is_of_module n then module_of n else first_module more
 
--- a device may have these alternative names: where there are any, the first that is one of a module
--- holds one (IEEE 802.1AR 8.10.4)
+-- A device may have these alternative names: there are none, or the value of the first hardware
+-- module name is valid (IEEE 802.1AR 8.10.4).
 abbrev pub MayHave : Option (List PlainGeneralName) → Type 0
 MayHave None = ⊤
 MayHave (Some names) = IsOk (first_module names)
 
--- why it may not; or out of memory
+-- The error if a device must not have these alternative names, or OutOfMemory.
 abbrev pub MayNotHave : Option (List PlainGeneralName) → Error → Type 0
 MayNotHave None e = ⊥
 MayNotHave (Some names) e = FailsAs (first_module names) e
 
--- the name of a module of this type and this serial number, if a length can count its bytes
+-- The general name that contains the hardware module name with this type and serial number, if its
+-- encoding has fewer than 2^32 bytes.
 abbrev pub module_name : List ℕ → List ℕ → Result PlainGeneralName ErrorKind
 module_name arcs serial = module_held Bound (arcs, (serial, tt)) >>= λ n. Ok (inl n)
 
--- the identifier of a version of the Trusted Platform Module
+-- The OID of a version of the TPM.
 abbrev pub version_arcs : TpmVersion → List ℕ
 version_arcs versions.Tpm12 = 2 ∷ 23 ∷ 133 ∷ 1 ∷ 0 ∷ []
 version_arcs versions.Tpm20 = 2 ∷ 23 ∷ 133 ∷ 1 ∷ 2 ∷ []
 version_arcs (versions.Other oid) = oid
 
--- SubjectAltName, critical where the subject has no name (RFC 5280 4.2.1.6)
+-- SubjectAltName, which is critical if the subject's name is empty (RFC 5280 4.2.1.6).
 abbrev pub alternatives : PlainName → Option (List PlainGeneralName) → List PlainExtension
 alternatives subject None = []
 alternatives subject (Some names) =
     extension_of (id_ce 17) (length subject == 0)
     (sequence_of (general_name Bound)) names ∷ []
 
--- a device (8.10)
+-- The extensions of a device's certificate (IEEE 802.1AR 8.10).
 abbrev pub device_extensions : Option (List PlainGeneralName) → PlainName → PublicKey
     → List PlainExtension
 device_extensions names subject issuer_key = authority_key_extension issuer_key
     ∷ usage_extension digital_signature ∷ alternatives subject names
 
--- the alternative names of a device
+-- The alternative names of a device.
 abbrev pub device_names : DevId → Option (List PlainGeneralName)
 device_names d = plain_option (λ v. plain_list general_name_plain v.0.items) d.subject_alt_name
 
--- alternative names have no encoding, as where a length exceeds 2^32 - 1, and this is the first
--- error in writing them
+-- The alternative names have no encoding, for example because a length exceeds 2^32 - 1, and this
+-- is the error of encoding them.
 abbrev pub IsUnnameable : Option (List PlainGeneralName) → Error → Type 0
 IsUnnameable None e = ⊥
 IsUnnameable (Some names) e = IsUnwritten (sequence_of (general_name Bound)) names e

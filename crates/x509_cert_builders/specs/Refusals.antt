@@ -1,4 +1,4 @@
--- Why builders refuse.
+-- The errors of builders.
 use Rattle.std.specs.Prelude.{◌≡◌, [], false, None, Result, Err}
 use Rattle.x509_cert_certificates.specs.Der.ErrorTypes.Error.{Error as DerError}
 use Rattle.x509_cert_certificates.specs.Der.ErrorTypes.ErrorKind.{ErrorKind}
@@ -10,39 +10,41 @@ use Rattle.x509_cert_builders.specs.declared.build_error.Error.{Error}
 use Rattle.x509_cert_builders.specs.declared.build_error.Error.TheVariants as errors
 use Rattle.x509_cert_builders.specs.declared.sign_error.SignError.TheVariants as signers
 
--- an error in DER of this kind
+-- The error is `Asn1` with this kind.
 abbrev pub IsOfKind : ErrorKind → Error → Type 0
 IsOfKind kind (errors.Asn1 e) = e.kind ≡ kind
 IsOfKind kind _ = ⊥
 
--- out of memory; a signer's own is reported as one of its answers
+-- The error is `Asn1` with OutOfMemory. A signer that runs out of memory is reported as
+-- `Signature`.
 abbrev pub IsWantOfMemory : Error → Type 0
 IsWantOfMemory e = IsOfKind kinds.OutOfMemory e
 
--- what becomes of out of memory, where this is what becomes of an error in DER
+-- The error is one that OutOfMemory is converted to.
 abbrev pub IsWantOfMemoryAs : {E : Type 0} → (DerError → E → Type 0) → E → Type 0
 IsWantOfMemoryAs becomes e = (w : DerError) × (w.kind ≡ kinds.OutOfMemory) × becomes w e
 
--- an error that has no kind of its own
+-- The error is `Asn1` with Failed.
 abbrev pub IsFailed : Error → Type 0
 IsFailed e = IsOfKind kinds.Failed e
 
--- why this is none, or out of memory
+-- The error is `Asn1` with the kind with which `r` fails, or with OutOfMemory.
 abbrev pub FailsAs : {X : Type 0} → Result X ErrorKind → Error → Type 0
 FailsAs r (errors.Asn1 e) = Fails e.kind r
 FailsAs r _ = ⊥
 
--- A value has no encoding, as where a length exceeds 2^32 - 1, and this is the first error in
--- writing it.
+-- The value has no encoding, for example because a length exceeds 2^32 - 1, and `kind` is the error
+-- of encoding it.
 pub record HasNoEncoding (s : Shape) (v : Value s) (kind : ErrorKind) : Type 0 where
   pub invalid : IsValid s v → ⊥
   pub fault : write s v (record { written = []; room = None; failed = false }) ≡ Err kind
 
+-- The error is `Asn1` with the kind with which encoding the value fails.
 abbrev pub IsUnwritten : (s : Shape) → Value s → Error → Type 0
 IsUnwritten s v (errors.Asn1 e) = HasNoEncoding s v e.kind
 IsUnwritten s v _ = ⊥
 
--- why the signer gives no signature: it wants memory, or refuses, which it does only if it may
+-- The error of a signer. It refuses only if it may; it may run out of memory at any time.
 abbrev pub IsUnsigned : Type 0 → Error → Type 0
 IsUnsigned may_refuse (errors.Signature e) = e ≡ signers.Refused → may_refuse
 IsUnsigned may_refuse _ = ⊥

@@ -1,4 +1,4 @@
--- What a builder of certificates signs (RFC 5280 4.1.2).
+-- The TBSCertificate that a builder of certificates signs (RFC 5280 4.1.2).
 use Rattle.std.specs.Prelude.{true}
 use Rattle.x509_cert_certificates.specs.Oid.Bound.{Bound}
 use Rattle.x509_cert_certificates.specs.Der.Ranges.{IsInRange}
@@ -11,20 +11,20 @@ use Rattle.x509_cert_certificates.specs.CertParts.Grammar.{algorithm_identifier,
 use Rattle.x509_cert_certificates.specs.CertParts.Grammar.{public_key_info}
 use Rattle.x509_cert_certificates.specs.CertParts.Grammar.{validity}
 
--- the shape of a part, whatever serial numbers are read
+-- The shape of a TBSCertificate with a serial number of any length.
 abbrev pub part_shape : Shape
 part_shape = raw_tbs_certificate Bound
 
--- a part as it is written, with dates as RFC 5280 has them
+-- The TBSCertificate with its dates as RFC 5280 4.1.2.5 requires.
 abbrev pub written_part : Tbs → Tbs
 written_part t = tbs_by true t
 
--- the field of extensions in a part
+-- The field of a TBSCertificate that contains the extensions.
 abbrev pub extensions_field : Shape
 extensions_field = optional (explicit 3 (extensions Bound))
 
--- The parts of what is signed are in their ranges; of version, serial number and unique
--- identifiers nothing is said.
+-- The fields of a TBSCertificate are in range. Nothing is claimed for the version, the serial
+-- number and the unique identifiers.
 pub record IsPartInRange (t : Tbs) : Type 0 where
   pub algorithm : IsInRange (algorithm_identifier Bound) (tbs_inner_algorithm t)
   pub issuer : IsInRange (name Bound) (tbs_issuer t)

@@ -1,4 +1,4 @@
-//! Extensions that profiles add, and what keys are for.
+//! The extensions that profiles add, and the usages and purposes of keys in them.
 
 ghost use Rattle.std.specs.Prelude.{◌≡◌, ◌⊎◌, ◌<◌, ◌++◌, ◌∷◌, [], false, pos, Some, None, OnOk};
 ghost use Rattle.std.specs.Prelude.{IfOk, IfErr};
@@ -27,7 +27,13 @@ use x509_cert_extensions::{
     Criticality, ExtendedKeyUsage, KeyUsage, KeyUsages, SubjectKeyIdentifier, ToExtension,
 };
 
-/// Adds the extension of a value, of this number below `id-ce`, with the criticality of its type.
+/// Appends the extension with this value. Its OID is `id-ce` with this number, and its criticality
+/// is that of the value's type.
+///
+/// # Errors
+///
+/// - The errors of encoding the value.
+/// - `Asn1` with `OutOfMemory`: memory runs out.
 #[tactic(auto, using(crate::proofs::Subjects::plain_pushed, crate::proofs::Faults::not_made))]
 pub(crate) fn add<T: Encode + Criticality>(
     alloc: Global,
@@ -52,7 +58,11 @@ pub(crate) fn add<T: Encode + Criticality>(
     Ok(())
 }
 
-/// Adds the identifier of the key by which a certificate is signed (4.2.1.1).
+/// Appends the authority key identifier for the issuer's key (RFC 5280 4.2.1.1).
+///
+/// # Errors
+///
+/// - `Asn1` with `OutOfMemory`: memory runs out.
 #[tactic(auto, using(crate::proofs::Encodable::authority_valid, crate::proofs::Encodable::is_digest))]
 pub(crate) fn add_authority<'a>(
     alloc: Global,
@@ -70,7 +80,11 @@ pub(crate) fn add_authority<'a>(
     Ok(())
 }
 
-/// Adds the identifier of the certified key (4.2.1.2).
+/// Appends the subject key identifier for the certified key (RFC 5280 4.2.1.2).
+///
+/// # Errors
+///
+/// - `Asn1` with `OutOfMemory`: memory runs out.
 #[tactic(auto, using(crate::proofs::Encodable::identifier_valid, crate::proofs::Encodable::is_digest))]
 pub(crate) fn add_identifier<'a>(
     alloc: Global,
@@ -88,7 +102,11 @@ pub(crate) fn add_identifier<'a>(
     Ok(())
 }
 
-/// Adds whether the subject is an authority, and how many may be below it (4.2.1.9).
+/// Appends the basic constraints (RFC 5280 4.2.1.9).
+///
+/// # Errors
+///
+/// - `Asn1` with `OutOfMemory`: memory runs out.
 #[tactic(auto, using(crate::proofs::Encodable::constraints_valid))]
 pub(crate) fn add_constraints(
     alloc: Global,
@@ -110,7 +128,11 @@ pub(crate) fn add_constraints(
     Ok(())
 }
 
-/// Adds what the key is for (4.2.1.3).
+/// Appends the key usage (RFC 5280 4.2.1.3).
+///
+/// # Errors
+///
+/// - `Asn1` with `OutOfMemory`: memory runs out.
 #[tactic(auto, using(crate::proofs::Encodable::use_valid))]
 pub(crate) fn add_usage(
     alloc: Global,
@@ -127,7 +149,12 @@ pub(crate) fn add_usage(
     Ok(())
 }
 
-/// Adds that servers, and maybe clients, are reported by it (4.2.1.12).
+/// Appends the extended key usage for TLS servers and, if `clients` is true, TLS clients (RFC 5280
+/// 4.2.1.12).
+///
+/// # Errors
+///
+/// - `Asn1` with `OutOfMemory`: memory runs out.
 #[tactic(auto, using(crate::proofs::Encodable::purposes_valid))]
 pub(crate) fn add_purposes(
     alloc: Global,
@@ -145,7 +172,11 @@ pub(crate) fn add_purposes(
     Ok(())
 }
 
-/// Copies of extensions, and then these.
+/// Returns copies of the first extensions, followed by the second ones.
+///
+/// # Errors
+///
+/// - `Asn1` with `OutOfMemory`: memory runs out.
 pub(crate) fn joined(
     alloc: Global,
     added: &[Extension],
@@ -163,8 +194,8 @@ pub(crate) fn joined(
     Ok(all)
 }
 
-/// Returns what an authority's key is for: it signs certificates and lists, and maybe answers about
-/// the state of certificates.
+/// Returns the key usage of a CA: signing certificates and CRLs and, if it signs OCSP responses,
+/// digital signatures.
 pub(crate) fn authority_usage(emits_ocsp_response: bool) -> KeyUsage
     ensures { result.0.flags.0 ≡ authority_uses emits_ocsp_response }
 {
@@ -176,7 +207,11 @@ pub(crate) fn authority_usage(emits_ocsp_response: bool) -> KeyUsage
     KeyUsage(uses)
 }
 
-/// Returns the purposes of who proves to be a server, and maybe a client, or stands above such.
+/// Returns the extended key usage for TLS servers and, if `clients` is true, TLS clients.
+///
+/// # Errors
+///
+/// - `Asn1` with `OutOfMemory`: memory runs out.
 pub(crate) fn purposes_of(alloc: Global, clients: bool) -> Result<ExtendedKeyUsage, Error>
     ensures purposes { IfOk result (λ u. plain_list (λ a. a) u.0.items ≡ purposes clients) }
     ensures refused { IfErr result IsWantOfMemory }

@@ -1,4 +1,4 @@
-//! The types of attributes of which the naming rules speak.
+//! The attribute types that the naming rules for CAs mention.
 
 ghost use Rattle.std.specs.Prelude.{◌≡◌};
 ghost use Rattle.x509_cert_builders.specs.Naming.{authority_types, ordered_types};
@@ -9,10 +9,10 @@ use x509_cert_certificates::cert_names::attribute_types::{
 };
 use x509_cert_certificates::oid::ObjectIdentifier;
 
-/// Returns the types whose order in a name is laid down, in that order: between country and
-/// organization `stateOrProvinceName`, `localityName`, `postalCode` and `streetAddress`, after it
-/// `surname`, `givenName` and `organizationalUnitName` (CA/Browser Forum, Baseline Requirements
-/// 7.1.4.2).
+/// Returns the attribute types whose order in a name is fixed, in that order (CA/Browser Forum,
+/// Baseline Requirements 7.1.4.2). Between country and organization these are
+/// `stateOrProvinceName`, `localityName`, `postalCode` and `streetAddress`, and after it `surname`,
+/// `givenName` and `organizationalUnitName`.
 pub(crate) fn ordered_types() -> [ObjectIdentifier<39>; 11]
     ensures { result ≡ ordered_types }
 {
@@ -31,7 +31,8 @@ pub(crate) fn ordered_types() -> [ObjectIdentifier<39>; 11]
     ]
 }
 
-/// Returns the types that the name of an authority may have (7.1.2.10.2).
+/// Returns the attribute types that the name of a CA may contain (CA/Browser Forum, Baseline
+/// Requirements 7.1.2.10.2).
 pub(crate) fn authority_types() -> [ObjectIdentifier<39>; 7]
     ensures { result ≡ authority_types }
 {

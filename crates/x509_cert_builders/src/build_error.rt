@@ -1,4 +1,4 @@
-//! Why a certificate, a CRL or a CSR can't be made.
+//! The error of builders.
 
 ghost use Rattle.std.specs.Prelude.{◌≡◌};
 ghost use Rattle.x509_cert_builders.specs.declared.build_error.Error.TheVariants.{Asn1, Signature};
@@ -8,10 +8,10 @@ use crate::sign_error::SignError;
 use std::alloc::{AllocError, AllocFailed};
 use x509_cert_certificates::oid::ObjectIdentifier;
 
-/// Why a certificate, a CRL or a CSR can't be made.
+/// The error of building a certificate or another signed value.
 #[derive(Debug, Drop, thiserror::Error)]
 pub enum Error {
-    /// An error of DER, or memory ran out.
+    /// A value can't be encoded or decoded, or memory runs out.
     #[error("ASN.1: {0}")]
     Asn1(x509_cert_certificates::der::Error),
     /// The signer returned no signature.
@@ -20,19 +20,19 @@ pub enum Error {
     /// An RDN doesn't have exactly one attribute.
     #[error("a relative name hasn't exactly one attribute")]
     NonUniqueRdn,
-    /// An attribute type occurs twice in the name.
+    /// An attribute type occurs twice in a name.
     #[error("a type of attribute stands twice")]
     NonUniqueATV,
-    /// An attribute type isn't allowed in the name.
+    /// An attribute type isn't allowed in the name, or not at its position.
     #[error("attribute {oid} may not stand there")]
     InvalidAttribute {
-        /// The type.
+        /// The OID of the attribute type.
         oid: ObjectIdentifier<39>,
     },
-    /// A required attribute type is missing.
+    /// The name lacks an attribute type that is required.
     #[error("an attribute is missing")]
     MissingAttributes,
-    /// The profile doesn't make this kind of certificate.
+    /// The profile doesn't support this kind of certificate.
     #[error("no such certificate is made")]
     Unsupported,
 }

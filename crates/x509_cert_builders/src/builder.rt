@@ -1,4 +1,4 @@
-//! The builder trait.
+//! Building and signing a certificate or another signed value.
 
 use crate::build_error::Error;
 use crate::signer::Signer;
@@ -6,8 +6,8 @@ use rand_core::CryptoRng;
 use std::alloc::Global;
 use x509_cert_certificates::types::BitString;
 
-/// A builder of a signed value. The bytes that the signer gets are those of the signed part of the
-/// result.
+/// A builder of a signed value. The bytes that the signer receives are those of the signed part in
+/// the encoding of the result.
 pub trait Builder: Sized + Drop {
     ghost use Rattle.std.specs.Prelude.{◌≡◌, ◌⊎◌, ℕ, List, Option, Some, None, IfOk, IfErr, OnOk};
     ghost use Rattle.x509_cert_certificates.specs.Der.BitStrings.{Bits};
@@ -22,28 +22,29 @@ pub trait Builder: Sized + Drop {
     /// The shape of the part that is signed.
     ghost part_shape: { Shape };
 
-    /// The part that is signed, given the state of the builder and the signer's key and algorithm.
+    /// The part to be signed, given the state of the builder and the signer's key and algorithm.
     ghost to_sign: { Self → PublicKey → Algorithm → Value part_shape };
 
-    /// What else holds for a part that was made, such as that it has an encoding.
+    /// What is true of a part that `finalize` made, for example that it has an encoding.
     ghost is_valid: { Self → PublicKey → Algorithm → Type 0 };
 
-    /// Why there may be no part, except that memory runs out.
+    /// The errors of `finalize`, except that memory runs out.
     ghost faults: { Self → PublicKey → Algorithm → Error → Type 0 };
 
-    /// The part that was made last, if there is one.
+    /// The part of the last successful `finalize`, if there was one.
     ghost finalized: { Self → Option (Value part_shape) };
 
-    /// A relation of two builders that differ only in the part that was made last.
+    /// What else stays the same in a builder when `finalize` succeeds. By default nothing is
+    /// stated. The builders of this crate state that only the part of the last `finalize` changes.
     ghost is_same_otherwise: { Self → Self → Type 0 } = { λ _ _. Unit {0} };
 
-    /// The signature algorithm of the result for that part, given the algorithm of the signer.
+    /// The signature algorithm that `assemble` puts into the result, given the signer's algorithm.
     ghost algorithm_for: { Self → Algorithm → Algorithm };
 
     /// The signed part of the result.
     ghost signed_part: { Self.Output → Value part_shape };
 
-    /// The bytes of the signed part in the encoding of the result.
+    /// The bytes of the signed part within the encoding of the result.
     ghost signed_octets: { Self.Output → List ℕ };
 
     /// The signature algorithm of the result.
@@ -52,18 +53,18 @@ pub trait Builder: Sized + Drop {
     /// The signature of the result.
     ghost bits: { Self.Output → Bits };
 
-    /// Returns the bytes to be signed. The builder keeps the part that they encode for `assemble`,
-    /// and is otherwise unchanged. So a second call for the same signer returns the same bytes.
-    /// What is added between two calls is in the bytes of the second call, with what was added
-    /// before.
+    /// Returns the bytes to be signed. The builder keeps the part that they encode for `assemble`.
+    /// What else may change is stated by `is_same_otherwise`; the builders of this crate change
+    /// nothing else. If the call fails, the builder is unchanged.
+    ///
+    /// A second call for the same signer returns the same bytes. If something is added between the
+    /// calls, the second call returns bytes that contain it, too.
     ///
     /// # Errors
     ///
-    /// - `Asn1` with `Overflow`: a length exceeds 2^32 - 1.
     /// - `Asn1` with `OutOfMemory`: memory runs out.
-    /// - The errors of the profile.
-    ///
-    /// After an error the builder is as it was.
+    /// - The errors that the builder states: those of its profile, and `Asn1` with `Overflow` if a
+    ///   length exceeds 2^32 - 1.
     fn finalize<S: Signer>(&mut self, alloc: Global, signer: &S) -> Result<Vec<u8>, Error>
         ensures octets { IfOk result
             (λ v. v.items
@@ -83,11 +84,12 @@ pub trait Builder: Sized + Drop {
         ensures refused { IfErr result (λ e. IsWantOfMemory e
             ⊎ faults self.old (S.public_key signer.now) (S.signs_by signer.now) e) };
 
-    /// Returns the part that was finalized last, with this signature. Nothing is encoded.
+    /// Returns the result, which has the part of the last `finalize` and this signature. It
+    /// consumes the builder, and encodes nothing.
     ///
     /// # Errors
     ///
-    /// - `Asn1` with `Failed`: nothing was finalized.
+    /// - `Asn1` with `Failed`: `finalize` was never called successfully.
     /// - `Asn1` with `OutOfMemory`: memory runs out.
     fn assemble<S: Signer>(
         self,
@@ -103,12 +105,12 @@ pub trait Builder: Sized + Drop {
         ensures unready { finalized self ≡ None → IfErr result IsFailed }
         ensures refused { IfErr result (λ e. IsWantOfMemory e ⊎ (finalized self ≡ None)) };
 
-    /// Builds and signs the result.
+    /// Builds and signs the result. It consumes the builder.
     ///
     /// # Errors
     ///
     /// - The errors of `finalize` and of `assemble`.
-    /// - `Signature`: the signer returns no signature.
+    /// - `Signature`: the signer refuses to sign, or runs out of memory.
     fn build<S: Signer>(mut self, alloc: Global, signer: &S) -> Result<Self::Output, Error>
         ensures part { IfOk result
             (λ x. signed_part x ≡ to_sign self (S.public_key signer.now) (S.signs_by signer.now)) }
@@ -128,7 +130,8 @@ pub trait Builder: Sized + Drop {
         Ok(self.assemble(alloc, signature, signer)?)
     }
 
-    /// Builds and signs the result as `build` does, with a random number generator for the signer.
+    /// Builds and signs the result as `build` does, and passes a random number generator to the
+    /// signer.
     ///
     /// # Errors
     ///

@@ -1,14 +1,12 @@
-//! Profiles for building certificates.
-
 use crate::build_error::Error;
 use std::alloc::Global;
 use x509_cert_certificates::TbsCertificate;
 use x509_cert_certificates::cert_names::Name;
 use x509_cert_certificates::cert_parts::{Extensions, SubjectPublicKeyInfoRef};
 
-/// The names and extensions of a certificate that is built.
+/// A profile determines the names and the extensions of a certificate that is built.
 ///
-/// Except for errors, each result is a function of the arguments.
+/// Apart from errors, each result depends only on the arguments.
 pub trait BuilderProfile {
     ghost use Rattle.std.specs.Prelude.{◌≡◌, ◌⊎◌, List, Result, Ok, Err, IfOk, IfErr};
     ghost use Rattle.x509_cert_builders.specs.declared.build_error.Error.{Error};
@@ -23,21 +21,22 @@ pub trait BuilderProfile {
     // The issuer's name, given the subject's name.
     ghost issuer_name: { Self → PlainName → PlainName };
 
-    // The subject's name, or why there is none.
+    // The subject's name, or the error if there is none.
     ghost subject_name: { Self → Result PlainName Error };
 
-    // The extensions, given the certified key, the issuer's key, and the part that is signed,
-    // without extensions.
+    // The extensions, given the certified key, the issuer's key, and the TBSCertificate without
+    // extensions.
     ghost extensions: { Self → PublicKey → PublicKey → Tbs → List PlainExtension };
 
-    // Why naming the issuer or making extensions may fail, except that memory runs out.
+    // The errors of `get_issuer` and `build_extensions`, except that memory runs out.
     ghost refuses: { Self → Error → Type 0 };
 
     /// Returns the issuer's name.
     ///
     /// # Errors
     ///
-    /// - The errors of the profile, and out of memory.
+    /// - The errors of the profile.
+    /// - `Asn1` with `OutOfMemory`: memory runs out.
     fn get_issuer(&self, alloc: Global, subject: &Name) -> Result<Name, Error>
         ensures name { IfOk result
             (λ n. name_plain n ≡ issuer_name self.now (name_plain subject.now)) }
@@ -47,17 +46,19 @@ pub trait BuilderProfile {
     ///
     /// # Errors
     ///
-    /// - The errors of the profile, and out of memory.
+    /// - The errors of the profile.
+    /// - `Asn1` with `OutOfMemory`: memory runs out.
     fn get_subject(&self, alloc: Global) -> Result<Name, Error>
         ensures name { IfOk result (λ n. subject_name self.now ≡ Ok (name_plain n)) }
         ensures refused { IfErr result (λ e. IsWantOfMemory e ⊎ (subject_name self.now ≡ Err e)) };
 
-    /// Returns the extensions that the profile adds, in their order. The builder passes the part
-    /// that is signed, with version 3 and without extensions.
+    /// Returns the extensions that the profile adds, in their order. The builder passes the
+    /// TBSCertificate with version 3 and without extensions.
     ///
     /// # Errors
     ///
-    /// - The errors of the profile, and out of memory.
+    /// - The errors of the profile.
+    /// - `Asn1` with `OutOfMemory`: memory runs out.
     fn build_extensions<'a, 'b>(
         &self,
         alloc: Global,

@@ -1,5 +1,3 @@
-//! Builders of certificates.
-
 ghost use Rattle.std.specs.Prelude.{◌≡◌, ◌⊎◌, ◌++◌, ◌∷◌, [], Err, Some, None, IsOk, IfOk, IfErr};
 ghost use Rattle.std.specs.Prelude.{OnOk, OnErr};
 ghost use Rattle.x509_cert_certificates.specs.Oid.Bound.{Bound};
@@ -40,11 +38,11 @@ use x509_cert_certificates::types::BitString;
 use x509_cert_certificates::{Certificate, TbsCertificate};
 use x509_cert_extensions::ToExtension;
 
-/// A builder of certificates (RFC 5280 4.1), whose names and extensions its profile tells.
-/// Extensions that are added come before those of the profile.
+/// A builder of certificates (RFC 5280 4.1). Its profile determines the names and some of the
+/// extensions. Extensions that are added to the builder come before those of the profile.
 ///
-/// Contracts see its profile, what is settled, the extensions that were added, and the part that
-/// was made last.
+/// In contracts, its value is a `CertificateState`: the profile, the fields that `new` sets, the
+/// extensions that were added, and the part of the last `finalize`.
 #[derive(Drop)]
 pub struct CertificateBuilder<P> {
     profile: P,
@@ -53,8 +51,8 @@ pub struct CertificateBuilder<P> {
     finalized: Option<Finalized>,
 }
 
-/// What the part that was made last has besides what is settled: the algorithm by which it is
-/// signed, and its extensions.
+/// The algorithm and the extensions of the part of the last `finalize`. The other fields of that
+/// part are those of the builder.
 #[derive(Drop)]
 struct Finalized {
     algorithm: AlgorithmIdentifier,
@@ -70,7 +68,9 @@ impl<P> Model for CertificateBuilder<P> {
 }
 
 impl<P: BuilderProfile + Drop> CertificateBuilder<P> {
-    /// Returns a builder of a certificate with this number, these dates and this key.
+    /// Returns a builder of a certificate with this serial number, these dates and this key.
+    ///
+    /// # Examples
     ///
     /// As in `crates/example_build_certificates/src/answering.rt`:
     ///
@@ -84,7 +84,8 @@ impl<P: BuilderProfile + Drop> CertificateBuilder<P> {
     ///
     /// # Errors
     ///
-    /// - The errors of the profile, and out of memory.
+    /// - The errors of the profile.
+    /// - `Asn1` with `OutOfMemory`: memory runs out.
     pub fn new(
         alloc: Global,
         profile: P,
@@ -126,13 +127,14 @@ impl<P: BuilderProfile + Drop> CertificateBuilder<P> {
         })
     }
 
-    /// Adds the extension that a value gives.
+    /// Adds the extension that a value is turned into.
+    ///
+    /// If the call fails, the builder is unchanged.
     ///
     /// # Errors
     ///
-    /// - The errors of the value, and out of memory.
-    ///
-    /// The builder is then as it was.
+    /// - The errors of `ToExtension::to_extension`.
+    /// - `OutOfMemory`, converted to `E::Error`: memory runs out.
     pub fn add_extension<E: ToExtension>(
         &mut self,
         alloc: Global,
@@ -156,7 +158,12 @@ impl<P: BuilderProfile + Drop> CertificateBuilder<P> {
     }
 }
 
-/// Returns the extensions that a profile adds to a part, of this signer.
+/// Returns the extensions that the profile adds to this part for this signer.
+///
+/// # Errors
+///
+/// - The errors of the profile.
+/// - `Asn1` with `OutOfMemory`: memory runs out.
 fn profiled<P: BuilderProfile, S: Signer>(
     alloc: Global,
     profile: &P,
@@ -174,7 +181,13 @@ fn profiled<P: BuilderProfile, S: Signer>(
     Ok(profile.build_extensions(alloc, &key, &issuer_key, part)?)
 }
 
-/// Makes the part whole, with the extensions that were added and those of the profile.
+/// Completes the part with the signer's algorithm, the extensions that were added, and those of the
+/// profile.
+///
+/// # Errors
+///
+/// - The errors of the profile.
+/// - `Asn1` with `OutOfMemory`: memory runs out.
 fn make_whole<P: BuilderProfile, S: Signer>(
     alloc: Global,
     profile: &P,
@@ -197,8 +210,13 @@ fn make_whole<P: BuilderProfile, S: Signer>(
     Ok(())
 }
 
-/// Puts what the part that was made last has besides what is settled into the part again, and hands
-/// out its algorithm.
+/// Completes the part with the algorithm and the extensions of the last `finalize`, and returns the
+/// algorithm.
+///
+/// # Errors
+///
+/// - `Asn1` with `Failed`: `finalize` was never called successfully.
+/// - `Asn1` with `OutOfMemory`: memory runs out.
 fn put_back(
     alloc: Global,
     part: &mut TbsCertificate,
@@ -231,7 +249,7 @@ impl<P: BuilderProfile + Drop> Builder for CertificateBuilder<P> {
     ghost is_valid = { λ b key algorithm. IsValid part_shape
         (part_for P.extensions b key algorithm) };
 
-    // The profile refuses, or a length passes what can be counted.
+    // The profile fails, or the TBSCertificate has no encoding.
     ghost faults = { λ b key algorithm e. P.refuses b.profile e
         ⊎ IsUnwritten (tbs_certificate Bound (Some serial_octets_max))
         (part_for P.extensions b key algorithm) e };
@@ -240,7 +258,7 @@ impl<P: BuilderProfile + Drop> Builder for CertificateBuilder<P> {
 
     ghost is_same_otherwise = { λ b c. c ≡ record b { finalized = c.finalized } };
 
-    // A certificate bears the algorithm of its signed part (RFC 5280 4.1.1.2).
+    // The algorithm of a certificate is that of its TBSCertificate (RFC 5280 4.1.1.2).
     ghost algorithm_for = { λ b a. algorithm_of_last b.finalized a };
 
     ghost signed_part = { λ c. tbs (as_written (certificate_plain c)) };

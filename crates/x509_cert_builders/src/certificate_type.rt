@@ -1,5 +1,3 @@
-//! Kinds of subscribers.
-
 ghost use Rattle.std.specs.Prelude.{◌≡◌, ◌⊎◌, ◌∷◌, [], true, Ok, IsOk, IfOk, IfErr, IsPermutation};
 ghost use Rattle.std.specs.List.{list_all};
 ghost use Rattle.x509_cert_certificates.specs.Der.Copies.{IsCopy};
@@ -23,29 +21,30 @@ use x509_cert_certificates::cert_names::{
 use x509_cert_certificates::oid::ObjectIdentifier;
 use x509_cert_extensions::cert_general_names::GeneralNames;
 
-/// How it was found out who a subscriber is (CA/Browser Forum, Baseline Requirements 7.1.2.7.1).
+/// The validation that a CA performed for a subscriber (CA/Browser Forum, Baseline Requirements
+/// 7.1.2.7.1).
 #[derive(Debug, Drop, PartialEq)]
 pub enum CertificateType {
-    /// The domains were validated.
+    /// The CA validated the domains.
     DomainValidated(DomainValidated),
-    /// The person was.
+    /// The CA validated the identity of a person.
     IndividualValidated,
-    /// The organization was.
+    /// The CA validated the identity of an organization.
     OrganizationValidated,
-    /// The organization was, by the guidelines of extended validation.
+    /// The CA validated the identity of an organization by the guidelines for extended validation.
     ExtendedValidation,
 }
 
-/// Returns whether the subject of a subscriber whose domains were validated may have attributes of
-/// this type (7.1.2.7.2).
+/// Returns whether the subject of a domain-validated certificate may contain an attribute of this
+/// type (CA/Browser Forum, Baseline Requirements 7.1.2.7.2).
 fn may_stay(oid: &ObjectIdentifier<39>) -> bool
     ensures { result ≡ is_among (country ∷ common_name ∷ []) oid.now }
 {
     *oid == types::country() || *oid == types::common_name()
 }
 
-/// Returns whether the subject of a subscriber whose domains were validated may have all of these
-/// attributes.
+/// Returns whether the subject of a domain-validated certificate may contain all of these
+/// attributes (CA/Browser Forum, Baseline Requirements 7.1.2.7.2).
 pub fn all_stay(attributes: &[AttributeTypeAndValue]) -> bool
     ensures { result ≡ list_all may_stay (relative_plain attributes.now) }
 {
@@ -57,7 +56,11 @@ pub fn all_stay(attributes: &[AttributeTypeAndValue]) -> bool
     true
 }
 
-/// Returns the attributes of an RDN that stay.
+/// Returns the attributes of an RDN that the subject of a domain-validated certificate may contain.
+///
+/// # Errors
+///
+/// - `Asn1` with `OutOfMemory`: memory runs out.
 #[tactic(auto, using(crate::proofs::Subjects::plain_pushed, crate::proofs::Subjects::left_more, crate::proofs::Subjects::left_same, crate::proofs::Subjects::distinct_more, crate::proofs::Subjects::distinct_same))]
 fn attributes_left(
     alloc: Global,
@@ -77,7 +80,13 @@ fn attributes_left(
     Ok(left)
 }
 
-/// Returns what is left of an RDN.
+/// Returns the RDN with only the attributes that the subject of a domain-validated certificate may
+/// contain.
+///
+/// # Errors
+///
+/// - `Asn1` with `Overflow`: the encoding of an attribute has 2^32 bytes or more.
+/// - `Asn1` with `OutOfMemory`: memory runs out.
 #[tactic(auto, using(crate::proofs::Cited::plain_permutation, crate::proofs::Subjects::left_whole))]
 fn left_of(
     alloc: Global,
@@ -99,7 +108,13 @@ fn left_of(
     Ok(RelativeDistinguishedName::try_from_vec(attributes)?)
 }
 
-/// Returns what is left of a name: the RDNs of which something is left.
+/// Returns the name with only the attributes that the subject of a domain-validated certificate may
+/// contain, and without the RDNs that become empty.
+///
+/// # Errors
+///
+/// - `Asn1` with `Overflow`: the encoding of an attribute has 2^32 bytes or more.
+/// - `Asn1` with `OutOfMemory`: memory runs out.
 #[tactic(auto, using(crate::proofs::Subjects::left_none, crate::proofs::Subjects::left_all))]
 fn name_left(alloc: Global, name: &Name) -> Result<Name, Error>
     ensures left { IfOk result
@@ -121,13 +136,16 @@ fn name_left(alloc: Global, name: &Name) -> Result<Name, Error>
 }
 
 impl CertificateType {
-    /// Returns a subscriber of this name whose domains were validated. Attributes but countries and
-    /// common names are left out, and RDNs of which nothing is left (7.1.2.7.2). The domains are in
-    /// a certificate only if they are added to its builder.
+    /// Returns the type of a subscriber whose domains were validated.
+    ///
+    /// Only countries and common names of the subject are kept. Other attributes are left out, and
+    /// so are the RDNs that become empty (CA/Browser Forum, Baseline Requirements 7.1.2.7.2). The
+    /// domains are in a certificate only if they are also added to its builder.
     ///
     /// # Errors
     ///
-    /// Out of memory, or `Asn1` with `Overflow` if an attribute has 2^32 bytes or more.
+    /// - `Asn1` with `Overflow`: the encoding of an attribute has 2^32 bytes or more.
+    /// - `Asn1` with `OutOfMemory`: memory runs out.
     pub fn domain_validated(
         alloc: Global,
         subject: Name,
@@ -148,7 +166,11 @@ impl CertificateType {
         Ok(CertificateType::DomainValidated(DomainValidated { subject, names }))
     }
 
-    /// Returns a copy. The only error is that memory runs out.
+    /// Returns a copy.
+    ///
+    /// # Errors
+    ///
+    /// - `AllocError`: memory runs out.
     pub fn clone(&self, alloc: Global) -> Result<CertificateType, AllocError>
         ensures { IsCopy self.now result type_plain }
     {

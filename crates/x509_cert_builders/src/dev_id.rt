@@ -1,5 +1,3 @@
-//! Devices.
-
 ghost use Rattle.std.specs.Prelude.{◌≡◌, ◌⊎◌, ◌∷◌, ◌++◌, [], true, false, Ok, Some, IsOk, IfOk};
 ghost use Rattle.std.specs.Prelude.{IfErr, OnOk};
 ghost use Rattle.x509_cert_certificates.specs.Der.Grammar.{plain_list, plain_option};
@@ -28,16 +26,20 @@ use x509_cert_extensions::cert_general_names::{
 };
 use x509_cert_extensions::{KeyUsage, KeyUsages, SubjectAltName};
 
-/// The certificate of a device that has an identity of its own (IEEE 802.1AR 8).
+/// The profile of a certificate for a device with a secure identity (IEEE 802.1AR 8).
 #[derive(Drop)]
 pub struct DevId {
-    /// Who signs it.
+    /// The name of the issuer.
     pub issuer: Name,
     pub(crate) subject: Name,
     pub(crate) subject_alt_name: Option<SubjectAltName>,
 }
 
-/// Returns whether a name is that of a module of hardware.
+/// Returns whether a general name is a hardware module name.
+///
+/// # Errors
+///
+/// - `Asn1`: its value isn't a hardware module name although its OID says so, or memory runs out.
 fn is_of_module(alloc: Global, name: &GeneralName) -> Result<bool, Error>
     ensures other { is_of_module (general_name_plain name.now) ≡ false → result ≡ Ok false }
     ensures held { is_of_module (general_name_plain name.now) ≡ true
@@ -52,7 +54,14 @@ fn is_of_module(alloc: Global, name: &GeneralName) -> Result<bool, Error>
     Ok(module.is_some())
 }
 
-/// The first name of a module of hardware holds one.
+/// Checks that there is a hardware module name among these names, and that the value of the first
+/// one is valid.
+///
+/// # Errors
+///
+/// - `Asn1` with `Failed`: there is none.
+/// - `Asn1` with an error of `HardwareModuleName::from_other_name`: the value of the first one is
+///   invalid, or memory runs out.
 fn check_module(alloc: Global, names: &[GeneralName]) -> Result<(), Error>
     ensures held { OnOk result (IsOk (first_module (plain_list general_name_plain names.now))) }
     ensures refused { IfErr result
@@ -67,13 +76,15 @@ fn check_module(alloc: Global, names: &[GeneralName]) -> Result<(), Error>
 }
 
 impl DevId {
-    /// Returns the profile of a device of this name. Where it has alternative names, one of them is
-    /// the name of its module of hardware (8.10.4).
+    /// Returns the profile of a device with this name. If there are alternative names, one of them
+    /// must be a hardware module name (IEEE 802.1AR 8.10.4).
     ///
     /// # Errors
     ///
-    /// - `Asn1`: with `Failed` if there are names, none of them that of a module; that of the first
-    ///   name of a module which is none (`HardwareModuleName::from_other_name`); out of memory.
+    /// - `Asn1` with `Failed`: none of the alternative names is a hardware module name.
+    /// - `Asn1` with an error of `HardwareModuleName::from_other_name`: the value of the first
+    ///   hardware module name is invalid.
+    /// - `Asn1` with `OutOfMemory`: memory runs out.
     pub fn new(
         alloc: Global,
         issuer: Name,
@@ -106,13 +117,14 @@ impl DevId {
         })
     }
 
-    /// Returns the profile of a device whose key, the first that it had, is kept in a Trusted
-    /// Platform Module of this version and this serial number (TPM 2.0 Keys for Device Identity and
-    /// Attestation).
+    /// Returns the profile of a device whose initial device identity key is in a TPM of this
+    /// version with this serial number (Trusted Computing Group, TPM 2.0 Keys for Device Identity
+    /// and Attestation).
     ///
     /// # Errors
     ///
-    /// - `Asn1`: with `Overflow` if a length exceeds 2^32 - 1, and with `OutOfMemory`.
+    /// - `Asn1` with `Overflow`: a length exceeds 2^32 - 1.
+    /// - `Asn1` with `OutOfMemory`: memory runs out.
     #[tactic(auto, using(crate::proofs::Faults::want_fails))]
     pub fn idevid_tpm(
         alloc: Global,
@@ -145,7 +157,12 @@ impl DevId {
     }
 }
 
-/// The alternative names, where there are any.
+/// Appends the alternative names, if there are any.
+///
+/// # Errors
+///
+/// - `Asn1` with the error of encoding the names: they have no encoding.
+/// - `Asn1` with `OutOfMemory`: memory runs out.
 fn add_alternatives(
     alloc: Global,
     extensions: &mut Extensions,

@@ -1,4 +1,5 @@
-//! Builders: certificates, whose signed part is what their signers are handed.
+//! Builders of certificates: the builder and signer traits, the certificate builder, and profiles
+//! for CAs, subscribers and devices.
 #![tactic(auto)]
 
 mod added_extensions;
@@ -39,14 +40,14 @@ pub use subscriber::Subscriber;
 pub use tls12_options::Tls12Options;
 pub use tpm_version::TpmVersion;
 
-/// The names of `x509_cert_certificates` that the crates above use.
+/// The items of `x509_cert_certificates` that the crates above use.
 pub mod cert_certificates {
     pub use x509_cert_certificates::{
         CertDigest, Certificate, CertificateInner, TbsCertificate, TbsCertificateInner, laws,
     };
 }
 
-/// The names of `x509_cert_extensions` that the crates above use.
+/// The items of `x509_cert_extensions` that the crates above use.
 pub mod cert_extensions {
     pub use x509_cert_extensions::{
         AuthorityInfoAccessSyntax, BaseCrlNumber, Criticality, CrlDistributionPoints, CrlNumber,
@@ -56,4 +57,4 @@ pub mod cert_extensions {
     };
 }
 
-// What they make, and of what.
+// Items with which and from which the builders build.

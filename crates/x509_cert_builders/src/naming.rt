@@ -1,4 +1,4 @@
-//! The naming rules of authorities (CA/Browser Forum, Baseline Requirements 7.1.4.1, 7.1.2.10.2).
+//! The naming rules for CAs (CA/Browser Forum, Baseline Requirements 7.1.4.1, 7.1.2.10.2).
 
 ghost use Rattle.std.specs.Prelude.{◌≡◌, Ok, Err, not, true, Option, Some, None, IfOk, find};
 ghost use Rattle.x509_cert_certificates.specs.CertNames.Views.{name_plain};
@@ -12,7 +12,11 @@ use std::alloc::Global;
 use x509_cert_certificates::cert_names::{Name, attribute_types as types};
 use x509_cert_certificates::oid::ObjectIdentifier;
 
-/// Returns the types of a name that keeps the rules of all names, in its order.
+/// Checks the rules for all names, and returns the attribute types in the order of the name.
+///
+/// # Errors
+///
+/// - The errors of `check_names_encoding`.
 #[tactic(auto, using(crate::proofs::Subjects::checked_none, crate::proofs::Subjects::checked_more, crate::proofs::Subjects::checked_fault, crate::proofs::Subjects::checked_all))]
 fn types_of(
     alloc: Global,
@@ -30,14 +34,20 @@ fn types_of(
     Ok(found.into_types())
 }
 
-/// Checks the rules of all names (7.1.4.1): each RDN has exactly one attribute, no type stands
-/// twice but where that is allowed, and the types whose order is laid down are in that order, each
-/// at most once.
+/// Checks the rules for all names (CA/Browser Forum, Baseline Requirements 7.1.4.1):
+///
+/// - Each RDN has exactly one attribute.
+/// - No attribute type occurs twice, unless `multiple_allowed` is true.
+/// - The attribute types whose order is fixed are in that order, each at most once.
 ///
 /// # Errors
 ///
-/// At the first RDN that breaks a rule: `NonUniqueRdn`, `NonUniqueATV`, or `InvalidAttribute` with
-/// its type; or out of memory.
+/// The error of the first RDN that breaks a rule is returned, unless memory runs out.
+///
+/// - `NonUniqueRdn`: the RDN doesn't have exactly one attribute.
+/// - `NonUniqueATV`: the attribute type occurs twice.
+/// - `InvalidAttribute` with the attribute type: it isn't allowed after those before it.
+/// - `Asn1` with `OutOfMemory`: memory runs out.
 pub fn check_names_encoding(alloc: Global, name: &Name, multiple_allowed: bool) -> Result<(), Error>
     ensures { Names multiple_allowed (name_plain name.now) result }
 {
@@ -45,14 +55,14 @@ pub fn check_names_encoding(alloc: Global, name: &Name, multiple_allowed: bool) 
     Ok(())
 }
 
-/// Returns whether a type is among these.
+/// Returns whether the OID is in the list.
 fn is_among(types: &[ObjectIdentifier<39>], oid: &ObjectIdentifier<39>) -> bool
     ensures { result ≡ is_among types.now oid.now }
 {
     types.contains(oid)
 }
 
-/// Returns the first type that the name of an authority may not have.
+/// Returns the first attribute type that the name of a CA must not contain, if any.
 fn foreign_type(
     allowed: &[ObjectIdentifier<39>],
     found: &[ObjectIdentifier<39>],
@@ -67,7 +77,7 @@ fn foreign_type(
     None
 }
 
-/// Returns whether these are all types that the name of an authority must have.
+/// Returns whether these types include all that the name of a CA must contain.
 fn has_required(found: &[ObjectIdentifier<39>]) -> bool
     ensures { result ≡ has_required found.now }
 {
@@ -76,13 +86,19 @@ fn has_required(found: &[ObjectIdentifier<39>]) -> bool
         && found.contains(&types::common_name())
 }
 
-/// Checks the name of an authority (7.1.2.10.2): it keeps the rules of all names, with no type
-/// twice, has country, organization and common name, and besides at most state or province,
-/// locality, postal code and street.
+/// Checks the name of a CA (CA/Browser Forum, Baseline Requirements 7.1.2.10.2):
+///
+/// - It keeps the rules for all names, and no attribute type occurs twice.
+/// - It contains a country, an organization and a common name.
+/// - Beyond these, it contains at most a state or province, a locality, a postal code and a street
+///   address.
 ///
 /// # Errors
-/// That of `check_names_encoding`; `InvalidAttribute` with the first type that it may not have;
-/// `MissingAttributes`; or out of memory.
+///
+/// - The errors of `check_names_encoding`.
+/// - `InvalidAttribute` with the attribute type: the first that the name must not contain.
+/// - `MissingAttributes`: a required attribute is missing.
+/// - `Asn1` with `OutOfMemory`: memory runs out.
 #[tactic(auto, using(crate::proofs::Subjects::lacking))]
 pub fn ca_certificate_naming(alloc: Global, subject: &Name) -> Result<(), Error>
     ensures { NamesAuthority (name_plain subject.now) result }

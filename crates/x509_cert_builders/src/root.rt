@@ -1,5 +1,3 @@
-//! Roots.
-
 ghost use Rattle.std.specs.Prelude.{◌≡◌, Ok, IfOk};
 ghost use Rattle.x509_cert_certificates.specs.CertNames.Views.{name_plain};
 ghost use Rattle.x509_cert_builders.specs.Naming.{NamesAuthority};
@@ -16,17 +14,17 @@ use x509_cert_certificates::TbsCertificate;
 use x509_cert_certificates::cert_names::Name;
 use x509_cert_certificates::cert_parts::{Extensions, SubjectPublicKeyInfoRef};
 
-/// The certificate of an authority that signed it itself (CA/Browser Forum, Baseline Requirements
-/// 7.1.2.1).
+/// The profile of a root CA's certificate, which the CA signs itself (CA/Browser Forum, Baseline
+/// Requirements 7.1.2.1).
 #[derive(Drop)]
 pub struct Root {
-    /// Whether its key signs answers about the state of certificates, too.
+    /// True if the CA's key also signs OCSP responses.
     pub emits_ocsp_response: bool,
     subject: Name,
 }
 
 impl Root {
-    /// Returns the profile of a root of this name.
+    /// Returns the profile of a root CA with this name.
     ///
     /// # Errors
     ///

@@ -1,4 +1,4 @@
-//! Why a signer gives no signature.
+//! The error of signers.
 
 ghost use Rattle.std.specs.Prelude.{◌≡◌};
 ghost use Rattle.x509_cert_builders.specs.declared.sign_error.SignError.TheVariants.{OutOfMemory};
@@ -6,13 +6,13 @@ ghost use Rattle.x509_cert_builders.specs.declared.sign_error.SignError.TheVaria
 use std::alloc::{AllocError, AllocFailed};
 use thiserror::Error;
 
-/// Why a signer gives no signature.
+/// The error of a signer that returns no signature.
 #[derive(Clone, Copy, Debug, PartialEq, Eq, Error)]
 pub enum SignError {
-    /// The signer doesn't sign these bytes.
+    /// The signer refuses to sign these bytes.
     #[error("the signer refuses")]
     Refused,
-    /// Memory ran out.
+    /// Memory runs out.
     #[error("out of memory")]
     OutOfMemory,
 }

@@ -1,6 +1,5 @@
-//! The part of a certificate that is signed, as it is written. Its parts are in their ranges, so
-//! that it can fail to have an encoding only by its length: a law of the values of a type stands as
-//! the contract of a call that does nothing.
+//! Encoding the TBSCertificate of a builder. All parts of it are in range, so that it can lack an
+//! encoding only because of its length.
 
 ghost use Rattle.std.specs.Prelude.{◌≡◌, ◌⊎◌, Some, IfOk, IfErr};
 ghost use Rattle.x509_cert_certificates.specs.Oid.Bound.{Bound};
@@ -20,7 +19,12 @@ use x509_cert_certificates::TbsCertificate;
 use x509_cert_certificates::cert_parts::Validity;
 use x509_cert_certificates::der::{InRange, ToDer};
 
-/// The octets of a part.
+/// Encodes a TBSCertificate, with its dates as RFC 5280 4.1.2.5 requires.
+///
+/// # Errors
+///
+/// - `Asn1` with the error of encoding the value: it has no encoding.
+/// - `Asn1` with `OutOfMemory`: memory runs out.
 pub(crate) fn written(alloc: Global, part: &TbsCertificate) -> Result<Vec<u8>, Error>
     ensures octets { IfOk result
         (λ v. v.items ≡ octets_of part_shape (written_part (tbs_plain part.now))) }
@@ -34,6 +38,7 @@ pub(crate) fn written(alloc: Global, part: &TbsCertificate) -> Result<Vec<u8>, E
     Ok(octets)
 }
 
+/// States that the dates are in range. The function does nothing.
 fn validity_in_range(dates: &Validity)
     ensures { IsInRange validity (validity_plain dates.now) }
 {
@@ -41,7 +46,7 @@ fn validity_in_range(dates: &Validity)
     dates.not_after.in_range();
 }
 
-/// The parts of what is signed are in their ranges.
+/// States that the fields of a TBSCertificate are in range. The function does nothing.
 pub(crate) fn part_in_range(part: &TbsCertificate)
     ensures { IsPartInRange (tbs_plain part.now) }
 {

@@ -1,5 +1,3 @@
-//! Subordinate authorities.
-
 ghost use Rattle.std.specs.Prelude.{Ok, pos};
 ghost use Rattle.x509_cert_certificates.specs.Der.Grammar.{plain_option};
 ghost use Rattle.x509_cert_certificates.specs.CertNames.Views.{name_plain};
@@ -15,19 +13,19 @@ use x509_cert_certificates::TbsCertificate;
 use x509_cert_certificates::cert_names::Name;
 use x509_cert_certificates::cert_parts::{Extensions, SubjectPublicKeyInfoRef};
 
-/// The certificate of an authority whose key signs certificates of servers (CA/Browser Forum,
+/// The profile of a subordinate CA whose key signs certificates of TLS servers (CA/Browser Forum,
 /// Baseline Requirements 7.1.2.6).
 #[derive(Drop)]
 pub struct Subordinate {
-    /// Who signs it.
+    /// The name of the issuer.
     pub issuer: Name,
-    /// Whose certificate it is.
+    /// The name of the CA.
     pub subject: Name,
-    /// How many authorities may be below it, if that is bounded.
+    /// The greatest number of CAs below this one, if it is limited.
     pub path_len_constraint: Option<u8>,
-    /// Whether its key signs answers about the state of certificates, too.
+    /// True if the CA's key also signs OCSP responses.
     pub emits_ocsp_response: bool,
-    /// Whether its key signs certificates of clients, too.
+    /// True if the CA also issues certificates to TLS clients.
     pub client_auth: bool,
 }
 

@@ -1,5 +1,3 @@
-//! Subscribers.
-
 ghost use Rattle.std.specs.Prelude.{◌≡◌, ◌<◌, ◌^◌, bit_or, if◌then◌else◌};
 ghost use Rattle.x509_cert_certificates.specs.CertParts.Views.{key_lent};
 ghost use Rattle.x509_cert_certificates.specs.CertNames.Views.{name_plain};
@@ -19,23 +17,23 @@ use x509_cert_certificates::cert_parts::{Extensions, SubjectPublicKeyInfoRef};
 use x509_cert_certificates::types::FlagSet;
 use x509_cert_extensions::{KeyUsage, KeyUsages};
 
-/// The certificate of a server (CA/Browser Forum, Baseline Requirements 7.1.2.7). Its domains are
-/// added to the builder, as `SubjectAltName`.
+/// The profile of a TLS server's certificate (CA/Browser Forum, Baseline Requirements 7.1.2.7). The
+/// domains must be added to the builder as `SubjectAltName`.
 #[derive(Drop)]
 pub struct Subscriber {
-    /// How it was found out whose certificate it is.
+    /// The validation of the subscriber, with its subject.
     pub certificate_type: CertificateType,
-    /// Who signs it.
+    /// The name of the issuer.
     pub issuer: Name,
-    /// Whether the key proves who a client is, too.
+    /// True if the key may also authenticate a TLS client.
     pub client_auth: bool,
-    /// What TLS 1.2 needs besides.
+    /// Additional key usages for TLS 1.2.
     pub tls12_options: Tls12Options,
-    /// Whether an RSA key enciphers data.
+    /// True if an RSA key may also encrypt data.
     pub enable_data_encipherment: bool,
 }
 
-/// Returns the uses, and one more where it stands.
+/// Returns the usages, and also `more` if `stands` is true.
 fn with_use(uses: FlagSet<KeyUsages>, more: KeyUsages, stands: bool) -> FlagSet<KeyUsages>
     requires { more.0 < 2 ^ 9 }
     ensures { result.flags.0 ≡ (if stands then bit_or uses.flags.0 more.0 else uses.flags.0) }
@@ -47,7 +45,7 @@ fn with_use(uses: FlagSet<KeyUsages>, more: KeyUsages, stands: bool) -> FlagSet<
 }
 
 impl Subscriber {
-    /// Returns what its key is for.
+    /// Returns the key usage for this key.
     #[tactic(auto, using(crate::proofs::Encodable::joined_uses))]
     fn usage<'a>(&self, key: &SubjectPublicKeyInfoRef<'a>) -> KeyUsage
         ensures { result.0.flags.0 ≡ subscriber_uses self.now.enable_data_encipherment
@@ -85,9 +83,12 @@ impl BuilderProfile for Subscriber {
         Ok(self.issuer.clone(alloc)?)
     }
 
+    /// Returns the subject of a domain-validated subscriber.
+    ///
     /// # Errors
     ///
-    /// - `Unsupported`: all kinds but `DomainValidated`, and out of memory.
+    /// - `Unsupported`: the certificate type isn't `DomainValidated`.
+    /// - `Asn1` with `OutOfMemory`: memory runs out.
     fn get_subject(&self, alloc: Global) -> Result<Name, Error> {
         let CertificateType::DomainValidated(validated) = &self.certificate_type else {
             return Err(Error::Unsupported);

@@ -1,11 +1,11 @@
-//! Uses of keys for TLS 1.2.
+//! Additional key usages for TLS 1.2.
 
-/// What a subscriber's key is for besides signing, where TLS 1.2 exchanges keys without
-/// Diffie-Hellman (RFC 5246 7.4.2). TLS 1.3 needs none of it.
+/// The additional key usages that TLS 1.2 requires if keys are exchanged without ephemeral
+/// Diffie-Hellman (RFC 5246 7.4.2). TLS 1.3 requires none of them.
 #[derive(Default, Drop)]
 pub struct Tls12Options {
-    /// Whether an RSA key enciphers keys.
+    /// True if an RSA key may encrypt keys.
     pub enable_key_encipherment: bool,
-    /// Whether keys are agreed upon with a key on an elliptic curve.
+    /// True if an elliptic-curve key may be used for key agreement.
     pub enable_key_agreement: bool,
 }

@@ -1,4 +1,4 @@
-//! The types of a name, up to some place in it.
+//! The attribute types of a name, while its rules are checked.
 
 ghost use Rattle.std.specs.Prelude.{◌≡◌, ◌<◌, ◌≤◌, ℕ, List, [], ◌∷◌, ◌++◌, IfOk, length, Ok, Err};
 ghost use Rattle.std.specs.List.{list_all, position_or_len};
@@ -15,7 +15,7 @@ use std::marker::Model;
 use x509_cert_certificates::cert_names::RelativeDistinguishedName;
 use x509_cert_certificates::oid::ObjectIdentifier;
 
-/// Returns how many of these types come before a type; all of them where it is none of them.
+/// Returns the index of the OID in the list, or the length of the list if the OID isn't in it.
 fn rank_among(types: &[ObjectIdentifier<39>], oid: &ObjectIdentifier<39>) -> usize
     ensures { result ≡ position_or_len (λ u. owned_eq u oid.now) types.now }
 {
@@ -27,7 +27,8 @@ fn rank_among(types: &[ObjectIdentifier<39>], oid: &ObjectIdentifier<39>) -> usi
     types.len()
 }
 
-/// Returns the least rank that an ordered type may have after these types and one more.
+/// Returns the smallest rank that a type may have after the earlier types and this one. `least` is
+/// the smallest rank after the earlier types.
 fn least_behind(ordered: &[ObjectIdentifier<39>], oid: &ObjectIdentifier<39>, least: usize) -> usize
     ensures { ordered.now ≡ ordered_types → (types : List (List ℕ)) → IsLeastRank types least
         → IsLeastRank (types ++ oid.now ∷ []) result }
@@ -39,16 +40,18 @@ fn least_behind(ordered: &[ObjectIdentifier<39>], oid: &ObjectIdentifier<39>, le
     least
 }
 
-/// The types of a name, up to some place in it.
+/// The attribute types of the RDNs that were checked so far.
+///
+/// In contracts, its value is the list of the types.
 #[derive(Drop)]
 pub(crate) struct TypesBefore {
     // The types, in the order of the name.
     types: Vec<ObjectIdentifier<39>>,
-    // A set of the types, in which they are looked up.
+    // A set of these types, for lookups.
     seen: BTreeSet<ObjectIdentifier<39>, Global>,
-    // The types whose order is laid down.
+    // The attribute types whose order is fixed.
     ordered: [ObjectIdentifier<39>; 11],
-    // The least rank in that order which a type after all these may have.
+    // The smallest rank in that order that the next type may have.
     least: usize,
 }
 
@@ -62,7 +65,7 @@ impl Model for TypesBefore {
 }
 
 impl TypesBefore {
-    /// No types.
+    /// Returns the empty list of types.
     pub(crate) fn new(alloc: Global) -> TypesBefore
         ensures { result ≡ [] }
     {
@@ -74,27 +77,27 @@ impl TypesBefore {
         }
     }
 
-    /// Returns whether a type is among these.
+    /// Returns whether the type is in the list.
     fn has(&self, oid: &ObjectIdentifier<39>) -> bool
         ensures { result ≡ is_among self.now oid.now }
     {
         self.seen.contains(oid)
     }
 
-    /// Returns whether a type may be after all of these.
+    /// Returns whether the type may come after all types in the list.
     fn may_be_followed_by(&self, oid: &ObjectIdentifier<39>) -> bool
         ensures { result ≡ list_all (may_follow oid.now) self.now }
     {
         self.least <= rank_among(&self.ordered, oid)
     }
 
-    /// Returns the type of an RDN's attribute, after attributes of these types.
+    /// Returns the attribute type of the next RDN, if the RDN is allowed after these types.
     ///
     /// # Errors
     ///
-    /// - `NonUniqueRdn`.
-    /// - `NonUniqueATV`.
-    /// - `InvalidAttribute`: with the type.
+    /// - `NonUniqueRdn`: the RDN doesn't have exactly one attribute.
+    /// - `NonUniqueATV`: the attribute type is in the list, and `multiple_allowed` is false.
+    /// - `InvalidAttribute` with the attribute type: it isn't allowed after those before it.
     pub(crate) fn type_behind(
         &self,
         relative: &RelativeDistinguishedName,
@@ -115,11 +118,11 @@ impl TypesBefore {
         Ok(oid)
     }
 
-    /// Returns the types before, and one more after them.
+    /// Returns the list with another type at its end.
     ///
     /// # Errors
     ///
-    /// Fails if memory runs out.
+    /// - `AllocError`: memory runs out.
     pub(crate) fn and(self, oid: ObjectIdentifier<39>) -> Result<TypesBefore, AllocError>
         ensures { IfOk result (λ t. t ≡ self ++ oid ∷ []) }
     {
@@ -140,7 +143,7 @@ impl TypesBefore {
         })
     }
 
-    /// Returns the types alone.
+    /// Converts the value to the list of types.
     pub(crate) fn into_types(self) -> Vec<ObjectIdentifier<39>>
         ensures { result.items ≡ self }
     {

@@ -1,4 +1,4 @@
--- Certificates whose dates are respelled: they have an encoding, and which of them are the same.
+-- Lemmas about certificates with re-encoded dates, and about certificates under two bounds on arcs.
 use Rattle.std.proofs.Common.{◌≡◌, ℕ, ◌≤◌, List, [], ◌++◌, length, Bool, true, false, Option, refl, ap, ◌↔◌, zero, suc, ◌⊎◌, inl, inr, ◌∷◌, arith}
 use Rattle.der_core.specs.TagTypes.Tag.TheVariants as tags
 use Rattle.der_core.specs.Shapes.{Body, IsValid, IsContent, IsBody, field, done, octets_of, body_octets}
@@ -13,7 +13,7 @@ use Rattle.der_core.specs.Bounds.{IsValidUnder, identifiers_of, HoldsLarge}
 use Rattle.x509_cert_certificates.specs.Bounds.{certificate_identifiers, SpellsEach, OneHoldsLarge}
 use Rattle.der_core.proofs.BoundLaws.{below_or_large, Family, valid_wider, valid_narrow}
 
--- the fields from one on
+-- The fields from the subject and from later ones on.
 abbrev from_subject : ℕ → Body
 from_subject bound = field (name bound) (field (public_key_info bound) (optional_fields bound))
 
@@ -72,9 +72,9 @@ octets_same bound limit c h =
       λ p. ap (λ (v : PlainValidity). octets_of (certificate bound limit) (with_validity c v)) (same.1 p),
     )
 
--- Certificates under two bounds of arcs.
+-- Certificates under two bounds on arcs.
 
--- the bytes are the same, and what is valid is judged by the bound of its shape
+-- The encoding is the same, and validity depends on the bound of the shape.
 pub bounds_alike : (bound : ℕ) (limit : Option ℕ) (c : PlainCertificate) → (IsValid (certificate bound limit) c ↔ IsValidUnder bound (certificate 0 limit) c) × (octets_of (certificate bound limit) c ≡ octets_of (certificate 0 limit) c)
 unfolding IsValid IsValidUnder octets_of
 bounds_alike bound limit c = ((λ h. h, λ h. h), refl)
@@ -89,7 +89,7 @@ certificates limit = record {
   enough = λ b. refl;
 }
 
--- Certificates one after another
+-- Certificates one after another.
 
 each_wider : (small large : ℕ) (limit : Option ℕ) → small ≤ large → (cs : List PlainCertificate) → AllByRecursion (λ c. IsValid (certificate small limit) c) cs
     → AllByRecursion (λ c. IsValid (certificate large limit) c) cs

@@ -1,4 +1,5 @@
--- The length, the order and the first tag of the fields that a record lends are those of its own.
+-- Lemmas for records whose fields are borrowed: length, order and first tag of the fields are those
+-- of the record.
 use Rattle.std.proofs.Common.{◌≡◌, Option, Result, Ok, subst, IfOk, IfErr, Ordering}
 use Rattle.der_core.specs.ErrorTypes.Error.{Error}
 use Rattle.der_core.specs.LengthTypes.Length.{Length}

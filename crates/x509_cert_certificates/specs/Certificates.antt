@@ -1,5 +1,5 @@
--- Certificates (RFC 5280 4.1). Each shape takes the bound of arcs and the greatest number of
--- content bytes of a serial number, if there is such a number.
+-- The grammar of certificates (RFC 5280 4.1). Each shape depends on a bound on the arcs of OIDs and
+-- on the greatest number of content bytes of a serial number, if it is limited.
 use Rattle.std.specs.Prelude.{ℕ, ℤ, List, [], length, Bool, Option, None}
 use Rattle.std.specs.Option.{option_map_or}
 use Rattle.der_core.specs.TagTypes.Tag.TheVariants as tags
@@ -18,8 +18,8 @@ use Rattle.x509_cert_parts.specs.Grammar as parts
 use Rattle.x509_cert_parts.specs.Respelling.{validity_by}
 
 -- TBSCertificate ::= SEQUENCE { version [0] EXPLICIT Version DEFAULT v1, serialNumber, signature,
---     issuer, validity, subject, subjectPublicKeyInfo, issuerUniqueID [1] IMPLICIT BIT STRING
---     OPTIONAL, subjectUniqueID [2] likewise, extensions [3] EXPLICIT Extensions OPTIONAL }
+-- issuer, validity, subject, subjectPublicKeyInfo, issuerUniqueID [1] IMPLICIT BIT STRING OPTIONAL,
+-- subjectUniqueID [2] IMPLICIT BIT STRING OPTIONAL, extensions [3] EXPLICIT Extensions OPTIONAL }.
 abbrev pub optional_fields : ℕ → Body
 optional_fields bound = field (optional (implicit_leaf 1 bits))
     (field (optional (implicit_leaf 2 bits))
@@ -37,7 +37,7 @@ abbrev pub tbs_certificate : ℕ → Option ℕ → Shape
 tbs_certificate bound limit = sequence (tbs_fields bound limit)
 
 -- Certificate ::= SEQUENCE { tbsCertificate TBSCertificate, signatureAlgorithm AlgorithmIdentifier,
---     signatureValue BIT STRING }
+-- signatureValue BIT STRING }.
 abbrev pub certificate_fields : ℕ → Option ℕ → Body
 certificate_fields bound limit =
     field (tbs_certificate bound limit) (field (algorithm_identifier bound) (field bit_string done))
@@ -45,7 +45,7 @@ certificate_fields bound limit =
 abbrev pub certificate : ℕ → Option ℕ → Shape
 certificate bound limit = sequence (certificate_fields bound limit)
 
--- as they are read under `Raw`, which reads serial numbers of any number of bytes
+-- The shapes under `Raw`, which accepts serial numbers of any length.
 abbrev pub raw_tbs_fields : ℕ → Body
 raw_tbs_fields bound = tbs_fields bound None
 
@@ -58,14 +58,14 @@ raw_certificate_fields bound = certificate_fields bound None
 abbrev pub raw_certificate : ℕ → Shape
 raw_certificate bound = sequence (certificate_fields bound None)
 
--- Plain values. Neither the bound nor the profile changes what they are.
+-- The abstract values of these shapes. Neither the bound nor the profile changes their types.
 abbrev pub Tbs : Type 0
 Tbs = Value (tbs_certificate 0 None)
 
 abbrev pub PlainCertificate : Type 0
 PlainCertificate = Value (raw_certificate 0)
 
--- parts of a signed part
+-- The fields of a TBSCertificate.
 abbrev pub tbs_version : Tbs → ℤ
 tbs_version t = t.0
 
@@ -99,17 +99,18 @@ tbs_subject_unique_id t = t.1.1.1.1.1.1.1.1.0
 abbrev pub tbs_extensions : Tbs → Option (List PlainExtension)
 tbs_extensions t = t.1.1.1.1.1.1.1.1.1.0
 
+-- The dates of a TBSCertificate, whatever their encoding.
 abbrev pub tbs_not_before : Tbs → Civil
 tbs_not_before t = civil_of (parts.not_before (tbs_validity t))
 
 abbrev pub tbs_not_after : Tbs → Civil
 tbs_not_after t = civil_of (parts.not_after (tbs_validity t))
 
--- parts of a certificate
+-- The TBSCertificate of a certificate, and some of its fields.
 abbrev pub tbs : PlainCertificate → Tbs
 tbs c = c.0
 
--- the outer algorithm and the signature's bits
+-- The outer algorithm and the bits of the signature.
 abbrev pub outer_algorithm : PlainCertificate → Algorithm
 outer_algorithm c = c.1.0
 
@@ -134,23 +135,25 @@ subject c = tbs_subject (tbs c)
 abbrev pub public_key : PlainCertificate → PublicKey
 public_key c = tbs_public_key (tbs c)
 
--- none if the field is absent
+-- The extensions of a certificate: none if the field is absent.
 abbrev pub extensions_of : PlainCertificate → List PlainExtension
 extensions_of c = option_map_or (λ es. es) (tbs_extensions (tbs c)) []
 
--- the bytes of a certificate, of whatever profile
+-- The encoding of a certificate, whatever its profile accepts.
 abbrev pub certificate_octets : ℕ → PlainCertificate → List ℕ
 certificate_octets bound c = octets_of (raw_certificate bound) c
 
--- The place of the signed part in them (4.1.1.3): it follows the outer header.
+-- The position of the TBSCertificate in the encoding (4.1.1.3): it follows the outer header.
 unfoldable pub signed_start : ℕ → PlainCertificate → ℕ
 signed_start bound c =
     length (head_octets tags.Sequence (length (body_octets (certificate_fields bound None) c)))
 
+-- The length of the TBSCertificate's encoding in bytes.
 unfoldable pub signed_length : ℕ → PlainCertificate → ℕ
 signed_length bound c = length (octets_of (tbs_certificate bound None) c.0)
 
--- where the dates of the validity are re-encoded, or not
+-- A TBSCertificate whose dates are re-encoded as RFC 5280 4.1.2.5 requires if `r` is true, and
+-- otherwise unchanged; and a certificate with that TBSCertificate.
 abbrev pub tbs_by : Bool → Tbs → Tbs
 tbs_by r t = (t.0, (t.1.0, (t.1.1.0, (t.1.1.1.0, (validity_by r (tbs_validity t), t.1.1.1.1.1)))))
 

@@ -1,5 +1,6 @@
-//! Making certificates. The fields of a certificate are private, so that nothing can change it. A
-//! new one is made here, from a part that is prepared and then completed.
+//! Building certificates. The fields of a certificate are private, so that it can't change once it
+//! exists. The functions here prepare a TBSCertificate for a profile, complete it, and add the
+//! signature.
 
 ghost use Rattle.std.specs.Prelude.{◌≡◌, pos};
 ghost use Rattle.der_core.specs.Grammar.{plain_option};
@@ -22,8 +23,8 @@ use x509_cert_parts::{
     AlgorithmIdentifier, Extensions, SerialNumber, SubjectPublicKeyInfo, Validity, Version,
 };
 
-/// Returns the part that a profile gets: version 3, with this algorithm, and without extensions.
-/// Unique identifiers are never made (RFC 5280 4.1.2.8).
+/// Returns the TBSCertificate that a profile receives: version 3, with this algorithm, and without
+/// extensions. It never has unique identifiers (RFC 5280 4.1.2.8).
 pub fn bare_part<P>(
     serial_number: SerialNumber<P>,
     signature: AlgorithmIdentifier,
@@ -56,7 +57,8 @@ pub fn bare_part<P>(
     }
 }
 
-/// Turns the part into the one that a profile gets, with this algorithm.
+/// Turns a TBSCertificate into the one that a profile receives: version 3, with this algorithm, and
+/// without extensions and unique identifiers.
 pub fn lay_bare<P>(part: &mut TbsCertificateInner<P>, algorithm: AlgorithmIdentifier)
     ensures { tbs_plain part.new ≡ bare_part (fields_of (tbs_plain part.old))
         (algorithm_plain algorithm) }
@@ -68,7 +70,7 @@ pub fn lay_bare<P>(part: &mut TbsCertificateInner<P>, algorithm: AlgorithmIdenti
     part.extensions = None;
 }
 
-/// Returns the extensions, if there is one (RFC 5280 4.1.2.9).
+/// Returns the extensions, or `None` if the list is empty (RFC 5280 4.1.2.9).
 fn listed(extensions: Extensions) -> Option<Extensions>
     ensures { plain_option (λ v. extensions_plain v.items) result
         ≡ extensions_if_any (extensions_plain extensions.items) }
@@ -79,7 +81,8 @@ fn listed(extensions: Extensions) -> Option<Extensions>
     Some(extensions)
 }
 
-/// Returns the version of a part with these extensions (4.1.2.1).
+/// Returns the version that these extensions require: version 3 if there are any, and otherwise
+/// version 1 (RFC 5280 4.1.2.1).
 fn version_for(extensions: &Extensions) -> Version
     ensures { pos (version_number result)
         ≡ version_of (has_any (extensions_plain extensions.now.items)) }
@@ -90,7 +93,8 @@ fn version_for(extensions: &Extensions) -> Version
     Version::V3
 }
 
-/// Puts the extensions into a part that was laid bare.
+/// Sets the extensions of a TBSCertificate, and its version according to them. Unique identifiers
+/// are removed.
 pub fn complete<P>(part: &mut TbsCertificateInner<P>, extensions: Extensions)
     ensures { tbs_plain part.new ≡ signed_part (fields_of (tbs_plain part.old))
         (tbs_inner_algorithm (tbs_plain part.old)) (extensions_plain extensions.items) }
@@ -101,7 +105,10 @@ pub fn complete<P>(part: &mut TbsCertificateInner<P>, extensions: Extensions)
     part.extensions = listed(extensions);
 }
 
-/// Removes the extensions from a part, and returns them.
+/// Moves the extensions out of a TBSCertificate and returns them. If the field is absent, the list
+/// is empty.
+///
+/// The serial number, the names, the validity and the key are unchanged.
 pub fn take_extensions<P>(alloc: Global, part: &mut TbsCertificateInner<P>) -> Extensions
     ensures taken { extensions_plain result.items ≡ extensions_in (tbs_plain part.old) }
     ensures fields { fields_of (tbs_plain part.new) ≡ fields_of (tbs_plain part.old) }
@@ -112,7 +119,7 @@ pub fn take_extensions<P>(alloc: Global, part: &mut TbsCertificateInner<P>) -> E
     }
 }
 
-/// Returns the certificate with this part and its signature.
+/// Returns the certificate with this TBSCertificate, this algorithm and this signature.
 pub fn certificate_of<P>(
     tbs_certificate: TbsCertificateInner<P>,
     signature_algorithm: AlgorithmIdentifier,

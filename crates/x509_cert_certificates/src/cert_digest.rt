@@ -1,22 +1,22 @@
-//! Digests of certificates.
+//! Digests of certificates, used as fingerprints.
 
 ghost use Rattle.sha1.specs.Sha1.{sha1};
 
 use sha1::Sha1;
 use std::alloc::{AllocError, Global};
 
-/// A digest by which certificates are named.
+/// A hash function for the digests of certificates.
 pub trait CertDigest {
     ghost use Rattle.std.specs.Prelude.{◌≡◌, ℕ, List, IfOk};
 
-    // The digest of bytes.
+    // The digest of these bytes.
     ghost digest_of: { List ℕ → List ℕ };
 
     /// Returns the digest of these bytes.
     ///
     /// # Errors
     ///
-    /// Fails if memory runs out.
+    /// - `AllocError`: memory runs out.
     fn digest(alloc: Global, octets: &[u8]) -> Result<Vec<u8>, AllocError>
         ensures { IfOk result (λ d. d.items ≡ digest_of octets.now) };
 }

@@ -1,4 +1,4 @@
-//! Certificates.
+//! X.509 certificates (RFC 5280 4.1).
 
 ghost use Rattle.std.specs.Prelude.{◌≡◌, ◌≢◌, [], false, None, refl, IfOk, IfErr};
 ghost use Rattle.der_core.specs.Oid.Bound.{Bound};
@@ -20,7 +20,9 @@ use std::alloc::Global;
 use x509_cert_parts::types::BitString;
 use x509_cert_parts::{AlgorithmIdentifier, Profile, Rfc5280};
 
-/// A certificate (RFC 5280 4.1).
+/// An X.509 certificate (RFC 5280 4.1). The profile ([`Profile`]) determines which serial numbers
+/// are accepted and how dates are encoded: [`Rfc5280`] is the default, and `Raw` accepts every
+/// serial number and keeps the form of each date.
 ///
 /// ```text
 /// Certificate ::= SEQUENCE {
@@ -31,15 +33,16 @@ use x509_cert_parts::{AlgorithmIdentifier, Profile, Rfc5280};
 #[derive(Drop)]
 #[derive_where(Debug, PartialEq, Eq)]
 pub struct CertificateInner<P = Rfc5280> {
-    /// The TBSCertificate.
+    /// The signed part.
     pub(crate) tbs_certificate: TbsCertificateInner<P>,
-    /// The algorithm by which it is signed.
+    /// The signature algorithm. RFC 5280 4.1.1.2 requires it to be the one in the signed part;
+    /// decoding doesn't compare the two.
     pub(crate) signature_algorithm: AlgorithmIdentifier,
-    /// The issuer's signature over the bytes of the TBSCertificate.
+    /// The issuer's signature over the encoding of the signed part.
     pub(crate) signature: BitString,
 }
 
-/// A certificate by the profile of RFC 5280.
+/// A certificate under the profile of RFC 5280.
 pub type Certificate = CertificateInner<Rfc5280>;
 
 impl<P: Profile> Fields for CertificateInner<P> {
@@ -71,7 +74,9 @@ impl<P: Profile> Rows for CertificateInner<P> {
 }
 
 impl<P: Profile> CertificateInner<P> {
-    /// Decodes a certificate from all bytes.
+    /// Decodes a certificate from its DER encoding, which must be all of the bytes.
+    ///
+    /// # Examples
     ///
     /// As in `crates/example_subject_of_certificate/src/main.rt`:
     ///
@@ -82,25 +87,29 @@ impl<P: Profile> CertificateInner<P> {
     ///
     /// # Errors
     ///
-    /// - The first error that decoding meets.
+    /// - The first error that decoding encounters.
     /// - `OutOfMemory`: memory runs out.
     pub fn from_der(alloc: Global, bytes: &[u8]) -> Result<CertificateInner<P>, Error>
-        // What is accepted is an encoding.
+        // Accepted bytes are the encoding of the certificate.
         ensures spelled { IfOk result
             (λ c. Spells (certificate Bound P.serial_limit) (certificate_plain c)
             bytes.now) }
-        // If an error isn't that memory ran out, the bytes encode no certificate.
+        // If the error isn't that memory ran out, the bytes encode no certificate.
         ensures refused { IfErr result (λ e. e.kind ≢ ErrorKind.OutOfMemory → (c : PlainCertificate)
             → Spells (certificate Bound P.serial_limit) c bytes.now → ⊥) }
-        // The error is exact.
+        // The value or the error is that of the decoder that the specification defines.
         ensures exact { Gives (λ c. (certificate_plain c, [])) result
             (read_whole (certificate Bound P.serial_limit) bytes.now) }
     {
         FromDer::from_der(alloc, bytes)
     }
 
-    /// Returns the digest of the certificate's encoding, in which the profile decides how dates are
-    /// encoded.
+    /// Returns the digest of the certificate's encoding, in which the profile determines the form
+    /// of the dates.
+    ///
+    /// Use the profile `Raw` for fingerprints: it keeps each date as it was decoded. Under
+    /// `Rfc5280` a date can be encoded in another form, and then the digest isn't that of the bytes
+    /// that were decoded.
     ///
     /// # Errors
     ///
@@ -110,11 +119,11 @@ impl<P: Profile> CertificateInner<P> {
         ensures ok { IfOk result (λ d. d.items ≡ D.digest_of (octets_of
             (certificate Bound P.serial_limit)
             (certificate_by P.respells (certificate_plain self.now)))) }
-        // For a certificate that has an encoding, the only error is that memory runs out.
+        // If the certificate has an encoding, the only error is that memory runs out.
         ensures valid { IsValid (certificate Bound P.serial_limit)
             (certificate_by P.respells (certificate_plain self.now))
             → IfErr result (λ e. e.kind ≡ ErrorKind.OutOfMemory) }
-        // Any other is rejected for the error with which its writing ends, too.
+        // Any other error is the one with which encoding the certificate fails.
         ensures fault { IfErr result (λ e. Fails e.kind (write (certificate Bound P.serial_limit)
             (certificate_by P.respells (certificate_plain self.now))
             (record { written = []; room = None; failed = false }))) }
@@ -125,14 +134,14 @@ impl<P: Profile> CertificateInner<P> {
 }
 
 impl<P> CertificateInner<P> {
-    /// Returns the part that is signed.
+    /// Returns the signed part.
     pub fn tbs_certificate(&self) -> &TbsCertificateInner<P>
         ensures { tbs_plain result.now ≡ tbs (certificate_plain self.now) }
     {
         &self.tbs_certificate
     }
 
-    /// Returns the signature algorithm.
+    /// Returns the signature algorithm that is given with the signature, outside the signed part.
     pub fn signature_algorithm(&self) -> &AlgorithmIdentifier
         ensures { algorithm_plain result.now ≡ outer_algorithm (certificate_plain self.now) }
     {

@@ -1,4 +1,4 @@
-//! Copies of certificates. The largest field is copied last, so that little is dropped if memory
+//! Copying certificates. The largest field is copied last, so that less has to be freed if memory
 //! runs out.
 
 ghost use Rattle.der_core.specs.Copies.{IsCopy};
@@ -12,7 +12,11 @@ use x509_cert_parts::types::BitString;
 use x509_cert_parts::{Extension, Validity};
 
 impl<P> CertificateInner<P> {
-    /// Returns a copy. The only error is that memory runs out.
+    /// Returns a copy.
+    ///
+    /// # Errors
+    ///
+    /// - `AllocError`: memory runs out.
     pub fn clone(&self, alloc: Global) -> Result<CertificateInner<P>, AllocError>
         ensures { IsCopy self.now result certificate_plain }
     {
@@ -25,7 +29,11 @@ impl<P> CertificateInner<P> {
 }
 
 impl<P> TbsCertificateInner<P> {
-    /// Returns a copy. The only error is that memory runs out.
+    /// Returns a copy.
+    ///
+    /// # Errors
+    ///
+    /// - `AllocError`: memory runs out.
     pub fn clone(&self, alloc: Global) -> Result<TbsCertificateInner<P>, AllocError>
         ensures { IsCopy self.now result tbs_plain }
     {

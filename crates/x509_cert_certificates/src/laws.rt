@@ -1,8 +1,8 @@
-//! Laws about certificates, for every bound of arcs and every profile.
+//! Laws about certificates, for every bound on the arcs of OIDs and every profile.
 //!
-//! Each law is the contract of a function that does nothing. With these and the laws of `der_core`,
-//! no encoding of a certificate is a prefix of another, no two certificates have the same encoding,
-//! and what is decoded is what the bytes encode.
+//! Each law is the contract of a function that does nothing. With the laws of `der_core` they imply
+//! that no encoding of a certificate is a prefix of another, that different certificates have
+//! different encodings, and that decoding returns the certificate that the bytes encode.
 
 ghost use Rattle.std.specs.Prelude.{◌≡◌, ◌⊎◌, ◌∷◌, ◌++◌, map, ◌≤◌, ◌↔◌, ℕ, List, [], Option, Bool};
 ghost use Rattle.std.specs.Prelude.{true, false, Ok, Err, take, drop};
@@ -33,7 +33,8 @@ use crate::certificate::CertificateInner;
 use crate::tbs_certificate::TbsCertificateInner;
 use std::cmp::PartialEq;
 
-/// First tags tell the fields of a certificate apart, and eight levels of nesting are enough.
+/// The tags of the fields of a certificate determine which field comes next, and eight levels of
+/// nesting suffice to decode it.
 pub fn certificates_are_apart()
     ensures signed { (bound : ℕ) (limit : Option ℕ)
         → (is_apart (tbs_certificate bound limit) ≡ true)
@@ -42,16 +43,16 @@ pub fn certificates_are_apart()
         × (are_enough (certificate bound limit) 8 ≡ true) }
 {}
 
-/// The bytes at the position of the TBSCertificate in a certificate's encoding are its encoding
-/// (RFC 5280 4.1.1.3).
+/// In the encoding of a certificate, the bytes at the position of the TBSCertificate are the
+/// encoding of the TBSCertificate (RFC 5280 4.1.1.3).
 pub fn signed_part_stands_in_place()
     ensures { (bound : ℕ) (c : PlainCertificate)
         → take (signed_length bound c) (drop (signed_start bound c) (certificate_octets bound c))
         ≡ octets_of (raw_tbs_certificate bound) (tbs c) }
 {}
 
-/// A certificate that has an encoding also has one with its dates re-encoded. The two are the same
-/// exactly if no date was a GeneralizedTime through 2049 (RFC 5280 4.1.2.5).
+/// If a certificate has an encoding, it also has one with its dates re-encoded. The two encodings
+/// are equal exactly if neither date was a GeneralizedTime before 2050 (RFC 5280 4.1.2.5).
 pub fn respelled_certificates_are_spelled()
     ensures valid { (bound : ℕ) (limit : Option ℕ) (r : Bool) (c : PlainCertificate)
         → IsValid (certificate bound limit) c
@@ -64,7 +65,7 @@ pub fn respelled_certificates_are_spelled()
         × (is_early_generalized (not_after (tbs_validity (tbs c))) ≡ false)) }
 {}
 
-/// Bytes that encode a certificate under one bound of arcs encode the same certificate under a
+/// Bytes that encode a certificate under one bound on arcs encode the same certificate under a
 /// larger bound. The encoding of a certificate doesn't depend on the bound.
 pub fn wider_bounds_keep_certificates()
     ensures spelled { (small large : ℕ) (limit : Option ℕ) (c : PlainCertificate) (w : List ℕ)
@@ -74,7 +75,7 @@ pub fn wider_bounds_keep_certificates()
         → octets_of (certificate small limit) c ≡ octets_of (certificate large limit) c }
 {}
 
-/// Bytes that decode to a certificate under one bound of arcs decode to the same certificate under
+/// Bytes that decode to a certificate under one bound on arcs decode to the same certificate under
 /// a larger bound, both as a whole and as a prefix.
 pub fn wider_bounds_read_certificates_alike()
     ensures whole { (small large : ℕ) (limit : Option ℕ) (c : PlainCertificate) (w : List ℕ)
@@ -87,9 +88,11 @@ pub fn wider_bounds_read_certificates_alike()
         ≡ Ok (c, r) }
 {}
 
-/// Bytes that encode a certificate under one bound of arcs encode it under another bound, if each
-/// arc of its identifiers is below that bound. So a certificate that is accepted only under the
-/// larger bound has an arc that isn't below the smaller one.
+/// Bytes that encode a certificate under one bound on arcs encode it under another bound if each
+/// arc of its OIDs is below that bound.
+///
+/// So a certificate that is accepted only under the larger bound has an arc that isn't below the
+/// smaller one.
 pub fn newly_read_certificates_hold_a_large_arc()
     ensures narrow { (small large : ℕ) (limit : Option ℕ) (c : PlainCertificate) (w : List ℕ)
         → Spells (certificate large limit) c w
@@ -112,9 +115,9 @@ pub fn newly_read_certificates_hold_a_large_arc()
         ≡ Err e → HoldsLarge small (certificate_identifiers c) }
 {}
 
-/// The identifiers in a certificate are those of its inner algorithm, of the attributes of its
-/// issuer and of its subject, of its key's algorithm, of its extensions and of its outer algorithm,
-/// in this order.
+/// The OIDs in a certificate are those of its inner algorithm, of the attributes of its issuer and
+/// of its subject, of its key's algorithm, of its extensions and of its outer algorithm, in this
+/// order.
 pub fn identifiers_stand_in_turn()
     ensures { (c : PlainCertificate) → certificate_identifiers c
         ≡ algorithm_arcs (inner_algorithm c)
@@ -123,9 +126,11 @@ pub fn identifiers_stand_in_turn()
         ∷ (map extension_arcs (extensions_of c) ++ (algorithm_arcs (outer_algorithm c) ∷ []))))) }
 {}
 
-/// Bytes that encode a sequence of certificates under one bound of arcs encode the same ones under
-/// a larger bound. Bytes that encode some under the larger bound encode them under the smaller one,
-/// or one of them has an arc that isn't below the smaller bound.
+/// Bytes that encode a sequence of certificates under one bound on arcs encode the same
+/// certificates under a larger bound.
+///
+/// If bytes encode a sequence of certificates under the larger bound, they encode it under the
+/// smaller bound, or a certificate has an arc that isn't below the smaller bound.
 pub fn wider_bounds_keep_chains()
     ensures kept { (small large : ℕ) (limit : Option ℕ) (cs : List PlainCertificate) (w : List ℕ)
         → small ≤ large
@@ -134,7 +139,7 @@ pub fn wider_bounds_keep_chains()
         → SpellsEach large limit cs w → SpellsEach small limit cs w ⊎ OneHoldsLarge small cs }
 {}
 
-/// `==` of certificates, and of their signed parts, is of their plain values, under every profile.
+/// `==` of certificates and of TBSCertificates compares their abstract values, under every profile.
 pub fn equality_of_certificates_is_of_values<P>()
     ensures signed { (limit : Option ℕ) → IsOfValues ⟦<TbsCertificateInner<P> as PartialEq>⟧.eq
         tbs_plain (octets_of (tbs_certificate Bound limit)) }

@@ -1,4 +1,4 @@
-//! Certificates (RFC 5280 4.1).
+//! X.509 certificates (RFC 5280 4.1): decoding, encoding and assembling them.
 #![tactic(auto)]
 
 pub mod assembling;
@@ -12,14 +12,14 @@ pub use cert_digest::CertDigest;
 pub use certificate::{Certificate, CertificateInner};
 pub use tbs_certificate::{TbsCertificate, TbsCertificateInner};
 
-/// The names of `x509_cert_names` that the crates above use.
+/// The items of `x509_cert_names` that the crates above use.
 pub mod cert_names {
     pub use x509_cert_names::{
         AttributeTypeAndValue, Name, RdnSequence, RelativeDistinguishedName, attribute_types,
     };
 }
 
-/// The names of `x509_cert_parts` that the crates above use.
+/// The items of `x509_cert_parts` that the crates above use.
 pub mod cert_parts {
     pub use x509_cert_parts::{
         AlgorithmIdentifier, Extension, Extensions, Raw, SerialNumber, SubjectPublicKeyInfo,
@@ -27,7 +27,7 @@ pub mod cert_parts {
     };
 }
 
-/// The names of `der_core` that the crates above use.
+/// The items of `der_core` that the crates above use.
 pub mod der {
     pub use der_core::{
         Decode, Encode, Error, ErrorKind, Explicit, FromDer, Header, Implicit, InRange, OneOf8,
@@ -35,12 +35,12 @@ pub mod der {
     };
 }
 
-/// The names of `const_oid` that the crates above use.
+/// The items of `const_oid` that the crates above use.
 pub mod oid {
     pub use der_core::oid::ObjectIdentifier;
 }
 
-/// The names of `der_types` that the crates above use.
+/// The items of `der_types` that the crates above use.
 pub mod types {
     pub use x509_cert_parts::types::{
         BitString, FlagSet, Ia5StringRef, OctetString, OctetStringRef,

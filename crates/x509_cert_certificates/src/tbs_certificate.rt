@@ -1,4 +1,4 @@
-//! The TBSCertificate of a certificate.
+//! The signed part of certificates (RFC 5280 4.1.2).
 
 ghost use Rattle.std.specs.Prelude.{◌≡◌, pos, refl};
 ghost use Rattle.der_core.specs.Oid.Bound.{Bound};
@@ -33,8 +33,8 @@ use x509_cert_parts::{
     SubjectPublicKeyInfo, Validity, Version, filter_extensions, get_extension,
 };
 
-/// A TBSCertificate, the part of a certificate that is signed (RFC 5280 4.1.2). Any version is
-/// accepted with any fields, and so is an empty list of extensions.
+/// A TBSCertificate, the part of a certificate that is signed (RFC 5280 4.1.2). Decoding doesn't
+/// compare the version with the fields that are present, and accepts an empty list of extensions.
 ///
 /// ```text
 /// TBSCertificate ::= SEQUENCE {
@@ -52,32 +52,33 @@ use x509_cert_parts::{
 #[derive(Drop)]
 #[derive_where(Debug, PartialEq, Eq)]
 pub struct TbsCertificateInner<P = Rfc5280> {
-    /// The version, which determines the fields that are allowed.
+    /// The version.
     pub(crate) version: Version,
-    /// The serial number, which is unique for each issuer.
+    /// The serial number, which is unique for each issuer (RFC 5280 4.1.2.2).
     pub(crate) serial_number: SerialNumber<P>,
-    /// The algorithm by which it is signed, the same as outside the signed part.
+    /// The signature algorithm. RFC 5280 4.1.2.3 requires it to be the one beside the signature;
+    /// decoding doesn't compare the two.
     pub(crate) signature: AlgorithmIdentifier,
-    /// The name of who signs it.
+    /// The name of the issuer, who signs the certificate.
     pub(crate) issuer: Name,
-    /// From when until when it is valid.
+    /// The period for which the certificate is valid.
     pub(crate) validity: Validity<P>,
-    /// The name of whom the key belongs to.
+    /// The name of the subject, to whom the key belongs.
     pub(crate) subject: Name,
-    /// The key that is certified.
+    /// The public key of the subject.
     pub(crate) subject_public_key_info: SubjectPublicKeyInfo,
-    /// Bits that distinguish the issuer from others with the same name.
+    /// Bits that distinguish the issuer from others with the same name (RFC 5280 4.1.2.8).
     pub(crate) issuer_unique_id: Option<BitString>,
-    /// Bits that distinguish the subject from others with the same name.
+    /// Bits that distinguish the subject from others with the same name (RFC 5280 4.1.2.8).
     pub(crate) subject_unique_id: Option<BitString>,
     /// The extensions.
     pub(crate) extensions: Option<Extensions>,
 }
 
-/// The signed part by the profile of RFC 5280.
+/// A TBSCertificate under the profile of RFC 5280.
 pub type TbsCertificate = TbsCertificateInner<Rfc5280>;
 
-/// The version after its tag.
+/// The version in its explicit tag.
 type Numbered = WithDefault<Explicit<Version, 0>>;
 
 type Row<P> = (
@@ -88,7 +89,7 @@ type Row<P> = (
 /// The fields from the validity on.
 type Behind<P> = (Validity<P>, (Name, (SubjectPublicKeyInfo, Last)));
 
-/// The fields that may be absent at the end.
+/// The optional fields at the end.
 type Last = (
     Option<Implicit<BitString, 1>>,
     (
@@ -124,8 +125,8 @@ type LastRef<'a> = (
     ),
 );
 
-/// The fields from the validity on, borrowed. They are a type of their own, since no clause can say
-/// what a row of ten fields is.
+/// The fields from the validity on, borrowed. They are a type of their own, since a contract can't
+/// describe a tuple of ten fields.
 #[derive(Drop)]
 struct BehindRef<'a, P>(&'a TbsCertificateInner<P>);
 
@@ -206,7 +207,7 @@ impl<P: Profile> Fields for TbsCertificateInner<P> {
 }
 
 impl<'a, R: Reader<'a>, P: Profile> DecodeFields<'a, R> for TbsCertificateInner<P> {
-    // Not inlined, so that its fields are moved into place once.
+    // Not inlined, so that the fields are moved into place only once.
     #[inline(never)]
     fn decode_fields(alloc: Global, reader: &mut R) -> Result<TbsCertificateInner<P>, Error> {
         let (version, (serial_number, (signature, (issuer, behind)))) = <Row<P>>::decode_row(
@@ -249,7 +250,7 @@ impl<P> TbsCertificateInner<P> {
         self.version
     }
 
-    /// Returns the number that its issuer gave it.
+    /// Returns the serial number.
     pub fn serial_number(&self) -> &SerialNumber<P>
         ensures { result.now ≡ tbs_serial (tbs_plain self.now) }
     {
@@ -263,28 +264,28 @@ impl<P> TbsCertificateInner<P> {
         &self.signature
     }
 
-    /// Who signed the certificate.
+    /// Returns the issuer, who signed the certificate.
     pub fn issuer(&self) -> &Name
         ensures { name_plain result.now ≡ tbs_issuer (tbs_plain self.now) }
     {
         &self.issuer
     }
 
-    /// From when until when it is valid.
+    /// Returns the period for which the certificate is valid.
     pub fn validity(&self) -> &Validity<P>
         ensures { validity_plain result.now ≡ tbs_validity (tbs_plain self.now) }
     {
         &self.validity
     }
 
-    /// Whose key it certifies.
+    /// Returns the subject, to whom the key belongs.
     pub fn subject(&self) -> &Name
         ensures { name_plain result.now ≡ tbs_subject (tbs_plain self.now) }
     {
         &self.subject
     }
 
-    /// Returns the key that it certifies.
+    /// Returns the public key of the subject.
     pub fn subject_public_key_info(&self) -> &SubjectPublicKeyInfo
         ensures { key_plain result.now ≡ tbs_public_key (tbs_plain self.now) }
     {
@@ -305,7 +306,7 @@ impl<P> TbsCertificateInner<P> {
         &self.subject_unique_id
     }
 
-    /// Returns the extensions, in their order (RFC 5280 4.2).
+    /// Returns the extensions in their order (RFC 5280 4.2), or `None` if the field is absent.
     pub fn extensions(&self) -> Option<&Extensions>
         ensures { plain_option (λ r. extensions_plain r.now.items) result
             ≡ tbs_extensions (tbs_plain self.now) }
@@ -313,8 +314,10 @@ impl<P> TbsCertificateInner<P> {
         self.extensions.as_ref()
     }
 
-    /// Looks for the extension with the OID of `T`. Returns whether it is critical, and its value,
-    /// or `None` if there is no such extension.
+    /// Looks up the extension with the OID of `T` and decodes it. Returns whether the extension is
+    /// critical and its value, or `None` if there is no such extension.
+    ///
+    /// # Examples
     ///
     /// As in `crates/example_extensions_of_certificate/src/main.rt`:
     ///
@@ -326,7 +329,7 @@ impl<P> TbsCertificateInner<P> {
     /// # Errors
     ///
     /// - `Failed`: there are two such extensions, which RFC 5280 4.2 forbids.
-    /// - The errors of `T`, whose encoding the content must be.
+    /// - The errors of decoding the content of the extension as a `T`.
     /// - `OutOfMemory`: memory runs out.
     pub fn get_extension<'a, T: AssociatedOid + Decode<'a, SliceReader<'a>>>(
         &'a self,
@@ -342,8 +345,8 @@ impl<P> TbsCertificateInner<P> {
         }
     }
 
-    /// Returns an iterator over all extensions with the OID of `T`, in their order: whether each is
-    /// critical, and its value.
+    /// Returns an iterator over the extensions with the OID of `T`, in their order. Each item is
+    /// whether the extension is critical and its value, or the error of decoding it.
     pub fn filter_extensions<'a, T: AssociatedOid>(&'a self, alloc: Global) -> ExtensionsOf<'a, T>
         ensures { extensions_plain result.left.now
             ≡ extensions_in_field (tbs_extensions (tbs_plain self.now)) }

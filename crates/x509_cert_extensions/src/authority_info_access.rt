@@ -1,12 +1,11 @@
-//! AuthorityInfoAccessSyntax.
-
 ghost use Rattle.std.specs.Prelude.{◌≡◌, []};
 
 use std::alloc::Global;
 use x509_cert_general_names::AccessDescription;
 use x509_cert_policies::der::describing::{AsField, Described, Ordered, Wraps};
 
-/// Where services of an issuer are had (RFC 5280 4.2.2.1).
+/// The services of the issuer of a certificate or a CRL, and their locations (RFC 5280 4.2.2.1,
+/// 5.2.7). The list may be empty.
 ///
 /// ```text
 /// AuthorityInfoAccessSyntax ::= SEQUENCE SIZE (1..MAX) OF AccessDescription
@@ -15,7 +14,7 @@ use x509_cert_policies::der::describing::{AsField, Described, Ordered, Wraps};
 pub struct AuthorityInfoAccessSyntax(pub Vec<AccessDescription>);
 
 impl AuthorityInfoAccessSyntax {
-    /// No descriptions.
+    /// Returns the extension without access descriptions.
     pub fn default(alloc: Global) -> AuthorityInfoAccessSyntax
         ensures { result.0.items ≡ [] }
     {

@@ -1,11 +1,9 @@
-//! BaseCrlNumber.
-
 ghost use Rattle.std.specs.Prelude.{◌≡◌};
 
 use x509_cert_policies::der::describing::{AsField, Described, Ordered, Wraps};
 use x509_cert_policies::types::Uint;
 
-/// The number of the list that a list of changes begins from (RFC 5280 5.2.4).
+/// The number of the CRL to which a delta CRL lists the changes (RFC 5280 5.2.4).
 ///
 /// ```text
 /// BaseCRLNumber ::= CRLNumber

@@ -1,4 +1,4 @@
-//! Criticality.
+//! The criticality that extensions get when they are added to a certificate or a CRL.
 
 ghost use Rattle.x509_cert_policies.specs.CertParts.ExtensionTypes as markings;
 ghost use Rattle.x509_cert_policies.specs.CertParts.ExtensionTypes.{marks};
@@ -17,8 +17,8 @@ use x509_cert_policies::{
     PrivateKeyUsagePeriod,
 };
 
-/// Whether an extension is marked as critical where it is added to a certificate or to a list (RFC
-/// 5280 4.2).
+/// Determines whether an extension is critical when it is added to a certificate or a CRL (RFC 5280
+/// 4.2).
 pub trait Criticality {
     ghost use Rattle.std.specs.Prelude.{◌≡◌, Bool, List};
     ghost use Rattle.x509_cert_policies.specs.CertParts.Grammar.{PlainExtension};
@@ -26,16 +26,17 @@ pub trait Criticality {
     ghost use Rattle.x509_cert_policies.specs.CertParts.Views.{extensions_plain};
     ghost use Rattle.x509_cert_general_names.specs.CertNames.Views.{name_plain};
 
-    // Whether it is, of a subject and the extensions that are there.
+    // The criticality for a subject and the extensions that are already present.
     ghost is_critical: { Self → PlainName → List PlainExtension → Bool };
 
-    /// Returns whether it is, beside a subject's name and the extensions that are there.
+    /// Returns whether the extension is critical, given the subject's name and the extensions that
+    /// are already present.
     fn criticality(&self, subject: &Name, extensions: &[Extension]) -> bool
         ensures { result ≡ is_critical self.now (name_plain subject.now)
             (extensions_plain extensions.now) };
 }
 
-/// When what is marked by its type is critical.
+/// A rule for the criticality of all extensions of a type.
 pub trait Marking {
     ghost use Rattle.std.specs.Prelude.{◌≡◌};
     ghost use Rattle.x509_cert_policies.specs.CertParts.ExtensionTypes.{Marking, marks};
@@ -43,12 +44,12 @@ pub trait Marking {
 
     ghost marking: { Marking };
 
-    /// Returns whether it is critical beside a subject's name.
+    /// Returns whether an extension of the type is critical in a certificate with this subject.
     fn is_critical_beside(subject: &Name) -> bool
         ensures { result ≡ marks marking (name_plain subject.now) };
 }
 
-/// Critical.
+/// The extensions of the type are always critical.
 pub struct Always;
 
 impl Marking for Always {
@@ -59,7 +60,7 @@ impl Marking for Always {
     }
 }
 
-/// Not critical.
+/// The extensions of the type are never critical.
 pub struct Never;
 
 impl Marking for Never {
@@ -70,7 +71,7 @@ impl Marking for Never {
     }
 }
 
-/// Critical where the subject has no name.
+/// The extensions of the type are critical if the subject's name is empty.
 pub struct WithoutSubject;
 
 impl Marking for WithoutSubject {
@@ -81,7 +82,8 @@ impl Marking for WithoutSubject {
     }
 }
 
-/// What is marked by its type (RFC 5280 4.2, 5.2, 5.3; RFC 6962 3.3).
+/// A type of extension whose criticality depends only on the type and the subject (RFC 5280 4.2,
+/// 5.2, 5.3; RFC 6962 3.3).
 pub trait Marked {
     type By: Marking;
 }

@@ -1,12 +1,10 @@
-//! CrlDistributionPoints.
-
 ghost use Rattle.std.specs.Prelude.{◌≡◌, []};
 
 use std::alloc::Global;
 use x509_cert_general_names::DistributionPoint;
 use x509_cert_policies::der::describing::{AsField, Described, Ordered, Wraps};
 
-/// Where lists of revoked certificates are had (RFC 5280 4.2.1.13).
+/// The locations of the CRLs for a certificate (RFC 5280 4.2.1.13). The list may be empty.
 ///
 /// ```text
 /// CRLDistributionPoints ::= SEQUENCE SIZE (1..MAX) OF DistributionPoint
@@ -15,7 +13,7 @@ use x509_cert_policies::der::describing::{AsField, Described, Ordered, Wraps};
 pub struct CrlDistributionPoints(pub Vec<DistributionPoint>);
 
 impl CrlDistributionPoints {
-    /// No points.
+    /// Returns the extension without distribution points.
     pub fn default(alloc: Global) -> CrlDistributionPoints
         ensures { result.0.items ≡ [] }
     {

@@ -1,5 +1,3 @@
-//! CrlNumber.
-
 ghost use Rattle.std.specs.Prelude.{◌≡◌, pos, Ok};
 ghost use Rattle.x509_cert_policies.specs.Der.Reading.{Gives};
 
@@ -9,7 +7,7 @@ use x509_cert_policies::der::making::integer_octets_of;
 use x509_cert_policies::der::{Error, Leaf, Tag};
 use x509_cert_policies::types::Uint;
 
-/// The number of a list of revoked certificates (RFC 5280 5.2.3).
+/// The number of a CRL (RFC 5280 5.2.3).
 ///
 /// ```text
 /// CRLNumber ::= INTEGER (0..MAX)
@@ -18,12 +16,12 @@ use x509_cert_policies::types::Uint;
 pub struct CrlNumber(pub Uint);
 
 impl CrlNumber {
-    /// This number. A list may have one of up to 20 bytes (RFC 5280 5.2.3): `From<Uint>` makes
-    /// those of more than 16.
+    /// Returns the extension with this number. A CRL number may have up to 20 bytes (RFC 5280
+    /// 5.2.3); `From<Uint>` accepts those of more than 16.
     ///
     /// # Errors
     ///
-    /// Fails if memory runs out.
+    /// - `OutOfMemory`: memory runs out.
     pub fn try_from_u128(alloc: Global, number: u128) -> Result<CrlNumber, Error>
         ensures { Gives (λ n. pos n.0) result (Ok (pos number)) }
     {

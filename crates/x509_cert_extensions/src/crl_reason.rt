@@ -1,11 +1,9 @@
-//! CrlReason.
-
 ghost use Rattle.std.specs.Prelude.{◌≡◌, refl};
 ghost use Rattle.x509_cert_extensions.specs.Reasons.{reason_number, reason_numbers};
 
 use x509_cert_policies::der::describing::{AsEnumerated, Described, Numbered, Ordered};
 
-/// Why a certificate was revoked (RFC 5280 5.3.1). The number 7 isn't used.
+/// The reason why a certificate was revoked (RFC 5280 5.3.1). The number 7 isn't used.
 ///
 /// ```text
 /// CRLReason ::= ENUMERATED {
@@ -15,25 +13,26 @@ use x509_cert_policies::der::describing::{AsEnumerated, Described, Numbered, Ord
 /// ```
 #[derive(Clone, Copy, Debug, PartialEq, Eq, PartialOrd, Ord)]
 pub enum CrlReason {
-    /// Nothing is said.
+    /// The reason isn't specified.
     Unspecified,
-    /// Someone else may know the key.
+    /// The subject's private key is known or suspected to be compromised.
     KeyCompromise,
-    /// Someone else may know an authority's key.
+    /// The private key of a CA is known or suspected to be compromised.
     CaCompromise,
-    /// The subject's name or another fact of it changed.
+    /// The subject's name or other information in the certificate has changed.
     AffiliationChanged,
-    /// Another certificate took its place.
+    /// The certificate was replaced by another.
     Superseded,
-    /// The certificate isn't needed any more.
+    /// The certificate isn't needed for its purpose any more.
     CessationOfOperation,
     /// The certificate is on hold.
     CertificateHold,
-    /// The certificate is no longer on hold, or it expired (only in lists of differences).
+    /// The certificate is no longer on hold, or it has expired. This reason occurs only in delta
+    /// CRLs.
     RemoveFromCRL = 8,
-    /// A privilege that it gives was withdrawn.
+    /// A privilege in the certificate was withdrawn.
     PrivilegeWithdrawn,
-    /// Someone else may know the key of an authority of attributes.
+    /// The private key of an attribute authority is known or suspected to be compromised.
     AaCompromise,
 }
 
@@ -41,7 +40,7 @@ impl Described for CrlReason {
     type By = AsEnumerated;
 }
 
-/// Any other number is rejected as `Value`.
+/// Decoding rejects any other number with `Value`.
 impl Numbered for CrlReason {
     ghost known_numbers = { reason_numbers };
 
@@ -70,5 +69,5 @@ impl Numbered for CrlReason {
     ghost few = { refl };
 }
 
-/// The order of the numbers.
+/// Orders reasons by their numbers.
 impl Ordered for CrlReason {}

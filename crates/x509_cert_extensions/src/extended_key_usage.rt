@@ -1,11 +1,9 @@
-//! ExtendedKeyUsage.
-
 ghost use Rattle.std.specs.Prelude.{◌≡◌};
 
 use x509_cert_policies::der::describing::{AsField, Described, Ordered, Wraps};
 use x509_cert_policies::oid::ObjectIdentifier;
 
-/// What a key is for, by identifiers (RFC 5280 4.2.1.12).
+/// The purposes of a certificate's key, by OID (RFC 5280 4.2.1.12). The list may be empty.
 ///
 /// ```text
 /// ExtKeyUsageSyntax ::= SEQUENCE SIZE (1..MAX) OF KeyPurposeId

@@ -1,4 +1,4 @@
-//! Copies of the contents of extensions.
+//! Copying extensions.
 
 ghost use Rattle.x509_cert_policies.specs.Der.Grammar.{plain_list};
 ghost use Rattle.x509_cert_policies.specs.Der.Copies.{IsCopy};
@@ -18,7 +18,11 @@ use x509_cert_general_names::{AccessDescription, DistributionPoint, GeneralName}
 use x509_cert_policies::der::making::copies_of;
 
 impl AuthorityInfoAccessSyntax {
-    /// Returns a copy. The only error is that memory runs out.
+    /// Returns a copy.
+    ///
+    /// # Errors
+    ///
+    /// - `AllocError`: memory runs out.
     pub fn clone(&self, alloc: Global) -> Result<AuthorityInfoAccessSyntax, AllocError>
         ensures { IsCopy self.now result (λ x. plain_list access_description_plain x.0.items) }
     {
@@ -31,7 +35,11 @@ impl AuthorityInfoAccessSyntax {
 }
 
 impl SubjectInfoAccessSyntax {
-    /// Returns a copy. The only error is that memory runs out.
+    /// Returns a copy.
+    ///
+    /// # Errors
+    ///
+    /// - `AllocError`: memory runs out.
     pub fn clone(&self, alloc: Global) -> Result<SubjectInfoAccessSyntax, AllocError>
         ensures { IsCopy self.now result (λ x. plain_list access_description_plain x.0.items) }
     {
@@ -40,7 +48,11 @@ impl SubjectInfoAccessSyntax {
 }
 
 impl CrlDistributionPoints {
-    /// Returns a copy. The only error is that memory runs out.
+    /// Returns a copy.
+    ///
+    /// # Errors
+    ///
+    /// - `AllocError`: memory runs out.
     pub fn clone(&self, alloc: Global) -> Result<CrlDistributionPoints, AllocError>
         ensures { IsCopy self.now result (λ x. plain_list distribution_point_plain x.0.items) }
     {
@@ -49,7 +61,11 @@ impl CrlDistributionPoints {
 }
 
 impl FreshestCrl {
-    /// Returns a copy. The only error is that memory runs out.
+    /// Returns a copy.
+    ///
+    /// # Errors
+    ///
+    /// - `AllocError`: memory runs out.
     pub fn clone(&self, alloc: Global) -> Result<FreshestCrl, AllocError>
         ensures { IsCopy self.now result (λ x. plain_list distribution_point_plain x.0.items) }
     {
@@ -58,7 +74,11 @@ impl FreshestCrl {
 }
 
 impl IssuerAltName {
-    /// Returns a copy. The only error is that memory runs out.
+    /// Returns a copy.
+    ///
+    /// # Errors
+    ///
+    /// - `AllocError`: memory runs out.
     pub fn clone(&self, alloc: Global) -> Result<IssuerAltName, AllocError>
         ensures { IsCopy self.now result (λ x. plain_list general_name_plain x.0.items) }
     {
@@ -67,7 +87,11 @@ impl IssuerAltName {
 }
 
 impl SubjectAltName {
-    /// Returns a copy. The only error is that memory runs out.
+    /// Returns a copy.
+    ///
+    /// # Errors
+    ///
+    /// - `AllocError`: memory runs out.
     pub fn clone(&self, alloc: Global) -> Result<SubjectAltName, AllocError>
         ensures { IsCopy self.now result (λ x. plain_list general_name_plain x.0.items) }
     {
@@ -76,7 +100,11 @@ impl SubjectAltName {
 }
 
 impl SubjectDirectoryAttributes {
-    /// Returns a copy. The only error is that memory runs out.
+    /// Returns a copy.
+    ///
+    /// # Errors
+    ///
+    /// - `AllocError`: memory runs out.
     pub fn clone(&self, alloc: Global) -> Result<SubjectDirectoryAttributes, AllocError>
         ensures { IsCopy self.now result (λ x. plain_list attribute_plain x.0.items) }
     {
@@ -85,7 +113,11 @@ impl SubjectDirectoryAttributes {
 }
 
 impl ExtendedKeyUsage {
-    /// Returns a copy. The only error is that memory runs out.
+    /// Returns a copy.
+    ///
+    /// # Errors
+    ///
+    /// - `AllocError`: memory runs out.
     pub fn clone(&self, alloc: Global) -> Result<ExtendedKeyUsage, AllocError>
         ensures { IsCopy self.now result (λ x. x.0.items) }
     {
@@ -94,7 +126,11 @@ impl ExtendedKeyUsage {
 }
 
 impl SubjectKeyIdentifier {
-    /// Returns a copy. The only error is that memory runs out.
+    /// Returns a copy.
+    ///
+    /// # Errors
+    ///
+    /// - `AllocError`: memory runs out.
     pub fn clone(&self, alloc: Global) -> Result<SubjectKeyIdentifier, AllocError>
         ensures { IsCopy self.now result (λ x. x.0) }
     {
@@ -103,7 +139,11 @@ impl SubjectKeyIdentifier {
 }
 
 impl CrlNumber {
-    /// Returns a copy. The only error is that memory runs out.
+    /// Returns a copy.
+    ///
+    /// # Errors
+    ///
+    /// - `AllocError`: memory runs out.
     pub fn clone(&self, alloc: Global) -> Result<CrlNumber, AllocError>
         ensures { IsCopy self.now result (λ x. x.0) }
     {
@@ -112,7 +152,11 @@ impl CrlNumber {
 }
 
 impl BaseCrlNumber {
-    /// Returns a copy. The only error is that memory runs out.
+    /// Returns a copy.
+    ///
+    /// # Errors
+    ///
+    /// - `AllocError`: memory runs out.
     pub fn clone(&self, alloc: Global) -> Result<BaseCrlNumber, AllocError>
         ensures { IsCopy self.now result (λ x. x.0) }
     {

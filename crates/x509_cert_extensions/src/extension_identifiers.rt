@@ -1,4 +1,4 @@
-//! The identifiers of extensions (RFC 5280 4.2, 5.2).
+//! The OIDs of the extensions whose types are in this crate (RFC 5280 4.2, 5.2, 5.3).
 
 ghost use Rattle.x509_cert_policies.specs.CertParts.ExtensionTypes as types;
 ghost use Rattle.x509_cert_policies.specs.CertParts.ExtensionTypes.{identifier_of};

@@ -1,12 +1,10 @@
-//! FreshestCrl.
-
 ghost use Rattle.std.specs.Prelude.{◌≡◌, []};
 
 use std::alloc::Global;
 use x509_cert_general_names::DistributionPoint;
 use x509_cert_policies::der::describing::{AsField, Described, Ordered, Wraps};
 
-/// Where lists of changes are had (RFC 5280 4.2.1.15).
+/// The locations of the delta CRLs for a certificate or a CRL (RFC 5280 4.2.1.15, 5.2.6).
 ///
 /// ```text
 /// FreshestCRL ::= CRLDistributionPoints
@@ -15,7 +13,7 @@ use x509_cert_policies::der::describing::{AsField, Described, Ordered, Wraps};
 pub struct FreshestCrl(pub Vec<DistributionPoint>);
 
 impl FreshestCrl {
-    /// No points.
+    /// Returns the extension without distribution points.
     pub fn default(alloc: Global) -> FreshestCrl
         ensures { result.0.items ≡ [] }
     {

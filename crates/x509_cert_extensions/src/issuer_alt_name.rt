@@ -1,12 +1,10 @@
-//! IssuerAltName.
-
 ghost use Rattle.std.specs.Prelude.{◌≡◌, []};
 
 use std::alloc::Global;
 use x509_cert_general_names::GeneralNames;
 use x509_cert_policies::der::describing::{AsField, Described, Ordered, Wraps};
 
-/// Other names of an issuer (RFC 5280 4.2.1.7).
+/// Alternative names of the issuer (RFC 5280 4.2.1.7, 5.2.2).
 ///
 /// ```text
 /// IssuerAltName ::= GeneralNames
@@ -15,7 +13,7 @@ use x509_cert_policies::der::describing::{AsField, Described, Ordered, Wraps};
 pub struct IssuerAltName(pub GeneralNames);
 
 impl IssuerAltName {
-    /// No names.
+    /// Returns the extension without names.
     pub fn default(alloc: Global) -> IssuerAltName
         ensures { result.0.items ≡ [] }
     {

@@ -1,4 +1,4 @@
-//! KeyUsage.
+//! The types `KeyUsage` and `KeyUsages`.
 
 ghost use Rattle.std.specs.Prelude.{◌≡◌, ⊤, refl};
 ghost use Rattle.bitflags.specs.Sets.{known_from};
@@ -9,7 +9,8 @@ use bitflags::{Flag, Flags, bitflag_items};
 use x509_cert_policies::der::describing::{AsField, Described, Ordered, Wraps};
 use x509_cert_policies::types::{FlagSet, NamedBits};
 
-/// What a key is for, the first use the lowest bit (RFC 5280 4.2.1.3).
+/// A usage of a key as a bit (RFC 5280 4.2.1.3). The first bit of the BIT STRING is the least
+/// significant one.
 #[derive(Clone, Copy, Debug, PartialEq, Eq)]
 pub struct KeyUsages(u16);
 
@@ -69,7 +70,7 @@ impl NamedBits for KeyUsages {
     ghost known = { unfold known_from in refl };
 }
 
-/// What the certified key is for (RFC 5280 4.2.1.3).
+/// The usages of a certificate's key (RFC 5280 4.2.1.3).
 ///
 /// ```text
 /// KeyUsage ::= BIT STRING {
@@ -80,63 +81,63 @@ impl NamedBits for KeyUsages {
 pub struct KeyUsage(pub FlagSet<KeyUsages>);
 
 impl KeyUsage {
-    /// Returns whether data are signed with the key, but for certificates and lists.
+    /// Returns whether the key may verify signatures other than those on certificates and CRLs.
     pub fn digital_signature(&self) -> bool
         ensures { result ≡ has_bit (bit_of bits.digital_signature) self.now.0.flags.0 }
     {
         self.0.contains(KeyUsages::DigitalSignature)
     }
 
-    /// Returns whether signatures with the key bind their signer.
+    /// Returns whether the key may verify signatures that the signer can't deny later.
     pub fn non_repudiation(&self) -> bool
         ensures { result ≡ has_bit (bit_of bits.non_repudiation) self.now.0.flags.0 }
     {
         self.0.contains(KeyUsages::NonRepudiation)
     }
 
-    /// Returns whether keys are enciphered with it.
+    /// Returns whether the key may encrypt other keys.
     pub fn key_encipherment(&self) -> bool
         ensures { result ≡ has_bit (bit_of bits.key_encipherment) self.now.0.flags.0 }
     {
         self.0.contains(KeyUsages::KeyEncipherment)
     }
 
-    /// Returns whether data are enciphered with it.
+    /// Returns whether the key may encrypt data directly.
     pub fn data_encipherment(&self) -> bool
         ensures { result ≡ has_bit (bit_of bits.data_encipherment) self.now.0.flags.0 }
     {
         self.0.contains(KeyUsages::DataEncipherment)
     }
 
-    /// Returns whether keys are agreed upon with it.
+    /// Returns whether the key may be used for key agreement.
     pub fn key_agreement(&self) -> bool
         ensures { result ≡ has_bit (bit_of bits.key_agreement) self.now.0.flags.0 }
     {
         self.0.contains(KeyUsages::KeyAgreement)
     }
 
-    /// Returns whether certificates are signed with it.
+    /// Returns whether the key may verify signatures on certificates.
     pub fn key_cert_sign(&self) -> bool
         ensures { result ≡ has_bit (bit_of bits.key_cert_sign) self.now.0.flags.0 }
     {
         self.0.contains(KeyUsages::KeyCertSign)
     }
 
-    /// Returns whether lists of revoked certificates are signed with it.
+    /// Returns whether the key may verify signatures on CRLs.
     pub fn crl_sign(&self) -> bool
         ensures { result ≡ has_bit (bit_of bits.crl_sign) self.now.0.flags.0 }
     {
         self.0.contains(KeyUsages::CRLSign)
     }
 
-    /// Returns whether a key that is agreed upon only enciphers.
+    /// Returns whether the key may only encrypt data during key agreement.
     pub fn encipher_only(&self) -> bool
         ensures { result ≡ has_bit (bit_of bits.encipher_only) self.now.0.flags.0 }
     {
         self.0.contains(KeyUsages::EncipherOnly)
     }
 
-    /// Returns whether a key that is agreed upon only deciphers.
+    /// Returns whether the key may only decrypt data during key agreement.
     pub fn decipher_only(&self) -> bool
         ensures { result ≡ has_bit (bit_of bits.decipher_only) self.now.0.flags.0 }
     {

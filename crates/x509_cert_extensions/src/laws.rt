@@ -1,4 +1,4 @@
-//! The law of types of extensions: the contract of a function that does nothing.
+//! A law about the types of extensions: the contract of a function that does nothing.
 
 ghost use Rattle.x509_cert_policies.specs.CertParts.ExtensionTypes as types;
 ghost use Rattle.x509_cert_policies.specs.CertParts.ExtensionTypes.{IsOfType};
@@ -17,7 +17,7 @@ use x509_cert_policies::{
     PrivateKeyUsagePeriod,
 };
 
-/// Each type has the identifier and the criticality that the table of types says.
+/// Each type of extension has the OID and the criticality that the specification lists for it.
 pub fn extensions_are_of_their_types()
     ensures authority_key_identifier { IsOfType types.authority_key_identifier
         ⟦<AuthorityKeyIdentifier as AssociatedOid>⟧.oid_arcs

@@ -1,4 +1,5 @@
-//! The contents of extensions of certificates and of CRLs (RFC 5280 4.2, 5.2, 5.3).
+//! The contents of extensions of certificates, CRLs and CRL entries (RFC 5280 4.2, 5.2, 5.3), and
+//! the traits with which extensions are added to certificates and CRLs.
 #![tactic(auto)]
 
 mod authority_info_access;
@@ -36,7 +37,7 @@ pub use subject_info_access::SubjectInfoAccessSyntax;
 pub use subject_key_identifier::SubjectKeyIdentifier;
 pub use to_extension::ToExtension;
 
-/// The names of `x509_cert_general_names` that the crates above use.
+/// The items of `x509_cert_general_names` that the crates above use.
 pub mod cert_general_names {
     pub use x509_cert_general_names::{
         AccessDescription, AuthorityKeyIdentifier, DistributionPoint, DistributionPointName,
@@ -46,7 +47,7 @@ pub mod cert_general_names {
     };
 }
 
-/// The names of `x509_cert_policies` that the crates above use.
+/// The items of `x509_cert_policies` that the crates above use.
 pub mod policy_types {
     pub use x509_cert_policies::{
         BasicConstraints, CertificatePolicies, CpsUri, DisplayText, InhibitAnyPolicy,

@@ -1,12 +1,10 @@
-//! SubjectAltName.
-
 ghost use Rattle.std.specs.Prelude.{◌≡◌, []};
 
 use std::alloc::Global;
 use x509_cert_general_names::GeneralNames;
 use x509_cert_policies::der::describing::{AsField, Described, Ordered, Wraps};
 
-/// Other names of a subject (RFC 5280 4.2.1.6).
+/// Alternative names of the subject, such as DNS names and e-mail addresses (RFC 5280 4.2.1.6).
 ///
 /// ```text
 /// SubjectAltName ::= GeneralNames
@@ -15,7 +13,7 @@ use x509_cert_policies::der::describing::{AsField, Described, Ordered, Wraps};
 pub struct SubjectAltName(pub GeneralNames);
 
 impl SubjectAltName {
-    /// No names.
+    /// Returns the extension without names.
     pub fn default(alloc: Global) -> SubjectAltName
         ensures { result.0.items ≡ [] }
     {

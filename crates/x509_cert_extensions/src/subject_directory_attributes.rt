@@ -1,12 +1,10 @@
-//! SubjectDirectoryAttributes.
-
 ghost use Rattle.std.specs.Prelude.{◌≡◌, []};
 
 use std::alloc::Global;
 use x509_cert_general_names::cert_names::Attribute;
 use x509_cert_policies::der::describing::{AsField, Described, Ordered, Wraps};
 
-/// Attributes of a subject (RFC 5280 4.2.1.8).
+/// Attributes of the subject, such as a nationality (RFC 5280 4.2.1.8). The list may be empty.
 ///
 /// ```text
 /// SubjectDirectoryAttributes ::= SEQUENCE SIZE (1..MAX) OF Attribute
@@ -15,7 +13,7 @@ use x509_cert_policies::der::describing::{AsField, Described, Ordered, Wraps};
 pub struct SubjectDirectoryAttributes(pub Vec<Attribute>);
 
 impl SubjectDirectoryAttributes {
-    /// No attributes.
+    /// Returns the extension without attributes.
     pub fn default(alloc: Global) -> SubjectDirectoryAttributes
         ensures { result.0.items ≡ [] }
     {

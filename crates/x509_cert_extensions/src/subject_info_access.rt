@@ -1,12 +1,11 @@
-//! SubjectInfoAccessSyntax.
-
 ghost use Rattle.std.specs.Prelude.{◌≡◌, []};
 
 use std::alloc::Global;
 use x509_cert_general_names::AccessDescription;
 use x509_cert_policies::der::describing::{AsField, Described, Ordered, Wraps};
 
-/// Where services of a subject are had (RFC 5280 4.2.2.2).
+/// The services of the subject of a certificate, and their locations (RFC 5280 4.2.2.2). The list
+/// may be empty.
 ///
 /// ```text
 /// SubjectInfoAccessSyntax ::= SEQUENCE SIZE (1..MAX) OF AccessDescription
@@ -15,7 +14,7 @@ use x509_cert_policies::der::describing::{AsField, Described, Ordered, Wraps};
 pub struct SubjectInfoAccessSyntax(pub Vec<AccessDescription>);
 
 impl SubjectInfoAccessSyntax {
-    /// No descriptions.
+    /// Returns the extension without access descriptions.
     pub fn default(alloc: Global) -> SubjectInfoAccessSyntax
         ensures { result.0.items ≡ [] }
     {

@@ -1,5 +1,3 @@
-//! SubjectKeyIdentifier.
-
 ghost use Rattle.std.specs.Prelude.{◌≡◌, IfOk, IfErr};
 ghost use Rattle.x509_cert_general_names.specs.KeyIdentifiers.{key_identifier};
 ghost use Rattle.x509_cert_policies.specs.CertParts.Views.{key_lent};
@@ -11,7 +9,7 @@ use x509_cert_policies::der::describing::{AsField, Described, Ordered, Wraps};
 use x509_cert_policies::der::{Error, ErrorKind};
 use x509_cert_policies::types::OctetString;
 
-/// The identifier of a subject's key (RFC 5280 4.2.1.2).
+/// The key identifier of a certificate's key (RFC 5280 4.2.1.2).
 ///
 /// ```text
 /// SubjectKeyIdentifier ::= KeyIdentifier
@@ -20,11 +18,11 @@ use x509_cert_policies::types::OctetString;
 pub struct SubjectKeyIdentifier(pub OctetString);
 
 impl SubjectKeyIdentifier {
-    /// Returns the identifier of a key (`key_identifier_of`).
+    /// Returns the extension with the key identifier of this key (`key_identifier_of`).
     ///
     /// # Errors
     ///
-    /// Fails if memory runs out.
+    /// - `OutOfMemory`: memory runs out.
     pub fn try_from_key<'a>(alloc: Global, key: &SubjectPublicKeyInfoRef<'a>) -> Result<Self, Error>
         ensures ok { IfOk result (λ i. i.0 ≡ key_identifier (key_lent key.now)) }
         ensures err { IfErr result (λ e. e.kind ≡ ErrorKind.OutOfMemory) }

@@ -1,4 +1,4 @@
-//! ToExtension.
+//! Turning values into extensions.
 
 ghost use Rattle.std.specs.Prelude.{◌≡◌, IfOk, IfErr};
 ghost use Rattle.x509_cert_policies.specs.CertParts.Views.{extension_plain};
@@ -12,7 +12,7 @@ use x509_cert_policies::der::{Encode, Error, ToDer};
 use x509_cert_policies::oid::{AssociatedOid, ObjectIdentifier};
 use x509_cert_policies::types::OctetString;
 
-/// What is made into an extension of a certificate or of a list (RFC 5280 4.2).
+/// A value that can be turned into an extension of a certificate or a CRL (RFC 5280 4.2).
 pub trait ToExtension {
     ghost use Rattle.std.specs.Prelude.{◌≡◌, List, IfOk, IfErr};
     ghost use Rattle.x509_cert_policies.specs.CertParts.Grammar.{PlainExtension};
@@ -20,20 +20,20 @@ pub trait ToExtension {
     ghost use Rattle.x509_cert_policies.specs.CertParts.Views.{extension_plain, extensions_plain};
     ghost use Rattle.x509_cert_general_names.specs.CertNames.Views.{name_plain};
 
-    /// Why no extension is made.
+    /// The error of a failed call.
     type Error: From<Error>;
 
-    // What is made, of a subject and the extensions that are there.
+    // The extension, given the subject's name and the extensions that are already present.
     ghost made: { Self → PlainName → List PlainExtension → PlainExtension };
 
-    // For which values nothing is made, and why.
+    // The relation between a value and the error with which the call may fail for it.
     ghost refused: { Self → Self.Error → Type 0 };
 
-    /// Returns the extension, beside a subject's name and the extensions that are there.
+    /// Returns the extension, given the subject's name and the extensions that are already present.
     ///
     /// # Errors
     ///
-    /// The error with which the writing of the value ends, or out of memory.
+    /// - The errors that the implementation states, for example those of encoding the value.
     fn to_extension(
         self,
         alloc: Global,
@@ -46,7 +46,12 @@ pub trait ToExtension {
         ensures err { IfErr result (λ e. refused self e) };
 }
 
-/// Returns the extension of an identifier whose content is the encoding of a value.
+/// Returns the extension with this OID whose content is the encoding of the value.
+///
+/// # Errors
+///
+/// - The errors of encoding the value.
+/// - `OutOfMemory`: memory runs out.
 fn extension_of<T: Encode>(
     alloc: Global,
     identifier: ObjectIdentifier<39>,
@@ -66,7 +71,7 @@ fn extension_of<T: Encode>(
     })
 }
 
-/// A borrowed value with the identifier and the criticality of its type.
+/// The extension has the OID and the criticality of the value's type.
 impl<'a, T: Encode + AssociatedOid + Criticality> ToExtension for &'a T {
     type Error = Error;
 
@@ -87,7 +92,7 @@ impl<'a, T: Encode + AssociatedOid + Criticality> ToExtension for &'a T {
     }
 }
 
-/// Itself.
+/// The extension is unchanged.
 impl ToExtension for Extension {
     type Error = Error;
 
@@ -105,7 +110,7 @@ impl ToExtension for Extension {
     }
 }
 
-/// The value's, with this identifier.
+/// The extension has this OID, and the criticality of the value's type.
 impl<'a, T: Encode + Criticality> ToExtension for (ObjectIdentifier<39>, &'a T) {
     type Error = Error;
 
@@ -127,7 +132,7 @@ impl<'a, T: Encode + Criticality> ToExtension for (ObjectIdentifier<39>, &'a T) 
     }
 }
 
-/// The value's, critical or not as this says.
+/// The extension has this criticality, and the OID of the value's type.
 impl<'a, T: Encode + AssociatedOid> ToExtension for (bool, &'a T) {
     type Error = Error;
 
@@ -146,7 +151,7 @@ impl<'a, T: Encode + AssociatedOid> ToExtension for (bool, &'a T) {
     }
 }
 
-/// The value's, with this identifier, critical or not as this says.
+/// The extension has this OID and this criticality.
 impl<'a, T: Encode> ToExtension for (ObjectIdentifier<39>, bool, &'a T) {
     type Error = Error;
 

@@ -1,4 +1,4 @@
--- What contracts see of the types: the plain values of their shapes.
+-- The abstract value of each type of this crate, as a value of its shape in `GeneralNames`.
 use Rattle.std.specs.Prelude.{pos}
 use Rattle.std.proofs.Common.{inl, inr}
 use Rattle.der_core.specs.Grammar.{plain_option, plain_list}

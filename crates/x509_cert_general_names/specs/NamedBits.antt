@@ -1,7 +1,8 @@
--- The bit of each reason for which certificates are revoked (RFC 5280 4.2.1.13), the first the
--- lowest.
+-- The bit of each revocation reason (RFC 5280 4.2.1.13). The first bit of the BIT STRING is the
+-- least significant one.
 use Rattle.std.specs.Prelude.{ℕ, ◌^◌, List, [], ◌∷◌, codes}
 
+-- Each revocation reason with its name and its bit.
 abbrev pub reason_flags : List (List ℕ × ℕ)
 reason_flags =
     (codes "Unused", 2 ^ 0)

@@ -1,5 +1,3 @@
-//! AccessDescription.
-
 ghost use Rattle.std.specs.Prelude.{◌≡◌, refl};
 ghost use Rattle.der_core.specs.Oid.Bound.{Bound};
 ghost use Rattle.x509_cert_general_names.specs.GeneralNames.{access_description_fields};
@@ -11,7 +9,7 @@ use der_core::oid::ObjectIdentifier;
 use der_core::{DecodeFields, Error, Reader, lend, read_row};
 use std::alloc::Global;
 
-/// Where a service of an authority is had (RFC 5280 4.2.2.1).
+/// A service of an issuer and the location of the service (RFC 5280 4.2.2.1).
 ///
 /// ```text
 /// AccessDescription ::= SEQUENCE {
@@ -20,9 +18,9 @@ use std::alloc::Global;
 /// ```
 #[derive(Debug, Drop, PartialEq, Eq)]
 pub struct AccessDescription {
-    /// Which service it is.
+    /// The OID of the service.
     pub access_method: ObjectIdentifier<39>,
-    /// Where it is had.
+    /// The location of the service.
     pub access_location: GeneralName,
 }
 

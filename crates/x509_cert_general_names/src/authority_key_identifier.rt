@@ -1,4 +1,4 @@
-//! AuthorityKeyIdentifier, and identifiers of keys.
+//! The type `AuthorityKeyIdentifier`, and key identifiers by SHA-1.
 
 ghost use Rattle.std.specs.Prelude.{◌≡◌, Some, None, IfOk, IfErr, refl};
 ghost use Rattle.der_core.specs.Oid.Bound.{Bound};
@@ -15,7 +15,7 @@ use std::alloc::Global;
 use x509_cert_parts::types::OctetString;
 use x509_cert_parts::{SerialNumber, SubjectPublicKeyInfoRef};
 
-/// The key under which a certificate or a list is signed (RFC 5280 4.2.1.1).
+/// Identifies the key with which a certificate or a CRL is signed (RFC 5280 4.2.1.1, 5.2.1).
 ///
 /// ```text
 /// AuthorityKeyIdentifier ::= SEQUENCE {
@@ -27,7 +27,7 @@ use x509_cert_parts::{SerialNumber, SubjectPublicKeyInfoRef};
 /// ```
 #[derive(Debug, Default, Drop, PartialEq, Eq)]
 pub struct AuthorityKeyIdentifier {
-    /// The identifier of the key.
+    /// The key identifier of the key.
     pub key_identifier: Option<OctetString>,
     /// The issuer of the key's certificate.
     pub authority_cert_issuer: Option<GeneralNames>,
@@ -65,11 +65,11 @@ impl Rows for AuthorityKeyIdentifier {
 }
 
 impl AuthorityKeyIdentifier {
-    /// Returns the identifier of a key (`key_identifier_of`) alone.
+    /// Returns the extension with only the key identifier of this key (`key_identifier_of`).
     ///
     /// # Errors
     ///
-    /// Fails if memory runs out.
+    /// - `OutOfMemory`: memory runs out.
     pub fn try_from_key<'a>(alloc: Global, key: &SubjectPublicKeyInfoRef<'a>) -> Result<Self, Error>
         ensures ok { IfOk result (λ i. i ≡ record {
           key_identifier = Some (key_identifier (key_lent key.now));
@@ -87,12 +87,12 @@ impl AuthorityKeyIdentifier {
     }
 }
 
-/// Returns the SHA-1 digest (FIPS 180-4) of the bytes of the key's bit string, without the count of
-/// unused bits.
+/// Returns the key identifier of a key by method (1) of RFC 5280 4.2.1.2: the SHA-1 digest (FIPS
+/// 180-4) of the bytes of its bit string, without the count of unused bits.
 ///
 /// # Errors
 ///
-/// Fails if memory runs out.
+/// - `OutOfMemory`: memory runs out.
 pub fn key_identifier_of<'a>(
     alloc: Global,
     key: &SubjectPublicKeyInfoRef<'a>,

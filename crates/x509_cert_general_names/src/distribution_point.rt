@@ -1,5 +1,3 @@
-//! DistributionPoint.
-
 ghost use Rattle.std.specs.Prelude.{◌≡◌, refl};
 ghost use Rattle.der_core.specs.Oid.Bound.{Bound};
 ghost use Rattle.x509_cert_general_names.specs.GeneralNames.{distribution_point_fields};
@@ -12,7 +10,7 @@ use der_core::describing::{AsRecord, Described, FieldsView, RowUser, Rows};
 use der_core::{DecodeFields, Error, Reader, lend, read_row};
 use std::alloc::Global;
 
-/// Where a list of revoked certificates is had (RFC 5280 4.2.1.13).
+/// A location of a CRL (RFC 5280 4.2.1.13).
 ///
 /// ```text
 /// DistributionPoint ::= SEQUENCE {
@@ -22,11 +20,11 @@ use std::alloc::Global;
 /// ```
 #[derive(Debug, Drop, PartialEq, Eq)]
 pub struct DistributionPoint {
-    /// The name.
+    /// The location.
     pub distribution_point: Option<DistributionPointName>,
-    /// The reasons for which certificates are in the list. Without them, all.
+    /// The revocation reasons that the CRL covers. If absent, it covers all reasons.
     pub reasons: Option<ReasonFlags>,
-    /// The list's issuer, where another than the certificate's.
+    /// The issuer of the CRL, if it isn't the issuer of the certificate.
     pub crl_issuer: Option<GeneralNames>,
 }
 

@@ -1,5 +1,3 @@
-//! DistributionPointName.
-
 ghost use Rattle.std.specs.Prelude.{◌≡◌, refl};
 ghost use Rattle.der_core.specs.Oid.Bound.{Bound};
 ghost use Rattle.x509_cert_general_names.specs.GeneralNames.{distribution_point_name};
@@ -16,7 +14,7 @@ use std::alloc::Global;
 use std::cmp::Ordering;
 use x509_cert_names::RelativeDistinguishedName;
 
-/// The name of a place where a list is had (RFC 5280 4.2.1.13).
+/// The name of a distribution point (RFC 5280 4.2.1.13).
 ///
 /// ```text
 /// DistributionPointName ::= CHOICE {
@@ -25,9 +23,9 @@ use x509_cert_names::RelativeDistinguishedName;
 /// ```
 #[derive(Debug, Drop, PartialEq, Eq)]
 pub enum DistributionPointName {
-    /// The name.
+    /// The full name, as general names with the same meaning.
     FullName(GeneralNames),
-    /// What follows the name of the list's issuer.
+    /// The RDN that is appended to the name of the CRL's issuer.
     NameRelativeToCRLIssuer(RelativeDistinguishedName),
 }
 
@@ -39,7 +37,8 @@ type CasesRef<'a> = OneOf2<
 >;
 
 impl DistributionPointName {
-    /// Returns a reference to the alternative.
+    /// Returns the value as a choice of references, which has the encoding and ordering of a
+    /// CHOICE.
     fn cases<'a>(&'a self) -> CasesRef<'a>
         ensures { ⟦<CasesRef<'a> as LentField>⟧.written result
             ≡ distribution_point_name_plain self.now }
@@ -96,7 +95,7 @@ impl AsRead for DistributionPointName {
     ghost as_read = { λ _. refl };
 }
 
-/// The tags, then the contents.
+/// Compares the tags first, then the contents.
 impl DerOrd for DistributionPointName {
     fn der_cmp(&self, other: &Self) -> Result<Ordering, Error> {
         cases_cmp(&self.cases(), &other.cases())

@@ -1,5 +1,3 @@
-//! EdiPartyName.
-
 ghost use Rattle.std.specs.Prelude.{◌≡◌, refl};
 ghost use Rattle.x509_cert_general_names.specs.GeneralNames.{edi_party_name_fields};
 ghost use Rattle.x509_cert_general_names.specs.GeneralNameViews.{edi_party_name_plain};
@@ -9,7 +7,7 @@ use der_core::{DecodeFields, Error, Reader, lend, read_row};
 use std::alloc::Global;
 use x509_cert_names::DirectoryString;
 
-/// The name of a party of electronic data interchange (RFC 5280 4.2.1.6).
+/// The name of a party in electronic data interchange (RFC 5280 4.2.1.6).
 ///
 /// ```text
 /// EDIPartyName ::= SEQUENCE {
@@ -18,7 +16,7 @@ use x509_cert_names::DirectoryString;
 /// ```
 #[derive(Debug, Drop, PartialEq, Eq)]
 pub struct EdiPartyName {
-    /// Who gave the name.
+    /// The authority that assigned the name.
     pub name_assigner: Option<DirectoryString>,
     /// The name.
     pub party_name: DirectoryString,

@@ -1,4 +1,4 @@
-//! The identifiers of extensions (RFC 5280 4.2.1, 5.2).
+//! The OIDs of the extensions whose types are in this crate (RFC 5280 4.2.1, 5.2).
 
 ghost use Rattle.x509_cert_parts.specs.ExtensionTypes as types;
 ghost use Rattle.x509_cert_parts.specs.ExtensionTypes.{identifier_of};
@@ -33,12 +33,12 @@ impl AssociatedOid for NameConstraints {
     }
 }
 
-/// The identifier after which it is held as `OtherName` (RFC 4108 5).
+/// The OID that marks an `OtherName` as a `HardwareModuleName` (RFC 4108 5).
 impl AssociatedOid for HardwareModuleName {
     ghost oid_arcs = { module_arcs };
 
     fn associated_oid() -> ObjectIdentifier<39> {
-        // 1.3.6.1.5.5.7.8.4.
+        // The encoding of 1.3.6.1.5.5.7.8.4.
         ObjectIdentifier::from_bytes_unwrap(&[0x2b, 6, 1, 5, 5, 7, 8, 4])
     }
 }

@@ -1,4 +1,4 @@
-//! GeneralName.
+//! The types `GeneralName` and `GeneralNames`.
 
 ghost use Rattle.std.specs.Prelude.{◌≡◌, ◌≤◌, vec_len, refl, IfOk, IfErr};
 ghost use Rattle.der_core.specs.Oid.Bound.{Bound};
@@ -24,8 +24,7 @@ use std::net::IpAddr;
 use x509_cert_names::Name;
 use x509_cert_parts::types::{Ia5String, OctetString};
 
-/// A name of one of the kinds that a certificate can give (RFC 5280 4.2.1.6). An address of X.400
-/// isn't read.
+/// A name of one of several kinds (RFC 5280 4.2.1.6). `x400Address` isn't supported.
 ///
 /// ```text
 /// GeneralName ::= CHOICE {
@@ -40,21 +39,21 @@ use x509_cert_parts::types::{Ia5String, OctetString};
 /// ```
 #[derive(Debug, Drop, PartialEq, Eq)]
 pub enum GeneralName {
-    /// Of a kind that an identifier tells.
+    /// A name of a kind that an OID identifies.
     OtherName(OtherName),
-    /// A mail address.
+    /// An e-mail address.
     Rfc822Name(Ia5String),
-    /// The name of a host.
+    /// A DNS name.
     DnsName(Ia5String),
-    /// A name as a subject or an issuer has.
+    /// A distinguished name.
     DirectoryName(Name),
-    /// A party of electronic data interchange.
+    /// A party in electronic data interchange.
     EdiPartyName(EdiPartyName),
-    /// A resource.
+    /// A URI.
     UniformResourceIdentifier(Ia5String),
-    /// An address, or an address and a mask.
+    /// An IP address, or an IP address and a mask.
     IpAddress(OctetString),
-    /// An identifier.
+    /// An OID.
     RegisteredId(ObjectIdentifier<39>),
 }
 
@@ -80,7 +79,11 @@ type CasesRef<'a> = OneOf8<
     ImplicitRef<'a, ObjectIdentifier<39>, 8>,
 >;
 
-/// Returns the bytes of an address, in the order of the network.
+/// Returns the bytes of an IP address in network byte order.
+///
+/// # Errors
+///
+/// - `AllocError`: memory runs out.
 fn octets_of(alloc: Global, address: IpAddr) -> Result<Vec<u8>, AllocError>
     ensures octets { IfOk result (λ v. v.items ≡ address_octets address) }
     ensures few { IfOk result (λ v. vec_len v ≤ 16) }
@@ -92,11 +95,12 @@ fn octets_of(alloc: Global, address: IpAddr) -> Result<Vec<u8>, AllocError>
 }
 
 impl GeneralName {
-    /// Returns the name of an address: its four bytes (RFC 791 3.1), or its sixteen (RFC 4291 2).
+    /// Returns the general name of an IP address: its four bytes (RFC 791 3.1) or its sixteen (RFC
+    /// 4291 2).
     ///
     /// # Errors
     ///
-    /// Fails if memory runs out.
+    /// - `OutOfMemory`: memory runs out.
     pub fn from_ip(alloc: Global, address: IpAddr) -> Result<GeneralName, Error>
         ensures ok { IfOk result (λ n. n ≡ names.IpAddress (address_octets address)) }
         ensures err { IfErr result (λ e. e.kind ≡ OutOfMemory) }
@@ -105,7 +109,8 @@ impl GeneralName {
         Ok(GeneralName::IpAddress(OctetString::new(octets)?))
     }
 
-    /// Returns a reference to the alternative.
+    /// Returns the value as a choice of references, which has the encoding and ordering of a
+    /// CHOICE.
     fn cases<'a>(&'a self) -> CasesRef<'a>
         ensures { ⟦<CasesRef<'a> as LentField>⟧.written result ≡ general_name_plain self.now }
     {
@@ -177,7 +182,7 @@ impl AsRead for GeneralName {
     ghost as_read = { λ _. refl };
 }
 
-/// The tags, then the contents.
+/// Compares the tags first, then the contents.
 impl DerOrd for GeneralName {
     fn der_cmp(&self, other: &Self) -> Result<Ordering, Error> {
         cases_cmp(&self.cases(), &other.cases())
@@ -190,7 +195,7 @@ impl FirstTag for GeneralName {
     }
 }
 
-/// Names of one subject or issuer (RFC 5280 4.2.1.6). There may be none.
+/// General names of one subject or issuer (RFC 5280 4.2.1.6). The list may be empty.
 ///
 /// ```text
 /// GeneralNames ::= SEQUENCE SIZE (1..MAX) OF GeneralName

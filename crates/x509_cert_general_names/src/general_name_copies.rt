@@ -1,4 +1,4 @@
-//! Copies of general names, and of what holds them.
+//! Copying general names and the types that contain them.
 
 ghost use Rattle.der_core.specs.Copies.{IsCopy};
 ghost use Rattle.x509_cert_general_names.specs.GeneralNameViews as views;
@@ -15,7 +15,11 @@ use x509_cert_parts::SerialNumber;
 use x509_cert_parts::types::OctetString;
 
 impl OtherName {
-    /// Returns a copy. The only error is that memory runs out.
+    /// Returns a copy.
+    ///
+    /// # Errors
+    ///
+    /// - `AllocError`: memory runs out.
     pub fn clone(&self, alloc: Global) -> Result<OtherName, AllocError>
         ensures { IsCopy self.now result views.other_name_plain }
     {
@@ -27,7 +31,11 @@ impl OtherName {
 }
 
 impl EdiPartyName {
-    /// Returns a copy. The only error is that memory runs out.
+    /// Returns a copy.
+    ///
+    /// # Errors
+    ///
+    /// - `AllocError`: memory runs out.
     pub fn clone(&self, alloc: Global) -> Result<EdiPartyName, AllocError>
         ensures { IsCopy self.now result views.edi_party_name_plain }
     {
@@ -39,7 +47,11 @@ impl EdiPartyName {
 }
 
 impl GeneralName {
-    /// Returns a copy. The only error is that memory runs out.
+    /// Returns a copy.
+    ///
+    /// # Errors
+    ///
+    /// - `AllocError`: memory runs out.
     pub fn clone(&self, alloc: Global) -> Result<GeneralName, AllocError>
         ensures { IsCopy self.now result views.general_name_plain }
     {
@@ -59,7 +71,11 @@ impl GeneralName {
 }
 
 impl DistributionPointName {
-    /// Returns a copy. The only error is that memory runs out.
+    /// Returns a copy.
+    ///
+    /// # Errors
+    ///
+    /// - `AllocError`: memory runs out.
     pub fn clone(&self, alloc: Global) -> Result<DistributionPointName, AllocError>
         ensures { IsCopy self.now result views.distribution_point_name_plain }
     {
@@ -75,7 +91,11 @@ impl DistributionPointName {
 }
 
 impl AuthorityKeyIdentifier {
-    /// Returns a copy. The only error is that memory runs out.
+    /// Returns a copy.
+    ///
+    /// # Errors
+    ///
+    /// - `AllocError`: memory runs out.
     pub fn clone(&self, alloc: Global) -> Result<AuthorityKeyIdentifier, AllocError>
         ensures { IsCopy self.now result views.authority_key_identifier_plain }
     {
@@ -96,7 +116,11 @@ impl AuthorityKeyIdentifier {
 }
 
 impl DistributionPoint {
-    /// Returns a copy. The only error is that memory runs out.
+    /// Returns a copy.
+    ///
+    /// # Errors
+    ///
+    /// - `AllocError`: memory runs out.
     pub fn clone(&self, alloc: Global) -> Result<DistributionPoint, AllocError>
         ensures { IsCopy self.now result views.distribution_point_plain }
     {
@@ -113,7 +137,11 @@ impl DistributionPoint {
 }
 
 impl AccessDescription {
-    /// Returns a copy. The only error is that memory runs out.
+    /// Returns a copy.
+    ///
+    /// # Errors
+    ///
+    /// - `AllocError`: memory runs out.
     pub fn clone(&self, alloc: Global) -> Result<AccessDescription, AllocError>
         ensures { IsCopy self.now result views.access_description_plain }
     {
@@ -125,7 +153,11 @@ impl AccessDescription {
 }
 
 impl GeneralSubtree {
-    /// Returns a copy. The only error is that memory runs out.
+    /// Returns a copy.
+    ///
+    /// # Errors
+    ///
+    /// - `AllocError`: memory runs out.
     pub fn clone(&self, alloc: Global) -> Result<GeneralSubtree, AllocError>
         ensures { IsCopy self.now result views.general_subtree_plain }
     {
@@ -138,7 +170,11 @@ impl GeneralSubtree {
 }
 
 impl NameConstraints {
-    /// Returns a copy. The only error is that memory runs out.
+    /// Returns a copy.
+    ///
+    /// # Errors
+    ///
+    /// - `AllocError`: memory runs out.
     pub fn clone(&self, alloc: Global) -> Result<NameConstraints, AllocError>
         ensures { IsCopy self.now result views.name_constraints_plain }
     {
@@ -158,7 +194,11 @@ impl NameConstraints {
 }
 
 impl IssuingDistributionPoint {
-    /// Returns a copy. The only error is that memory runs out.
+    /// Returns a copy.
+    ///
+    /// # Errors
+    ///
+    /// - `AllocError`: memory runs out.
     pub fn clone(&self, alloc: Global) -> Result<IssuingDistributionPoint, AllocError>
         ensures { IsCopy self.now result views.issuing_distribution_point_plain }
     {
@@ -178,7 +218,11 @@ impl IssuingDistributionPoint {
 }
 
 impl HardwareModuleName {
-    /// Returns a copy. The only error is that memory runs out.
+    /// Returns a copy.
+    ///
+    /// # Errors
+    ///
+    /// - `AllocError`: memory runs out.
     pub fn clone(&self, alloc: Global) -> Result<HardwareModuleName, AllocError>
         ensures { IsCopy self.now result views.hardware_module_name_plain }
     {

@@ -1,4 +1,4 @@
-//! GeneralSubtree.
+//! The types `GeneralSubtree` and `GeneralSubtrees`.
 
 ghost use Rattle.std.specs.Prelude.{◌≡◌, refl};
 ghost use Rattle.der_core.specs.Oid.Bound.{Bound};
@@ -10,7 +10,7 @@ use der_core::describing::{AsRecord, Described, FieldsView, RowUser, Rows};
 use der_core::{DecodeFields, Error, Reader, lend, read_row};
 use std::alloc::Global;
 
-/// Names below a base (RFC 5280 4.2.1.10).
+/// The names below a base name (RFC 5280 4.2.1.10). Numbers above 2^32 - 1 are rejected.
 ///
 /// ```text
 /// GeneralSubtree ::= SEQUENCE {
@@ -22,11 +22,12 @@ use std::alloc::Global;
 /// ```
 #[derive(Debug, Drop, PartialEq, Eq)]
 pub struct GeneralSubtree {
-    /// The base.
+    /// The base name.
     pub base: GeneralName,
-    /// How far below the base the names begin.
+    /// The number of levels below the base at which the subtree begins. RFC 5280 requires 0.
     pub minimum: u32,
-    /// How far below the base they end, if they do.
+    /// The number of levels below the base at which the subtree ends, if it ends. RFC 5280 requires
+    /// that it is absent.
     pub maximum: Option<u32>,
 }
 
@@ -56,7 +57,7 @@ impl Rows for GeneralSubtree {
     ghost apart = { refl };
 }
 
-/// Names below some bases (RFC 5280 4.2.1.10).
+/// Subtrees of names (RFC 5280 4.2.1.10). The list may be empty.
 ///
 /// ```text
 /// GeneralSubtrees ::= SEQUENCE SIZE (1..MAX) OF GeneralSubtree

@@ -1,5 +1,3 @@
-//! HardwareModuleName.
-
 ghost use Rattle.std.specs.Prelude.{◌≡◌, true, false, Ok, Some, None, IsSome, IfOk, IfSome, refl};
 ghost use Rattle.der_core.specs.Oid.Bound.{Bound};
 ghost use Rattle.der_core.specs.Grammar.{plain_option};
@@ -17,7 +15,7 @@ use der_core::{DecodeFields, Error, Reader, lend, read_row};
 use std::alloc::Global;
 use x509_cert_parts::types::OctetString;
 
-/// The name of a module of hardware (RFC 4108 5). It is held as `OtherName`.
+/// The name of a hardware module (RFC 4108 5), which is contained in an `OtherName`.
 ///
 /// ```text
 /// HardwareModuleName ::= SEQUENCE {
@@ -28,36 +26,37 @@ use x509_cert_parts::types::OctetString;
 pub struct HardwareModuleName {
     /// The type of the module.
     pub hw_type: ObjectIdentifier<39>,
-    /// The serial number.
+    /// The serial number of the module.
     pub hw_serial_num: OctetString,
 }
 
 impl HardwareModuleName {
-    /// Returns the module that another name holds; none if it is of another kind.
+    /// Decodes the hardware module name that an `OtherName` contains, or returns `None` if its OID
+    /// is another one.
     ///
     /// # Errors
     ///
-    /// - `TagUnexpected`: the value of the name isn't SEQUENCE.
+    /// - `TagUnexpected`: the value isn't a SEQUENCE.
     /// - The first error of its content.
     /// - `OutOfMemory`: memory runs out.
     pub fn from_other_name(alloc: Global, other_name: &OtherName) -> Result<Option<Self>, Error>
-        // A name of another kind holds none.
+        // A name with another OID contains none.
         ensures other { is_of_module (other_name_plain other_name.now) ≡ false → result ≡ Ok None }
-        // A name of a module holds a module, or is rejected.
+        // With the OID of hardware modules, the value is decoded or rejected.
         ensures held { is_of_module (other_name_plain other_name.now) ≡ true → IfOk result IsSome }
-        // The module that is returned is spelled by the value.
+        // The decoded module is the one that the value encodes.
         ensures spelled { HasEncoding (other_name_plain other_name.now)
             → IfOk result
             (λ o.
             IfSome o
             (λ m. HoldsModule Bound (other_name_plain other_name.now)
             (hardware_module_name_plain m))) }
-        // A module that is spelled by the value is returned, unless memory runs out.
+        // A module that the value encodes is returned, unless memory runs out.
         ensures only { (m : PlainModule) → is_of_module (other_name_plain other_name.now) ≡ true
             → HasEncoding (other_name_plain other_name.now)
             → HoldsModule Bound (other_name_plain other_name.now) m
             → Gives (plain_option hardware_module_name_plain) result (Ok (Some m)) }
-        // The error is exact.
+        // The value or the error is that of the decoder that the specification defines.
         ensures exact { is_of_module (other_name_plain other_name.now) ≡ true
             → Gives (plain_option hardware_module_name_plain) result
             (module_read Bound (other_name_plain other_name.now)) }

@@ -1,5 +1,3 @@
-//! IssuingDistributionPoint.
-
 ghost use Rattle.std.specs.Prelude.{◌≡◌, refl};
 ghost use Rattle.der_core.specs.Oid.Bound.{Bound};
 ghost use Rattle.x509_cert_general_names.specs.GeneralNames.{issuing_distribution_point_fields};
@@ -11,7 +9,7 @@ use der_core::describing::{AsRecord, Described, FieldsView, RowUser, Rows};
 use der_core::{DecodeFields, Error, Reader, lend, read_row};
 use std::alloc::Global;
 
-/// What is in a list of revoked certificates (RFC 5280 5.2.5).
+/// The location of a CRL and the certificates that it covers (RFC 5280 5.2.5).
 ///
 /// ```text
 /// IssuingDistributionPoint ::= SEQUENCE {
@@ -24,17 +22,17 @@ use std::alloc::Global;
 /// ```
 #[derive(Debug, Drop, PartialEq, Eq)]
 pub struct IssuingDistributionPoint {
-    /// Where the list is had.
+    /// The location of the CRL.
     pub distribution_point: Option<DistributionPointName>,
-    /// Whether it holds certificates of subscribers alone.
+    /// True if the CRL covers only end-entity certificates.
     pub only_contains_user_certs: bool,
-    /// Whether it holds certificates of authorities alone.
+    /// True if the CRL covers only CA certificates.
     pub only_contains_ca_certs: bool,
-    /// The reasons for which certificates are in it, if not all.
+    /// The revocation reasons that the CRL covers. If absent, it covers all reasons.
     pub only_some_reasons: Option<ReasonFlags>,
-    /// Whether it holds certificates of other issuers too.
+    /// True if the CRL also covers certificates of other issuers.
     pub indirect_crl: bool,
-    /// Whether it holds attribute certificates alone.
+    /// True if the CRL covers only attribute certificates.
     pub only_contains_attribute_certs: bool,
 }
 

@@ -1,5 +1,5 @@
-//! General names, and what holds them: points of distribution, constraints, descriptions of access
-//! (RFC 5280 4.2, 5.2).
+//! General names, and the extensions and types that contain them: distribution points, name
+//! constraints, access descriptions and authority key identifiers (RFC 5280 4.2, 5.2).
 #![tactic(auto)]
 
 mod access_description;
@@ -30,7 +30,7 @@ pub use name_constraints::NameConstraints;
 pub use other_name::OtherName;
 pub use reason_flags::{ReasonFlags, Reasons};
 
-/// The names of `x509_cert_names` that the crates above use.
+/// The items of `x509_cert_names` that the crates above use.
 pub mod cert_names {
     pub use x509_cert_names::{Attribute, Name};
 }

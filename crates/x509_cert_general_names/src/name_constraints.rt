@@ -1,5 +1,3 @@
-//! NameConstraints.
-
 ghost use Rattle.std.specs.Prelude.{◌≡◌, refl};
 ghost use Rattle.der_core.specs.Oid.Bound.{Bound};
 ghost use Rattle.x509_cert_general_names.specs.GeneralNames.{name_constraints_fields};
@@ -10,7 +8,8 @@ use der_core::describing::{AsRecord, Described, FieldsView, RowUser, Rows};
 use der_core::{DecodeFields, Error, Reader, lend, read_row};
 use std::alloc::Global;
 
-/// Where the names of all subjects below an authority must lie (RFC 5280 4.2.1.10).
+/// Limits the names of the subjects of all later certificates in a chain (RFC 5280 4.2.1.10). Each
+/// list of subtrees may be empty, and both may be absent.
 ///
 /// ```text
 /// NameConstraints ::= SEQUENCE {
@@ -21,9 +20,9 @@ use std::alloc::Global;
 /// ```
 #[derive(Debug, Drop, PartialEq, Eq)]
 pub struct NameConstraints {
-    /// Where they may lie.
+    /// The subtrees in which the names must be.
     pub permitted_subtrees: Option<GeneralSubtrees>,
-    /// Where they may not.
+    /// The subtrees in which the names must not be.
     pub excluded_subtrees: Option<GeneralSubtrees>,
 }
 

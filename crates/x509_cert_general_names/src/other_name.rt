@@ -1,5 +1,3 @@
-//! OtherName.
-
 ghost use Rattle.std.specs.Prelude.{◌≡◌, refl};
 ghost use Rattle.der_core.specs.Oid.Bound.{Bound};
 ghost use Rattle.der_core.specs.Reading.{Gives};
@@ -15,7 +13,7 @@ use der_core::{DecodeFields, Error, Reader, lend, read_row};
 use std::alloc::Global;
 use x509_cert_parts::types::Any;
 
-/// A name of a kind that an identifier tells (RFC 5280 4.2.1.6).
+/// A name of a kind that an OID identifies (RFC 5280 4.2.1.6).
 ///
 /// ```text
 /// OtherName ::= SEQUENCE {
@@ -24,18 +22,18 @@ use x509_cert_parts::types::Any;
 /// ```
 #[derive(Debug, Drop, PartialEq, Eq)]
 pub struct OtherName {
-    /// Which kind it is.
+    /// The OID of the kind.
     pub type_id: ObjectIdentifier<39>,
-    /// The name.
+    /// The name, undecoded: its tag and content.
     pub value: Any,
 }
 
 impl OtherName {
-    /// Returns the name that holds this module.
+    /// Returns the name that contains this hardware module name (RFC 4108 5).
     ///
     /// # Errors
     ///
-    /// - `Overflow`: the module has 2^32 bytes or more.
+    /// - `Overflow`: the encoding of the module name has 2^32 bytes or more.
     /// - `OutOfMemory`: memory runs out.
     pub fn try_from(alloc: Global, named: &HardwareModuleName) -> Result<OtherName, Error>
         ensures { Gives other_name_plain result

@@ -1,4 +1,4 @@
-//! Reasons.
+//! The types `Reasons` and `ReasonFlags`.
 
 ghost use Rattle.std.specs.Prelude.{⊤, refl};
 ghost use Rattle.bitflags.specs.Sets.{known_from};
@@ -7,7 +7,8 @@ ghost use Rattle.x509_cert_general_names.specs.NamedBits.{reason_flags};
 use bitflags::{Flag, Flags, bitflag_items};
 use x509_cert_parts::types::{FlagSet, NamedBits};
 
-/// Why certificates are revoked, the first bit the lowest (RFC 5280 4.2.1.13).
+/// A revocation reason as a bit (RFC 5280 4.2.1.13). The first bit of the BIT STRING is the least
+/// significant one.
 #[derive(Clone, Copy, Debug, PartialEq, Eq)]
 pub struct Reasons(u16);
 
@@ -67,7 +68,7 @@ impl NamedBits for Reasons {
     ghost known = { unfold known_from in refl };
 }
 
-/// Reasons for which certificates are revoked (RFC 5280 4.2.1.13).
+/// A set of revocation reasons (RFC 5280 4.2.1.13).
 ///
 /// ```text
 /// ReasonFlags ::= BIT STRING {

@@ -1,4 +1,4 @@
--- The bytes of the identifiers of kinds (X.690 8.19).
+-- Lemmas for `ExtensionKind::of`: the encodings of the OIDs of all kinds (X.690 8.19).
 use Rattle.std.proofs.Common.{◌≡◌, ◌≢◌, ◌↔◌, ℕ, List, [], ◌∷◌, Option, Some, None, IfSome, IfNone, length, true, false, slice_index_or, refl, sym, ap, ◌∙◌, arith}
 use Rattle.std.specs.Cmp.Lexicographic.{bytes_decides}
 use Rattle.std.proofs.lemmas.Bool.{false_from_ne_true}
@@ -22,7 +22,7 @@ is_no_kind arcs kind other = false_from_ne_true (owned_eq arcs (arcs_of kind)) (
 apart : {A : Type 0} (a b : List ℕ) → length a ≢ length b → a ≡ b → A
 apart a b other e = absurd (other (ap (λ (w : List ℕ). length w) e))
 
--- below id-ce and below id-pe
+-- The encodings of OIDs below id-ce and below id-pe.
 abbrev pub ce_octets : ℕ → List ℕ
 ce_octets n = 0x55 ∷ 0x1d ∷ n ∷ []
 
@@ -48,7 +48,7 @@ pub timestamps_octets : octets_of kinds.SignedCertificateTimestamps ≡ 0x2b ∷
 unfolding identifier_octets arc_octets digits digits_within marked
 timestamps_octets = refl
 
--- what is said of an arc below one of them is said of the identifier
+-- A fact about an arc below one of them is a fact about the OID.
 module _ (below octets : ℕ → List ℕ) (spelled : (kind : ExtensionKind) (n : ℕ) → (arcs_of kind ≡ below n) ↔ (octets_of kind ≡ octets n)) (arcs : List ℕ) (n : ℕ) (e : identifier_octets arcs ≡ octets n) where
   pub known_below : (found : Option ExtensionKind) → IfSome found (λ kind. arcs_of kind ≡ below n) → IfSome found (λ kind. owned_eq arcs (arcs_of kind) ≡ true)
   known_below (Some kind) known = is_kind arcs kind (e ∙ sym ((spelled kind n).0 known))
@@ -58,7 +58,8 @@ module _ (below octets : ℕ → List ℕ) (spelled : (kind : ExtensionKind) (n 
   unknown_below (Some kind) unknown = unknown
   unknown_below None unknown = λ kind. is_no_kind arcs kind (λ same. unknown kind ((spelled kind n).1 (sym same ∙ e)))
 
--- the bytes of a kind are an arc below one of them, or those of timestamps
+-- The encoding of a kind's OID is below id-ce, below id-pe, or that of the signed certificate
+-- timestamps.
 pub none_of : (w : List ℕ) → ((n : ℕ) → w ≢ ce_octets n) → ((n : ℕ) → w ≢ pe_octets n) → w ≢ octets_of kinds.SignedCertificateTimestamps → (kind : ExtensionKind) → w ≢ octets_of kind
 unfolding identifier_octets arc_octets digits digits_within marked
 none_of w ce pe timestamps kinds.AuthorityInfoAccess = pe 1

@@ -1,10 +1,11 @@
--- The identifier of each kind of extension.
+-- The OIDs of the kinds of extensions.
 use Rattle.std.specs.Prelude.{ℕ, List}
 use Rattle.x509_cert_kinds.specs.declared.extension_kind.ExtensionKind.{ExtensionKind}
 use Rattle.x509_cert_kinds.specs.declared.extension_kind.ExtensionKind.TheVariants as kinds
 use Rattle.x509_cert_parts.specs.ExtensionTypes as types
 use Rattle.x509_cert_parts.specs.ExtensionTypes.{id_ce, id_pe, identifier_of}
 
+-- The arcs of the OID of a kind of extension.
 abbrev pub arcs_of : ExtensionKind → List ℕ
 arcs_of kinds.SubjectDirectoryAttributes = identifier_of types.subject_directory_attributes
 arcs_of kinds.SubjectKeyIdentifier = identifier_of types.subject_key_identifier

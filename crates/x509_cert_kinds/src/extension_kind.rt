@@ -1,4 +1,4 @@
-//! Which identifier is that of which kind of extension.
+//! The kinds of extensions, by OID.
 ghost use Rattle.std.specs.Prelude.{◌≡◌, ◌≢◌, ℕ, ◌∷◌, ◌++◌, [], true, false};
 ghost use Rattle.std.specs.Prelude.{IfSome, IfNone};
 ghost use Rattle.x509_cert_parts.specs.ExtensionTypes.{id_ce, id_pe};
@@ -7,7 +7,7 @@ ghost use Rattle.x509_cert_kinds.specs.Kinds.{arcs_of};
 
 use x509_cert_parts::oid::ObjectIdentifier;
 
-/// A kind of extension, of certificates (RFC 5280 4.2), of CRLs (5.2) and of their entries (5.3).
+/// A kind of extension of certificates (RFC 5280 4.2), of CRLs (5.2) or of CRL entries (5.3).
 #[derive(Clone, Copy, Debug, PartialEq, Eq)]
 pub enum ExtensionKind {
     /// id-ce 9 (RFC 5280 4.2.1.8).
@@ -64,7 +64,8 @@ pub enum ExtensionKind {
     SignedCertificateTimestamps,
 }
 
-// The bytes of 2.5.29, of 1.3.6.1.5.5.7.1, and of 1.3.6.1.4.1.11129.2.4.2 (X.690 8.19).
+// The encodings (X.690 8.19) of id-ce (2.5.29), of id-pe (1.3.6.1.5.5.7.1), and of the OID of the
+// list of signed certificate timestamps (RFC 6962 3.3).
 const ID_CE: [u8; 2] = [0x55, 0x1d];
 
 const ID_PE: [u8; 7] = [0x2b, 6, 1, 5, 5, 7, 1];
@@ -72,7 +73,7 @@ const ID_PE: [u8; 7] = [0x2b, 6, 1, 5, 5, 7, 1];
 const TIMESTAMPS: [u8; 10] = [0x2b, 6, 1, 4, 1, 0xd6, 0x79, 2, 4, 2];
 
 impl ExtensionKind {
-    /// Returns the kind of extension that has this identifier.
+    /// Returns the kind of extension that has this OID, or `None` if no kind has it.
     pub fn of(identifier: &ObjectIdentifier<39>) -> Option<ExtensionKind>
         ensures known { IfSome result (λ kind. owned_eq identifier.now (arcs_of kind) ≡ true) }
         ensures unknown { IfNone result ((kind : ExtensionKind)
@@ -92,7 +93,7 @@ impl ExtensionKind {
     }
 }
 
-// Returns the last byte, where the others are these.
+// Returns the last byte of `octets` if the bytes before it are `front`.
 fn arc_below(front: &[u8], octets: &[u8]) -> Option<u8>
     ensures some { IfSome result (λ arc. octets.now ≡ front.now ++ arc ∷ []) }
     ensures none { IfNone result ((arc : ℕ) → octets.now ≢ front.now ++ arc ∷ []) }
@@ -106,7 +107,7 @@ fn arc_below(front: &[u8], octets: &[u8]) -> Option<u8>
     Some(*arc)
 }
 
-// Returns the kind whose identifier is this arc below id-ce.
+// Returns the kind of extension whose OID is id-ce with this arc, if any.
 fn below_ce(arc: u8) -> Option<ExtensionKind>
     ensures known { IfSome result (λ kind. arcs_of kind ≡ id_ce arc) }
     ensures unknown { IfNone result ((kind : ExtensionKind) → arcs_of kind ≢ id_ce arc) }
@@ -138,7 +139,7 @@ fn below_ce(arc: u8) -> Option<ExtensionKind>
     }
 }
 
-// Returns the kind whose identifier is this arc below id-pe.
+// Returns the kind of extension whose OID is id-pe with this arc, if any.
 fn below_pe(arc: u8) -> Option<ExtensionKind>
     ensures known { IfSome result (λ kind. arcs_of kind ≡ id_pe arc) }
     ensures unknown { IfNone result ((kind : ExtensionKind) → arcs_of kind ≢ id_pe arc) }

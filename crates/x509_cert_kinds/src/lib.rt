@@ -1,4 +1,5 @@
-//! Kinds of extensions, each by its identifier.
+//! The kinds of extensions that X.509 certificates, CRLs and CRL entries use, and the OID of each
+//! kind.
 #![tactic(auto)]
 
 mod extension_kind;

@@ -1,4 +1,4 @@
--- Attributes of CSRs that hold one value (RFC 2986 4.1).
+-- Attributes of CSRs with one value (RFC 2986 4.1).
 use Rattle.std.specs.Prelude.{ℕ, List, [], ◌∷◌, Result, Ok, Err}
 use Rattle.std.proofs.Common.{inl, inr}
 use Rattle.der_core.specs.ErrorTypes.ErrorKind.{ErrorKind}
@@ -9,7 +9,8 @@ use Rattle.der_core.specs.Shapes.{defaulted, nothing}
 use Rattle.x509_cert_parts.specs.Types.Contents.{written_as}
 use Rattle.x509_cert_names.specs.Names.{PlainAttribute}
 
--- a value's tag and content, if a length can count its bytes; a field that may be absent has none
+-- The tag and the content of a value's encoding, if it has fewer than 2^32 bytes. An optional field
+-- has none: it may be absent.
 abbrev pub any_of : (s : Shape) → Value s → Result AnyValue ErrorKind
 any_of (tagged t c) v = written_as t c v
 any_of any v = Ok v
@@ -19,10 +20,10 @@ any_of (optional s) v = Err kinds.Failed
 any_of (defaulted s d) v = Err kinds.Failed
 any_of nothing v = Err kinds.Failed
 
--- the attribute of a type whose one value is this
+-- The attribute with this OID and this value only.
 abbrev pub attribute_of : List ℕ → Result AnyValue ErrorKind → Result PlainAttribute ErrorKind
 attribute_of arcs r = r >>= λ (v : AnyValue). Ok (arcs, (v ∷ [], tt))
 
--- challengePassword is 1.2.840.113549.1.9.7
+-- challengePassword, 1.2.840.113549.1.9.7 (RFC 2985 5.4.1).
 abbrev pub challenge_password_arcs : List ℕ
 challenge_password_arcs = 1 ∷ 2 ∷ 840 ∷ 113549 ∷ 1 ∷ 9 ∷ 7 ∷ []

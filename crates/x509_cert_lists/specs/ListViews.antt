@@ -1,4 +1,4 @@
--- What contracts see of the types: the plain values of their shapes.
+-- The abstract value of each type of this crate, as a value of its shape in `ListGrammar`.
 use Rattle.std.specs.Prelude.{ℕ, pos, None}
 use Rattle.der_core.specs.Grammar.{plain_option, plain_list}
 use Rattle.der_core.specs.Shapes.{BodyValue}
@@ -52,7 +52,7 @@ certificate_list_plain c = (
   (algorithm_plain c.signature_algorithm, (c.signature, tt)),
 )
 
--- the number of a request's version
+-- The number of a CSR's version.
 abbrev pub request_number : Version → ℕ
 request_number v = 0
 

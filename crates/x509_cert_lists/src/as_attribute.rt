@@ -1,4 +1,4 @@
-//! Values of attributes.
+//! Values as attributes of CSRs.
 
 use der_core::oid::AssociatedOid;
 use der_core::{Encode, Error, StrictSetOf};
@@ -6,22 +6,23 @@ use std::alloc::Global;
 use x509_cert_names::Attribute;
 use x509_cert_parts::types::Any;
 
-/// What an attribute of a CSR holds as its one value (RFC 2986 4.1).
+/// A type whose values can be the only value of an attribute in a CSR (RFC 2986 4.1).
 pub trait AsAttribute: AssociatedOid + Encode {
     ghost use Rattle.der_core.specs.Reading.{Gives};
     ghost use Rattle.x509_cert_names.specs.Views.{attribute_plain};
     ghost use Rattle.x509_cert_lists.specs.Attributes.{any_of, attribute_of};
 
-    /// Returns the tag and the content of the value.
+    /// Returns the tag and the content of the value's encoding.
     ///
     /// # Errors
     ///
-    /// - `Overflow`: it has 2^32 bytes or more.
+    /// - `Failed`: the type is an optional field, whose encoding may be absent.
+    /// - `Overflow`: the encoding has 2^32 bytes or more.
     /// - `OutOfMemory`: memory runs out.
     fn to_any(&self, alloc: Global) -> Result<Any, Error>
         ensures { Gives (λ a. a) result (any_of Self.shape (Self.written self.now)) };
 
-    /// Returns the attribute of the type's identifier that holds the value alone.
+    /// Returns the attribute with the type's OID and this value only.
     ///
     /// # Errors
     ///

@@ -1,5 +1,3 @@
-//! Certification requests.
-
 ghost use Rattle.std.specs.Prelude.{◌≡◌, ◌≢◌, [], IfOk, IfErr, refl};
 ghost use Rattle.der_core.specs.Oid.Bound.{Bound};
 ghost use Rattle.der_core.specs.Grammar.{read_whole};
@@ -15,7 +13,7 @@ use std::alloc::Global;
 use x509_cert_parts::AlgorithmIdentifier;
 use x509_cert_parts::types::BitString;
 
-/// A request for a certificate (RFC 2986 4.2).
+/// A CSR, called certification request in RFC 2986 4.2.
 ///
 /// ```text
 /// CertificationRequest ::= SEQUENCE {
@@ -27,9 +25,9 @@ use x509_cert_parts::types::BitString;
 pub struct CertReq {
     /// The part that is signed.
     pub info: CertReqInfo,
-    /// The algorithm of the signature.
+    /// The signature algorithm.
     pub algorithm: AlgorithmIdentifier,
-    /// The signature.
+    /// The signature over the encoding of `info`.
     pub signature: BitString,
 }
 
@@ -58,18 +56,19 @@ impl Rows for CertReq {
 }
 
 impl CertReq {
-    /// Reads a request, all of the bytes.
+    /// Decodes a CSR from its DER encoding, which must be all of the bytes.
     ///
     /// # Errors
     ///
-    /// The first error that decoding meets, or `OutOfMemory`.
+    /// - The first error that decoding encounters.
+    /// - `OutOfMemory`: memory runs out.
     pub fn try_from_bytes(alloc: Global, bytes: &[u8]) -> Result<CertReq, Error>
-        // What is accepted is an encoding.
+        // Accepted bytes are the encoding of the CSR.
         ensures spelled { IfOk result (λ r. Spells (cert_req Bound) (cert_req_plain r) bytes.now) }
-        // What is rejected for another reason than out of memory is spelled by no request.
+        // If the error isn't that memory ran out, the bytes encode no CSR.
         ensures refused { IfErr result (λ e. e.kind ≢ ErrorKind.OutOfMemory
             → (r : Value (cert_req 0)) → Spells (cert_req Bound) r bytes.now → ⊥) }
-        // The error is exact.
+        // The value or the error is that of the decoder that the specification defines.
         ensures exact { Gives (λ r. (cert_req_plain r, [])) result
             (read_whole (cert_req Bound) bytes.now) }
     {

@@ -1,5 +1,3 @@
-//! The signed part of a CSR.
-
 ghost use Rattle.std.specs.Prelude.{◌≡◌, refl};
 ghost use Rattle.der_core.specs.Oid.Bound.{Bound};
 ghost use Rattle.x509_cert_lists.specs.ListGrammar.{cert_req_info_fields};
@@ -12,7 +10,7 @@ use std::alloc::Global;
 use x509_cert_names::{Attributes, Name};
 use x509_cert_parts::SubjectPublicKeyInfo;
 
-/// The part of a CSR that is signed (RFC 2986 4.1). No attribute stands twice.
+/// The part of a CSR that is signed (RFC 2986 4.1). No attribute occurs twice.
 ///
 /// ```text
 /// CertificationRequestInfo ::= SEQUENCE {
@@ -25,11 +23,11 @@ use x509_cert_parts::SubjectPublicKeyInfo;
 pub struct CertReqInfo {
     /// The version.
     pub version: Version,
-    /// Whose key it is.
+    /// The subject, who asks for the certificate.
     pub subject: Name,
-    /// The key.
+    /// The public key of the subject.
     pub public_key: SubjectPublicKeyInfo,
-    /// What else is asked for.
+    /// Further attributes, such as the extensions that the certificate should have.
     pub attributes: Attributes,
 }
 

@@ -1,5 +1,3 @@
-//! CRLs.
-
 ghost use Rattle.std.specs.Prelude.{◌≡◌, ◌≢◌, [], IfOk, IfErr, refl};
 ghost use Rattle.der_core.specs.Oid.Bound.{Bound};
 ghost use Rattle.der_core.specs.Grammar.{read_whole};
@@ -16,7 +14,7 @@ use std::alloc::Global;
 use x509_cert_parts::types::BitString;
 use x509_cert_parts::{AlgorithmIdentifier, Profile, Rfc5280};
 
-/// A list of revoked certificates (RFC 5280 5.1).
+/// A CRL, which lists revoked certificates (RFC 5280 5.1).
 ///
 /// ```text
 /// CertificateList ::= SEQUENCE {
@@ -29,9 +27,10 @@ use x509_cert_parts::{AlgorithmIdentifier, Profile, Rfc5280};
 pub struct CertificateList<P = Rfc5280> {
     /// The part that is signed.
     pub tbs_cert_list: TbsCertList<P>,
-    /// The algorithm of the signature.
+    /// The signature algorithm. RFC 5280 5.1.1.2 requires it to be the one in the signed part;
+    /// decoding doesn't compare the two.
     pub signature_algorithm: AlgorithmIdentifier,
-    /// The signature.
+    /// The signature over the encoding of `tbs_cert_list`.
     pub signature: BitString,
 }
 
@@ -60,20 +59,21 @@ impl<P: Profile> Rows for CertificateList<P> {
 }
 
 impl<P: Profile> CertificateList<P> {
-    /// Reads a list, all of the bytes.
+    /// Decodes a CRL from its DER encoding, which must be all of the bytes.
     ///
     /// # Errors
     ///
-    /// The first error that decoding meets, or `OutOfMemory`.
+    /// - The first error that decoding encounters.
+    /// - `OutOfMemory`: memory runs out.
     pub fn from_der(alloc: Global, bytes: &[u8]) -> Result<CertificateList<P>, Error>
-        // What is accepted is an encoding.
+        // Accepted bytes are the encoding of the CRL.
         ensures spelled { IfOk result
             (λ l. Spells (certificate_list Bound P.serial_limit) (certificate_list_plain l)
             bytes.now) }
-        // What is rejected for another reason than out of memory is spelled by no list.
+        // If the error isn't that memory ran out, the bytes encode no CRL.
         ensures refused { IfErr result (λ e. e.kind ≢ ErrorKind.OutOfMemory → (l : PlainList)
             → Spells (certificate_list Bound P.serial_limit) l bytes.now → ⊥) }
-        // The error is exact.
+        // The value or the error is that of the decoder that the specification defines.
         ensures exact { Gives (λ l. (certificate_list_plain l, [])) result
             (read_whole (certificate_list Bound P.serial_limit) bytes.now) }
     {

@@ -1,5 +1,3 @@
-//! ChallengePassword.
-
 ghost use Rattle.x509_cert_lists.specs.Attributes.{challenge_password_arcs};
 
 use crate::as_attribute::AsAttribute;
@@ -9,8 +7,8 @@ use std::alloc::Global;
 use x509_cert_names::DirectoryString;
 use x509_cert_parts::types::Any;
 
-/// A password by which an entity may ask for its certificate to be revoked, as the value of an
-/// attribute of a CSR (RFC 2985 5.4.1).
+/// A password with which an entity may ask for the revocation of its certificate, as the value of
+/// an attribute in a CSR (RFC 2985 5.4.1).
 ///
 /// ```text
 /// challengePassword ATTRIBUTE ::= {
@@ -21,12 +19,11 @@ use x509_cert_parts::types::Any;
 #[derive(Debug, Drop)]
 pub struct ChallengePassword(pub DirectoryString);
 
-/// `challengePassword`.
+/// The OID `challengePassword`, 1.2.840.113549.1.9.7.
 impl AssociatedOid for ChallengePassword {
     ghost oid_arcs = { challenge_password_arcs };
 
     fn associated_oid() -> ObjectIdentifier<39> {
-        // 1.2.840.113549.1.9.7.
         ObjectIdentifier::from_bytes_unwrap(&[0x2a, 0x86, 0x48, 0x86, 0xf7, 0x0d, 1, 9, 7])
     }
 }

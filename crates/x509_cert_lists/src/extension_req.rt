@@ -1,5 +1,3 @@
-//! Requests for extensions.
-
 ghost use Rattle.std.specs.Prelude.{◌≡◌, [], ◌∷◌};
 ghost use Rattle.der_core.specs.Oid.Bound.{Bound};
 ghost use Rattle.der_core.specs.Reading.{Gives};
@@ -15,8 +13,8 @@ use x509_cert_names::Attribute;
 use x509_cert_parts::Extension;
 use x509_cert_parts::types::Any;
 
-/// The extensions that a CSR asks for, as the value of an attribute (RFC 2985
-/// 5.4.2). There may be none.
+/// The extensions that the certificate should have, as the value of an attribute in a CSR (RFC 2985
+/// 5.4.2). The list may be empty.
 ///
 /// ```text
 /// ExtensionRequest ::= Extensions
@@ -25,7 +23,7 @@ use x509_cert_parts::types::Any;
 pub struct ExtensionReq(pub Vec<Extension>);
 
 impl ExtensionReq {
-    /// No extensions.
+    /// Returns the value without extensions.
     pub fn default(alloc: Global) -> ExtensionReq
         ensures { result.0.items ≡ [] }
     {
@@ -33,12 +31,11 @@ impl ExtensionReq {
     }
 }
 
-/// `extensionRequest`.
+/// The OID `extensionRequest`, 1.2.840.113549.1.9.14.
 impl AssociatedOid for ExtensionReq {
     ghost oid_arcs = { extension_req_arcs };
 
     fn associated_oid() -> ObjectIdentifier<39> {
-        // 1.2.840.113549.1.9.14.
         ObjectIdentifier::from_bytes_unwrap(&[0x2a, 0x86, 0x48, 0x86, 0xf7, 0x0d, 1, 9, 0x0e])
     }
 }
@@ -98,9 +95,9 @@ impl AsMut<Vec<Extension>> for ExtensionReq {
     }
 }
 
-/// What a request for extensions is made into.
+/// A type that can be made from the extensions that a CSR asks for.
 pub trait TryFromExtensionReq: Sized {
-    /// Returns what stands for the request.
+    /// Converts the extensions that a CSR asks for.
     ///
     /// # Errors
     ///
@@ -110,11 +107,11 @@ pub trait TryFromExtensionReq: Sized {
 }
 
 impl TryFromExtensionReq for Attribute {
-    /// Returns the attribute `extensionRequest` whose one value is the list of the extensions.
+    /// Returns the attribute `extensionRequest` whose only value is the list of the extensions.
     ///
     /// # Errors
     ///
-    /// - `Overflow`: the list has 2^32 bytes or more.
+    /// - `Overflow`: the encoding of the list has 2^32 bytes or more.
     /// - `OutOfMemory`: memory runs out.
     fn try_from_extension_req(alloc: Global, request: ExtensionReq) -> Result<Attribute, Error>
         ensures { Gives attribute_plain result

@@ -1,4 +1,4 @@
-//! Laws of CRLs and of requests.
+//! Laws about CRLs and CSRs.
 //!
 //! Each law is the contract of a function that does nothing.
 
@@ -19,8 +19,7 @@ use crate::{
 use der_core::oid::AssociatedOid;
 use std::cmp::PartialEq;
 
-/// `==` of CRLs, of requests and of their parts is of their plain values, under every
-/// profile.
+/// `==` of CRLs, of CSRs and of their parts compares their abstract values, under every profile.
 pub fn equality_of_lists_is_of_values<P>()
     ensures entries { (limit : Option ℕ) → IsOfValues ⟦<RevokedCert<P> as PartialEq>⟧.eq
         views.revoked_cert_plain (octets_of (sequence (grammar.revoked_cert_fields Bound limit))) }
@@ -38,7 +37,7 @@ pub fn equality_of_lists_is_of_values<P>()
         (λ x. extensions_plain x.0.items) (octets_of (extensions Bound)) }
 {}
 
-/// Attributes of requests have the identifiers that their definitions say (RFC 2985 5.4).
+/// The attributes of CSRs have the OIDs that RFC 2985 5.4 assigns to them.
 pub fn attributes_are_of_their_types()
     ensures extension_req { ⟦<ExtensionReq as AssociatedOid>⟧.oid_arcs
         ≡ grammar.extension_req_arcs }

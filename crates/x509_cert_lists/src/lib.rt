@@ -1,4 +1,4 @@
-//! CRLs (RFC 5280 5.1) and CSRs (RFC 2986).
+//! CRLs (RFC 5280 5.1) and CSRs (RFC 2986): decoding and encoding them.
 #![tactic(auto)]
 
 mod as_attribute;
@@ -22,7 +22,7 @@ pub use extension_req::{ExtensionReq, TryFromExtensionReq};
 pub use revoked_cert::RevokedCert;
 pub use tbs_cert_list::TbsCertList;
 
-/// The names of `x509_cert_names` that the crates above use.
+/// The items of `x509_cert_names` that the crates above use.
 pub mod cert_names {
     pub use x509_cert_names::{
         Attribute, AttributeSet, AttributeType, AttributeTypeAndValue, AttributeValue, Attributes,
@@ -31,7 +31,7 @@ pub mod cert_names {
     };
 }
 
-/// The names of `x509_cert_parts` that the crates above use.
+/// The items of `x509_cert_parts` that the crates above use.
 pub mod cert_parts {
     pub use x509_cert_parts::{
         AlgorithmIdentifier, AlgorithmIdentifierRef, Extension, Extensions, ExtensionsOf, Profile,
@@ -40,7 +40,7 @@ pub mod cert_parts {
     };
 }
 
-/// The names of `der_core` that the crates above use.
+/// The items of `der_core` that the crates above use.
 pub mod der {
     pub use der_core::{
         Decode, Error, ErrorKind, FixedTag, FromDer, InRange, Leaf, MAX_LEVELS, SliceReader, Tag,
@@ -48,12 +48,12 @@ pub mod der {
     };
 }
 
-/// The names of `const_oid` that the crates above use.
+/// The items of `const_oid` that the crates above use.
 pub mod oid {
     pub use der_core::oid::{AssociatedOid, Error, ObjectIdentifier};
 }
 
-/// The names of `der_types` that the crates above use.
+/// The items of `der_types` that the crates above use.
 pub mod types {
     pub use x509_cert_parts::types::{
         Any, AnyRef, BitString, DateTime, FlagSet, GeneralizedTime, Ia5String, NamedBits,

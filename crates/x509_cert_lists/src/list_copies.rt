@@ -1,5 +1,5 @@
-//! Copies of CRLs and of CSRs. The largest field is
-//! copied last, so that little is dropped where memory ends.
+//! Copying CRLs and CSRs. The largest field is copied last, so that less has to be freed if memory
+//! runs out.
 
 ghost use Rattle.der_core.specs.Copies.{IsCopy};
 ghost use Rattle.x509_cert_parts.specs.Views.{extensions_plain};
@@ -20,7 +20,11 @@ use x509_cert_names::Attribute;
 use x509_cert_parts::{Extension, Profile};
 
 impl<P> RevokedCert<P> {
-    /// Returns a copy. The only error is that memory runs out.
+    /// Returns a copy.
+    ///
+    /// # Errors
+    ///
+    /// - `AllocError`: memory runs out.
     pub fn clone(&self, alloc: Global) -> Result<RevokedCert<P>, AllocError>
         ensures { IsCopy self.now result revoked_cert_plain }
     {
@@ -37,7 +41,11 @@ impl<P> RevokedCert<P> {
 }
 
 impl<P: Profile> TbsCertList<P> {
-    /// Returns a copy. The only error is that memory runs out.
+    /// Returns a copy.
+    ///
+    /// # Errors
+    ///
+    /// - `AllocError`: memory runs out.
     pub fn clone(&self, alloc: Global) -> Result<TbsCertList<P>, AllocError>
         ensures { IsCopy self.now result tbs_cert_list_plain }
     {
@@ -58,7 +66,11 @@ impl<P: Profile> TbsCertList<P> {
 }
 
 impl<P: Profile> CertificateList<P> {
-    /// Returns a copy. The only error is that memory runs out.
+    /// Returns a copy.
+    ///
+    /// # Errors
+    ///
+    /// - `AllocError`: memory runs out.
     pub fn clone(&self, alloc: Global) -> Result<CertificateList<P>, AllocError>
         ensures { IsCopy self.now result certificate_list_plain }
     {
@@ -71,7 +83,11 @@ impl<P: Profile> CertificateList<P> {
 }
 
 impl CertReqInfo {
-    /// Returns a copy. The only error is that memory runs out.
+    /// Returns a copy.
+    ///
+    /// # Errors
+    ///
+    /// - `AllocError`: memory runs out.
     pub fn clone(&self, alloc: Global) -> Result<CertReqInfo, AllocError>
         ensures { IsCopy self.now result cert_req_info_plain }
     {
@@ -87,7 +103,11 @@ impl CertReqInfo {
 }
 
 impl CertReq {
-    /// Returns a copy. The only error is that memory runs out.
+    /// Returns a copy.
+    ///
+    /// # Errors
+    ///
+    /// - `AllocError`: memory runs out.
     pub fn clone(&self, alloc: Global) -> Result<CertReq, AllocError>
         ensures { IsCopy self.now result cert_req_plain }
     {
@@ -100,7 +120,11 @@ impl CertReq {
 }
 
 impl ExtensionReq {
-    /// Returns a copy. The only error is that memory runs out.
+    /// Returns a copy.
+    ///
+    /// # Errors
+    ///
+    /// - `AllocError`: memory runs out.
     pub fn clone(&self, alloc: Global) -> Result<ExtensionReq, AllocError>
         ensures { IsCopy self.now result (λ x. extensions_plain x.0.items) }
     {

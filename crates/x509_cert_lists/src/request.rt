@@ -1,5 +1,3 @@
-//! The versions of CSRs.
-
 ghost use Rattle.std.specs.Prelude.{◌≡◌, refl};
 ghost use Rattle.x509_cert_lists.specs.ListGrammar.{request_numbers};
 ghost use Rattle.x509_cert_lists.specs.ListViews.{request_number};
@@ -13,7 +11,7 @@ use der_core::describing::{AsNumbered, Described, Numbered, Ordered};
 /// ```
 #[derive(Clone, Copy, Debug, Default, PartialEq, Eq)]
 pub enum Version {
-    /// The only one.
+    /// Version 1, the only one.
     #[default]
     V1,
 }
@@ -22,7 +20,7 @@ impl Described for Version {
     type By = AsNumbered;
 }
 
-/// Any other number is rejected as `Value`.
+/// Decoding rejects any other number with `Value`.
 impl Numbered for Version {
     ghost known_numbers = { request_numbers };
 

@@ -1,5 +1,3 @@
-//! Entries of CRLs.
-
 ghost use Rattle.std.specs.Prelude.{◌≡◌, refl};
 ghost use Rattle.der_core.specs.Oid.Bound.{Bound};
 ghost use Rattle.x509_cert_lists.specs.ListGrammar.{revoked_cert_fields};
@@ -10,7 +8,8 @@ use der_core::{DecodeFields, Error, Reader, lend, read_row};
 use std::alloc::Global;
 use x509_cert_parts::{Extensions, Profile, Rfc5280, SerialNumber, Time};
 
-/// A certificate that was revoked (RFC 5280 5.1.2.6). A list of no extensions is read.
+/// An entry of a CRL: a revoked certificate (RFC 5280 5.1.2.6). An empty list of extensions is
+/// accepted.
 ///
 /// ```text
 /// RevokedCert ::= SEQUENCE {
@@ -21,9 +20,9 @@ use x509_cert_parts::{Extensions, Profile, Rfc5280, SerialNumber, Time};
 #[derive(Drop)]
 #[derive_where(Debug, PartialEq, Eq)]
 pub struct RevokedCert<P = Rfc5280> {
-    /// The serial number.
+    /// The serial number of the certificate.
     pub serial_number: SerialNumber<P>,
-    /// Since when.
+    /// The date of the revocation.
     pub revocation_date: Time,
     /// The extensions of the entry, in their order.
     pub crl_entry_extensions: Option<Extensions>,

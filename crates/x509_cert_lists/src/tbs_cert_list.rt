@@ -1,5 +1,3 @@
-//! The signed part of a CRL.
-
 ghost use Rattle.std.specs.Prelude.{◌≡◌, refl};
 ghost use Rattle.der_core.specs.Oid.Bound.{Bound};
 ghost use Rattle.x509_cert_lists.specs.ListGrammar.{tbs_cert_list_fields};
@@ -12,9 +10,11 @@ use std::alloc::Global;
 use x509_cert_names::Name;
 use x509_cert_parts::{AlgorithmIdentifier, Extensions, Profile, Rfc5280, Time, Version};
 
-/// The part of a CRL that is signed (RFC 5280 5.1.2). Any version is read beside any
-/// fields, an empty list of certificates, and a list of no extensions. A list without a version
-/// isn't read. Its dates are written as they were read, under every profile.
+/// The part of a CRL that is signed (RFC 5280 5.1.2).
+///
+/// Decoding requires a version, but doesn't compare it with the fields that are present. It accepts
+/// an empty list of certificates and an empty list of extensions. Dates are encoded as they were
+/// decoded, under every profile.
 ///
 /// ```text
 /// TBSCertList ::= SEQUENCE {
@@ -31,17 +31,18 @@ use x509_cert_parts::{AlgorithmIdentifier, Extensions, Profile, Rfc5280, Time, V
 pub struct TbsCertList<P = Rfc5280> {
     /// The version.
     pub version: Version,
-    /// The algorithm of the signature, as it is signed.
+    /// The signature algorithm. RFC 5280 5.1.2.2 requires it to be the one beside the signature;
+    /// decoding doesn't compare the two.
     pub signature: AlgorithmIdentifier,
-    /// Who signed the list.
+    /// The name of the issuer, who signs the CRL.
     pub issuer: Name,
-    /// When it was made.
+    /// The date on which the CRL was issued.
     pub this_update: Time,
-    /// When the next one will be made at the latest.
+    /// The date by which the next CRL is issued.
     pub next_update: Option<Time>,
-    /// The certificates that were revoked, in the order in which they stand.
+    /// The revoked certificates, in their order.
     pub revoked_certificates: Option<Vec<RevokedCert<P>>>,
-    /// The extensions of the list, in their order.
+    /// The extensions of the CRL, in their order.
     pub crl_extensions: Option<Extensions>,
 }
 

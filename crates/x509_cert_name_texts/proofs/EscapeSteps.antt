@@ -1,4 +1,5 @@
--- A text of a value stands for bytes exactly if undoing its escapes, byte by byte, gives them.
+-- Lemmas for `undo_escapes`: a text represents bytes exactly if removing its escapes, byte by byte,
+-- yields these bytes.
 use Rattle.std.proofs.Common.{◌≡◌, ◌≢◌, ℕ, ◌*◌, ◌+◌, ◌==◌, List, [], ◌∷◌, ◌++◌, Bool, true, false, refl, sym, ap, ◌∙◌, append_assoc, length, arith, append-nil, Option, Some, None, Result, Ok, Err, if◌then◌else◌}
 use Rattle.std.proofs.lemmas.Bool.{eqb-true, eqb-false}
 use Rattle.std.proofs.lemmas.Bool.Decides.{nat_tests}
@@ -8,11 +9,11 @@ use Rattle.der_core.specs.Octets.{◌>>=◌}
 use Rattle.hex.specs.Hex.{hex_digit_value}
 use Rattle.x509_cert_name_texts.specs.Escapes.{is_sign, octet_of_digits, escape, StandsFor, ReadsOctets}
 
--- a byte before others
+-- A byte before the bytes that the rest yields.
 abbrev pub octet_before : ℕ → Result (List ℕ) ErrorKind → Result (List ℕ) ErrorKind
 octet_before c r = r >>= λ w. Ok (c ∷ w)
 
--- the bytes of a value, its escapes undone
+-- The bytes that remain when the escapes of a text are removed, computed from left to right.
 unfoldable pub undone : List ℕ → Result (List ℕ) ErrorKind
 undone [] = Ok []
 undone (c ∷ []) = if c == 92 then Err kinds.Failed else Ok (c ∷ [])
@@ -25,7 +26,7 @@ undone (c ∷ d ∷ e ∷ w) =
     >>= λ octet. octet_before octet (undone w)))
     else octet_before c (undone (d ∷ e ∷ w))
 
--- bytes before others
+-- Bytes before the bytes that the rest yields.
 abbrev pub in_front : List ℕ → Result (List ℕ) ErrorKind → Result (List ℕ) ErrorKind
 in_front v r = r >>= λ w. Ok (v ++ w)
 
@@ -39,7 +40,7 @@ undone-plain c [] n = grind (arith, nat_tests)
 undone-plain c (d ∷ []) n = grind (arith, nat_tests)
 undone-plain c (d ∷ e ∷ w) n = grind (arith, nat_tests)
 
--- what an escape gives before the rest
+-- The byte of an escape before the bytes that the rest yields.
 abbrev escape_first : Result (ℕ × List ℕ) ErrorKind → Result (List ℕ) ErrorKind
 escape_first r = r >>= λ x. octet_before x.0 (undone x.1)
 
@@ -55,7 +56,7 @@ undone-escape c [] n = grind (arith, nat_tests)
 undone-escape c (d ∷ []) n = grind (arith, nat_tests)
 undone-escape c (d ∷ e ∷ w) n = rw n (by_sign (is_sign d) d e w (octet_of_digits (hex_digit_value d) (hex_digit_value e)))
 
--- what was undone, before what is left: a byte further, an escape further, or refused
+-- The steps of the loop: a plain byte, an escape, or an error.
 pub next_plain : (v left items behind : List ℕ) (c : ℕ) → left ≡ c ∷ behind → ¬ (c ≡ 92) → items ≡ v ++ (c ∷ []) → in_front v (undone left) ≡ in_front items (undone behind)
 next_plain v left items behind c e n f = rw (e, undone-plain c behind n, f) (in_front-push v c (undone behind))
 
@@ -71,7 +72,7 @@ unfolding undone
 in_front-nil v [] e = ap (λ u. Ok u) (append-nil v)
 in_front-nil v (c ∷ left) e = absurd (omega arith)
 
--- What stands for bytes is undone as these
+-- If a text represents bytes, removing its escapes yields them.
 
 not_sign : (c high : ℕ) → hex_digit_value c ≡ Some high → is_sign c ≡ false
 not_sign c high e = grind (arith, nat_tests)
@@ -94,7 +95,7 @@ stands_undone (StandsFor.hexpair c d high low text octets e f s) =
 pub stands_for_one : (text v w : List ℕ) → StandsFor text v → StandsFor text w → v ≡ w
 stands_for_one text v w h k = let e = stands_undone h in let f = stands_undone k in cc (e, f)
 
--- What is undone as bytes stands for these
+-- If removing the escapes of a text yields bytes, the text represents them.
 
 abbrev Fits : List ℕ → Result (List ℕ) ErrorKind → Type 0
 Fits text (Ok octets) = StandsFor text octets
@@ -124,7 +125,7 @@ fits_short : (d : ℕ) (b : Bool) → is_sign d ≡ b → Fits (92 ∷ d ∷ [])
 fits_short d true s = StandsFor.sign d [] [] s StandsFor.end
 fits_short d false s = refl
 
--- by whether the first byte is a backslash
+-- Both cases of the first byte: a backslash or another byte.
 by_first : (c : ℕ) (w : List ℕ) (x y : Result (List ℕ) ErrorKind) (b : Bool) → (c == 92) ≡ b → Fits (92 ∷ w) x → (c ≢ 92 → Fits (c ∷ w) y) → Fits (c ∷ w) (if b then x else y)
 by_first c w x y true e h k = rw (eqb-true c 92 e) h
 by_first c w x y false e h k = k (eqb-false c 92 e)

@@ -1,4 +1,4 @@
--- The code's table is the definition's.
+-- Lemmas for `keys`: the code's table of attribute types agrees with the definition's.
 use Rattle.std.proofs.Common.{◌≡◌, ℕ, List, [], ◌∷◌, Bool, true, false, refl, sym, ap, ◌∙◌, ◌||◌, nat_eq, rules, arith, Option, Some, None, Ok, map, if◌then◌else◌}
 use Rattle.std.specs.Char.{to_ascii_uppercase}
 use Rattle.std.specs.List.{find, list_any}
@@ -13,7 +13,7 @@ use Rattle.x509_cert_name_texts.specs.Keys as keys
 use Rattle.x509_cert_name_texts.specs.Keys.{is_name, type_named, named_types, shortest_name, dotted_arcs, arcs_or, key_arcs, printed_name, key_of}
 use Rattle.x509_cert_name_texts.specs.Rows.{Row, row, rows, is_called, has_octets}
 
--- a row of the code is that row of the definition
+-- A row of the code's table agrees with the row of the definition.
 pub record Agrees (n : Row) (t : keys.Named) : Type 0 where
   pub octets : identifier_octets t.arcs ≡ n.octets
   pub reads : read_identifier Bound 39 n.octets ≡ Ok t.arcs
@@ -62,14 +62,14 @@ agree_none (Some t) a = absurd a
 called_alike : (key : List ℕ) → AgreeFound (find (is_called key) rows) (find (λ t. list_any (is_name key) t.names) named_types)
 called_alike key = found_alike (is_called key) (λ t. list_any (is_name key) t.names) (λ n t a. a.called key) rows named_types all_agree
 
--- a key that is a name has the arcs that the bytes of its row spell
+-- If a key is a name, its arcs are those that the row's bytes encode.
 pub key_arcs_named : (key w short long : List ℕ) → find (is_called key) rows ≡ Some (row w short long) → key_arcs Bound key ≡ dotted_arcs (read_identifier Bound 39 w)
 unfolding type_named
 key_arcs_named key w short long e =
     let f = agree_some (row w short long) _ (rw e at (called_alike key)) in
     ap (λ t. arcs_or Bound t key) f.1 ∙ sym (ap dotted_arcs f.2.reads)
 
--- any other is a dotted text
+-- Any other key is a dotted OID.
 pub key_arcs_dotted : (key : List ℕ) → find (is_called key) rows ≡ None → key_arcs Bound key ≡ dotted_arcs (read_text Bound 39 key)
 unfolding type_named
 key_arcs_dotted key e = ap (λ t. arcs_or Bound t key) (agree_none _ (rw e at (called_alike key)))
@@ -79,7 +79,7 @@ octets_alike arcs w e =
     found_alike (has_octets w) (λ t. owned_eq t.arcs arcs)
     (λ n t a. ap (λ v. pointwise nat_eq v w) (sym a.octets) ∙ ap (pointwise nat_eq (identifier_octets t.arcs)) e) rows named_types all_agree
 
--- the name of a type is that of the row with its bytes
+-- The name of a type is in the row with its encoding.
 pub key_of_found : (arcs w : List ℕ) (r : Row) → w ≡ identifier_octets arcs → find (has_octets w) rows ≡ Some r → key_of arcs ≡ Some r.short
 unfolding key_of
 key_of_found arcs w r same e =

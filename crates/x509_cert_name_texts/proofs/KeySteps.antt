@@ -1,4 +1,5 @@
--- The key of an attribute that is printed is read as its type, and ends at the first =.
+-- Lemmas for printing and parsing keys: the key that is printed for an attribute type is parsed as
+-- that type, and the first = ends it.
 use Rattle.std.proofs.Common.{◌≡◌, ◌≢◌, ℕ, suc, ◌+◌, ◌<◌, ◌≤◌, ◌==◌, ◌&&◌, List, [], ◌∷◌, ◌++◌, length, take, drop, Bool, true, false, not, refl, sym, ap, ◌∙◌, subst, add-one, arith, Option, Some, None, Ok, nat_lt, nat_eq, map, find, position, length-append, if◌then◌else◌}
 use Rattle.std.specs.Char.{to_ascii_lowercase, to_ascii_uppercase}
 use Rattle.std.specs.Cmp.Lexicographic.{pointwise, bytes_decides}
@@ -18,7 +19,7 @@ use Rattle.x509_cert_name_texts.specs.Keys.{Named, is_name, named_types, type_na
 use Rattle.x509_cert_name_texts.specs.Pieces.{halves_at, key_and_value}
 use Rattle.x509_cert_name_texts.proofs.PrintSteps.{IsPlain, is_paired}
 
--- a byte of a key: none that is printed in a pair, and no =
+-- A byte that occurs in keys: one that is never escaped and isn't =.
 abbrev pub is_of_key : ℕ → Bool
 is_of_key c = not (is_paired c) && not (c == 61)
 
@@ -36,7 +37,7 @@ pub key_plain : (w : List ℕ) → IsKey w → AllByRecursion IsPlain w
 key_plain [] e = tt
 key_plain (c ∷ w) e = let p = and_parts (is_of_key c) (list_all is_of_key w) e in ((of_key c p.0).0, key_plain w p.1)
 
--- The first = ends a key
+-- The first = ends a key.
 
 equals_at : (key value : List ℕ) → IsKey key → position_or_len (λ c. c == 61) (key ++ (61 ∷ value)) ≡ length key
 equals_at [] value e = refl
@@ -64,7 +65,7 @@ split_at_equals key value e =
     let at : position (λ c. c == 61) text ≡ Some n = ap (λ k. if nat_lt k (length text) then Some k else None) (equals_at key value e) ∙ ap (λ b. if b then Some n else None) within in
     ap (λ o. halves_at o text) at ∙ λ i. Some (front_of key (61 ∷ value) i, behind_of key value i)
 
--- A type that has a name
+-- Keys of attribute types that have a name.
 
 found : {A : Type 0} (p q : A → Bool) (xs : List A) (x : A) → find p xs ≡ Some x → list_all q xs ≡ true → (p x ≡ true) × (q x ≡ true)
 found p q [] x e all = absurd (cc e)
@@ -127,7 +128,7 @@ named_read bound arcs key id e = by (find (λ (t : Named). owned_eq t.arcs arcs)
         let Q : List ℕ → Type 0 = λ k. IsKey k × (key_arcs bound k ≡ Ok arcs) in
         subst Q same (p.0, arcs_of_named bound (type_named (printed_of t)) (printed_of t) t.arcs q.0 ∙ ap (λ (a : List ℕ). Ok a) is)
 
--- A dotted key
+-- Keys in dotted form.
 
 key-append : (v w : List ℕ) → IsKey v → IsKey w → IsKey (v ++ w)
 key-append [] w e f = f
@@ -156,7 +157,7 @@ unfolding dotted
 dotted_key [] = refl
 dotted_key (a ∷ arcs) = key-append (decimal a) (flat_map dot_decimal arcs) (decimal_key a) (more_key arcs)
 
--- A dotted identifier isn't a name of a type: each such name begins with a letter.
+-- A dotted OID isn't the name of a type, since each name begins with a letter.
 abbrev is_high : List ℕ → Bool
 is_high [] = false
 is_high (c ∷ w) = nat_lt 57 (to_ascii_lowercase c)

@@ -1,4 +1,4 @@
--- Separators that count, byte by byte, and pieces in turn.
+-- Lemmas for `pieces`: escapes byte by byte, and pieces one after another.
 use Rattle.std.proofs.Common.{◌≡◌, ℕ, suc, ◌+◌, ◌%◌, ◌<◌, ◌≤◌, ◌==◌, List, [], ◌∷◌, ◌++◌, length, take, drop, get_or, add-one, reverse, Bool, true, false, refl, sym, subst, ap, ◌∙◌, append_assoc, length-append, eq-eqb, arith, Result, Ok, Err, Option, Some, None, not, ◌&&◌, if◌then◌else◌, slice_index, IsUtf8}
 use Rattle.std.proofs.lemmas.Bool.Decides.{nat_tests}
 use Rattle.std.proofs.lemmas.List.{reverse-append, get_or-take, length-take-le, take-take}
@@ -6,7 +6,7 @@ use Rattle.std.proofs.lemmas.Str.{IsUtf8-drop, IsCharBoundary-after_ascii}
 use borrow.Author.Count.{below_more}
 use Rattle.x509_cert_name_texts.specs.Pieces.{backslashes, Counts, HasNone, IsFirstPiece, in_front_of, ReadsPieces}
 
--- an escape is open after these bytes
+-- The last of these bytes is a backslash that begins an escape.
 abbrev pub is_escaped : List ℕ → Bool
 is_escaped w = (backslashes (reverse w) % 2) == 1
 
@@ -26,7 +26,7 @@ counts_where_closed w e = grind (arith, nat_tests)
 pub closed_where_counts : (w : List ℕ) → Counts w → is_escaped w ≡ false
 closed_where_counts w e = grind (arith, nat_tests)
 
--- no separator that counts comes before a place
+-- No separator before this index is unescaped.
 abbrev pub NoneBelow : ℕ → List ℕ → ℕ → Type 0
 NoneBelow separator w i = (k : ℕ) → k < i → slice_index w k ≡ separator → Counts (take k w) → ⊥
 
@@ -44,7 +44,7 @@ none_more separator w i none test =
     below_more (λ k. slice_index w k ≡ separator → Counts (take k w) → ⊥) i none
     (λ e counts. clash (get_or w i 0 == separator) (is_escaped (take i w)) (eq-eqb (get_or w i 0) separator e) (closed_where_counts (take i w) counts) test)
 
--- values before those that are read after them
+-- Values before the values that the rest of the text yields.
 abbrev pub all_before : {A E : Type 0} → List A → Result (List A) E → Result (List A) E
 all_before values (Ok more) = Ok (values ++ more)
 all_before values (Err e) = Err e
@@ -53,7 +53,7 @@ pub all_before-push : {A E : Type 0} (values : List A) (a : A) (r : Result (List
 all_before-push values a (Ok more) = ap (λ v. Ok v) (sym (append_assoc values (a ∷ []) more))
 all_before-push values a (Err e) = refl
 
--- what is left is read as the text is, after these values
+-- The whole text yields these values and then what the rest of the text yields.
 abbrev pub Continues : {A E : Type 0} → ℕ → (List ℕ → Result A E → Type 0) → List ℕ → List A → List ℕ → Type 0
 Continues {A} {E} separator reads text values left = (r : Result (List A) E) → ReadsPieces separator reads left r → ReadsPieces separator reads text (all_before values r)
 
@@ -69,7 +69,7 @@ continues_more {A} {E} separator reads text left piece rest values a so_far firs
     let P = λ (x : Result (List A) E). ReadsPieces separator reads text x in
     subst P (all_before-push values a r) (so_far (in_front_of a r) (ReadsPieces.more left piece rest a r first read h))
 
--- what a test that was met tells
+-- The two facts that follow from a successful test.
 found : (p q : Bool) → (p && not q) ≡ true → (p ≡ true) × (q ≡ false)
 found true false e = (refl, refl)
 found p q e = cc
@@ -80,7 +80,7 @@ found_is c separator escaped e = grind (arith, nat_tests)
 pub found_counts : (c separator : ℕ) (w : List ℕ) (escaped : Bool) → escaped ≡ is_escaped w → (c == separator && not escaped) ≡ true → Counts w
 found_counts c separator w escaped o e = counts_where_closed w (sym o ∙ (found (c == separator) escaped e).1)
 
--- the first piece, by whether one follows
+-- The first piece of a text, and the text after it.
 pub ends_piece : (separator : ℕ) (text piece : List ℕ) (left : Option (List ℕ)) → IsFirstPiece separator text piece left → left ≡ None → IsFirstPiece separator text piece None
 ends_piece separator text piece left first e = rw e at first
 
@@ -95,7 +95,7 @@ at_seam : (piece : List ℕ) (separator : ℕ) (rest : List ℕ) → get_or (pie
 at_seam [] separator rest = refl
 at_seam (c ∷ piece) separator rest = at_seam piece separator rest
 
--- what follows a separator is text, where all of it is
+-- The bytes after a separator in UTF-8 text are UTF-8 text.
 pub utf8_rest : (separator : ℕ) (left piece rest : List ℕ) → IsUtf8 left → separator < 128 → left ≡ piece ++ (separator ∷ rest) → IsUtf8 rest
 utf8_rest separator left piece rest u small e =
     let at : get_or left (length piece) 0 ≡ separator = ap (λ w. get_or w (length piece) 0) e ∙ at_seam piece separator rest in

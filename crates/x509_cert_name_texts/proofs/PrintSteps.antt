@@ -1,4 +1,5 @@
--- What is printed of a text stands for it, and no sign in it counts as a separator.
+-- Lemmas for printing values: a printed value represents the value's bytes, and none of its
+-- characters is an unescaped separator.
 use Rattle.std.proofs.Common.{◌≡◌, ◌≢◌, ℕ, zero, suc, ◌+◌, ◌*◌, ◌/◌, ◌%◌, ◌<◌, ◌≤◌, ◌==◌, ◌&&◌, ◌||◌, not, List, [], ◌∷◌, ◌++◌, length, length-append, take, get_or, Bool, true, false, refl, sym, ap, ◌∙◌, subst, append_assoc, append-nil, ne_eqb, arith, inl, inr, Some, Ok, slice_index, chars, IsUtf8, nat_lt, encode_utf8, if◌then◌else◌}
 use Rattle.std.specs.Fmt.{digit_glyph}
 use Rattle.std.specs.List.{AllByRecursion}
@@ -14,18 +15,18 @@ use Rattle.x509_cert_name_texts.specs.Escapes.{is_sign, is_escaped_sign, is_cont
 use Rattle.x509_cert_name_texts.specs.Pieces.{Counts, HasNone}
 use Rattle.x509_cert_name_texts.proofs.PieceSteps.{is_escaped, is_escaped-push, counts_where_closed, closed_where_counts}
 
--- what is printed in a pair alone
+-- A character that is printed only in a pair.
 abbrev pub is_paired : ℕ → Bool
 is_paired c = is_escaped_sign c || (c == 0)
 
--- a byte that no backslash precedes where it is printed
+-- A byte that is printed without a backslash before it.
 abbrev pub IsPlain : ℕ → Type 0
 IsPlain c = is_paired c ≡ false
 
 not_backslash : (c : ℕ) → IsPlain c → c ≢ 92
 not_backslash c p e = let q : true ≡ false = subst IsPlain e p in true≢false q
 
--- A separator counts nowhere in these bytes, and no escape is open after them.
+-- These bytes contain no unescaped separator, and no escape begins at their end.
 pub data Calm (s : ℕ) : List ℕ → Type 0 where
   end : Calm s []
   plain : (c : ℕ) (w : List ℕ) → c ≢ 92 → c ≢ s → Calm s w → Calm s (c ∷ w)
@@ -69,7 +70,7 @@ module _ (s : ℕ) (other : s ≢ 92) where
   pub calm : (w : List ℕ) → Calm s w → HasNone s w × Counts w
   calm w h = (λ i l e k. calm_at [] h refl i l e (closed_where_counts (take i w) k), counts_where_closed w (calm_closed [] h refl))
 
--- The bytes of a character
+-- The bytes of a character.
 
 high_plain : (x : ℕ) → 128 ≤ x → IsPlain x
 high_plain x le = grind (arith, nat_tests)
@@ -98,7 +99,7 @@ calm_plain s sign (c ∷ w) p =
     let apart : c ≢ s = λ e. true≢false (sym sign ∙ ap is_paired (sym e) ∙ p.0) in
     Calm.plain c w (not_backslash c p.0) apart (calm_plain s sign w p.1)
 
--- Hex digits
+-- Hexadecimal digits.
 
 pub glyph_plain : (d : ℕ) → d < 16 → IsPlain (digit_glyph false d)
 glyph_plain d lt = grind (arith, nat_tests)
@@ -106,7 +107,7 @@ glyph_plain d lt = grind (arith, nat_tests)
 pub glyph_read : (d : ℕ) → d < 16 → hex_digit_value (digit_glyph false d) ≡ Some d
 glyph_read d lt = grind (arith, nat_tests)
 
--- A character as it is printed
+-- A printed character.
 
 abbrev has_backslash : Bool → Bool → ℕ → Bool
 has_backslash first last c = is_escaped_sign c || ((c == 35) && first) || ((c == 32) && (first || last))
@@ -150,7 +151,7 @@ calm_char s sign first last c w h = by (has_backslash first last c) (is_control 
         Calm.pair (digit_glyph false (c / 16)) _ (calm-append s w (calm_plain s sign (digit_glyph false (c % 16) ∷ []) (glyph_plain (c % 16) (omega arith), tt)) h)
     by false false e f = calm-append s w (calm_plain s sign (encode c) (encode_plain c (bare_plain first last c e f))) h
 
--- A text as it is printed
+-- A printed value.
 
 stands_from : (first : Bool) (cs : List ℕ) → StandsFor (escaped_from first cs) (encodes cs)
 stands_from first [] = StandsFor.end
@@ -163,7 +164,7 @@ pub calm_from : (s : ℕ) → is_paired s ≡ true → (first : Bool) (cs : List
 calm_from s sign first [] = Calm.end
 calm_from s sign first (c ∷ cs) = calm_char s sign first (is_end cs) c (escaped_from false cs) (calm_from s sign false cs)
 
--- the text of a value that is printed doesn't begin with # or a space
+-- A printed value doesn't begin with # or a space.
 begins : (x y : ℕ) (v w : List ℕ) → x ∷ v ≡ y ∷ w → x ≡ y
 begins x y v w e = ap (λ (u : List ℕ). get_or u 0 0) e
 
@@ -190,7 +191,7 @@ first_char s sign (c ∷ cs) w = by (has_backslash true (is_end cs) c) (is_contr
 pub no_hash : (cs w : List ℕ) → escaped_from true cs ≢ 35 ∷ w
 no_hash cs w = first_char 35 refl cs w
 
--- A text that ends with no bare space: each space outside a pair comes before another byte.
+-- A text that doesn't end with an unescaped space: each unescaped space comes before another byte.
 data Tidy : List ℕ → Type 0 where
   end : Tidy []
   plain : (c : ℕ) (w : List ℕ) → c ≢ 92 → (w ≡ [] → c ≢ 32) → Tidy w → Tidy (c ∷ w)
@@ -206,7 +207,7 @@ tidy_last u (Tidy.pair c [] h) some o w e k =
 tidy_last u (Tidy.pair c (d ∷ t) h) some o w e k =
     tidy_last ((u ++ (92 ∷ [])) ++ (c ∷ [])) h (λ z. cc z) (pair_push u c o) w (regroup_pair u (d ∷ t) c ∙ e) k
 
--- bytes before a tidy text
+-- Bytes before a text that doesn't end with an unescaped space.
 tidy_plain : (w t : List ℕ) → AllByRecursion IsPlain w → AllByRecursion (λ c. c ≢ 32) w → Tidy t → Tidy (w ++ t)
 tidy_plain [] t p q h = h
 tidy_plain (c ∷ w) t p q h = Tidy.plain c (w ++ t) (not_backslash c p.0) (λ z. q.0) (tidy_plain w t p.1 q.1 h)
@@ -231,7 +232,7 @@ glyph_other d lt e = grind (arith, nat_tests)
 not_last : (first : Bool) (c : ℕ) → has_backslash first true c ≡ false → c ≢ 32
 not_last first c e f = grind (arith, nat_tests)
 
--- something is printed of each character
+-- Printing a character writes at least one byte.
 printed_some : (first last : Bool) (c : ℕ) (w : List ℕ) → 0 < length (escaped_char first last c ++ w)
 printed_some first last c w = omega (arith, length-append (escaped_char first last c) w, by (has_backslash first last c) (is_control c))
   where
@@ -263,7 +264,7 @@ tidy_from : (first : Bool) (cs : List ℕ) → Tidy (escaped_from first cs)
 tidy_from first [] = Tidy.end
 tidy_from first (c ∷ cs) = tidy_char first c cs (tidy_from false cs)
 
--- so what is printed is a string
+-- A printed value keeps the restrictions of `string` (RFC 4514 3).
 pub printed_string : (cs : List ℕ) → IsString (escaped cs)
 printed_string cs =
     let none : (s : ℕ) → is_paired s ≡ true → s ≢ 92 → HasNone s (escaped cs) = λ s sign other. (calm s other (escaped cs) (calm_from s sign true cs)).0 in
@@ -286,7 +287,7 @@ printed_string cs =
       last = λ w e k. tidy_last [] (tidy_from true cs) (λ z. omega (arith, ap length (sym z ∙ e), length-append w (32 ∷ []))) refl w e (closed_where_counts w k);
     }
 
--- Bytes in hex
+-- Bytes in hexadecimal.
 
 abbrev is_table : ℕ → Bool
 is_table d = slice_index lower_digits d == digit_glyph false d

@@ -1,8 +1,9 @@
--- What is found among the rows of the code.
+-- Lemmas for searching the code's table of attribute types.
 use Rattle.std.proofs.Common.{◌≡◌, List, [], ◌∷◌, Bool, true, false, refl, ap, ◌∙◌, Bor, Option, Some, None, map, option_map, if◌then◌else◌, find}
 use Rattle.x509_cert_name_texts.specs.Rows.{Row, row_of, rows}
 use Rattle.x509_cert_name_texts.specs.declared.keys.Named.{Named}
 
+-- The row of the type that was found.
 pub row_of_found : (r : Option (Bor Named)) → option_map (λ n. row_of n.now) r ≡ option_map row_of (option_map (λ n. n.now) r)
 row_of_found None = refl
 row_of_found (Some n) = refl

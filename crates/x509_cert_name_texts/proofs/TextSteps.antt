@@ -1,4 +1,4 @@
--- The characters of a text, one by one.
+-- Lemmas for printing values: the characters of a text, one after another.
 use Rattle.std.proofs.Common.{◌≡◌, ℕ, ◌==◌, List, [], ◌∷◌, ◌++◌, length, Bool, false, refl, sym, ap, ◌∙◌, ne_eqb, arith, append-nil, chars, IsUtf8, IsAscii}
 use Rattle.std.proofs.lemmas.Str.{chars-nil, chars-IsAscii, encodes-chars, length-le-encodes}
 use lib.Utf8.{encodes}
@@ -8,7 +8,7 @@ by_characters : (cs w : List ℕ) → encodes cs ≡ w → is_end cs ≡ (length
 by_characters [] w e = rw (← e) refl
 by_characters (c ∷ cs) w e = sym (ne_eqb (length w) 0 (λ z. absurd (omega (arith, z, length-le-encodes (c ∷ cs), ap length e))))
 
--- a text without bytes has no characters, and any other has some
+-- A text is empty exactly if it has no characters.
 pub is_end-chars : (w : List ℕ) → IsUtf8 w → (length w == 0) ≡ is_end (chars w)
 is_end-chars w u = sym (by_characters (chars w) w (encodes-chars w u))
 
@@ -19,7 +19,7 @@ pub escaped-end : (first : Bool) (w t : List ℕ) → length w ≡ 0 → t ≡ t
 escaped-end first [] t e = rw chars-nil (sym (append-nil t))
 escaped-end first (c ∷ w) t e = absurd (omega arith)
 
--- a text is printed as it is where its first character is, and what is after that
+-- A text is printed unchanged if its first character and the text after it are.
 ends : (w : List ℕ) → (length w == 0) ≡ is_end w
 ends [] = refl
 ends (c ∷ w) = ne_eqb (length (c ∷ w)) 0 (λ z. absurd (omega (arith, z)))
@@ -32,7 +32,7 @@ pub bare-end : (first : Bool) (w : List ℕ) → length w ≡ 0 → escaped_from
 bare-end first [] e = refl
 bare-end first (c ∷ w) e = absurd (omega arith)
 
--- a text of ASCII is the list of its characters
+-- The bytes of an ASCII text are its characters.
 pub ascii : (w : List ℕ) → IsAscii w → escaped w ≡ w → escaped (chars w) ≡ w
 ascii w a e = ap escaped (chars-IsAscii w a) ∙ e
 

@@ -1,28 +1,33 @@
--- The table in which private functions look.
+-- The table of attribute types as the code stores it: with encoded OIDs.
 use Rattle.std.specs.Prelude.{ℕ, List, [], ◌∷◌, Bool, ◌||◌, nat_eq, codes}
 use Rattle.std.specs.Cmp.Lexicographic.{pointwise}
 use Rattle.x509_cert_name_texts.specs.Keys.{is_name}
 use Rattle.x509_cert_name_texts.specs.declared.keys.Named.{Named}
 
--- the bytes of an identifier, the shortest name in capitals, and another name
+-- A row of the table: the encoding of an OID, the type's shortest name in capitals, and its long
+-- name.
 pub record Row : Type 0 where
   pub octets : List ℕ
   pub short : List ℕ
   pub long : List ℕ
 
+-- The row that a value of the code's type represents.
 abbrev pub row_of : Named → Row
 row_of n = record { octets = n.octets.now; short = n.short.now; long = n.long.now }
 
+-- A row with these entries.
 abbrev pub row : List ℕ → List ℕ → List ℕ → Row
 row octets short long = record { octets = octets; short = short; long = long }
 
--- bytes below 2.5.4, and below 0.9.2342.19200300.100.1
+-- The encoding of an OID below 2.5.4 with one more arc below 128.
 abbrev pub x520_octets : ℕ → List ℕ
 x520_octets n = 0x55 ∷ 4 ∷ n ∷ []
 
+-- The encoding of an OID below 0.9.2342.19200300.100.1 with one more arc below 128.
 abbrev pub pilot_octets : ℕ → List ℕ
 pilot_octets n = 0x09 ∷ 0x92 ∷ 0x26 ∷ 0x89 ∷ 0x93 ∷ 0xf2 ∷ 0x2c ∷ 0x64 ∷ 0x01 ∷ n ∷ []
 
+-- The table, in the order of the definition's table.
 unfoldable pub rows : List Row
 rows =
     row (x520_octets 3) (codes "CN") (codes "commonName")
@@ -42,8 +47,10 @@ rows =
     (codes "emailAddress")
     ∷ []
 
+-- The key is one of the row's names, ignoring ASCII case.
 abbrev pub is_called : List ℕ → Row → Bool
 is_called key r = is_name key r.short || is_name key r.long
 
+-- The row's OID has this encoding.
 abbrev pub has_octets : List ℕ → Row → Bool
 has_octets w r = pointwise nat_eq r.octets w

@@ -1,4 +1,4 @@
-//! Escapes and hex digits in texts of names (RFC 4514 2.4, 3).
+//! Escapes and hexadecimal digits in the string form of names (RFC 4514 2.4, 3).
 
 ghost use Rattle.std.specs.Prelude.{◌≡◌, ◌<◌, length, IfOk};
 ghost use Rattle.der_core.specs.Reading.{Gives, GivesNow};
@@ -10,7 +10,8 @@ use der_core::{Error, ErrorKind};
 use hex::FromHexError;
 use std::alloc::Global;
 
-/// Returns whether a byte may be after a backslash as itself (RFC 4514 3).
+/// Returns whether the byte may follow a backslash and then represents itself (RFC 4514 3,
+/// `special` and `ESC`).
 fn is_sign(octet: u8) -> bool
     ensures { result ≡ is_sign octet }
 {
@@ -20,7 +21,7 @@ fn is_sign(octet: u8) -> bool
     )
 }
 
-/// Returns the value of a hex digit, capital or small.
+/// Returns the value of a hexadecimal digit in either case, or `None` if the byte isn't a digit.
 fn digit_value(digit: u8) -> Option<u8>
     ensures { result ≡ hex_digit_value digit }
 {
@@ -32,7 +33,12 @@ fn digit_value(digit: u8) -> Option<u8>
     }
 }
 
-/// Returns the byte of an escape, by what follows its backslash, and what is left.
+/// Decodes the escape whose backslash comes before these bytes. Returns the byte that it represents
+/// and the remaining bytes.
+///
+/// # Errors
+///
+/// - `Failed`: neither an escapable character nor two hexadecimal digits follow the backslash.
 fn escape(behind: &[u8]) -> Result<(u8, &[u8]), Error>
     ensures exact { GivesNow (λ x. (x.0, x.1.now)) result (escape behind.now) }
     ensures shorter { IfOk result (λ x. length x.1.now < length behind.now) }
@@ -47,12 +53,14 @@ fn escape(behind: &[u8]) -> Result<(u8, &[u8]), Error>
     }
 }
 
-/// Returns the bytes of a value, its escapes undone (RFC 4514 3): a backslash and two hex digits
-/// are a byte, a backslash before a blank or one of `"#+,;<=>\` stands for nothing.
+/// Removes the escapes from the string form of a value and returns its bytes (RFC 4514 3).
+///
+/// A backslash and two hexadecimal digits represent one byte. A backslash before a space or one of
+/// `"#+,;<=>\` is dropped.
 ///
 /// # Errors
 ///
-/// - `Failed`: any other byte after a backslash.
+/// - `Failed`: a backslash is followed by anything else.
 /// - `OutOfMemory`: memory runs out.
 pub fn undo_escapes(alloc: Global, text: &[u8]) -> Result<Vec<u8>, Error>
     ensures { GivesBy (λ v. v.items) result (ReadsOctets text.now) }
@@ -72,11 +80,11 @@ pub fn undo_escapes(alloc: Global, text: &[u8]) -> Result<Vec<u8>, Error>
     Ok(octets)
 }
 
-/// Returns the bytes of hex digits, capital or small.
+/// Decodes hexadecimal digits in either case, two for each byte.
 ///
 /// # Errors
 ///
-/// - `Failed`: a byte isn't a digit, or their number is odd.
+/// - `Failed`: a byte isn't a hexadecimal digit, or the number of digits is odd.
 /// - `OutOfMemory`: memory runs out.
 pub fn from_hex(alloc: Global, digits: &[u8]) -> Result<Vec<u8>, Error>
     ensures { Gives (λ v. v.items) result (hex_octets digits.now) }

@@ -1,4 +1,4 @@
-//! The names of attribute types.
+//! The short and long names of attribute types.
 
 ghost use Rattle.std.specs.Prelude.{◌≡◌, option_map, find};
 ghost use Rattle.der_core.specs.Oid.Bound.{Bound};
@@ -9,8 +9,8 @@ ghost use Rattle.x509_cert_name_texts.specs.Rows.{row_of, rows, is_called, has_o
 use der_core::Error;
 use der_core::oid::ObjectIdentifier;
 
-/// A type that has a name: the bytes of its identifier, its shortest name in capitals, and its
-/// other name. Where there is one name alone it stands twice.
+/// An attribute type that has a name: the encoding of its OID, its shortest name in capitals, and
+/// its long name. If it has only one name, both fields contain it.
 #[derive(Clone, Copy)]
 struct Named {
     octets: &'static [u8],
@@ -18,14 +18,14 @@ struct Named {
     long: &'static str,
 }
 
-/// Rows of a table of types: bytes, shortest name, other name.
+/// Builds the table of attribute types from lines of OID encoding, shortest name and long name.
 macro_rules! named {
     ($($octets:expr, $short:literal, $long:literal;)*) => {
         [$(Named { octets: &$octets, short: $short, long: $long }),*]
     };
 }
 
-/// The types that have names (RFC 4514 3; RFC 4519 2; RFC 2985 5.2.1).
+/// The attribute types that have a name (RFC 4514 3; RFC 4519 2; RFC 2985 5.2.1).
 const NAMED_TYPES: [Named; 14] = named! {
     [0x55, 4, 3], "CN", "commonName";
     [0x55, 4, 4], "SN", "surname";
@@ -44,7 +44,7 @@ const NAMED_TYPES: [Named; 14] = named! {
 };
 
 impl Named {
-    /// Returns whether a key is one of its names, in capital or small letters.
+    /// Returns whether the key is one of the type's names, ignoring ASCII case.
     fn is_called(&self, key: &str) -> bool
         ensures { result ≡ is_called key.now (row_of self.now) }
     {
@@ -52,26 +52,26 @@ impl Named {
     }
 }
 
-/// Returns the type that has this name, if there is one.
+/// Returns the first attribute type in the table that has this name, if any.
 fn type_called(key: &str) -> Option<&'static Named>
     ensures { option_map (λ n. row_of n.now) result ≡ find (is_called key.now) rows }
 {
     NAMED_TYPES.iter().find(|named| named.is_called(key))
 }
 
-/// Returns the type with these bytes, if it has a name.
+/// Returns the attribute type in the table whose OID has this encoding, if any.
 fn type_with(octets: &[u8]) -> Option<&'static Named>
     ensures { option_map (λ n. row_of n.now) result ≡ find (has_octets octets.now) rows }
 {
     NAMED_TYPES.iter().find(|named| named.octets == octets)
 }
 
-/// Returns the type that a key names: that of its name, in capital or small letters, or of a dotted
-/// text.
+/// Returns the OID of the attribute type that a key denotes: the key is a name from the table, in
+/// either case, or an OID in dotted decimal form.
 ///
 /// # Errors
 ///
-/// - `OidMalformed`: it is neither.
+/// - `OidMalformed`: the key is neither.
 #[tactic(auto, using(crate::proofs::KeyLaws::key_arcs_named, crate::proofs::KeyLaws::key_arcs_dotted))]
 pub fn type_of_key(key: &str) -> Result<ObjectIdentifier<39>, Error>
     ensures { GivesNow (λ oid. oid) result (key_arcs Bound key.now) }
@@ -82,7 +82,7 @@ pub fn type_of_key(key: &str) -> Result<ObjectIdentifier<39>, Error>
     }
 }
 
-/// Returns the shortest name of a type in capitals, or none.
+/// Returns the shortest name of an attribute type, in capitals, or `None` if the type has no name.
 #[tactic(auto, using(crate::proofs::KeyLaws::key_of_found, crate::proofs::KeyLaws::key_of_none))]
 pub fn key_of(oid: &ObjectIdentifier<39>) -> Option<&'static str>
     ensures { key_of oid.now ≡ option_map (λ name. name.now) result }

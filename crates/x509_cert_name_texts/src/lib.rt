@@ -1,4 +1,7 @@
-//! The texts of names (RFC 4514): their pieces, the names of attribute types, escapes.
+//! The string form of distinguished names (RFC 4514): splitting at separators, names of attribute
+//! types, and escapes.
+//!
+//! `x509_cert_names` parses and prints names with these functions.
 #![tactic(auto)]
 
 mod escapes;

@@ -1,4 +1,4 @@
-//! The pieces of a text between separators.
+//! Splitting a text at its separators.
 
 ghost use Rattle.std.specs.Prelude.{◌≡◌, ◌<◌, ◌==◌, ◌&&◌, not, length, option_map, position, take};
 ghost use Rattle.std.specs.Prelude.{drop, MatchOption, slice_index};
@@ -9,40 +9,42 @@ ghost use Rattle.x509_cert_name_texts.specs.Answers.{GivesBy};
 use der_core::Error;
 use std::alloc::Global;
 
-/// A type that texts are read as, with memory for what they hold.
+/// A type that can be parsed from a text, and may allocate for what it contains.
 pub trait FromText: Sized {
     ghost use Rattle.std.specs.Prelude.{Result, List, ℕ};
     ghost use Rattle.der_core.specs.ErrorTypes.ErrorKind.{ErrorKind};
     ghost use Rattle.x509_cert_name_texts.specs.Answers.{GivesBy};
 
-    // What a text is read as, or why it is rejected.
+    // The relation between a text and what parsing returns: the value, or why the text is rejected.
     ghost reads_text: { List ℕ → Result Self ErrorKind → Type 0 };
 
-    /// Returns what the text is read as.
+    /// Parses a value from a text.
     ///
     /// # Errors
     ///
-    /// - The errors of the type.
+    /// - The errors of the type: the text is rejected.
     /// - `OutOfMemory`: memory runs out.
     fn from_text(alloc: Global, text: &str) -> Result<Self, Error>
         ensures { GivesBy (λ x. x) result (reads_text text.now) };
 }
 
-/// Returns whether a byte is a separator that counts, after an open escape or not.
+/// Returns whether the byte is a separator that isn't escaped. `escaped` says that the byte before
+/// it is a backslash that begins an escape.
 fn is_end(octet: u8, separator: u8, escaped: bool) -> bool
     ensures { result ≡ (octet == separator && not escaped) }
 {
     octet == separator && !escaped
 }
 
-/// Returns whether an escape is open after a byte, which follows an open one or not.
+/// Returns whether the byte is a backslash that begins an escape. `escaped` says that the byte
+/// before it already begins one.
 fn opens_escape(octet: u8, escaped: bool) -> bool
     ensures { result ≡ (octet == 92 && not escaped) }
 {
     octet == b'\\' && !escaped
 }
 
-/// Returns the place of the first separator that counts.
+/// Returns the index of the first separator that isn't escaped, or `None` if there is none.
 fn first_separator(text: &[u8], separator: u8) -> Option<usize>
     ensures { MatchOption result (HasNone separator text.now) (λ i. (i < length text.now)
         × (slice_index text.now i ≡ separator) × HasNone separator (take i text.now)
@@ -58,8 +60,10 @@ fn first_separator(text: &[u8], separator: u8) -> Option<usize>
     None
 }
 
-/// Returns the first piece of a text, and the text after the separator that ends it, or none if the
-/// text ends it. A separator counts where the run of backslashes before it is even.
+/// Splits a text at its first separator that isn't escaped.
+///
+/// Returns the text before the separator, and the text after it or `None` if there is no such
+/// separator. A separator is escaped if the number of backslashes directly before it is odd.
 pub fn first_piece(text: &str, separator: u8) -> (&str, Option<&str>)
     requires { separator < 128 }
     ensures { IsFirstPiece separator text.now result.0.now
@@ -71,11 +75,12 @@ pub fn first_piece(text: &str, separator: u8) -> (&str, Option<&str>)
     }
 }
 
-/// Returns what the pieces of a text are read as, from the left.
+/// Splits a text at its separators and parses each piece, from left to right.
 ///
 /// # Errors
 ///
-/// That of the first piece which is rejected, or `OutOfMemory`.
+/// - The error of the first piece that is rejected.
+/// - `OutOfMemory`: memory runs out.
 pub fn read_pieces<T: FromText + Drop>(
     alloc: Global,
     text: &str,
@@ -96,14 +101,15 @@ pub fn read_pieces<T: FromText + Drop>(
     }
 }
 
-/// Returns the place of the first `=`.
+/// Returns the index of the first `=`, if any.
 fn place_of_equals(text: &[u8]) -> Option<usize>
     ensures { result ≡ position (λ c. c == 61) text.now }
 {
     text.iter().position(|octet| *octet == b'=')
 }
 
-/// Returns the bytes before the first `=` and those after it, or none if there is no `=`.
+/// Splits a text at its first `=` into the text before it and the bytes after it, or returns `None`
+/// if there is no `=`.
 pub fn split_member(text: &str) -> Option<(&str, &[u8])>
     ensures { key_and_value text.now ≡ option_map (λ halves. (halves.0.now, halves.1.now)) result }
 {

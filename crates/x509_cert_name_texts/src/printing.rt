@@ -1,4 +1,4 @@
-//! The parts of a printed name.
+//! Printing the values in a name: escapes and hexadecimal digits (RFC 4514 2.4).
 
 ghost use Rattle.std.specs.Prelude.{◌≡◌, ◌<◌, ◌∷◌, [], IsTrue, chars};
 ghost use Rattle.std.specs.Fmt.{WritesOnOk};
@@ -7,14 +7,14 @@ ghost use Rattle.x509_cert_name_texts.specs.Escapes.{is_escaped_sign};
 
 use std::fmt;
 
-/// Returns whether a character has a backslash wherever it stands (RFC 4514 2.4).
+/// Returns whether a character is escaped at every position in a value (RFC 4514 2.4).
 fn is_escaped_sign(c: char) -> bool
     ensures { result ≡ is_escaped_sign c }
 {
     matches!(c, '"' | '+' | ',' | ';' | '<' | '>' | '\\')
 }
 
-/// Writes two small hex digits.
+/// Writes a byte as two lowercase hexadecimal digits.
 #[tactic(auto, using(std::proofs::lemmas::Fmt::hex_byte))]
 fn write_hex_octet<W: fmt::Write>(octet: u8, f: &mut fmt::Formatter<W>) -> fmt::Result
     ensures { WritesOnOk W.write_str_gives f.old result (hex_digits octet) f.new }
@@ -22,7 +22,7 @@ fn write_hex_octet<W: fmt::Write>(octet: u8, f: &mut fmt::Formatter<W>) -> fmt::
     write!(f, "{octet:02x}")
 }
 
-/// Writes bytes as small hex digits.
+/// Writes bytes as lowercase hexadecimal digits, two for each byte.
 pub fn write_hex<W: fmt::Write>(octets: &[u8], f: &mut fmt::Formatter<W>) -> fmt::Result
     ensures { WritesOnOk W.write_str_gives f.old result (in_hex octets.now) f.new }
 {
@@ -32,7 +32,7 @@ pub fn write_hex<W: fmt::Write>(octets: &[u8], f: &mut fmt::Formatter<W>) -> fmt
     Ok(())
 }
 
-/// Writes a backslash and two small hex digits.
+/// Writes a byte as a backslash and two lowercase hexadecimal digits.
 #[tactic(auto, using(std::proofs::lemmas::Fmt::hex_byte))]
 fn write_escaped_octet<W: fmt::Write>(octet: u8, f: &mut fmt::Formatter<W>) -> fmt::Result
     ensures { WritesOnOk W.write_str_gives f.old result (92 ∷ hex_digits octet) f.new }
@@ -40,7 +40,8 @@ fn write_escaped_octet<W: fmt::Write>(octet: u8, f: &mut fmt::Formatter<W>) -> f
     write!(f, "\\{octet:02x}")
 }
 
-/// Writes a character of a text, with a backslash where it must have one.
+/// Writes a character of a value, escaped if its position requires it. `first` and `last` say that
+/// it is the first or the last character.
 fn write_escaped_char<W: fmt::Write>(
     c: char,
     first: bool,
@@ -58,7 +59,7 @@ fn write_escaped_char<W: fmt::Write>(
     write!(f, "{c}")
 }
 
-/// Returns whether a character of ASCII is printed as it is.
+/// Returns `true` only if this ASCII character is written without an escape.
 fn stands_bare(octet: u8, first: bool, last: bool) -> bool
     ensures { IsTrue result → escaped_char first last octet ≡ octet ∷ [] }
 {
@@ -71,7 +72,8 @@ fn stands_bare(octet: u8, first: bool, last: bool) -> bool
     }
 }
 
-/// Returns whether a text of ASCII is printed as it is, as most are.
+/// Returns `true` only if no character of this ASCII text needs an escape. Most texts need none, so
+/// they are written with one call.
 fn is_bare(text: &[u8]) -> bool
     ensures { IsTrue result → escaped text.now ≡ text.now }
 {
@@ -87,8 +89,11 @@ fn is_bare(text: &[u8]) -> bool
     true
 }
 
-/// Writes a text (RFC 4514 2.4): with a backslash before each of `"+,;<>\`, a first `#`, a first
-/// and a last blank, and control characters as a backslash and two small hex digits.
+/// Writes a value in the string form of RFC 4514 2.4.
+///
+/// A backslash comes before each of `"+,;<>\`, before a `#` that is first, and before a space that
+/// is first or last. An ASCII control character is written as a backslash and two lowercase
+/// hexadecimal digits.
 #[tactic(auto, using(crate::proofs::TextSteps::ascii_texts))]
 pub fn write_escaped<W: fmt::Write>(text: &str, f: &mut fmt::Formatter<W>) -> fmt::Result
     ensures { WritesOnOk W.write_str_gives f.old result (escaped (chars text.now)) f.new }
@@ -99,7 +104,7 @@ pub fn write_escaped<W: fmt::Write>(text: &str, f: &mut fmt::Formatter<W>) -> fm
     write_each(text, f)
 }
 
-/// Writes a text, character by character.
+/// Writes a value character by character, with its escapes.
 fn write_each<W: fmt::Write>(text: &str, f: &mut fmt::Formatter<W>) -> fmt::Result
     ensures { WritesOnOk W.write_str_gives f.old result (escaped (chars text.now)) f.new }
 {

@@ -1,4 +1,4 @@
--- The value whose encoding hex digits are is what the reader reads of their bytes.
+-- Lemmas for `encoded_value`: it returns what the decoder returns for the bytes of the digits.
 use Rattle.std.proofs.Common.{◌≡◌, ℕ, List, [], ◌∷◌, length, take, drop, Bool, true, false, Result, Ok, Err, refl, sym, ap, nat_lt, arith, if◌then◌else◌}
 use Rattle.std.proofs.lemmas.Bool.Decides.{nat_tests}
 use Rattle.std.proofs.lemmas.List.{length-drop, take_all}
@@ -15,7 +15,7 @@ use Rattle.x509_cert_names.specs.ValueTexts.{behind_head, encoded_value}
 abbrev held : Head → List ℕ → AnyValue
 held h w = record { tag = h.tag; contents = w }
 
--- what is read of bytes is the value, where none is left
+-- The decoded value, if no bytes follow it.
 abbrev alone : Head → Result (List ℕ × List ℕ) ErrorKind → Result AnyValue ErrorKind
 alone h s = (s >>= λ x. Ok (held h x.0, x.1)) >>= whole >>= λ v. Ok v.0
 

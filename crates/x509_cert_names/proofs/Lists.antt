@@ -1,4 +1,4 @@
--- Lists of lists, seen by their elements.
+-- Lemmas about lists of lists whose elements are mapped.
 use Rattle.std.proofs.Common.{◌≡◌, List, [], ◌∷◌, ◌++◌, reverse, refl, sym, ap, ◌∙◌, subst, flat_map}
 use Rattle.std.proofs.lemmas.List.{reverse-append}
 use Rattle.std.specs.List.{AllByRecursion}

@@ -1,4 +1,4 @@
--- Names under two bounds of arcs.
+-- Lemmas for `wider_bounds_keep_names`: encodings of names under two bounds on arcs.
 use Rattle.std.proofs.Common.{◌≡◌, ℕ, ◌≤◌, List, [], ◌∷◌, ◌++◌, Ok, refl, sym, ap, subst, ◌∙◌, ◌↔◌, flat_map, map}
 use Rattle.std.proofs.lemmas.List.{map-append}
 use Rattle.der_core.specs.Bounds.{IsValidUnder, identifiers_of, AreBelow}
@@ -8,7 +8,7 @@ use Rattle.der_core.specs.Shapes.{IsValid, Spells, octets_of}
 use Rattle.der_core.proofs.BoundLaws.{Family, valid_wider, valid_narrow, spelled_exactly, whole_wider}
 use Rattle.x509_cert_names.specs.Names.{PlainName, RelativeName, type_and_value, relative_name, name, type_of, all_of}
 
--- the identifiers in a name are the types of its attributes
+-- The OIDs in a name are the types of its attributes.
 
 each_type : (r : RelativeName) → flat_map (λ a. identifiers_of (type_and_value 0) a) r ≡ map type_of r
 unfolding identifiers_of
@@ -27,7 +27,7 @@ pub of_name : (n : PlainName) → identifiers_of (name 0) n ≡ map type_of (all
 unfolding identifiers_of
 of_name n = each_name n
 
--- one shape for each bound
+-- One shape for each bound.
 
 bounds_alike : (bound : ℕ) (n : PlainName) → (IsValid (name bound) n ↔ IsValidUnder bound (name 0) n) × (octets_of (name bound) n ≡ octets_of (name 0) n)
 unfolding IsValid IsValidUnder octets_of

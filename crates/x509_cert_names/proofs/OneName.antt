@@ -1,4 +1,5 @@
--- A text spells one name, and isn't refused then; each relative name has an attribute.
+-- Lemmas for `texts_are_read_as_one_name`: a text parses to at most one name and isn't rejected
+-- then. Each RDN of such a name has an attribute.
 use Rattle.std.proofs.Common.{◌≡◌, ℕ, ◌<◌, List, [], ◌∷◌, ◌++◌, length, reverse, Result, Ok, Err, refl, sym, ap, ◌∙◌, subst, arith, inl, inr, IfOk, IsPermutation, ◌≤◌, take, get_or, Option, Some, None, ◌⊎◌, length-append, append-nil, map, unwrap_or}
 use Rattle.std.specs.List.{AllByRecursion, IsDistinct}
 use Rattle.std.proofs.lemmas.List.{reverse-append}
@@ -27,7 +28,7 @@ use Rattle.std.specs.Prelude.{⊤}
 use Rattle.std.proofs.lemmas.Bool.{cases_lt}
 use Rattle.der_core.proofs.DigitLaws.{split-same_length}
 
--- A text is one list of pieces.
+-- A text has one list of pieces.
 inside : (p r q w : List ℕ) (separator : ℕ) → p ++ (separator ∷ r) ≡ q ++ w → length p < length q → (get_or q (length p) 0 ≡ separator) × (take (length p) q ≡ p)
 inside [] r [] w separator e lt = absurd (omega (arith, lt))
 inside [] r (c ∷ q) w separator e lt = ((cc), refl)
@@ -38,7 +39,7 @@ inside (a ∷ p) r (c ∷ q) w separator e lt =
     let i = inside p r q w separator rest (omega (arith, lt)) in
     (i.0, rw (first, i.1) refl)
 
--- a piece without separators ends no later than one that a separator ends
+-- A piece without separators isn't longer than one that a separator ends.
 no_longer : (p r q w : List ℕ) (separator : ℕ) → p ++ (separator ∷ r) ≡ q ++ w → Counts p → HasNone separator q → length q ≤ length p
 no_longer p r q w separator e counts none = elim (cases_lt (length p) (length q)) [ inl lt ↦ late lt | inr le ↦ le ]
   where
@@ -63,7 +64,7 @@ no_end separator text p q r f g =
     let short = no_longer p r q [] separator e f.2 g.1 in
     omega (arith, short, ap length e, length-append p (separator ∷ r), length-append q [])
 
--- a text has one first piece
+-- A text has one first piece.
 one_first : (separator : ℕ) (text p q : List ℕ) (l m : Option (List ℕ)) → IsFirstPiece separator text p l → IsFirstPiece separator text q m → (p ≡ q) × (l ≡ m)
 one_first separator text p q None None f g = (sym f.0 ∙ g.0, refl)
 one_first separator text p q None (Some t) f g = absurd (no_end separator text q p t g f)
@@ -73,7 +74,7 @@ one_first separator text p q (Some r) (Some t) f g =
     (i.0, ap (λ (w : List ℕ). Some w) i.1)
 
 module _ {A E : Type 0} (separator : ℕ) (reads : List ℕ → Result A E → Type 0) (Same : A → A → Type 0) (Odd : A → Type 0) where
-  -- values are the same, one by one
+  -- The values are equal, one by one.
   abbrev pub AllSame : List A → List A → Type 0
   AllSame [] [] = ⊤
   AllSame (x ∷ xs) (y ∷ ys) = Same x y × AllSame xs ys
@@ -83,7 +84,7 @@ module _ {A E : Type 0} (separator : ℕ) (reads : List ℕ → Result A E → T
   AnyOdd [] = ⊥
   AnyOdd (x ∷ xs) = Odd x ⊎ AnyOdd xs
 
-  -- what was read once is read again, but for an odd value
+  -- Parsing a text twice yields the same result, unless a value fits none.
   abbrev pub Agree : Result (List A) E → Result (List A) E → Type 0
   Agree (Ok xs) (Ok ys) = AllSame xs ys
   Agree (Ok xs) (Err e) = AnyOdd xs
@@ -118,7 +119,7 @@ module _ {A E : Type 0} (separator : ℕ) (reads : List ℕ → Result A E → T
     agree (ReadsPieces.refused text p left d f h) (ReadsPieces.more text1 q u b s g k m) = tt
     agree (ReadsPieces.refused text p left d f h) (ReadsPieces.refused text1 q left1 d1 g k) = tt
 
--- A text has one value at most
+-- A text represents at most one value.
 
 one_octets : (w : List ℕ) (r s : Result (List ℕ) ErrorKind) → ReadsOctets w r → ReadsOctets w s → r ≡ s
 one_octets w (Ok x) (Ok y) h k = ap (λ (v : List ℕ). Ok v) (stands_for_one w x y h k)
@@ -141,7 +142,7 @@ one_pair o key rest other left e f =
     let second : Option (List ℕ × List ℕ) → List ℕ = λ p. (unwrap_or p ([], [])).1 in
     (ap first (sym e ∙ f), ap second (sym e ∙ f))
 
--- what each value has, each plain value has
+-- A property of all values is a property of all abstract values.
 all_plain : {A B : Type 0} (f : A → B) (P : B → Type 0) (xs : List A) → AllByRecursion (λ a. P (f a)) xs → AllByRecursion P (plain_list f xs)
 all_plain f P [] h = tt
 all_plain f P (x ∷ xs) h = (h.0, all_plain f P xs h.1)
@@ -151,7 +152,7 @@ none_odd separator reads Same [] h = h
 none_odd separator reads Same (x ∷ xs) (inl h) = h
 none_odd separator reads Same (x ∷ xs) (inr h) = none_odd separator reads Same xs h
 
--- in turn, and the last one first
+-- Reversing a list, and mapping it to abstract values, commute.
 turned : {A B : Type 0} (f : A → B) (xs : List A) → plain_list f (reverse xs) ≡ reverse (plain_list f xs)
 turned f [] = refl
 turned f (x ∷ xs) =
@@ -230,7 +231,7 @@ one_spelled bound text n m h k = h.2 ∙ one_name bound text h.0 k.0 h.1 k.1 ∙
 pub spelled_stands : (bound : ℕ) (text : List ℕ) (n : PlainName) (e : ErrorKind) → SpellsName bound text n → ReadsName bound text (Err e) → ⊥
 spelled_stands bound text n e h k = name_stands bound text h.0 e h.1 k
 
--- a name that a text spells has an attribute in each relative name
+-- Each RDN of a name that a text parses to has an attribute.
 abbrev pub HasSome : List AttributeTypeAndValue → Type 0
 HasSome r = 0 < length r
 
@@ -255,7 +256,7 @@ pub read_some : (w : List ℕ) (n : List (List AttributeTypeAndValue)) → Reads
 read_some w n (ReadsName.empty e) = tt
 read_some w n (ReadsName.pieces m some h) = all_turned HasSome m (all_some w (Ok m) h)
 
--- What is printed of a name is the text of its plain value.
+-- The printed form of a name is the string form of its abstract value.
 
 attributes_back : (r : List AttributeTypeAndValue) → map attribute_of (relative_plain r) ≡ r
 attributes_back [] = refl

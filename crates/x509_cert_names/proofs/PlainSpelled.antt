@@ -1,4 +1,5 @@
--- Attributes whose headers have two bytes each are spelled by their bytes.
+-- Lemmas for attributes whose headers have two bytes each: the fast path decodes and encodes them
+-- as the grammar says.
 use Rattle.std.proofs.Common.{Bool, Result, Err, lt-ltb, ◌≡◌, ℕ, zero, suc, ◌+◌, ◌-◌, ◌<◌, ◌≤◌, List, [], ◌∷◌, ◌++◌, length, Ok, refl, sym, ap, ◌∙◌, arith, append-nil, length-append, length-take-le, subst, take, take_all, take-append-drop, drop, get_or}
 use Rattle.der_core.specs.Oid.Bound.{Bound}
 use Rattle.der_core.specs.Oid.IdentifierOctets.{identifier_octets, IsIdentifier}
@@ -18,7 +19,7 @@ use Rattle.x509_cert_names.specs.Names.{type_and_value}
 use Rattle.x509_cert_names.specs.Pairs.{pair}
 use Rattle.x509_cert_names.specs.PlainParts.{IsPlain}
 
--- a header of two bytes
+-- A header of two bytes.
 short_tlv : (t : Tag) (b : ℕ) (c : List ℕ) → tag_octets t ≡ b ∷ [] → length c < 128 → tlv t c ≡ b ∷ length c ∷ c
 unfolding tlv head_octets length_octets
 short_tlv t b c e l = rw (e, lt-ltb (length c) 128 l) refl
@@ -49,7 +50,7 @@ plain_spells arcs tag identifier value w p is most e =
       octets = sym whole;
     }
 
--- an attribute that is spelled so
+-- The bytes of such an attribute are its encoding.
 plain : (arcs : List ℕ) (tag : Tag) (value : List ℕ) → IsIdentifier Bound arcs → length (identifier_octets arcs) ≤ 39 → number_of tag < 31 → IsOctets value
     → length (identifier_octets arcs) + length value + 4 < 128
     → Spells (type_and_value Bound) (pair arcs (record { tag = tag; contents = value }))
@@ -61,7 +62,7 @@ plain arcs tag value is most low are short =
     let p : IsPlain i tag value w = record { leading = leading_octet tag; whole = refl; short = short; tagged = rw (lt-ltb (number_of tag) 31 low) refl; known = omega (arith, low); are = are } in
     plain_spells arcs tag i value w p is most refl
 
--- how many bytes these are
+-- The length of the encoding.
 pub plain_size : (arcs : List ℕ) (tag : Tag) (value : List ℕ) → IsIdentifier Bound arcs → length (identifier_octets arcs) ≤ 39 → number_of tag < 31 → IsOctets value
     → length (identifier_octets arcs) + length value + 4 < 128
     → size (type_and_value Bound) (pair arcs (record { tag = tag; contents = value })) ≡ Ok (length (identifier_octets arcs) + length value + 6)
@@ -72,7 +73,7 @@ plain_size arcs tag value is most low are short =
     let long : length w ≡ length i + length value + 6 = omega (arith, length-append i (leading_octet tag ∷ length value ∷ value)) in
     sized (type_and_value Bound) (pair arcs (record { tag = tag; contents = value })) s.valid ∙ ap (λ (u : List ℕ). Ok (length u)) (sym s.octets) ∙ ap (λ n. Ok n) long
 
--- what the code finds is plain
+-- The parts that the code finds are those of such an attribute.
 found : (a b c d third count : ℕ) (identifier value rest : List ℕ) (tag : Tag) → a ≡ 0x30 → c ≡ 0x06 → b < 128 → b ≡ length rest + 2 → d ≡ length identifier
     → rest ≡ identifier ++ (third ∷ count ∷ value) → count ≡ length value → third < 256 → ((u : List ℕ) → tag_at (third ∷ u) ≡ Ok (tag, u)) → IsOctets value
     → IsPlain identifier tag value (a ∷ b ∷ c ∷ d ∷ rest)
@@ -118,7 +119,7 @@ parts_plain (a ∷ b ∷ c ∷ d ∷ r) identifier behind value tag bytes four o
     (bytes_behind 0) read are
 parts_plain _ identifier behind value tag bytes four one two small inside most front back some v valued are read = absurd (omega arith)
 
--- What is written of it, in four pieces
+-- The encoding is written in four pieces.
 
 before_same : (r : Result Out ErrorKind) (f g : Out → Result Out ErrorKind) → ((x : Out) → f x ≡ g x) → (r >>= f) ≡ (r >>= g)
 before_same (Ok x) f g same = same x
@@ -146,7 +147,7 @@ pieces_written arcs tag contents identifier value leading e f l is most low are 
     rw (e, f, l) (put_written (type_and_value Bound) (pair arcs (record { tag = tag; contents = contents })) o s.valid ∙ ap (λ (u : List ℕ). put_some u o) (sym s.octets)
     ∙ in_four (0x30 ∷ (length i + length contents + 4) ∷ 0x06 ∷ length i ∷ []) i (leading_octet tag ∷ length contents ∷ []) contents o)
 
--- a call that does one thing does the other
+-- A call that writes what one function writes also writes what an equal function does.
 pub writes_alike : (m : Bool) (old new : Out) (r : Result (Unit {0}) Error) (f g : Out → Result Out ErrorKind) → f old ≡ g old → Writes m old new r g → Writes m old new r f
 writes_alike m old new (Ok u) f g e h = e ∙ h
 writes_alike m old new (Err x) f g e h = λ free. e ∙ h free

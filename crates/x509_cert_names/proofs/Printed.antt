@@ -1,4 +1,4 @@
--- Names as they are printed, part by part.
+-- Lemmas for printing names, part by part.
 use Rattle.std.proofs.Common.{◌≡◌, ℕ, List, [], ◌∷◌, ◌++◌, length, reverse, Option, Some, None, refl, sym, ap, ◌∙◌, arith, flat_map, chars}
 use Rattle.std.proofs.lemmas.List.{append-nil, reverse-append}
 use Rattle.std.proofs.lemmas.List.Concat.{flat_map-append}
@@ -20,7 +20,7 @@ pub no_names_printed : (n : List (List AttributeTypeAndValue)) → length n ≡ 
 no_names_printed [] e = refl
 no_names_printed (r ∷ n) e = absurd (omega arith)
 
--- the last name comes first
+-- The last RDN comes first.
 reversed : (n before : List (List AttributeTypeAndValue)) (last : List AttributeTypeAndValue) → n ≡ before ++ (last ∷ []) → reverse n ≡ last ∷ reverse before
 reversed n before last e = ap reverse e ∙ reverse-append before (last ∷ [])
 
@@ -36,7 +36,7 @@ pub end_printed : (left : List (List AttributeTypeAndValue)) (t : List ℕ) → 
 end_printed [] t e = sym (append-nil t)
 end_printed (r ∷ left) t e = absurd (omega arith)
 
--- a value's encoding in hex: its header, then its content
+-- The encoding of a value in hexadecimal: its header, then its content.
 pub encoding_printed : (v : AnyValue) (t : Tag) (n : ℕ) (w : List ℕ) → t ≡ v.tag → n ≡ length v.contents → w ≡ v.contents
     → in_hex (head_octets t n) ++ in_hex w ≡ in_hex (encoding_of v)
 unfolding encoding_of tlv
@@ -46,7 +46,7 @@ encoding_printed v t n w tag len content =
     ∙ ap (λ (x : List ℕ). in_hex (head_octets v.tag (length v.contents)) ++ in_hex x) content
     ∙ sym (flat_map-append hex_digits (head_octets v.tag (length v.contents)) v.contents)
 
--- an attribute whose type has a name and whose value is a text, and another
+-- The two forms of a printed attribute.
 pub text_printed : (a : AttributeTypeAndValue) (key text : List ℕ) → key_of a.oid ≡ Some key → text_of a.value ≡ Some text
     → key ++ (61 ∷ escaped (chars text)) ≡ attribute_printed a
 unfolding attribute_printed

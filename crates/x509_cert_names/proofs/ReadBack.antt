@@ -1,4 +1,4 @@
--- What is printed of a name is read back.
+-- Lemmas for `printed_names_are_read`: the printed form of a name parses again.
 use Rattle.std.proofs.Common.{◌≡◌, ◌≢◌, ℕ, ◌+◌, ◌<◌, ◌≤◌, List, [], ◌∷◌, ◌++◌, length, reverse, Bool, true, false, Option, Some, None, Result, Ok, Err, refl, sym, ap, ◌∙◌, subst, arith, append-nil, length-append, map, flat_map, chars, IsUtf8, IsPermutation, if◌then◌else◌}
 use Rattle.std.specs.Prelude.{⊤}
 use Rattle.std.specs.List.{AllByRecursion, list_all}
@@ -46,10 +46,10 @@ use Rattle.x509_cert_names.proofs.Lists.{all_turned}
 use Rattle.x509_cert_names.proofs.OneName.{one_spelled}
 use Rattle.x509_cert_names.proofs.SameOctets.{rising_distinct}
 
--- Pieces that are joined are read in turn
+-- Joined pieces parse one after another.
 
 module _ {A B E : Type 0} (s : ℕ) (reads : List ℕ → Result B E → Type 0) (print : A → List ℕ) where
-  -- what is printed of the one is read as the other, and holds no separator that counts
+  -- The printed form of the first value parses to the second and contains no unescaped separator.
   abbrev pub IsPiece : A → B → Type 0
   IsPiece x y = reads (print x) (Ok y) × HasNone s (print x) × Counts (print x)
 
@@ -83,12 +83,12 @@ module _ {A B E : Type 0} (s : ℕ) (reads : List ℕ → Result B E → Type 0)
   all_read (x ∷ xs) [] l h = absurd h
   all_read (x ∷ xs) (y ∷ ys) l h = pieces_read x xs y ys h
 
--- what is joined by another separator holds none that counts
+-- Values joined by another separator contain no unescaped separator.
 joined_calm : {A : Type 0} (s t : ℕ) (print : A → List ℕ) → t ≢ 92 → t ≢ s → (xs : List A) → AllByRecursion (λ x. Calm s (print x)) xs → Calm s (flat_map (printed_behind t print) xs)
 joined_calm s t print n m [] h = Calm.end
 joined_calm s t print n m (x ∷ xs) h = Calm.plain t _ n m (calm-append s (flat_map (printed_behind t print) xs) h.0 (joined_calm s t print n m xs h.1))
 
--- A text that is printed is UTF-8
+-- A printed text is UTF-8.
 
 ok_from : {A E : Type 0} (r : Result A E) (x : A) → result_ok r ≡ Some x → r ≡ Ok x
 ok_from (Ok y) x e = let same : y ≡ x = cc e in ap (λ z. Ok z) same
@@ -132,7 +132,7 @@ text_utf8 : (a : AnyValue) (w : List ℕ) → text_of a ≡ Some w → IsUtf8 w
 unfolding text_of
 text_utf8 a w e = is_text a.tag a w e
 
--- An attribute is read back
+-- A printed attribute parses again.
 
 content_is : (t : Tag) (w : List ℕ) → Fits w → of_content t w ≡ Ok (record { tag = t; contents = w })
 content_is t w f = grind (arith, nat_tests)
@@ -163,7 +163,7 @@ encoding_read a v =
     ∙ ap (λ (r : Result (List ℕ) ErrorKind). r >>= read_whole any >>= λ x. Ok x.0) (hex_read (encoding_of a) (encoding_octets a v))
     ∙ ap (λ (r : Result (AnyValue × List ℕ) ErrorKind). r >>= λ x. Ok x.0) (whole_again any a (encoding_of a) refl refl (encoding_spelled a v))
 
--- the attributes of an RDN, and the RDNs of a name
+-- The attributes of an RDN, and the RDNs of a name.
 
 abbrev attributes : RelativeName → List AttributeTypeAndValue
 attributes r = map attribute_of r
@@ -251,7 +251,7 @@ module _ (bound : ℕ) (root : 40 ≤ bound) where
       by (Some key) None e f h = by_hex a h
       by None t e f h = by_hex a h
 
-  -- A printed attribute holds no separator outside a pair.
+  -- A printed attribute contains no unescaped separator.
   attribute_calm : (s : ℕ) → is_paired s ≡ true → (a : TypeAndValue) → IsValid (type_and_value bound) (as_read a) → Calm s (attribute_printed (attribute_of a))
   unfolding attribute_printed as_read
   attribute_calm s sign a v = by (key_of (type_of a)) (text_of (value_of a)) refl v
@@ -270,7 +270,7 @@ module _ (bound : ℕ) (root : 40 ≤ bound) where
       by (Some key) None e h = hex h
       by None t e h = hex h
 
-  -- RDNs are read back
+  -- Printed RDNs parse again.
 
   relative_pieces : (r : RelativeName) → AllByRecursion (λ a. IsValid (type_and_value bound) a) (map as_read r)
       → ArePieces 43 (ReadsAttribute bound) attribute_printed (attributes r) (attributes (map as_read r))
@@ -298,7 +298,7 @@ module _ (bound : ℕ) (root : 40 ≤ bound) where
       let c = attributes_calm (a ∷ r) h in
       calm-append 44 (flat_map (printed_behind 43 attribute_printed) (attributes r)) c.0 (joined_calm 44 43 attribute_printed (eqb-false 43 92 refl) (eqb-false 43 44 refl) (attributes r) c.1)
 
-  -- names are read back
+  -- Printed names parse again.
 
   name_pieces : (n m : PlainName) → IsReadBack n m → AllByRecursion (λ r. IsValid (relative_name bound) r) m → ArePieces 44 (ReadsRelative bound) relative_printed (relatives n) (relatives m)
   name_pieces [] [] h v = tt
@@ -324,7 +324,7 @@ pub name_back : (bound : ℕ) (n m : PlainName) → 40 ≤ bound → IsValid (na
 unfolding name_text
 name_back bound n m root v h = (relatives m, name_read bound root n m h v, relatives_plain m)
 
--- where each attribute is as reading makes it, a name is read back as itself
+-- If each attribute is as the parser builds it, a name parses to itself.
 
 attributes_same : (r : RelativeName) → AllByRecursion (λ a. as_read a ≡ a) r → map as_read r ≡ r
 attributes_same [] h = refl

@@ -1,5 +1,5 @@
--- Names are equal, attribute by attribute, exactly if their plain values are, and where they have
--- the same bytes.
+-- Lemmas for `Name::has_octets_of`: names are equal, attribute by attribute, exactly if their
+-- abstract values are, and these exactly if their encodings are.
 use Rattle.std.proofs.Common.{◌≡◌, List, [], ◌∷◌, true, refl, ap, subst, ℕ, false, ◌∙◌, Less, Equal, ◌≢◌, ◌<◌, get_or, Ok, Err, length, ◌++◌, sym, arith, length-append, flat_map, Ordering, Greater}
 use Rattle.std.specs.Cmp.Lexicographic.{pointwise, bytes_decides, nat_list_cmp_total}
 use Rattle.der_core.specs.Oid.Bound.{Bound}
@@ -37,8 +37,8 @@ use Rattle.der_core.specs.Placed.{AllValid}
 use Rattle.der_types.specs.Sets.{Ascends, TooLong}
 use Rattle.x509_cert_names.specs.Ordered.{DifferInTurn, IsOrdered}
 
--- `==` of attributes and names is of their plain values: of identifiers by their bytes, of any
--- values by tag and content.
+-- `==` of attributes and names compares their abstract values: OIDs by their content, values by tag
+-- and content.
 
 pub pairs : (a b : AttributeTypeAndValue) → Alike (type_and_value Bound) (same_pair a b) (pair_plain a) (pair_plain b)
 pairs a b = behind (next leaves (last (values a.value b.value)))
@@ -46,7 +46,7 @@ pairs a b = behind (next leaves (last (values a.value b.value)))
 pub names : (xs ys : List (List AttributeTypeAndValue)) → Alike (name Bound) (pointwise (pointwise same_pair) xs ys) (plain_list relative_plain xs) (plain_list relative_plain ys)
 names xs ys = behind (list {s = relative_name Bound} (λ r q. behind (set pairs r q)) xs ys)
 
--- the values of an attribute are their own plain values
+-- The values of an attribute are their own abstract values.
 itself_listed : (xs : List AnyValue) → plain_list (λ v. v) xs ≡ xs
 itself_listed [] = refl
 itself_listed (x ∷ xs) = ap (λ r. x ∷ r) (itself_listed xs)
@@ -63,11 +63,11 @@ directories (strings.Utf8String v) (strings.Utf8String w) = second (second (firs
 directories (strings.BmpString v) (strings.BmpString w) = second (second (second (exact (bytes_decides v w).0 (bytes_decides v w).1)))
 directories x y = exact (λ e. absurd cc) (λ e. absurd cc)
 
--- Names are equal, attribute by attribute, exactly if they have the same bytes.
+-- Names are equal, attribute by attribute, exactly if they have the same encoding.
 
--- Attributes whose encodings rise are distinct, and stay so with one more.
+-- Attributes whose encodings ascend are distinct, and stay distinct when another is inserted.
 
--- the encoding of an attribute
+-- The encoding of an attribute.
 abbrev pub encoded : AttributeTypeAndValue → List ℕ
 encoded a = octets_of (type_and_value Bound) (pair_plain a)
 
@@ -77,7 +77,7 @@ apart a b h =
     let equal : octets_cmp (encoded a) (encoded b) ≡ Equal = subst (λ w. octets_cmp (encoded a) w ≡ Equal) ((pairs a b).encoding e) (octets_cmp-self (encoded a)) in
     absurd cc)
 
--- the second can be left out
+-- The second attribute of an ascending list can be left out.
 skip : (a b : AttributeTypeAndValue) (xs : List AttributeTypeAndValue) → AllRising (octets_of (type_and_value Bound)) (plain_list pair_plain (a ∷ b ∷ xs))
     → AllRising (octets_of (type_and_value Bound)) (plain_list pair_plain (a ∷ xs))
 skip a b [] h = tt
@@ -100,7 +100,7 @@ pub none_distinct : IsDistinct same_pair []
 unfolding IsDistinct
 none_distinct = tt
 
--- an attribute is none of a list
+-- The attribute isn't in the list.
 pub is_none : (a : AttributeTypeAndValue) (xs : List AttributeTypeAndValue) → list_any (λ b. same_pair b a) xs ≡ false → AllByRecursion (λ b. same_pair a b ≡ false) xs
 is_none a [] e = tt
 is_none a (b ∷ xs) e =
@@ -123,7 +123,7 @@ set_encoded r = octets_of (relative_name Bound) (relative_plain r)
 abbrev sets_encoded : List Pairs → List ℕ
 sets_encoded n = flat_map (λ x. octets_of (relative_name Bound) x) (plain_list relative_plain n)
 
--- What is in range and in order has an encoding where its bytes have a length
+-- A value that is in range and in order has an encoding if its length fits 32 bits.
 
 first_shorter : (a b : List ℕ) → Fits (a ++ b) → Fits a
 first_shorter a b h = omega (arith, h, length-append a b)
@@ -166,8 +166,7 @@ all_rise (a ∷ b ∷ r) d s v =
     absurd cc in
     (below (octets_cmp (encoded a) (encoded b)) (s.0 v.0 v.1.0) equal, all_rise (b ∷ r) d.1 s.1 v.1)
 
--- an attribute whose bytes a length counts has an encoding, and one whose bytes it doesn't count
--- has none
+-- An attribute has an encoding exactly if the length of its bytes fits 32 bits.
 pub sized_valid : (a : AttributeTypeAndValue) (n : ℕ) → IsInRange (type_and_value Bound) (pair_plain a) → size (type_and_value Bound) (pair_plain a) ≡ Ok n → IsValid (type_and_value Bound) (pair_plain a)
 sized_valid a n h e = pair_valid (pair_plain a) h (counts_octets (type_and_value Bound) (pair_plain a) n e).1
 
@@ -178,7 +177,8 @@ unsized_long xs i a e lt is long = record {
   some = λ all. absurd (cc (sized (type_and_value Bound) (pair_plain a) (valid_at (type_and_value Bound) pair_plain xs i a lt is all), long));
 }
 
--- attributes that ascend and differ in turn are distinct, where each has an encoding
+-- Attributes that ascend and of which each differs from the next are distinct, if each has an
+-- encoding.
 each_valid : (r : Pairs) → AllValid (type_and_value Bound) pair_plain r → AllByRecursion (λ x. IsValid (type_and_value Bound) x) (relative_plain r)
 each_valid [] v = tt
 each_valid (a ∷ r) v = (v.0, each_valid r v.1)
@@ -207,7 +207,7 @@ fits_of : (x : PlainName) → IsValid (name Bound) x → Fits (name_octets Bound
 unfolding IsValid octets_of
 fits_of x v = v.2
 
--- so other names have other bytes; k is the second as it is borrowed
+-- So different names have different encodings. `k` is the borrowed second name.
 pub names_apart : (m n k : List Pairs) → plain_list relative_plain k ≡ plain_list relative_plain n
     → IsValid (name Bound) (plain_list relative_plain m) → IsInRange (name Bound) (plain_list relative_plain n) → AllByRecursion (IsOrdered Bound) k
     → name_octets Bound (plain_list relative_plain m) ≡ name_octets Bound (plain_list relative_plain n) → pointwise (pointwise same_pair) m n ≡ true

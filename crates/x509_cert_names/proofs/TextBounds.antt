@@ -1,4 +1,4 @@
--- Name texts under two bounds of arcs.
+-- Lemmas for the laws about parsing names under two bounds on arcs.
 use Rattle.std.proofs.Common.{◌≡◌, ◌↔◌, ℕ, ◌<◌, ◌≤◌, List, [], ◌∷◌, ◌++◌, reverse, Option, Some, None, Result, Ok, Err, refl, sym, ap, ◌∙◌, subst, arith, inl, inr, Bool, true, nat_lt}
 use Rattle.std.specs.Prelude.{⊤, map, IsPermutation}
 use Rattle.std.specs.List.{AllByRecursion, find, list_all}
@@ -25,8 +25,7 @@ use Rattle.der_core.specs.Oid.declared.error.Error.{Error}
 use Rattle.der_core.proofs.Oid.TextFaultLaws.{text_sound, text_read}
 use Rattle.der_core.proofs.Oid.TextRoundLaws.{all_below}
 
--- Keys of name texts under two bounds of arcs.
--- every arc is below a bound
+-- Every arc is below a bound.
 abbrev ArcsBelow : ℕ → List ℕ → Type 0
 ArcsBelow bound arcs = AllByRecursion (λ n. n < bound) arcs
 
@@ -34,7 +33,7 @@ below_wider : (small large : ℕ) → small ≤ large → (arcs : List ℕ) → 
 below_wider small large le [] h = tt
 below_wider small large le (n ∷ arcs) h = (omega (arith, le, h.0), below_wider small large le arcs h.1)
 
--- The arcs of a type that has a name
+-- The arcs of the types that have a name.
 
 abbrev is_below : ℕ → List ℕ → Bool
 is_below bound arcs = list_all (λ n. nat_lt n bound) arcs
@@ -60,9 +59,9 @@ unfolding type_named
 type_below bound lt key t e =
     below_wider 19200301 bound (omega (arith, lt)) t.arcs (from_is_below 19200301 t.arcs (found _ (λ (n : Named). is_below 19200301 n.arcs) named_types t e named_below))
 
--- A key that is read has arcs below the bound, where that lets the types pass that have names
+-- The arcs of a key are below the bound, if those of all types that have a name are.
 
--- a dotted text is read as an identifier
+-- A dotted text parses to an OID.
 dotted : (bound : ℕ) (key arcs : List ℕ) → dotted_arcs (read_text bound 39 key) ≡ Ok arcs → read_text bound 39 key ≡ Ok arcs
 dotted bound key arcs e = by (read_text bound 39 key) e
   where
@@ -77,7 +76,7 @@ key_below bound lt key arcs e = by (type_named key) refl e
     by (Some t) f g = let same : t.arcs ≡ arcs = cc g in subst (ArcsBelow bound) same (type_below bound lt key t f)
     by None f g = all_below bound arcs (omega (arith, lt)) (text_sound bound 39 key arcs (dotted bound key arcs g)).1
 
--- arcs that are below another bound are an identifier under it, too
+-- The arcs of an OID under one bound are an OID under another if they are below it.
 
 within : (one other : ℕ) (arcs : List ℕ) → IsIdentifier one arcs → ArcsBelow other arcs → IsIdentifier other arcs
 unfolding IsIdentifier
@@ -96,7 +95,7 @@ key_again one other root key arcs e all = by (type_named key) e
 all_moved : {A : Type 0} (P : A → Type 0) (xs ys : List A) → IsPermutation xs ys → AllByRecursion P xs → AllByRecursion P ys
 all_moved P xs ys moved all = recursion_from_All P ys (All-permutation P xs ys moved (All-from_recursion P xs all))
 
--- What holds of each value that is read, and what is read again
+-- A property of each parsed value, and parsing it under another bound.
 
 module _ {A E : Type 0} (separator : ℕ) (reads : List ℕ → Result A E → Type 0) (P : A → Type 0) where
   abbrev Have : Result (List A) E → Type 0
@@ -126,14 +125,14 @@ module _ {A E : Type 0} (separator : ℕ) (reads : List ℕ → Result A E → T
     read_again (ReadsPieces.more text p rest a r f h n) = again_more text p rest a r f h (read_again n)
     read_again (ReadsPieces.refused text p left e f h) = tt
 
--- the arcs of an attribute's type are below a bound; so are those of each attribute
+-- The arcs of an attribute's type, and of each attribute's type, are below a bound.
 abbrev IsLow : ℕ → AttributeTypeAndValue → Type 0
 IsLow bound a = ArcsBelow bound a.oid
 
 abbrev AreLow : ℕ → List AttributeTypeAndValue → Type 0
 AreLow bound r = AllByRecursion (IsLow bound) r
 
--- What is read has arcs below the bound, where that lets the types pass that have names
+-- The arcs of a parsed name are below the bound, if those of all types that have a name are.
 
 low_attribute : (bound : ℕ) → 19200300 < bound → (w : List ℕ) (a : AttributeTypeAndValue) → ReadsAttribute bound w (Ok a) → IsLow bound a
 low_attribute bound lt w a (ReadsAttribute.member key rest a1 e f v) = key_below bound lt key a.oid f
@@ -147,7 +146,7 @@ low_name bound lt text n (ReadsName.empty e) = tt
 low_name bound lt text n (ReadsName.pieces rs some h) =
     all_moved (AreLow bound) rs (reverse rs) (IsPermutation-reverse rs) (have 44 (ReadsRelative bound) (AreLow bound) (low_relative bound lt) h)
 
--- The encodings of attributes
+-- The encodings of attributes.
 
 pair_bounds : (bound : ℕ) (a : TypeAndValue) → (IsValid (type_and_value bound) a ↔ IsValidUnder bound (type_and_value 0) a) × (octets_of (type_and_value bound) a ≡ octets_of (type_and_value 0) a)
 unfolding IsValid IsValidUnder octets_of
@@ -171,7 +170,7 @@ all_move : (least one other : ℕ) → least ≤ one → (r : List AttributeType
 all_move least one other le [] low v = tt
 all_move least one other le (a ∷ r) low v = (pair_moves least one other le a low.0 v.0, all_move least one other le r low.1 v.1)
 
--- What is read under one bound is read under another, where the arcs are below both
+-- A text that parses under one bound parses under another if the arcs are below both.
 
 module _ (least one other : ℕ) (root : 40 ≤ least) (first : least ≤ one) (second : least ≤ other) where
   attribute_again : (w : List ℕ) (a : AttributeTypeAndValue) → ReadsAttribute one w (Ok a) → IsLow least a → ReadsAttribute other w (Ok a)
@@ -199,7 +198,7 @@ module _ (least one other : ℕ) (root : 40 ≤ least) (first : least ≤ one) (
       let back = all_moved (AreLow least) (reverse rs) rs (IsPermutation-sym rs (reverse rs) (IsPermutation-reverse rs)) low in
       ReadsName.pieces rs some (read_again 44 (ReadsRelative one) (AreLow least) (ReadsRelative other) relative_again h back)
 
--- The types in a name
+-- The types of the attributes in a name.
 
 abbrev types_of : PlainName → List (List ℕ)
 types_of n = map type_of (all_of n)

@@ -1,4 +1,4 @@
--- What contracts see of a DirectoryString.
+-- The abstract value and the text of a DirectoryString.
 use Rattle.std.specs.Prelude.{ℕ, List, [], string_bytes, encode_utf8_all, Result, Ok, Err}
 use Rattle.std.proofs.Common.{inl, inr}
 use Rattle.der_core.specs.ErrorTypes.ErrorKind.{ErrorKind}
@@ -14,27 +14,28 @@ use Rattle.x509_cert_names.specs.Names.{directory_string}
 use Rattle.x509_cert_names.specs.declared.directory_string.DirectoryString.{DirectoryString}
 use Rattle.x509_cert_names.specs.declared.directory_string.DirectoryString.TheVariants as strings
 
+-- The abstract value of a DirectoryString.
 abbrev pub directory_plain : DirectoryString → Value directory_string
 directory_plain (strings.PrintableString t) = inl t
 directory_plain (strings.TeletexString t) = inr (inl t)
 directory_plain (strings.Utf8String t) = inr (inr (inl (string_bytes t)))
 directory_plain (strings.BmpString t) = inr (inr (inr t))
 
--- the bytes of the text of a DirectoryString, where they are those of UTF-8
+-- The bytes of the text, or none for a BMPString, which isn't stored in UTF-8.
 abbrev pub directory_text : DirectoryString → List ℕ
 directory_text (strings.PrintableString t) = t
 directory_text (strings.TeletexString t) = t
 directory_text (strings.Utf8String t) = string_bytes t
 directory_text (strings.BmpString t) = []
 
--- the text of a DirectoryString, in UTF-8
+-- The bytes of the text in UTF-8.
 abbrev pub directory_utf8 : DirectoryString → List ℕ
 directory_utf8 (strings.PrintableString t) = t
 directory_utf8 (strings.TeletexString t) = t
 directory_utf8 (strings.Utf8String t) = string_bytes t
 directory_utf8 (strings.BmpString t) = encode_utf8_all t
 
--- what any value reads as, by its tag
+-- The result of decoding a value as a DirectoryString, by its tag.
 abbrev pub directory_as : Tag → AnyValue → Result (Value directory_string) ErrorKind
 directory_as tags.PrintableString a = content_as tags.PrintableString (leaf (text printable)) a
     >>= λ t. Ok (inl t)
@@ -46,6 +47,6 @@ directory_as tags.BmpString a = content_as tags.BmpString (leaf bmp) a
     >>= λ t. Ok (inr (inr (inr t)))
 directory_as _ a = Err kinds.TagUnexpected
 
--- the DirectoryString that any value is, or the error
+-- The result of decoding a value as a DirectoryString.
 abbrev pub directory_from : AnyValue → Result (Value directory_string) ErrorKind
 directory_from a = directory_as a.tag a

@@ -1,4 +1,4 @@
--- Names as texts (RFC 4514 2, 3). What reads one takes the bound of arcs.
+-- The string form of names (RFC 4514 2, 3). Parsing depends on a bound on the arcs of OIDs.
 use Rattle.std.specs.Prelude.{◌≡◌, ◌≢◌, ℕ, List, [], ◌∷◌, ◌++◌, reverse, Some, None, false}
 use Rattle.std.specs.Prelude.{Result, Ok, Err, IsPermutation}
 use Rattle.std.specs.List.{IsDistinct, flat_map}
@@ -15,8 +15,7 @@ use Rattle.x509_cert_names.specs.Pairs.{pair_plain, same_pair}
 use Rattle.x509_cert_names.specs.ValueTexts.{ReadsValue, attribute_printed}
 use Rattle.x509_cert_names.specs.declared.attribute_type_and_value.AttributeTypeAndValue.{AttributeTypeAndValue}
 
--- What the text of an attribute is read as (RFC 4514 3, attributeTypeAndValue): a key, the first =,
--- and a value.
+-- Parsing an attribute (RFC 4514 3, `attributeTypeAndValue`): a key, the first =, and a value.
 pub data ReadsAttribute (bound : ℕ) (text : List ℕ) : Result AttributeTypeAndValue ErrorKind
     → Type 0 where
   member : (key rest : List ℕ) (a : AttributeTypeAndValue) → key_and_value text ≡ Some (key, rest)
@@ -29,8 +28,9 @@ pub data ReadsAttribute (bound : ℕ) (text : List ℕ) : Result AttributeTypeAn
       → key_arcs bound key ≡ Ok arcs → ReadsValue arcs rest (Err e)
       → ReadsAttribute bound text (Err e)
 
--- Attributes between +, each of which has an encoding and none stands twice, in the order of their
--- encodings.
+-- Parsing an RDN (RFC 4514 3, `relativeDistinguishedName`): attributes between +. They are sorted
+-- by encoding; each must have an encoding, and no two may be equal. If both conditions fail, either
+-- error may be returned.
 pub data ReadsRelative (bound : ℕ) (text : List ℕ) : Result (List AttributeTypeAndValue) ErrorKind
     → Type 0 where
   set : (members attributes : List AttributeTypeAndValue)
@@ -48,7 +48,8 @@ pub data ReadsRelative (bound : ℕ) (text : List ℕ) : Result (List AttributeT
       → (AllValid (type_and_value bound) pair_plain members → ⊥)
       → ReadsRelative bound text (Err kinds.Overflow)
 
--- RDNs between commas, the last one first. The empty text is the empty name.
+-- Parsing a name (RFC 4514 3, `distinguishedName`): RDNs between commas, the last one first. The
+-- empty text is the empty name.
 pub data ReadsName (bound : ℕ) (text : List ℕ) : Result (List (List AttributeTypeAndValue))
     ErrorKind → Type 0 where
   empty : text ≡ [] → ReadsName bound text (Ok [])
@@ -58,25 +59,25 @@ pub data ReadsName (bound : ℕ) (text : List ℕ) : Result (List (List Attribut
   refused : (e : ErrorKind) → text ≢ [] → ReadsPieces 44 (ReadsRelative bound) text (Err e)
       → ReadsName bound text (Err e)
 
--- a value as it is printed after a separator
+-- A separator and the printed value after it.
 abbrev pub printed_behind : {A : Type 0} → ℕ → (A → List ℕ) → A → List ℕ
 printed_behind separator print a = separator ∷ print a
 
--- values as they are printed, with a separator between them
+-- Printed values with a separator between them.
 abbrev pub joined_by : {A : Type 0} → ℕ → (A → List ℕ) → List A → List ℕ
 joined_by separator print [] = []
 joined_by separator print (a ∷ rest) = print a ++ flat_map (printed_behind separator print) rest
 
--- an RDN as it is printed: its attributes between +
+-- A printed RDN (RFC 4514 2.2): its attributes with + between them.
 abbrev pub relative_printed : List AttributeTypeAndValue → List ℕ
 relative_printed r = joined_by 43 attribute_printed r
 
--- a name as it is printed: its RDNs between commas, the last one first
+-- A printed name (RFC 4514 2.1): its RDNs with commas between them, the last one first.
 abbrev pub name_printed : List (List AttributeTypeAndValue) → List ℕ
 name_printed n = joined_by 44 relative_printed (reverse n)
 
--- The encoding of what a text is read as: the bytes of its value, or why it isn't read or isn't
--- written.
+-- Parsing a text and encoding the value: the bytes of the encoding, the error of the parser, or the
+-- error of the encoder.
 pub data ReadsEncoding {A : Type 0} (s : Shape) (plain : A → Value s) (Reads : Result A ErrorKind
     → Type 0) : Result (List ℕ) ErrorKind → Type 0 where
   written : (a : A) → Reads (Ok a) → ReadsEncoding s plain Reads (Ok (octets_of s (plain a)))

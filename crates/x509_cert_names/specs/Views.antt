@@ -1,4 +1,4 @@
--- What contracts see of the types: the plain values of their shapes.
+-- The abstract value of each type of this crate, as a value of its shape in `Names`.
 use Rattle.std.specs.Prelude.{List, ◌++◌, flat_map}
 use Rattle.der_core.specs.Grammar.{plain_list}
 use Rattle.x509_cert_names.specs.Names.{PlainAttribute, PlainName}
@@ -18,6 +18,6 @@ sequence_plain s = plain_list relative_plain s.relative_names.items
 abbrev pub name_plain : Name → PlainName
 name_plain n = sequence_plain n.rdn_sequence
 
--- the attributes that an iterator has yet to give
+-- The attributes that an iterator hasn't yielded yet.
 abbrev pub attributes_left : NameIter → List AttributeTypeAndValue
 attributes_left it = it.attributes.now ++ flat_map (λ r. r) it.left.now

@@ -1,4 +1,4 @@
-//! Attribute.
+//! The type `Attribute` and sets of attributes.
 
 ghost use Rattle.std.specs.Prelude.{refl};
 ghost use Rattle.der_core.specs.Oid.Bound.{Bound};
@@ -12,20 +12,20 @@ use der_core::describing::{AsRecord, Described, FieldsView, RowUser, Rows};
 use der_core::{DecodeFields, Error, InRangeValue, Reader, StrictSetOf, lend, read_row};
 use std::alloc::{AllocError, Global};
 
-/// An attribute with any number of values (RFC 5280 appendix A.1), all of them different.
+/// An attribute: a type and a set of different values (RFC 5280 appendix A.1).
 ///
 /// ```text
 /// Attribute ::= SEQUENCE { type AttributeType, values SET OF AttributeValue }
 /// ```
 #[derive(Debug, Drop, PartialEq, Eq)]
 pub struct Attribute {
-    /// The type.
+    /// The type of the attribute.
     pub oid: AttributeType,
-    /// The values, in the order of their encodings.
+    /// The values, in ascending order of their encodings.
     pub values: StrictSetOf<AttributeValue>,
 }
 
-/// Attributes, all of them different (RFC 2986 4).
+/// A set of different attributes (RFC 2986 4).
 ///
 /// ```text
 /// Attributes ::= SET OF Attribute
@@ -37,7 +37,7 @@ impl Attribute {
     ///
     /// # Errors
     ///
-    /// Fails if memory runs out.
+    /// - `AllocError`: memory runs out.
     pub fn clone(&self, alloc: Global) -> Result<Attribute, AllocError>
         ensures { IsCopy self.now result attribute_plain }
     {

@@ -1,4 +1,4 @@
-//! The attributes of an RDN. A single one is kept in place.
+//! The set of attributes in an RDN. A single attribute is stored inline, without an allocation.
 
 ghost use Rattle.std.specs.Prelude.{◌≡◌, ◌≤◌, [], ◌∷◌, length, IfOk, OnOk, OnErr, insert};
 ghost use Rattle.der_core.specs.Oid.Bound.{Bound};
@@ -17,17 +17,17 @@ use std::cmp::Ordering;
 use std::fmt;
 use std::marker::Model;
 
-/// The attributes of an RDN (RFC 5280 4.1.2.4). A single one needs no list. They are encoded only
-/// if their encodings ascend (X.690 11.6).
+/// The attributes of an RDN (RFC 5280 4.1.2.4). A single attribute is stored inline. The set has an
+/// encoding only if the encodings of its attributes ascend (X.690 11.6).
 ///
-/// Contracts see the list of the attributes.
+/// In contracts, its value is the list of the attributes.
 #[derive(Drop)]
 pub struct AttributeSet {
     store: Store,
     alloc: Global,
 }
 
-/// The storage of the attributes: a single one in place, or any number in a list.
+/// The storage: a single attribute inline, or any number of attributes in a list.
 #[derive(Drop)]
 enum Store {
     One(AttributeTypeAndValue),
@@ -45,7 +45,8 @@ impl Model for AttributeSet {
 }
 
 impl AttributeSet {
-    /// Returns the attributes of a list, which keeps its memory.
+    /// Returns the set with the attributes of this list, in the same order. It reuses the list's
+    /// memory.
     pub(crate) fn of(values: Vec<AttributeTypeAndValue>) -> AttributeSet
         ensures { result ≡ values.items }
     {
@@ -55,7 +56,7 @@ impl AttributeSet {
         }
     }
 
-    /// Returns a single attribute.
+    /// Returns the set with a single attribute. It doesn't allocate.
     pub(crate) fn one(alloc: Global, attribute: AttributeTypeAndValue) -> AttributeSet
         ensures { result ≡ attribute ∷ [] }
     {
@@ -65,7 +66,7 @@ impl AttributeSet {
         }
     }
 
-    /// Returns the attributes.
+    /// Returns the attributes as a slice.
     #[inline]
     pub fn as_slice(&self) -> &[AttributeTypeAndValue]
         ensures { result.now ≡ self.now }
@@ -76,16 +77,16 @@ impl AttributeSet {
         }
     }
 
-    /// Returns the allocator for copies.
+    /// Returns the allocator that copies are made with.
     pub(crate) fn allocator(&self) -> &Global {
         &self.alloc
     }
 
-    /// Inserts an attribute.
+    /// Inserts an attribute at an index.
     ///
     /// # Errors
     ///
-    /// Fails if memory runs out. The attributes are then as they were.
+    /// - `AllocError`: memory runs out. The set is unchanged.
     pub(crate) fn insert(
         &mut self,
         place: usize,
@@ -105,11 +106,12 @@ impl AttributeSet {
         Ok(())
     }
 
-    /// Returns the attributes as a list.
+    /// Returns the attributes as a list. It allocates only for a single attribute, which is stored
+    /// inline.
     ///
     /// # Errors
     ///
-    /// Fails if memory runs out, for a single attribute that was kept in place.
+    /// - `AllocError`: memory runs out.
     pub fn into_vec(self) -> Result<Vec<AttributeTypeAndValue>, AllocError>
         ensures { IfOk result (λ v. v.items ≡ self) }
     {
@@ -167,7 +169,7 @@ impl ValueOrd for AttributeSet {
     }
 }
 
-/// The attributes, as a slice of them is shown.
+/// Formats the attributes as a slice.
 impl fmt::Debug for AttributeSet {
     fn fmt<W: fmt::Write>(&self, f: &mut fmt::Formatter<W>) -> fmt::Result {
         fmt::Debug::fmt(self.as_slice(), f)

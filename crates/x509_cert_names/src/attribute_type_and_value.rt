@@ -1,4 +1,5 @@
-//! AttributeTypeAndValue, and attributes that are reported by one look at their headers.
+//! The type `AttributeTypeAndValue`, its string form, and a fast path for attributes whose headers
+//! have two bytes each.
 
 ghost use Rattle.std.specs.Prelude.{◌≡◌, ◌∷◌, ◌++◌, refl, Ok, IfOk, chars, IfSome};
 ghost use Rattle.std.specs.Fmt.{WritesOnOk};
@@ -43,16 +44,17 @@ pub type AttributeType = ObjectIdentifier<39>;
 /// ```
 pub type AttributeValue = Any;
 
-/// An attribute with one value (RFC 5280 appendix A.1). In the order the type is compared first.
+/// An attribute with one value (RFC 5280 appendix A.1). Attributes are ordered by their types
+/// first.
 ///
 /// ```text
 /// AttributeTypeAndValue ::= SEQUENCE { type AttributeType, value AttributeValue }
 /// ```
 #[derive(Debug, Drop, PartialEq, Eq, PartialOrd, Ord, Hash)]
 pub struct AttributeTypeAndValue {
-    /// The type.
+    /// The type of the attribute.
     pub oid: AttributeType,
-    /// The value, as it is.
+    /// The value, undecoded: its tag and content.
     pub value: AttributeValue,
 }
 
@@ -88,17 +90,21 @@ impl InRangeValue for AttributeTypeAndValue {
 }
 
 impl AttributeTypeAndValue {
-    /// Parses an attribute (RFC 4514 2.3, 3): a key, the first `=`, and a value. The key is the
-    /// name of a type, in either case, or a dotted OID. The value is `#` and the hex of an
-    /// encoding, or a text with escapes. The text becomes the content of a PrintableString for a
-    /// country or a serial number, of an IA5String for a domain component or an e-mail address, and
-    /// of a UTF8String for any other type. Its characters aren't checked.
+    /// Parses an attribute in the string form of RFC 4514 2.3 and 3: a key, the first `=`, and a
+    /// value.
+    ///
+    /// The key is the name of a type, in either case, or an OID in dotted form.
+    ///
+    /// The value is `#` and the hexadecimal digits of an encoding, or a text with escapes. Such a
+    /// text becomes the content of a PrintableString for a country or a serial number, of an
+    /// IA5String for a domain component or an e-mail address, and of a UTF8String for any other
+    /// type. The call doesn't check that the characters belong to the string type.
     ///
     /// # Errors
     ///
-    /// - `Failed`: there is no `=`, or an escape or the hex is invalid.
+    /// - `Failed`: there is no `=`, or an escape or the hexadecimal digits are invalid.
     /// - `OidMalformed`: the key is neither a name nor an OID.
-    /// - The errors of `from_der` for the encoding.
+    /// - The errors of `from_der` for the encoding after `#`.
     /// - `Overflow`: the content has 2^32 bytes or more.
     /// - `OutOfMemory`: memory runs out.
     pub fn from_str(alloc: Global, text: &str) -> Result<AttributeTypeAndValue, Error>
@@ -114,7 +120,7 @@ impl AttributeTypeAndValue {
         }
     }
 
-    /// Parses an attribute as `from_str` does, and returns its encoding.
+    /// Parses an attribute as `from_str` does and returns its encoding.
     ///
     /// # Errors
     ///
@@ -132,7 +138,7 @@ impl AttributeTypeAndValue {
     ///
     /// # Errors
     ///
-    /// Fails if memory runs out.
+    /// - `AllocError`: memory runs out.
     pub fn clone(&self, alloc: Global) -> Result<AttributeTypeAndValue, AllocError>
         ensures { IfOk result (λ a. a ≡ self.now) }
     {
@@ -142,7 +148,8 @@ impl AttributeTypeAndValue {
         })
     }
 
-    /// Returns the length of the encoding. If each of the four headers has two bytes, it is a sum.
+    /// Returns the length of the encoding. If each of its four headers has two bytes, the length is
+    /// computed without encoding them.
     ///
     /// # Errors
     ///
@@ -160,8 +167,8 @@ impl AttributeTypeAndValue {
         Ok(Length::new(inside as u32 + 2))
     }
 
-    /// Encodes the attribute. If each of the four headers has two bytes, they are written two at a
-    /// time.
+    /// Encodes the attribute. If each of its four headers has two bytes, they are written without
+    /// the general encoder.
     ///
     /// # Errors
     ///
@@ -191,7 +198,7 @@ impl AttributeTypeAndValue {
 /// # Errors
 ///
 /// - The errors of the writer.
-// Inlined, so that a known number of bytes is copied without a call.
+// Inlined, so that slices of known length are copied without a call.
 #[inline(always)]
 #[tactic(auto, using(crate::proofs::Cited::refused_adds))]
 fn write_four<W: Writer>(
@@ -222,9 +229,11 @@ impl FromText for AttributeTypeAndValue {
     }
 }
 
-/// Prints the shortest name of the type in capitals, `=`, and the text with escapes, if the type
-/// has a name and the value is a text. Otherwise prints the dotted type, `=#`, and the encoding of
-/// the value in hex (RFC 4514 2.3, 2.4).
+/// Writes the attribute in the string form of RFC 4514 2.3 and 2.4.
+///
+/// If the type has a name and the value is a text, this is the shortest name in capitals, `=`, and
+/// the text with escapes. Otherwise it is the dotted OID, `=#`, and the encoding of the value in
+/// hexadecimal.
 impl fmt::Display for AttributeTypeAndValue {
     ghost use Rattle.std.specs.Prelude.{Some};
     ghost use Rattle.x509_cert_names.specs.ValueTexts.{attribute_printed};
@@ -239,7 +248,7 @@ impl fmt::Display for AttributeTypeAndValue {
     }
 }
 
-/// Writes a name and a text.
+/// Writes a name of a type, `=`, and a text with escapes.
 fn write_text<W: fmt::Write>(key: &str, text: &str, f: &mut fmt::Formatter<W>) -> fmt::Result
     ensures { WritesOnOk W.write_str_gives f.old result (key.now ++ 61 ∷ escaped (chars text.now))
         f.new }
@@ -248,7 +257,7 @@ fn write_text<W: fmt::Write>(key: &str, text: &str, f: &mut fmt::Formatter<W>) -
     write_escaped(text, f)
 }
 
-/// Writes a dotted type, and the encoding of a value in hex.
+/// Writes a dotted OID, `=#`, and the encoding of a value in hexadecimal.
 fn write_hex_value<W: fmt::Write>(
     oid: &AttributeType,
     value: &AttributeValue,
@@ -273,9 +282,9 @@ impl Clone for AttributeTypeAndValue {
     }
 }
 
-/// Returns the attribute that the bytes encode, if each of its four headers has two bytes. `None`
-/// says nothing about the bytes: headers may be longer, or memory may have run out.
-// Inlined, so that the attribute is made where it is kept.
+/// Decodes an attribute whose four headers have two bytes each. Returns `None` if a header is
+/// longer or memory runs out; the general decoder then decides.
+// Inlined, so that the attribute is built at its final address.
 #[inline(always)]
 pub(crate) fn plain_attribute(alloc: Global, octets: &[u8]) -> Option<AttributeTypeAndValue>
     ensures { IfSome result (λ a. Spells (type_and_value Bound) (pair_plain a) octets.now) }
@@ -294,9 +303,9 @@ pub(crate) fn plain_attribute(alloc: Global, octets: &[u8]) -> Option<AttributeT
     }
 }
 
-/// Returns the type of an attribute, and the tag and the content of its value, if each of its
-/// headers has two bytes.
-// Inlined, so that nothing is passed on.
+/// Returns the content of an attribute's type, and the tag and the content of its value, if each of
+/// the headers has two bytes.
+// Inlined, so that the parts aren't passed through memory.
 #[inline(always)]
 fn plain_parts(octets: &[u8]) -> Option<(&[u8], Tag, &[u8])>
     ensures { IfSome result (λ p. IsPlain p.0.now p.1 p.2.now octets.now) }

@@ -1,5 +1,3 @@
-//! DirectoryString.
-
 ghost use Rattle.std.specs.Prelude.{◌≡◌, [], refl, IfOk, string_bytes};
 ghost use Rattle.std.specs.Cow.{cow_str_bytes};
 ghost use Rattle.der_core.specs.Copies.{IsCopy};
@@ -18,7 +16,8 @@ use std::alloc::{AllocError, Global};
 use std::borrow::CowStr;
 use std::cmp::Ordering;
 
-/// A text in a name (RFC 5280 4.1.2.4, appendix A.1). UniversalString isn't supported.
+/// The string type of most attribute values in names (RFC 5280 4.1.2.4, appendix A.1).
+/// UniversalString isn't supported.
 ///
 /// ```text
 /// DirectoryString ::= CHOICE {
@@ -29,13 +28,13 @@ use std::cmp::Ordering;
 /// ```
 #[derive(Debug, Drop, PartialEq, Eq)]
 pub enum DirectoryString {
-    /// Letters, digits, blanks and a few signs (X.680 41.4).
+    /// Letters, digits, spaces and a few punctuation marks (X.680 41.4).
     PrintableString(PrintableString),
-    /// Bytes below 128.
+    /// ASCII characters.
     TeletexString(TeletexString),
-    /// Any text. RFC 5280 requires this type or PrintableString in new certificates.
+    /// Any Unicode text. RFC 5280 requires this type or PrintableString in new certificates.
     Utf8String(String),
-    /// Characters of two bytes each.
+    /// Characters of the Basic Multilingual Plane, two bytes each.
     BmpString(BmpString),
 }
 
@@ -95,7 +94,7 @@ impl AsRead for DirectoryString {
     ghost as_read = { λ _. refl };
 }
 
-/// The tags, then the contents.
+/// Compares the tags first, then the contents.
 impl DerOrd for DirectoryString {
     fn der_cmp(&self, other: &Self) -> Result<Ordering, Error> {
         self.cases().der_cmp(&other.cases())
@@ -109,7 +108,8 @@ impl FirstTag for DirectoryString {
 }
 
 impl DirectoryString {
-    /// Returns the text, borrowed as a choice.
+    /// Returns the value as a choice of references, which has the encoding and ordering of a
+    /// CHOICE.
     fn cases<'a>(&'a self) -> CasesRef<'a>
         ensures { ⟦<CasesRef<'a> as Shaped>⟧.written result ≡ directory_plain self.now }
     {
@@ -121,7 +121,7 @@ impl DirectoryString {
         }
     }
 
-    /// Returns the text, or the empty one for a BMPString.
+    /// Returns the text, or the empty text for a BMPString.
     pub fn as_str(&self) -> &str
         ensures { result.now ≡ directory_text self.now }
     {
@@ -133,11 +133,12 @@ impl DirectoryString {
         }
     }
 
-    /// Returns the text. It is borrowed, except for a BMPString, which is converted.
+    /// Returns the text. A BMPString is converted to UTF-8, which allocates; any other text is
+    /// borrowed.
     ///
     /// # Errors
     ///
-    /// Fails if memory runs out, for a BMPString.
+    /// - `AllocError`: memory runs out while a BMPString is converted.
     pub fn value(&self, alloc: Global) -> Result<CowStr<'_>, AllocError>
         ensures { IfOk result (λ t. cow_str_bytes t ≡ directory_utf8 self.now) }
     {
@@ -149,11 +150,11 @@ impl DirectoryString {
         }
     }
 
-    /// Returns the text. A BMPString is converted.
+    /// Converts the value to its text. A BMPString is converted to UTF-8, which allocates.
     ///
     /// # Errors
     ///
-    /// Fails if memory runs out, for a BMPString.
+    /// - `AllocError`: memory runs out while a BMPString is converted.
     pub fn into_string(self, alloc: Global) -> Result<String, AllocError>
         ensures { IfOk result (λ s. string_bytes s ≡ directory_utf8 self) }
     {
@@ -169,7 +170,7 @@ impl DirectoryString {
     ///
     /// # Errors
     ///
-    /// Fails if memory runs out.
+    /// - `AllocError`: memory runs out.
     pub fn clone(&self, alloc: Global) -> Result<DirectoryString, AllocError>
         ensures { IsCopy self.now result directory_plain }
     {
@@ -182,11 +183,11 @@ impl DirectoryString {
     }
 }
 
-/// Converts any value to a text.
+/// Decodes the text of an attribute value.
 ///
 /// # Errors
 ///
-/// - `TagUnexpected`: the tag isn't one of the four.
+/// - `TagUnexpected`: the value has none of the four tags.
 /// - The first error of the content.
 /// - `OutOfMemory`: memory runs out.
 impl<'a> FromAny<'a> for DirectoryString {

@@ -1,5 +1,5 @@
-//! Values that any value can be read as: most of them are borrowed, and all but sets don't
-//! allocate.
+//! The types that attribute values can be decoded as. Most of them borrow from the value, and all
+//! except sets of values are decoded without an allocation.
 
 ghost use Rattle.std.specs.Prelude.{Ok, pos};
 ghost use Rattle.der_core.specs.Oid.Bound.{Bound, max_size};
@@ -27,27 +27,27 @@ use der_types::{
 };
 use std::alloc::Global;
 
-/// A type that the value of an attribute can be read as.
+/// A type that an attribute value can be decoded as, for example by `Name::by_oid`.
 pub trait FromAny<'a>: Sized {
     ghost use Rattle.std.specs.Prelude.{Result};
     ghost use Rattle.der_core.specs.ErrorTypes.Error.{Error};
     ghost use Rattle.der_core.specs.Shapes.{AnyValue};
 
-    // The possible results for a value.
+    // The relation between a value and what decoding returns.
     ghost any_gives: { AnyValue → Result Self Error → Type 0 };
 
     /// Decodes the value as this type.
     ///
     /// # Errors
     ///
-    /// - `TagUnexpected`: the tag is another one.
+    /// - `TagUnexpected`: the value has the tag of another type.
     /// - The first error of the content.
     /// - `OutOfMemory`: memory runs out.
     fn from_any(alloc: Global, any: &'a Any) -> Result<Self, Error>
         ensures { any_gives any.now result };
 }
 
-/// A text of a character string type whose characters are ASCII.
+/// Decodes a string whose characters are ASCII, such as a PrintableString or an IA5String.
 impl<'a, T: AsciiType> FromAny<'a> for AsciiStringRef<'a, T> {
     ghost any_gives = { λ a r. GivesNow (λ t. t.text.now) r
         (leaf_as T.string_tag (text T.repertoire) a) };
@@ -57,7 +57,7 @@ impl<'a, T: AsciiType> FromAny<'a> for AsciiStringRef<'a, T> {
     }
 }
 
-/// The value itself, borrowed.
+/// Borrows the value itself, whatever its type is.
 impl<'a> FromAny<'a> for AnyRef<'a> {
     ghost any_gives = { λ a r. GivesNow any_lent r (Ok a) };
 
@@ -66,7 +66,7 @@ impl<'a> FromAny<'a> for AnyRef<'a> {
     }
 }
 
-/// The text of a UTF8String.
+/// Decodes the text of a UTF8String.
 impl<'a> FromAny<'a> for &'a str {
     ghost any_gives = { λ a r. GivesNow (λ s. s.now) r (leaf_as tags.Utf8String utf8 a) };
 
@@ -75,7 +75,7 @@ impl<'a> FromAny<'a> for &'a str {
     }
 }
 
-/// The text of a UTF8String.
+/// Decodes the text of a UTF8String.
 impl<'a> FromAny<'a> for Utf8StringRef<'a> {
     ghost any_gives = { λ a r. GivesNow (λ t. t.text.now) r (leaf_as tags.Utf8String utf8 a) };
 
@@ -84,7 +84,7 @@ impl<'a> FromAny<'a> for Utf8StringRef<'a> {
     }
 }
 
-/// The bytes of a GeneralString.
+/// Decodes the bytes of a GeneralString.
 impl<'a> FromAny<'a> for GeneralStringRef<'a> {
     ghost any_gives = { λ a r. GivesNow (λ s. s.bytes.now) r
         (leaf_as tags.GeneralString (text any_octet) a) };
@@ -94,7 +94,7 @@ impl<'a> FromAny<'a> for GeneralStringRef<'a> {
     }
 }
 
-/// The bits of a BIT STRING.
+/// Decodes the bits of a BIT STRING.
 impl<'a> FromAny<'a> for BitStringRef<'a> {
     ghost any_gives = { λ a r. GivesNow bits_lent r (leaf_as tags.BitString bits a) };
 
@@ -103,7 +103,7 @@ impl<'a> FromAny<'a> for BitStringRef<'a> {
     }
 }
 
-/// The bytes of an OCTET STRING.
+/// Decodes the bytes of an OCTET STRING.
 impl<'a> FromAny<'a> for OctetStringRef<'a> {
     ghost any_gives = { λ a r. GivesNow octets_lent r (leaf_as tags.OctetString octets a) };
 
@@ -112,7 +112,7 @@ impl<'a> FromAny<'a> for OctetStringRef<'a> {
     }
 }
 
-/// The content of a SEQUENCE.
+/// Decodes the content of a SEQUENCE, without its fields.
 impl<'a> FromAny<'a> for SequenceRef<'a> {
     ghost any_gives = { λ a r. GivesNow fields_lent r (leaf_as tags.Sequence octets a) };
 
@@ -121,7 +121,7 @@ impl<'a> FromAny<'a> for SequenceRef<'a> {
     }
 }
 
-/// The members of a SET OF, none of which is below the one before it.
+/// Decodes the members of a SET OF, which must be in ascending order.
 impl<'a, T: Decode<'a, SliceReader<'a>> + Member> FromAny<'a> for SetOfRef<'a, T> {
     ghost any_gives = { λ a r. Gives (members_lent T.shape T.plain) r
         (content_as tags.Set (nested (ascending T.shape)) a) };
@@ -131,7 +131,7 @@ impl<'a, T: Decode<'a, SliceReader<'a>> + Member> FromAny<'a> for SetOfRef<'a, T
     }
 }
 
-/// The number of an INTEGER.
+/// Decodes an INTEGER of any size.
 impl<'a> FromAny<'a> for IntRef<'a> {
     ghost any_gives = { λ a r. GivesNow integer_lent r (leaf_as tags.Integer (integer every) a) };
 
@@ -140,7 +140,7 @@ impl<'a> FromAny<'a> for IntRef<'a> {
     }
 }
 
-/// The number of an INTEGER that isn't negative.
+/// Decodes an INTEGER of any size that isn't negative.
 impl<'a> FromAny<'a> for UintRef<'a> {
     ghost any_gives = { λ a r. GivesNow (λ n. pos (natural_lent n)) r
         (leaf_as tags.Integer (integer natural) a) };
@@ -150,7 +150,7 @@ impl<'a> FromAny<'a> for UintRef<'a> {
     }
 }
 
-/// The truth value of a BOOLEAN.
+/// Decodes a BOOLEAN.
 impl<'a> FromAny<'a> for bool {
     ghost any_gives = { λ a r. GivesNow (λ b. b) r (leaf_as tags.Boolean boolean a) };
 
@@ -159,7 +159,7 @@ impl<'a> FromAny<'a> for bool {
     }
 }
 
-/// The identifier of an OBJECT IDENTIFIER.
+/// Decodes an OBJECT IDENTIFIER.
 impl<'a> FromAny<'a> for ObjectIdentifier<39> {
     ghost any_gives = { λ a r. GivesNow (λ x. x) r
         (leaf_as tags.ObjectIdentifier (identifier Bound max_size) a) };
@@ -169,7 +169,7 @@ impl<'a> FromAny<'a> for ObjectIdentifier<39> {
     }
 }
 
-/// The time of a UTCTime.
+/// Decodes a UTCTime.
 impl<'a> FromAny<'a> for UtcTime {
     ghost any_gives = { λ a r. GivesNow (λ t. t) r (leaf_as tags.UtcTime utc_time a) };
 
@@ -178,7 +178,7 @@ impl<'a> FromAny<'a> for UtcTime {
     }
 }
 
-/// The time of a GeneralizedTime.
+/// Decodes a GeneralizedTime.
 impl<'a> FromAny<'a> for GeneralizedTime {
     ghost any_gives = { λ a r. GivesNow (λ t. t) r
         (leaf_as tags.GeneralizedTime generalized_time a) };
@@ -188,7 +188,7 @@ impl<'a> FromAny<'a> for GeneralizedTime {
     }
 }
 
-/// The date of a GeneralizedTime.
+/// Decodes the date and time of a GeneralizedTime.
 impl<'a> FromAny<'a> for DateTime {
     ghost any_gives = { λ a r. GivesNow (λ d. d) r
         (leaf_as tags.GeneralizedTime generalized_time a) };

@@ -1,4 +1,4 @@
-//! Laws about names and their texts, for every bound of arcs.
+//! Laws about names and their string form, for every bound on the arcs of OIDs.
 //!
 //! Each law is the contract of a function that does nothing.
 
@@ -20,8 +20,9 @@ ghost use Rattle.x509_cert_names.specs.Views.{name_plain};
 use crate::name::Name;
 use std::cmp::PartialEq;
 
-/// Bytes that encode a name under one bound of arcs encode it under a smaller bound exactly if the
-/// arcs of its attribute types are below that. Under a larger bound they decode to the same name.
+/// The encoding of a name under one bound on arcs is its encoding under a smaller bound exactly if
+/// the arcs of its attribute types are below the smaller bound. Under a larger bound it decodes to
+/// the same name.
 pub fn wider_bounds_keep_names()
     ensures exact { (small large : ℕ) (n : PlainName) (w : List ℕ) → 40 ≤ small → small ≤ large
         → Spells (name small) n w
@@ -30,9 +31,11 @@ pub fn wider_bounds_keep_names()
         → read_whole (name small) w ≡ Ok (n, []) → read_whole (name large) w ≡ Ok (n, []) }
 {}
 
-/// A text that parses to a name under one bound of arcs parses to the same name under a larger one,
-/// and the name has an encoding under both or under neither. The smaller bound allows each type
-/// that has a name: the greatest of their arcs is 19200300.
+/// A text that parses to a name under one bound on arcs parses to the same name under a larger
+/// bound. The name has an encoding under both bounds or under neither.
+///
+/// The smaller bound must exceed 19200300, which is the greatest arc in the OIDs of the types that
+/// have a name.
 pub fn wider_bounds_read_name_texts_alike()
     ensures same { (small large : ℕ) (text : List ℕ) (n : PlainName) → 19200300 < small
         → small ≤ large → SpellsName small text n → SpellsName large text n }
@@ -41,9 +44,11 @@ pub fn wider_bounds_read_name_texts_alike()
         → (IsValid (name small) n ↔ IsValid (name large) n) }
 {}
 
-/// A text that parses to a name under a larger bound of arcs parses to it under a smaller one
-/// exactly if the arcs of its attribute types are below that. So a text that is accepted only under
-/// the larger bound has a type with an arc that isn't below the smaller one.
+/// A text that parses to a name under a larger bound on arcs parses to it under a smaller bound
+/// exactly if the arcs of its attribute types are below the smaller bound.
+///
+/// So a text that is accepted only under the larger bound contains a type with an arc that isn't
+/// below the smaller one.
 pub fn newly_read_name_texts_hold_a_large_arc()
     ensures exact { (small large : ℕ) (text : List ℕ) (n : PlainName) → 19200300 < small
         → small ≤ large → SpellsName small text n
@@ -61,18 +66,21 @@ pub fn texts_are_read_as_one_name()
         → SpellsName bound text n → ReadsName bound text (Err e) → ⊥ }
 {}
 
-/// A text means the bytes of at most one value. What is printed for the text of a value means that
-/// text, and is a string of RFC 4514.
+/// The string form of a value represents the bytes of at most one value. The string form that is
+/// printed for a text represents that text, and keeps the restrictions of `string` in RFC 4514 3.
 pub fn printed_values_are_strings()
     ensures one { (text v w : List ℕ) → StandsFor text v → StandsFor text w → v ≡ w }
     ensures stands { (w : List ℕ) → IsUtf8 w → StandsFor (escaped (chars w)) w }
     ensures string { (w : List ℕ) → IsString (escaped (chars w)) }
 {}
 
-/// What is printed for a name parses again. An attribute that is printed as a text parses to that
-/// text with the tag for its type, and any other attribute parses to itself. So a name whose
-/// attributes are as parsing makes them parses to itself. The law doesn't cover names with an empty
-/// RDN, because an empty RDN isn't printed.
+/// The printed form of a name parses again.
+///
+/// An attribute that is printed as a text parses to that text with the tag for its type, and any
+/// other attribute parses to itself. So a name whose attributes are as the parser builds them
+/// parses to itself.
+///
+/// The law doesn't cover names with an empty RDN, because an empty RDN isn't printed.
 pub fn printed_names_are_read()
     ensures alike { (bound : ℕ) (n m : PlainName) → 40 ≤ bound → IsValid (name bound) m
         → IsReadBack n m → SpellsName bound (name_text n) m }
@@ -87,7 +95,7 @@ pub fn texts_identify_names()
         → IsValid (name bound) m → IsAsRead n → IsAsRead m → name_text n ≡ name_text m → n ≡ m }
 {}
 
-/// `==` of names is of their plain values.
+/// `==` of names is of their abstract values.
 #[tactic(auto, using(der_core::proofs::ValueEquality::all_alike, crate::proofs::SameOctets::names))]
 pub fn equality_of_names_is_of_values()
     ensures { IsOfValues ⟦<Name as PartialEq>⟧.eq name_plain (name_octets Bound) }

@@ -1,5 +1,5 @@
-//! Names of X.509 and the attributes in them (RFC 5280 4.1.2.4, appendix A.1), and their texts (RFC
-//! 4514).
+//! X.501 names and the attributes in them (RFC 5280 4.1.2.4, appendix A.1), and their string form
+//! (RFC 4514).
 #![tactic(auto)]
 
 mod attribute;

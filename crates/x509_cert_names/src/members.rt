@@ -1,4 +1,4 @@
-//! Lists of members that ascend by their encodings.
+//! Decoding, sorting and copying the members of a SET OF.
 
 ghost use Rattle.std.specs.Prelude.{◌≡◌, IfOk, IfErr, IsPermutation};
 ghost use Rattle.der_core.specs.Grammar.{plain_list, value_at};
@@ -10,8 +10,7 @@ use der_core::{AsRead, Decode, DerOrd, Error, Header, Member, Reader};
 use der_types::SetOfVec;
 use std::alloc::{AllocError, Global};
 
-/// Decodes the members of a content, whose encodings must ascend (X.690 11.6), and returns them in
-/// that order.
+/// Decodes the members of a SET OF from its content. Their encodings must ascend (X.690 11.6).
 ///
 /// # Errors
 ///
@@ -32,13 +31,11 @@ pub(crate) fn decode_members<'a, R: Reader<'a>, T: Decode<'a, R> + DerOrd + Memb
     Ok(set.into_vec())
 }
 
-/// Returns the members in ascending order.
+/// Sorts the members in ascending order of their encodings, without an allocation.
 ///
 /// # Errors
 ///
-/// - `Overflow`: an encoding has 2^32 bytes or more.
-///
-/// It doesn't allocate.
+/// - `Overflow`: a member has no encoding, for example because its length exceeds 2^32 - 1.
 pub(crate) fn arrange<T: DerOrd + Member + Drop>(members: Vec<T>) -> Result<Vec<T>, Error>
     ensures same { IfOk result (λ v. IsPermutation members.items v.items) }
     ensures ascend { IfOk result (λ v. Ascends T.shape T.written v.items) }
@@ -48,11 +45,11 @@ pub(crate) fn arrange<T: DerOrd + Member + Drop>(members: Vec<T>) -> Result<Vec<
     Ok(set.into_vec())
 }
 
-/// Returns a copy of a list, for a type whose copies are equal.
+/// Returns a copy of a list whose members equal their clones.
 ///
 /// # Errors
 ///
-/// Fails if memory runs out.
+/// - `AllocError`: memory runs out.
 pub(crate) fn copy_of<T: Clone + Drop>(alloc: Global, members: &[T]) -> Result<Vec<T>, AllocError>
     requires { (x y : T) → T.is_clone x y → y ≡ x }
     ensures { IfOk result (λ v. v.items ≡ members.now) }

@@ -1,4 +1,4 @@
-//! Name, and whether names have one another's bytes.
+//! The type `Name`, its getters, and the comparison of names by encoding.
 
 ghost use Rattle.std.specs.Prelude.{◌≡◌, ◌==◌, [], length, refl, IfErr, option_copied, true};
 ghost use Rattle.std.specs.Prelude.{IsTrue};
@@ -51,7 +51,9 @@ pub struct Name {
 }
 
 impl Name {
-    /// Parses a name (RFC 4514), as `RdnSequence::from_str` does.
+    /// Parses a name in its string form (RFC 4514), as `RdnSequence::from_str` does.
+    ///
+    /// # Examples
     ///
     /// As in `crates/example_build_certificates/src/main.rt`:
     ///
@@ -74,7 +76,7 @@ impl Name {
     ///
     /// # Errors
     ///
-    /// Fails if memory runs out.
+    /// - `AllocError`: memory runs out.
     pub fn clone(&self, alloc: Global) -> Result<Name, AllocError>
         ensures { IsCopy self.now result name_plain }
     {
@@ -83,7 +85,7 @@ impl Name {
         })
     }
 
-    /// Returns the empty name.
+    /// Returns the empty name, which has no RDNs.
     pub fn default(alloc: Global) -> Name
         ensures { name_plain result ≡ [] }
     {
@@ -92,8 +94,8 @@ impl Name {
         }
     }
 
-    /// Returns the name of these RDNs, whatever string types their values have. Whether they are
-    /// those that RFC 5280 4.1.2.4 asks for isn't looked at.
+    /// Returns the name with these RDNs. The call doesn't check that the string types of their
+    /// values are those that RFC 5280 4.1.2.4 requires.
     pub fn hazmat_from_rdn_sequence(value: RdnSequence) -> Name
         ensures { name_plain result ≡ sequence_plain value }
     {
@@ -102,7 +104,7 @@ impl Name {
         }
     }
 
-    /// Returns whether there isn't RDN.
+    /// Returns whether the name has no RDNs.
     pub fn is_empty(&self) -> bool
         ensures { result ≡ (length self.now.rdn_sequence.relative_names.items == 0) }
     {
@@ -116,7 +118,7 @@ impl Name {
         self.rdn_sequence.len()
     }
 
-    /// Returns an iterator over the attributes, from the first RDN on.
+    /// Returns an iterator over the attributes, beginning with the first RDN.
     pub fn iter(&self) -> NameIter<'_>
         ensures { plain_list pair_plain (attributes_left result) ≡ all_of (name_plain self.now) }
     {
@@ -126,7 +128,7 @@ impl Name {
         }
     }
 
-    /// Returns the RDNs, the widest first.
+    /// Returns an iterator over the RDNs, the most general first.
     pub fn iter_rdn(&self) -> RdnSequenceIter<'_>
         ensures { plain_list relative_plain (iter_rest result) ≡ name_plain self.now }
     {
@@ -134,11 +136,11 @@ impl Name {
     }
 
     /// Returns the value of the first attribute of a type, in the order of the name, or `None` if
-    /// there is no such attribute. `iter` returns the others.
+    /// there is no such attribute. `iter` yields the others.
     ///
     /// # Errors
     ///
-    /// - `TagUnexpected`: the value has another type than `T`.
+    /// - `TagUnexpected`: the value has the tag of another type than `T`.
     /// - The first error of its content.
     /// - `OutOfMemory`: memory runs out.
     pub fn by_oid<'a, T: FromAny<'a>>(
@@ -157,7 +159,7 @@ impl Name {
         }
     }
 
-    /// Returns the value of the first attribute of a type, in the order of the name, or `None`.
+    /// Returns the value of the first attribute of a type, in the order of the name, if any.
     fn first_value(&self, oid: &ObjectIdentifier<39>) -> Option<&AttributeValue>
         ensures { option_copied result ≡ first_value oid.now (all_of (name_plain self.now)) }
     {
@@ -169,11 +171,12 @@ impl Name {
         None
     }
 
-    /// Returns the first value of a type as a borrowed text, or `None`.
+    /// Returns the value of the first attribute of a type as a borrowed text, if there is such an
+    /// attribute.
     ///
     /// # Errors
     ///
-    /// - `TagUnexpected`: the value has another type.
+    /// - `TagUnexpected`: the value has the tag of another type.
     /// - The first error of its content.
     fn first_text<T: AsciiType>(
         &self,
@@ -192,11 +195,11 @@ impl Name {
         }
     }
 
-    /// Returns the first common name (2.5.4.3), or none.
+    /// Returns the first common name (2.5.4.3), or `None` if there is none.
     ///
     /// # Errors
     ///
-    /// - `TagUnexpected`: it isn't DirectoryString.
+    /// - `TagUnexpected`: the value isn't a DirectoryString.
     /// - The first error of its content.
     /// - `OutOfMemory`: memory runs out.
     pub fn common_name(&self, alloc: Global) -> Result<Option<DirectoryString>, Error>
@@ -206,11 +209,11 @@ impl Name {
         self.by_oid(alloc, types::common_name())
     }
 
-    /// Returns the first country (2.5.4.6), or none.
+    /// Returns the first country (2.5.4.6), or `None` if there is none.
     ///
     /// # Errors
     ///
-    /// - `TagUnexpected`: it isn't PrintableString.
+    /// - `TagUnexpected`: the value isn't a PrintableString.
     /// - The first error of its content.
     pub fn country(&self) -> Result<Option<PrintableStringRef<'_>>, Error>
         ensures { FirstGives
@@ -220,11 +223,11 @@ impl Name {
         self.first_text(&types::country())
     }
 
-    /// Returns the first state or province (2.5.4.8), or none.
+    /// Returns the first state or province (2.5.4.8), or `None` if there is none.
     ///
     /// # Errors
     ///
-    /// - `TagUnexpected`: it isn't DirectoryString.
+    /// - `TagUnexpected`: the value isn't a DirectoryString.
     /// - The first error of its content.
     /// - `OutOfMemory`: memory runs out.
     pub fn state_or_province(&self, alloc: Global) -> Result<Option<DirectoryString>, Error>
@@ -234,11 +237,11 @@ impl Name {
         self.by_oid(alloc, types::state_or_province())
     }
 
-    /// Returns the first locality (2.5.4.7), or none.
+    /// Returns the first locality (2.5.4.7), or `None` if there is none.
     ///
     /// # Errors
     ///
-    /// - `TagUnexpected`: it isn't DirectoryString.
+    /// - `TagUnexpected`: the value isn't a DirectoryString.
     /// - The first error of its content.
     /// - `OutOfMemory`: memory runs out.
     pub fn locality(&self, alloc: Global) -> Result<Option<DirectoryString>, Error>
@@ -248,11 +251,11 @@ impl Name {
         self.by_oid(alloc, types::locality())
     }
 
-    /// Returns the first organization (2.5.4.10), or none.
+    /// Returns the first organization (2.5.4.10), or `None` if there is none.
     ///
     /// # Errors
     ///
-    /// - `TagUnexpected`: it isn't DirectoryString.
+    /// - `TagUnexpected`: the value isn't a DirectoryString.
     /// - The first error of its content.
     /// - `OutOfMemory`: memory runs out.
     pub fn organization(&self, alloc: Global) -> Result<Option<DirectoryString>, Error>
@@ -262,11 +265,11 @@ impl Name {
         self.by_oid(alloc, types::organization())
     }
 
-    /// Returns the first organizational unit (2.5.4.11), or none.
+    /// Returns the first organizational unit (2.5.4.11), or `None` if there is none.
     ///
     /// # Errors
     ///
-    /// - `TagUnexpected`: it isn't DirectoryString.
+    /// - `TagUnexpected`: the value isn't a DirectoryString.
     /// - The first error of its content.
     /// - `OutOfMemory`: memory runs out.
     pub fn organization_unit(&self, alloc: Global) -> Result<Option<DirectoryString>, Error>
@@ -276,11 +279,11 @@ impl Name {
         self.by_oid(alloc, types::organization_unit())
     }
 
-    /// Returns the first mail address (1.2.840.113549.1.9.1), or none.
+    /// Returns the first e-mail address (1.2.840.113549.1.9.1), or `None` if there is none.
     ///
     /// # Errors
     ///
-    /// - `TagUnexpected`: it isn't IA5String.
+    /// - `TagUnexpected`: the value isn't an IA5String.
     /// - The first error of its content.
     pub fn email_address(&self) -> Result<Option<Ia5StringRef<'_>>, Error>
         ensures { FirstGives
@@ -291,7 +294,7 @@ impl Name {
     }
 }
 
-/// The RDNs.
+/// Returns the RDNs.
 impl AsRef<RdnSequence> for Name {
     fn as_ref(&self) -> &RdnSequence
         ensures { sequence_plain result.now ≡ name_plain self.now }
@@ -300,7 +303,7 @@ impl AsRef<RdnSequence> for Name {
     }
 }
 
-/// Returns the RDNs of a name.
+/// Converts a name to its RDNs.
 impl From<Name> for RdnSequence {
     ghost from_gives = { λ name sequence. sequence_plain sequence ≡ name_plain name };
 
@@ -363,7 +366,7 @@ impl ValueOrd for Name {
     }
 }
 
-/// The RDNs with commas between them, the last one first (RFC 4514 2.1).
+/// Writes the RDNs with commas between them, the last RDN first (RFC 4514 2.1).
 impl fmt::Display for Name {
     ghost use Rattle.std.specs.Prelude.{Some};
     ghost use Rattle.x509_cert_names.specs.NameTexts.{name_printed};
@@ -388,12 +391,13 @@ impl Clone for Name {
 
 impl Name {
     /// Returns whether both names have the same encoding, as the issuer of a certificate and the
-    /// subject of its issuer must (RFC 5280 6.1.3). The attributes are compared; nothing is
-    /// encoded.
+    /// subject of its issuer must (RFC 5280 6.1.3). The comparison doesn't encode the names.
+    ///
+    /// If the name itself has no encoding, `false` says nothing.
     pub fn has_octets_of(&self, other: &Name) -> bool
         ensures same { IsTrue result → name_octets Bound (name_plain self.now)
             ≡ name_octets Bound (name_plain other.now) }
-        // A name that has an encoding.
+        // The other direction holds if the name has an encoding.
         ensures differ { IsValid (name Bound) (name_plain self.now)
             → name_octets Bound (name_plain self.now) ≡ name_octets Bound (name_plain other.now)
             → result ≡ true }
@@ -407,7 +411,7 @@ impl Name {
     }
 }
 
-/// The attributes of each RDN are in ascending order.
+/// States that the attributes of each RDN are in ascending order.
 fn in_order(relative_names: &[RelativeDistinguishedName])
     ensures { AllByRecursion (IsOrdered Bound) relative_names.now }
 {

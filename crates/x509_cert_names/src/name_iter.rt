@@ -1,4 +1,4 @@
-//! Iterating over the attributes of a name.
+//! Iterators over the RDNs and the attributes of a name.
 
 use crate::attribute_type_and_value::AttributeTypeAndValue;
 use crate::relative_distinguished_name::RelativeDistinguishedName;
@@ -7,7 +7,7 @@ use std::slice::Iter;
 /// An iterator over the RDNs of a name, in their order.
 pub type RdnSequenceIter<'a> = Iter<'a, RelativeDistinguishedName>;
 
-/// An iterator over the attributes of a name, from the first RDN on.
+/// An iterator over the attributes of a name, beginning with the first RDN.
 #[derive(Debug, Drop)]
 pub struct NameIter<'a> {
     pub(crate) attributes: &'a [AttributeTypeAndValue],

@@ -1,5 +1,3 @@
-//! RdnSequence.
-
 ghost use Rattle.std.specs.Prelude.{◌≡◌, List, ◌∷◌, ◌++◌, ◌==◌, [], length, reverse, vec_len, OnOk};
 ghost use Rattle.std.specs.Prelude.{Some, OnErr, IfErr, flat_map};
 ghost use Rattle.std.specs.Fmt.{WritesOnOk};
@@ -24,7 +22,7 @@ use std::alloc::{AllocError, Global};
 use std::fmt;
 use x509_cert_name_texts::read_pieces;
 
-/// RDNs, the widest first (RFC 5280 4.1.2.4).
+/// A sequence of RDNs, the most general first (RFC 5280 4.1.2.4).
 ///
 /// ```text
 /// RDNSequence ::= SEQUENCE OF RelativeDistinguishedName
@@ -34,7 +32,7 @@ pub struct RdnSequence {
     relative_names: Vec<RelativeDistinguishedName>,
 }
 
-/// A name as a value of its own (RFC 5280 4.1.2.4).
+/// A name that isn't wrapped in the CHOICE `Name` (RFC 5280 4.1.2.4).
 ///
 /// ```text
 /// DistinguishedName ::= RDNSequence
@@ -42,9 +40,11 @@ pub struct RdnSequence {
 pub type DistinguishedName = RdnSequence;
 
 impl RdnSequence {
-    /// Parses a sequence of RDNs (RFC 4514 2.1, 3). The RDNs are separated by commas, and the last
-    /// one in the text is the first in the sequence. A comma or a `+` is a separator if the number
-    /// of backslashes before it is even. The empty text is the empty sequence.
+    /// Parses a sequence of RDNs in its string form (RFC 4514 2.1, 3).
+    ///
+    /// The RDNs are separated by commas, and the last one in the text is the first in the sequence.
+    /// A comma or a `+` is a separator if the number of backslashes before it is even. The empty
+    /// text is the empty sequence.
     ///
     /// # Errors
     ///
@@ -62,7 +62,7 @@ impl RdnSequence {
         Ok(RdnSequence { relative_names })
     }
 
-    /// Parses RDNs as `from_str` does, and returns their encoding.
+    /// Parses a sequence of RDNs as `from_str` does and returns its encoding.
     ///
     /// # Errors
     ///
@@ -80,7 +80,7 @@ impl RdnSequence {
     ///
     /// # Errors
     ///
-    /// Fails if memory runs out.
+    /// - `AllocError`: memory runs out.
     pub fn clone(&self, alloc: Global) -> Result<RdnSequence, AllocError>
         ensures { IsCopy self.now result sequence_plain }
     {
@@ -88,7 +88,7 @@ impl RdnSequence {
         Ok(RdnSequence { relative_names })
     }
 
-    /// Returns the sequence without RDNs.
+    /// Returns the empty sequence.
     pub fn default(alloc: Global) -> RdnSequence
         ensures { result.relative_names.items ≡ [] }
     {
@@ -97,7 +97,7 @@ impl RdnSequence {
         }
     }
 
-    /// Returns whether there isn't RDN.
+    /// Returns whether the sequence is empty.
     pub fn is_empty(&self) -> bool
         ensures { result ≡ (length self.now.relative_names.items == 0) }
     {
@@ -111,18 +111,18 @@ impl RdnSequence {
         self.relative_names.len()
     }
 
-    /// Returns the RDNs, the widest first.
+    /// Returns an iterator over the RDNs, the most general first.
     pub fn iter(&self) -> RdnSequenceIter<'_>
         ensures { iter_rest result ≡ self.now.relative_names.items }
     {
         self.relative_names.as_slice().iter()
     }
 
-    /// Appends an RDN, the narrowest.
+    /// Appends an RDN, which becomes the most specific.
     ///
     /// # Errors
     ///
-    /// Fails if memory runs out. The sequence stays then.
+    /// - `AllocError`: memory runs out. The sequence is unchanged.
     pub fn push(&mut self, name: RelativeDistinguishedName) -> Result<(), AllocError>
         ensures ok { OnOk result (self.new.relative_names.items ≡ self.old.relative_names.items
             ++ name
@@ -151,7 +151,7 @@ impl Wraps<Vec<RelativeDistinguishedName>> for RdnSequence {
 /// Compares the encodings of the RDNs, one after another.
 impl Ordered for RdnSequence {}
 
-/// The RDNs with commas between them, the last one first (RFC 4514 2.1).
+/// Writes the RDNs with commas between them, the last RDN first (RFC 4514 2.1).
 impl fmt::Display for RdnSequence {
     ghost output = { λ s. Some (name_printed s.relative_names.items) };
 
@@ -160,7 +160,7 @@ impl fmt::Display for RdnSequence {
     }
 }
 
-/// Writes RDNs with commas between them, the last one first.
+/// Writes RDNs with commas between them, the last RDN first.
 fn write_names<W: fmt::Write>(
     names: &[RelativeDistinguishedName],
     f: &mut fmt::Formatter<W>,
@@ -186,7 +186,7 @@ fn write_next<W: fmt::Write>(
     write!(f, ",{name}")
 }
 
-/// Writes a comma and an RDN for each one, the last one first.
+/// Writes a comma before each RDN, the last RDN first.
 fn write_before<W: fmt::Write>(
     names: &[RelativeDistinguishedName],
     f: &mut fmt::Formatter<W>,
@@ -213,7 +213,7 @@ impl Clone for RdnSequence {
     }
 }
 
-/// These RDNs, the widest first.
+/// Returns the sequence of these RDNs, which are in order from the most general.
 impl From<Vec<RelativeDistinguishedName>> for RdnSequence {
     ghost from_gives = { λ names sequence. sequence.relative_names ≡ names };
 
@@ -222,7 +222,7 @@ impl From<Vec<RelativeDistinguishedName>> for RdnSequence {
     }
 }
 
-/// The list of RDNs.
+/// Returns the list of RDNs.
 impl AsRef<Vec<RelativeDistinguishedName>> for RdnSequence {
     fn as_ref(&self) -> &Vec<RelativeDistinguishedName>
         ensures { result.now ≡ self.now.relative_names }
@@ -231,7 +231,7 @@ impl AsRef<Vec<RelativeDistinguishedName>> for RdnSequence {
     }
 }
 
-/// The list of RDNs.
+/// Returns the list of RDNs for changes.
 impl AsMut<Vec<RelativeDistinguishedName>> for RdnSequence {
     ghost use Rattle.std.specs.Borrow.{sem, Lends};
     ghost use Rattle.der_core.specs.Rows.{list_row};
@@ -247,7 +247,7 @@ impl AsMut<Vec<RelativeDistinguishedName>> for RdnSequence {
     }
 }
 
-/// The RDNs, the widest first.
+/// Converts the sequence to a list, the most general RDN first.
 impl From<RdnSequence> for Vec<RelativeDistinguishedName> {
     ghost from_gives = { λ sequence names. names ≡ sequence.relative_names };
 

@@ -1,5 +1,3 @@
-//! RelativeDistinguishedName.
-
 ghost use Rattle.std.specs.Prelude.{◌≡◌, ◌∷◌, ◌==◌, true, [], length, IfOk, IfErr, OnOk, OnErr};
 ghost use Rattle.std.specs.Prelude.{Some, IfSome, IsTrue, ◌↔◌, ◌⊎◌, ◌≢◌, refl, IsPermutation};
 ghost use Rattle.std.specs.Cmp.Lexicographic.{pointwise, lists_per, lists_equiv};
@@ -41,10 +39,10 @@ use std::hash::{Hash, Hasher};
 use std::marker::Model;
 use x509_cert_name_texts::{FromText, read_pieces};
 
-/// An RDN (RFC 5280 4.1.2.4): a set of different attributes, in the order of their encodings. It
-/// may be empty.
+/// An RDN (RFC 5280 4.1.2.4): a set of different attributes, in ascending order of their encodings.
+/// Unlike in RFC 5280, the set may be empty.
 ///
-/// Contracts see the list of the attributes.
+/// In contracts, its value is the list of the attributes.
 ///
 /// ```text
 /// RelativeDistinguishedName ::= SET OF AttributeTypeAndValue
@@ -71,11 +69,11 @@ impl Model for RelativeDistinguishedName {
         × Ascends (type_and_value Bound) pair_plain r.attributes };
 }
 
-/// Each attribute has an encoding.
+/// Checks that each attribute has an encoding.
 ///
 /// # Errors
 ///
-/// - `Overflow`: one of them has 2^32 bytes or more.
+/// - `Overflow`: an attribute has no encoding, for example because its length exceeds 2^32 - 1.
 fn have_encodings(attributes: &[AttributeTypeAndValue]) -> Result<(), Error>
     ensures ok { IfOk result (λ _. AllValid (type_and_value Bound) pair_plain attributes.now) }
     ensures refused { IfErr result (TooLong (type_and_value Bound) pair_plain attributes.now) }
@@ -100,13 +98,13 @@ fn are_apart(attributes: &[AttributeTypeAndValue]) -> bool
 }
 
 impl RelativeDistinguishedName {
-    /// Parses an RDN (RFC 4514 2.2, 3): different attributes, separated by `+`.
+    /// Parses an RDN in its string form (RFC 4514 2.2, 3): different attributes, separated by `+`.
     ///
     /// # Errors
     ///
     /// - The error of the first attribute that is rejected (`AttributeTypeAndValue::from_str`).
     /// - `SetDuplicate`: an attribute occurs twice.
-    /// - `Overflow`: an encoding has 2^32 bytes or more.
+    /// - `Overflow`: an attribute has no encoding, for example because its length exceeds 2^32 - 1.
     /// - `OutOfMemory`: memory runs out.
     pub fn from_str(alloc: Global, text: &str) -> Result<RelativeDistinguishedName, Error>
         ensures { GivesBy (λ r. r) result (ReadsRelative Bound text.now) }
@@ -120,7 +118,7 @@ impl RelativeDistinguishedName {
     ///
     /// # Errors
     ///
-    /// Fails if memory runs out.
+    /// - `AllocError`: memory runs out.
     pub fn clone(&self, alloc: Global) -> Result<RelativeDistinguishedName, AllocError>
         ensures { IfOk result (λ r. r ≡ self.now) }
     {
@@ -130,7 +128,7 @@ impl RelativeDistinguishedName {
         })
     }
 
-    /// Returns the RDN without attributes.
+    /// Returns the empty RDN.
     pub fn default(alloc: Global) -> RelativeDistinguishedName
         ensures { result ≡ [] }
     {
@@ -139,12 +137,12 @@ impl RelativeDistinguishedName {
         }
     }
 
-    /// Returns the RDN of these attributes, which may be in any order. It doesn't allocate.
+    /// Returns the RDN with these attributes, which may be in any order. The call doesn't allocate.
     ///
     /// # Errors
     ///
     /// - `SetDuplicate`: an attribute occurs twice.
-    /// - `Overflow`: an encoding has 2^32 bytes or more.
+    /// - `Overflow`: an attribute has no encoding, for example because its length exceeds 2^32 - 1.
     pub fn try_from_vec(attributes: Vec<AttributeTypeAndValue>) -> Result<Self, Error>
         ensures ok { IfOk result (IsPermutation attributes.items) }
         ensures ordered { IfOk result (IsOrdered Bound) }
@@ -163,15 +161,15 @@ impl RelativeDistinguishedName {
         })
     }
 
-    /// Inserts an attribute at its position.
+    /// Inserts an attribute at the position that its encoding requires.
+    ///
+    /// If the call fails, the RDN is unchanged.
     ///
     /// # Errors
     ///
-    /// - `SetDuplicate`: the RDN has it already.
-    /// - `Overflow`: an encoding has 2^32 bytes or more.
+    /// - `SetDuplicate`: the RDN already contains the attribute.
+    /// - `Overflow`: an attribute has no encoding, for example because its length exceeds 2^32 - 1.
     /// - `OutOfMemory`: memory runs out.
-    ///
-    /// The RDN is then as it was.
     pub fn insert(&mut self, item: AttributeTypeAndValue) -> Result<(), Error>
         ensures ok { OnOk result (IsPermutation (item ∷ self.old) self.new) }
         ensures err { OnErr result (self.new ≡ self.old) }
@@ -187,7 +185,7 @@ impl RelativeDistinguishedName {
         Ok(())
     }
 
-    /// Returns whether there isn't an attribute.
+    /// Returns whether the RDN has no attributes.
     pub fn is_empty(&self) -> bool
         ensures { result ≡ (length self.now == 0) }
     {
@@ -201,14 +199,14 @@ impl RelativeDistinguishedName {
         self.attributes.as_slice().len()
     }
 
-    /// Returns the attributes, in ascending order of their encodings.
+    /// Returns an iterator over the attributes, in ascending order of their encodings.
     pub fn iter(&self) -> SetOfIter<'_, AttributeTypeAndValue>
         ensures { iter_rest result ≡ self.now }
     {
         self.as_slice().iter()
     }
 
-    /// Returns the attributes, in ascending order of their encodings.
+    /// Returns the attributes as a slice, in ascending order of their encodings.
     pub fn as_slice(&self) -> &[AttributeTypeAndValue]
         ensures attributes { result.now ≡ self.now }
         ensures ascend { Ascends (type_and_value Bound) pair_plain result.now }
@@ -218,8 +216,9 @@ impl RelativeDistinguishedName {
     }
 }
 
-/// Returns the attribute that the next `len` bytes of a reader encode, if the reader may open a
-/// level for a set and one for an attribute in it. `None` says nothing about the bytes.
+/// Decodes the single attribute that the next `len` bytes of a reader contain, if the reader allows
+/// two more levels of nesting: one for the set and one for the attribute. Returns `None` if this
+/// fast path doesn't apply; the general decoder then decides.
 fn one_attribute<'a, R: Reader<'a>>(
     alloc: Global,
     reader: &R,
@@ -303,7 +302,7 @@ impl ValueOrd for RelativeDistinguishedName {
     }
 }
 
-/// The attributes, in ascending order of their encodings.
+/// Returns the attributes as a slice, in ascending order of their encodings.
 impl AsSlice<AttributeTypeAndValue> for RelativeDistinguishedName {
     ghost items = { λ r. r };
 
@@ -321,7 +320,8 @@ impl FromText for RelativeDistinguishedName {
     }
 }
 
-/// The attributes, in ascending order of their encodings, with `+` between them (RFC 4514 2.2).
+/// Writes the attributes with `+` between them, in ascending order of their encodings (RFC 4514
+/// 2.2).
 impl fmt::Display for RelativeDistinguishedName {
     ghost output = { λ r. Some (relative_printed r) };
 
@@ -356,7 +356,7 @@ fn write_next<W: fmt::Write>(
     write!(f, "+{attribute}")
 }
 
-/// Writes `+` and an attribute for each one.
+/// Writes `+` before each attribute.
 fn write_later<W: fmt::Write>(
     attributes: &[AttributeTypeAndValue],
     f: &mut fmt::Formatter<W>,
@@ -411,7 +411,7 @@ impl Hash for RelativeDistinguishedName {
     }
 }
 
-/// The attributes, in ascending order of their encodings.
+/// Returns the set of attributes.
 impl AsRef<AttributeSet> for RelativeDistinguishedName {
     fn as_ref(&self) -> &AttributeSet
         ensures { result.now ≡ self.now }
@@ -420,7 +420,7 @@ impl AsRef<AttributeSet> for RelativeDistinguishedName {
     }
 }
 
-/// The attributes, in ascending order of their encodings.
+/// Converts the RDN to its set of attributes.
 impl From<RelativeDistinguishedName> for AttributeSet {
     ghost from_gives = { λ name attributes. attributes ≡ name };
 

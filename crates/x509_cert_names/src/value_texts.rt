@@ -1,4 +1,4 @@
-//! The values of attributes as texts.
+//! The string form of attribute values (RFC 4514 2.4, 3).
 
 ghost use Rattle.std.specs.Prelude.{◌≡◌, option_map};
 ghost use Rattle.std.specs.Fmt.{WritesOnOk};
@@ -19,7 +19,7 @@ use std::alloc::Global;
 use std::fmt;
 use x509_cert_name_texts::{from_hex, undo_escapes, write_hex};
 
-/// Returns the tag of a value that is given as a text.
+/// Returns the tag of an attribute value that is given as a text.
 fn tag_for(oid: &AttributeType) -> Tag
     ensures { result ≡ tag_for oid.now }
 {
@@ -32,7 +32,14 @@ fn tag_for(oid: &AttributeType) -> Tag
     Tag::Utf8String
 }
 
-/// Returns the value whose encoding these hex digits are.
+/// Decodes a value from the hexadecimal digits of its encoding.
+///
+/// # Errors
+///
+/// - `Failed`: the hexadecimal digits are invalid.
+/// - `Overflow`: the encoding has 2^32 bytes or more.
+/// - The errors of `from_der`.
+/// - `OutOfMemory`: memory runs out.
 #[tactic(auto, using(crate::proofs::EncodedValues::encoded_is))]
 fn encoded_value(alloc: Global, digits: &[u8]) -> Result<AttributeValue, Error>
     ensures { Gives (λ a. a) result (encoded_value digits.now) }
@@ -41,7 +48,14 @@ fn encoded_value(alloc: Global, digits: &[u8]) -> Result<AttributeValue, Error>
     Ok(Any::from_der(alloc, octets.as_slice())?)
 }
 
-/// Returns the value with this content, its escapes undone.
+/// Removes the escapes from a text and returns the value with this content and the tag for the
+/// type.
+///
+/// # Errors
+///
+/// - `Failed`: an escape is invalid.
+/// - `Overflow`: the content has 2^32 bytes or more.
+/// - `OutOfMemory`: memory runs out.
 fn text_value(alloc: Global, oid: &AttributeType, text: &[u8]) -> Result<AttributeValue, Error>
     ensures { GivesBy (λ a. a) result (ReadsString oid.now text.now) }
 {
@@ -49,7 +63,11 @@ fn text_value(alloc: Global, oid: &AttributeType, text: &[u8]) -> Result<Attribu
     Ok(Any::new(tag_for(oid), octets)?)
 }
 
-/// Returns the value that follows the `=` of an attribute.
+/// Parses the value after the `=` of an attribute (RFC 4514 3, `attributeValue`).
+///
+/// # Errors
+///
+/// - The errors of `encoded_value` if it begins with `#`, and of `text_value` if it doesn't.
 pub(crate) fn value_of(
     alloc: Global,
     oid: &AttributeType,
@@ -63,8 +81,8 @@ pub(crate) fn value_of(
     }
 }
 
-/// Returns the text of a value, if it decodes as its PrintableString, UTF8String, IA5String or
-/// TeletexString.
+/// Returns the text of a value that decodes as a PrintableString, UTF8String, IA5String or
+/// TeletexString, according to its tag.
 #[tactic(auto, unfolding(crate::specs::ValueTexts::text_of))]
 pub(crate) fn text_of(value: &AttributeValue) -> Option<&str>
     ensures { text_of value.now ≡ option_map (λ text. text.now) result }
@@ -90,7 +108,7 @@ pub(crate) fn text_of(value: &AttributeValue) -> Option<&str>
     }
 }
 
-/// Writes a header as small hex digits.
+/// Writes a header in lowercase hexadecimal.
 fn write_head<W: fmt::Write>(tag: Tag, length: Length, f: &mut fmt::Formatter<W>) -> fmt::Result
     ensures { WritesOnOk W.write_str_gives f.old result (in_hex (head_octets tag length.value))
         f.new }
@@ -107,7 +125,7 @@ fn write_head<W: fmt::Write>(tag: Tag, length: Length, f: &mut fmt::Formatter<W>
     }
 }
 
-/// Writes the encoding of a value as lowercase hex digits. A value that is too long is rejected.
+/// Writes the encoding of a value in lowercase hexadecimal.
 pub(crate) fn write_encoding<W: fmt::Write>(
     value: &AttributeValue,
     f: &mut fmt::Formatter<W>,

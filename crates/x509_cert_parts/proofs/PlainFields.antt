@@ -1,4 +1,4 @@
--- Fields after headers of two bytes are spelled by their bytes, and read.
+-- Lemmas for fields whose headers have two bytes: the fast paths decode them as the grammar says.
 use Rattle.std.proofs.Common.{◌≡◌, ℕ, ◌-◌, ◌<◌, ◌≤◌, Bool, true, false, List, [], ◌∷◌, ◌++◌, length, get_or, take, drop, take_all, take-append-drop, length-take-le, append-nil, Option, Some, None, Ok, refl, sym, ap, ◌∙◌, arith}
 use Rattle.std.proofs.lemmas.List.{drop_all}
 use Rattle.der_core.specs.Oid.Bound.{Bound}
@@ -17,12 +17,12 @@ use Rattle.der_core.proofs.Complete.{complete_body}
 use Rattle.der_core.proofs.HeadLaws.{length-short}
 use Rattle.x509_cert_parts.specs.Grammar.{algorithm_fields, extension_fields, false_by_default, object_identifier, octet_string}
 
--- A value after a header of two bytes
+-- A value whose header has two bytes.
 short_tlv : (t : Tag) (b : ℕ) (c : List ℕ) → tag_octets t ≡ b ∷ [] → length c < 128 → tlv t c ≡ b ∷ length c ∷ c
 unfolding tlv head_octets
 short_tlv t b c e l = rw (e, length-short (length c) l) refl
 
--- what the code finds at the prefix
+-- The OID that the code finds at the beginning.
 pub identifier_first : (w identifier behind : List ℕ) → 2 ≤ length w → get_or w 0 0 ≡ 0x06 → get_or w 1 0 ≤ length (take (length w - 2) (drop 2 w))
     → identifier ≡ take (get_or w 1 0) (take (length w - 2) (drop 2 w)) → behind ≡ drop (get_or w 1 0) (take (length w - 2) (drop 2 w))
     → w ≡ 0x06 ∷ length identifier ∷ (identifier ++ behind)
@@ -46,7 +46,7 @@ identifier_field arcs identifier is most e =
     short_tlv tags.ObjectIdentifier 0x06 (identifier_octets arcs) refl (omega (arith, few, most)) ∙ ap (λ t. 0x06 ∷ length t ∷ t) (sym e) in
     (((is, omega (arith, few, most)), omega arith, omega (arith, ap length spelled, most)), spelled)
 
--- the parameters of an algorithm
+-- The parameters of an algorithm.
 pub no_parameters : IsValid (optional any) None × ([] ≡ octets_of (optional any) None)
 unfolding octets_of IsValid
 no_parameters = (tt, refl)
@@ -70,7 +70,7 @@ algorithm_body arcs identifier behind w p is most e whole valid spelled =
     let last : octets_of (optional any) p ++ [] ≡ behind = append-nil (octets_of (optional any) p) ∙ sym spelled in
     ((oid.0, (valid, tt)), ap (λ t. t ++ (octets_of (optional any) p ++ [])) oid.1 ∙ ap (λ t. (0x06 ∷ length identifier ∷ identifier) ++ t) last ∙ sym whole)
 
--- a TRUE that is FALSE by default
+-- A BOOLEAN DEFAULT FALSE that is TRUE.
 boolean_spelled : (b : ℕ) → tlv tags.Boolean (b ∷ []) ≡ 0x01 ∷ 0x01 ∷ b ∷ []
 unfolding tag_octets
 boolean_spelled b = short_tlv tags.Boolean 0x01 (b ∷ []) refl (omega arith)
@@ -104,7 +104,7 @@ octets_field value are few =
     let spelled : tlv tags.OctetString value ≡ 0x04 ∷ length value ∷ value = short_tlv tags.OctetString 0x04 value refl few in
     ((are, omega arith, omega (arith, ap length spelled, few)), spelled)
 
--- what the code finds after it
+-- The octet string that the code finds after it.
 octets_first : (w value : List ℕ) → 2 ≤ length w → get_or w 0 0 ≡ 0x04 → get_or w 1 0 ≡ length value → value ≡ take (length w - 2) (drop 2 w) → w ≡ 0x04 ∷ length value ∷ value
 octets_first (a ∷ b ∷ r) value two one counted is =
     let all : value ≡ r = is ∙ take_all (length (a ∷ b ∷ r) - 2) r (omega arith) in
@@ -125,7 +125,7 @@ extension_body arcs identifier behind last value w critical is most e whole mark
       ap (λ t. t ++ (octets_of false_by_default critical ++ (octets_of octet_string value ++ []))) oid.1 ∙ ap (λ t. (0x06 ∷ length identifier ∷ identifier) ++ t) middle ∙ sym whole,
     )
 
--- Fields that are all that a reader of DER has left are read
+-- Fields are decoded if their encodings are all that a reader of DER has left.
 pub all_read : (b : Body) (s : State) (n : ℕ) (v : BodyValue b) → is_body_apart b ≡ true → are_body_enough b s.room ≡ true → IsDer s → length s.rest ≤ n → IsBody b v → body_octets b v ≡ s.rest
     → read_body_at s b s.rest ≡ Ok (v, drop n s.rest)
 all_read b s n v apart enough der most valid octets =

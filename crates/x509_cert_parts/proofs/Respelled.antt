@@ -1,4 +1,4 @@
--- Respelled dates: they have an encoding, and which of them are the same.
+-- Lemmas for re-encoded dates: they have an encoding, and which of them are unchanged.
 use Rattle.std.proofs.Common.{ℕ, ◌≤◌, List, length, length-append, ap, arith, inl, inr, ◌≡◌, ◌+◌, Bool, true, false, cond, [], ◌++◌, refl, nat_lt, ◌↔◌, ltb-false}
 use Rattle.std.proofs.lemmas.Bool.{cases_lt}
 use Rattle.der_core.specs.Oid.Digits.{digits}
@@ -14,7 +14,7 @@ use Rattle.der_core.proofs.OneEncoding.{one_value}
 use Rattle.x509_cert_parts.specs.Grammar.{time, validity, validity_fields, PlainTime, PlainValidity, not_before, not_after}
 use Rattle.x509_cert_parts.specs.Respelling.{respelled, spelled_by, validity_by, is_early_generalized}
 
--- Fewer content bytes make no longer an encoding.
+-- A shorter content doesn't have a longer encoding.
 
 length_shorter : (m n : ℕ) → m ≤ n → length (length_octets m) ≤ length (length_octets n)
 length_shorter m n le =
@@ -42,7 +42,7 @@ tlv_shorter t v w le =
 tlv_fits : (t : Tag) (v w : List ℕ) → length v ≤ length w → Fits (tlv t w) → Fits (tlv t v)
 tlv_fits t v w le h = omega (arith, h, tlv_shorter t v w le)
 
--- a value after a tag whose content is no longer than that of another
+-- A value after a tag, whose content isn't longer than another.
 module _ (t : Tag) (b : Body) (new old : BodyValue b) (le : length (body_octets b new) ≤ length (body_octets b old)) where
   pub nested_shorter : length (octets_of (tagged t (nested b)) new) ≤ length (octets_of (tagged t (nested b)) old)
   unfolding octets_of contents
@@ -52,7 +52,7 @@ module _ (t : Tag) (b : Body) (new old : BodyValue b) (le : length (body_octets 
   unfolding IsValid IsContent contents
   nested_valid n h = (n, h.1, tlv_fits t (body_octets b new) (body_octets b old) le h.2)
 
--- a field that stays as it is, before others and after them
+-- A field that is unchanged, before others and after them.
 pub behind_same : (s : Shape) (b : Body) (x : Value s) (v w : BodyValue b) → length (body_octets b v) ≤ length (body_octets b w)
     → length (body_octets (field s b) (x, v)) ≤ length (body_octets (field s b) (x, w))
 unfolding body_octets
@@ -63,7 +63,7 @@ pub before_same : (s : Shape) (b : Body) (x y : Value s) (v : BodyValue b) → l
 unfolding body_octets
 before_same s b x y v le = omega (arith, le, length-append (octets_of s x) (body_octets b v), length-append (octets_of s y) (body_octets b v))
 
--- one spelling of a date, or the other
+-- A date in either encoding.
 abbrev spelling : Bool → Civil → PlainTime
 spelling b c = cond b (inr c) (inl c)
 
@@ -87,7 +87,7 @@ spelled_valid : (r : Bool) (t : PlainTime) → IsValid time t → IsValid time (
 spelled_valid true t h = respelled_valid t h
 spelled_valid false t h = h
 
--- a date that is respelled is no longer
+-- A re-encoded date isn't longer.
 utc_shorter : (c : Civil) → length (octets_of time (inl c)) ≤ length (octets_of time (inr c))
 unfolding octets_of contents tlv head_octets length_octets tag_octets utc_octets generalized_octets
 utc_shorter c = omega arith

@@ -1,4 +1,4 @@
--- What is printed of a time is the text of its plain value; fills, one after another.
+-- Lemmas for printing times and for repeated fills of random bytes.
 use Rattle.std.proofs.Common.{◌≡◌, ℕ, suc, ◌+◌, ◌-◌, ◌<◌, ◌≤◌, Some, None, refl, arith, if◌then◌else◌}
 use Rattle.der_types.specs.DateTexts.{date_text}
 use Rattle.x509_cert_parts.specs.Texts.{time_text}

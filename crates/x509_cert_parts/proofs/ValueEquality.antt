@@ -1,4 +1,5 @@
--- `==` of the parts of certificates is of their plain values.
+-- Lemmas for `equality_of_parts_is_of_values`: `==` of the parts of certificates compares their
+-- abstract values.
 use Rattle.std.proofs.Common.{◌≡◌, List, Bool, true, refl, ap, subst, inl, inr, arith, pos, nat_eq, ◌&&◌, ℕ, Option, Some, None}
 use Rattle.std.specs.Cmp.{nat_eq_equiv}
 use Rattle.std.specs.Cmp.Lexicographic.{pointwise, bytes_decides}
@@ -74,7 +75,7 @@ each_version versions.V2 versions.V2 = exact (λ e. refl) (λ e. refl)
 each_version versions.V3 versions.V3 = exact (λ e. refl) (λ e. refl)
 each_version x y = exact (λ e. absurd cc) (λ e. absurd cc)
 
--- Keys that are equal part by part are one.
+-- Keys whose parts are equal are equal.
 
 abbrev pub same_parts : List ℕ → List ℕ → Option AnyValue → Option AnyValue → Bits → Bits → Bool
 same_parts a b p q x y = (pointwise nat_eq (identifier_octets a) (identifier_octets b) && option_eq same_values p q) && pointwise nat_eq (bit_contents x) (bit_contents y)

@@ -1,4 +1,4 @@
--- Serial numbers with random bytes (RFC 5280 4.1.2.2; CA/Browser Forum, Baseline Requirements 7.1).
+-- Random serial numbers (RFC 5280 4.1.2.2; CA/Browser Forum, Baseline Requirements 7.1).
 use Rattle.std.specs.Prelude.{ℕ, zero, suc, ℤ, List, [], ◌∷◌, ◌+◌, ◌++◌, length, Bool, true, ◌==◌}
 use Rattle.std.specs.Prelude.{nat_lt, Option, Some, None, Result, Err, if◌then◌else◌}
 use Rattle.der_core.specs.ErrorTypes.ErrorKind.{ErrorKind}
@@ -6,26 +6,27 @@ use Rattle.der_core.specs.ErrorTypes.ErrorKind.TheVariants as kinds
 use Rattle.rand_core.specs.Stream.{Stream, fill_bytes}
 use Rattle.x509_cert_parts.specs.SerialNumbers.{new_serial}
 
--- no byte, or the first one is 0
+-- There is no byte, or the first byte is 0.
 abbrev pub begins_with_zero : List ℕ → Bool
 begins_with_zero [] = true
 begins_with_zero (b ∷ w) = b == 0
 
--- The first of at most so many fills of n bytes that begins with another byte than 0, if one does;
--- and what is left of the generator's stream.
+-- The first of at most `k` fills of `n` bytes that doesn't begin with 0, if there is one, and the
+-- rest of the generator's stream.
 abbrev pub first_fill : ℕ → ℕ → Stream → Option (List ℕ) × Stream
 first_fill zero n s = (None, s)
 first_fill (suc k) n s =
     if begins_with_zero (fill_bytes n s).0 then first_fill k n (fill_bytes n s).1
     else (Some (fill_bytes n s).0, (fill_bytes n s).1)
 
--- the number of a prefix and of the bytes after it, if these were found
+-- The number of a prefix and random bytes, or Failed if no fill was found.
 abbrev pub serial_of : List ℕ → Option (List ℕ) → Result ℤ ErrorKind
 serial_of prefix None = Err kinds.Failed
 serial_of prefix (Some random) = new_serial (prefix ++ random)
 
--- A prefix, and n random bytes of which the first isn't 0: at least 64 bits are random, and a sign
--- fits before 19 bytes. Sixteen fills are tried; what is rejected at once draws nothing.
+-- The serial number of a prefix and `n` random bytes, and the rest of the generator's stream. The
+-- first random byte isn't 0, at least 64 bits are random, and there are at most 19 bytes, so that
+-- the sign fits into the 20th. Sixteen fills are tried. A length that is rejected draws nothing.
 unfoldable pub drawn_serial : List ℕ → ℕ → Stream → Result ℤ ErrorKind × Stream
 drawn_serial prefix n s =
     if nat_lt n 8 then (Err kinds.Failed, s)

@@ -1,8 +1,9 @@
--- Types of extensions: the identifier of each, and when it is marked as critical where it is added
--- to a certificate or to a list (RFC 5280 4.2, 5.2, 5.3; RFC 3280 4.2.1.4; RFC 6962 3.3).
+-- The types of extensions: the OID of each, and its criticality when it is added to a certificate
+-- or a CRL (RFC 5280 4.2, 5.2, 5.3; RFC 3280 4.2.1.4; RFC 6962 3.3).
 use Rattle.std.specs.Prelude.{◌≡◌, ℕ, List, [], ◌∷◌, Bool, true, false, ◌==◌, length}
 use Rattle.x509_cert_parts.specs.Grammar.{PlainExtension}
 
+-- A type of extension, with the name that its ASN.1 module uses.
 pub data ExtensionType : Type 0 where
   authority_key_identifier subject_key_identifier key_usage : ExtensionType
   private_key_usage_period certificate_policies policy_mappings : ExtensionType
@@ -13,18 +14,19 @@ pub data ExtensionType : Type 0 where
   crl_number base_crl_number issuing_distribution_point crl_reason : ExtensionType
   signed_certificate_timestamps : ExtensionType
 
--- The last is critical where the subject has no name.
+-- The criticality of a type: always, never, or only if the subject has no name.
 pub data Marking : Type 0 where
   always never without_subject : Marking
 
--- 2.5.29.n (4.2.1), 1.3.6.1.5.5.7.1.n (4.2.2)
+-- The OIDs 2.5.29.n (id-ce, 4.2.1) and 1.3.6.1.5.5.7.1.n (id-pe, 4.2.2).
 abbrev pub id_ce : ℕ → List ℕ
 id_ce n = 2 ∷ 5 ∷ 29 ∷ n ∷ []
 
 abbrev pub id_pe : ℕ → List ℕ
 id_pe n = 1 ∷ 3 ∷ 6 ∷ 1 ∷ 5 ∷ 5 ∷ 7 ∷ 1 ∷ n ∷ []
 
--- the table
+-- The OID and the criticality of each type, with the section of RFC 5280 unless another document is
+-- named.
 abbrev pub row_of : ExtensionType → List ℕ × Marking
 row_of authority_key_identifier = (id_ce 35, never)  -- 4.2.1.1
 row_of subject_key_identifier = (id_ce 14, never)  -- 4.2.1.2
@@ -51,19 +53,21 @@ row_of crl_reason = (id_ce 21, never)  -- 5.3.1
 row_of signed_certificate_timestamps =
     (1 ∷ 3 ∷ 6 ∷ 1 ∷ 4 ∷ 1 ∷ 11129 ∷ 2 ∷ 4 ∷ 2 ∷ [], never)  -- RFC 6962 3.3
 
+-- The OID of a type.
 abbrev pub identifier_of : ExtensionType → List ℕ
 identifier_of t = (row_of t).0
 
--- whether an extension with a marking is critical beside a subject's name
+-- An extension with this criticality is critical in a certificate with this subject.
 abbrev pub marks : {A : Type 0} → Marking → List A → Bool
 marks always subject = true
 marks never subject = false
 marks without_subject subject = length subject == 0
 
+-- An extension of the type is critical in a certificate with this subject.
 abbrev pub is_marked : {A : Type 0} → ExtensionType → List A → Bool
 is_marked t subject = marks (row_of t).1 subject
 
--- values with this identifier and this criticality are of a type of extensions
+-- `arcs` is the OID of the type `t`, and `is_critical` is its criticality.
 abbrev pub IsOfType : {V A : Type 0} → ExtensionType → List ℕ
     → (V → List A → List PlainExtension → Bool) → Type 0
 IsOfType {V} {A} t arcs is_critical = (arcs ≡ identifier_of t)

@@ -1,4 +1,4 @@
--- The time of a date, and of a text.
+-- The value of type Time for a date or a text.
 use Rattle.std.specs.Prelude.{◌≡◌, ◌≢◌, ℕ, List, true, Result, Ok, Err}
 use Rattle.std.proofs.Common.{inr}
 use Rattle.der_core.specs.ErrorTypes.Error.{Error}
@@ -10,16 +10,17 @@ use Rattle.x509_cert_parts.specs.Respelling.{respelled}
 use Rattle.x509_cert_parts.specs.Views.{time_value, time_date}
 use Rattle.x509_cert_parts.specs.declared.time.Time.{Time}
 
--- a date as a certificate spells it (RFC 5280 4.1.2.5)
+-- The date in the encoding that RFC 5280 4.1.2.5 requires.
 abbrev pub time_of : Civil → PlainTime
 time_of c = respelled (inr c)
 
--- 9999-12-31T23:59:59Z, the end of a certificate that has none
+-- 9999-12-31T23:59:59Z, the notAfter of a certificate without an expiration date (RFC 5280
+-- 4.1.2.5).
 abbrev pub without_end : PlainTime
 without_end =
     inr (record { year = 9999; month = 12; day = 31; hour = 23; minute = 59; second = 59 })
 
--- what reading a text answers: the time of its date, or that it is the text of no date
+-- Parsing a date: the time of its date, or the error DateTime if the text isn't a valid date.
 abbrev pub ReadsTime : List ℕ → Result Time Error → Type 0
 ReadsTime text (Ok t) = (text ≡ date_text (time_date t)) × (time_value t ≡ time_of (time_date t))
 ReadsTime text (Err e) = (e.kind ≡ kinds.DateTime)

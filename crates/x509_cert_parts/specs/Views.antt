@@ -1,4 +1,4 @@
--- What contracts see of the types: the plain values of their shapes.
+-- The abstract value of each type of this crate, as a value of its shape in `Grammar`.
 use Rattle.std.specs.Prelude.{ℕ, List}
 use Rattle.std.proofs.Common.{inl, inr}
 use Rattle.der_core.specs.Dates.{Civil}
@@ -41,12 +41,12 @@ extension_plain e = (e.extn_id, (e.critical, (e.extn_value, tt)))
 abbrev pub extensions_plain : List Extension → List PlainExtension
 extensions_plain es = plain_list extension_plain es
 
--- a date and its spelling
+-- A date and which of the two encodings it has.
 abbrev pub time_value : Time → PlainTime
 time_value (times.UtcTime t) = inl t
 time_value (times.GeneralTime t) = inr t
 
--- the date of a time
+-- The date of a time, in either encoding.
 abbrev pub time_date : Time → Civil
 time_date (times.UtcTime t) = t
 time_date (times.GeneralTime t) = t

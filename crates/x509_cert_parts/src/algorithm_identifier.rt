@@ -1,5 +1,3 @@
-//! AlgorithmIdentifier.
-
 ghost use Rattle.std.specs.Prelude.{◌≡◌, true, refl, IsTrue, IfSome};
 ghost use Rattle.der_core.specs.Oid.Bound.{Bound};
 ghost use Rattle.der_core.specs.Grammar.{plain_option};
@@ -28,7 +26,7 @@ use std::alloc::{AllocError, Global};
 pub struct AlgorithmIdentifier {
     /// The OID of the algorithm.
     pub oid: ObjectIdentifier<39>,
-    /// The parameters, as they are. NULL isn't the same as none.
+    /// The parameters, undecoded. Parameters that are NULL differ from absent parameters.
     pub parameters: Option<Any>,
 }
 
@@ -37,7 +35,7 @@ impl AlgorithmIdentifier {
     ///
     /// # Errors
     ///
-    /// Fails if memory runs out.
+    /// - `AllocError`: memory runs out.
     pub fn clone(&self, alloc: Global) -> Result<AlgorithmIdentifier, AllocError>
         ensures { IsCopy self.now result algorithm_plain }
     {
@@ -47,9 +45,8 @@ impl AlgorithmIdentifier {
         })
     }
 
-    /// Returns whether both have the same encoding, as the algorithms inside and outside of a
-    /// TBSCertificate must (RFC 5280 4.1.1.2). The OIDs and the parameters are compared; nothing is
-    /// encoded.
+    /// Returns whether both have the same encoding, as the signature algorithm of a certificate and
+    /// that of its TBSCertificate must (RFC 5280 4.1.1.2). The comparison doesn't encode them.
     pub fn has_octets_of(&self, other: &AlgorithmIdentifier) -> bool
         ensures same { IsTrue result
             → octets_of (algorithm_identifier Bound) (algorithm_plain self.now)
@@ -59,7 +56,7 @@ impl AlgorithmIdentifier {
         self == other
     }
 
-    /// Returns the algorithm, borrowed.
+    /// Returns the algorithm with its parameters borrowed.
     pub fn owned_to_ref(&self) -> AlgorithmIdentifierRef<'_>
         ensures { algorithm_lent result ≡ algorithm_plain self.now }
     {
@@ -80,8 +77,8 @@ impl FieldsView for AlgorithmIdentifier {
     ghost view = { algorithm_plain };
 }
 
-/// Returns the parameters that the bytes encode, if they are absent or NULL. `None` says nothing
-/// about the bytes.
+/// Decodes parameters that are absent or NULL. Returns `None` for any other bytes, or if memory
+/// runs out; the general decoder then decides.
 #[inline(always)]
 fn plain_parameters(alloc: Global, octets: &[u8]) -> Option<Option<Any>>
     ensures { IfSome result (λ p. IsValid (optional any) (plain_option (λ v. v) p)
@@ -99,8 +96,9 @@ fn plain_parameters(alloc: Global, octets: &[u8]) -> Option<Option<Any>>
     Some(Some(Any::null(alloc)))
 }
 
-/// Returns the algorithm whose fields the bytes encode, if the header of its OID has two bytes and
-/// its parameters are absent or NULL. `None` says nothing about the bytes.
+/// Decodes the fields of an algorithm if the header of its OID has two bytes and its parameters are
+/// absent or NULL. Returns `None` for any other bytes, or if memory runs out; the general decoder
+/// then decides.
 #[inline(always)]
 fn plain_fields(alloc: Global, octets: &[u8]) -> Option<AlgorithmIdentifier>
     ensures { IfSome result (λ a. IsBody (algorithm_fields Bound) (algorithm_plain a)
@@ -119,7 +117,7 @@ fn plain_fields(alloc: Global, octets: &[u8]) -> Option<AlgorithmIdentifier>
 }
 
 impl<'a, R: Reader<'a>> DecodeFields<'a, R> for AlgorithmIdentifier {
-    // Inlined, so that its fields are moved less often.
+    // Inlined, so that the fields are moved less often.
     #[inline(always)]
     fn decode_fields(alloc: Global, reader: &mut R) -> Result<AlgorithmIdentifier, Error> {
         if reads_der(reader) {

@@ -1,5 +1,3 @@
-//! AlgorithmIdentifier, borrowed.
-
 ghost use Rattle.std.specs.Prelude.{◌≡◌, refl, IfOk};
 ghost use Rattle.der_core.specs.Oid.Bound.{Bound};
 ghost use Rattle.x509_cert_parts.specs.Grammar.{algorithm_fields};
@@ -12,7 +10,7 @@ use der_core::{DecodeFields, Error, Reader, lend, row};
 use der_types::AnyRef;
 use std::alloc::{AllocError, Global};
 
-/// An algorithm and its parameters (RFC 5280 4.1.1.2), borrowed.
+/// An algorithm and its parameters (RFC 5280 4.1.1.2), with the parameters borrowed.
 ///
 /// ```text
 /// AlgorithmIdentifier ::= SEQUENCE {
@@ -23,7 +21,7 @@ use std::alloc::{AllocError, Global};
 pub struct AlgorithmIdentifierRef<'a> {
     /// The OID of the algorithm.
     pub oid: ObjectIdentifier<39>,
-    /// The parameters, as they are. NULL isn't the same as none.
+    /// The parameters, undecoded. Parameters that are NULL differ from absent parameters.
     pub parameters: Option<AnyRef<'a>>,
 }
 
@@ -32,7 +30,7 @@ impl<'a> AlgorithmIdentifierRef<'a> {
     ///
     /// # Errors
     ///
-    /// Fails if memory runs out.
+    /// - `AllocError`: memory runs out.
     pub fn ref_to_owned(&self, alloc: Global) -> Result<AlgorithmIdentifier, AllocError>
         ensures { IfOk result (λ a. algorithm_plain a ≡ algorithm_lent self.now) }
     {

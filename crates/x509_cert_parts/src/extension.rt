@@ -1,4 +1,4 @@
-//! Extension.
+//! The types `Extension` and `Extensions`.
 
 ghost use Rattle.std.specs.Prelude.{◌≡◌, refl, IfSome};
 ghost use Rattle.der_core.specs.Oid.Bound.{Bound};
@@ -15,7 +15,7 @@ use der_core::{DecodeFields, Error, Reader, lend, read_row};
 use der_types::OctetString;
 use std::alloc::{AllocError, Global};
 
-/// An extension with its encoded content, which isn't decoded (RFC 5280 4.1, 4.2).
+/// An extension (RFC 5280 4.1, 4.2), whose content isn't decoded.
 ///
 /// ```text
 /// Extension ::= SEQUENCE {
@@ -27,14 +27,15 @@ use std::alloc::{AllocError, Global};
 pub struct Extension {
     /// The OID of the extension.
     pub extn_id: ObjectIdentifier<39>,
-    /// Whether a certificate must be rejected by software that doesn't know the extension.
+    /// True if the extension is critical. Software that doesn't know a critical extension must
+    /// reject the certificate (RFC 5280 4.2).
     pub critical: bool,
-    /// The encoding of its value.
+    /// The encoding of the extension's value.
     pub extn_value: OctetString,
 }
 
 /// The extensions of a certificate (RFC 5280 4.1.2.9), in their order. The list may be empty, and
-/// may have two with the same OID.
+/// may contain two extensions with the same OID.
 ///
 /// ```text
 /// Extensions ::= SEQUENCE SIZE (1..MAX) OF Extension
@@ -46,7 +47,7 @@ impl Extension {
     ///
     /// # Errors
     ///
-    /// Fails if memory runs out.
+    /// - `AllocError`: memory runs out.
     pub fn clone(&self, alloc: Global) -> Result<Extension, AllocError>
         ensures { IsCopy self.now result extension_plain }
     {
@@ -64,8 +65,8 @@ impl FieldsView for Extension {
     ghost view = { extension_plain };
 }
 
-/// Returns the extension whose fields the bytes encode, if each of their headers has two bytes.
-/// `None` says nothing about the bytes: headers may be longer, or memory may have run out.
+/// Decodes the fields of an extension whose headers have two bytes each. Returns `None` if a header
+/// is longer or memory runs out; the general decoder then decides.
 #[inline(always)]
 fn plain_fields(alloc: Global, octets: &[u8]) -> Option<Extension>
     ensures { IfSome result (λ e. IsBody (extension_fields Bound) (extension_plain e)
@@ -99,7 +100,7 @@ fn plain_fields(alloc: Global, octets: &[u8]) -> Option<Extension>
 }
 
 impl<'a, R: Reader<'a>> DecodeFields<'a, R> for Extension {
-    // Not inlined, so that its fields are moved into place once.
+    // Not inlined, so that the fields are moved into place only once.
     #[inline(never)]
     fn decode_fields(alloc: Global, reader: &mut R) -> Result<Extension, Error> {
         if reads_der(reader) {

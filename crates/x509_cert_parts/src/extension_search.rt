@@ -1,4 +1,4 @@
-//! Extensions that are looked for by their identifiers.
+//! Looking up extensions by OID.
 
 ghost use Rattle.std.specs.Prelude.{◌≡◌};
 ghost use Rattle.der_core.specs.Grammar.{plain_option};
@@ -11,13 +11,13 @@ use der_core::oid::{AssociatedOid, ObjectIdentifier};
 use der_core::{Decode, Error, ErrorKind, FromDer, SliceReader};
 use std::alloc::Global;
 
-/// Looks for the extension with the OID of `T`. Returns whether it is critical, and its value, or
-/// `None` if there is no such extension.
+/// Looks up the extension with the OID of `T` and decodes it. Returns whether the extension is
+/// critical and its value, or `None` if there is no such extension.
 ///
 /// # Errors
 ///
 /// - `Failed`: there are two such extensions, which RFC 5280 4.2 forbids.
-/// - The errors of `T`, whose encoding the content must be.
+/// - The errors of decoding the content of the extension as a `T`.
 /// - `OutOfMemory`: memory runs out.
 pub fn get_extension<'a, T: AssociatedOid + Decode<'a, SliceReader<'a>>>(
     alloc: Global,
@@ -36,7 +36,8 @@ pub fn get_extension<'a, T: AssociatedOid + Decode<'a, SliceReader<'a>>>(
     Ok(Some((extension.critical, value)))
 }
 
-/// Returns the first extension of an identifier, and those after it.
+/// Returns the first extension with this OID and the extensions after it, or `None` if there is
+/// none.
 pub fn next_of<'a>(
     identifier: ObjectIdentifier<39>,
     extensions: &'a [Extension],

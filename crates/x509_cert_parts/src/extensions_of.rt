@@ -1,4 +1,4 @@
-//! ExtensionsOf.
+//! Iterating over the extensions with one OID.
 
 ghost use Rattle.std.specs.Prelude.{◌≡◌};
 ghost use Rattle.x509_cert_parts.specs.ExtensionSearch.{of_identifier};
@@ -11,8 +11,8 @@ use der_core::{Decode, Error, FromDer, SliceReader};
 use std::alloc::Global;
 use std::marker::PhantomData;
 
-/// An iterator over the extensions with one OID, in their order: whether each is critical, and its
-/// value.
+/// An iterator over the extensions with the OID of `T`, in their order. Each item is whether the
+/// extension is critical and its value, or the error of decoding it.
 #[derive(Drop)]
 pub struct ExtensionsOf<'a, T> {
     alloc: Global,

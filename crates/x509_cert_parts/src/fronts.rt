@@ -1,4 +1,4 @@
-//! Decoding what follows a header of two bytes.
+//! Decoding fields whose headers have two bytes.
 
 ghost use Rattle.std.specs.Prelude.{◌≡◌, ◌∷◌, ◌++◌, length, false, IfSome, IsTrue};
 ghost use Rattle.der_core.specs.Reading.{IsDer};
@@ -7,7 +7,7 @@ ghost use Rattle.x509_cert_parts.specs.Grammar.{false_by_default};
 
 use der_core::Reader;
 
-/// Returns whether a reader that hasn't failed reads headers by DER.
+/// Returns `true` only if the reader hasn't failed and decodes headers by DER.
 #[inline(always)]
 pub(crate) fn reads_der<'a, R: Reader<'a>>(reader: &R) -> bool
     ensures ready { IsTrue result → (R.state reader.now).failed ≡ false }
@@ -16,7 +16,8 @@ pub(crate) fn reads_der<'a, R: Reader<'a>>(reader: &R) -> bool
     !reader.is_failed() && reader.encoding_rules().is_der()
 }
 
-/// Returns the content of an OBJECT IDENTIFIER whose header has two bytes, and the bytes after it.
+/// Splits off the content of an OBJECT IDENTIFIER whose header has two bytes. Returns the content
+/// and the bytes after it, or `None` if the bytes don't begin with one.
 #[inline(always)]
 pub(crate) fn identifier_front(octets: &[u8]) -> Option<(&[u8], &[u8])>
     ensures { IfSome result (λ p. octets.now ≡ 0x06 ∷ length p.0.now ∷ (p.0.now ++ p.1.now)) }
@@ -34,7 +35,8 @@ pub(crate) fn identifier_front(octets: &[u8]) -> Option<(&[u8], &[u8])>
     Some(rest.split_at(len))
 }
 
-/// Returns whether the bytes begin with a TRUE whose default is FALSE, and the bytes after it.
+/// Decodes a BOOLEAN DEFAULT FALSE: returns whether the bytes begin with TRUE, and the bytes after
+/// it.
 #[inline(always)]
 #[tactic(auto, using(crate::proofs::PlainFields::false_first))]
 pub(crate) fn true_front(octets: &[u8]) -> (bool, &[u8])

@@ -1,8 +1,8 @@
-//! Laws about the parts of certificates, for every bound of arcs and every profile.
+//! Laws about the parts of certificates, for every bound on the arcs of OIDs and every profile.
 //!
-//! Each law is the contract of a function that does nothing. With these and the laws of `der_core`,
-//! no encoding of a part is a prefix of another, no two values have the same encoding, and what is
-//! decoded is what the bytes encode.
+//! Each law is the contract of a function that does nothing. With the laws of `der_core` they imply
+//! that no encoding of a part is a prefix of another, that different values have different
+//! encodings, and that decoding returns the value that the bytes encode.
 
 ghost use Rattle.std.specs.Prelude.{◌≡◌, ◌≤◌, ◌↔◌, ℕ, ℤ, pos, Option, Bool, true, false, length};
 ghost use Rattle.der_core.specs.Oid.Bound.{Bound};
@@ -29,7 +29,8 @@ use crate::validity::Validity;
 use crate::version::Version;
 use std::cmp::PartialEq;
 
-/// First tags keep the fields of each part apart, at four levels or more.
+/// The tags of the fields determine which field comes next, in every part. Four levels of nesting
+/// suffice to decode each part.
 pub fn parts_are_apart()
     ensures algorithms { (bound : ℕ) → (is_apart (algorithm_identifier bound) ≡ true)
         × (are_enough (algorithm_identifier bound) 4 ≡ true) }
@@ -45,16 +46,15 @@ pub fn parts_are_apart()
         × (is_apart (extensions bound) ≡ true) × (are_enough (extensions bound) 4 ≡ true) }
 {}
 
-/// The profiles accept these serial numbers: `Rfc5280` those of at most 21 content bytes, and `Raw`
-/// all.
+/// `Rfc5280` accepts the serial numbers with at most 21 content bytes, and `Raw` accepts all.
 pub fn serial_numbers_by_profile()
     ensures rfc5280 { (z : ℤ) → IsNumber (numbers_within ⟦<Rfc5280 as Profile>⟧.serial_limit) z
         ↔ (length (integer_octets z) ≤ serial_octets_max) }
     ensures raw { (z : ℤ) → IsNumber (numbers_within ⟦<Raw as Profile>⟧.serial_limit) z }
 {}
 
-/// The profiles re-encode these dates: `Rfc5280` those of a GeneralizedTime through 2049, and `Raw`
-/// none.
+/// `Rfc5280` leaves a validity unchanged exactly if neither date is a GeneralizedTime before 2050,
+/// and `Raw` leaves each validity unchanged.
 #[tactic(auto, using(crate::proofs::Respelled::validity_same))]
 pub fn dates_by_profile()
     ensures rfc5280 { (v : PlainValidity) → (validity_by ⟦<Rfc5280 as Profile>⟧.respells v ≡ v)
@@ -63,8 +63,8 @@ pub fn dates_by_profile()
     ensures raw { (v : PlainValidity) → validity_by ⟦<Raw as Profile>⟧.respells v ≡ v }
 {}
 
-/// A validity that has an encoding also has one with its dates re-encoded. The two are the same
-/// exactly if no date was a GeneralizedTime through 2049.
+/// If a validity has an encoding, it also has one with its dates re-encoded. The two encodings are
+/// equal exactly if neither date was a GeneralizedTime before 2050.
 #[tactic(auto, using(crate::proofs::Respelled::validity_valid, crate::proofs::Respelled::octets_same))]
 pub fn respelled_dates_are_spelled()
     ensures valid { (r : Bool) (v : PlainValidity) → IsValid validity v
@@ -75,7 +75,7 @@ pub fn respelled_dates_are_spelled()
         × (is_early_generalized (not_after v) ≡ false)) }
 {}
 
-/// `==` of parts is of their plain values.
+/// `==` of parts compares their abstract values.
 pub fn equality_of_parts_is_of_values<P>()
     ensures algorithms { IsOfValues ⟦<AlgorithmIdentifier as PartialEq>⟧.eq algorithm_plain
         (octets_of (algorithm_identifier Bound)) }

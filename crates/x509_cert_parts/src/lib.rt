@@ -1,5 +1,5 @@
-//! The parts of certificates (RFC 5280 4.1): algorithms, keys, versions, extensions, serial
-//! numbers, dates, and the profiles by which certificates are read and written.
+//! The parts of certificates (RFC 5280 4.1): algorithms, keys, versions, extensions, serial numbers
+//! and dates, and the profiles that determine what is accepted and how it is encoded.
 #![tactic(auto)]
 
 mod algorithm_identifier;
@@ -31,17 +31,17 @@ pub use time::Time;
 pub use validity::Validity;
 pub use version::Version;
 
-/// The names of `der_core` that the crates above use.
+/// The items of `der_core` that the crates above use.
 pub mod der {
     pub use der_core::{ErrorKind, FromDer, ToDer, making};
 }
 
-/// The names of `const_oid` that the crates above use.
+/// The items of `const_oid` that the crates above use.
 pub mod oid {
     pub use der_core::oid::ObjectIdentifier;
 }
 
-/// The names of `der_types` that the crates above use.
+/// The items of `der_types` that the crates above use.
 pub mod types {
     pub use der_types::{
         Any, AnyRef, BitString, DateTime, FlagSet, GeneralizedTime, Ia5String, Ia5StringRef,

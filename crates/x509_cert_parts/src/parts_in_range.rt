@@ -1,5 +1,5 @@
-//! Algorithms, keys, extensions and dates are in range: their identifiers, bytes and dates are. A
-//! serial number need not be, since a profile may read shorter ones than are made.
+//! Impls of `InRange`: the OIDs, bytes and dates in algorithms, keys, extensions and validities are
+//! in range. `SerialNumber` has no such impl, since it may be longer than its profile accepts.
 
 use crate::algorithm_identifier::AlgorithmIdentifier;
 use crate::extension::Extension;

@@ -1,4 +1,4 @@
-//! Profiles of certificates.
+//! Profiles: `Rfc5280` and `Raw`.
 
 ghost use Rattle.std.specs.Prelude.{◌≡◌, ℕ, Option, Some, None, Bool, true, false, IsOkAnd};
 ghost use Rattle.der_core.specs.Integers.{checked};
@@ -13,16 +13,16 @@ use crate::time::Time;
 use der_core::{Error, ErrorKind, Tag};
 use der_types::UtcTime;
 
-// The size limit of a serial number under RFC 5280, in content bytes.
+// The greatest length of a serial number under `Rfc5280`, in content bytes.
 const MAX_SERIAL_OCTETS: usize = 21;
 
-/// A profile decides which serial numbers are accepted, and how the dates of a validity are
+/// A profile determines which serial numbers are accepted, and how the dates of a validity are
 /// encoded.
 pub trait Profile {
-    /// The size limit of a serial number in content bytes, if there is one.
+    /// The greatest length of a serial number in content bytes, if it is limited.
     ghost serial_limit: { Option ℕ };
 
-    /// Whether dates are encoded as UTCTime through 2049.
+    /// True if dates before 2050 are encoded as UTCTime. Otherwise each date keeps its encoding.
     ghost respells: { Bool };
 
     /// Checks a serial number that was decoded.
@@ -34,16 +34,16 @@ pub trait Profile {
         ensures { GivesNow (λ _. serial.now) result
             (checked (numbers_within serial_limit) Tag.Integer serial.now) };
 
-    /// Returns the date, as it is written in a validity. It always succeeds.
+    /// Returns the date as the profile encodes it in a validity. The call always succeeds.
     fn time_encoding(time: Time) -> Result<Time, Error>
         ensures { IsOkAnd result (λ t. time_value t ≡ spelled_by respells (time_value time)) };
 }
 
-/// The profile of RFC 5280. Serial numbers of at most 21 content bytes are accepted. Dates are
-/// encoded as UTCTime through 2049, and as GeneralizedTime later (4.1.2.2, 4.1.2.5).
+/// The profile of RFC 5280: serial numbers have at most 21 content bytes, and dates are encoded as
+/// UTCTime before 2050 and as GeneralizedTime from 2050 on (4.1.2.2, 4.1.2.5).
 ///
-/// RFC 5280 requires at most 20 bytes. Some software counts them before it adds a byte for the
-/// sign, so 21 are accepted.
+/// RFC 5280 allows at most 20 bytes. Some software counts them before it adds a byte for the sign,
+/// so 21 are accepted.
 #[derive(Clone, Copy, Debug, Default, PartialEq, Eq, PartialOrd, Ord)]
 pub struct Rfc5280;
 
@@ -70,8 +70,8 @@ impl Profile for Rfc5280 {
     }
 }
 
-/// Certificates as they are: serial numbers of any number of bytes are read, and dates are written
-/// as they were read.
+/// The profile for certificates as they are: serial numbers of any length are accepted, and dates
+/// are encoded as they were decoded.
 #[derive(Clone, Copy, Debug, Default, PartialEq, Eq, PartialOrd, Ord)]
 pub struct Raw;
 

@@ -1,5 +1,3 @@
-//! Serial numbers. They need not be in range: a profile may read shorter ones than are made.
-
 ghost use Rattle.std.specs.Prelude.{◌≡◌, ◌++◌, [], pos, Some, Ok, IfOk, flat_map, length, None};
 ghost use Rattle.std.specs.Prelude.{true, false};
 ghost use Rattle.std.specs.Fmt.{WritesOnOk};
@@ -23,11 +21,11 @@ use std::cmp::Ordering;
 use std::fmt;
 use std::marker::{Model, PhantomData};
 
-/// The serial number of a certificate (RFC 5280 4.1.2.2). The profile limits its content bytes.
-/// Numbers that are negative or zero are accepted.
+/// The serial number of a certificate (RFC 5280 4.1.2.2). The profile limits its length. Numbers
+/// that are negative or zero are accepted.
 ///
-/// Contracts see the number. Serial numbers are ordered by the length of their content, then by its
-/// bytes.
+/// In contracts, its value is the number. Serial numbers are ordered by the length of their content
+/// first, then by its bytes.
 ///
 /// ```text
 /// CertificateSerialNumber ::= INTEGER
@@ -53,17 +51,17 @@ impl<P> Model for SerialNumber<P> {
 }
 
 impl<P> SerialNumber<P> {
-    /// The size limit of a new serial number, in content bytes.
+    /// The greatest length of a new serial number, in content bytes.
     pub const MAX_LEN: Length = Length { value: 20 };
 
-    /// Returns the number of these digits in base 256, the most significant first. Leading zeros
-    /// are left out.
+    /// Returns the serial number with these bytes as an unsigned number, the most significant byte
+    /// first. Leading zeros are dropped.
     ///
     /// # Errors
     ///
-    /// - `Length`: no bytes.
-    /// - `Overlength`: more than 20 content bytes.
-    /// - `Overflow`: they are 2^32 or more.
+    /// - `Length`: there are no bytes.
+    /// - `Overlength`: the number has more than 20 content bytes.
+    /// - `Overflow`: there are 2^32 bytes or more.
     /// - `OutOfMemory`: memory runs out.
     #[tactic(auto, unfolding(crate::specs::SerialNumbers::new_serial))]
     pub fn new(alloc: Global, bytes: &[u8]) -> Result<SerialNumber<P>, Error>
@@ -79,11 +77,11 @@ impl<P> SerialNumber<P> {
         })
     }
 
-    /// This number.
+    /// Returns the serial number with this value.
     ///
     /// # Errors
     ///
-    /// Fails if memory runs out.
+    /// - `OutOfMemory`: memory runs out.
     pub fn from_u64(alloc: Global, number: u64) -> Result<SerialNumber<P>, Error>
         ensures { Gives (λ n. n) result (Ok (pos number)) }
     {
@@ -95,12 +93,14 @@ impl<P> SerialNumber<P> {
         })
     }
 
-    /// Returns a serial number of 17 random bytes, of which the first isn't 0.
+    /// Returns a serial number of 17 random bytes, the first of which isn't 0.
     ///
     /// # Errors
     ///
+    /// The state of the generator is the one after the draws, also if the call fails.
+    ///
     /// - `Failed`: sixteen draws in a row began with 0.
-    /// - `OutOfMemory`: memory runs out. The generator is as after the draws.
+    /// - `OutOfMemory`: memory runs out.
     pub fn generate<R: CryptoRng>(alloc: Global, rng: &mut R) -> Result<SerialNumber<P>, Error>
         ensures number { Gives (λ n. n) result (drawn_serial [] 17 (R.stream rng.old)).0 }
         ensures left { R.stream rng.new ≡ (drawn_serial [] 17 (R.stream rng.old)).1 }
@@ -108,14 +108,16 @@ impl<P> SerialNumber<P> {
         Ok(SerialNumber::generate_with_prefix(alloc, &[], 17, rng)?)
     }
 
-    /// Returns a serial number of these bytes and this many random ones after them, of which the
-    /// first isn't 0. Each draw replaces all random bytes.
+    /// Returns a serial number of a prefix and random bytes, the first of which isn't 0. A draw
+    /// that begins with 0 is repeated in full.
     ///
     /// # Errors
     ///
-    /// - `Failed`: there are fewer than 8 random bytes, or more than 19 bytes in all, or sixteen
-    ///   draws in a row began with 0.
-    /// - `OutOfMemory`: memory runs out. The generator is as after the draws.
+    /// The state of the generator is the one after the draws, also if the call fails.
+    ///
+    /// - `Failed`: `rand_len` is less than 8, there are more than 19 bytes in all, or sixteen draws
+    ///   in a row began with 0.
+    /// - `OutOfMemory`: memory runs out.
     #[tactic(auto, unfolding(crate::specs::Drawing::drawn_serial))]
     pub fn generate_with_prefix<R: CryptoRng>(
         alloc: Global,
@@ -144,7 +146,11 @@ impl<P> SerialNumber<P> {
         Ok(SerialNumber::of_parts(alloc, prefix, random)?)
     }
 
-    /// Returns the serial number with the bytes of both.
+    /// Returns the serial number with the bytes of both slices, one after the other.
+    ///
+    /// # Errors
+    ///
+    /// - The errors of `SerialNumber::new`.
     fn of_parts(alloc: Global, first: &[u8], last: &[u8]) -> Result<SerialNumber<P>, Error>
         ensures { Gives (λ n. n) result (new_serial (first.now ++ last.now)) }
     {
@@ -158,7 +164,7 @@ impl<P> SerialNumber<P> {
     ///
     /// # Errors
     ///
-    /// Fails if memory runs out.
+    /// - `AllocError`: memory runs out.
     pub fn clone(&self, alloc: Global) -> Result<SerialNumber<P>, AllocError>
         ensures { IfOk result (λ n. n ≡ self.now) }
     {
@@ -169,7 +175,7 @@ impl<P> SerialNumber<P> {
         })
     }
 
-    /// Returns the content bytes: two's complement, the most significant byte first.
+    /// Returns the content bytes: the number in two's complement, the most significant byte first.
     pub fn as_bytes(&self) -> &[u8]
         ensures octets { result.now ≡ integer_octets self.now }
         ensures number { integer_of result.now ≡ self.now }
@@ -209,7 +215,8 @@ impl<P: Profile> Primitive for SerialNumber<P> {
     ghost leaf_plain = { λ n. n };
 }
 
-/// Two's complement in the fewest bytes, no more than the profile reads.
+/// The content is the number in two's complement in as few bytes as possible. The profile limits
+/// their number.
 impl<'a, P: Profile> Leaf<'a> for SerialNumber<P> {
     fn from_content(alloc: Global, tag: Tag, octets: &'a [u8]) -> Result<SerialNumber<P>, Error> {
         let serial = SerialNumber {
@@ -234,7 +241,7 @@ impl<P: Profile> EncodeLeaf for SerialNumber<P> {
     }
 }
 
-/// The content bytes as pairs of upper-case digits in base 16, joined by colons.
+/// Writes the content bytes as pairs of uppercase hexadecimal digits, joined by colons.
 impl<P> fmt::Display for SerialNumber<P> {
     ghost use Rattle.x509_cert_parts.specs.SerialNumbers.{colon_pairs};
 
@@ -253,7 +260,7 @@ impl<P: Profile> ValueOrd for SerialNumber<P> {
     }
 }
 
-/// Writes the two hexadecimal digits of a byte.
+/// Writes the two uppercase hexadecimal digits of a byte.
 #[tactic(auto, using(std::proofs::lemmas::Fmt::hex_byte))]
 fn write_pair<W: fmt::Write>(octet: u8, f: &mut fmt::Formatter<W>) -> fmt::Result
     ensures { WritesOnOk W.write_str_gives f.old result (hex_pair octet) f.new }
@@ -261,7 +268,7 @@ fn write_pair<W: fmt::Write>(octet: u8, f: &mut fmt::Formatter<W>) -> fmt::Resul
     write!(f, "{octet:02X}")
 }
 
-/// Writes a colon and the two hexadecimal digits of a byte.
+/// Writes a colon and the two uppercase hexadecimal digits of a byte.
 #[tactic(auto, using(std::proofs::lemmas::Fmt::hex_byte))]
 fn write_colon_pair<W: fmt::Write>(octet: u8, f: &mut fmt::Formatter<W>) -> fmt::Result
     ensures { WritesOnOk W.write_str_gives f.old result (colon_pair octet) f.new }
@@ -279,7 +286,7 @@ fn write_later<W: fmt::Write>(octets: &[u8], f: &mut fmt::Formatter<W>) -> fmt::
     Ok(())
 }
 
-/// Writes bytes as pairs of digits, joined by colons.
+/// Writes bytes as pairs of uppercase hexadecimal digits, joined by colons.
 pub(crate) fn write_octets<W: fmt::Write>(octets: &[u8], f: &mut fmt::Formatter<W>) -> fmt::Result
     ensures { WritesOnOk W.write_str_gives f.old result (colon_pairs octets.now) f.new }
 {
@@ -292,7 +299,7 @@ pub(crate) fn write_octets<W: fmt::Write>(octets: &[u8], f: &mut fmt::Formatter<
     }
 }
 
-/// Returns whether there isn't a byte, or the first one is 0.
+/// Returns whether the slice is empty or begins with 0.
 fn begins_with_zero(octets: &[u8]) -> bool
     ensures { result ≡ begins_with_zero octets.now }
 {

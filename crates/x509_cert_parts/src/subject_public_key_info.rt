@@ -1,5 +1,3 @@
-//! SubjectPublicKeyInfo.
-
 ghost use Rattle.std.specs.Prelude.{◌≡◌, refl};
 ghost use Rattle.der_core.specs.Oid.Bound.{Bound};
 ghost use Rattle.der_core.specs.Copies.{IsCopy};
@@ -22,7 +20,7 @@ use std::alloc::{AllocError, Global};
 /// ```
 #[derive(Debug, PartialEq, Eq, Drop)]
 pub struct SubjectPublicKeyInfo {
-    /// The algorithm that the key is for.
+    /// The algorithm with which the key is used.
     pub algorithm: AlgorithmIdentifier,
     /// The key.
     pub subject_public_key: BitString,
@@ -33,7 +31,7 @@ impl SubjectPublicKeyInfo {
     ///
     /// # Errors
     ///
-    /// Fails if memory runs out.
+    /// - `AllocError`: memory runs out.
     pub fn clone(&self, alloc: Global) -> Result<SubjectPublicKeyInfo, AllocError>
         ensures { IsCopy self.now result key_plain }
     {
@@ -43,7 +41,7 @@ impl SubjectPublicKeyInfo {
         })
     }
 
-    /// Returns the key, borrowed.
+    /// Returns the key with its parts borrowed.
     pub fn owned_to_ref(&self) -> SubjectPublicKeyInfoRef<'_>
         ensures { key_lent result ≡ key_plain self.now }
     {

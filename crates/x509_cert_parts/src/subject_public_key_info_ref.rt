@@ -1,5 +1,3 @@
-//! SubjectPublicKeyInfo, borrowed.
-
 ghost use Rattle.std.specs.Prelude.{◌≡◌, refl, IfOk};
 ghost use Rattle.der_core.specs.Oid.Bound.{Bound};
 ghost use Rattle.x509_cert_parts.specs.Grammar.{public_key_fields};
@@ -12,7 +10,7 @@ use der_core::{DecodeFields, Error, Reader, lend, row};
 use der_types::BitStringRef;
 use std::alloc::{AllocError, Global};
 
-/// A public key and its algorithm (RFC 5280 4.1.2.7), borrowed.
+/// A public key and its algorithm (RFC 5280 4.1.2.7), with the parts borrowed.
 ///
 /// ```text
 /// SubjectPublicKeyInfo ::= SEQUENCE {
@@ -21,7 +19,7 @@ use std::alloc::{AllocError, Global};
 /// ```
 #[derive(Clone, Copy, Debug, PartialEq, Eq)]
 pub struct SubjectPublicKeyInfoRef<'a> {
-    /// The algorithm that the key is for.
+    /// The algorithm with which the key is used.
     pub algorithm: AlgorithmIdentifierRef<'a>,
     /// The key.
     pub subject_public_key: BitStringRef<'a>,
@@ -32,7 +30,7 @@ impl<'a> SubjectPublicKeyInfoRef<'a> {
     ///
     /// # Errors
     ///
-    /// Fails if memory runs out.
+    /// - `AllocError`: memory runs out.
     pub fn ref_to_owned(&self, alloc: Global) -> Result<SubjectPublicKeyInfo, AllocError>
         ensures { IfOk result (λ k. key_plain k ≡ key_lent self.now) }
     {

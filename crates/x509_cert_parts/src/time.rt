@@ -1,5 +1,3 @@
-//! Times.
-
 ghost use Rattle.std.specs.Prelude.{◌≡◌, ◌*◌, Some, refl};
 ghost use Rattle.std.proofs.Common.{inl, inr};
 ghost use Rattle.std.specs.Duration.{as_nanos};
@@ -20,16 +18,16 @@ use std::fmt;
 use std::str::FromStr;
 use std::time::Duration;
 
-/// A date in one of its two spellings (RFC 5280 4.1.2.5).
+/// A date and time in one of two encodings (RFC 5280 4.1.2.5).
 ///
 /// ```text
 /// Time ::= CHOICE { utcTime UTCTime, generalTime GeneralizedTime }
 /// ```
 #[derive(Clone, Copy, Debug, PartialEq, Eq)]
 pub enum Time {
-    /// From 1970 to 2049.
+    /// A UTCTime, from 1970 through 2049.
     UtcTime(UtcTime),
-    /// From 1970 to 9999.
+    /// A GeneralizedTime, from 1970 through 9999.
     GeneralTime(GeneralizedTime),
 }
 
@@ -40,7 +38,7 @@ impl Time {
     /// 4.1.2.5).
     pub const INFINITY: Time = Time::GeneralTime(GeneralizedTime::INFINITY);
 
-    /// Returns the date.
+    /// Returns the date and time.
     pub fn to_date_time(&self) -> DateTime
         ensures { result ≡ time_date self.now }
     {
@@ -50,14 +48,14 @@ impl Time {
         }
     }
 
-    /// Returns the time since 1970-01-01T00:00:00Z, leap seconds left out.
+    /// Returns the duration since 1970-01-01T00:00:00Z, without leap seconds.
     pub fn to_unix_duration(self) -> Duration
         ensures { as_nanos result ≡ unix_seconds (time_date self) * 1_000_000_000 }
     {
         self.to_date_time().unix_duration()
     }
 
-    /// Returns the time, as a choice that is compared.
+    /// Returns the value as a choice, which has the encoding and ordering of a CHOICE.
     fn cases(&self) -> Cases
         ensures { ⟦<Cases as Shaped>⟧.written result ≡ time_value self.now }
     {
@@ -124,7 +122,7 @@ impl AsRead for Time {
     ghost as_read = { λ _. refl };
 }
 
-/// The tags, then the contents. It isn't the order of time.
+/// Compares the tags first, then the contents. This isn't the order of time.
 impl DerOrd for Time {
     fn der_cmp(&self, other: &Self) -> Result<Ordering, Error> {
         self.cases().der_cmp(&other.cases())
@@ -137,7 +135,7 @@ impl FirstTag for Time {
     }
 }
 
-/// Prints the date as `YYYY-MM-DDTHH:MM:SSZ`.
+/// Writes the date and time as `YYYY-MM-DDTHH:MM:SSZ`.
 impl fmt::Display for Time {
     ghost output = { λ t. Some (date_text (time_date t)) };
 
@@ -146,7 +144,12 @@ impl fmt::Display for Time {
     }
 }
 
-/// Parses a date of the form `YYYY-MM-DDTHH:MM:SSZ`.
+/// Parses a date and time of the form `YYYY-MM-DDTHH:MM:SSZ`. Before 2050 the value is a UTCTime,
+/// and from 2050 on a GeneralizedTime.
+///
+/// # Errors
+///
+/// - `DateTime`: the text isn't a date and time in this form.
 impl FromStr for Time {
     type Err = Error;
 
@@ -173,7 +176,7 @@ impl From<GeneralizedTime> for Time {
     }
 }
 
-/// UTCTime through 2049, and GeneralizedTime later.
+/// Returns a UTCTime before 2050 and a GeneralizedTime from 2050 on.
 impl From<DateTime> for Time {
     ghost from_gives = { λ d t. time_value t ≡ time_of d };
 

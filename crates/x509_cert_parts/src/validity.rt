@@ -1,5 +1,3 @@
-//! Validity.
-
 ghost use Rattle.std.specs.Prelude.{◌≡◌, ◌+◌, ◌/◌, ◌≤◌, ◌↔◌, refl, IsOk, IfOk, IfErr, IsOkAnd};
 ghost use Rattle.std.specs.Duration.{as_nanos};
 ghost use Rattle.der_core.specs.TagTypes.Tag.TheVariants.{Sequence};
@@ -24,17 +22,17 @@ use std::cmp::Ordering;
 use std::marker::PhantomData;
 use std::time::Duration;
 
-/// The validity of a certificate, both dates included (RFC 5280 4.1.2.5). The profile decides how
-/// the dates are encoded.
+/// The period for which a certificate is valid, including both dates (RFC 5280 4.1.2.5). The
+/// profile determines how the dates are encoded.
 ///
 /// ```text
 /// Validity ::= SEQUENCE { notBefore Time, notAfter Time }
 /// ```
 #[derive_where(Clone, Copy, Debug, PartialEq, Eq)]
 pub struct Validity<P = Rfc5280> {
-    /// notBefore: the date on which validity begins.
+    /// The date on which the period begins (`notBefore`).
     pub not_before: Time,
-    /// notAfter: the date on which validity ends, itself included.
+    /// The date on which the period ends (`notAfter`).
     pub not_after: Time,
     profile: PhantomData<P>,
 }
@@ -42,7 +40,7 @@ pub struct Validity<P = Rfc5280> {
 type Row = (Time, (Time, ()));
 
 impl<P> Validity<P> {
-    /// From the first date until the second.
+    /// Returns the validity from the first date through the second.
     pub fn new(not_before: Time, not_after: Time) -> Validity<P>
         ensures before { result.not_before ≡ not_before }
         ensures after { result.not_after ≡ not_after }
@@ -54,7 +52,7 @@ impl<P> Validity<P> {
         }
     }
 
-    /// Returns the validity from the present on for a duration. A fraction of a second is left out.
+    /// Returns the validity from `now` for a duration, whose fraction of a second is dropped.
     ///
     /// # Errors
     ///
@@ -76,7 +74,7 @@ impl<P> Validity<P> {
         Ok(Validity::new(Time::from(now), Time::from(then)))
     }
 
-    /// From the present on, without an end.
+    /// Returns the validity from `now` without an expiration date (`Time::INFINITY`).
     pub fn infinity(now: DateTime) -> Validity<P>
         ensures before { time_value result.not_before ≡ time_of now }
         ensures after { time_value result.not_after ≡ without_end }
@@ -86,7 +84,7 @@ impl<P> Validity<P> {
 }
 
 impl<P: Profile> Validity<P> {
-    /// Returns the row of the dates as the profile encodes them. It always succeeds.
+    /// Returns the dates as the profile encodes them. The call always succeeds.
     fn spelled(&self) -> Result<Row, Error>
         ensures { IsOkAnd result (λ row. ⟦<Row as FieldRow>⟧.fields_written row
             ≡ validity_by P.respells (validity_plain self.now)) }

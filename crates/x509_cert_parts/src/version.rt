@@ -1,5 +1,3 @@
-//! Version.
-
 ghost use Rattle.std.specs.Prelude.{◌≡◌, [], ◌∷◌, refl};
 ghost use Rattle.x509_cert_parts.specs.Views.{version_number};
 
@@ -14,12 +12,12 @@ use der_core::making::is_zero;
 /// ```
 #[derive(Clone, Copy, Debug, Default, PartialEq, Eq)]
 pub enum Version {
-    /// A certificate with only the basic fields.
+    /// Version 1: only the basic fields.
     #[default]
     V1,
-    /// Of one with unique identifiers, too.
+    /// Version 2: also unique identifiers.
     V2,
-    /// Of one with extensions, too.
+    /// Version 3: also extensions.
     V3,
 }
 
@@ -27,7 +25,7 @@ impl Described for Version {
     type By = AsNumbered;
 }
 
-/// Any other number is rejected as `Value`.
+/// Decoding rejects any other number with `Value`.
 impl Numbered for Version {
     ghost known_numbers = { 0 ∷ 1 ∷ 2 ∷ [] };
 
@@ -52,7 +50,7 @@ impl Numbered for Version {
 /// Orders versions by their numbers.
 impl Ordered for Version {}
 
-/// `V1`.
+/// The default is `V1` (RFC 5280 4.1).
 impl DefaultContent for Version {
     ghost content_octets = { 0 ∷ [] };
 

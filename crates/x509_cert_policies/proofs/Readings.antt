@@ -1,4 +1,5 @@
--- Bytes begin with the spelling of one value at most, and where they do, nothing refuses them.
+-- Lemmas about values in the presentation language of TLS: bytes begin with the encoding of at most
+-- one value, and are then not rejected.
 use Rattle.std.proofs.Common.{◌≡◌, ℕ, ◌+◌, ◌<◌, List, length, get_or, refl, arith, length-append, ◌≢◌, ◌^◌, [], ◌∷◌, ◌++◌, sym, ap, subst, ◌∙◌, append_assoc, inl, inr, IsTrue, ◌==◌, take, flat_map, All, Bool, false, min, drop, length-take, take-append-drop, ◌≤◌}
 use Rattle.std.specs.Int.{w16, w64, from_be_bytes}
 use Rattle.std.proofs.lemmas.Nat.{be_bytes_2, be_bytes_8, from_be_bytes-to_be_bytes_2, from_be_bytes-to_be_bytes_8}
@@ -15,12 +16,12 @@ use Rattle.x509_cert_policies.specs.Timestamps.{timestamp_form, timestamp_plain,
 
 -- Numbers of two and of eight bytes.
 
--- the number of two bytes is spelled by them
+-- Two bytes are the encoding of their number.
 pub short_of : (bytes : List ℕ) (n : ℕ) → length bytes ≡ 2 → ((i : ℕ) → get_or bytes i 0 < 256) → n ≡ from_be_bytes w16 bytes → short_octets n ≡ bytes
 unfolding short_octets
 short_of bytes n len fits is = be_bytes_2 bytes n len fits is
 
--- the number of eight bytes is spelled by them
+-- Eight bytes are the encoding of their number.
 pub long_of : (bytes : List ℕ) (n : ℕ) → length bytes ≡ 8 → ((i : ℕ) → get_or bytes i 0 < 256) → n ≡ from_be_bytes w64 bytes → long_octets n ≡ bytes
 unfolding long_octets
 long_of bytes n len fits is = be_bytes_8 bytes n len fits is
@@ -115,12 +116,12 @@ refused_once (pair f g) input d e (inr (v, rest, spelled, p)) (inr (w, other, sp
     let P : List ℕ → Type 0 = λ z. Refuses g z d in
     refused_once g other d e (subst P parts.1 p) q
 
--- One more member of a list, written or read.
+-- Encoding or decoding another member of a list.
 
 taken : (xs : List SerializedSct) (i : ℕ) (d : SerializedSct) → i < length xs → flat_map sct_octets (take (i + 1) xs) ≡ flat_map sct_octets (take i xs) ++ sct_octets (get_or xs i d)
 taken xs i d h = ap (λ (z : List SerializedSct). flat_map sct_octets z) (take_more xs i d h) ∙ sym (flat_map_more sct_octets [] (take i xs) (get_or xs i d))
 
--- where bytes are left, they aren't none
+-- If bytes remain, the rest isn't empty.
 pub some_left : (w : List ℕ) (is_empty : Bool) → is_empty ≡ (length w == 0) → is_empty ≡ false → w ≢ []
 some_left [] is_empty is more = λ e. absurd cc
 some_left (x ∷ w) is_empty is more = λ e. absurd cc
@@ -142,12 +143,12 @@ pub member_refused : (xs : List SerializedSct) (body more : List ℕ) (e : TlsEr
 member_refused xs body more e each parts is_more (inl memory) = inl memory
 member_refused xs body more e each parts is_more (inr refused) = inr (record { scts = xs; more = more; each = each; parts = parts; is_more = is_more; refused = refused })
 
--- a list that was written is far from the greatest length of an OCTET STRING
+-- An encoded list is much shorter than the longest OCTET STRING.
 pub list_is_short : (body old new : List ℕ) → old ≡ [] → Appends vector body old new → length new < 2 ^ 32
 list_is_short body old new empty written =
     omega (arith, written.value, ap length empty, ap length written.octets_behind, length-append old (octets vector body), vector_length body)
 
--- How many bytes encode a timestamp.
+-- The length of a timestamp's encoding.
 
 pub timestamp_length : (t : SignedCertificateTimestamp) → length (octets timestamp_form (timestamp_plain t)) ≡ length t.log_id.key_id + 9 + length (octets vector t.extensions.items) + length (octets signed_form (signed_plain t.signature))
 timestamp_length t =
@@ -155,7 +156,7 @@ timestamp_length t =
     let s = octets signed_form (signed_plain t.signature) in
     omega (arith, length-append t.log_id.key_id (long_octets t.timestamp ++ (e ++ s)), length-append (long_octets t.timestamp) (e ++ s), length-append e s, length-long t.timestamp)
 
--- Two fields in turn: what is read, refused and written of them.
+-- Two fields, one after the other: decoding, rejecting and encoding them.
 
 pub first_fails : (f g : Form) (input : List ℕ) (e : TlsError) → FailsOn f input e → FailsOn (pair f g) input e
 first_fails f g input e (inl memory) = inl memory
@@ -171,14 +172,14 @@ both_spelled f g a b input mid rest p q = record {
   split = p.split ∙ ap (λ (t : List ℕ). octets f a ++ t) q.split ∙ sym (append_assoc (octets f a) (octets g b) rest);
 }
 
--- the first that many bytes
+-- The first `n` bytes.
 pub exactly_spelled : (n : ℕ) (input front rest : List ℕ) → front ≡ take n input → rest ≡ drop n input → length rest + n ≡ length input → Spells (exactly n) front input rest
 exactly_spelled n input front rest f r len = record {
   value = ap length f ∙ length-take n input ∙ (let k : min n (length input) ≡ n = omega arith in k);
   split = sym (take-append-drop n input) ∙ ap (λ (t : List ℕ). t ++ drop n input) (sym f) ∙ ap (λ (t : List ℕ). front ++ t) (sym r);
 }
 
--- What comes before bytes that were put after others.
+-- The old bytes after an append.
 
 pub front_same : (old : List ℕ) → take (length old) old ≡ old
 front_same old = take_all (length old) old (omega arith)

@@ -1,4 +1,4 @@
--- The numbers of the enumerations (RFC 5246 7.4.1.4.1, RFC 8422 5.1.3, RFC 6962 3.2).
+-- The numbers of the enumerations (RFC 5246 7.4.1.4.1; RFC 8422 5.1.3; RFC 6962 3.2).
 use Rattle.std.specs.Prelude.{ℕ, List, [], ◌∷◌}
 use Rattle.x509_cert_policies.specs.declared.hash_algorithm.HashAlgorithm.{HashAlgorithm}
 use Rattle.x509_cert_policies.specs.declared.hash_algorithm.HashAlgorithm.TheVariants as hashes

@@ -1,5 +1,5 @@
--- The forms of a timestamp and of its parts (RFC 6962 3.2, RFC 5246 4.7, 7.4.1.4.1), and what their
--- values are in them.
+-- The forms of timestamps and of their parts (RFC 6962 3.2; RFC 5246 4.7, 7.4.1.4.1), and the
+-- abstract values of the types.
 use Rattle.x509_cert_policies.specs.Forms.{Form, Plain, named, long, exactly, vector, pair}
 use Rattle.x509_cert_policies.specs.Numbers.{hash_number, hash_numbers, signature_number}
 use Rattle.x509_cert_policies.specs.Numbers.{signature_numbers, version_number, version_numbers}

@@ -1,5 +1,3 @@
-//! BasicConstraints.
-
 ghost use Rattle.std.specs.Prelude.{◌≡◌, refl};
 ghost use Rattle.x509_cert_policies.specs.Policies.{basic_constraints_fields};
 ghost use Rattle.x509_cert_policies.specs.PolicyViews.{basic_constraints_plain};
@@ -8,8 +6,8 @@ use der_core::describing::{AsRecord, Described, FieldsView, RowUser, Rows};
 use der_core::{DecodeFields, Error, Reader, lend, read_row};
 use std::alloc::Global;
 
-/// Whether a key belongs to an authority, and how long the paths below it may be (RFC 5280
-/// 4.2.1.9).
+/// The basic constraints of a certificate: they say whether its subject is a CA, and limit the
+/// length of chains below it (RFC 5280 4.2.1.9).
 ///
 /// ```text
 /// BasicConstraints ::= SEQUENCE {
@@ -18,10 +16,10 @@ use std::alloc::Global;
 /// ```
 #[derive(Clone, Copy, Debug, PartialEq, Eq)]
 pub struct BasicConstraints {
-    /// Whether the subject's key may verify the signatures of certificates.
+    /// True if the subject is a CA, whose key may verify the signatures of certificates.
     pub ca: bool,
-    /// The greatest number of authorities between this one and the last certificate. More than 255
-    /// is not read.
+    /// The greatest number of intermediate certificates between this one and the end-entity
+    /// certificate, if it is limited. A number above 255 is rejected.
     pub path_len_constraint: Option<u8>,
 }
 

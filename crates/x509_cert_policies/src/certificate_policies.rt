@@ -1,11 +1,9 @@
-//! CertificatePolicies.
-
 ghost use Rattle.std.specs.Prelude.{◌≡◌};
 
 use crate::policy_information::PolicyInformation;
 use der_core::describing::{AsField, Described, Ordered, Wraps};
 
-/// The policies under which a certificate was issued (RFC 5280 4.2.1.4).
+/// The policies under which a certificate was issued (RFC 5280 4.2.1.4). The list may be empty.
 ///
 /// ```text
 /// CertificatePolicies ::= SEQUENCE SIZE (1..MAX) OF PolicyInformation

@@ -1,5 +1,3 @@
-//! DigitallySigned.
-
 ghost use Rattle.x509_cert_policies.specs.Timestamps.{signed_form, signed_plain};
 
 use crate::signature_and_hash_algorithm::SignatureAndHashAlgorithm;
@@ -8,7 +6,7 @@ use crate::tls_value::TlsValue;
 use crate::vectors::{append_vector, read_vector, vector_len};
 use std::alloc::Global;
 
-/// A signature, with its algorithm (RFC 5246 4.7).
+/// A signature and its algorithm (RFC 5246 4.7).
 ///
 /// ```text
 /// struct {
@@ -18,7 +16,7 @@ use std::alloc::Global;
 /// ```
 #[derive(Debug, Drop, PartialEq)]
 pub struct DigitallySigned {
-    /// The hash and the algorithm.
+    /// The hash algorithm and the signature algorithm.
     pub algorithm: SignatureAndHashAlgorithm,
     /// The bytes of the signature.
     pub signature: Vec<u8>,

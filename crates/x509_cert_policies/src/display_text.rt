@@ -1,5 +1,3 @@
-//! DisplayText.
-
 ghost use Rattle.std.specs.Prelude.{◌≡◌, refl};
 ghost use Rattle.x509_cert_policies.specs.Policies.{display_text};
 ghost use Rattle.x509_cert_policies.specs.PolicyViews.{display_plain};
@@ -12,7 +10,7 @@ use std::alloc::Global;
 use std::cmp::Ordering;
 use x509_cert_parts::types::Ia5String;
 
-/// A text that is shown (RFC 5280 4.2.1.4). VisibleString and BMPString aren't read.
+/// A text for display (RFC 5280 4.2.1.4). VisibleString and BMPString aren't supported.
 ///
 /// ```text
 /// DisplayText ::= CHOICE {
@@ -21,9 +19,9 @@ use x509_cert_parts::types::Ia5String;
 /// ```
 #[derive(Debug, Drop, PartialEq, Eq)]
 pub enum DisplayText {
-    /// Of characters of ASCII.
+    /// ASCII characters.
     Ia5String(Ia5String),
-    /// Of any characters.
+    /// Any Unicode text.
     Utf8String(String),
 }
 
@@ -32,7 +30,8 @@ type Cases = OneOf2<Ia5String, String>;
 type CasesRef<'a> = OneOf2<EncodeRef<'a, Ia5String>, EncodeRef<'a, String>>;
 
 impl DisplayText {
-    /// Returns a reference to the alternative.
+    /// Returns the value as a choice of references, which has the encoding and ordering of a
+    /// CHOICE.
     fn cases<'a>(&'a self) -> CasesRef<'a>
         ensures { ⟦<CasesRef<'a> as Shaped>⟧.written result ≡ display_plain self.now }
     {
@@ -88,7 +87,7 @@ impl AsRead for DisplayText {
     ghost as_read = { λ _. refl };
 }
 
-/// The tags, then the contents.
+/// Compares the tags first, then the contents.
 impl DerOrd for DisplayText {
     fn der_cmp(&self, other: &Self) -> Result<Ordering, Error> {
         self.cases().der_cmp(&other.cases())

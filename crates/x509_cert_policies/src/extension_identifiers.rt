@@ -1,4 +1,4 @@
-//! The identifiers of extensions (RFC 5280 4.2.1; RFC 3280 4.2.1.4).
+//! The OIDs of the extensions whose types are in this crate (RFC 5280 4.2.1; RFC 3280 4.2.1.4).
 
 ghost use Rattle.x509_cert_parts.specs.ExtensionTypes as types;
 ghost use Rattle.x509_cert_parts.specs.ExtensionTypes.{identifier_of};

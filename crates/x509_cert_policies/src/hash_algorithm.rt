@@ -1,11 +1,9 @@
-//! HashAlgorithm.
-
 ghost use Rattle.std.specs.Prelude.{◌≡◌, refl};
 ghost use Rattle.x509_cert_policies.specs.Numbers.{hash_number, hash_numbers};
 
 use der_core::describing::Numbered;
 
-/// The hash of a signature (RFC 5246 7.4.1.4.1, RFC 8422 5.1.3).
+/// The hash algorithm of a signature (RFC 5246 7.4.1.4.1; RFC 8422 5.1.3).
 ///
 /// ```text
 /// enum {
@@ -14,7 +12,7 @@ use der_core::describing::Numbered;
 /// ```
 #[derive(Clone, Copy, Debug, PartialEq)]
 pub enum HashAlgorithm {
-    /// No hash.
+    /// No hash algorithm.
     None,
     /// MD5.
     Md5,
@@ -28,7 +26,7 @@ pub enum HashAlgorithm {
     Sha384,
     /// SHA-512.
     Sha512,
-    /// The hash is part of the signature algorithm.
+    /// The signature algorithm includes the hash algorithm.
     Intrinsic = 8,
 }
 

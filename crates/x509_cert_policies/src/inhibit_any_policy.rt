@@ -1,10 +1,9 @@
-//! InhibitAnyPolicy.
-
 ghost use Rattle.std.specs.Prelude.{◌≡◌};
 
 use der_core::describing::{AsField, Described, Ordered, Wraps};
 
-/// From where on in a path the policy that stands for any does not (RFC 5280 4.2.1.14).
+/// The number of further certificates in the chain before `anyPolicy` is no longer allowed (RFC
+/// 5280 4.2.1.14). A number above 2^32 - 1 is rejected.
 ///
 /// ```text
 /// InhibitAnyPolicy ::= SkipCerts

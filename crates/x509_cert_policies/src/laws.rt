@@ -1,4 +1,7 @@
-//! Laws of what is spelled: it is read, as the value that was written, and as no other.
+//! Laws about values in the presentation language of TLS: a value's encoding decodes to this value
+//! and to no other.
+//!
+//! Each law is the contract of a function that does nothing.
 
 ghost use Rattle.std.specs.Prelude.{◌≡◌, ℕ, List, [], map};
 ghost use Rattle.x509_cert_policies.specs.declared.tls_error.TlsError.{TlsError as Fault};
@@ -6,9 +9,10 @@ ghost use Rattle.x509_cert_policies.specs.Forms.{Form, Plain, Spells, Refuses, R
 ghost use Rattle.x509_cert_policies.specs.declared.serialized_sct.SerializedSct.{SerializedSct as Member};
 ghost use Rattle.x509_cert_policies.specs.Lists.{sct_data, SpellsList, RefusesList};
 
-/// Bytes begin with the spelling of one value at most, and where they begin with one no error is
-/// found in them: so a call that reads answers that value, unless it wants memory. Bytes are
-/// rejected for one reason at most. Nothing is done.
+/// Bytes begin with the encoding of at most one value, and are rejected for at most one reason. If
+/// they begin with the encoding of a value, no error is found in them.
+///
+/// So decoding such bytes returns the value, unless memory runs out.
 pub fn spellings_are_read()
     ensures once { (f : Form) (v w : Plain f) (input r s : List ℕ) → Spells f v input r
         → Spells f w input s → (v ≡ w) × (r ≡ s) }
@@ -20,9 +24,9 @@ pub fn spellings_are_read()
         → Refuses f input e → d ≡ e }
 {}
 
-/// Bytes are the spelling of one list at most, and where they are one no error is found in them: so
-/// `parse_timestamps` answers the members that the list was made of, unless it wants memory.
-/// Nothing is done.
+/// Bytes are the encoding of at most one list, and then no error is found in them.
+///
+/// So `parse_timestamps` returns the members of which the list was made, unless memory runs out.
 pub fn lists_are_read()
     ensures once { (xs ys : List Member) (input : List ℕ) → SpellsList xs input
         → SpellsList ys input → map sct_data xs ≡ map sct_data ys }

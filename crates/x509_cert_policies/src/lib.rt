@@ -1,4 +1,5 @@
-//! Policies of certificates, constraints on paths, and notices (RFC 5280 4.2).
+//! Certificate policies, basic constraints, policy constraints, key usage periods and notices (RFC
+//! 5280 4.2; RFC 3280 4.2.1.4), and signed certificate timestamps (RFC 6962).
 #![tactic(auto)]
 
 mod basic_constraints;
@@ -43,7 +44,7 @@ pub use policy_qualifier_info::{CpsUri, PolicyQualifierInfo};
 pub use private_key_usage_period::PrivateKeyUsagePeriod;
 pub use user_notice::UserNotice;
 
-/// The names of `x509_cert_parts` that the crates above use.
+/// The items of `x509_cert_parts` that the crates above use.
 pub mod cert_parts {
     pub use x509_cert_parts::{
         AlgorithmIdentifier, Extension, Extensions, Profile, Raw, Rfc5280, SubjectPublicKeyInfo,
@@ -51,17 +52,17 @@ pub mod cert_parts {
     };
 }
 
-/// The names of `der_core` that the crates above use.
+/// The items of `der_core` that the crates above use.
 pub mod der {
     pub use der_core::{Encode, Error, ErrorKind, Leaf, Tag, ToDer, describing, making};
 }
 
-/// The names of `const_oid` that the crates above use.
+/// The items of `const_oid` that the crates above use.
 pub mod oid {
     pub use der_core::oid::{AssociatedOid, ObjectIdentifier};
 }
 
-/// The names of `der_types` that the crates above use.
+/// The items of `der_types` that the crates above use.
 pub mod types {
     pub use x509_cert_parts::types::{BitString, FlagSet, NamedBits, OctetString, Uint};
 }

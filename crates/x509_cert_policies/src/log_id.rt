@@ -1,12 +1,10 @@
-//! LogID.
-
 ghost use Rattle.x509_cert_policies.specs.Forms.{exactly};
 
 use crate::tls_error::TlsError;
 use crate::tls_value::TlsValue;
 use std::alloc::Global;
 
-/// The SHA-256 of a log's public key, which names the log (RFC 6962 3.2).
+/// The identifier of a log: the SHA-256 digest of its public key (RFC 6962 3.2).
 ///
 /// ```text
 /// struct {

@@ -1,5 +1,3 @@
-//! NoticeReference.
-
 ghost use Rattle.std.specs.Prelude.{◌≡◌, refl};
 ghost use Rattle.x509_cert_policies.specs.Policies.{notice_reference_fields};
 ghost use Rattle.x509_cert_policies.specs.PolicyViews.{notice_reference_plain};
@@ -10,7 +8,7 @@ use der_core::{DecodeFields, Error, Reader, lend, read_row};
 use std::alloc::Global;
 use x509_cert_parts::types::Uint;
 
-/// Where the text of a notice is found (RFC 5280 4.2.1.4).
+/// A reference to the text of a notice (RFC 5280 4.2.1.4).
 ///
 /// ```text
 /// NoticeReference ::= SEQUENCE {
@@ -19,9 +17,9 @@ use x509_cert_parts::types::Uint;
 /// ```
 #[derive(Debug, Drop, PartialEq, Eq)]
 pub struct NoticeReference {
-    /// Who keeps it.
+    /// The organization that publishes the text.
     pub organization: DisplayText,
-    /// The numbers of the statements.
+    /// The numbers of the statements in the organization's text.
     pub notice_numbers: Option<Vec<Uint>>,
 }
 

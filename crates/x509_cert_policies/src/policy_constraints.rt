@@ -1,5 +1,3 @@
-//! PolicyConstraints.
-
 ghost use Rattle.std.specs.Prelude.{◌≡◌, refl};
 ghost use Rattle.x509_cert_policies.specs.Policies.{policy_constraints_fields};
 ghost use Rattle.x509_cert_policies.specs.PolicyViews.{policy_constraints_plain};
@@ -8,7 +6,8 @@ use der_core::describing::{AsRecord, Described, FieldsView, RowUser, Rows};
 use der_core::{DecodeFields, Error, Reader, lend, read_row};
 use std::alloc::Global;
 
-/// From where on in a path policies must be explicit, or may not be mapped (RFC 5280 4.2.1.11).
+/// Constraints on the policies in the rest of a certificate chain (RFC 5280 4.2.1.11). Numbers
+/// above 2^32 - 1 are rejected.
 ///
 /// ```text
 /// PolicyConstraints ::= SEQUENCE {
@@ -19,9 +18,9 @@ use std::alloc::Global;
 /// ```
 #[derive(Clone, Copy, Debug, PartialEq, Eq)]
 pub struct PolicyConstraints {
-    /// How many more certificates may come before one in which an explicit policy is required.
+    /// The number of further certificates in the chain before an explicit policy is required.
     pub require_explicit_policy: Option<u32>,
-    /// How many more certificates may come before one in which policies are mapped no more.
+    /// The number of further certificates in the chain before policies may no longer be mapped.
     pub inhibit_policy_mapping: Option<u32>,
 }
 

@@ -1,4 +1,4 @@
-//! Copies of policies and of notices.
+//! Copying policies and notices.
 
 ghost use Rattle.der_core.specs.Grammar.{plain_list};
 ghost use Rattle.der_core.specs.Copies.{IsCopy};
@@ -13,7 +13,11 @@ use std::alloc::{AllocError, Global};
 use x509_cert_parts::types::{Any, Uint};
 
 impl PolicyQualifierInfo {
-    /// Returns a copy. The only error is that memory runs out.
+    /// Returns a copy.
+    ///
+    /// # Errors
+    ///
+    /// - `AllocError`: memory runs out.
     pub fn clone(&self, alloc: Global) -> Result<PolicyQualifierInfo, AllocError>
         ensures { IsCopy self.now result views.policy_qualifier_info_plain }
     {
@@ -25,7 +29,11 @@ impl PolicyQualifierInfo {
 }
 
 impl PolicyInformation {
-    /// Returns a copy. The only error is that memory runs out.
+    /// Returns a copy.
+    ///
+    /// # Errors
+    ///
+    /// - `AllocError`: memory runs out.
     pub fn clone(&self, alloc: Global) -> Result<PolicyInformation, AllocError>
         ensures { IsCopy self.now result views.policy_information_plain }
     {
@@ -41,7 +49,11 @@ impl PolicyInformation {
 }
 
 impl CertificatePolicies {
-    /// Returns a copy. The only error is that memory runs out.
+    /// Returns a copy.
+    ///
+    /// # Errors
+    ///
+    /// - `AllocError`: memory runs out.
     pub fn clone(&self, alloc: Global) -> Result<CertificatePolicies, AllocError>
         ensures { IsCopy self.now result
             (λ x. plain_list views.policy_information_plain x.0.items) }
@@ -51,7 +63,11 @@ impl CertificatePolicies {
 }
 
 impl PolicyMappings {
-    /// Returns a copy. The only error is that memory runs out.
+    /// Returns a copy.
+    ///
+    /// # Errors
+    ///
+    /// - `AllocError`: memory runs out.
     pub fn clone(&self, alloc: Global) -> Result<PolicyMappings, AllocError>
         ensures { IsCopy self.now result (λ x. plain_list views.policy_mapping_plain x.0.items) }
     {
@@ -60,7 +76,11 @@ impl PolicyMappings {
 }
 
 impl DisplayText {
-    /// Returns a copy. The only error is that memory runs out.
+    /// Returns a copy.
+    ///
+    /// # Errors
+    ///
+    /// - `AllocError`: memory runs out.
     pub fn clone(&self, alloc: Global) -> Result<DisplayText, AllocError>
         ensures { IsCopy self.now result views.display_plain }
     {
@@ -72,7 +92,11 @@ impl DisplayText {
 }
 
 impl NoticeReference {
-    /// Returns a copy. The only error is that memory runs out.
+    /// Returns a copy.
+    ///
+    /// # Errors
+    ///
+    /// - `AllocError`: memory runs out.
     pub fn clone(&self, alloc: Global) -> Result<NoticeReference, AllocError>
         ensures { IsCopy self.now result views.notice_reference_plain }
     {
@@ -84,7 +108,11 @@ impl NoticeReference {
 }
 
 impl UserNotice {
-    /// Returns a copy. The only error is that memory runs out.
+    /// Returns a copy.
+    ///
+    /// # Errors
+    ///
+    /// - `AllocError`: memory runs out.
     pub fn clone(&self, alloc: Global) -> Result<UserNotice, AllocError>
         ensures { IsCopy self.now result views.user_notice_plain }
     {

@@ -1,5 +1,3 @@
-//! PolicyInformation.
-
 ghost use Rattle.std.specs.Prelude.{◌≡◌, refl};
 ghost use Rattle.der_core.specs.Oid.Bound.{Bound};
 ghost use Rattle.x509_cert_policies.specs.Policies.{policy_information_fields};
@@ -11,7 +9,8 @@ use der_core::oid::ObjectIdentifier;
 use der_core::{DecodeFields, Error, Reader, lend, read_row};
 use std::alloc::Global;
 
-/// A policy under which a certificate was issued (RFC 5280 4.2.1.4).
+/// A policy under which a certificate was issued (RFC 5280 4.2.1.4). A list of qualifiers that is
+/// present may be empty.
 ///
 /// ```text
 /// PolicyInformation ::= SEQUENCE {
@@ -20,9 +19,9 @@ use std::alloc::Global;
 /// ```
 #[derive(Debug, Drop, PartialEq, Eq)]
 pub struct PolicyInformation {
-    /// The policy.
+    /// The OID of the policy.
     pub policy_identifier: ObjectIdentifier<39>,
-    /// What is said of it.
+    /// The qualifiers of the policy.
     pub policy_qualifiers: Option<Vec<PolicyQualifierInfo>>,
 }
 

@@ -1,5 +1,3 @@
-//! PolicyMapping.
-
 ghost use Rattle.std.specs.Prelude.{◌≡◌, refl};
 ghost use Rattle.der_core.specs.Oid.Bound.{Bound};
 ghost use Rattle.x509_cert_policies.specs.Policies.{policy_mapping_fields};
@@ -10,8 +8,8 @@ use der_core::oid::ObjectIdentifier;
 use der_core::{DecodeFields, Error, Reader, lend, read_row};
 use std::alloc::Global;
 
-/// A policy of the issuer's domain that the issuer takes for one of the subject's (RFC 5280
-/// 4.2.1.5).
+/// A policy of the issuer's domain that the issuer considers equivalent to one of the subject's
+/// domain (RFC 5280 4.2.1.5).
 ///
 /// ```text
 /// PolicyMapping ::= SEQUENCE {

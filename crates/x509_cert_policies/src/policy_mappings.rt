@@ -1,11 +1,10 @@
-//! PolicyMappings.
-
 ghost use Rattle.std.specs.Prelude.{◌≡◌};
 
 use crate::policy_mapping::PolicyMapping;
 use der_core::describing::{AsField, Described, Ordered, Wraps};
 
-/// Policies of two domains that an issuer takes for each other (RFC 5280 4.2.1.5).
+/// Pairs of policies that the issuer considers equivalent (RFC 5280 4.2.1.5). An empty list is
+/// accepted, too.
 ///
 /// ```text
 /// PolicyMappings ::= SEQUENCE SIZE (1..MAX) OF PolicyMapping

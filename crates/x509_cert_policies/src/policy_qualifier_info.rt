@@ -1,4 +1,4 @@
-//! PolicyQualifierInfo.
+//! The types `PolicyQualifierInfo` and `CpsUri`.
 
 ghost use Rattle.std.specs.Prelude.{◌≡◌, refl};
 ghost use Rattle.der_core.specs.Oid.Bound.{Bound};
@@ -20,9 +20,9 @@ use x509_cert_parts::types::{Any, Ia5String};
 /// ```
 #[derive(Debug, Drop, PartialEq, Eq)]
 pub struct PolicyQualifierInfo {
-    /// Which kind it is.
+    /// The OID of the kind of qualifier.
     pub policy_qualifier_id: ObjectIdentifier<39>,
-    /// The qualifier.
+    /// The qualifier, undecoded: its tag and content.
     pub qualifier: Option<Any>,
 }
 
@@ -50,8 +50,8 @@ impl Rows for PolicyQualifierInfo {
     ghost apart = { refl };
 }
 
-/// Where the practice statement of an authority is had, the qualifier that 1.3.6.1.5.5.7.2.1 marks
-/// (RFC 5280 4.2.1.4).
+/// The URI of a certification practice statement: the qualifier with the OID 1.3.6.1.5.5.7.2.1 (RFC
+/// 5280 4.2.1.4).
 ///
 /// ```text
 /// CPSuri ::= IA5String

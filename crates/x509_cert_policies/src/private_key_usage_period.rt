@@ -1,5 +1,3 @@
-//! PrivateKeyUsagePeriod.
-
 ghost use Rattle.std.specs.Prelude.{◌≡◌, refl};
 ghost use Rattle.x509_cert_policies.specs.Policies.{private_key_usage_period_fields};
 ghost use Rattle.x509_cert_policies.specs.PolicyViews.{private_key_usage_period_plain};
@@ -9,7 +7,7 @@ use der_core::{DecodeFields, Error, Reader, lend, read_row};
 use std::alloc::Global;
 use x509_cert_parts::types::GeneralizedTime;
 
-/// From when until when a private key is used (RFC 3280 4.2.1.4).
+/// The period in which a private key is used (RFC 3280 4.2.1.4).
 ///
 /// ```text
 /// PrivateKeyUsagePeriod ::= SEQUENCE {
@@ -18,9 +16,9 @@ use x509_cert_parts::types::GeneralizedTime;
 /// ```
 #[derive(Clone, Copy, Debug, PartialEq, Eq)]
 pub struct PrivateKeyUsagePeriod {
-    /// notBefore: the key isn't used before it.
+    /// The date before which the key isn't used (`notBefore`).
     pub not_before: Option<GeneralizedTime>,
-    /// notAfter: the key isn't used after it.
+    /// The date after which the key isn't used (`notAfter`).
     pub not_after: Option<GeneralizedTime>,
 }
 

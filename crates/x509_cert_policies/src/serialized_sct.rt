@@ -1,5 +1,3 @@
-//! SerializedSCT.
-
 ghost use Rattle.std.specs.Prelude.{◌≡◌, [], IfOk, IfErr};
 ghost use Rattle.x509_cert_policies.specs.Forms.{vector, IsValue, octets, Spells, CannotWrite};
 ghost use Rattle.x509_cert_policies.specs.Timestamps.{timestamp_form, timestamp_plain};
@@ -12,25 +10,26 @@ use crate::tls_value::TlsValue;
 use crate::vectors::{append_vector, read_vector, vector_len};
 use std::alloc::Global;
 
-/// The bytes of a timestamp, as a list holds them (RFC 6962 3.3). They needn't be those of one.
+/// A member of a list of timestamps (RFC 6962 3.3): bytes that should be the encoding of a
+/// timestamp, but needn't be.
 ///
 /// ```text
 /// opaque SerializedSCT<1..2^16-1>;
 /// ```
 ///
-/// The empty one is read and written too.
+/// An empty member is also accepted and encoded.
 #[derive(Debug, Drop, PartialEq)]
 pub struct SerializedSct {
-    /// The bytes.
+    /// The bytes of the member.
     data: Vec<u8>,
 }
 
 impl SerializedSct {
-    /// Returns the bytes of a timestamp.
+    /// Returns the member that contains the encoding of this timestamp.
     ///
     /// # Errors
     ///
-    /// - `InvalidVectorLength`: a timestamp with a vector of more than 65535 bytes.
+    /// - `InvalidVectorLength`: a vector in the timestamp has more than 65535 bytes.
     /// - `OutOfMemory`: memory runs out.
     pub fn new(alloc: Global, timestamp: SignedCertificateTimestamp) -> Result<Self, TlsError>
         ensures ok { IfOk result
@@ -42,12 +41,16 @@ impl SerializedSct {
         Ok(SerializedSct { data })
     }
 
-    /// Returns the timestamp that the bytes encode.
+    /// Decodes the timestamp.
     ///
     /// # Errors
     ///
-    /// What the first error is: `EndOfStream`, `UnknownValue`, or `TrailingData` for bytes after
-    /// the timestamp; `OutOfMemory`.
+    /// The first error in the bytes is returned, unless memory runs out.
+    ///
+    /// - `EndOfStream`: the bytes end within the timestamp.
+    /// - `UnknownValue`: a number isn't a value of its enumeration.
+    /// - `TrailingData`: bytes follow the timestamp.
+    /// - `OutOfMemory`: memory runs out.
     pub fn parse_timestamp(&self, alloc: Global) -> Result<SignedCertificateTimestamp, Error>
         ensures ok { IfOk result
             (λ t. Spells timestamp_form (timestamp_plain t) self.now.data.items []) }

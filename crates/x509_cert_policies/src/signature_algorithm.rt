@@ -1,11 +1,9 @@
-//! SignatureAlgorithm.
-
 ghost use Rattle.std.specs.Prelude.{◌≡◌, refl};
 ghost use Rattle.x509_cert_policies.specs.Numbers.{signature_number, signature_numbers};
 
 use der_core::describing::Numbered;
 
-/// The algorithm of a signature (RFC 5246 7.4.1.4.1, RFC 8422 5.1.3).
+/// The signature algorithm of a signature (RFC 5246 7.4.1.4.1; RFC 8422 5.1.3).
 ///
 /// ```text
 /// enum { anonymous(0), rsa(1), dsa(2), ecdsa(3), ed25519(7), ed448(8), (255) } SignatureAlgorithm;

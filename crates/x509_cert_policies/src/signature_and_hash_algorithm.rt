@@ -1,5 +1,3 @@
-//! SignatureAndHashAlgorithm.
-
 ghost use Rattle.x509_cert_policies.specs.Timestamps.{algorithm_form, algorithms_plain};
 
 use crate::hash_algorithm::HashAlgorithm;
@@ -8,7 +6,7 @@ use crate::tls_error::TlsError;
 use crate::tls_value::TlsValue;
 use std::alloc::Global;
 
-/// The hash and the algorithm of a signature (RFC 5246 7.4.1.4.1).
+/// The hash algorithm and the signature algorithm of a signature (RFC 5246 7.4.1.4.1).
 ///
 /// ```text
 /// struct {
@@ -18,9 +16,9 @@ use std::alloc::Global;
 /// ```
 #[derive(Debug, Drop, PartialEq)]
 pub struct SignatureAndHashAlgorithm {
-    /// The hash.
+    /// The hash algorithm.
     pub hash: HashAlgorithm,
-    /// The algorithm.
+    /// The signature algorithm.
     pub signature: SignatureAlgorithm,
 }
 

@@ -1,5 +1,3 @@
-//! SignedCertificateTimestamp.
-
 ghost use Rattle.std.specs.Prelude.{◌≡◌, ◌↔◌, ◌+◌, ◌*◌, ◌<◌, ◌/◌, IsOk, IfOk, IfErr};
 ghost use Rattle.x509_cert_parts.specs.Types.Seconds.{unix_seconds, last_second};
 ghost use Rattle.x509_cert_policies.specs.Timestamps.{timestamp_form, timestamp_plain};
@@ -14,7 +12,7 @@ use der_core::{Error, ErrorKind};
 use std::alloc::Global;
 use x509_cert_parts::types::DateTime;
 
-/// What a log answers for a certificate that it will hold (RFC 6962 3.2).
+/// A log's promise to include a certificate (RFC 6962 3.2).
 ///
 /// ```text
 /// struct {
@@ -31,22 +29,22 @@ use x509_cert_parts::types::DateTime;
 pub struct SignedCertificateTimestamp {
     /// The version.
     pub version: Version,
-    /// The log that answered.
+    /// The log that issued the timestamp.
     pub log_id: LogId,
-    /// Milliseconds since 1970-01-01T00:00:00Z, leap seconds left out.
+    /// The time in milliseconds since 1970-01-01T00:00:00Z, without leap seconds.
     pub timestamp: u64,
-    /// What else is said, as it is.
+    /// Extensions, undecoded. RFC 6962 defines none.
     pub extensions: Vec<u8>,
     /// The log's signature.
     pub signature: DigitallySigned,
 }
 
 impl SignedCertificateTimestamp {
-    /// Returns the date of the timestamp, fractions of a second left out.
+    /// Returns the date and time of the timestamp, without fractions of a second.
     ///
     /// # Errors
     ///
-    /// `DateTime` after 9999-12-31T23:59:59Z.
+    /// - `DateTime`: the timestamp is after 9999-12-31T23:59:59Z.
     pub fn timestamp(&self) -> Result<DateTime, Error>
         ensures range { IsOk result ↔ (self.now.timestamp < (last_second + 1) * 1000) }
         ensures ok { IfOk result (λ d. unix_seconds d ≡ self.now.timestamp / 1000) }

@@ -1,4 +1,4 @@
-//! SignedCertificateTimestampList, and its identifier.
+//! The type `SignedCertificateTimestampList` and its OID.
 
 ghost use Rattle.std.specs.Prelude.{◌≡◌, IfOk, IfErr, flat_map, All};
 ghost use Rattle.x509_cert_policies.specs.Lists.{IsMember, sct_octets, SpellsList, ReadsNoList};
@@ -15,7 +15,8 @@ use der_core::oid::{AssociatedOid, ObjectIdentifier};
 use std::alloc::Global;
 use x509_cert_parts::types::OctetString;
 
-/// The timestamps of a certificate, an extension of 1.3.6.1.4.1.11129.2.4.2 (RFC 6962 3.3).
+/// The extension with a certificate's signed timestamps (RFC 6962 3.3). Its OID is
+/// 1.3.6.1.4.1.11129.2.4.2.
 ///
 /// ```text
 /// SignedCertificateTimestampList ::= OCTET STRING
@@ -25,11 +26,16 @@ use x509_cert_parts::types::OctetString;
 /// } SignedCertificateTimestampList;
 /// ```
 ///
-/// The empty list is read and written too.
+/// The empty list is also accepted and encoded.
 #[derive(Debug, Drop, PartialEq)]
 pub struct SignedCertificateTimestampList(OctetString);
 
-/// Puts the members of a list after one another.
+/// Returns the encodings of the members, one after another.
+///
+/// # Errors
+///
+/// - `InvalidVectorLength`: a member has more than 65535 bytes.
+/// - `OutOfMemory`: memory runs out.
 fn append_members(alloc: Global, serialized_scts: &[SerializedSct]) -> Result<Vec<u8>, TlsError>
     ensures ok { IfOk result (λ v. v.items ≡ flat_map sct_octets serialized_scts.now) }
     ensures value { IfOk result (λ _. All IsMember serialized_scts.now) }
@@ -42,7 +48,12 @@ fn append_members(alloc: Global, serialized_scts: &[SerializedSct]) -> Result<Ve
     Ok(body)
 }
 
-/// Returns the members that stand after one another.
+/// Decodes members, one after another, up to the end of the bytes.
+///
+/// # Errors
+///
+/// - `EndOfStream`: the bytes end within a member.
+/// - `OutOfMemory`: memory runs out.
 fn read_members(alloc: Global, body: &[u8]) -> Result<Vec<SerializedSct>, TlsError>
     ensures ok { IfOk result (λ v. body.now ≡ flat_map sct_octets v.items) }
     ensures value { IfOk result (λ v. All IsMember v.items) }
@@ -59,12 +70,12 @@ fn read_members(alloc: Global, body: &[u8]) -> Result<Vec<SerializedSct>, TlsErr
 }
 
 impl SignedCertificateTimestampList {
-    /// Returns the list of these.
+    /// Returns the list with these members.
     ///
     /// # Errors
     ///
-    /// - `InvalidVectorLength`: one of them has more than 65535 bytes, or all have with their
-    ///   lengths.
+    /// - `InvalidVectorLength`: a member has more than 65535 bytes, or all members with their
+    ///   lengths do.
     /// - `OutOfMemory`: memory runs out.
     #[tactic(auto, using(crate::proofs::Readings::list_is_short))]
     pub fn new(alloc: Global, serialized_scts: &[SerializedSct]) -> Result<Self, Error>
@@ -77,12 +88,15 @@ impl SignedCertificateTimestampList {
         Ok(SignedCertificateTimestampList(OctetString::new(output)?))
     }
 
-    /// Returns the members of the list, whose bytes aren't looked into.
+    /// Returns the members of the list, undecoded.
     ///
     /// # Errors
     ///
-    /// What the first error is: `EndOfStream`, or `TrailingData` for bytes after the list;
-    /// `OutOfMemory`.
+    /// The first error in the bytes is returned, unless memory runs out.
+    ///
+    /// - `EndOfStream`: the bytes end within the list or a member.
+    /// - `TrailingData`: bytes follow the list.
+    /// - `OutOfMemory`: memory runs out.
     pub fn parse_timestamps(&self, alloc: Global) -> Result<Vec<SerializedSct>, Error>
         ensures ok { IfOk result (λ v. SpellsList v.items self.now.0) }
         ensures err { IfErr result (λ e. ReadsNoList self.now.0 e) }
@@ -149,7 +163,7 @@ impl AsMut<OctetString> for SignedCertificateTimestampList {
     }
 }
 
-/// 1.3.6.1.4.1.11129.2.4.2 (RFC 6962 3.3).
+/// The OID 1.3.6.1.4.1.11129.2.4.2 (RFC 6962 3.3).
 impl AssociatedOid for SignedCertificateTimestampList {
     ghost oid_arcs = { list_arcs };
 

@@ -1,16 +1,16 @@
-//! Why a list of timestamps, or a timestamp in it, could not be read or made.
+//! The error of decoding or building a list of timestamps.
 
 ghost use Rattle.std.specs.Prelude.{◌≡◌};
 ghost use Rattle.x509_cert_policies.specs.declared.timestamp_error.Error.TheVariants.{Der, Tls};
 
 use crate::tls_error::TlsError;
 
-/// Why a list of timestamps, or a timestamp in it, could not be read or made.
+/// The error of decoding or building a list of timestamps, or a timestamp in it.
 #[derive(Debug, PartialEq, Drop)]
 pub enum Error {
-    /// An error of the value in DER.
+    /// The DER encoding of the extension is invalid, or memory runs out.
     Der(der_core::Error),
-    /// An error of the bytes inside it.
+    /// The bytes inside the extension are invalid, a vector is too long, or memory runs out.
     Tls(TlsError),
 }
 

@@ -1,4 +1,4 @@
-//! Why bytes of TLS could not be read or written.
+//! The error of decoding or encoding values of TLS.
 
 ghost use Rattle.std.specs.Prelude.{◌≡◌};
 ghost use Rattle.x509_cert_policies.specs.declared.tls_error.TlsError.TheVariants.{OutOfMemory};
@@ -6,22 +6,22 @@ ghost use Rattle.x509_cert_policies.specs.declared.tls_error.TlsError.TheVariant
 use std::alloc::{AllocError, AllocFailed};
 use thiserror::Error;
 
-/// Why bytes of TLS could not be read or written.
+/// The error of decoding or encoding values in the presentation language of TLS (RFC 5246 4).
 #[derive(Clone, Copy, Debug, PartialEq, Eq, Error)]
 pub enum TlsError {
     /// The bytes end within a value.
     #[error("the octets end within a value")]
     EndOfStream,
-    /// A number that the type gives no meaning.
+    /// A number isn't a value of its enumeration.
     #[error("{0} has no meaning")]
     UnknownValue(u64),
-    /// Bytes after the last value.
+    /// Bytes follow the last value.
     #[error("octets stand after the last value")]
     TrailingData,
-    /// A vector of more bytes than its length can count.
+    /// A vector has more bytes than its length field can express.
     #[error("a vector is too long")]
     InvalidVectorLength,
-    /// Memory ran out.
+    /// Memory runs out.
     #[error("out of memory")]
     OutOfMemory,
 }

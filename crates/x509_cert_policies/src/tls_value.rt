@@ -1,4 +1,5 @@
-//! Values of the presentation language of TLS (RFC 5246 4); a number by its byte.
+//! The trait for values in the presentation language of TLS (RFC 5246 4), and its implementation
+//! for enumerations.
 
 ghost use Rattle.x509_cert_policies.specs.Forms.{named};
 
@@ -6,52 +7,54 @@ use crate::tls_error::TlsError;
 use der_core::describing::Numbered;
 use std::alloc::Global;
 
-/// A type of the presentation language of TLS (RFC 5246 4): each value has one spelling in bytes,
-/// or none if a vector in it is too long.
+/// A type of the presentation language of TLS (RFC 5246 4). Each value has exactly one encoding, or
+/// none if a vector in it is too long.
 pub trait TlsValue: Drop {
     ghost use Rattle.std.specs.Prelude.{◌≡◌, ◌-◌, ◌^◌, min, length, IfOk, IfErr, OnOk, OnErr};
     ghost use Rattle.x509_cert_policies.specs.Forms.{Form, Plain, Spells, FailsOn, Appends};
     ghost use Rattle.x509_cert_policies.specs.Forms.{CannotWrite, IsValue, StillBegins, octets};
 
-    // The form of the type's bytes.
+    // The form of the type's encodings.
     ghost form: { Form };
 
-    // What a value is in that form.
+    // The abstract value that a value of the type represents.
     ghost plain: { Self → Plain form };
 
-    /// Returns the value that the bytes begin with, and the bytes after it.
+    /// Decodes the value that the bytes begin with, and returns it with the bytes after it.
     ///
     /// # Errors
     ///
     /// - `EndOfStream`: the bytes end within the value.
-    /// - `UnknownValue`: a number that has no meaning, whichever stands first.
+    /// - `UnknownValue`: a number isn't a value of its enumeration. The first such number is
+    ///   reported.
     /// - `OutOfMemory`: memory runs out.
     fn tls_deserialize_bytes(alloc: Global, input: &[u8]) -> Result<(Self, &[u8]), TlsError>
         ensures ok { IfOk result (λ p. Spells form (plain p.0) input.now p.1.now) }
         ensures err { IfErr result (λ e. FailsOn form input.now e) };
 
-    /// Puts the value's bytes after others.
+    /// Appends the encoding of the value to `output`.
     ///
     /// # Errors
     ///
-    /// - `InvalidVectorLength`: a vector of more than 65535 bytes.
-    /// - `OutOfMemory`: memory runs out.
+    /// If the call fails, `output` still begins with its old content, but a part of the encoding
+    /// may follow.
     ///
-    /// What was there stays then, and a part of the value's bytes may be after it.
+    /// - `InvalidVectorLength`: a vector has more than 65535 bytes.
+    /// - `OutOfMemory`: memory runs out.
     fn append_to(&self, output: &mut Vec<u8>) -> Result<(), TlsError>
         ensures ok { OnOk result (Appends form (plain self.now) output.old.items output.new.items) }
         ensures err { IfErr result (λ e. CannotWrite form (plain self.now) e) }
         ensures kept { OnErr result (StillBegins output.old.items output.new.items) };
 
-    /// Returns how many bytes encode the value, or `usize::MAX` if there are more.
+    /// Returns the length of the encoding in bytes, or `usize::MAX` if it is greater.
     fn tls_serialized_len(&self) -> usize
         ensures { result ≡ min (length (octets form (plain self.now))) (2 ^ 64 - 1) };
 
-    /// Returns the bytes that encode the value.
+    /// Encodes the value.
     ///
     /// # Errors
     ///
-    /// - `InvalidVectorLength`: a vector of more than 65535 bytes.
+    /// - `InvalidVectorLength`: a vector has more than 65535 bytes.
     /// - `OutOfMemory`: memory runs out.
     fn tls_serialize(&self, alloc: Global) -> Result<Vec<u8>, TlsError>
         ensures value { OnOk result (IsValue form (plain self.now)) }

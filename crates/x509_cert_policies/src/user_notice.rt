@@ -1,5 +1,3 @@
-//! UserNotice.
-
 ghost use Rattle.std.specs.Prelude.{◌≡◌, refl};
 ghost use Rattle.x509_cert_policies.specs.Policies.{user_notice_fields};
 ghost use Rattle.x509_cert_policies.specs.PolicyViews.{user_notice_plain};
@@ -10,7 +8,7 @@ use der_core::describing::{AsRecord, Described, FieldsView, RowUser, Rows};
 use der_core::{DecodeFields, Error, Reader, lend, read_row};
 use std::alloc::Global;
 
-/// What is shown to those who rely on a certificate (RFC 5280 4.2.1.4).
+/// A notice for relying parties (RFC 5280 4.2.1.4).
 ///
 /// ```text
 /// UserNotice ::= SEQUENCE {
@@ -19,9 +17,9 @@ use std::alloc::Global;
 /// ```
 #[derive(Debug, Drop, PartialEq, Eq)]
 pub struct UserNotice {
-    /// Where the text is found.
+    /// A reference to the text.
     pub notice_ref: Option<NoticeReference>,
-    /// The text itself.
+    /// The text.
     pub explicit_text: Option<DisplayText>,
 }
 

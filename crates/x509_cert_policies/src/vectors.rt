@@ -1,5 +1,5 @@
-//! Numbers of more than one byte, the highest byte first, and vectors of bytes with a length of two
-//! bytes (RFC 5246 4.3, 4.4).
+//! Encoding and decoding numbers in big-endian byte order, and vectors of bytes with a length of
+//! two bytes (RFC 5246 4.3, 4.4).
 
 ghost use Rattle.std.specs.Prelude.{◌≡◌, ◌-◌, ◌^◌, min, length, IfOk, IfErr, OnOk, OnErr, ◌<◌};
 ghost use Rattle.std.specs.Prelude.{◌++◌, IsNone, IfSome, ◌↔◌};
@@ -10,7 +10,12 @@ ghost use Rattle.x509_cert_policies.specs.Forms.{long};
 use crate::tls_error::TlsError;
 use std::alloc::Global;
 
-/// Returns the bytes of the vector that the bytes begin with, and the bytes after it.
+/// Splits the bytes after the vector that they begin with. Returns the content of the vector and
+/// the bytes after it.
+///
+/// # Errors
+///
+/// - `EndOfStream`: the bytes end within the vector or its length.
 pub(crate) fn split_vector(input: &[u8]) -> Result<(&[u8], &[u8]), TlsError>
     ensures ok { IfOk result (λ p. Spells vector p.0.now input.now p.1.now) }
     ensures err { IfErr result (λ e. Refuses vector input.now e) }
@@ -25,7 +30,12 @@ pub(crate) fn split_vector(input: &[u8]) -> Result<(&[u8], &[u8]), TlsError>
     Ok(behind.split_at(len))
 }
 
-/// Returns the vector that the bytes begin with, and the bytes after it.
+/// Decodes the vector that the bytes begin with, and returns it with the bytes after it.
+///
+/// # Errors
+///
+/// - `EndOfStream`: the bytes end within the vector or its length.
+/// - `OutOfMemory`: memory runs out.
 pub(crate) fn read_vector(alloc: Global, input: &[u8]) -> Result<(Vec<u8>, &[u8]), TlsError>
     ensures ok { IfOk result (λ p. Spells vector p.0.items input.now p.1.now) }
     ensures err { IfErr result (λ e. FailsOn vector input.now e) }
@@ -35,7 +45,12 @@ pub(crate) fn read_vector(alloc: Global, input: &[u8]) -> Result<(Vec<u8>, &[u8]
     Ok((items, rest))
 }
 
-/// Puts a vector after other bytes.
+/// Appends the encoding of a vector to `output`.
+///
+/// # Errors
+///
+/// - `InvalidVectorLength`: the vector has more than 65535 bytes.
+/// - `OutOfMemory`: memory runs out.
 #[tactic(auto, unfolding(crate::specs::Forms::short_octets), using(crate::proofs::Readings::fronts))]
 pub(crate) fn append_vector(items: &[u8], output: &mut Vec<u8>) -> Result<(), TlsError>
     ensures ok { OnOk result (Appends vector items.now output.old.items output.new.items) }
@@ -51,7 +66,7 @@ pub(crate) fn append_vector(items: &[u8], output: &mut Vec<u8>) -> Result<(), Tl
     Ok(())
 }
 
-/// Returns how many bytes encode a vector, or `usize::MAX` if there are more.
+/// Returns the length of a vector's encoding in bytes, or `usize::MAX` if it is greater.
 #[tactic(auto, using(crate::proofs::Readings::vector_length))]
 pub(crate) fn vector_len(items: &[u8]) -> usize
     ensures { result ≡ min (length (octets vector items.now)) (2 ^ 64 - 1) }
@@ -59,7 +74,8 @@ pub(crate) fn vector_len(items: &[u8]) -> usize
     items.len().saturating_add(2)
 }
 
-/// Returns the number of the first two bytes, and the bytes after them; none if there are fewer.
+/// Decodes a number of two bytes. Returns the number and the bytes after it, or `None` if there are
+/// fewer than two.
 #[tactic(auto, using(crate::proofs::Readings::short_of))]
 pub(crate) fn split_short(input: &[u8]) -> Option<(u16, &[u8])>
     ensures some { IfSome result (λ p. input.now ≡ short_octets p.0 ++ p.1.now) }
@@ -73,7 +89,12 @@ pub(crate) fn split_short(input: &[u8]) -> Option<(u16, &[u8])>
     Some((number, rest))
 }
 
-/// Returns the number of eight bytes that the bytes begin with, and the bytes after it.
+/// Decodes the number of eight bytes that the bytes begin with, and returns it with the bytes after
+/// it.
+///
+/// # Errors
+///
+/// - `EndOfStream`: there are fewer than eight bytes.
 #[tactic(auto, using(crate::proofs::Readings::long_of))]
 pub(crate) fn read_long(input: &[u8]) -> Result<(u64, &[u8]), TlsError>
     ensures ok { IfOk result (λ p. Spells long p.0 input.now p.1.now) }
@@ -89,7 +110,11 @@ pub(crate) fn read_long(input: &[u8]) -> Result<(u64, &[u8]), TlsError>
     Ok((number, rest))
 }
 
-/// Puts a number of eight bytes after other bytes.
+/// Appends a number of eight bytes to `output`.
+///
+/// # Errors
+///
+/// - `OutOfMemory`: memory runs out.
 #[tactic(auto, unfolding(crate::specs::Forms::long_octets), using(crate::proofs::Readings::fronts))]
 pub(crate) fn append_long(number: u64, output: &mut Vec<u8>) -> Result<(), TlsError>
     ensures ok { OnOk result (Appends long number output.old.items output.new.items) }

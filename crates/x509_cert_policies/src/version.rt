@@ -1,5 +1,3 @@
-//! Version.
-
 ghost use Rattle.std.specs.Prelude.{◌≡◌, refl};
 ghost use Rattle.x509_cert_policies.specs.Numbers.{version_number, version_numbers};
 
@@ -12,7 +10,7 @@ use der_core::describing::Numbered;
 /// ```
 #[derive(Clone, Copy, Debug, PartialEq)]
 pub enum Version {
-    /// The first version.
+    /// Version 1, the only one (RFC 6962 3.2).
     V1,
 }
 

@@ -1,5 +1,7 @@
-//! X.509 certificates, their extensions, CRLs and CSRs (RFC 5280, RFC 2986) for programs that only
-//! decode them: the items of `x509_cert` without trust anchors and builders.
+//! X.509 certificates, their extensions, CRLs and CSRs (RFC 5280, RFC 2986), for programs that only
+//! decode them.
+//!
+//! The items are those of `x509_cert` without trust anchors and builders.
 #![tactic(auto)]
 
 // Certificates.

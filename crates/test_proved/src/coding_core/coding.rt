@@ -1,4 +1,4 @@
-//! Orders of iterators, and calls that no row makes.
+//! Comparing iterators of encodings, and calls that no test vector makes.
 
 use der_core::making::value_cmp_behind;
 use der_core::{
@@ -10,14 +10,15 @@ use std::cmp::Ordering;
 use std::cmp::Ordering::{Equal, Greater, Less};
 use std::test::Fail;
 
-/// The order of two lists that are given away.
+/// Returns the order of two lists of which the comparison takes ownership.
 fn order_of_owned(alloc: Global, these: &[i16], others: &[i16]) -> Result<Ordering, Error> {
     let these = these.to_vec(alloc)?;
     let others = others.to_vec(alloc)?;
     iter_cmp_owned(these.into_iter(), others.into_iter())
 }
 
-/// `02 01 01`, `02 01 03`, `02 01 7F`, `02 02 00 80`, `02 01 FF`.
+/// Lists are compared by the encodings of their elements, such as `02 01 01`, `02 01 03`,
+/// `02 01 7F`, `02 02 00 80` and `02 01 FF`.
 #[test]
 fn orders_of_iterators(rt: HostRuntime) -> Result<(), Fail> {
     let alloc = rt.alloc();
@@ -50,13 +51,13 @@ fn other_calls(rt: HostRuntime) -> Result<(), Fail> {
     assert!(rt; error == ErrorKind::Failed.at(place));
     assert!(rt; error.kind() == ErrorKind::Failed && error.position() == Some(place));
     assert!(rt; BytesRef::EMPTY.is_empty());
-    // One octet before none, and before one.
+    // Each list of bytes has an optional first byte.
     assert!(rt; value_cmp_behind(Some(1), &[], None, &[]) == Greater);
     assert!(rt; value_cmp_behind(Some(1), &[2], None, &[1, 2]) == Equal);
     Ok(())
 }
 
-/// The error of octets that are no text.
+/// Text with bytes that aren't UTF-8 returns an error.
 #[test]
 fn octets_of_no_text(rt: HostRuntime) -> Result<(), Fail> {
     let octets = [0xc3, 0x28].to_vec(rt.alloc())?;

@@ -1,4 +1,4 @@
-//! Identifiers that a program has as texts: the check computes that each text is accepted.
+//! OIDs that a program has as texts. The check computes that each text is accepted.
 #![tactic(auto, unfolding(const_oid::specs::Bound::Bound, const_oid::specs::TextReading::text_arcs, const_oid::specs::ArcLists::add_arc, const_oid::specs::ArcLists::whole_arcs, const_oid::specs::IdentifierOctets::identifier_octets, const_oid::specs::IdentifierOctets::arc_octets, const_oid::specs::Digits::digits, const_oid::specs::Digits::digits_within, const_oid::specs::Digits::marked))]
 
 ghost use Rattle.std.specs.Prelude.{◌∷◌, []};
@@ -7,17 +7,17 @@ use const_oid::{AssociatedOid, Buffer, DynAssociatedOid, ObjectIdentifier};
 
 type Identifier = ObjectIdentifier<39>;
 
-/// The purpose of a server's key (RFC 5280 4.2.1.12).
+/// Returns the key purpose of a server's key (RFC 5280 4.2.1.12).
 fn server_auth() -> Identifier {
     ObjectIdentifier::new_unwrap("1.3.6.1.5.5.7.3.1")
 }
 
-/// RSA signatures with SHA-256 (RFC 4055 5).
+/// Returns the OID of RSA signatures with SHA-256 (RFC 4055 5).
 fn sha256_with_rsa() -> Identifier {
     ObjectIdentifier::new_unwrap("1.2.840.113549.1.1.11")
 }
 
-/// The attribute 2.5.4.3 (X.520 6.2.2).
+/// The OID of a common name, 2.5.4.3 (X.520 6.2.2).
 struct CommonName;
 
 impl AssociatedOid for CommonName {

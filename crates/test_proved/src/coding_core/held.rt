@@ -1,4 +1,4 @@
-//! Octets and texts that are held.
+//! Owned bytes and texts.
 
 use der_core::{BytesOwned, BytesRef, Error, StringOwned, StringRef};
 use std::alloc::{AllocError, Global};
@@ -7,24 +7,24 @@ use std::fmt::Debug;
 use std::hash::{DefaultHasher, Hash, Hasher};
 use std::test::Fail;
 
-/// What a hasher makes of a value.
+/// Returns the hash of a value.
 fn hash_of<T: Hash>(value: &T) -> u64 {
     let mut state = DefaultHasher::new();
     value.hash(&mut state);
     state.finish()
 }
 
-/// Whether a value prints this for debugging.
+/// Returns whether the `Debug` output of a value is this text.
 fn is_shown<T: Debug>(alloc: Global, value: &T, text: &str) -> Result<bool, AllocError> {
     Ok(format!(in alloc; "{value:?}")?.as_str() == text)
 }
 
-/// Whether a value is another one than a greater one.
+/// Returns whether a value is less than another one, and isn't equal to it.
 fn is_less<T: Ord>(value: &T, greater: &T) -> bool {
     *value != *greater && value.cmp(greater) == Less
 }
 
-/// Whether octets equal a copy, and lent ones hash as they do.
+/// Returns whether owned bytes equal their copy, and borrowed ones have the same hash.
 fn are_octets(alloc: Global, octets: &BytesOwned) -> Result<bool, Error> {
     let same = octets.clone(alloc)? == *octets;
     Ok(same && hash_of(octets) == hash_of(&BytesRef::new(octets.as_slice())?))
@@ -41,7 +41,7 @@ fn held_octets(rt: HostRuntime) -> Result<(), Fail> {
     Ok(())
 }
 
-/// Whether a text equals a copy, and a lent one hashes as it does.
+/// Returns whether an owned text equals its copy, and a borrowed one has the same hash.
 fn is_text(alloc: Global, text: &StringOwned) -> Result<bool, Error> {
     let same = text.clone(alloc)? == *text;
     Ok(same && hash_of(text) == hash_of(&StringRef::new(text.as_str())?))

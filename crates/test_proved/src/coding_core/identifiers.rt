@@ -1,4 +1,4 @@
-//! Capacities and borrowed identifiers.
+//! OIDs with large capacities, and borrowed OIDs.
 
 use const_oid::{Error, ObjectIdentifier, ObjectIdentifierRef, Result, laws};
 use std::cmp::Ordering;
@@ -24,7 +24,7 @@ fn capacities(rt: HostRuntime) -> Result<()> {
     Ok(())
 }
 
-/// What a hasher makes of a value.
+/// Returns the hash of a value.
 fn hash_of<T: Hash>(value: &T) -> u64 {
     let mut state = DefaultHasher::new();
     value.hash(&mut state);
@@ -50,7 +50,7 @@ fn borrowed_identifiers(rt: HostRuntime) -> Result<()> {
     Ok(())
 }
 
-/// A capacity above 255 octets.
+/// An OID may have a capacity of more than 255 bytes.
 #[test]
 fn long_identifiers(rt: HostRuntime) -> Result<()> {
     let octets = [1; 299];

@@ -1,4 +1,4 @@
-//! What the kinds of errors print.
+//! The texts that the kinds of errors print.
 
 use der_core::{ErrorKind, Tag};
 use std::test::Fail;

@@ -1,4 +1,4 @@
-//! Strict sets that a program makes.
+//! Strict sets that a program builds.
 
 use der_core::laws::in_range_is_spelled;
 use der_core::{
@@ -8,7 +8,7 @@ use der_core::{
 use std::alloc::{AllocError, Global};
 use std::test::Fail;
 
-/// Whether an answer is a refusal of this kind.
+/// Returns whether a result is an error of this kind.
 fn is_refused<T: Drop>(answer: Result<T, Error>, kind: ErrorKind) -> bool {
     match answer {
         Ok(_) => false,
@@ -16,15 +16,14 @@ fn is_refused<T: Drop>(answer: Result<T, Error>, kind: ErrorKind) -> bool {
     }
 }
 
-/// A set of two numbers.
+/// Returns a set of two numbers.
 fn pair(alloc: Global, values: [u8; 2]) -> Result<StrictSetOf<u8>, AllocError> {
     Ok(StrictSetOf {
         values: Vec::from_array(alloc, values)?,
     })
 }
 
-/// The set that octets spell. Its members are any here, and so what is asked of them is checked
-/// once.
+/// Decodes a set. It is generic, so that the requirements on members are checked once.
 fn read<'a, T: Decode<'a, SliceReader<'a>> + Member>(
     alloc: Global,
     octets: &'a [u8],
@@ -32,7 +31,7 @@ fn read<'a, T: Decode<'a, SliceReader<'a>> + Member>(
     StrictSetOf::from_der(alloc, octets)
 }
 
-/// Whether octets are read as a set that equals this one.
+/// Returns whether the bytes decode to a set that equals this one.
 fn is_read(alloc: Global, set: &StrictSetOf<u8>, octets: &[u8]) -> Result<bool, Error> {
     let again: StrictSetOf<u8> = read(alloc, octets)?;
     Ok(again.values.as_slice() == [1, 2].as_slice() && again == *set && again.clone()? == *set)
@@ -49,7 +48,7 @@ fn a_set_is_written_where_it_rises(rt: HostRuntime) -> Result<(), Fail> {
     Ok(())
 }
 
-/// Whether each call refuses to write a set, and leaves what stood in a vector alone.
+/// Returns whether each call that encodes the set fails, and leaves a vector unchanged.
 fn is_refused_by_all(alloc: Global, set: &StrictSetOf<u8>, kind: ErrorKind) -> Result<bool, Error> {
     let mut out = Vec::from_array(alloc, [7_u8])?;
     let behind = is_refused(set.encode_to_vec(&mut out), kind);
@@ -59,7 +58,7 @@ fn is_refused_by_all(alloc: Global, set: &StrictSetOf<u8>, kind: ErrorKind) -> R
     Ok(behind && alone && in_slices && out.as_slice() == b"\x07".as_slice())
 }
 
-/// A set falls, or holds a member twice.
+/// Encoding a set fails if its members aren't in ascending order, or if one occurs twice.
 #[test]
 fn a_set_is_refused_where_it_does_not_rise(rt: HostRuntime) -> Result<(), Fail> {
     let alloc = rt.alloc();
@@ -73,7 +72,8 @@ fn a_set_is_refused_where_it_does_not_rise(rt: HostRuntime) -> Result<(), Fail> 
     Ok(())
 }
 
-/// So it is where the set stands in another set. A writer without room says that first.
+/// Encoding a set in another set fails in the same way. A writer without capacity reports that
+/// first.
 #[test]
 fn a_set_in_a_set_is_refused(rt: HostRuntime) -> Result<(), Fail> {
     let alloc = rt.alloc();

@@ -1,4 +1,4 @@
-//! How builders are used.
+//! The ways in which a builder is used.
 
 use crate::building::digest_signer::DigestSigner;
 use crate::building::refusals::Refusal;
@@ -7,31 +7,31 @@ use rand_core::SeedableRng;
 use std::alloc::Global;
 use x509_cert::builder::{Builder, Signer};
 
-/// How a builder is used.
+/// The way in which a builder is used.
 #[derive(Clone, Copy)]
 pub enum Manner {
-    /// What is signed, made twice.
+    /// Returns the signed part, built twice.
     Part,
-    /// What is signed where the builder is finalized before it is changed.
+    /// Returns the signed part, if the builder is also finalized before it is changed.
     Between,
-    /// The certificate is built.
+    /// Builds the value.
     Whole,
-    /// The builder is assembled at once.
+    /// Assembles the builder without finalizing it.
     Unready,
-    /// The builder is finalized, and changed after that.
+    /// Finalizes the builder, and then changes it.
     Late,
-    /// The builder is changed, finalized, and changed once more.
+    /// Changes the builder, finalizes it, and changes it once more.
     Later,
-    /// The builder is changed, finalized for a signer, and assembled by another.
+    /// Changes the builder, finalizes it with one signer, and assembles it with another.
     Other,
-    /// The certificate is built with random octets.
+    /// Builds the value with random bytes.
     Drawn,
-    /// What is signed: where there is no memory, the call is made again.
+    /// Returns the signed part. If memory runs out in a call, the call is repeated.
     Again,
 }
 
 impl Manner {
-    /// The manner that a word names.
+    /// Returns the way with this name.
     pub fn parse(word: &str) -> Result<Manner, Refusal> {
         match word {
             "part" | "signed" => Ok(Manner::Part),
@@ -52,19 +52,19 @@ impl Manner {
 #[derive(Clone, Copy)]
 pub struct Asked<'a> {
     pub manner: Manner,
-    /// What changes the builder.
+    /// The change of the builder.
     pub change: &'a str,
     /// The signer's key.
     pub signer: &'a str,
 }
 
 impl Asked<'_> {
-    /// The signer.
+    /// Returns the signer.
     pub fn signer(&self, alloc: Global) -> Result<DigestSigner, Refusal> {
         DigestSigner::parse(alloc, self.signer, "1.3.6.1.4.1.32473.2")
     }
 
-    /// The signer of another algorithm.
+    /// Returns a signer with the same key and another algorithm.
     fn other_signer(&self, alloc: Global) -> Result<DigestSigner, Refusal> {
         DigestSigner::parse(alloc, self.signer, "1.3.6.1.4.1.32473.3")
     }
@@ -72,12 +72,12 @@ impl Asked<'_> {
 
 /// A builder that words change.
 pub trait Change: Builder {
-    /// Gives it what a word tells.
+    /// Makes the change that a word describes.
     fn change(&mut self, alloc: Global, word: &str) -> Result<(), Refusal>;
 }
 
 impl Manner {
-    /// Whether what is signed is asked for, and no whole.
+    /// Returns whether the answer is the signed part, and not a complete value.
     pub fn is_part(self) -> bool {
         match self {
             Manner::Part | Manner::Between | Manner::Again => true,
@@ -86,7 +86,7 @@ impl Manner {
     }
 }
 
-/// What is signed, twice the same.
+/// Returns the signed part. It is built twice, and both have to be equal.
 pub fn part_of<B: Change + Drop>(
     alloc: Global,
     builder: &mut B,
@@ -100,8 +100,8 @@ pub fn part_of<B: Change + Drop>(
     }
 }
 
-/// What is signed after a change, which is made again where it finds no memory: then the builder
-/// has to be as it was.
+/// Returns the signed part after a change. If memory runs out in the change, the builder has to be
+/// as before, and the change is repeated.
 fn again<B: Change + Drop>(
     alloc: Global,
     builder: &mut B,
@@ -122,7 +122,7 @@ fn again<B: Change + Drop>(
     finalized_again(alloc, builder, signer)
 }
 
-/// What is signed after a change that comes between two calls.
+/// Returns the signed part after a change between two calls.
 fn between<B: Change + Drop>(
     alloc: Global,
     builder: &mut B,
@@ -134,7 +134,7 @@ fn between<B: Change + Drop>(
     Ok(builder.finalize(alloc, signer)?)
 }
 
-/// What is signed, at the second call where the first finds no memory.
+/// Returns the signed part, with a second call if memory runs out in the first.
 fn finalized_again<B: Change + Drop>(
     alloc: Global,
     builder: &mut B,
@@ -149,7 +149,7 @@ fn finalized_again<B: Change + Drop>(
     }
 }
 
-/// What is signed after a change, made twice.
+/// Returns the signed part after a change, built twice.
 fn twice<B: Change + Drop>(
     alloc: Global,
     builder: &mut B,
@@ -165,7 +165,7 @@ fn twice<B: Change + Drop>(
     Ok(octets)
 }
 
-/// What is made in another manner.
+/// Returns the value that is built in one of the other ways.
 pub fn whole_of<B: Change + Drop>(
     alloc: Global,
     builder: B,
@@ -175,7 +175,7 @@ pub fn whole_of<B: Change + Drop>(
     whole_by(alloc, builder, asked, &signer)
 }
 
-/// What is made in another manner, with a signer.
+/// Returns the value that is built in one of the other ways, with a signer.
 fn whole_by<B: Change + Drop>(
     alloc: Global,
     builder: B,
@@ -252,7 +252,7 @@ fn other<B: Change + Drop>(
     assembled(alloc, builder, octets.as_slice(), &other)
 }
 
-/// What stands finalized, with a signature of these octets.
+/// Assembles what was finalized, with a signature over these bytes.
 fn assembled<B: Change + Drop>(
     alloc: Global,
     builder: B,

@@ -32,7 +32,7 @@ impl<P: BuilderProfile + Drop> Change for CertificateBuilder<P> {
     }
 }
 
-/// What a certificate has whatever its profile, and what is asked of its builder.
+/// The fields that a certificate has whatever its profile, and what is asked of its builder.
 #[derive(Clone, Copy)]
 struct Settled<'a> {
     serial: &'a str,
@@ -43,7 +43,7 @@ struct Settled<'a> {
 }
 
 impl<'a> Settled<'a> {
-    /// The next words: `SERIAL FROM UNTIL KEY SIGNER ADDED`.
+    /// Parses the next words: `SERIAL FROM UNTIL KEY SIGNER ADDED`.
     fn parse(manner: Manner, words: &mut Words<'a>) -> Result<Settled<'a>, Refusal> {
         let serial = words.next()?;
         let from = words.next()?;
@@ -64,7 +64,7 @@ impl<'a> Settled<'a> {
         })
     }
 
-    /// The builder of a profile.
+    /// Returns a builder with a profile.
     fn builder<P: BuilderProfile + Drop>(
         &self,
         alloc: Global,
@@ -77,7 +77,7 @@ impl<'a> Settled<'a> {
         Ok(builder)
     }
 
-    /// What is made of a profile.
+    /// Returns the encoding of what is built with a profile.
     fn made<P: BuilderProfile + Drop>(
         &self,
         alloc: Global,
@@ -87,9 +87,9 @@ impl<'a> Settled<'a> {
     }
 }
 
-/// What is signed where an extension is added between two calls of `finalize`: what was added
-/// before, this extension, and those that the profile gives, made anew. The contracts of the three
-/// calls say so.
+/// Returns the signed part if an extension is added between two calls of `finalize`. Its extensions
+/// are those added before, this one, and those of the profile, which are built anew. This follows
+/// from the contracts of the three calls.
 fn signed_with<P: BuilderProfile + Drop, S: Signer>(
     alloc: Global,
     builder: &mut CertificateBuilder<P>,
@@ -108,7 +108,7 @@ fn signed_with<P: BuilderProfile + Drop, S: Signer>(
     Ok(octets)
 }
 
-/// What is made by a builder.
+/// Returns the encoding of what a builder builds.
 fn made_by<P: BuilderProfile + Drop>(
     alloc: Global,
     mut builder: CertificateBuilder<P>,
@@ -124,13 +124,13 @@ fn made_by<P: BuilderProfile + Drop>(
     }
 }
 
-/// The serial number that a word tells.
+/// Parses a serial number.
 fn serial_of(alloc: Global, word: &str) -> Result<SerialNumber, Refusal> {
     let octets = octets_of(alloc, word)?;
     Ok(SerialNumber::new(alloc, octets.as_slice())?)
 }
 
-/// Whether a word names a profile.
+/// Returns whether a word is the name of a profile.
 pub fn is_profile(kind: &str) -> bool {
     match kind {
         "root" | "subordinate" | "subscriber" | "device" | "module" => true,
@@ -138,7 +138,7 @@ pub fn is_profile(kind: &str) -> bool {
     }
 }
 
-/// What is made of the profile that the first word names.
+/// Builds a certificate with the profile that the first word names.
 pub fn answer(alloc: Global, manner: Manner, rest: &str) -> Result<Vec<u8>, Refusal> {
     let mut words = Words { rest };
     let kind = words.next()?;
@@ -160,7 +160,7 @@ pub fn answer(alloc: Global, manner: Manner, rest: &str) -> Result<Vec<u8>, Refu
     }
 }
 
-/// A root: last `SUBJECT`.
+/// Builds a root. The last word is `SUBJECT`.
 fn root(
     alloc: Global,
     manner: Manner,
@@ -173,7 +173,7 @@ fn root(
     settled.made(alloc, profile)
 }
 
-/// The path length that a word tells, or none.
+/// Parses a path length, or returns none for a dash.
 fn path_of(word: &str) -> Result<Option<u8>, Refusal> {
     if word == "-" {
         return Ok(None);
@@ -184,7 +184,7 @@ fn path_of(word: &str) -> Result<Option<u8>, Refusal> {
     Ok(Some(path))
 }
 
-/// An authority below one: `PATH` first, and last `ISSUER|SUBJECT`.
+/// Builds a CA below another one. The first word is `PATH`, and the last is `ISSUER|SUBJECT`.
 fn subordinate(
     alloc: Global,
     manner: Manner,
@@ -205,7 +205,7 @@ fn subordinate(
     settled.made(alloc, profile)
 }
 
-/// The kind of subscriber that a word names.
+/// Returns the kind of subscriber with this name.
 fn type_of(alloc: Global, word: &str, subject: Name) -> Result<CertificateType, Refusal> {
     match word {
         "domain" => {
@@ -219,7 +219,8 @@ fn type_of(alloc: Global, word: &str, subject: Name) -> Result<CertificateType, 
     }
 }
 
-/// A server: its kind first, and last `ISSUER|SUBJECT`.
+/// Builds the certificate of a server. The first word is its kind, and the last is
+/// `ISSUER|SUBJECT`.
 fn subscriber(
     alloc: Global,
     manner: Manner,
@@ -244,7 +245,7 @@ fn subscriber(
     settled.made(alloc, profile)
 }
 
-/// The version that a word names.
+/// Returns the version with this name.
 fn version_of(word: &str) -> Result<TpmVersion, Refusal> {
     match word {
         "1.2" => Ok(TpmVersion::Tpm12),
@@ -256,7 +257,7 @@ fn version_of(word: &str) -> Result<TpmVersion, Refusal> {
     }
 }
 
-/// The alternative names that a word tells, or none.
+/// Decodes alternative names, or returns none for a dash.
 fn names_of(alloc: Global, word: &str) -> Result<Option<GeneralNames>, Refusal> {
     if word == "-" {
         return Ok(None);
@@ -266,7 +267,7 @@ fn names_of(alloc: Global, word: &str) -> Result<Option<GeneralNames>, Refusal> 
     Ok(Some(names))
 }
 
-/// What a device is told by.
+/// The words that describe a device.
 #[derive(Clone, Copy)]
 enum DeviceWords<'a> {
     /// The alternative names, or none.
@@ -276,7 +277,7 @@ enum DeviceWords<'a> {
 }
 
 impl DeviceWords<'_> {
-    /// The profile.
+    /// Returns the profile.
     fn profile(&self, alloc: Global, issuer: Name, subject: Name) -> Result<DevId, Refusal> {
         match self {
             DeviceWords::Names(word) => {
@@ -294,7 +295,7 @@ impl DeviceWords<'_> {
     }
 }
 
-/// A device: last `ISSUER|SUBJECT`.
+/// Builds the certificate of a device. The last word is `ISSUER|SUBJECT`.
 fn device(
     alloc: Global,
     manner: Manner,

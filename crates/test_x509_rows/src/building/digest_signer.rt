@@ -8,7 +8,7 @@ use std::alloc::Global;
 use x509_cert::builder::{SignError, Signer};
 use x509_cert::{AlgorithmIdentifier, BitString, SubjectPublicKeyInfo};
 
-/// A signer whose bits are the SHA-256 digest of its key's octets and the signed ones. It protects
+/// A signer that returns the SHA-256 digest of its key's bytes and the signed bytes. It protects
 /// nothing.
 #[derive(Drop)]
 pub struct DigestSigner {
@@ -18,8 +18,8 @@ pub struct DigestSigner {
 }
 
 impl DigestSigner {
-    /// The signer of the key that a word tells, by the algorithm of these arcs. Behind `refuses:`
-    /// it refuses all octets.
+    /// Parses a signer with a key, whose algorithm has these arcs. After `refuses:`, it rejects
+    /// everything that it has to sign.
     pub fn parse(alloc: Global, word: &str, arcs: &str) -> Result<DigestSigner, Refusal> {
         let Ok(oid) = ObjectIdentifier::new(arcs) else {
             return Err(Refusal::Unread);

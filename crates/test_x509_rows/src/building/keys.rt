@@ -1,4 +1,4 @@
-//! Keys, and what tells them.
+//! Keys and their identifiers.
 
 use crate::building::refusals::Refusal;
 use crate::building::words::{key_of, written};
@@ -8,13 +8,13 @@ use x509_cert::{
     SubjectPublicKeyInfoRef,
 };
 
-/// The identifier of a key, and the encoding of the authority key identifier.
+/// Returns the identifier of a key, and the encoding of the authority key identifier.
 pub fn answer(alloc: Global, word: &str) -> Result<String, Refusal> {
     let key = key_of(alloc, word)?;
     answer_of(alloc, &key)
 }
 
-/// The answer for a key.
+/// Returns the answer for a key.
 fn answer_of(alloc: Global, key: &SubjectPublicKeyInfo) -> Result<String, Refusal> {
     let algorithm: AlgorithmIdentifierRef<'_> = key.algorithm.owned_to_ref();
     let lent: SubjectPublicKeyInfoRef<'_> = SubjectPublicKeyInfoRef {
@@ -28,14 +28,14 @@ fn answer_of(alloc: Global, key: &SubjectPublicKeyInfo) -> Result<String, Refusa
     Ok(text)
 }
 
-/// Adds octets in hex to a text.
+/// Appends bytes in base 16 to a text.
 fn add(alloc: Global, text: &mut String, octets: &[u8]) -> Result<(), Refusal> {
     let word = hex::encode(alloc, octets)?;
     text.push_str(word.as_str())?;
     Ok(())
 }
 
-/// Adds the identifier of a subject's key.
+/// Appends the identifier of a subject's key.
 fn add_subject(
     alloc: Global,
     text: &mut String,
@@ -45,7 +45,7 @@ fn add_subject(
     add(alloc, text, identifier.0.as_bytes())
 }
 
-/// Adds the encoding of the identifier of an authority's key.
+/// Appends the encoding of the identifier of an authority's key.
 fn add_authority(
     alloc: Global,
     text: &mut String,

@@ -1,4 +1,4 @@
-//! Why a question has no other answer.
+//! The errors of questions about builders.
 
 use der_core::ErrorKind;
 use hex::FromHexError;
@@ -6,16 +6,16 @@ use std::alloc::{AllocError, AllocFailed};
 use std::fmt;
 use x509_cert::builder::{Error, SignError};
 
-/// Why a question has no other answer.
+/// The error with which a question is answered.
 #[derive(Drop)]
 pub enum Refusal {
-    /// The question is none.
+    /// The question has an unknown form.
     Unread,
-    /// Out of memory.
+    /// Memory ran out.
     Memory,
-    /// What was made first isn't made again, or a call that found no memory changed something.
+    /// Two results that should be equal differ, or a call that ran out of memory changed something.
     Changed,
-    /// A fault in DER, or of the builder.
+    /// An error of DER, or of the builder.
     Refused(Error),
 }
 

@@ -1,4 +1,4 @@
-//! Requests.
+//! CSRs.
 
 use crate::building::builders::{Asked, Change, Manner, part_of, whole_of};
 use crate::building::refusals::Refusal;
@@ -26,14 +26,14 @@ impl Change for RequestBuilder {
     }
 }
 
-/// The password that is the encoding of these octets.
+/// Decodes a password.
 fn password_of(alloc: Global, word: &str) -> Result<ChallengePassword, Refusal> {
     let octets = octets_of(alloc, word)?;
     let text = DirectoryString::from_der(alloc, octets.as_slice())?;
     Ok(ChallengePassword(text))
 }
 
-/// Adds these passwords to a request.
+/// Adds these passwords to a CSR.
 fn add_passwords(
     alloc: Global,
     builder: &mut RequestBuilder,
@@ -49,7 +49,7 @@ fn add_passwords(
     Ok(())
 }
 
-/// The builder of a request of these passwords and this name.
+/// Returns the builder of a CSR with these passwords and the next name.
 fn builder_of(
     alloc: Global,
     passwords: &str,
@@ -61,7 +61,7 @@ fn builder_of(
     Ok(builder)
 }
 
-/// What is asked for of a request.
+/// Builds a CSR in the way that the first word names.
 pub fn answer(alloc: Global, rest: &str) -> Result<Vec<u8>, Refusal> {
     let mut words = Words { rest };
     let manner = Manner::parse(words.next()?)?;
@@ -77,7 +77,7 @@ pub fn answer(alloc: Global, rest: &str) -> Result<Vec<u8>, Refusal> {
     made(alloc, builder, &asked)
 }
 
-/// What is made by a builder.
+/// Returns the encoding of what a builder builds.
 fn made(alloc: Global, mut builder: RequestBuilder, asked: &Asked<'_>) -> Result<Vec<u8>, Refusal> {
     if asked.manner.is_part() {
         part_of(alloc, &mut builder, asked)

@@ -1,4 +1,4 @@
-//! Lists.
+//! CRLs.
 
 use crate::building::builders::{Asked, Change, Manner, part_of, whole_of};
 use crate::building::refusals::Refusal;
@@ -9,7 +9,7 @@ use std::str::FromStr;
 use x509_cert::builder::CrlBuilder;
 use x509_cert::{Certificate, CertificateList, CrlNumber, RevokedCert, Time};
 
-/// The entry of a list that is the encoding of these octets.
+/// Decodes an entry of a CRL.
 fn entry_of(alloc: Global, word: &str) -> Result<RevokedCert, Refusal> {
     let octets = octets_of(alloc, word)?;
     Ok(read(alloc, octets.as_slice())?)
@@ -31,14 +31,14 @@ impl Change for CrlBuilder {
     }
 }
 
-/// The issuer whose certificate has this encoding.
+/// Decodes the certificate of an issuer.
 fn issuer_of(alloc: Global, word: &str) -> Result<Certificate, Refusal> {
     let octets = octets_of(alloc, word)?;
     let issuer = Certificate::from_der(alloc, octets.as_slice())?;
     Ok(issuer)
 }
 
-/// The number of a list that a word tells.
+/// Parses the number of a CRL.
 fn number_of(alloc: Global, word: &str) -> Result<CrlNumber, Refusal> {
     let Ok(number) = u128::from_str(word) else {
         return Err(Refusal::Unread);
@@ -47,7 +47,7 @@ fn number_of(alloc: Global, word: &str) -> Result<CrlNumber, Refusal> {
     Ok(number)
 }
 
-/// The date of the next list that a word tells, or none.
+/// Parses the date of the next CRL, or returns none for a dash.
 fn next_of(word: &str) -> Result<Option<Time>, Refusal> {
     if word == "-" {
         return Ok(None);
@@ -56,7 +56,7 @@ fn next_of(word: &str) -> Result<Option<Time>, Refusal> {
     Ok(Some(time))
 }
 
-/// The builder of the list of an issuer, with the number that a word tells.
+/// Returns the builder of a CRL of an issuer, with this number.
 fn builder_by(
     alloc: Global,
     issuer: &Certificate,
@@ -68,7 +68,7 @@ fn builder_by(
     Ok(builder)
 }
 
-/// The builder of the list of the issuer whose certificate a word tells.
+/// Returns the builder of a CRL of the issuer with this certificate.
 fn builder_under(
     alloc: Global,
     issuer: &str,
@@ -79,7 +79,7 @@ fn builder_under(
     builder_by(alloc, &issuer, number, this_update)
 }
 
-/// The next words: `ISSUER NUMBER THIS NEXT`, the builder of the list.
+/// Returns the builder of the CRL that the next words describe: `ISSUER NUMBER THIS NEXT`.
 fn builder_of(alloc: Global, words: &mut Words<'_>) -> Result<CrlBuilder, Refusal> {
     let issuer = words.next()?;
     let number = words.next()?;
@@ -89,7 +89,7 @@ fn builder_of(alloc: Global, words: &mut Words<'_>) -> Result<CrlBuilder, Refusa
     Ok(builder.with_next_update(next_update))
 }
 
-/// What is asked for of a list.
+/// Builds a CRL in the way that the first word names.
 pub fn answer(alloc: Global, rest: &str) -> Result<Vec<u8>, Refusal> {
     let mut words = Words { rest };
     let manner = Manner::parse(words.next()?)?;
@@ -103,7 +103,7 @@ pub fn answer(alloc: Global, rest: &str) -> Result<Vec<u8>, Refusal> {
     made(alloc, builder, &asked)
 }
 
-/// What is made by a builder.
+/// Returns the encoding of what a builder builds.
 fn made(alloc: Global, mut builder: CrlBuilder, asked: &Asked<'_>) -> Result<Vec<u8>, Refusal> {
     if asked.manner.is_part() {
         part_of(alloc, &mut builder, asked)

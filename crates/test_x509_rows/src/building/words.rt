@@ -1,4 +1,4 @@
-//! Words of a line.
+//! The words of a line.
 
 use crate::building::refusals::Refusal;
 use crate::shown::read;
@@ -8,21 +8,21 @@ use std::alloc::Global;
 use std::str::FromStr;
 use x509_cert::{DateTime, Extension, GeneralizedTime, Name, SubjectPublicKeyInfo, Time};
 
-/// The words of a line, one after the other.
+/// The words of a line, one after another.
 #[derive(Clone, Copy)]
 pub struct Words<'a> {
     pub rest: &'a str,
 }
 
 impl<'a> Words<'a> {
-    /// The next word, before a blank.
+    /// Returns the next word, which ends at a space.
     pub fn next(&mut self) -> Result<&'a str, Refusal> {
         let (word, rest) = self.rest.split_once(' ').ok_or(Refusal::Unread)?;
         self.rest = rest;
         Ok(word)
     }
 
-    /// The next name, before a bar, or the last one.
+    /// Parses the next name, which ends at a bar, or with the line.
     pub fn name(&mut self, alloc: Global) -> Result<Name, Refusal> {
         let (text, rest) = self.rest.split_once('|').unwrap_or((self.rest, ""));
         self.rest = rest;
@@ -31,18 +31,18 @@ impl<'a> Words<'a> {
     }
 }
 
-/// The octets that a word tells.
+/// Decodes base 16.
 pub fn octets_of(alloc: Global, word: &str) -> Result<Vec<u8>, Refusal> {
     let octets = hex::decode(alloc, word)?;
     Ok(octets)
 }
 
-/// The octets of a value of a type that names its way.
+/// Returns the encoding of a value of a `Described` type.
 pub fn written<T: Described + FixedTag>(alloc: Global, value: &T) -> Result<Vec<u8>, Refusal> {
     Ok(value.to_der(alloc)?)
 }
 
-/// The octets of the value of an outcome.
+/// Returns the encoding of the value of a result.
 pub fn written_in<T: Described + FixedTag + Drop>(
     alloc: Global,
     outcome: Result<T, Refusal>,
@@ -50,7 +50,7 @@ pub fn written_in<T: Described + FixedTag + Drop>(
     written(alloc, &outcome?)
 }
 
-/// The date that a word tells, as a GeneralizedTime after `general:`.
+/// Parses a date. After `general:`, it is a GeneralizedTime.
 pub fn time_of(word: &str) -> Result<Time, Refusal> {
     match word.strip_prefix("general:") {
         Some(word) => {
@@ -61,13 +61,13 @@ pub fn time_of(word: &str) -> Result<Time, Refusal> {
     }
 }
 
-/// The key that is the encoding of these octets.
+/// Decodes a key.
 pub fn key_of(alloc: Global, word: &str) -> Result<SubjectPublicKeyInfo, Refusal> {
     let octets = octets_of(alloc, word)?;
     Ok(read(alloc, octets.as_slice())?)
 }
 
-/// The extension that is.
+/// Decodes an extension.
 pub fn extension_of(alloc: Global, word: &str) -> Result<Extension, Refusal> {
     let octets = octets_of(alloc, word)?;
     Ok(read(alloc, octets.as_slice())?)

@@ -1,12 +1,12 @@
-//! Profiles of certificates that are built.
+//! Profiles that determine the names and extensions of certificates that are built.
 
 pub use x509_cert_builders::BuilderProfile;
 
-/// The profiles of the CA/Browser Forum.
+/// Profiles of the CA/Browser Forum's Baseline Requirements.
 pub mod cabf {
     pub use x509_cert_builders::{Root, ca_certificate_naming, check_names_encoding};
 
-    /// Certificates of TLS servers and of who issues them.
+    /// Profiles for TLS servers and the CAs that issue their certificates.
     pub mod tls {
         pub use x509_cert_builders::{
             CertificateType, DomainValidated, Subordinate, Subscriber, Tls12Options,
@@ -14,7 +14,7 @@ pub mod cabf {
     }
 }
 
-/// Certificates of devices (IEEE 802.1AR).
+/// Profiles for devices (IEEE 802.1AR).
 pub mod devid {
     pub use x509_cert_builders::{DevId, TpmVersion};
 

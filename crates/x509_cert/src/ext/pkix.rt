@@ -20,7 +20,7 @@ pub use x509_cert_builders::cert_extensions::{
 // Signed certificate timestamps (RFC 6962 3).
 pub use x509_cert_anchors::policy_types::timestamps as sct;
 
-/// Policies of certificates (RFC 5280 4.2.1.4).
+/// Certificate policies (RFC 5280 4.2.1.4).
 pub mod certpolicy {
     pub use x509_cert_anchors::policy_types::{
         CertificatePolicies, CpsUri, DisplayText, NoticeReference, PolicyInformation,
@@ -28,7 +28,7 @@ pub mod certpolicy {
     };
 }
 
-/// Constraints on paths (RFC 5280 4.2.1.9 to 4.2.1.11).
+/// Constraints on certificate chains (RFC 5280 4.2.1.9 to 4.2.1.11).
 pub mod constraints {
     pub use x509_cert_anchors::cert_general_names::NameConstraints;
     pub use x509_cert_anchors::policy_types::{BasicConstraints, PolicyConstraints};
@@ -41,14 +41,14 @@ pub mod constraints {
     }
 }
 
-/// Extensions of CRLs, and extensions that say where CRLs are (RFC 5280 4.2.1.13, 5.2, 5.3).
+/// Extensions of CRLs, and extensions with the locations of CRLs (RFC 5280 4.2.1.13, 5.2, 5.3).
 pub mod crl {
     pub use x509_cert_anchors::cert_general_names::IssuingDistributionPoint;
     pub use x509_cert_builders::cert_extensions::{
         BaseCrlNumber, CrlDistributionPoints, CrlNumber, CrlReason, FreshestCrl,
     };
 
-    /// Points of distribution (RFC 5280 4.2.1.13, 5.2.5).
+    /// Distribution points (RFC 5280 4.2.1.13, 5.2.5).
     pub mod dp {
         pub use x509_cert_anchors::cert_general_names::{
             DistributionPoint, IssuingDistributionPoint, ReasonFlags, Reasons,
@@ -56,7 +56,7 @@ pub mod crl {
     }
 }
 
-/// Names of other kinds (RFC 5280 4.2.1.6).
+/// General names (RFC 5280 4.2.1.6).
 pub mod name {
     pub use x509_cert_anchors::cert_general_names::{
         DistributionPointName, EdiPartyName, GeneralName, GeneralNames, HardwareModuleName,

@@ -1,3 +1,4 @@
+-- Goals of `accepting::accept_one` that the checker doesn't prove by itself.
 use Rattle.std.proofs.Common.{refl, string_bytes, subst}
 use Rattle.std.proofs.lemmas.Result.{err_from_is_err_and}
 use Rattle.cert_desk_listing.specs.Der.Grammar.{plain_list}

@@ -1,4 +1,5 @@
--- All octets so far are ASCII: the answer is that of those that are left.
+-- The loop invariant of `accepting::is_ascii`: all bytes so far are ASCII, so the result is that of
+-- the remaining ones.
 use Rattle.std.proofs.Common.{◌≡◌, drop}
 use Rattle.std.specs.Prelude.{nat_lt}
 use Rattle.std.specs.List.{list_all}

@@ -1,3 +1,4 @@
+-- Goals of `accepting::is_same_key` that the checker doesn't prove by itself.
 use Rattle.std.proofs.Common.{sym, ◌∙◌}
 use Rattle.cert_desk_orders.proofs.CertParts.ValueEquality.{key_again, one_key}
 use Rattle.cert_desk.proofs.accepting.is_same_key.Goals as goal

@@ -1,4 +1,5 @@
--- All relative names so far may stay: the answer is that of those that are left.
+-- The loop invariant of `accepting::names_subscriber`: all RDNs so far are allowed, so the result
+-- is that of the remaining ones.
 use Rattle.std.proofs.Common.{◌≡◌}
 use Rattle.std.specs.Slice.Iter.{iter_rest}
 use Rattle.cert_desk_listing.specs.Der.Grammar.{plain_list}

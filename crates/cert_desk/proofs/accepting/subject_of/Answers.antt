@@ -1,3 +1,4 @@
+-- Goals of `accepting::subject_of` that the checker doesn't prove by itself.
 use Rattle.std.proofs.lemmas.Result.{err_from_is_err_and}
 use Rattle.cert_desk.proofs.accepting.subject_of.Goals as goal
 

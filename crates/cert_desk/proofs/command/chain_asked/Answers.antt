@@ -1,3 +1,4 @@
+-- Goals of `command::chain_asked` that the checker doesn't prove by itself.
 use Rattle.std.proofs.Common.{rules, ◌≡◌, ◌∷◌, [], codes, string_bytes, ap, sym, ◌∙◌}
 use Rattle.cert_desk.proofs.Words.{three_words}
 use Rattle.cert_desk.proofs.command.chain_asked.Goals as goal

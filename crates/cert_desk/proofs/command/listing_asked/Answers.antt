@@ -1,3 +1,4 @@
+-- Goals of `command::listing_asked` that the checker doesn't prove by itself.
 use Rattle.std.proofs.Common.{rules, ◌≡◌, ◌∷◌, [], codes, string_bytes, ap, sym, ◌∙◌}
 use Rattle.cert_desk_listing.specs.Kinds.{kind_word}
 use Rattle.cert_desk.proofs.Words.{four_words}

@@ -1,3 +1,4 @@
+-- Goals of `issuing::accept_all` that the checker doesn't prove by itself.
 use Rattle.std.proofs.Common.{map, sym, ◌∙◌, subst}
 use Rattle.cert_desk.specs.declared.issue_error.IssueError.{IssueError}
 use Rattle.cert_desk.specs.PlainOrders.{accepted_plain, orders_plain}

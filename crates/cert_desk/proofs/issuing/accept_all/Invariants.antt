@@ -1,4 +1,4 @@
--- So many orders are accepted.
+-- The loop invariant of `issuing::accept_all`: the orders so far are accepted.
 use Rattle.std.proofs.Common.{◌≡◌, length, map}
 use Rattle.cert_desk.specs.Acceptance.{AcceptsFront}
 use Rattle.cert_desk.specs.PlainOrders.{orders_plain}

@@ -1,3 +1,4 @@
+-- Goals of `issuing::accept_at` that the checker doesn't prove by itself.
 use Rattle.std.proofs.Common.{length, map, refl}
 use Rattle.std.proofs.lemmas.Option.{slice_get_read}
 use Rattle.cert_desk.proofs.AcceptedFronts.{accepted_at, refused_at}

@@ -1,3 +1,4 @@
+-- Goals of `issuing::issue` that the checker doesn't prove by itself.
 use Rattle.std.proofs.Common.{◌≡◌, List, [], map, sym, ◌∙◌, subst, arith}
 use Rattle.std.proofs.lemmas.Result.{err_from_is_err_and}
 use Rattle.std.specs.Prelude.{IfErr}

@@ -1,3 +1,4 @@
+-- Goals of `issuing::issue_all` that the checker doesn't prove by itself.
 use Rattle.std.proofs.Common.{sym, ◌∙◌, subst}
 use Rattle.cert_desk_listing.specs.Der.Grammar.{plain_list}
 use Rattle.cert_desk.specs.declared.issue_error.IssueError.{IssueError}

@@ -1,4 +1,4 @@
--- So many certificates are issued.
+-- The loop invariant of `issuing::issue_all`: the certificates so far are issued.
 use Rattle.std.proofs.Common.{◌≡◌, length}
 use Rattle.cert_desk_listing.specs.Der.Grammar.{plain_list}
 use Rattle.cert_desk_listing.specs.CertCertificates.Views.{certificate_plain}

@@ -1,3 +1,4 @@
+-- Goals of `issuing::issue_at` that the checker doesn't prove by itself.
 use Rattle.std.proofs.Common.{◌<◌, length, refl, sym, subst}
 use Rattle.std.proofs.lemmas.Option.{slice_get_read}
 use Rattle.cert_desk.specs.Roles.{place_above}

@@ -1,3 +1,4 @@
+-- Goals of `issuing_laws::issuable_is_issued` that the checker doesn't prove by itself.
 use Rattle.cert_desk.proofs.OnlyMemory.{issuable_is_issued}
 use Rattle.cert_desk.proofs.issuing_laws.issuable_is_issued.Goals as goal
 

@@ -1,3 +1,4 @@
+-- Goals of `issuing_laws::issued_is_trusted` that the checker doesn't prove by itself.
 use Rattle.cert_desk.proofs.Trusting.{issued_is_trusted}
 use Rattle.cert_desk.proofs.issuing_laws.issued_is_trusted.Goals as goal
 

@@ -1,3 +1,4 @@
+-- Goals of `making::made_by` that the checker doesn't prove by itself.
 use Rattle.std.proofs.Common.{◌≤◌, ℕ, List, length, sym, ◌∙◌, subst}
 use Rattle.std.proofs.lemmas.Result.{err_from_is_err_and}
 use Rattle.cert_desk_listing.specs.Oid.Bound.{Bound}

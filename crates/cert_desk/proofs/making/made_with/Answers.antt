@@ -1,3 +1,4 @@
+-- Goals of `making::made_with` that the checker doesn't prove by itself.
 use Rattle.std.proofs.Common.{ap, ◌∙◌}
 use Rattle.x509_cert_builders.specs.States.{CertificateState}
 use Rattle.cert_desk.specs.Ordered.{names_for, ordered_part}

@@ -1,3 +1,4 @@
+-- Goals of `naming::names_of` that the checker doesn't prove by itself.
 use Rattle.std.proofs.Common.{◌≡◌, ℕ, zero, suc, List, [], ◌∷◌, length, false, Result, Some, Ok, Err, refl, arith, slice_get, string_bytes, sym, ap, ◌∙◌, subst}
 use Rattle.std.proofs.lemmas.Bool.{le-ltb}
 use Rattle.std.proofs.lemmas.Option.{same_Some, slice_get_read}
@@ -23,9 +24,9 @@ use Rattle.cert_desk_listing.specs.Der.ErrorTypes.ErrorKind.TheVariants as kinds
 use Rattle.cert_desk_listing.specs.Der.TagTypes.Tag.TheVariants as tags
 use Rattle.cert_desk.proofs.naming.names_of.Goals as goal
 
--- DNS names that have an encoding are read as names.
+-- DNS names that have an encoding can be decoded as names.
 
--- what is read of octets as text in ASCII, where a length can count them
+-- The result of decoding the bytes as ASCII text, if their length fits.
 abbrev read_within : List ℕ → Result (List ℕ) ErrorKind
 read_within w = if nat_lt length_max (length w) then Err kinds.Overflow else text_read ascii tags.Ia5String w
 

@@ -1,4 +1,4 @@
--- So many texts are names.
+-- The loop invariant of `naming::names_of`: the names so far are those of the texts so far.
 use Rattle.std.proofs.Common.{◌≡◌, take, string_bytes}
 use Rattle.cert_desk_listing.specs.Der.Grammar.{plain_list}
 use Rattle.cert_desk_checking.specs.CertGeneralNames.GeneralNameViews.{general_name_plain}

@@ -1,3 +1,4 @@
+-- Goals of `order_runs::find` that the checker doesn't prove by itself.
 use Rattle.cert_desk_listing.specs.DeskIo.Devices.{source}
 use Rattle.cert_desk.proofs.FilesBecome.{FileBecomes-said}
 use Rattle.cert_desk.proofs.order_runs.find.Goals as goal

@@ -1,3 +1,4 @@
+-- Goals of `order_runs::find_issued` that the checker doesn't prove by itself.
 use Rattle.std.proofs.Common.{map, ap, ◌∙◌}
 use Rattle.cert_desk.specs.Runs.{signer_key}
 use Rattle.cert_desk.proofs.order_runs.find_issued.Goals as goal

@@ -1,4 +1,5 @@
--- The signers so far have the keys of as many orders.
+-- The loop invariant of `order_runs::signers_of`: the signers so far have the keys of the orders so
+-- far.
 use Rattle.std.proofs.Common.{◌≡◌, map, take}
 use Rattle.cert_desk.specs.Runs.{key_of, signer_key}
 use Rattle.cert_desk.proofs.order_runs.signers_of.Given as goal

@@ -1,4 +1,4 @@
--- Both inputs are opened, and the run is that of a check on them.
+-- Goals of `running::check`: both inputs are opened, and the run is a check of them.
 use Rattle.std.proofs.Common.{inl}
 use Rattle.cert_desk.proofs.running.check.Goals as goal
 

@@ -1,4 +1,4 @@
--- The orders are opened, and what comes of them is told.
+-- Goals of `running::issue`: the orders file is opened, and its outcome is reported.
 use Rattle.std.proofs.Common.{inl}
 use Rattle.cert_desk.proofs.running.issue.Goals as goal
 

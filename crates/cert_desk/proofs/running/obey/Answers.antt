@@ -1,4 +1,4 @@
--- Words that are no command are told by the usage line.
+-- Goals of `running::obey`: words that aren't a command are answered with the usage line.
 use Rattle.std.proofs.Common.{inr, refl, subst}
 use Rattle.cert_desk_listing.specs.DeskIo.declared.exit_status.ExitStatus.TheVariants as statuses
 use Rattle.cert_desk_listing.specs.DeskIo.Devices.{sink}

@@ -1,4 +1,4 @@
--- The input is opened, and what is found in it is told.
+-- Goals of `running::show`: the file is opened, and its contents are reported.
 use Rattle.std.proofs.Common.{inl}
 use Rattle.cert_desk.proofs.running.show.Goals as goal
 

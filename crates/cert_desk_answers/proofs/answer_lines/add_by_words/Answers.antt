@@ -1,3 +1,4 @@
+-- Goals of `answer_lines::add_by_words` that the checker doesn't prove by itself.
 use Rattle.std.proofs.Common.{rules, ◌≡◌, ℕ, List, Bor, map, Some}
 use Rattle.cert_desk_checking.specs.DeskRules.Answers.{answer_plain}
 use Rattle.cert_desk_answers.specs.AnswerLines.{said, words_say}

@@ -1,3 +1,4 @@
+-- Goals of `answer_lines::answers_in` that the checker doesn't prove by itself.
 use Rattle.std.proofs.Common.{rules}
 use Rattle.cert_desk_answers.proofs.AnswerFile.{behind-line, no_file}
 use Rattle.cert_desk_answers.proofs.answer_lines.answers_in.Goals as goal

@@ -1,4 +1,5 @@
--- the answers so far, and what the lines left say, are what the file says
+-- The loop invariant of `answer_lines::answers_in`: the answers so far, followed by those of the
+-- remaining lines, are those of the file.
 use Rattle.std.proofs.Common.{◌≡◌, map, drop}
 use Rattle.cert_desk_checking.specs.DeskRules.Answers.{answer_plain}
 use Rattle.cert_desk_answers.specs.AnswerLines.{answers_from, file_says}

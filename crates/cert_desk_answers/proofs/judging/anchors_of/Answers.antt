@@ -1,3 +1,4 @@
+-- Goals of `judging::anchors_of` that the checker doesn't prove by itself.
 use Rattle.std.proofs.Common.{inl, refl}
 use Rattle.cert_desk_checking.proofs.OneAnchorFile.{not_whole}
 use Rattle.cert_desk_answers.proofs.judging.anchors_of.Goals as goal

@@ -1,4 +1,5 @@
--- What is scanned is all of the octets, or no SEQUENCE is.
+-- Goals of `scan::content_start`: the scanned SEQUENCE is all of the bytes, or they are no
+-- SEQUENCE.
 use Rattle.std.proofs.Common.{arith}
 use Rattle.cert_desk_bundle.proofs.Scans.{content_at, spelled_some, spelled_first, spelled_read, spelled_small, spelled_whole}
 use Rattle.cert_desk_bundle.proofs.scan.content_start.Goals as goal

@@ -1,4 +1,4 @@
--- What the header says, behind the octet of a SEQUENCE.
+-- Goals of `scan::wanted_len`: the header after the tag of a SEQUENCE.
 use Rattle.std.proofs.Common.{◌+◌, ◌<◌, ◌≤◌, ◌^◌, ◌⊎◌, inl, inr, arith}
 use Rattle.cert_desk_bundle.proofs.Scans.{wanted_none, wanted_cut, early_head, early_large, wanted_by}
 use Rattle.cert_desk_bundle.proofs.scan.wanted_len.Goals as goal

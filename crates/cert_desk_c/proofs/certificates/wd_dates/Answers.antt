@@ -1,3 +1,4 @@
+-- Goals of `certificates::wd_dates` that the checker doesn't prove by itself.
 use Rattle.std.proofs.Common.{inl}
 use Rattle.cert_tool_describe.specs.CertCertificates.Views.{certificate_plain}
 use Rattle.cert_desk_answers.proofs.DeskRules.Returning.{found, lacking}

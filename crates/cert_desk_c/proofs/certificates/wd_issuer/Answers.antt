@@ -1,3 +1,4 @@
+-- Goals of `certificates::wd_issuer` that the checker doesn't prove by itself.
 use Rattle.std.proofs.Common.{inl, refl, sym, ap, ◌∙◌}
 use Rattle.cert_tool_describe.specs.Oid.Bound.{Bound}
 use Rattle.cert_tool_describe.specs.CertCertificates.Certificates.{PlainCertificate, Tbs, raw_certificate, issuer, tbs_issuer}

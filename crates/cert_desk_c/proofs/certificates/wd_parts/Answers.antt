@@ -1,3 +1,4 @@
+-- Goals of `certificates::wd_parts` that the checker doesn't prove by itself.
 use Rattle.cert_desk_answers.proofs.DeskRules.Returning.{found, lacking}
 use Rattle.cert_desk_c.specs.Values.{IsNoCertificate}
 use Rattle.cert_tool_describe.specs.Files.{IsCertificate}

@@ -1,3 +1,4 @@
+-- Goals of `descriptions::give_lines` that the checker doesn't prove by itself.
 use Rattle.std.proofs.Common.{◌≡◌, ℕ, List, inl, length, sym, ◌∙◌}
 use Rattle.cert_desk_answers.proofs.DeskRules.Returning.{given}
 use Rattle.cert_desk_c.proofs.descriptions.give_lines.Goals as goal

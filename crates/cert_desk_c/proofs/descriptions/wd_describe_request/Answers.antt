@@ -1,3 +1,4 @@
+-- Goals of `descriptions::wd_describe_request` that the checker doesn't prove by itself.
 use Rattle.cert_tool_describe.specs.Files.{IsRequest}
 use Rattle.cert_desk_c.specs.Values.{IsNoRequest}
 use Rattle.cert_desk_c.proofs.Described.{described}

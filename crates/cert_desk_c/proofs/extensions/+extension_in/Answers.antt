@@ -1,3 +1,4 @@
+-- Goals of `extensions::extension_in` that the checker doesn't prove by itself.
 use Rattle.std.proofs.Common.{◌-◌, ◌++◌, length, take, drop, refl, sym, ◌∙◌}
 use Rattle.cert_tool_describe.specs.Oid.Bound.{Bound}
 use Rattle.cert_tool_describe.specs.Der.Shapes.{many, body_octets}

@@ -1,3 +1,4 @@
+-- The loop invariant of `extensions::extension_in`.
 use Rattle.std.proofs.Common.{length}
 use Rattle.cert_desk_c.proofs.extensions.+extension_in.Given as goal
 

@@ -1,3 +1,4 @@
+-- Goals of `extensions::content_in` that the checker doesn't prove by itself.
 use Rattle.cert_tool_describe.specs.CertParts.Grammar.{extension_octets}
 use Rattle.cert_desk_c.proofs.ExtensionPlaces.{Inside, content_is, before_content}
 use Rattle.cert_desk_c.proofs.extensions.content_in.Goals as goal

@@ -1,3 +1,4 @@
+-- Goals of `extensions::extension_of` that the checker doesn't prove by itself.
 use Rattle.std.proofs.Common.{Some, is_some, sym, ap, ◌∙◌, List}
 use Rattle.cert_tool_describe.specs.CertCertificates.Certificates.{Tbs, tbs_extensions, tbs_issuer_unique_id, tbs_subject_unique_id}
 use Rattle.cert_tool_describe.specs.CertCertificates.Views.{certificate_plain}

@@ -1,3 +1,4 @@
+-- Goals of `extensions::wd_extension` that the checker doesn't prove by itself.
 use Rattle.std.proofs.Common.{Option, inl, is_some, sym, ap, ◌∙◌}
 use Rattle.cert_tool_describe.specs.CertCertificates.Certificates.{extensions_of}
 use Rattle.cert_tool_describe.specs.CertCertificates.Views.{certificate_plain}

@@ -1,3 +1,4 @@
+-- Goals of `identifiers::wd_identifier_of_text` that the checker doesn't prove by itself.
 use Rattle.std.proofs.Common.{◌≡◌, ◌≤◌, ℕ, List, length, sym, ap, subst, ◌∙◌}
 use Rattle.cert_tool_describe.specs.Oid.Bound.{max_size}
 use Rattle.cert_tool_describe.specs.Oid.IdentifierOctets.{identifier_octets}

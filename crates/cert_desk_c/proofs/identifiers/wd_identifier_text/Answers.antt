@@ -1,3 +1,4 @@
+-- Goals of `identifiers::wd_identifier_text` that the checker doesn't prove by itself.
 use Rattle.std.proofs.Common.{◌≡◌, ℕ, List, length, inl, inr, refl, sym, ap, subst, ◌∙◌}
 use Rattle.cert_tool_describe.specs.Oid.declared.error.Error.{Error}
 use Rattle.cert_tool_describe.specs.Oid.DottedText.{dotted}

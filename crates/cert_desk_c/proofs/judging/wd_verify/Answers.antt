@@ -1,3 +1,4 @@
+-- Goals of `judging::wd_verify` that the checker doesn't prove by itself.
 use Rattle.std.proofs.Common.{inl, sym, ◌∙◌, arith}
 use Rattle.cert_desk_c.proofs.Verdicts.{judged, misasked, refused_is_told, trusted_is_told, unanswered}
 use Rattle.cert_desk_c.proofs.judging.wd_verify.Goals as goal

@@ -1,3 +1,4 @@
+-- Goals of `listings::wd_show_request` that the checker doesn't prove by itself.
 use Rattle.std.proofs.Common.{inl, refl, sym, ap, ◌∙◌}
 use Rattle.cert_tool_describe.specs.Oid.Bound.{Bound}
 use Rattle.cert_desk_listing.specs.Listing.{request_lines}

@@ -1,3 +1,4 @@
+-- Goals of `names::encoding_of` that the checker doesn't prove by itself.
 use Rattle.std.proofs.Common.{ℕ, List, Ok, Err, inr, refl, subst}
 use Rattle.cert_tool_describe.specs.Oid.Bound.{Bound}
 use Rattle.cert_tool_describe.specs.Der.Grammar.{plain_list}

@@ -1,3 +1,4 @@
+-- Goals of `names::text_of` that the checker doesn't prove by itself.
 use Rattle.std.proofs.Common.{◌≡◌, IfOk, string_bytes, sym, subst}
 use Rattle.cert_tool_describe.proofs.CertNames.OneName.{name_text_is}
 use Rattle.cert_desk_c.proofs.names.text_of.Goals as goal

@@ -1,3 +1,4 @@
+-- Goals of `names::wd_name_of_text` that the checker doesn't prove by itself.
 use Rattle.std.proofs.Common.{ℕ, ◌<◌, List, inl, length, sym, ap, subst, ◌∙◌}
 use Rattle.cert_desk_answers.proofs.DeskRules.Returning.{spelled, unspelled}
 use Rattle.cert_desk_c.specs.Values.{IsEncodedName, IsNoNameText}

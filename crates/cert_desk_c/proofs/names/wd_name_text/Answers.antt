@@ -1,3 +1,4 @@
+-- Goals of `names::wd_name_text` that the checker doesn't prove by itself.
 use Rattle.std.proofs.Common.{inl, refl, sym, ap, ◌∙◌}
 use Rattle.cert_tool_describe.specs.Oid.Bound.{Bound}
 use Rattle.cert_tool_describe.specs.CertNames.Names.{name}

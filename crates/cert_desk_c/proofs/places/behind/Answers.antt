@@ -1,3 +1,4 @@
+-- Goals of `places::behind` that the checker doesn't prove by itself.
 use Rattle.std.proofs.Common.{◌+◌, [], refl, arith}
 use Rattle.cert_desk_c.proofs.PartPlaces.{is_rest, passed_within, passed}
 use Rattle.cert_desk_c.proofs.places.behind.Goals as goal

@@ -1,3 +1,4 @@
+-- Goals of `places::behind_version` that the checker doesn't prove by itself.
 use Rattle.std.proofs.Common.{[], true, refl}
 use Rattle.cert_tool_describe.specs.Der.Shapes.{nested, only}
 use Rattle.cert_tool_describe.specs.Der.Tags.{context}

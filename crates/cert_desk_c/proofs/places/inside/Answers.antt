@@ -1,3 +1,4 @@
+-- Goals of `places::inside` that the checker doesn't prove by itself.
 use Rattle.cert_desk_c.proofs.PartPlaces.{is_rest, entered}
 use Rattle.cert_desk_c.proofs.places.inside.Goals as goal
 

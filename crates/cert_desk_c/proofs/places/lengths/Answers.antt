@@ -1,3 +1,4 @@
+-- Goals of `places::lengths` that the checker doesn't prove by itself.
 use Rattle.cert_desk_c.proofs.PartPlaces.{header_is, not_refused}
 use Rattle.cert_desk_c.proofs.places.lengths.Goals as goal
 

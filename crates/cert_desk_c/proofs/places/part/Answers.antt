@@ -1,3 +1,4 @@
+-- Goals of `places::part` that the checker doesn't prove by itself.
 use Rattle.std.proofs.Common.{ℕ, List, ◌++◌, length, ap, ◌∙◌, arith, length-append}
 use Rattle.cert_desk_c.proofs.places.part.Goals as goal
 

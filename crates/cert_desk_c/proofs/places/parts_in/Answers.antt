@@ -1,3 +1,4 @@
+-- Goals of `places::parts_in` that the checker doesn't prove by itself.
 use Rattle.cert_tool_describe.specs.Oid.Bound.{Bound}
 use Rattle.cert_tool_describe.specs.Der.Integers.{integer_octets}
 use Rattle.cert_tool_describe.specs.Der.Shapes.{octets_of}

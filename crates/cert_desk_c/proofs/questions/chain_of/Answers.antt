@@ -1,3 +1,4 @@
+-- Goals of `questions::chain_of` that the checker doesn't prove by itself.
 use Rattle.std.proofs.Common.{ℕ, inl, sym, subst, ◌∙◌}
 use Rattle.cert_tool_describe.specs.Oid.Bound.{Bound}
 use Rattle.cert_desk_answers.specs.DeskBundle.Chains.{Chain}

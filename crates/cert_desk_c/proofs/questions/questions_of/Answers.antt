@@ -1,3 +1,4 @@
+-- Goals of `questions::questions_of` that the checker doesn't prove by itself.
 use Rattle.std.proofs.Common.{map}
 use Rattle.std.proofs.lemmas.Result.{err_from_is_err_and}
 use Rattle.cert_desk_answers.specs.DeskChecking.Anchors.{anchor_plain}

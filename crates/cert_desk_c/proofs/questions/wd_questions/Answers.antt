@@ -1,3 +1,4 @@
+-- Goals of `questions::wd_questions` that the checker doesn't prove by itself.
 use Rattle.std.proofs.Common.{ℕ, List, inl, sym, subst, arith}
 use Rattle.cert_desk_listing.specs.DeskIo.declared.exit_status.ExitStatus.TheVariants.{Arguments}
 use Rattle.cert_desk_c.specs.Judged.{AreQuestions}

@@ -1,4 +1,4 @@
--- What stands there gives it, or none.
+-- Goals of `anchor_files::anchor_at`: the trust anchor at the offset is usable, or none there is.
 use Rattle.x509_cert_anchors.specs.AnchorViews.{trust_anchor_plain}
 use Rattle.cert_desk_checking.proofs.AnchorLaws.{given_there}
 use Rattle.cert_desk_checking.proofs.anchor_files.anchor_at.Goals as goal

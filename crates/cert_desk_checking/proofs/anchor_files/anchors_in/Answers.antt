@@ -1,4 +1,4 @@
--- Each anchor that is read makes the file so far longer by one.
+-- Goals of `anchor_files::anchors_in`: each decoded trust anchor adds one to the file so far.
 use Rattle.std.proofs.Common.{◌≡◌, map, [], ◌∷◌, ◌++◌, ap, ◌∙◌, arith}
 use Rattle.std.proofs.lemmas.List.{map-append}
 use Rattle.cert_desk_checking.specs.Anchors.{anchor_plain, given_by}

@@ -1,4 +1,5 @@
--- The anchors so far are those of the trust anchors up to the start.
+-- The loop invariant of `anchor_files::anchors_in`: the names and keys so far are those of the
+-- trust anchors up to the start.
 use Rattle.std.proofs.Common.{◌-◌, length, map}
 use Rattle.cert_desk_checking.specs.Anchors.{anchor_plain, given_by}
 use Rattle.cert_desk_checking.specs.AnchorFiles.{raw_choice}

@@ -1,4 +1,5 @@
--- What is read is spelled by the octets up to what is left behind it.
+-- Goals of `anchor_files::choice_at`: the decoded trust anchor ends where the remaining bytes
+-- begin.
 use Rattle.std.proofs.Common.{◌≡◌, ◌++◌, drop, refl, arith}
 use Rattle.std.proofs.lemmas.List.{take_rest}
 use Rattle.x509_cert_anchors.specs.Der.Shapes.{IsValid}

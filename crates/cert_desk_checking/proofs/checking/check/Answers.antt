@@ -1,3 +1,4 @@
+-- Goals of `checking::check` that the checker doesn't prove by itself.
 use Rattle.std.proofs.Common.{sym, ap, ◌∙◌}
 use Rattle.cert_desk_rules.specs.declared.checked.Verdict.TheVariants as verdicts
 use Rattle.cert_desk_checking.specs.Anchors.{terms_of}

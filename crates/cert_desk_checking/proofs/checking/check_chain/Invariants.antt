@@ -1,4 +1,5 @@
--- Every place so far keeps all rules, and the questions are those about these places.
+-- The loop invariant of `checking::check_chain`: the certificates so far keep all rules, and the
+-- questions are those about them.
 use Rattle.std.proofs.Common.{◌≡◌, true}
 use Rattle.x509_cert_anchors.specs.Oid.Bound.{Bound}
 use Rattle.cert_desk_checking.specs.Anchors.{terms_of}

@@ -1,3 +1,4 @@
+-- Goals of `checking::has_one_algorithm` that the checker doesn't prove by itself.
 use Rattle.std.proofs.Common.{◌≡◌, sym, ap, ◌∙◌}
 use Rattle.x509_cert_anchors.specs.Oid.Bound.{Bound}
 use Rattle.x509_cert_anchors.specs.Der.Shapes.{octets_of}

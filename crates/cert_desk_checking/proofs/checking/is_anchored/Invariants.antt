@@ -1,4 +1,5 @@
--- No anchor so far has the name: the answer is that of the anchors that are left.
+-- The loop invariant of `checking::is_anchored`: no trust anchor so far has the name, so the result
+-- is that of the remaining ones.
 use Rattle.std.proofs.Common.{◌≡◌, map, drop}
 use Rattle.std.specs.List.{list_any}
 use Rattle.x509_cert_anchors.specs.Oid.Bound.{Bound}

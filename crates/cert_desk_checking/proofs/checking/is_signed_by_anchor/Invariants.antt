@@ -1,4 +1,5 @@
--- No anchor so far was answered yes: the answer, and the questions to come, are those of the anchors that are left.
+-- The loop invariant of `checking::is_signed_by_anchor`: the signature wasn't accepted under any
+-- trust anchor so far, so the result and the further questions are those of the remaining ones.
 use Rattle.std.proofs.Common.{◌≡◌, ℕ, ◌+◌, map, drop}
 use Rattle.std.specs.List.{list_any}
 use Rattle.x509_cert_anchors.specs.Oid.Bound.{Bound}

@@ -1,3 +1,4 @@
+-- Goals of `checking::rules_kept` that the checker doesn't prove by itself.
 use Rattle.std.proofs.Common.{◌≡◌, ℕ, ◌+◌, ◌<◌, ◌&&◌, ◌||◌, not, List, refl, subst, sym, ◌∙◌, ap, arith}
 use Rattle.std.specs.Option.{is_some}
 use Rattle.x509_cert_anchors.specs.Oid.Bound.{Bound}
@@ -20,7 +21,7 @@ use Rattle.cert_desk_rules.proofs.PathLaws.{IsRoom-more, add_place_any, admits_a
 use Rattle.cert_desk_checking.proofs.PlaceLaws.{keeps_at-is, linked_at}
 use Rattle.cert_desk_checking.proofs.checking.rules_kept.Goals as goal
 
--- a new rule adds a line
+-- The results agree with the rules. A new rule adds a line.
 tests_say : (k : KeptRules) (t : Terms) (cs : List PlainCertificate) (stream : List ℕ) (place : ℕ)
     → k.one_algorithm ≡ keeps_at rules.AlgorithmsDiffer t cs stream place → k.distinct ≡ keeps_at rules.DuplicateExtension t cs stream place
     → k.well_formed ≡ keeps_at rules.MalformedExtension t cs stream place → k.known ≡ keeps_at rules.UnweighedCritical t cs stream place

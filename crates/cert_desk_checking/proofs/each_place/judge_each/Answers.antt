@@ -1,3 +1,4 @@
+-- Goals of `each_place::judge_each` that the checker doesn't prove by itself.
 use Rattle.std.proofs.Common.{◌≡◌, ℕ, suc, ◌+◌, ◌<◌, length, sym, ap, ◌∙◌, subst, arith}
 use Rattle.x509_cert_anchors.specs.Oid.Bound.{Bound}
 use Rattle.cert_desk_checking.specs.declared.issuer.Issuer.TheVariants as issuers

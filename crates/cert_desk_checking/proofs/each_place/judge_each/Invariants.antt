@@ -1,4 +1,6 @@
--- Of every place so far is said which rules it keeps, the questions are those about these places, and the next one's issuer and room are known.
+-- The loop invariant of `each_place::judge_each`: the results for the certificates so far are
+-- correct, the questions are those about them, and the issuer and the limit of the next one are
+-- known.
 use Rattle.std.proofs.Common.{◌≡◌}
 use Rattle.x509_cert_anchors.specs.Oid.Bound.{Bound}
 use Rattle.cert_desk_checking.specs.Anchors.{terms_of}

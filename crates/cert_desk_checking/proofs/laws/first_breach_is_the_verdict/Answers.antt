@@ -1,3 +1,4 @@
+-- Goals of `laws::first_breach_is_the_verdict` that the checker doesn't prove by itself.
 use Rattle.cert_desk_checking.proofs.EachPlace.{refused_at_first, trusted_without}
 use Rattle.cert_desk_checking.proofs.laws.first_breach_is_the_verdict.Goals as goal
 

@@ -1,3 +1,4 @@
+-- Goals of `laws::questions_are_listed` that the checker doesn't prove by itself.
 use Rattle.cert_desk_checking.proofs.ListedQuestions.{judged_by_lines, questions_are_listed}
 use Rattle.cert_desk_checking.proofs.laws.questions_are_listed.Goals as goal
 

@@ -1,3 +1,4 @@
+-- Goals of `laws::wider_bounds_keep_chains` that the checker doesn't prove by itself.
 use Rattle.cert_desk_checking.proofs.TwoBounds.{chain_new, chain_wider}
 use Rattle.cert_desk_checking.proofs.laws.wider_bounds_keep_chains.Goals as goal
 

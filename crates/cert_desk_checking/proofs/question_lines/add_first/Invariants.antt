@@ -1,4 +1,5 @@
--- what was added, and the lines of the anchors left, are those of all
+-- The loop invariant of `question_lines::add_first`: the lines so far, followed by those of the
+-- remaining trust anchors, are all lines.
 use Rattle.std.proofs.Common.{◌≡◌, ◌++◌, string_bytes, map, drop}
 use Rattle.cert_desk_checking.specs.Anchors.{anchor_plain}
 use Rattle.cert_desk_checking.specs.Questioning.{entry_lines}

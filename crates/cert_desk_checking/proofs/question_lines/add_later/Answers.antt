@@ -1,3 +1,4 @@
+-- Goals of `question_lines::add_later` that the checker doesn't prove by itself.
 use Rattle.std.proofs.Common.{◌≡◌, ◌++◌, string_bytes, subst, ap, ◌∙◌}
 use Rattle.std.specs.Prelude.{OnOk}
 use Rattle.x509_cert_anchors.specs.CertCertificates.Certificates.{tbs_public_key}

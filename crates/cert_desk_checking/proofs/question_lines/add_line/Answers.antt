@@ -1,3 +1,4 @@
+-- Goals of `question_lines::add_line` that the checker doesn't prove by itself.
 use Rattle.std.proofs.Common.{◌++◌, string_bytes, ap, ◌∙◌}
 use Rattle.x509_cert_anchors.specs.Oid.Bound.{Bound}
 use Rattle.x509_cert_anchors.specs.CertParts.Grammar.{algorithm_identifier, bit_string}

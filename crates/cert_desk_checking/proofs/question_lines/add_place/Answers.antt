@@ -1,3 +1,4 @@
+-- Goals of `question_lines::add_place` that the checker doesn't prove by itself.
 use Rattle.std.proofs.Common.{◌≡◌, ◌++◌, string_bytes, map, subst, ap, sym, ◌∙◌}
 use Rattle.std.specs.Prelude.{OnOk}
 use Rattle.cert_desk_checking.specs.Anchors.{anchor_plain}

@@ -1,3 +1,4 @@
+-- Goals of `question_lines::chain_lines` that the checker doesn't prove by itself.
 use Rattle.std.proofs.Common.{◌≡◌, suc, ◌+◌, ◌++◌, map, arith, ap, sym, ◌∙◌}
 use Rattle.std.proofs.lemmas.List.Concat.{flat_map-append}
 use Rattle.x509_cert_anchors.specs.Oid.Bound.{Bound}

@@ -1,4 +1,4 @@
--- the lines of the places so far
+-- The loop invariant of `question_lines::chain_lines`: the lines of the certificates so far.
 use Rattle.std.proofs.Common.{◌≡◌, string_bytes, map}
 use Rattle.cert_desk_checking.specs.Anchors.{anchor_plain}
 use Rattle.x509_cert_anchors.specs.Oid.Bound.{Bound}

@@ -1,4 +1,4 @@
--- The path limit is counted up to here.
+-- The loop invariant of `reasons::counted_behind`: the certificates up to here are counted.
 use Rattle.std.proofs.Common.{◌≡◌, ◌≤◌, ◌+◌, ◌-◌}
 use Rattle.x509_cert_anchors.specs.Oid.Bound.{Bound}
 use Rattle.cert_desk_rules.specs.Paths.{used_up}

@@ -1,3 +1,4 @@
+-- Goals of `reasons::exceeded_length` that the checker doesn't prove by itself.
 use Rattle.std.proofs.Common.{◌≡◌, ℕ, Bool, ◌+◌, ◌-◌, suc, true, false, cond, not, ◌&&◌, ◌||◌, sym, ap, ◌∙◌, arith}
 use Rattle.x509_cert_anchors.specs.Oid.Bound.{Bound}
 use Rattle.cert_desk_rules.specs.Paths.{counts, keep_lengths, keeps_length}

@@ -1,4 +1,5 @@
--- The path lengths of the places so far are kept, and so many places count from here on.
+-- The loop invariant of `reasons::exceeded_length`: the path lengths of the certificates so far are
+-- kept, and `left` is the number of certificates that count from here on.
 use Rattle.std.proofs.Common.{◌≡◌, ◌+◌, ◌-◌, true}
 use Rattle.x509_cert_anchors.specs.Oid.Bound.{Bound}
 use Rattle.cert_desk_rules.specs.Paths.{used_up, keep_lengths}

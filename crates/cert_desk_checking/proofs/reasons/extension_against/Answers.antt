@@ -1,3 +1,4 @@
+-- Goals of `reasons::extension_against` that the checker doesn't prove by itself.
 use Rattle.std.proofs.Common.{ap, refl, sym, ◌∙◌, arith}
 use Rattle.x509_cert_anchors.specs.Oid.Bound.{Bound}
 use Rattle.x509_cert_anchors.specs.CertParts.Views.{extension_plain, extensions_plain}

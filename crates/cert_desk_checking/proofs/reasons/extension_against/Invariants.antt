@@ -1,4 +1,5 @@
--- No extension so far breaks the rule: the answer is that of those that are left.
+-- The loop invariant of `reasons::extension_against`: no extension so far breaks the rule, so the
+-- result is that of the remaining ones.
 use Rattle.std.proofs.Common.{◌≡◌, ◌<◌, ℕ, drop, false}
 use Rattle.std.specs.List.{list_any}
 use Rattle.x509_cert_anchors.specs.Oid.Bound.{Bound}

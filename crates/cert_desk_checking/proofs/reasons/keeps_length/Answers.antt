@@ -1,3 +1,4 @@
+-- Goals of `reasons::keeps_length` that the checker doesn't prove by itself.
 use Rattle.std.proofs.Common.{ap, sym, ◌∙◌}
 use Rattle.x509_cert_anchors.specs.Oid.Bound.{Bound}
 use Rattle.x509_cert_anchors.specs.CertCertificates.Views.{certificate_plain}

@@ -1,3 +1,4 @@
+-- Goals of `reasons::lack_of_authority` that the checker doesn't prove by itself.
 use Rattle.std.proofs.Common.{◌||◌, ap, not, inl, inr, refl, sym, ◌∙◌}
 use Rattle.std.specs.List.{list_any}
 use Rattle.std.proofs.lemmas.Bool.{or_left}

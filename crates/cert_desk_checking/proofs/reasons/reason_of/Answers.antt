@@ -1,3 +1,4 @@
+-- Goals of `reasons::reason_of` that the checker doesn't prove by itself.
 use Rattle.std.proofs.Common.{ℕ, List, not, ◌&&◌, ◌||◌, ap, sym, ◌∙◌}
 use Rattle.std.specs.List.{list_any}
 use Rattle.x509_cert_anchors.specs.Oid.Bound.{Bound}

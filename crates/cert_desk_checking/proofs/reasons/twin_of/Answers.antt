@@ -1,3 +1,4 @@
+-- Goals of `reasons::twin_of` that the checker doesn't prove by itself.
 use Rattle.std.proofs.Common.{◌≡◌, ◌<◌, ◌∙◌, length, false, not, sym, ap, arith}
 use Rattle.x509_cert_anchors.specs.CertParts.Views.{extension_plain, extensions_plain}
 use Rattle.cert_desk_rules.specs.Reasons.{have_one_identifier, is_at}

@@ -1,4 +1,5 @@
--- No extension so far has the identifier: the answer is that of those that are left.
+-- The loop invariant of `reasons::twin_of`: no extension so far has the OID, so the result is that
+-- of the remaining ones.
 use Rattle.std.proofs.Common.{◌≡◌, ◌<◌, ℕ, drop, false}
 use Rattle.x509_cert_anchors.specs.CertParts.Views.{extension_plain, extensions_plain}
 use Rattle.cert_desk_rules.specs.Judging.{is_alone}

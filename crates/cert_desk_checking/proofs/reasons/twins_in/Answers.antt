@@ -1,3 +1,4 @@
+-- Goals of `reasons::twins_in` that the checker doesn't prove by itself.
 use Rattle.std.proofs.Common.{◌≡◌, ◌<◌, ◌+◌, ◌-◌, ◌∙◌, ℕ, IfSome, true, false, not, length, drop, take, refl, subst, sym, ap}
 use Rattle.std.proofs.lemmas.List.{take_rest}
 use Rattle.std.specs.Option.{is_some}

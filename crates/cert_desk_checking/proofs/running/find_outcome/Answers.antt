@@ -1,3 +1,4 @@
+-- Goals of `running::find_outcome` that the checker doesn't prove by itself.
 use Rattle.std.proofs.Common.{◌≡◌, Err, inr, map, refl, sym, ◌∙◌, subst}
 use Rattle.cert_desk_rules.specs.DeskIo.Devices.{source}
 use Rattle.cert_desk_rules.specs.declared.checked.CheckError.TheVariants as errors

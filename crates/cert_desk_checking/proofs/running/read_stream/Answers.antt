@@ -1,3 +1,4 @@
+-- Goals of `running::read_stream` that the checker doesn't prove by itself.
 use Rattle.cert_desk_rules.specs.DeskIo.Devices.{source}
 use Rattle.cert_desk_checking.proofs.RunLaws.{fed_by}
 use Rattle.cert_desk_checking.proofs.running.read_stream.Goals as goal

@@ -1,3 +1,4 @@
+-- Goals of `running::tell` that the checker doesn't prove by itself.
 use Rattle.std.proofs.Common.{refl, inl, sym, ◌∙◌, subst}
 use Rattle.cert_desk_rules.specs.DeskIo.declared.exit_status.ExitStatus.TheVariants as statuses
 use Rattle.cert_desk_rules.specs.DeskIo.Devices.{sink}

@@ -1,3 +1,4 @@
+-- Goals of `verdict_lines::verdict_line` that the checker doesn't prove by itself.
 use Rattle.std.proofs.Common.{rules, append_assoc}
 use Rattle.cert_desk_checking.proofs.verdict_lines.verdict_line.Goals as goal
 

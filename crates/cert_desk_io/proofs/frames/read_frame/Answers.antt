@@ -1,4 +1,4 @@
--- A number that was taken, and then its content.
+-- Goals of `frames::read_frame`: a length is read, and then its content.
 use Rattle.std.proofs.Common.{◌≡◌, ◌∙◌, ℕ, List, length, sym, subst, arith}
 use Rattle.std.proofs.lemmas.Result.{err_from_is_err_and}
 use Rattle.cert_desk_io.specs.Frames.{number_octets}

@@ -1,4 +1,4 @@
--- What a read takes follows what was taken before it.
+-- Goals of `frames::take_octets`: the bytes of each read follow those before.
 use Rattle.std.proofs.Common.{ℕ, ◌∙◌, inl, inr, take, ◌++◌, subst, arith}
 use Rattle.cert_desk_io.proofs.Given.{gives-none}
 use Rattle.cert_desk_io.proofs.frames.take_octets.Goals as goal

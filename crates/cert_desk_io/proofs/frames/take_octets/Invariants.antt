@@ -1,4 +1,5 @@
--- The octets so far were taken, with no failure, and there are no more than wanted.
+-- The loop invariant of `frames::take_octets`: the bytes so far were read without a failure, and
+-- they are at most as many as requested.
 use Rattle.std.proofs.Common.{◌≡◌, ◌≤◌, ◌-◌, length}
 use Rattle.cert_desk_io.proofs.frames.take_octets.Given as goal
 

@@ -1,4 +1,4 @@
--- What a read takes follows what was taken before it.
+-- Goals of `inputs::read_all`: the bytes of each read follow those before.
 use Rattle.std.proofs.Common.{ℕ, take, ◌++◌, ◌∙◌, subst, arith, length-append, length-take}
 use Rattle.cert_desk_io.proofs.Given.{gives-none}
 use Rattle.cert_desk_io.proofs.inputs.read_all.Goals as goal

@@ -1,4 +1,5 @@
--- The octets so far were taken, with no failure, and there are no more than the most.
+-- The loop invariant of `inputs::read_all`: the bytes so far were read without a failure, and they
+-- are within the limit.
 use Rattle.std.proofs.Common.{◌≡◌, ◌≤◌, ◌+◌, ◌-◌, length}
 use Rattle.cert_desk_io.proofs.inputs.read_all.Given as goal
 

@@ -1,3 +1,4 @@
+-- Goals of `outputs::write_all`: the bytes of each write follow those before.
 use Rattle.std.proofs.Common.{ℕ, arith, ◌∙◌, length-take, length-drop}
 use Rattle.std.proofs.lemmas.List.{take_rest}
 use Rattle.cert_desk_io.proofs.Given.{OnErr-by, gives-take}

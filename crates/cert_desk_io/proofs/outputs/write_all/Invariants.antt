@@ -1,4 +1,5 @@
--- What is sent is the part of the text before `sent`, with no failure.
+-- The loop invariant of `outputs::write_all`: the first `sent` bytes of the text were written
+-- without a failure.
 use Rattle.std.proofs.Common.{◌≡◌, ◌≤◌, ◌-◌, length, take}
 use Rattle.cert_desk_io.proofs.outputs.write_all.Given as goal
 

@@ -1,3 +1,4 @@
+-- Goals of `auditing::audit_of` that the checker doesn't prove by itself.
 use Rattle.std.proofs.Common.{inl, inr, sym, ◌∙◌}
 use Rattle.cert_desk_orders.specs.CertParts.Views.{algorithm_plain}
 use Rattle.cert_desk_issuing_c.proofs.Audits.{audited, faulty_argument, unaudited}

@@ -1,3 +1,4 @@
+-- Goals of `auditing::verdict_of` that the checker doesn't prove by itself.
 use Rattle.cert_desk_orders.specs.CertParts.Views.{algorithm_plain}
 use Rattle.cert_desk_issuing_c.proofs.Audits.{is_judged}
 use Rattle.cert_desk_issuing_c.proofs.auditing.verdict_of.Goals as goal

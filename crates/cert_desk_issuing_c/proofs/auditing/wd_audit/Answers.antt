@@ -1,3 +1,4 @@
+-- Goals of `auditing::wd_audit` that the checker doesn't prove by itself.
 use Rattle.cert_desk_issuing_c.proofs.auditing.wd_audit.Goals as goal
 
 pub returns : goal.returns

@@ -1,3 +1,4 @@
+-- Goals of `issuing::certificate_at` that the checker doesn't prove by itself.
 use Rattle.std.proofs.Common.{inl, refl, ◌∙◌, arith}
 use Rattle.x509_cert_builders.specs.States.{as_written}
 use Rattle.x509_cert_builders.specs.CertCertificates.Views.{certificate_plain}

@@ -1,3 +1,4 @@
+-- Goals of `issuing::chain_of` that the checker doesn't prove by itself.
 use Rattle.std.proofs.Common.{◌≡◌, List, inl, inr, subst}
 use Rattle.std.proofs.lemmas.Result.{err_from_is_err_and}
 use Rattle.cert_desk_orders.specs.Der.BitStrings.{Bits}

@@ -1,3 +1,4 @@
+-- Goals of `issuing::issued_of` that the checker doesn't prove by itself.
 use Rattle.std.proofs.Common.{map, inr, ap, ◌∙◌}
 use Rattle.cert_desk_orders.specs.CertParts.Views.{algorithm_plain}
 use Rattle.cert_desk_issuing_c.specs.Signing.{signer_plain}

@@ -1,3 +1,4 @@
+-- Goals of `issuing::signed_part_at` that the checker doesn't prove by itself.
 use Rattle.std.proofs.Common.{[], true, Some, inl, refl, ap, ◌∙◌, arith}
 use Rattle.cert_desk_orders.specs.Oid.Bound.{Bound}
 use Rattle.cert_desk_orders.specs.Der.Shapes.{octets_of}

@@ -1,4 +1,4 @@
--- The signers so far are those of as many orders.
+-- The loop invariant of `issuing::signers_of`: the signers so far are those of the orders so far.
 use Rattle.std.proofs.Common.{◌≡◌, map, take}
 use Rattle.cert_desk_orders.specs.CertParts.Views.{algorithm_plain}
 use Rattle.cert_desk_issuing_c.specs.Signing.{signer_for, signer_plain}

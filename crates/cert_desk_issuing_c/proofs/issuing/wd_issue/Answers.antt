@@ -1,3 +1,4 @@
+-- Goals of `issuing::wd_issue` that the checker doesn't prove by itself.
 use Rattle.cert_desk_issuing_c.proofs.GivenChains.{given_status, refused_status}
 use Rattle.cert_desk_issuing_c.proofs.issuing.wd_issue.Goals as goal
 

@@ -1,3 +1,4 @@
+-- Goals of `issuing::wd_signed_part` that the checker doesn't prove by itself.
 use Rattle.std.proofs.Common.{[]}
 use Rattle.cert_desk_issuing_c.proofs.GivenChains.{given_status, refused_status}
 use Rattle.cert_desk_issuing_c.proofs.issuing.wd_signed_part.Goals as goal

@@ -1,3 +1,4 @@
+-- Goals of `listing::of_certificate` that the checker doesn't prove by itself.
 use Rattle.std.proofs.Common.{[], ap, sym, ◌∙◌, append-nil, string_bytes}
 use Rattle.x509_cert_certificates.specs.Certificates.{tbs_issuer, tbs_subject, tbs_validity}
 use Rattle.x509_cert_lists.specs.CertNames.Views.{name_plain}

@@ -1,3 +1,4 @@
+-- Goals of `faults::first_faulty` that the checker doesn't prove by itself.
 use Rattle.std.proofs.Common.{sym, ◌∙◌}
 use Rattle.cert_desk_orders.proofs.FaultyLines.{first_faulty-here, first_faulty-later, first_faulty-none}
 use Rattle.cert_desk_orders.proofs.faults.first_faulty.Goals as goal

@@ -1,4 +1,4 @@
--- what is found behind the lines so far is what is found
+-- The loop invariant of `faults::first_faulty`: the first wrong line is among the remaining ones.
 use Rattle.std.proofs.Common.{◌≡◌, take, drop, []}
 use Rattle.cert_desk_orders.specs.OrderReading.{lines_plain}
 use Rattle.cert_desk_orders.specs.OrdersFile.{first_faulty}

@@ -1,4 +1,5 @@
--- the lines so far, and those of what is left, are those of the file
+-- The loop invariant of `line::lines_of`: the lines so far, followed by the remaining ones, are
+-- those of the file.
 use Rattle.std.proofs.Common.{◌≡◌, ◌+◌, ◌++◌, map, drop}
 use Rattle.cert_desk_orders.specs.OrderReading.{lines_plain}
 use Rattle.cert_desk_orders.specs.OrdersFile.{lines_from, lines_in}

@@ -1,3 +1,4 @@
+-- Goals of `line::parts_of` that the checker doesn't prove by itself.
 use Rattle.std.proofs.Common.{rules, tests}
 use Rattle.std.proofs.lemmas.Iterator.Consumers.{map_from_collect}
 use Rattle.std.proofs.lemmas.Iterator.Splits.{YieldsList-from_slice_split}

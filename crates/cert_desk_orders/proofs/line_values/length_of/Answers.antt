@@ -1,3 +1,4 @@
+-- Goals of `line_values::length_of` that the checker doesn't prove by itself.
 use Rattle.std.proofs.Common.{◌≡◌, ◌≢◌, ℕ, ◌<◌, ◌^◌, Bool, true, false, cond, ◌&&◌, ltb, lt-ltb, ltb-true, List, length, get_or, Result, Some, None, Ok, Err, rules, tests, refl, ap, ◌∙◌}
 use Rattle.std.specs.Result.{OkIff, result_ok}
 use Rattle.std.specs.Str.{all_ascii_digits}

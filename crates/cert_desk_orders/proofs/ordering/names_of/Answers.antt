@@ -1,3 +1,4 @@
+-- Goals of `ordering::names_of` that the checker doesn't prove by itself.
 use Rattle.std.proofs.Common.{codes, map, string_bytes, ap, sym, ◌∙◌}
 use Rattle.x509_cert_parts.specs.Der.Grammar.{plain_option}
 use Rattle.cert_desk_orders.proofs.NamesOfLines.{map-pushed, values_of-more, values_of-other}

@@ -1,4 +1,4 @@
--- the names of the lines so far
+-- The loop invariant of `ordering::names_of`: the DNS names of the lines so far.
 use Rattle.std.proofs.Common.{◌≡◌, map, take, codes, string_bytes}
 use Rattle.cert_desk_orders.specs.OrderReading.{lines_plain}
 use Rattle.cert_desk_orders.specs.OrdersFile.{values_of}

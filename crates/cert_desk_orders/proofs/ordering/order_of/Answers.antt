@@ -1,3 +1,4 @@
+-- Goals of `ordering::order_of` that the checker doesn't prove by itself.
 use Rattle.cert_desk_orders.proofs.SoundOrders.{HasValues-lines}
 use Rattle.cert_desk_orders.proofs.ordering.order_of.Goals as goal
 

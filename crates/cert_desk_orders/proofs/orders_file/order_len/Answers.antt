@@ -1,3 +1,4 @@
+-- Goals of `orders_file::order_len` that the checker doesn't prove by itself.
 use Rattle.std.proofs.Common.{◌≡◌, ℕ, ◌+◌, ◌≤◌, arith, rules, tests, Bool, true, false, cond, ltb, ltb-true, ltb-false, List, length, length-drop, drop, take_all, le_of_eq, not, codes, Some, None, unwrap_or, refl, ap, sym, ◌∙◌}
 use Rattle.std.proofs.lemmas.Iterator.{YieldsList-from_slice}
 use Rattle.std.proofs.lemmas.Iterator.Search.{position_from_yields_List}

@@ -1,3 +1,4 @@
+-- Goals of `orders_file::orders_in` that the checker doesn't prove by itself.
 use Rattle.std.proofs.Common.{◌≡◌, None, ap, ◌∙◌, subst}
 use Rattle.std.proofs.lemmas.Result.{err_from_is_err_and}
 use Rattle.cert_desk_orders.specs.OrderReading.{IsFaultIn, lines_plain}

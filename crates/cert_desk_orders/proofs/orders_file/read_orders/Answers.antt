@@ -1,3 +1,4 @@
+-- Goals of `orders_file::read_orders` that the checker doesn't prove by itself.
 use Rattle.std.proofs.Common.{◌≤◌, length, length-drop, arith, subst}
 use Rattle.std.proofs.lemmas.List.{take_rest}
 use Rattle.std.proofs.lemmas.Result.{err_from_is_err_and}

@@ -1,4 +1,4 @@
--- the orders so far, and the lines that are left
+-- The loop invariant of `orders_file::read_orders`: the orders so far, and the remaining lines.
 use Rattle.std.proofs.Common.{◌-◌, ◌≤◌, length, drop}
 use Rattle.cert_desk_orders.specs.OrderReading.{lines_plain}
 use Rattle.cert_desk_orders.proofs.OrderLines.{IsReadTo}

@@ -1,3 +1,4 @@
+-- Goals of `constraints::weigh_constraints` that the checker doesn't prove by itself.
 use Rattle.std.proofs.Common.{sym, ap, refl, ◌∙◌, arith}
 use Rattle.cert_desk_rules.specs.Findings.{weight_of}
 use Rattle.cert_desk_rules.proofs.ConstraintLaws.{a_length, bad_length, no_length, no_sequence}

@@ -1,3 +1,4 @@
+-- Goals of `digest_judge::is_digest` that the checker doesn't prove by itself.
 use Rattle.std.proofs.Common.{◌≡◌, Option, None, IsTrue, ◌↔◌, sym, ap, ◌∙◌}
 use Rattle.std.proofs.lemmas.Slice.Eq.{bytes_eq-Decides}
 use Rattle.cert_desk_bundle.specs.Oid.IdentifierOctets.{identifier_octets}

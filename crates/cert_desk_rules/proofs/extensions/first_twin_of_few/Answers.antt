@@ -1,3 +1,4 @@
+-- Goals of `extensions::first_twin_of_few` that the checker doesn't prove by itself.
 use Rattle.std.proofs.Common.{◌≡◌, ◌<◌, ◌+◌, ◌∙◌, length, true, false, not, refl, sym, ap, arith}
 use Rattle.cert_desk_bundle.specs.CertParts.Views.{extension_plain, extensions_plain}
 use Rattle.cert_desk_rules.specs.Judging.{has_twin}

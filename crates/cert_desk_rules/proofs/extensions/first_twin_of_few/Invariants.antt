@@ -1,4 +1,5 @@
--- The extensions so far stand alone: the answer is that of those that are left.
+-- The loop invariant of `extensions::first_twin_of_few`: no extension so far has the OID of a later
+-- one, so the result is that of the remaining ones.
 use Rattle.std.proofs.Common.{◌≡◌, ◌<◌, ℕ, drop, false}
 use Rattle.cert_desk_bundle.specs.CertParts.Views.{extensions_plain}
 use Rattle.cert_desk_rules.specs.Judging.{are_distinct, has_twin}

@@ -1,3 +1,4 @@
+-- Goals of `extensions::first_twin_of_many` that the checker doesn't prove by itself.
 use Rattle.std.proofs.Common.{◌≡◌, ◌+◌, ◌-◌, ◌<◌, not, true, false, length, arith, sym, ap, ◌∙◌}
 use Rattle.cert_desk_bundle.specs.CertParts.Views.{extension_plain, extensions_plain}
 use Rattle.cert_desk_rules.proofs.ExtensionLaws.{distinct_here, firsts-more, set_here, some-by, twin_is}

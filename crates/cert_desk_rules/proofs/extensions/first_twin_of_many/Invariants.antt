@@ -1,4 +1,5 @@
--- The set has the identifiers of the extensions so far, and the answer is that of these.
+-- The loop invariant of `extensions::first_twin_of_many`: the set has the OIDs of the extensions so
+-- far, and the result is that of these.
 use Rattle.std.proofs.Common.{◌≡◌, ◌<◌, ◌≤◌, ℕ, List, length, true, false, not, drop, IfSome}
 use Rattle.std.specs.BTreeSet.{contains}
 use Rattle.std.specs.List.{list_any}

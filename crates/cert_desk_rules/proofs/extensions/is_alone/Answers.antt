@@ -1,3 +1,4 @@
+-- Goals of `extensions::is_alone` that the checker doesn't prove by itself.
 use Rattle.std.proofs.Common.{rules, tests, ap, ◌∙◌}
 use Rattle.std.specs.Prelude.{Bool, not}
 use Rattle.std.proofs.lemmas.Iterator.{YieldsList-from_slice}

@@ -1,3 +1,4 @@
+-- Goals of `weighing::findings_of` that the checker doesn't prove by itself.
 use Rattle.std.proofs.Common.{arith}
 use Rattle.cert_desk_bundle.specs.CertParts.Views.{extension_plain}
 use Rattle.cert_desk_rules.proofs.MemoryLaws.{one_takes}

@@ -1,4 +1,5 @@
--- What was found so far, with the extensions that are left, is what is found in all of them.
+-- The loop invariant of `weighing::findings_of`: the findings so far, with the remaining extensions
+-- added, are those about all of them.
 use Rattle.std.proofs.Common.{◌≡◌, drop}
 use Rattle.std.specs.List.{fold}
 use Rattle.cert_desk_bundle.specs.Oid.Bound.{Bound}

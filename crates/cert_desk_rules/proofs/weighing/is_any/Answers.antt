@@ -1,3 +1,4 @@
+-- Goals of `weighing::is_any` that the checker doesn't prove by itself.
 use Rattle.std.proofs.Common.{◌≡◌, List, ℕ, sym, ap, ◌∙◌}
 use Rattle.std.specs.Prelude.{bytes_eq}
 use Rattle.cert_desk_bundle.specs.Oid.IdentifierOctets.{identifier_octets}

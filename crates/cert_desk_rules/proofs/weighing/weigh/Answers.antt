@@ -1,4 +1,4 @@
--- An extension of a kind says what the kind's decoder says.
+-- Goals of `weighing::weigh`: an extension of each kind is checked by the decoder of that kind.
 use Rattle.std.proofs.Common.{◌≡◌, ℕ, List, Result, Ok, Err, IfOk, refl, sym, subst, ap, ◌∙◌}
 use Rattle.cert_desk_bundle.specs.Oid.Bound.{Bound}
 use Rattle.cert_desk_bundle.specs.CertParts.Views.{extension_plain}

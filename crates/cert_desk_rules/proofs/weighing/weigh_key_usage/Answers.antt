@@ -1,4 +1,5 @@
--- Read or refused, the octets say what their encoding says.
+-- Goals of `weighing::weigh_key_usage`: decoded or not, the bytes have the meaning of their
+-- encoding.
 use Rattle.std.proofs.Common.{sym, ap, refl, ◌∙◌, arith}
 use Rattle.cert_desk_bundle.specs.Der.Leaves.{named}
 use Rattle.cert_desk_bundle.specs.Der.Shapes.{leaf, tagged}

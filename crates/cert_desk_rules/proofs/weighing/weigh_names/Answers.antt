@@ -1,4 +1,4 @@
--- Read or refused, the octets say what their encoding says.
+-- Goals of `weighing::weigh_names`: decoded or not, the bytes have the meaning of their encoding.
 use Rattle.std.proofs.Common.{sym, ap, refl, arith}
 use Rattle.cert_desk_bundle.specs.Oid.Bound.{Bound}
 use Rattle.x509_cert_extensions.specs.CertGeneralNames.GeneralNames.{general_names}

@@ -1,4 +1,5 @@
--- Read or refused, the octets say what their encoding says.
+-- Goals of `weighing::weigh_purposes`: decoded or not, the bytes have the meaning of their
+-- encoding.
 use Rattle.std.proofs.Common.{◌≡◌, ℕ, List, ◌||◌, Result, Ok, Err, IfOk, sym, ap, refl, ◌∙◌, arith}
 use Rattle.cert_desk_bundle.specs.Oid.Bound.{Bound}
 use Rattle.cert_desk_bundle.specs.Oid.Comparing.{owned_eq}

@@ -1,3 +1,4 @@
+-- Goals of `arc_octets::write_marked` that the checker doesn't prove by itself.
 use Rattle.std.proofs.Common.{◌≡◌, ◌+◌, ◌-◌, ◌/◌, ◌%◌, length, take-append-drop, sym, arith}
 use Rattle.std.proofs.Math.ListN.{length-set}
 use Rattle.const_oid.specs.OctetFaults.{begun}

@@ -1,3 +1,4 @@
+-- Goals of `arc_octets::octet_count` that the checker doesn't prove by itself.
 use Rattle.std.proofs.Common.{◌≡◌, ◌%◌, ◌^◌, length, ap, arith}
 use Rattle.const_oid.specs.OctetFaults.{begun}
 use Rattle.const_oid.proofs.BoundLaws.{arc_fits}

@@ -1,3 +1,4 @@
+-- The loop invariants of `arc_octets::octet_count`.
 use Rattle.std.proofs.Common.{◌≡◌, ◌+◌, ◌<◌, length}
 use Rattle.const_oid.specs.IdentifierOctets.{arc_octets}
 use Rattle.const_oid.specs.OctetFaults.{begun}

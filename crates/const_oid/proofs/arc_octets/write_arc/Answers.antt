@@ -1,3 +1,4 @@
+-- Goals of `arc_octets::write_arc` that the checker doesn't prove by itself.
 use Rattle.std.proofs.Common.{◌/◌, ◌%◌, length, arith}
 use Rattle.const_oid.specs.IdentifierOctets.{arc_octets}
 use Rattle.const_oid.specs.OctetFaults.{begun}

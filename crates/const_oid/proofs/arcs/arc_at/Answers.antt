@@ -1,3 +1,4 @@
+-- Goals of `arcs::arc_at` that the checker doesn't prove by itself.
 use Rattle.std.proofs.Common.{sym, ◌∙◌, arith}
 use Rattle.const_oid.specs.Arcs.{arcs_of}
 use Rattle.const_oid.specs.References.{remaining_arcs}

@@ -1,3 +1,4 @@
+-- The loop invariants of `arcs::arc_at`.
 use Rattle.std.proofs.Common.{◌≡◌, drop}
 use Rattle.const_oid.specs.Arcs.{arcs_of}
 use Rattle.const_oid.specs.References.{remaining_arcs}

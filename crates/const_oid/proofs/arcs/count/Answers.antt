@@ -1,3 +1,4 @@
+-- Goals of `arcs::count` that the checker doesn't prove by itself.
 use Rattle.std.proofs.Common.{ap, ◌+◌, ◌∙◌}
 use Rattle.const_oid.specs.Bound.{Bound}
 use Rattle.const_oid.proofs.ArcsLaws.{length-arcs_of}

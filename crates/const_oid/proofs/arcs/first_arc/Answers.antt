@@ -1,3 +1,4 @@
+-- Goals of `arcs::first_arc` that the checker doesn't prove by itself.
 use Rattle.std.proofs.Common.{◌≡◌, ◌+◌, ◌*◌, ◌<◌, drop, ℕ, zero, suc, ◌∷◌, refl, ap, sym, ◌∙◌, arith}
 use Rattle.std.specs.Result.{is_ok}
 use Rattle.const_oid.specs.Bound.{Bound}

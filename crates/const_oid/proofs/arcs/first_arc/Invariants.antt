@@ -1,3 +1,4 @@
+-- The loop invariants of `arcs::first_arc`.
 use Rattle.std.proofs.Common.{◌≡◌, ◌<◌, true, drop}
 use Rattle.std.specs.Result.{is_ok}
 use Rattle.const_oid.specs.Bound.{Bound}

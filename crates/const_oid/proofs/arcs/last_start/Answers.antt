@@ -1,3 +1,4 @@
+-- Goals of `arcs::last_start` that the checker doesn't prove by itself.
 use Rattle.std.proofs.Common.{length, refl, ap, ◌∙◌, arith}
 use Rattle.const_oid.specs.Bound.{Bound}
 use Rattle.const_oid.specs.Arcs.{arcs_of}

@@ -1,8 +1,9 @@
+-- The loop invariants of `arcs::last_start`.
 use Rattle.std.proofs.Common.{◌≡◌, ◌+◌, ◌-◌, ◌<◌, length, take}
 use Rattle.const_oid.specs.PackedOctets.{unmarked_front}
 use Rattle.const_oid.proofs.arcs.last_start.Given as goal
 
--- the octets from here on were tested, but for the last one, and have marks
+-- The bytes from here to the last one, without it, were tested and have bit 8 set.
 abbrev pub invariant-loop-start : goal.invariant-loop-start
 invariant-loop-start l =
     (l.start < length l.octets)

@@ -1,3 +1,4 @@
+-- Goals of `display::write_dotted` that the checker doesn't prove by itself.
 use Rattle.std.proofs.Common.{ap, sym, refl, subst, ◌∙◌, rules, arith}
 use Rattle.std.proofs.Output.{has_written_append, has_written_of_eq}
 use Rattle.const_oid.specs.Bound.{Bound}

@@ -1,3 +1,4 @@
+-- Goals of `display::write_later` that the checker doesn't prove by itself.
 use Rattle.std.proofs.Common.{◌++◌, append_assoc, ap, sym, refl, ◌∙◌}
 use Rattle.std.specs.List.{flat_map}
 use Rattle.std.proofs.Output.{has_written_append}

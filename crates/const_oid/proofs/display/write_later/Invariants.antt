@@ -1,3 +1,4 @@
+-- The loop invariants of `display::write_later`.
 use Rattle.std.proofs.Common.{◌≡◌, ◌++◌, ℕ, List, length}
 use Rattle.std.specs.List.{flat_map}
 use Rattle.std.specs.Fmt.{HasWritten, IsPlainFormatter}
@@ -5,7 +6,7 @@ use Rattle.const_oid.specs.DottedText.{dot_decimal}
 use Rattle.const_oid.specs.References.{remaining_arcs}
 use Rattle.const_oid.proofs.display.write_later.Given as goal
 
--- what was written, and what is left to write, are all
+-- The written text and the text of the arcs that are left make up the whole.
 abbrev pub invariant-loop-arc : goal.invariant-loop-arc
 invariant-loop-arc g l =
     IsPlainFormatter l.initial.f

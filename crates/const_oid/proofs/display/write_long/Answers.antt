@@ -1,3 +1,4 @@
+-- Goals of `display::write_long` that the checker doesn't prove by itself.
 use Rattle.std.proofs.Common.{rules, arith}
 use Rattle.std.proofs.Output.{has_written_of_eq}
 use Rattle.const_oid.proofs.DottedLaws.{written_dot}

@@ -1,3 +1,4 @@
+-- Goals of `laws::are_equal_borrowed` that the checker doesn't prove by itself.
 use Rattle.std.proofs.Common.{ap, sym, ◌∙◌}
 use Rattle.std.specs.Cmp.Lexicographic.{bytes_decides}
 use Rattle.const_oid.specs.Arcs.{arcs_of}

@@ -1,3 +1,4 @@
+-- Goals of `laws::compare_borrowed` that the checker doesn't prove by itself.
 use Rattle.std.proofs.Common.{ap, ◌∙◌}
 use Rattle.std.specs.Ordering.{nat_cmp}
 use Rattle.std.specs.Cmp.Lexicographic.{slice_cmp}

@@ -1,3 +1,4 @@
+-- Goals of `octets::check` that the checker doesn't prove by itself.
 use Rattle.std.proofs.Common.{Err, ap, sym, ◌∙◌}
 use Rattle.std.proofs.lemmas.Result.{err_from_is_err_and}
 use Rattle.const_oid.proofs.octets.check.Goals as goal

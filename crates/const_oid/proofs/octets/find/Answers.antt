@@ -1,3 +1,4 @@
+-- Goals of `octets::find` that the checker doesn't prove by itself.
 use Rattle.std.proofs.Common.{length, Err, ap, sym, ◌∙◌, arith}
 use Rattle.const_oid.specs.declared.error.Error.TheVariants as errors
 use Rattle.const_oid.specs.Bound.{Bound}

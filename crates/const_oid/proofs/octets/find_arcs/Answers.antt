@@ -1,3 +1,4 @@
+-- Goals of `octets::find_arcs` that the checker doesn't prove by itself.
 use Rattle.std.proofs.Common.{◌≡◌, ◌+◌, ◌<◌, ◌≤◌, ◌-◌, ◌++◌, ℕ, List, length, take, drop, ap, subst, sym, ◌∙◌, take-append-drop, length-take-le, length-drop, arith}
 use Rattle.std.proofs.lemmas.List.{drop-drop, drop_all, take_all}
 use Rattle.const_oid.specs.Bound.{Bound}
@@ -10,7 +11,7 @@ use Rattle.const_oid.proofs.BoundLaws.{Bound-is}
 use Rattle.const_oid.proofs.LastArcLaws.{SoFar, so_far_arc, so_far_all, two_found}
 use Rattle.const_oid.proofs.octets.find_arcs.Goals as goal
 
--- the arc stands before what is left, and has an octet
+-- The next arc has at least one byte and is followed by the bytes that are left.
 arc_first : (w : List ℕ) (begun len a : ℕ) → begun ≤ length w → len ≤ length (take (length w - begun) (drop begun w)) → take len (take (length w - begun) (drop begun w)) ≡ arc_octets a
     → (begun + len ≤ length w) × (drop begun w ≡ arc_octets a ++ drop (begun + len) w) × (len ≡ length (arc_octets a)) × (0 < len)
 arc_first w begun len a within fits first =

@@ -1,3 +1,4 @@
+-- The loop invariants of `octets::find_arcs`.
 use Rattle.std.proofs.Common.{◌≡◌, ◌+◌, ◌-◌, ◌≤◌, length, drop}
 use Rattle.const_oid.specs.Bound.{Bound}
 use Rattle.const_oid.specs.IdentifierOctets.{read_arcs}
@@ -5,7 +6,7 @@ use Rattle.const_oid.specs.Outcome.{outcome}
 use Rattle.const_oid.proofs.LastArcLaws.{SoFar}
 use Rattle.const_oid.proofs.octets.find_arcs.Given as goal
 
--- what is found from the next arc on is what is found from the start
+-- The result from the next arc on, with what was counted so far, is the result from the start.
 abbrev pub invariant-loop-begun : goal.invariant-loop-begun
 invariant-loop-begun l =
     (l.begun ≤ length l.octets)

@@ -1,3 +1,4 @@
+-- Goals of `packed::front_len` that the checker doesn't prove by itself.
 use Rattle.std.proofs.Common.{◌∙◌, arith}
 use Rattle.const_oid.proofs.PackedLaws.{front-step, front-found}
 use Rattle.const_oid.proofs.packed.front_len.Goals as goal

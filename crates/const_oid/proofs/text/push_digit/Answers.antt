@@ -1,3 +1,4 @@
+-- Goals of `text::push_digit` that the checker doesn't prove by itself.
 use Rattle.std.proofs.Common.{Some, ◌≡◌, ◌*◌, ◌+◌, ◌<◌, ◌^◌, subst, arith}
 use Rattle.std.specs.Option.{SomeIff}
 use Rattle.const_oid.proofs.BoundLaws.{checked, unchecked}

@@ -1,3 +1,4 @@
+-- Goals of `text::read` that the checker doesn't prove by itself.
 use Rattle.std.proofs.Common.{◌≡◌, ◌≢◌, ℕ, List, [], ◌∷◌, Option, ◌<◌, ◌≤◌, ◌+◌, get_or, drop, length, length-drop, None, Some, Err, ap, sym, ◌∙◌, arith}
 use Rattle.std.proofs.lemmas.Result.{err_from_is_err_and}
 use Rattle.const_oid.specs.Bound.{Bound}
@@ -8,7 +9,7 @@ use Rattle.const_oid.proofs.TextLaws.{text-digit, text-early, text-trailing, tex
 use Rattle.const_oid.proofs.text.read.Goals as goal
 use Rattle.const_oid.proofs.text.read.Goals.{else-octet-ge48-via-then-octet-ge48+else-octet-le57, else-octet-ge48-via-else-octet-ge48}
 
--- what is read from the place of the next octet on
+-- The result from the position of the next byte on.
 here : (w : List ℕ) (i : ℕ) (arcs : List ℕ) (value : Option ℕ) → text_arcs Bound 39 [] None w ≡ text_arcs Bound 39 arcs value (drop i w) → i < length w
     → text_arcs Bound 39 [] None w ≡ text_arcs Bound 39 arcs value (get_or w i 0 ∷ drop (i + 1) w)
 here w i arcs value held l = held ∙ ap (text_arcs Bound 39 arcs value) (drop_more w i 0 l)

@@ -10,7 +10,7 @@ use Rattle.der_core_values.specs.CoreHead.declared.encoding_rules.EncodingRules.
 use Rattle.der_core_coding.specs.Steps.{step_of}
 use Rattle.der_core_coding.proofs.set_of.read_members.Goals as goal
 
--- A call between two settings of the rules reads as where these stand again.
+-- A call between two changes of the encoding rules leaves a reader with its own rules again.
 ruled_back : {X P : Type 0} (view : X → P) (old mid end new : State) (r : Result X Error) (f : Readings P) (within rules : EncodingRules)
     → mid ≡ ruled within old → new ≡ ruled rules end → rules ≡ old.source.encoding → Reads view mid end r f → Reads view old new r f
 ruled_back view old mid end new (Ok v) f within rules m n same h =
@@ -40,7 +40,7 @@ ruled_back view old mid end new (Err e) f within rules m n same h =
       ap (λ (s : State). s.failed) n ∙ h.3,
     )
 
--- The rules within are those of DER, and those of the reader stand again after.
+-- Members are decoded under DER, and afterwards the reader has its own rules again.
 pub returns : goal.returns
 returns g c =
     let state = g.R.Reader.state in

@@ -5,7 +5,7 @@ use Rattle.der_core_head.proofs.BodyLaws.{head_ber_more}
 use Rattle.der_core_octets.specs.Headers.{head_of}
 use Rattle.der_core_octets.proofs.fronts.short_header_by_both.Goals as goal
 
--- What DER accepts, BER accepts.
+-- A header that DER accepts is accepted under BER.
 pub returns-clause-front : goal.returns-clause-front
 returns-clause-front c encodings.Der = c.in_ok-front.ensures
 returns-clause-front c encodings.Ber =

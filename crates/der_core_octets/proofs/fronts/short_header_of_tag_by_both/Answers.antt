@@ -8,7 +8,7 @@ use Rattle.der_core_octets.specs.Headers.{head_of}
 use Rattle.der_core_octets.proofs.GoingOn.{wanted_is}
 use Rattle.der_core_octets.proofs.fronts.short_header_of_tag_by_both.Goals as goal
 
--- What DER accepts, BER accepts.
+-- A header that DER accepts is accepted under BER.
 pub returns-clause-front : goal.returns-clause-front
 returns-clause-front c encodings.Der =
     let w = c.args.octets.now in

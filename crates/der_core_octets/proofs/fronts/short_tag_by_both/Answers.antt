@@ -5,7 +5,7 @@ use Rattle.der_core_head.proofs.BodyLaws.{tag_ber_more}
 use Rattle.der_core_head.specs.Fronts.{alone}
 use Rattle.der_core_octets.proofs.fronts.short_tag_by_both.Goals as goal
 
--- What DER accepts, BER accepts.
+-- A tag that DER accepts is accepted under BER.
 pub returns : goal.returns
 returns c encodings.Der = ap alone c.in_ok-tag.ensures
 returns c encodings.Ber =

@@ -10,7 +10,7 @@ use Rattle.der_core_octets.specs.Outputs.{AddsFront}
 use Rattle.der_core_octets.proofs.Added.{none_added, first_added, value_then_added}
 use Rattle.der_core_values.proofs.members.encode_members.Goals as goal
 
--- the bytes of the members from one on
+-- The encodings of the members from index `i` on.
 module _ {A : Type 0} (s : Shape) (f : A → Value s) (xs : List A) (i : ℕ) (x : A) (here : x ≡ get_or xs i x) (l : i < length xs) where
   octets : List A → List ℕ
   octets ys = flat_map (octets_of s) (plain_list f ys)

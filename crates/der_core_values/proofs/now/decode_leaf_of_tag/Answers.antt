@@ -25,7 +25,7 @@ returns-clause-reads g c =
     head_read (leaf g.T.Primitive.kind) _ g.T.FixedTag.fixed_tag c.tag.ensures _ g.T.Primitive.leaf_plain (head_of c.in_ok-header.header) _ _ c.decode_leaf.result c.in_ok-header.ensures.front c.in_ok-header.ensures.tag
     c.decode_leaf.ensures.reads
 
--- the error after the header is the error of both
+-- The error of the content is the error of the value.
 faults : {A B : Type 0} (r : Result A Error) (here there : Result B ErrorKind) (old mid : State) → here ≡ there → mid.failed ≡ old.failed
     → IfErr r (λ e. mid.failed ≡ false → there ≡ Err e.kind) → IfErr r (λ e. old.failed ≡ false → here ≡ Err e.kind)
 faults (Ok x) here there old mid same stands h = tt

@@ -1,4 +1,5 @@
--- A front that spells a certificate is the first one's, and where none does, none begins the octets.
+-- Goals of `plain_split::first_certificate`: a prefix that encodes a certificate is the first one,
+-- and if none does, the bytes don't begin with one.
 use Rattle.std.proofs.Common.{ℕ, ◌≤◌, length, arith, below_more}
 use Rattle.std.proofs.lemmas.Bool.{both_ways}
 use Rattle.cert_desk_checking.specs.CertCertificates.Views.{certificate_plain}
@@ -15,7 +16,7 @@ returns-in-Ok c =
     front_of Bound c.args.limit c.args.octets.now (certificate_plain c.in-Ok.certificate) c.loop-len.len (omega arith) (omega arith) c.in-Ok.ensures.spelled
 
 pub loop-len-preserved : goal.loop-len-preserved
-loop-len-preserved c = below_more _ _ c.loop-len.invariant (c.in-Err.ensures.refused (λ memory. both_ways _ c.if-is_want_of_memory.false (c.is_want_of_memory.ensures.1 memory)))
+loop-len-preserved c = below_more _ _ c.loop-len.invariant (c.in-Err.ensures.refused (λ memory. both_ways _ c.if-is_out_of_memory.false (c.is_out_of_memory.ensures.1 memory)))
 
 pub returns : goal.returns
 returns c =

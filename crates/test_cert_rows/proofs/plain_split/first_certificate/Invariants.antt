@@ -1,4 +1,5 @@
--- No front that was tried spells a certificate.
+-- The loop invariant of `plain_split::first_certificate`: no prefix tried so far encodes a
+-- certificate.
 use Rattle.std.proofs.Common.{ℕ, ◌<◌, take}
 use Rattle.const_oid.specs.Bound.{Bound}
 use Rattle.der_core.specs.Shapes.{Spells}

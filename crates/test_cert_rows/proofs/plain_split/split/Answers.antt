@@ -1,4 +1,4 @@
--- Each certificate that is found makes the chain longer by one.
+-- Goals of `plain_split::split`: each certificate that is found makes the chain longer by one.
 use Rattle.std.proofs.Common.{◌≡◌, drop, map, [], ◌∷◌, ◌++◌, ap, ◌∙◌, arith}
 use Rattle.std.proofs.lemmas.List.{take_rest, map-append}
 use Rattle.cert_desk_checking.specs.CertCertificates.Views.{certificate_plain}

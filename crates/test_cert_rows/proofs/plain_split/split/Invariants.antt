@@ -1,4 +1,4 @@
--- The certificates so far begin the stream.
+-- The loop invariant of `plain_split::split`: the input begins with the certificates so far.
 use Rattle.std.proofs.Common.{◌-◌, length, map}
 use Rattle.cert_desk_checking.specs.CertCertificates.Views.{certificate_plain}
 use Rattle.test_cert_rows.proofs.SplitFronts.{SoFar}

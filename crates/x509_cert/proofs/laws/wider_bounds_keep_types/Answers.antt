@@ -7,8 +7,8 @@ use Rattle.x509_cert_anchors.specs.Anchors.{trust_anchor_choice}
 use Rattle.x509_cert_lists.specs.ListGrammar.{certificate_list_fields, cert_req}
 use Rattle.x509_cert.proofs.laws.wider_bounds_keep_types.Goals as goal
 
--- Revocation lists, requests and trust anchors under two bounds of arcs: values and bytes don't
--- depend on the bound.
+-- CRLs, CSRs and trust anchors under two bounds on arcs: values and encodings don't depend on the
+-- bound.
 pub returns : goal.returns
 unfolding IsValid IsValidUnder octets_of identifiers_of
 returns c = record {

@@ -10,12 +10,11 @@ use Rattle.x509_cert_anchors.specs.Der.Writing.{Out, write}
 use Rattle.x509_cert_anchors.proofs.Der.Written.{written_valid}
 use Rattle.x509_cert.proofs.list_writing.list_written.Goals as goal
 
--- Signed parts of lists that were written have encodings, whatever serial numbers are read.
--- a part with these entries
+-- A signed part with these entries.
 abbrev with_entries : PlainList → Option (List PlainEntry) → PlainList
 with_entries t es = (t.0, (t.1.0, (t.1.1.0, (t.1.1.1.0, (t.1.1.1.1.0, (es, t.1.1.1.1.1.1))))))
 
--- what is written doesn't depend on the profile by which serial numbers are read
+-- The encoding doesn't depend on the limit for serial numbers.
 raw_written : (limit : Option ℕ) (t : PlainList) (es : Option (List PlainEntry)) (o z : Out) → write (list_part limit) (with_entries t es) o ≡ Ok z → write (list_part None) (with_entries t es) o ≡ Ok z
 raw_written limit t None o z e = e
 raw_written limit t (Some es) o z e = e

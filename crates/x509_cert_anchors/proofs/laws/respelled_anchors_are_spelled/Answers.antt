@@ -14,9 +14,9 @@ use Rattle.x509_cert_general_names.specs.CertNames.Names.{name}
 use Rattle.x509_cert_anchors.specs.Anchors.{constraint_fields, cert_path_controls_fields, trust_anchor_info_fields, title_fields, trust_anchor_choice, anchor_version, first_anchor_version_octets, utf8_string, PlainControls, PlainInfo, PlainAnchor, cert_path_controls_by, trust_anchor_info_by, trust_anchor_by}
 use Rattle.x509_cert_anchors.proofs.laws.respelled_anchors_are_spelled.Goals as goal
 
--- Trust anchors whose certificates are respelled have an encoding.
+-- Trust anchors with re-encoded certificates have an encoding.
 module _ (bound : ℕ) (limit : Option ℕ) (r : Bool) where
-  -- the certificate of a path's controls, which may be absent
+  -- The optional certificate in the constraints on chains.
   abbrev held : Shape
   held = optional (inside 0 (certificate_fields bound limit))
 
@@ -44,7 +44,7 @@ module _ (bound : ℕ) (limit : Option ℕ) (r : Bool) where
   unfolding IsBody
   controls_body c h = (h.0, (held_valid c.1.0 h.1.0, h.1.1))
 
-  -- the controls of an anchor's path, which may be absent
+  -- The optional constraints on chains.
   abbrev path : Shape
   path = optional (sequence (cert_path_controls_fields bound limit))
 
@@ -62,7 +62,7 @@ module _ (bound : ℕ) (limit : Option ℕ) (r : Bool) where
   path_valid (Some c) h =
       nested_valid Sequence (cert_path_controls_fields bound limit) (cert_path_controls_by r c) c (controls_shorter c) (controls_body c h.0) h
 
-  -- the fields of an anchor from one on
+  -- The fields of a trust anchor from one field on.
   abbrev behind_path : Body
   behind_path = field (optional (explicit 1 (extensions bound))) (field (optional (implicit_leaf 2 utf8)) done)
 

@@ -1,4 +1,5 @@
--- No name so far is that of a module: the first one is among those that are left.
+-- The loop invariant of `dev_id::check_module`: no name so far is a hardware module name, so the
+-- first one is among the remaining names.
 use Rattle.std.proofs.Common.{◌≡◌, drop}
 use Rattle.x509_cert_certificates.specs.Der.Grammar.{plain_list}
 use Rattle.x509_cert_extensions.specs.CertGeneralNames.GeneralNameViews.{general_name_plain}

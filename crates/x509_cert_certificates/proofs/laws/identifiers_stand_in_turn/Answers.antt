@@ -12,7 +12,7 @@ use Rattle.x509_cert_names.proofs.NameBounds.{of_name}
 use Rattle.x509_cert_certificates.specs.Certificates.{PlainCertificate, inner_algorithm, issuer, subject, public_key, outer_algorithm, tbs, tbs_extensions, tbs_validity, tbs_issuer_unique_id, tbs_subject_unique_id}
 use Rattle.x509_cert_certificates.proofs.laws.identifiers_stand_in_turn.Goals as goal
 
--- Which identifiers are in a certificate.
+-- The OIDs in the parts of a certificate.
 of_parameters : (v : Option AnyValue) → identifiers_of (optional any) v ≡ []
 unfolding identifiers_of
 of_parameters None = refl

@@ -5,7 +5,7 @@ use Rattle.std.specs.Str.Iter.{chars_rest}
 use Rattle.x509_cert_name_texts.specs.Escapes.{escaped_from, escaped}
 use Rattle.x509_cert_name_texts.proofs.printing.write_each.Given as goal
 
--- what was written, and what is left to write, are all
+-- The bytes written so far and the rest of the text are the whole text.
 abbrev pub invariant-loop-c : goal.invariant-loop-c
 invariant-loop-c g l =
     record {

@@ -4,7 +4,7 @@ use Rattle.std.specs.Fmt.{HasWritten, IsPlainFormatter}
 use Rattle.x509_cert_names.specs.NameTexts.{printed_behind, relative_printed}
 use Rattle.x509_cert_names.proofs.rdn_sequence.write_before.Given as goal
 
--- what was written, and what is left to write, are all
+-- The RDNs written so far and the remaining ones are all RDNs.
 abbrev pub invariant-loop-last : goal.invariant-loop-last
 invariant-loop-last g l =
     IsPlainFormatter l.initial.f

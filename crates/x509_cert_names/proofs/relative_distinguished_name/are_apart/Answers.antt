@@ -5,7 +5,7 @@ use Rattle.x509_cert_names.specs.Pairs.{same_pair}
 use Rattle.x509_cert_names.specs.declared.attribute_type_and_value.AttributeTypeAndValue.{AttributeTypeAndValue}
 use Rattle.x509_cert_names.proofs.relative_distinguished_name.are_apart.Goals as goal
 
--- Attributes that differ from the next one, step by step.
+-- Attributes of which each differs from the next, step by step.
 first_differs : (xs : List AttributeTypeAndValue) → DifferInTurn (take 1 xs)
 first_differs [] = tt
 first_differs (a ∷ xs) = tt

@@ -5,7 +5,7 @@ use Rattle.x509_cert_names.specs.NameTexts.{printed_behind}
 use Rattle.x509_cert_names.specs.ValueTexts.{attribute_printed}
 use Rattle.x509_cert_names.proofs.relative_distinguished_name.write_later.Given as goal
 
--- what was written so far
+-- The attributes written so far.
 abbrev pub invariant-loop-attribute : goal.invariant-loop-attribute
 invariant-loop-attribute g l =
     IsPlainFormatter l.initial.f

@@ -8,7 +8,7 @@ use Rattle.x509_cert_name_texts.specs.Answers.{GivesBy}
 use Rattle.x509_cert_names.specs.ValueTexts.{ReadsValue}
 use Rattle.x509_cert_names.proofs.value_texts.value_of.Goals as goal
 
--- what a function gives, a relation gives that holds of it
+-- The result of a function satisfies a relation that holds of the function.
 by_function : {X P : Type 0} (view : X → P) (r : Result X Error) (x : Result P ErrorKind) (R : Result P ErrorKind → Type 0) → ((y : Result P ErrorKind) → y ≡ x → R y) → Gives view r x → GivesBy view r R
 by_function view (Ok a) x R f g = f (Ok (view a)) (sym g)
 by_function view (Err e) x R f g = λ n. f (Err e.kind) (sym (g n))

@@ -11,7 +11,7 @@ use Rattle.der_core.proofs.Results.{ok_is, bind_ok, unless_ok}
 use Rattle.der_core.specs.ErrorTypes.ErrorKind.TheVariants as kinds
 use Rattle.x509_cert_names.proofs.value_texts.write_head.Goals as goal
 
--- What a header that was written left after.
+-- The bytes of a header, after it was written.
 put_written : (b : List ℕ) (o z : Out) → put b o ≡ Ok z → z.written ≡ o.written ++ b
 unfolding put
 put_written b o z e =

@@ -1,4 +1,4 @@
--- The extensions so far have another identifier.
+-- The loop invariant of `extension_search::next_of`: the extensions so far have other OIDs.
 use Rattle.std.proofs.Common.{◌≡◌, drop}
 use Rattle.x509_cert_parts.specs.ExtensionSearch.{of_identifier}
 use Rattle.x509_cert_parts.specs.Views.{extensions_plain}

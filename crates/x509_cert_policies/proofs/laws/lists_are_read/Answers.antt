@@ -8,7 +8,7 @@ use Rattle.x509_cert_policies.specs.Lists.{sct_data, sct_octets, IsMember, Spell
 use Rattle.x509_cert_policies.proofs.Readings.{vector_length, spelled_once, spelled_not_refused}
 use Rattle.x509_cert_policies.proofs.laws.lists_are_read.Goals as goal
 
--- Bytes are the spelling of one list at most, and where they are, nothing refuses them.
+-- Bytes are the encoding of at most one list, and are then not rejected.
 first_spelled : (x : SerializedSct) (xs : List SerializedSct) → All IsMember (x ∷ xs) → Spells vector (sct_data x) (flat_map sct_octets (x ∷ xs)) (flat_map sct_octets xs)
 first_spelled x xs all = record { value = All-head IsMember x xs all; split = refl }
 

@@ -1,4 +1,4 @@
--- The members so far stand after one another.
+-- The loop invariant of `append_members`: the bytes are the encodings of the members so far.
 use Rattle.std.specs.Prelude.{◌≡◌, take, flat_map, All}
 use Rattle.x509_cert_policies.specs.Lists.{IsMember, sct_octets}
 use Rattle.x509_cert_policies.proofs.signed_certificate_timestamp_list.append_members.Given as goal

@@ -1,4 +1,5 @@
--- The members so far, and then what is left, are the bytes, of which each turn leaves fewer.
+-- The loop invariant of `read_members`: the encodings of the members so far and the rest are the
+-- bytes. Each iteration shortens the rest.
 use Rattle.std.specs.Prelude.{◌≡◌, ◌++◌, length, flat_map, All}
 use Rattle.x509_cert_policies.specs.Lists.{IsMember, sct_octets}
 use Rattle.x509_cert_policies.proofs.signed_certificate_timestamp_list.read_members.Given as goal

@@ -1,3 +1,4 @@
+-- Goals of `command::Arguments::parse` that the checker doesn't prove by itself.
 use Rattle.std.proofs.Common.{rules, ◌≡◌, ◌∷◌, [], codes, string_bytes, ap, sym, ◌∙◌, subst}
 use Rattle.cert_desk_checking.specs.Arguments.{IsNumber}
 use Rattle.cert_desk.proofs.Words.{seven_words}

@@ -1,3 +1,4 @@
+-- Goals of `DigestSigner::sign` that the checker doesn't prove by itself.
 use Rattle.std.proofs.Common.{◌≡◌, ℕ, List, ◌++◌, true, refl, sym, ap, ◌∙◌, []}
 use Rattle.std.proofs.lemmas.Slice.Eq.{bytes_eq-Decides}
 use Rattle.cert_desk_listing.specs.Der.BitStrings.{Bits}
@@ -8,7 +9,7 @@ use Rattle.cert_desk_checking.proofs.DeskRules.DigestLaws.{yes_by_digest}
 use Rattle.cert_desk.specs.DigestSigners.{digest_algorithm, IsDigestOf}
 use Rattle.cert_desk.proofs.digest_signer.DigestSignerSigner.sign.Goals as goal
 
--- the digest of the key's octets and the signed ones is what the digest judge accepts
+-- The digest verifier accepts the digest of the key's bytes and the signed bytes.
 digest_signs : (key : PublicKey) (octets digest : List ℕ) (bits : Bits) → bits ≡ record { unused = 0; octets = digest } → digest ≡ sha256 ((key_bits key).octets ++ octets) → IsDigestOf key octets bits
 digest_signs key octets digest bits is e =
     let right = sha256 ((key_bits key).octets ++ octets) in

@@ -1,3 +1,4 @@
+-- Goals of `Issued::audit` that the checker doesn't prove by itself.
 use Rattle.std.proofs.Common.{ℕ, List, map, sym, ap, ◌∙◌, subst}
 use Rattle.cert_desk_checking.specs.Anchors.{anchor_plain}
 use Rattle.cert_desk_checking.specs.DeskRules.Judging.{Terms}

@@ -1,4 +1,4 @@
--- A piece that is kept leaves more to wait for.
+-- Goals of `Bundle::feed`: a byte that is kept leaves more bytes missing.
 use Rattle.std.proofs.Common.{◌++◌, ◌<◌, length, refl, subst, arith, length-append}
 use Rattle.x509_cert_certificates.specs.Oid.Bound.{Bound}
 use Rattle.cert_desk_bundle.specs.Locations.{kept_of}

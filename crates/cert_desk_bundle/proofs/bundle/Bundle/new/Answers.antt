@@ -1,4 +1,4 @@
--- Nothing is kept, and nothing was read.
+-- Goals of `Bundle::new`: a new bundle has read the empty input.
 use Rattle.std.proofs.Common.{arith}
 use Rattle.x509_cert_certificates.specs.Oid.Bound.{Bound}
 use Rattle.cert_desk_bundle.proofs.LocationLaws.{kept-none}

@@ -1,4 +1,4 @@
--- Each read adds a piece, meets the end, or fails.
+-- Goals of `Bundle::read_from`: each read adds a piece, meets the end, or fails.
 use Rattle.std.proofs.Common.{ℕ, take, ◌∙◌, subst}
 use Rattle.std.proofs.lemmas.Result.{err_from_is_err_and}
 use Rattle.cert_desk_bundle.proofs.Inputs.{Takes-more, Takes-still, device_fails, end-refused, piece-refused, short_piece}

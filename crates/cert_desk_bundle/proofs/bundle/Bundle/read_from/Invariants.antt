@@ -1,4 +1,5 @@
--- The octets so far were taken and read. Each piece adds to them, and there is an end to them.
+-- The loop invariant of `Bundle::read_from`: the bytes so far were read. The loop ends because the
+-- bytes of a bundle are bounded and each piece adds some.
 use Rattle.std.proofs.Common.{◌≡◌, ◌+◌, ◌-◌, ◌^◌, length}
 use Rattle.cert_desk_bundle.specs.declared.standing.Standing.TheVariants as standings
 use Rattle.cert_desk_bundle.specs.Steps.{kept_octets, Grows, Takes}

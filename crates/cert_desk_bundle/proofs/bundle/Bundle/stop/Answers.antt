@@ -1,4 +1,4 @@
--- No octets are kept.
+-- Goals of `Bundle::stop`: no bytes of an incomplete certificate are kept.
 use Rattle.std.proofs.Common.{arith}
 use Rattle.cert_desk_bundle.proofs.Scans.{awaits_new}
 use Rattle.cert_desk_bundle.proofs.bundle.Bundle.stop.Goals as goal

@@ -1,4 +1,4 @@
--- What was taken is left behind the certificates, or is one more.
+-- Goals of `Bundle::take`: the consumed bytes are kept, or complete a certificate.
 use Rattle.std.proofs.Common.{◌≡◌, ◌+◌, ◌++◌, length, ap, subst, ◌∙◌, arith}
 use Rattle.x509_cert_certificates.specs.Oid.Bound.{Bound}
 use Rattle.cert_desk_bundle.specs.Locations.{certificates_of, kept_of}

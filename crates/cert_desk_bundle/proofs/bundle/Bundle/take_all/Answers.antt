@@ -1,4 +1,5 @@
--- Each front that is taken leaves less; where none is, the piece is refused.
+-- Goals of `Bundle::take_all`: consumed bytes leave a shorter piece, and bytes that can't be
+-- consumed reject the piece.
 use Rattle.std.proofs.Common.{◌≡◌, ap, subst, ◌∙◌}
 use Rattle.std.proofs.lemmas.List.{take_rest}
 use Rattle.x509_cert_certificates.specs.Oid.Bound.{Bound}

@@ -1,4 +1,5 @@
--- A front of the piece was taken, and what is left is shorter each time.
+-- The loop invariant of `Bundle::take_all`: a prefix of the piece was consumed. The loop ends
+-- because the remainder becomes shorter.
 use Rattle.std.proofs.Common.{length}
 use Rattle.x509_cert_certificates.specs.Oid.Bound.{Bound}
 use Rattle.cert_desk_bundle.proofs.Readings.{Feeding}

@@ -1,4 +1,5 @@
--- Fields that are read make a certificate, and where one isn't read no certificate has the octets.
+-- Goals of `Located::read`: the decoded fields make a certificate, and if one can't be decoded, no
+-- certificate has these bytes.
 use Rattle.std.proofs.Common.{◌≡◌, ℕ, List, [], ◌++◌, length, drop, refl, sym, ap, ◌∙◌, arith, append-nil, length-append}
 use Rattle.std.proofs.lemmas.List.{take_rest}
 use Rattle.x509_cert_certificates.specs.Oid.Bound.{Bound}

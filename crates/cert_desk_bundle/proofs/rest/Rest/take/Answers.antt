@@ -1,4 +1,4 @@
--- Octets that leave some missing, or those that are missing.
+-- Goals of `Rest::take`: the consumed bytes leave some missing, or are all that were missing.
 use Rattle.std.proofs.Common.{◌≡◌, ◌-◌, ℕ, List, ◌++◌, take, drop, Result, Ok, Err, OnOk, is_ok, true, subst, arith}
 use Rattle.std.proofs.lemmas.List.{take-append-drop}
 use Rattle.cert_desk_bundle.specs.Rests.{IsUntaken}

@@ -1,4 +1,5 @@
--- what was gathered, and what is left to gather, are all
+-- The loop invariant of `Lines::all_requested`: the text so far, followed by the lines of the
+-- remaining values, is the whole text.
 use Rattle.std.proofs.Common.{◌≡◌, ◌++◌, string_bytes, drop}
 use Rattle.std.specs.List.{flat_map}
 use Rattle.cert_desk_listing.specs.Listing.{value_lines}

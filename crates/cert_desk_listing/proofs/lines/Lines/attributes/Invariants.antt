@@ -1,4 +1,5 @@
--- what was gathered, and what is left to gather, are all
+-- The loop invariant of `Lines::attributes`: the text so far, followed by the lines of the
+-- remaining attributes, is the whole text.
 use Rattle.std.proofs.Common.{◌≡◌, ◌++◌, string_bytes, drop}
 use Rattle.std.specs.List.{flat_map}
 use Rattle.x509_cert_lists.specs.Der.Grammar.{plain_list}

@@ -1,3 +1,4 @@
+-- Goals of `Lines::date` that the checker doesn't prove by itself.
 use Rattle.std.proofs.Common.{◌++◌, string_bytes, ap, sym, ◌∙◌}
 use Rattle.cert_desk_listing.specs.Listing.{labelled}
 use Rattle.x509_cert_lists.proofs.CertParts.Texts.{time_text_is}

@@ -1,4 +1,5 @@
--- what was gathered, and what is left to gather, are all
+-- The loop invariant of `Lines::entries`: the text so far, followed by the lines of the remaining
+-- entries, is the whole text.
 use Rattle.std.proofs.Common.{◌≡◌, ◌++◌, string_bytes, drop}
 use Rattle.x509_cert_lists.specs.Der.Grammar.{plain_list}
 use Rattle.x509_cert_lists.specs.ListViews.{revoked_cert_plain}

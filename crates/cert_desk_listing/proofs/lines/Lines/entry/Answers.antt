@@ -1,3 +1,4 @@
+-- Goals of `Lines::entry` that the checker doesn't prove by itself.
 use Rattle.std.proofs.Common.{◌++◌, codes, string_bytes, ap, sym, ◌∙◌}
 use Rattle.x509_cert_lists.specs.CertParts.Views.{time_date}
 use Rattle.x509_cert_lists.specs.CertParts.Texts.{serial_text}

@@ -1,4 +1,5 @@
--- what was gathered, and what is left to gather, are all
+-- The loop invariant of `Lines::extensions`: the text so far, followed by the lines of the
+-- remaining extensions, is the whole text.
 use Rattle.std.proofs.Common.{◌≡◌, ◌++◌, string_bytes, drop}
 use Rattle.x509_cert_lists.specs.CertParts.Views.{extensions_plain}
 use Rattle.cert_desk_listing.specs.Listing.{extension_lines}

@@ -1,3 +1,4 @@
+-- Goals of `line::Line::new` that the checker doesn't prove by itself.
 use Rattle.std.proofs.Common.{lit<, Some, None, ap, ◌∙◌}
 use Rattle.std.proofs.lemmas.Str.Pattern.{split_once_first}
 use Rattle.cert_desk_orders.specs.OrdersFile.{line_of}

@@ -1,3 +1,4 @@
+-- Goals of `AnswerTable::has` that the checker doesn't prove by itself.
 use Rattle.std.proofs.Common.{subst, sym, ap, ◌∙◌, rules}
 use Rattle.std.specs.List.{list_any}
 use Rattle.std.specs.List.Sorted.{IsPartitionedBy, IsSortedByKey}

@@ -1,3 +1,4 @@
+-- Goals of `AnswerTable::new` that the checker doesn't prove by itself.
 use Rattle.std.proofs.Common.{◌≡◌, map, ap, sym, rules}
 use Rattle.std.specs.Ordering.{is_lt}
 use Rattle.std.proofs.lemmas.List.Sorted.{IsPermutation-map, answers_always, list_any-IsPermutation, ranks_by}

@@ -1,3 +1,4 @@
+-- Goals of `DigestJudge::accepts` that the checker doesn't prove by itself.
 use Rattle.std.proofs.Common.{◌≡◌, [], ◌++◌, bytes_eq, sym, ap, ◌∙◌}
 use Rattle.sha2.specs.Sha256.{sha256}
 use Rattle.cert_desk_bundle.specs.CertParts.Grammar.{key_bits}

@@ -1,4 +1,4 @@
--- Where a list is read, the octets spell what is shown of it.
+-- Where a list is read, the bytes encode what is shown of it.
 use Rattle.std.proofs.Common.{Result, Ok, Err, IfOk, OnOk}
 use Rattle.x509_cert_lists.specs.Oid.Bound.{Bound}
 use Rattle.x509_cert_lists.specs.Der.Shapes.{Spells}

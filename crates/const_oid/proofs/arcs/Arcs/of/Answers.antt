@@ -1,3 +1,4 @@
+-- Goals of `arcs::Arcs::of` that the checker doesn't prove by itself.
 use Rattle.std.proofs.Common.{length, ap, sym, ◌∙◌}
 use Rattle.std.specs.Result.{is_ok}
 use Rattle.const_oid.specs.Bound.{Bound}

@@ -1,3 +1,4 @@
+-- Goals of `arcs::ArcsIterator::next` that the checker doesn't prove by itself.
 use Rattle.std.proofs.Common.{◌≡◌, []}
 use Rattle.const_oid.specs.References.{remaining_arcs}
 use Rattle.const_oid.proofs.ArcsLaws.{later_arcs-nil}

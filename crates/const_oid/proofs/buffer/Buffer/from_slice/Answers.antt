@@ -1,3 +1,4 @@
+-- Goals of `buffer::Buffer::from_slice` that the checker doesn't prove by itself.
 use Rattle.const_oid.proofs.BufferLaws.{zeros_after_copy, length_after_copy}
 use Rattle.const_oid.proofs.buffer.Buffer.from_slice.Goals as goal
 

@@ -1,3 +1,4 @@
+-- Goals of `database::Database::by_name` that the checker doesn't prove by itself.
 use Rattle.std.proofs.Common.{sym, ◌∙◌}
 use Rattle.std.proofs.lemmas.Bool.{false≢true}
 use Rattle.const_oid.proofs.NamesLaws.{by_name-match, by_name-pass}

@@ -1,3 +1,4 @@
+-- The loop invariants of `database::Database::by_name`.
 use Rattle.std.proofs.Common.{◌≡◌, drop}
 use Rattle.const_oid.specs.Names.{by_name}
 use Rattle.const_oid.proofs.database.Database.by_name.Given as goal

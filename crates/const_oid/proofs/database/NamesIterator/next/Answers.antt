@@ -1,3 +1,4 @@
+-- Goals of `database::NamesIterator::next` that the checker doesn't prove by itself.
 use Rattle.std.proofs.Common.{length, ap, sym, ◌∙◌, arith, rules}
 use Rattle.const_oid.proofs.NamesLaws.{names-match, names-pass}
 use Rattle.const_oid.proofs.database.NamesIterator.next.Goals as goal

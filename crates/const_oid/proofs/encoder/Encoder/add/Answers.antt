@@ -1,3 +1,4 @@
+-- Goals of `encoder::Encoder::add` that the checker doesn't prove by itself.
 use Rattle.std.proofs.Common.{List, ℕ, Option, Some, Ok, Err, ap, sym, ◌∙◌, arith}
 use Rattle.std.proofs.lemmas.Result.{err_from_is_err_and}
 use Rattle.const_oid.specs.Bound.{Bound}

@@ -1,3 +1,5 @@
+-- Goals of `object_identifier::ObjectIdentifier<39>::from_arcs` that the checker doesn't prove by
+-- itself.
 use Rattle.std.proofs.Common.{◌++◌, ◌∷◌, [], append-nil, ◌≡◌, Result, Ok, Err, IfErr, ap, sym, subst, ◌∙◌, arith}
 use Rattle.std.proofs.lemmas.Result.{err_from_is_err_and, IfOk-from_err}
 use Rattle.const_oid.specs.Bound.{Bound}

@@ -1,3 +1,5 @@
+-- Goals of `object_identifier::ObjectIdentifier<39>::from_bytes_unwrap` that the checker doesn't
+-- prove by itself.
 use Rattle.std.proofs.Common.{◌^◌, sym, ◌∙◌, arith}
 use Rattle.const_oid.proofs.BoundLaws.{Bound-is}
 use Rattle.const_oid.proofs.BoundedLaws.{constant_read, constant_refused}

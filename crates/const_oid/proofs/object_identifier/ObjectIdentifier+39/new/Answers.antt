@@ -1,3 +1,4 @@
+-- Goals of `object_identifier::ObjectIdentifier<39>::new` that the checker doesn't prove by itself.
 use Rattle.std.proofs.Common.{sym, ap, ◌∙◌, arith}
 use Rattle.const_oid.specs.Bound.{Bound}
 use Rattle.const_oid.specs.TextReading.{read_text}

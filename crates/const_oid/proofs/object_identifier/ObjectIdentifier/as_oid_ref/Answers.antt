@@ -1,3 +1,5 @@
+-- Goals of `object_identifier::ObjectIdentifier::as_oid_ref` that the checker doesn't prove by
+-- itself.
 use Rattle.std.proofs.Common.{ap, sym, ◌∙◌}
 use Rattle.const_oid.specs.IdentifierOctets.{identifier_octets}
 use Rattle.const_oid.specs.Bound.{Bound}

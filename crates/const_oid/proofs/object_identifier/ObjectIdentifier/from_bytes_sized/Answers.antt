@@ -1,3 +1,5 @@
+-- Goals of `object_identifier::ObjectIdentifier::from_bytes_sized` that the checker doesn't prove
+-- by itself.
 use Rattle.std.proofs.Common.{List, ℕ, length, ◌≤◌, ap, sym, subst, ◌∙◌, arith}
 use Rattle.const_oid.specs.Bound.{Bound}
 use Rattle.const_oid.specs.IdentifierOctets.{read_identifier}

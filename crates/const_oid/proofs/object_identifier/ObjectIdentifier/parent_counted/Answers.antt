@@ -1,3 +1,5 @@
+-- Goals of `object_identifier::ObjectIdentifier::parent_counted` that the checker doesn't prove by
+-- itself.
 use Rattle.std.proofs.Common.{rules, Some, ◌≡◌, ◌-◌, [], ◌∷◌, ◌++◌, List, ℕ, length, ap, sym, subst, refl, ◌∙◌, length-append, arith}
 use Rattle.const_oid.specs.Bound.{Bound}
 use Rattle.const_oid.specs.Arcs.{arcs_of, SpellsIdentifier}

@@ -1,3 +1,5 @@
+-- Goals of `object_identifier::ObjectIdentifier::read_octets` that the checker doesn't prove by
+-- itself.
 use Rattle.std.proofs.Common.{Ok, Err, ap, sym, subst, ◌∙◌, arith}
 use Rattle.std.proofs.lemmas.Result.{err_from_is_err_and}
 use Rattle.const_oid.specs.Bound.{Bound}

@@ -1,3 +1,5 @@
+-- Goals of `object_identifier::ObjectIdentifier::starts_with` that the checker doesn't prove by
+-- itself.
 use Rattle.std.proofs.Common.{◌++◌, ◌-◌, drop, get_or, length, length-append, ap, sym, ◌∙◌, arith}
 use Rattle.std.specs.List.{flat_map}
 use Rattle.std.proofs.Math.ListN.{get_or-append}

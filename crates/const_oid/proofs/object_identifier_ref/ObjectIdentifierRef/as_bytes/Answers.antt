@@ -1,3 +1,5 @@
+-- Goals of `object_identifier_ref::ObjectIdentifierRef::as_bytes` that the checker doesn't prove by
+-- itself.
 use Rattle.const_oid.specs.Bound.{Bound}
 use Rattle.const_oid.proofs.ArcsLaws.{read_identifier-is_ok, is_ok_spells, bytes_of_spelled}
 use Rattle.const_oid.proofs.object_identifier_ref.ObjectIdentifierRef.as_bytes.Goals as goal

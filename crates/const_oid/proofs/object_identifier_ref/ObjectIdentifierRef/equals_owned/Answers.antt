@@ -1,3 +1,5 @@
+-- Goals of `object_identifier_ref::ObjectIdentifierRef::equals_owned` that the checker doesn't
+-- prove by itself.
 use Rattle.std.proofs.Common.{ap, sym, ◌∙◌}
 use Rattle.std.specs.Cmp.Lexicographic.{bytes_decides}
 use Rattle.const_oid.specs.Bound.{Bound}

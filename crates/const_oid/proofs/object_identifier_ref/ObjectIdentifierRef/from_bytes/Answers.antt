@@ -1,3 +1,5 @@
+-- Goals of `object_identifier_ref::ObjectIdentifierRef::from_bytes` that the checker doesn't prove
+-- by itself.
 use Rattle.std.proofs.Common.{◌≡◌, refl, List, ℕ, length, Ok, Err, IfErr, subst, ap, sym, ◌∙◌, arith}
 use Rattle.std.proofs.lemmas.Result.{err_from_is_err_and}
 use Rattle.std.specs.Result.{is_ok}
@@ -10,7 +12,7 @@ use Rattle.const_oid.proofs.ArcsLaws.{read_identifier-ok, read_identifier-err, s
 use Rattle.const_oid.proofs.OverflowLaws.{octets_not_overflow}
 use Rattle.const_oid.proofs.object_identifier_ref.ObjectIdentifierRef.from_bytes.Goals as goal
 
--- octets that spell an identifier are read as it, whatever their number
+-- The encoding of an identifier decodes to it if the capacity is the number of bytes.
 read_again : (w arcs : List ℕ) → w ≡ identifier_octets arcs → IsIdentifier Bound arcs → read_identifier Bound (length w) w ≡ Ok arcs
 read_again w arcs octets id =
     ap (λ (v : List ℕ). read_identifier Bound (length v) v) octets ∙ identifier_again Bound (length (identifier_octets arcs)) arcs id (omega arith)

@@ -1,3 +1,4 @@
+-- Goals of `packed::Packed::from_slice` that the checker doesn't prove by itself.
 use Rattle.std.proofs.Common.{ℕ, List, length, min, ◌≡◌, refl, sym, ap, subst, ◌∙◌, arith}
 use Rattle.const_oid.specs.PackedOctets.{unmarked_front, IsPacked}
 use Rattle.const_oid.proofs.PackedLaws.{packed_copy, front-copied, three_copied}

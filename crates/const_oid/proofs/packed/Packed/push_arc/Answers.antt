@@ -1,3 +1,4 @@
+-- Goals of `packed::Packed::push_arc` that the checker doesn't prove by itself.
 use Rattle.std.proofs.Common.{◌≡◌, ◌+◌, ◌≤◌, ◌++◌, length, ap, ◌∙◌, arith}
 use Rattle.const_oid.specs.IdentifierOctets.{arc_octets}
 use Rattle.const_oid.specs.PackedOctets.{unmarked_front}

@@ -1,3 +1,4 @@
+-- Goals of `packed::PackedPartialEq::eq` that the checker doesn't prove by itself.
 use Rattle.std.proofs.Common.{◌≡◌, true, take, nat_eq, sym, ◌∙◌, arith}
 use Rattle.std.proofs.lemmas.Bool.{not-false}
 use Rattle.std.specs.Cmp.Lexicographic.{pointwise, bytes_decides}

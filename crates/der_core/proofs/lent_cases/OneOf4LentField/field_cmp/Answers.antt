@@ -1,3 +1,4 @@
+-- Goals of `lent_cases::OneOf4LentField::field_cmp` that the checker doesn't prove by itself.
 use Rattle.der_core.proofs.lent_cases.OneOf4LentField.field_cmp.Goals as goal
 
 pub returns-clause-exact : goal.returns-clause-exact

@@ -12,7 +12,7 @@ use Rattle.der_core_values.proofs.CoreHead.Written.{sized, written, counts_octet
 use Rattle.der_core_values.specs.CoreOctets.Outputs.{appended}
 use Rattle.der_core_coding.proofs.encode.ToDer.encode_to_vec.Goals as goal
 
--- A value after other bytes.
+-- A valid value is appended to other bytes.
 appended_valid : (s : Shape) (v : Value s) (w : List ℕ) → IsValid s v → appended s v w ≡ Ok (length (octets_of s v), w ++ octets_of s v)
 appended_valid s v w h = rw (sized s v h, written s v w h) refl
 

@@ -1,4 +1,5 @@
--- Goals of `slice_reader::SliceReaderReader::begin_nested` that the checker doesn't prove by itself.
+-- Goals of `slice_reader::SliceReaderReader::begin_nested` that the checker doesn't prove by
+-- itself.
 use Rattle.std.proofs.Common.{arith}
 use Rattle.der_core_coding.proofs.Windows.{opened, window_length}
 use Rattle.der_core_coding.proofs.slice_reader.SliceReaderReader.begin_nested.Goals as goal

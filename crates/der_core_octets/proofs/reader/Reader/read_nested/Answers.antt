@@ -5,7 +5,7 @@ use Rattle.der_core_head.specs.Reading.{State, Closes}
 use Rattle.der_core_octets.proofs.GoingOn.{refused, behind_long, broken_kept, not_opened, ran_there, kept_there, nested_tells, nested_reads, left_refused, left_reads}
 use Rattle.der_core_octets.proofs.reader.Reader.read_nested.Goals as goal
 
--- no end was set
+-- The end wasn't moved.
 pub returns-in_err-behind : goal.returns-in_err-behind
 returns-in_err-behind g c =
     let state = g.Self.Reader.state in
@@ -35,7 +35,7 @@ end_nested-requires g c κs =
     let long = behind_long n taken.value old ran.enough in
     ((refl, tt), (omega (arith, long, ap length ran.kept.behind), omega (arith, ran.kept.room, opens.1, opens.2)))
 
--- bytes were left before the end
+-- Bytes were left before the end.
 pub returns-in_err-end_nested : goal.returns-in_err-end_nested
 returns-in_err-end_nested g c =
     let state = g.Self.Reader.state in

@@ -34,7 +34,7 @@ returns-clause-reads g c = λ b view calls.
     wanted_reads Sequence b view (state c.args.self.now) (state c.read_header_of.new.self) (state c.read_nested.new.self) c.in_ok-header.header
     (Ok c.in_ok-value.value) c.in_ok-header.ensures.front (c.in_ok-value.ensures.reads Sequence b view calls)
 
--- no header is there by the rules in force, or one of another tag
+-- There is no header under the reader's encoding rules, or one with another tag.
 pub returns-in_err-header-clause-refused : goal.returns-in_err-header-clause-refused
 returns-in_err-header-clause-refused g c =
     let p = err_from_is_err_and c.from_residual.result c.from_residual.ensures.1 in

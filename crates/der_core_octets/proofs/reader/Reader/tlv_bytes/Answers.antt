@@ -10,7 +10,7 @@ use Rattle.der_core_head.proofs.Results.{slice_short, slice_ok}
 use Rattle.der_core_head.specs.declared.error.ErrorKind.TheVariants as kinds
 use Rattle.der_core_octets.proofs.reader.Reader.tlv_bytes.Goals as goal
 
--- Whole encodings, as they are.
+-- If there is no header, there is no encoding.
 no_header : (head : Readings Head) (w : List ℕ) (k : ErrorKind) → head w ≡ Err k → encoding_at head w ≡ Err k
 unfolding encoding_at
 no_header head w k e = rw e refl

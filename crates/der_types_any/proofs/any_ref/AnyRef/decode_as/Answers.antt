@@ -20,7 +20,7 @@ use Rattle.der_types_any.specs.Contents.{content_as, content_by}
 use Rattle.der_types_any.proofs.AnyLaws.{value_whole}
 use Rattle.der_types_any.proofs.any_ref.AnyRef.decode_as.Goals as goal
 
--- A content read as a value of a type is what reading the whole encoding gives.
+-- Decoding the content gives what decoding the encoding gives.
 end_alone : {P : Type 0} (o : Result (P × List ℕ) ErrorKind) → (o >>= λ x. kept [] x.0) ≡ (alone o >>= kept [])
 end_alone (Ok x) = refl
 end_alone (Err e) = refl

@@ -1,4 +1,5 @@
--- Goals of `set_of_ref::SetOfRefEncodeValue::encode_value` that the checker doesn't prove by itself.
+-- Goals of `set_of_ref::SetOfRefEncodeValue::encode_value` that the checker doesn't prove by
+-- itself.
 use Rattle.std.proofs.Common.{sym, ◌∙◌, eqb-true}
 use Rattle.der_core.proofs.Added.{write_adds}
 use Rattle.der_types_sets.proofs.LentOrders.{some_at, values_written, octets_lent, octets_written}

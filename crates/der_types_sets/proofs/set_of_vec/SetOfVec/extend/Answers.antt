@@ -8,7 +8,7 @@ use Rattle.der_types_sets.specs.Sets.{StopsAt, StopsIn, Gains}
 use Rattle.der_core.specs.ErrorTypes.ErrorKind.TheVariants as kinds
 use Rattle.der_types_sets.proofs.set_of_vec.SetOfVec.extend.Goals as goal
 
--- Items that were taken, of which one is rejected. what was given begins with these items
+-- The iterator yielded these items first.
 record GaveFirst {S A : Type 0} (steps : S → Option A → S → Type 0) (s : S) (front : List A) (x : A) : Type 0 where
   rest : S
   gave : YieldsThen steps s front (Some x) rest
@@ -26,19 +26,19 @@ module _ {U T A : Type 0} (s : Shape) (f : A → Value s) (becomes : U → T →
   front_of : (e : Error) (h : StopsIn s f old xs new e) → GaveFirst steps it h.front h.refused
   front_of e h = begins steps it t h.front h.refused h.back (subst (λ (u : List A). Yields steps it u t) h.are gave)
 
-  -- items that were gathered, of which one was refused then
+  -- One of the collected items was rejected.
   stopped : (e : Error) → StopsIn s f now came new e → ExtendsWithItems becomes steps (Gains s f) items old new (Err e) × StopsAt s f becomes steps items old new e
   stopped e k =
       let h = moved (λ a b. StopsIn s f a b new e) k in
       let w = front_of e h in
       ((it, h.front, took, h.gains, (w.gave.0, w.gave.1)), (it, h.front, h.refused, w.rest, took, w.gave, h.gains, h.why))
 
-  -- all went in, and the next one was refused for out of memory
+  -- All items were inserted, and memory ran out for the next one.
   stopped_next : (e : Error) (x : A) (rest : T) → steps t (Some x) rest → Gains s f now came new → e.kind ≡ kinds.OutOfMemory
       → ExtendsWithItems becomes steps (Gains s f) items old new (Err e) × StopsAt s f becomes steps items old new e
   stopped_next e x rest next k none = let gains = moved (λ a b. Gains s f a b new) k in ((it, xs, took, gains, (t, gave)), (it, xs, x, rest, took, (t, gave, next), gains, inl none))
 
-  -- no more came
+  -- The iterator has no more items.
   ended : (r : Result (Unit {0}) Error) (rest : T) → steps t None rest → OnOk r (Gains s f now came new) → IfErr r (StopsIn s f now came new)
       → ExtendsWithItems becomes steps (Gains s f) items old new r × IfErr r (StopsAt s f becomes steps items old new)
   ended (Ok _) rest done gains stops = ((it, xs, took, moved (λ a b. Gains s f a b new) gains, (rest, (t, gave, done))), tt)

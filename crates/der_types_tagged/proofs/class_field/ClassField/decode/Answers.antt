@@ -16,8 +16,7 @@ use Rattle.der_core.specs.Fronts.{alone}
 use Rattle.der_types_tagged.specs.Fields.{explicit_field, numbered_at}
 use Rattle.der_types_tagged.proofs.class_field.ClassField.decode.Goals as goal
 
--- Fields of a class, whatever their numbers. what is rejected with the number that is there is
--- rejected
+-- If decoding with the number of the tag fails, so does decoding with any number.
 numbered_stops : (rules : EncodingRules) (class : ℕ) (s : Shape) (room : ℕ) (w : List ℕ) (h : Head) (k : ErrorKind) → alone (head_by rules w) ≡ Ok h
     → read_by rules (explicit_field class (number_of h.tag) s) room w ≡ Err k → numbered_at rules class s room w ≡ Err k
 unfolding numbered_at

@@ -13,7 +13,7 @@ use Rattle.der_core.proofs.Complete.{complete_body}
 use Rattle.x509_cert_names.specs.Names.{type_and_value, TypeAndValue}
 use Rattle.x509_cert_names.proofs.relative_distinguished_name.RelativeDistinguishedNameDecodeValue.decode_value.Goals as goal
 
--- A set of one attribute, read.
+-- Decoding a set with one attribute.
 content_read : (rules : EncodingRules) (t : Tag) (room : ℕ) (v : TypeAndValue) (w : List ℕ) → 1 < room → Spells (type_and_value Bound) v w
     → read_content_by rules (nested (rising (type_and_value Bound))) t room w ≡ Ok (v ∷ [], [])
 unfolding body_octets octets_of IsBody

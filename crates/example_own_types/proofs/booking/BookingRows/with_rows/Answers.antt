@@ -1,6 +1,0 @@
--- Goals of `booking::BookingRows::with_rows` that the checker doesn't prove by itself.
-use Rattle.std.proofs.Common.{rules}
-use Rattle.example_own_types.proofs.booking.BookingRows.with_rows.Goals as goal
-
-pub returns : goal.returns
-returns g c = c.lend.ensures _ _ (search rules) (search rules)
